@@ -3,6 +3,7 @@ ghost use Rattle.law_commit.specs.Decided.Later as later;
 ghost use Rattle.law_commit.specs.Decided.Laws as decided;
 
 use crate::floor::law_floor_stands;
+use law_paper::law_phases_are_seen;
 
 /// In every life of a store that was opened each address from the tail with which it began up to the tail is taken: its record is being made, stands, or was
 /// given up. A record that is being made lies at or above the tail of its session's view. So all is decided below what each session that is awake has seen as
@@ -34,5 +35,15 @@ pub fn law_later_above()
     ensures goes { later.GoesByLater }
     ensures attempts { later.AttemptsLaterButPolls }
 {
+    law_floor_stands();
+}
+
+/// In each such life the first address of the commit in hand lies at or below the tail from in-progress on, and so does its end as it is written. So each
+/// record from the first tail to that address stands or was given up.
+pub fn law_commits_settled()
+    ensures first { decided.SettlesBelowFirst }
+    ensures end { decided.SettlesBelowEnd }
+{
+    law_phases_are_seen();
     law_floor_stands();
 }

@@ -1,6 +1,6 @@
 -- While a session attempts something, its sight stays.
 use Rattle.std.proofs.Common.{◌≡◌, ℕ, ◌≤◌, ◌∙◌, List, [], ◌∷◌, ◌++◌, refl, ap, sym, subst, arith, Bool, true, false}
-use Rattle.std.specs.Prelude.{⊤, Option, Some, None, slice_get, slice_set, if◌then◌else◌}
+use Rattle.std.specs.Prelude.{⊤, Option, Some, None, slice_get, if◌then◌else◌}
 use Rattle.fkv_plane.specs.declared.actions.Action.{Action}
 use Rattle.fkv_plane.specs.declared.asks.Ask.{Ask}
 use Rattle.fkv_plane.specs.declared.asks.Ask.TheVariants.{Load, Store, Swap, Cas, Add, Max, Put, Take, Done}
@@ -14,13 +14,13 @@ use Rattle.fkv_epoch.proofs.Shown.{item_written, some_same}
 use Rattle.fkv_flush.specs.GuardWorld.{GuardWorld}
 use Rattle.fkv_session.specs.declared.answers.Told.{Told}
 use Rattle.fkv_session.specs.declared.sessions.Sitting.{Sitting}
-use Rattle.fkv_session.specs.declared.sessions.Sitting.TheVariants.{Attempts, Polls, Idle, CatchesUp, ClearsMail, StoresOwing, Turns, StoresCut, Leaves, LoadsDurable}
+use Rattle.fkv_session.specs.declared.sessions.Sitting.TheVariants.{Attempts, Polls}
 use Rattle.fkv_session.specs.Sessions.{SessionState, Seat, is_busy, session_ask, session_next}
-use Rattle.fkv_session.specs.SessionRun.{SessionEvent, Begins, Gets, Replies, session_happens, session_run}
+use Rattle.fkv_session.specs.SessionRun.{Begins, Replies, session_happens, session_run}
 use Rattle.fkv_world.specs.Actors.{is_of_session, slot_asked}
-use Rattle.fkv_world.specs.Moves.{Near, session_moved, session_replied}
-use Rattle.fkv_world.specs.OwnEvents.{session_events, session_part, session_part_found, session_part_of, session_slots, session_steps}
-use Rattle.fkv_world.specs.Runs.{World, happens, read_by_keeper, run}
+use Rattle.fkv_world.specs.Moves.{Near, session_moved}
+use Rattle.fkv_world.specs.OwnEvents.{session_events, session_part, session_part_of, session_slots, session_steps}
+use Rattle.fkv_world.specs.Runs.{World, happens, run}
 use Rattle.fkv_world.specs.World as world
 use Rattle.fkv_world.specs.World.{Event, Calls, Moves, Commits, KeeperMoves, Crashes, Now, life_goes, near, seat_at, session_moves}
 use Rattle.fkv_world.proofs.Shown.{lives, same_seat, session_runs}
@@ -33,7 +33,7 @@ use Rattle.law_refine.specs.Events.Reserved.{tail_at}
 use Rattle.law_refine.proofs.OfEvents.Fixed.{life_rises}
 use Rattle.law_refine.proofs.OfSeen.Alone.{moves_alone}
 use Rattle.law_commit.specs.Versions.Seen.{AreViewsSo}
-use Rattle.law_commit.specs.Views.{Sight, View, sight_by, sight_in, sight_moved, sight_opened, sight_through, view_said}
+use Rattle.law_commit.specs.Views.{Sight, View, sight_in, sight_moved, sight_through, view_said}
 use Rattle.law_commit.proofs.OfVersions.Sights.{LoadsSo, through_so, views_weaker}
 use Rattle.law_commit.proofs.Rising.{found_all}
 

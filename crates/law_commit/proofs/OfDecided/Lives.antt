@@ -1,14 +1,13 @@
 -- Below what each session that is awake has seen as tail all is decided: below a commit's first address from in-progress on, and below its end as it is written.
 use Rattle.std.proofs.Common.{◌≡◌, ◌⊎◌, ℕ, ◌<◌, ◌≤◌, ◌∙◌, inl, inr, List, [], ◌∷◌, ◌++◌, refl, ap, sym, subst, arith, true}
-use Rattle.std.specs.Prelude.{⊤, Option, Some, None, slice_get}
+use Rattle.std.specs.Prelude.{Some, slice_get}
 use Rattle.fkv_base.specs.declared.numbers.Addr.{Addr}
 use Rattle.fkv_base.specs.declared.numbers.Version.{Version}
 use Rattle.fkv_base.specs.declared.commits.CommitKind.TheVariants.{Full}
-use Rattle.fkv_base.specs.declared.phases.Phase.{Phase}
 use Rattle.fkv_base.specs.declared.phases.Phase.TheVariants as phases
 use Rattle.fkv_words.specs.PhaseWords.{phase_said}
 use Rattle.fkv_words.specs.declared.phase_words.PhaseSaid.{PhaseSaid}
-use Rattle.fkv_words.specs.declared.phase_words.PhaseSaid.TheVariants.{Says, Spoiled}
+use Rattle.fkv_words.specs.declared.phase_words.PhaseSaid.TheVariants.{Says}
 use Rattle.fkv_commit.specs.declared.commits.Commit.{Commit}
 use Rattle.fkv_keeper.specs.CheckpointLaws.{IsCopyPhase}
 use Rattle.fkv_map.specs.declared.history.HistoryEntry.{HistoryEntry}
@@ -29,15 +28,15 @@ use Rattle.law_refine.proofs.OfSeen.There.{was_there}
 use Rattle.law_commit.specs.Copied.Covers.{before_copy}
 use Rattle.law_commit.specs.Decided.Cells.{DecidedBelow, IsSettled, IsTaken, SettledFrom}
 use Rattle.law_commit.specs.Decided.Laws.{EndIsSafe, HaveSeenTail, IsFromProgress, OpensDecided}
-use Rattle.law_commit.specs.Floor.Stands.{FloorAlwaysStands, FloorStands, IsWritten, OpensSeen, SeesCommit, stage_number}
+use Rattle.law_commit.specs.Floor.Stands.{FloorAlwaysStands, FloorStands, IsWritten, OpensSeen, stage_number}
 use Rattle.law_commit.specs.PhaseStores.{phase_at}
 use Rattle.law_commit.specs.Phases.Projected.{SitsAwake}
 use Rattle.law_commit.specs.Phases.Staged.{DefersPending, DefersProgress, Flushes, Pends, Prepares, Progresses, Rests, Stage, stage_phase}
-use Rattle.law_commit.specs.Views.{Sight, sight_found, sight_in, sight_of}
+use Rattle.law_commit.specs.Views.{Sight, sight_found, sight_of}
 use Rattle.law_commit.proofs.OfCopied.BegunFor.{life_begun_for}
 use Rattle.law_commit.proofs.OfDecided.Attempting.{IsAttempt}
 use Rattle.law_commit.proofs.OfDecided.Taken.{life_taken}
-use Rattle.law_commit.proofs.OfDecided.Undecided.{Reserver, making_above, sitting_by, was_making}
+use Rattle.law_commit.proofs.OfDecided.Undecided.{making_above, sitting_by, was_making}
 use Rattle.law_commit.proofs.OfPhases.Awake.{life_so}
 
 -- ---- views
@@ -109,7 +108,7 @@ settles opening start ghosts events bound opened high decided a from low =
     settled_so ((life_ghosts opening ghosts events).log.cells a) (life_taken opening start ghosts events opened a from (omega (arith, high, low))) (λ entry cell e. decided a entry cell low e)
 
 -- ---- the commit in hand
-from_stage : (stage : Stage) (version : Version) → IsFromProgress (Says (stage_phase stage) version) → 2 ≤ stage_number stage
+pub from_stage : (stage : Stage) (version : Version) → IsFromProgress (Says (stage_phase stage) version) → 2 ≤ stage_number stage
 from_stage Rests version from = absurd from
 from_stage Prepares version from = absurd from
 from_stage DefersProgress version from = absurd from

@@ -1,10 +1,9 @@
 -- A record that is being made lies at or above the tail of its session's view. So below what each live session has seen as tail all is decided.
 use Rattle.std.proofs.Common.{◌≡◌, ℕ, ◌<◌, ◌≤◌, ◌⊎◌, ◌∙◌, inl, inr, List, [], ◌∷◌, ◌++◌, refl, ap, sym, subst, arith, Bool, true, false}
-use Rattle.std.specs.Prelude.{⊤, Option, Some, None, slice_get, nat_lt}
+use Rattle.std.specs.Prelude.{Some, slice_get, nat_lt}
 use Rattle.std.proofs.lemmas.Bool.Decides.{nat_tests}
 use Rattle.fkv_epoch.proofs.Shown.{some_same}
 use Rattle.fkv_map.specs.declared.history.HistoryEntry.{HistoryEntry}
-use Rattle.fkv_map.specs.declared.operations.Reply.{Reply}
 use Rattle.fkv_log.specs.declared.invalidating.Invalidating.{Invalidating}
 use Rattle.fkv_log.specs.declared.invalidating.Invalidating.TheVariants as invalidating
 use Rattle.fkv_ops.specs.declared.appending.Appending.{Appending}
@@ -20,7 +19,6 @@ use Rattle.fkv_pending.specs.Attempting.{AttemptState}
 use Rattle.fkv_session.specs.declared.sessions.Sitting.{Sitting}
 use Rattle.fkv_session.specs.declared.sessions.Sitting.TheVariants as sitting
 use Rattle.fkv_session.specs.Sessions.{SessionState}
-use Rattle.fkv_world.specs.Opened.{HasBecome, IsOpenedWorld}
 use Rattle.fkv_world.specs.Runs.{World, run}
 use Rattle.fkv_world.specs.World.{Event}
 use Rattle.law_log.specs.Chains.{Cell, Logged, Unborn, Reserved, Published, Dropped}
@@ -29,7 +27,7 @@ use Rattle.law_log.proofs.Shown.{at_one}
 use Rattle.law_guard.specs.Guarded.Shows as guard
 use Rattle.law_refine.specs.Events.GhostEvents.{ghost_events, home_in, life_ghosts, mapped, serials_in}
 use Rattle.law_refine.specs.Events.Reservations.{Reservation, append_reserves, attempt_reserves, invalidate_reserves, try_reserves}
-use Rattle.law_refine.specs.Events.Reserved.{HasReserved, IsOfSession, IsUnbornFrom, ReservesNothing, reserved_by, sitting_reserves, tail_at}
+use Rattle.law_refine.specs.Events.Reserved.{IsOfSession, IsUnbornFrom, ReservesNothing, sitting_reserves, tail_at}
 use Rattle.law_refine.proofs.OfEvents.Below.{AreAbove, event_above}
 use Rattle.law_refine.proofs.OfEvents.ReservedLife.{life_sessions}
 use Rattle.law_commit.specs.Views.{Sight, sight_in}

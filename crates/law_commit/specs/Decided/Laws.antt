@@ -97,3 +97,17 @@ DecidesBelowEnd =
     (opening : World) (start : ℕ) (ghosts : Ghosts) (events : List Event) (c : Commit) → OpensDecided opening start ghosts → OpensSeen opening.now
     → (run opening events).now.keeper.commit ≡ Some c → EndIsSafe (run opening events).now c ⊎ IsWritten (run opening events).now.keeper.step
     → DecidedBelow c.end.0 (life_ghosts opening ghosts events).log
+
+-- so each record from the first tail to its first address stands or was given up, from in-progress on
+abbrev pub SettlesBelowFirst : Type 0
+SettlesBelowFirst =
+    (opening : World) (start : ℕ) (ghosts : Ghosts) (events : List Event) (c : Commit) → OpensDecided opening start ghosts → OpensSeen opening.now
+    → (run opening events).now.keeper.commit ≡ Some c → IsFromProgress (phase_said (phase_at (run opening events).now))
+    → (c.first.0 ≤ tail_at (run opening events).now) × SettledFrom (tail_at opening.now) c.first.0 (life_ghosts opening ghosts events).log
+
+-- and to its end, as it is written
+abbrev pub SettlesBelowEnd : Type 0
+SettlesBelowEnd =
+    (opening : World) (start : ℕ) (ghosts : Ghosts) (events : List Event) (c : Commit) → OpensDecided opening start ghosts → OpensSeen opening.now
+    → (run opening events).now.keeper.commit ≡ Some c → EndIsSafe (run opening events).now c ⊎ IsWritten (run opening events).now.keeper.step
+    → (c.end.0 ≤ tail_at (run opening events).now) × SettledFrom (tail_at opening.now) c.end.0 (life_ghosts opening ghosts events).log
