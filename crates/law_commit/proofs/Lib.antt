@@ -8,6 +8,7 @@ mod NewestWritten
 mod NextNumbers
 pub mod OfCopied
 pub mod OfCuts
+pub mod OfDecided
 pub mod OfFloor
 pub mod OfLinked
 pub mod OfPhases

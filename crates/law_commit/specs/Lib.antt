@@ -2,6 +2,7 @@ pub mod Accepted
 pub mod BegunCommits
 pub mod Copied
 pub mod Cuts
+pub mod Decided
 pub mod FinishedCommits
 pub mod Floor
 pub mod Laws

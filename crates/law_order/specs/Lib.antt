@@ -1,4 +1,5 @@
 pub mod Asked
+pub mod Decided
 pub mod InTurn
 pub mod Known
 pub mod OneHistory

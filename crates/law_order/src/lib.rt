@@ -2,6 +2,7 @@
 #![tactic(auto)]
 
 mod asked;
+mod decided;
 mod enabled;
 mod fits;
 mod in_turn;
@@ -22,6 +23,7 @@ mod told;
 mod truth;
 
 pub use asked::law_world_asked;
+pub use decided::law_decided_opens;
 pub use enabled::law_world_enabled;
 pub use fits::law_opening_fits;
 pub use in_turn::{

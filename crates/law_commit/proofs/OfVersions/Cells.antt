@@ -35,7 +35,7 @@ changed_made log b entry (Reserved other cell) a its = refl
 changed_made log b entry (Dropped cell) a its = refl
 
 -- the event takes the address for a record of this version
-abbrev Takes : GhostEvent → ℕ → Option ℕ → Type 0
+abbrev pub Takes : GhostEvent → ℕ → Option ℕ → Type 0
 Takes (Reserves b entry cell) a made = (a ≡ b) × (made ≡ Some cell.version)
 Takes event a made = ⊥
 
@@ -46,7 +46,7 @@ taken_made cells b entry cell a = elim (at_one cells b (Reserved entry cell) a) 
   | inr there ↦ inl (ap made_in there.1)
 ]
 
-one_made : (home : ℕ → ℕ) (log : Log) (event : GhostEvent) (a : ℕ)
+pub one_made : (home : ℕ → ℕ) (log : Log) (event : GhostEvent) (a : ℕ)
     → (made_in ((log_after home log event).cells a) ≡ made_in (log.cells a)) ⊎ Takes event a (made_in ((log_after home log event).cells a))
 one_made home log (Reserves b entry cell) a = taken_made log.cells b entry cell a
 one_made home log (Publishes b) a = inl (published_made home log b (log.cells b) a refl)

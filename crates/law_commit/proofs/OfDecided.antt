@@ -1,0 +1,7 @@
+mod Attempting
+pub mod Ends
+pub mod Later
+pub mod Lives
+pub mod Taken
+mod Tails
+mod Undecided

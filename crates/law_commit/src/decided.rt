@@ -1,0 +1,49 @@
+//! Which addresses of a life's log are taken and decided.
+ghost use Rattle.law_commit.specs.Decided.Later as later;
+ghost use Rattle.law_commit.specs.Decided.Laws as decided;
+
+use crate::floor::law_floor_stands;
+use law_paper::law_phases_are_seen;
+
+/// In every life of a store that was opened each address from the tail with which it began up to the tail is taken: its record is being made, stands, or was
+/// given up. A record that is being made lies at or above the tail of its session's view. So all is decided below what each session that is awake has seen as
+/// tail, and stays so below the tail.
+pub fn law_addresses_taken()
+    ensures taken { decided.TakesUptoTail }
+    ensures above_view { decided.MakesAboveItsView }
+    ensures below_views { decided.DecidesBelowViews }
+    ensures stays { decided.StaysDecided }
+    ensures settled { decided.SettlesDecided }
+{}
+
+/// In each life of a store that opened at rest, as its sessions have seen, all is decided below the first address of the commit in hand from in-progress on.
+/// So it was as a full commit's copy began. Once its points are taken and the epoch of its last arming is safe all is decided below its end, and so as it is
+/// written.
+pub fn law_commits_decided()
+    ensures first { decided.DecidesBelowFirst }
+    ensures before_copies { decided.DecidesBeforeCopies }
+    ensures end { decided.DecidesBelowEnd }
+{
+    law_floor_stands();
+}
+
+/// Let the tail have been at or below an address at a moment, and let all that was attempted since be of later versions than one. Then each record from the
+/// address on is of a later version too. While the phase word says wait-pending or wait-flush, each session that is awake goes by a later version than the
+/// commit in hand. So what it attempts at a call is of a later one; and all that is attempted is, if what polls attempt is.
+pub fn law_later_above()
+    ensures above { later.MakesLaterFrom }
+    ensures goes { later.GoesByLater }
+    ensures attempts { later.AttemptsLaterButPolls }
+{
+    law_floor_stands();
+}
+
+/// In each such life the first address of the commit in hand lies at or below the tail from in-progress on, and so does its end as it is written. So each
+/// record from the first tail to that address stands or was given up.
+pub fn law_commits_settled()
+    ensures first { decided.SettlesBelowFirst }
+    ensures end { decided.SettlesBelowEnd }
+{
+    law_phases_are_seen();
+    law_floor_stands();
+}

@@ -1,0 +1,20 @@
+//! Which addresses of the log are decided in each life of a store that was opened.
+ghost use Rattle.law_order.specs.Decided.Laws as decided;
+
+use crate::rules::law_life_begins;
+use law_commit::{law_addresses_taken, law_commits_decided};
+
+/// In each life of an opened store, with commits, crashes and failing calls of the device, each address from the first tail up to the tail is taken. All is
+/// decided below what each session that is awake has seen as tail. So it is below the first address of the commit in hand, from in-progress on and as its copy
+/// began; and below its end as it is written.
+pub fn law_decided_opens()
+    ensures taken { decided.InItsLife decided.HasTaken }
+    ensures seen { decided.InItsLife decided.HasDecidedSeen }
+    ensures first { decided.InItsLife decided.HasDecidedFirst }
+    ensures copied { decided.InItsLife decided.HadDecidedFirst }
+    ensures end { decided.InItsLife decided.HasDecidedEnd }
+{
+    law_life_begins();
+    law_addresses_taken();
+    law_commits_decided();
+}
