@@ -1,4 +1,5 @@
 pub mod Begun
+pub mod Cuts
 pub mod Keeper
 pub mod Left
 pub mod Life

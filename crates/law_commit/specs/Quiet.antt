@@ -1,8 +1,13 @@
 -- That no update of a version is left, nor comes any more.
-use Rattle.std.specs.Prelude.{◌≡◌, ◌+◌, ◌*◌, ◌<◌, ◌≤◌, nat_le, ℕ, true, List, ◌∷◌, ◌++◌}
+use Rattle.std.specs.Prelude.{◌≡◌, ◌≢◌, ◌⊎◌, ◌+◌, ◌-◌, ◌*◌, ◌<◌, ◌≤◌, nat_le, ℕ, true, List, ◌∷◌, ◌++◌}
 use Rattle.fkv_words.specs.declared.phase_words.PhaseSaid.{PhaseSaid}
 use Rattle.fkv_words.specs.declared.phase_words.PhaseSaid.TheVariants.{Says, Spoiled}
 use Rattle.fkv_words.specs.PhaseWords.{phase_said}
+use Rattle.fkv_plane.specs.Places.{session_place}
+use Rattle.fkv_commit.specs.Cuts.{cut_of, other_cut_of}
+use Rattle.fkv_session.specs.declared.sessions.CatchCause.TheVariants.{Wakes}
+use Rattle.fkv_session.specs.declared.sessions.Sitting.TheVariants.{CatchesUp}
+use Rattle.fkv_session.specs.CatchingUp.{cut_at}
 use Rattle.fkv_session.specs.InOrder.{owing_place}
 use Rattle.fkv_session.specs.Sessions.{SessionState}
 use Rattle.fkv_world.specs.Opened.{HasBecome, IsOpenedWorld}
@@ -13,7 +18,7 @@ use Rattle.law_guard.specs.Guarded.Shows.{IsOpened}
 use Rattle.law_log.specs.Trace.{IsIn}
 use Rattle.law_commit.specs.Accepted.{point}
 use Rattle.law_commit.specs.BegunCommits.{BegunCommit, life_begun}
-use Rattle.law_commit.specs.Cuts.{word_now}
+use Rattle.law_commit.specs.Cuts.{ShowCuts, word_now}
 use Rattle.law_commit.specs.Floor.Stands.{OpensSeen}
 use Rattle.law_commit.specs.PhaseStores.{phase_at}
 use Rattle.law_commit.specs.Ranks.{rank}
@@ -108,3 +113,23 @@ PointsAlwaysSplit =
 abbrev pub BegunHaveFlushed : Type 0
 BegunHaveFlushed =
     (opening : World) (start : ℕ) (events : List Event) (c : BegunCommit) → OpensQuiet opening start → IsIn c (life_begun opening events) → flush_rank c.number.0 ≤ rank_now opening events
+
+-- ---- what a session's two cut words show of a version: the first of its parity, and the other
+-- The words of a session that sleeps since this version: one is its cut at the point, and the other that of the version before, at no later serial.
+pub record SleptAt (version point own_word before_word : ℕ) : Type 0 where
+  pub serial : ℕ
+  pub low : serial ≤ point
+  pub own : own_word ≡ cut_at point version
+  pub before : before_word ≡ cut_at serial (version - 1)
+
+-- The first word is the cut of the version at the point; or the session sleeps since an earlier version, whose cut one of the words is.
+pub data ShowsPoint (version point first other : ℕ) : Type 0 where
+  SaysFirst : first ≡ cut_at point version → ShowsPoint version point first other
+  SleepsSince : (at : ℕ) → at < version → SleptAt at point first other ⊎ SleptAt at point other first → ShowsPoint version point first other
+
+-- in wait-pending they show the point of the commit's number, but in the middle of a wake
+abbrev pub CutsShowPoints : Type 0
+CutsShowPoints =
+    (opening : World) (start : ℕ) (events : List Event) (version session : ℕ) (first its : SessionState) → OpensQuiet opening start → ShowCuts opening.now → HasBecome opening events session first its
+    → rank_now opening events ≡ pending_rank version → its.step ≢ CatchesUp Wakes
+    → ShowsPoint version (point opening events session version) (word_now opening events (session_place session (cut_of version))) (word_now opening events (session_place session (other_cut_of version)))

@@ -1,6 +1,7 @@
 //! That no update of a version is left once its commit has come to wait-flush.
-ghost use Rattle.law_commit.specs.Quiet.{BegunHaveFlushed, LiveAreLater, NoneComesBack, NoneIsLeft, OwesNone, PointsAlwaysSplit, PointsStay, RanksRise};
+ghost use Rattle.law_commit.specs.Quiet.{BegunHaveFlushed, CutsShowPoints, LiveAreLater, NoneComesBack, NoneIsLeft, OwesNone, PointsAlwaysSplit, PointsStay, RanksRise};
 
+use crate::cuts::law_cuts_stand;
 use crate::floor::law_floor_stands;
 
 /// In each life of a store that opened at rest the rank of the phase word never falls. From wait-pending of a commit on each live session goes by a later
@@ -20,4 +21,13 @@ pub fn law_versions_end()
     ensures begun { BegunHaveFlushed }
 {
     law_floor_stands();
+}
+
+/// While the phase is wait-pending, a session's two cut words show its point of the commit's number, but in the middle of a wake. If it has left that version,
+/// its first word says where. If it sleeps since an earlier one, the later of its two words does.
+pub fn law_cuts_show_points()
+    ensures { CutsShowPoints }
+{
+    law_versions_end();
+    law_cuts_stand();
 }

@@ -112,7 +112,7 @@ opening_marks : (k : Seat) (words : ℕ → ℕ) (s : SessionState) (step : Sitt
 opening_marks k words s (Idle its) idle none shows = record { cut = (shows.version.0, shows.version.1, shows.cut); owing = rw none shows.owing }
 opening_marks k words s step idle none shows = cc
 
-run_marks : (k : Seat) (first : SessionState) (f : ℕ → ℕ) (events : List SessionEvent) → IsOpened first → k.number < k.places.sessions → ShowsCut k first f
+pub run_marks : (k : Seat) (first : SessionState) (f : ℕ → ℕ) (events : List SessionEvent) → IsOpened first → k.number < k.places.sessions → ShowsCut k first f
     → StepMarks k (λ place. stored_last k first f events place) (Some (serial_before k first events)) (session_run k first events) (session_run k first events).step
 unfolding session_run stored_last serial_before
 run_marks k first f [] opened some shows = opening_marks k f first first.step opened.none_in_hand opened.none_wait shows

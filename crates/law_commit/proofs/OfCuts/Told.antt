@@ -8,7 +8,7 @@ use Rattle.fkv_session.specs.InOrder.{AreToldInOrder, HasTold, TellsCut, TellsOw
 use Rattle.fkv_session.specs.Sessions.{SessionState, Seat}
 use Rattle.fkv_session.specs.Words.{AreMarksTold, IsCutAsleep, IsMark}
 
-cut_mark : (number version : ℕ) → IsMark number (session_place number (cut_of version))
+pub cut_mark : (number version : ℕ) → IsMark number (session_place number (cut_of version))
 cut_mark number version = by_parity (version % 2 == 0)
   where
     by_parity : (even : Bool) → IsMark number (session_place number (if even then own.EvenCut else own.OddCut))

@@ -161,11 +161,11 @@ attempts_later version s step later same waiting polls = tt
 
 -- ---- a moment
 -- in wait-pending the phase word is of the version behind the commit's
-record Pending (version said : ℕ) : Type 0 where
-  some : 0 < version
-  next : said ≡ version + 1
+pub record Pending (version said : ℕ) : Type 0 where
+  pub some : 0 < version
+  pub next : said ≡ version + 1
 
-pending_version : (number : Version) (stage : Stage) (version : ℕ) → FitsVersion number stage → 5 * number.0 + stage_number stage ≡ pending_rank version → Pending version (stage_version number stage).0
+pub pending_version : (number : Version) (stage : Stage) (version : ℕ) → FitsVersion number stage → 5 * number.0 + stage_number stage ≡ pending_rank version → Pending version (stage_version number stage).0
 pending_version number Pends version fits rank = let some = fits.some in let low = fits.lower refl in record { some = omega (arith, some, rank); next = omega (arith, rank, low) }
 pending_version number Rests version fits rank = absurd (omega (arith, rank))
 pending_version number Prepares version fits rank = absurd (omega (arith, rank))

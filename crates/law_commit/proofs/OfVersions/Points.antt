@@ -68,7 +68,7 @@ run_follow k first (event ∷ before) opened =
     (run_follow k first before opened)
 
 -- ---- how many are of versions up to one
-count_low : (n : ℕ) (versions : List ℕ) → count_upto n versions ≤ length versions
+pub count_low : (n : ℕ) (versions : List ℕ) → count_upto n versions ≤ length versions
 count_low n [] = omega arith
 count_low n (v ∷ before) = by_test (nat_le v n) (count_low n before)
   where
