@@ -6,7 +6,7 @@ mod OfOneHistory
 mod OfOrdered
 mod OfEnabled
 mod OfPrefix
-mod OfReads
+pub mod OfReads
 mod OfRest
 mod OfRows
 pub mod OfRules
