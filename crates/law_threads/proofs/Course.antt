@@ -91,7 +91,7 @@ module _ {K : Type 0} (at : K → World) (opening : World) (number : ℕ) (call 
     InTurn : ByStep its finished es → Answering its finished es
 
   -- it is over
-  pub record IsOver (es : List Happening) : Type 0 where
+  pub record HasEnded (es : List Happening) : Type 0 where
     pub s : SessionState
     pub found : slice_get (after es).now.sessions number ≡ Some s
     pub idle : is_busy s.step ≡ false
@@ -108,7 +108,7 @@ module _ {K : Type 0} (at : K → World) (opening : World) (number : ℕ) (call 
 
   pub data Course (es : List Happening) : Type 0 where
     Going : InHand es → Course es
-    Over : IsOver es → Course es
+    Over : HasEnded es → Course es
 
   -- ---- an event that tells nothing of the session and leaves it
   stays : (es : List Happening) (e : Happening) → AreOthers number (told_by (after es).now (happens (after es) (event_of e)).now (event_of e))
@@ -286,13 +286,10 @@ module _ {K : Type 0} (at : K → World) (opening : World) (number : ℕ) (call 
     begun (Rests quiet own stay) = absurd (last_of _ (Called number call) (subst AreOfKeeper call_told quiet))
     begun (GoesOne its) = absurd (no_call its.number number call (sym its.is))
 
+    one_on : (e : Happening) (steps : List Happening) → (e ≡ Moves number) ⊎ (speaks (Sits number) (actor_of e) ≡ false) → Course (steps ++ called_at) → Course (e ∷ (steps ++ called_at))
+    one_on e steps (inl own) so = subst (λ (x : Happening). Course (x ∷ (steps ++ called_at))) (sym own) (by_own steps (turn_of (after (steps ++ called_at)) (world.Moves number) (alive at opening (steps ++ called_at) goes_on)) so)
+    one_on e steps (inr other) so = by_other (steps ++ called_at) e other (turn_of (after (steps ++ called_at)) (event_of e) (alive at opening (steps ++ called_at) goes_on)) so
+
     pub course : (steps : List Happening) → OnlyMoves number steps → Course (steps ++ called_at)
     course [] only = begun (turn_of (after rest) (world.Calls number call) (alive at opening rest goes_on))
-    course (e ∷ steps) only = by_kind only.0
-      where
-        so : Course (steps ++ called_at)
-        so = course steps only.1
-
-        by_kind : (e ≡ Moves number) ⊎ (speaks (Sits number) (actor_of e) ≡ false) → Course (e ∷ (steps ++ called_at))
-        by_kind (inl own) = subst (λ (x : Happening). Course (x ∷ (steps ++ called_at))) (sym own) (by_own steps (turn_of (after (steps ++ called_at)) (world.Moves number) (alive at opening (steps ++ called_at) goes_on)) so)
-        by_kind (inr other) = by_other (steps ++ called_at) e other (turn_of (after (steps ++ called_at)) (event_of e) (alive at opening (steps ++ called_at) goes_on)) so
+    course (e ∷ steps) only = one_on e steps only.0 (course steps only.1)

@@ -1,1 +1,3 @@
 mod Course
+mod Histories
+mod OfRuns

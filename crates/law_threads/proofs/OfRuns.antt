@@ -1,0 +1,143 @@
+-- A call that was run: how it was answered, and what callers have seen of it.
+use Rattle.std.proofs.Common.{◌≡◌, ◌⊎◌, inl, inr, ℕ, ◌∙◌, refl, sym, ap, subst, arith, Bool, true, false, List, [], ◌∷◌, ◌++◌, length, map, append-nil, append_assoc}
+use Rattle.std.specs.Prelude.{⊤, Option, Some, None, slice_get, ◌==◌}
+use Rattle.std.proofs.lemmas.Bool.Decides.{nat_tests}
+use Rattle.fkv_epoch.proofs.Shown.{some_same}
+use Rattle.fkv_base.specs.declared.faults.Fault.{Fault}
+use Rattle.fkv_base.specs.declared.numbers.Key.{Key}
+use Rattle.fkv_core.specs.Openings.{beginning}
+use Rattle.fkv_map.specs.declared.history.HistoryEntry.{HistoryEntry}
+use Rattle.fkv_map.specs.declared.operations.Call.{Call}
+use Rattle.fkv_map.specs.declared.operations.Call.TheVariants as call
+use Rattle.fkv_map.specs.declared.operations.Op.{Op}
+use Rattle.fkv_map.specs.declared.operations.Op.TheVariants.{Read}
+use Rattle.fkv_map.specs.declared.operations.Reply.{Reply}
+use Rattle.fkv_map.specs.declared.operations.Reply.TheVariants as reply
+use Rattle.fkv_opening.specs.declared.opened_store.Opened.{Opened}
+use Rattle.fkv_seats.specs.declared.views.Role.TheVariants.{Sits}
+use Rattle.fkv_seats.specs.Rule.{Quiet, led}
+use Rattle.fkv_session.specs.declared.answers.Answer.{Answer}
+use Rattle.fkv_session.specs.declared.answers.Answer.TheVariants as answer
+use Rattle.fkv_session.specs.declared.answers.Finished.{Finished}
+use Rattle.fkv_session.specs.declared.answers.Told.{Told}
+use Rattle.fkv_session.specs.declared.answers.Told.TheVariants as told
+use Rattle.fkv_session.specs.declared.sessions.Sitting.TheVariants.{Idle}
+use Rattle.fkv_session.specs.Answers.{IsAnswerTold}
+use Rattle.fkv_session.specs.SessionRun.{Telling, telling}
+use Rattle.fkv_session.specs.Sessions.{Seat, SessionState, attempts, is_busy, op_begun, refusal_of, session_begun}
+use Rattle.fkv_world.specs.Past.{Traced, TraceEvent, Called, Answered}
+use Rattle.fkv_world.specs.Runs.{World, happens, run}
+use Rattle.fkv_world.specs.World as world
+use Rattle.fkv_world.specs.World.{Event, Now}
+use Rattle.law_log.specs.Trace.{AnswersRead, CallsRead, GivesResult, IsIn, TraceLine}
+use Rattle.law_opening.specs.Log.Maps.{opening_map}
+use Rattle.law_world.specs.Runs.Added.{ended_by, told_at, told_by}
+use Rattle.law_refine.specs.Calls.Calls.{event_adds}
+use Rattle.law_refine.specs.Events.GhostEvents.{serials_in}
+use Rattle.law_refine.specs.Events.Lines.{answer_lines, event_lines, lines_added, read_in_hand}
+use Rattle.law_order.specs.Rules.InTime.{IsInTime, ReadsInTime}
+use Rattle.law_order.proofs.OfReads.Numbers.{called_hand, is_other, other_hand}
+use Rattle.fkv_table.specs.Calls.{AreOthers, HasCalled, IsAnsweredLast, IsToldLast}
+use Rattle.fkv_table.specs.declared.happenings.Happening.{Happening}
+use Rattle.fkv_table.specs.declared.happenings.Happening.TheVariants.{Calls, Moves}
+use Rattle.fkv_table.specs.Events.{event_of}
+use Rattle.fkv_table.specs.Planes.{plane}
+use Rattle.fkv_table.proofs.Lives.{led_run, quiet_session}
+use Rattle.law_threads.specs.Calls.{CallRun, HasRun, IsOver, events_of}
+use Rattle.law_threads.specs.Threads.{IsBeginning, history_seen, read_told}
+use Rattle.law_threads.proofs.Course.{Answering, AtOnce, ByStep, Course, Going, HasEnded, InHand, InTurn, OfOthers, Over, call_told, course, seen_answered, seen_called}
+use Rattle.law_threads.proofs.Histories.{begins_with, events_both}
+
+same_number : (n : ℕ) → (n == n) ≡ true
+same_number n = grind (arith, nat_tests)
+
+not_true : true ≡ false → ⊥
+not_true e = cc
+
+quiet_so : {K : Type 0} (at : K → World) (number : ℕ) (xs : List Happening) → AreOthers number xs → Quiet (plane at) (Sits number) xs
+quiet_so at number [] others = tt
+quiet_so at number (x ∷ xs) others = (others.0, quiet_so at number xs others.1)
+
+-- ---- the trace behind it
+head_same : (x y : Traced) (xs ys : List Traced) → x ∷ xs ≡ y ∷ ys → x.its ≡ y.its
+head_same x y xs ys e = cc
+
+tail_same : (x y : Traced) (xs ys : List Traced) → x ∷ xs ≡ y ∷ ys → xs ≡ ys
+tail_same x y xs ys e = cc
+
+answers_own : (number : ℕ) (its : Telling) (event : TraceEvent) → is_other number event → event ≡ Answered number its → ⊥
+answers_own number its event other is = not_true (sym (same_number number) ∙ subst (λ (x : TraceEvent). is_other number x) is other)
+
+call_answers : (number other : ℕ) (its : Call) (telling : Telling) → Called number its ≡ Answered other telling → ⊥
+call_answers number other its telling e = cc
+
+told_same : (number : ℕ) (its other : Told) (f g : List Finished) → Answered number (telling its f) ≡ Answered number (telling other g) → its ≡ other
+told_same number its other f g e = ap (λ (x : TraceEvent). told_of x) e
+  where
+    told_of : TraceEvent → Told
+    told_of (Answered session t) = t.its
+    told_of event = its
+
+in_hand_tells_none : (number effects eff : ℕ) (its : Call) (telling : Telling) (since trace before earlier : List Traced) → OfOthers number since → trace ≡ since ++ seen_called effects number its earlier
+    → trace ≡ record { its = Answered number telling; effects = eff } ∷ before → ⊥
+in_hand_tells_none number effects eff its telling [] trace before earlier others so newest = call_answers number number its telling (head_same _ _ _ _ (sym so ∙ newest))
+in_hand_tells_none number effects eff its telling (x ∷ since) trace before earlier others so newest = answers_own number telling x.its others.0 (head_same _ _ _ _ (sym so ∙ newest))
+
+none_since : (number eff : ℕ) (telling : Telling) (since trace before behind : List Traced) → OfOthers number since → trace ≡ since ++ behind → trace ≡ record { its = Answered number telling; effects = eff } ∷ before → since ≡ []
+none_since number eff telling [] trace before behind others so newest = refl
+none_since number eff telling (x ∷ since) trace before behind others so newest = absurd (answers_own number telling x.its others.0 (head_same _ _ _ _ (sym so ∙ newest)))
+
+module _ {K : Type 0} (at : K → World) (opening : World) (number : ℕ) (its : Call) (rest : List Happening) where
+  -- how the call was answered, and what callers see of it behind that
+  pub record IsToldIn (behind : List Happening) (t : Told) : Type 0 where
+    pub finished : List Finished
+    pub how : Answering at opening number its rest t finished behind
+    pub effects : ℕ
+    pub more : List Traced
+    pub others : OfOthers number more
+    pub began : ℕ
+    pub so : (led (plane at) opening behind).past.trace ≡ seen_answered effects number t finished (more ++ seen_called began number its (led (plane at) opening rest).past.trace)
+
+  told_in : (behind : List Happening) (t : Told) (list : List Finished) → IsToldLast (led (plane at) opening behind) number (telling t list) → Course at opening number its rest behind → IsToldIn behind t
+  told_in behind t list last (Going hand) = absurd (in_hand_tells_none number hand.effects (length (led (plane at) opening behind).past.history) its (telling t list) hand.since _ last.before _ hand.others hand.so last.newest)
+  told_in behind t list last (Over e) =
+      let none : e.since ≡ [] = none_since number (length (led (plane at) opening behind).past.history) (telling t list) e.since _ last.before _ e.others e.so last.newest in
+      let so : (led (plane at) opening behind).past.trace ≡ seen_answered e.effects number e.its e.finished (e.more ++ seen_called e.began number its (led (plane at) opening rest).past.trace) =
+      e.so ∙ ap (λ (x : List Traced). x ++ seen_answered e.effects number e.its e.finished (e.more ++ seen_called e.began number its (led (plane at) opening rest).past.trace)) none in
+      let same : e.its ≡ t = told_same number e.its t e.finished list (head_same _ _ _ _ (sym so ∙ last.newest)) in
+      subst (IsToldIn behind) same (record { finished = e.finished; how = e.how; effects = e.effects; more = e.more; others = e.more_others; began = e.began; so = so })
+
+module _ {K : Type 0} (at : K → World) (key : K) (its : CallRun) (run : HasRun at key its) where
+  -- what stands in the list before the call's start
+  abbrev pub earlier : List Happening
+  earlier = run.called.others ++ its.before
+
+  abbrev pub since_call : List Happening
+  since_call = run.called.steps ++ Calls its.number its.call ∷ earlier
+
+  pub goes_on : (at key).now.crashed ≡ false
+  goes_on = run.ready.opened.opening.opened.goes_on
+
+  abbrev pub first : SessionState
+  first = run.ready.seated.first
+
+  pub was : slice_get (led (plane at) (at key) earlier).now.sessions its.number ≡ Some first
+  was = quiet_session at (at key) its.number run.called.others its.before (quiet_so at its.number run.called.others run.called.quiet)
+      ∙ ((λ i. slice_get (led (plane at) (at key) (sym run.seen i)).now.sessions (sym run.number i)) ∙ run.ready.seated.was)
+
+  pub idle : is_busy first.step ≡ false
+  idle = ap (λ (s : SessionState). is_busy s.step) (sym run.ready.seated.state) ∙ run.ready.idle
+
+  its_course : Course at (at key) its.number its.call earlier since_call
+  its_course = course at (at key) its.number its.call earlier goes_on first was idle run.called.steps run.called.only
+
+  pub is_told : IsToldIn at (at key) its.number its.call earlier since_call run.answered.its
+  is_told = told_in at (at key) its.number its.call earlier since_call run.answered.its run.answered.finished
+      (subst (λ (x : List Happening). IsToldLast (led (plane at) (at key) x) its.number (telling run.answered.its run.answered.finished)) run.called.so run.answered.last) its_course
+
+  -- it begins with what had been seen
+  pub begins_so : (n : Now) (bytes : List ℕ) → IsBeginning (history_seen n bytes its.before) (history_seen n bytes its.behind)
+  begins_so n bytes =
+      subst (λ (x : List Happening). IsBeginning (history_seen n bytes its.before) (history_seen n bytes x))
+      (append_assoc run.called.steps (Calls its.number its.call ∷ run.called.others) its.before ∙ sym run.called.so)
+      (begins_with n bytes (run.called.steps ++ Calls its.number its.call ∷ run.called.others) its.before)
