@@ -1,3 +1,4 @@
 mod Course
 mod Histories
 mod OfRuns
+mod OfReads

@@ -141,3 +141,58 @@ module _ {K : Type 0} (at : K → World) (key : K) (its : CallRun) (run : HasRun
       subst (λ (x : List Happening). IsBeginning (history_seen n bytes its.before) (history_seen n bytes x))
       (append_assoc run.called.steps (Calls its.number its.call ∷ run.called.others) its.before ∙ sym run.called.so)
       (begins_with n bytes (run.called.steps ++ Calls its.number its.call ∷ run.called.others) its.before)
+
+-- ---- lines
+in_left : (line : TraceLine) (xs ys : List TraceLine) → IsIn line xs → IsIn line (xs ++ ys)
+in_left line [] ys is_in = absurd is_in
+in_left line (x ∷ xs) ys (inl same) = inl same
+in_left line (x ∷ xs) ys (inr more) = inr (in_left line xs ys more)
+
+in_right : (line : TraceLine) (xs ys : List TraceLine) → IsIn line ys → IsIn line (xs ++ ys)
+in_right line [] ys is_in = is_in
+in_right line (x ∷ xs) ys is_in = inr (in_right line xs ys is_in)
+
+-- the lines of the oldest of what is told
+pub oldest_added : (first : ℕ → ℕ) (before : List Traced) (effects : ℕ) (xs : List TraceEvent) (it : TraceEvent) (line : TraceLine) → IsIn line (event_lines first before it) → IsIn line (lines_added first before (told_at effects (xs ++ it ∷ [])))
+unfolding lines_added
+oldest_added first before effects [] it line is_in = in_left line (event_lines first before it) [] is_in
+oldest_added first before effects (x ∷ xs) it line is_in = in_right line _ (lines_added first before (told_at effects (xs ++ it ∷ []))) (oldest_added first before effects xs it line is_in)
+
+-- the number of a read in hand
+pub hand_kept : (number : ℕ) (since earlier : List Traced) → OfOthers number since → read_in_hand number (since ++ earlier) ≡ read_in_hand number earlier
+hand_kept number [] earlier others = refl
+hand_kept number (it ∷ since) earlier others = other_hand number it (since ++ earlier) others.0 ∙ hand_kept number since earlier others.1
+
+-- ---- a read's answer
+pub no_reply : (its : Reply) → ◌≡◌ {A = Option Reply} None (Some its) → ⊥
+no_reply its e = cc
+
+same_some : (its other : Reply) → ◌≡◌ {A = Option Reply} (Some its) (Some other) → its ≡ other
+same_some its other e = cc
+
+polled_none : (f : List Finished) (left : ℕ) (given : Answer) (its : Reply) → IsAnswerTold (told.Polled left) f given → read_told given ≡ Some its → ⊥
+polled_none f left (answer.Polled list count) its is e = no_reply its e
+polled_none f left given its is e = absurd is
+
+pub reads_line : (first : ℕ → ℕ) (number : ℕ) (trace : List Traced) (t : Told) (f list : List Finished) (given : Answer) (its : Reply) → IsAnswerTold t f given → read_told given ≡ Some its
+    → answer_lines first trace number t list ≡ AnswersRead (read_in_hand number trace) its ∷ []
+reads_line first number trace (told.Found value) f list given its is e = ap (λ (x : Reply). AnswersRead (read_in_hand number trace) x ∷ []) (same_some (reply.Found value) its (sym (ap read_told is) ∙ e))
+reads_line first number trace told.Absent f list given its is e = ap (λ (x : Reply). AnswersRead (read_in_hand number trace) x ∷ []) (same_some reply.Absent its (sym (ap read_told is) ∙ e))
+reads_line first number trace (told.Done serial r) f list given its is e = absurd (no_reply its (sym (ap read_told is) ∙ e))
+reads_line first number trace (told.Pending serial why) f list given its is e = absurd (no_reply its (sym (ap read_told is) ∙ e))
+reads_line first number trace (told.PendingRead ticket) f list given its is e = absurd (no_reply its (sym (ap read_told is) ∙ e))
+reads_line first number trace (told.Refreshed phase version) f list given its is e = absurd (no_reply its (sym (ap read_told is) ∙ e))
+reads_line first number trace (told.Woken phase version) f list given its is e = absurd (no_reply its (sym (ap read_told is) ∙ e))
+reads_line first number trace (told.Polled left) f list given its is e = absurd (polled_none f left given its is e)
+reads_line first number trace told.Slept f list given its is e = absurd (no_reply its (sym (ap read_told is) ∙ e))
+reads_line first number trace (told.Durable serial) f list given its is e = absurd (no_reply its (sym (ap read_told is) ∙ e))
+reads_line first number trace (told.Refused why) f list given its is e = absurd (no_reply its (sym (ap read_told is) ∙ e))
+
+-- an operation that is answered as it begins is refused
+pub refused_at_once : (k : Seat) (s : SessionState) (op : Op) (why : Option Fault) (t : Told) → (op_begun k s op why).step ≡ Idle t → (cause : Fault) × (t ≡ told.Refused cause)
+unfolding op_begun attempts
+refused_at_once k s op (Some why) t e = (why, sym (told_of e))
+  where
+    told_of : Idle (told.Refused why) ≡ Idle t → told.Refused why ≡ t
+    told_of e = cc
+refused_at_once k s op None t e = cc
