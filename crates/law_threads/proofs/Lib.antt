@@ -1,4 +1,6 @@
 mod Course
 mod Histories
-mod OfRuns
+mod OfDone
+mod OfLaws
 mod OfReads
+mod OfRuns

@@ -48,7 +48,7 @@ use Rattle.law_threads.specs.Threads.{IsBeginning, history_seen, read_told}
 use Rattle.law_threads.proofs.Course.{Answering, AtOnce, ByStep, Course, Going, HasEnded, InHand, InTurn, OfOthers, Over, call_told, course, seen_answered, seen_called}
 use Rattle.law_threads.proofs.Histories.{begins_with, events_both}
 
-same_number : (n : ℕ) → (n == n) ≡ true
+pub same_number : (n : ℕ) → (n == n) ≡ true
 same_number n = grind (arith, nat_tests)
 
 not_true : true ≡ false → ⊥
@@ -90,6 +90,9 @@ none_since number eff telling (x ∷ since) trace before behind others so newest
 module _ {K : Type 0} (at : K → World) (opening : World) (number : ℕ) (its : Call) (rest : List Happening) where
   -- how the call was answered, and what callers see of it behind that
   pub record IsToldIn (behind : List Happening) (t : Told) : Type 0 where
+    pub s : SessionState
+    pub found : slice_get (led (plane at) opening behind).now.sessions number ≡ Some s
+    pub idle : is_busy s.step ≡ false
     pub finished : List Finished
     pub how : Answering at opening number its rest t finished behind
     pub effects : ℕ
@@ -105,7 +108,7 @@ module _ {K : Type 0} (at : K → World) (opening : World) (number : ℕ) (its :
       let so : (led (plane at) opening behind).past.trace ≡ seen_answered e.effects number e.its e.finished (e.more ++ seen_called e.began number its (led (plane at) opening rest).past.trace) =
       e.so ∙ ap (λ (x : List Traced). x ++ seen_answered e.effects number e.its e.finished (e.more ++ seen_called e.began number its (led (plane at) opening rest).past.trace)) none in
       let same : e.its ≡ t = told_same number e.its t e.finished list (head_same _ _ _ _ (sym so ∙ last.newest)) in
-      subst (IsToldIn behind) same (record { finished = e.finished; how = e.how; effects = e.effects; more = e.more; others = e.more_others; began = e.began; so = so })
+      subst (IsToldIn behind) same (record { s = e.s; found = e.found; idle = e.idle; finished = e.finished; how = e.how; effects = e.effects; more = e.more; others = e.more_others; began = e.began; so = so })
 
 module _ {K : Type 0} (at : K → World) (key : K) (its : CallRun) (run : HasRun at key its) where
   -- what stands in the list before the call's start

@@ -86,7 +86,7 @@ pub record IsWithoutCommits (o : Opened) (n : Now) (bytes : List ℕ) (events : 
   pub within : IsWithin o n bytes events
   pub rests : HasNoCommit events
 
--- The thread law of lives of which this is so.
+-- The thread law, of lives of which this is so.
 pub record IsThreadLaw {K : Type 0} (at : K → World) (If : Opened → Now → List ℕ → List Event → Type 0) : Type 0 where
   pub done : OfEachRun at If DoneIsSeen
   pub reads : OfEachRun at If ReadsWhatWasSeen
