@@ -1,5 +1,5 @@
 -- How a call goes on in the list of events, from its start on, and what callers see of it.
-use Rattle.std.proofs.Common.{◌≡◌, ◌⊎◌, inl, inr, ℕ, ◌∙◌, refl, sym, ap, subst, arith, Bool, true, false, List, [], ◌∷◌, ◌++◌, length, append-nil, append_assoc}
+use Rattle.std.proofs.Common.{◌≡◌, ◌⊎◌, inl, inr, ℕ, ◌∙◌, refl, sym, ap, subst, arith, Bool, true, false, List, [], ◌∷◌, ◌++◌, length, append_assoc}
 use Rattle.std.specs.Prelude.{⊤, Some, slice_get, ◌==◌, if◌then◌else◌}
 use Rattle.std.proofs.lemmas.Bool.Decides.{nat_tests}
 use Rattle.fkv_epoch.proofs.Shown.{some_same}
@@ -10,7 +10,7 @@ use Rattle.fkv_session.specs.declared.answers.Finished.{Finished}
 use Rattle.fkv_session.specs.declared.answers.Told.{Told}
 use Rattle.fkv_session.specs.declared.sessions.Sitting.{Sitting}
 use Rattle.fkv_session.specs.declared.sessions.Sitting.TheVariants.{Idle}
-use Rattle.fkv_session.specs.SessionRun.{Telling, telling}
+use Rattle.fkv_session.specs.SessionRun.{telling}
 use Rattle.fkv_session.specs.Sessions.{SessionState, is_busy, session_begun}
 use Rattle.fkv_world.specs.Past.{Traced, TraceEvent, Called, Answered}
 use Rattle.fkv_world.specs.Runs.{World, happens}
@@ -20,7 +20,7 @@ use Rattle.law_world.proofs.OfRuns.Added.{trace_so}
 use Rattle.law_refine.proofs.OfCalls.Telling.{AreOfKeeper, alive_told, is_of_keeper}
 use Rattle.law_order.proofs.OfReads.LifeNumbers.{AreOthers, begins_other, begins_trace, goes_other, keepers_other}
 use Rattle.law_order.proofs.OfReads.Numbers.{is_other}
-use Rattle.law_order.proofs.OfReads.Turns.{Begins, Goes, Turn, Rests, BeginsOne, GoesOne, moved_to, turn_of}
+use Rattle.law_order.proofs.OfReads.Turns.{Goes, Turn, Rests, BeginsOne, GoesOne, moved_to, turn_of}
 use Rattle.fkv_table.specs.Calls.{OnlyMoves}
 use Rattle.fkv_table.specs.declared.happenings.Happening.{Happening}
 use Rattle.fkv_table.specs.declared.happenings.Happening.TheVariants.{Calls, Moves, Commits, Turns, KeeperMoves}

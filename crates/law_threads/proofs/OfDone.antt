@@ -1,6 +1,6 @@
 -- An update that is done has taken effect by what its pass has seen.
-use Rattle.std.proofs.Common.{◌≡◌, ℕ, zero, suc, ◌+◌, ◌∙◌, refl, sym, ap, subst, inl, arith, Bool, true, false, List, [], ◌∷◌, ◌++◌, length}
-use Rattle.std.specs.Prelude.{Option, Some, None, cond, ◌&&◌, ◌==◌, nat_eq, slice_get, if◌then◌else◌}
+use Rattle.std.proofs.Common.{◌≡◌, ℕ, suc, ◌+◌, ◌∙◌, refl, sym, ap, subst, inl, arith, Bool, true, List, [], ◌∷◌, ◌++◌, length}
+use Rattle.std.specs.Prelude.{Option, Some, None, cond, ◌&&◌, nat_eq, slice_get, if◌then◌else◌}
 use Rattle.std.proofs.lemmas.Bool.Decides.{nat_tests}
 use Rattle.fkv_base.specs.declared.numbers.Serial.{Serial}
 use Rattle.fkv_core.specs.Openings.{beginning}
@@ -10,7 +10,6 @@ use Rattle.fkv_map.specs.declared.operations.Op.{Op}
 use Rattle.fkv_map.specs.declared.operations.Op.TheVariants.{Read}
 use Rattle.fkv_map.specs.declared.operations.Reply.{Reply}
 use Rattle.fkv_opening.specs.declared.opened_store.Opened.{Opened}
-use Rattle.fkv_seats.specs.Rule.{led}
 use Rattle.fkv_session.specs.declared.answers.Answer.{Answer}
 use Rattle.fkv_session.specs.declared.answers.Answer.TheVariants as answer
 use Rattle.fkv_session.specs.declared.answers.Finished.{Finished}
@@ -19,15 +18,15 @@ use Rattle.fkv_session.specs.declared.answers.Told.TheVariants as told
 use Rattle.fkv_session.specs.Accounts.{AreInTurn, serials_after, serials_given}
 use Rattle.fkv_session.specs.Answers.{IsAnswerTold}
 use Rattle.fkv_session.specs.SessionRun.{Telling, telling}
-use Rattle.fkv_session.specs.Sessions.{SessionState, is_busy}
+use Rattle.fkv_session.specs.Sessions.{SessionState}
 use Rattle.fkv_world.specs.Opened.{HasBecome, IsOpenedWorld, answer_to, answers_of, life_told}
 use Rattle.fkv_world.specs.Past.{Traced, TraceEvent, Called, Answered}
 use Rattle.fkv_world.specs.Runs.{World, run}
 use Rattle.fkv_world.specs.World.{Event, Now}
-use Rattle.law_log.specs.Trace.{GivesResult, HasReply, IsIn, OrdersCalls, TraceLine, called_as}
+use Rattle.law_log.specs.Trace.{GivesResult, HasReply, IsIn, OrdersCalls, called_as}
 use Rattle.law_refine.specs.Calls.Calls.{effects_of_life, lines_of_life}
 use Rattle.law_refine.specs.Events.GhostEvents.{serial_in, serials_in}
-use Rattle.law_refine.specs.Events.Lines.{call_lines, lines_of, newest_serial, next_serial}
+use Rattle.law_refine.specs.Events.Lines.{lines_of, newest_serial, next_serial}
 use Rattle.law_refine.proofs.OfCalls.Called as ledgers
 use Rattle.law_refine.proofs.OfCalls.Called.{ledger_of, other_told}
 use Rattle.law_refine.proofs.OfCalls.InHand.{WasOpened, was_opened}
@@ -35,10 +34,9 @@ use Rattle.law_refine.proofs.OfCalls.Life.{idle_calm, life_stood, next_at, told_
 use Rattle.law_order.specs.Rules.Ordered.{OrdersItsCalls}
 use Rattle.law_order.proofs.OfReads.Numbers.{is_other}
 use Rattle.fkv_table.specs.declared.happenings.Happening.{Happening}
-use Rattle.fkv_table.specs.Planes.{plane}
 use Rattle.fkv_table.proofs.Lives.{led_run}
 use Rattle.law_threads.specs.Calls.{CallRun, HasRun, IsOver, events_of}
-use Rattle.law_threads.specs.Threads.{DoneIsSeen, HasTakenEffect}
+use Rattle.law_threads.specs.Threads.{DoneIsSeen}
 use Rattle.law_threads.proofs.Course.{OfOthers, seen_answered, seen_called}
 use Rattle.law_threads.proofs.OfRuns.{IsToldIn, earlier, first, idle, is_told, same_number, since_call, was}
 

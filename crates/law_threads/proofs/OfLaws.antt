@@ -1,13 +1,10 @@
 -- The thread law, by clauses of the order law.
-use Rattle.std.proofs.Common.{◌≡◌, ◌⊎◌, inl, inr, ℕ, ◌∙◌, sym, ap, subst, List, ◌++◌}
-use mathlib.Core.Option.{some}
-use lib.ListN.{get_elem?}
-use Rattle.atomic_table.specs.Table.{State}
+use Rattle.std.proofs.Common.{◌⊎◌, inl, inr, ℕ, sym, subst, List}
 use Rattle.fkv_core.specs.Openings.{IsOpeningWorld}
 use Rattle.fkv_opening.specs.Opened.{IsStoreOf}
 use Rattle.fkv_opening.specs.declared.opened_store.Opened.{Opened}
 use Rattle.fkv_seats.specs.Kept.{SeesInOrder}
-use Rattle.fkv_seats.specs.Rule.{IsSeenBy, Ruled}
+use Rattle.fkv_seats.specs.Rule.{IsSeenBy}
 use Rattle.fkv_world.specs.Runs.{World}
 use Rattle.fkv_world.specs.World.{Event, Now}
 use Rattle.law_order.specs.OneHistory.EachLife.{InEachLife, IsLife, Life, WithoutCommits}
@@ -15,9 +12,8 @@ use Rattle.law_order.specs.Prefix.Law.{PrefixLaw}
 use Rattle.law_order.specs.Rules.InTime.{ReadsInTime}
 use Rattle.law_order.specs.Rules.Ordered.{HasLegalHistory, OrdersItsCalls}
 use Rattle.fkv_table.specs.declared.happenings.Happening.{Happening}
-use Rattle.fkv_table.specs.Desks.{Slot, Knows}
 use Rattle.fkv_table.specs.Planes.{plane}
-use Rattle.law_threads.specs.Calls.{CallRun, HasRun, IsOver, events_of}
+use Rattle.law_threads.specs.Calls.{events_of}
 use Rattle.law_threads.specs.Threads.{IsOrdered, IsSeenIn, IsThreadLaw, IsWithin, IsWithoutCommits, SharesOneHistory, IsBeginning, history_seen}
 use Rattle.law_threads.proofs.Histories.{begins_with}
 use Rattle.law_threads.proofs.OfDone.{GivesSerialsInTurn, done_so}

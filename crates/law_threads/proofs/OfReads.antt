@@ -1,6 +1,6 @@
 -- A read gives its key's value after a beginning of the history that holds what its pass had seen.
 use Rattle.std.proofs.Common.{◌≡◌, ℕ, ◌∙◌, refl, sym, ap, subst, inl, List, [], ◌∷◌, ◌++◌, length, append_assoc}
-use Rattle.std.specs.Prelude.{Option, Some, None, false, slice_get}
+use Rattle.std.specs.Prelude.{Some, None, false}
 use Rattle.std.specs.FinMap.{get}
 use Rattle.fkv_base.specs.declared.faults.Fault.{Fault}
 use Rattle.fkv_base.specs.declared.numbers.Key.{Key}
@@ -22,16 +22,16 @@ use Rattle.fkv_session.specs.declared.answers.Told.{Told}
 use Rattle.fkv_session.specs.declared.answers.Told.TheVariants.{Refused}
 use Rattle.fkv_session.specs.SessionRun.{telling}
 use Rattle.fkv_session.specs.Sessions.{SessionState, refusal_of, session_begun}
-use Rattle.fkv_world.specs.Past.{Traced, TraceEvent, Called, Answered}
-use Rattle.fkv_world.specs.Runs.{World, happens, run}
+use Rattle.fkv_world.specs.Past.{TraceEvent, Called, Answered}
+use Rattle.fkv_world.specs.Runs.{World, happens}
 use Rattle.fkv_world.specs.World as world
 use Rattle.fkv_world.specs.World.{Event, Now}
 use Rattle.law_log.specs.Trace.{AnswersRead, CallsRead, IsIn, TraceLine}
 use Rattle.law_opening.specs.Log.Maps.{opening_map}
-use Rattle.law_world.specs.Runs.Added.{ended_by, told_at, told_by}
+use Rattle.law_world.specs.Runs.Added.{ended_by, told_at}
 use Rattle.law_refine.specs.Calls.Calls.{event_adds}
 use Rattle.law_refine.specs.Events.GhostEvents.{serials_in, traced_by}
-use Rattle.law_refine.specs.Events.Lines.{answer_lines, event_lines, lines_added, read_in_hand}
+use Rattle.law_refine.specs.Events.Lines.{event_lines, lines_added, read_in_hand}
 use Rattle.law_order.specs.Prefix.Law.{history_so_far}
 use Rattle.law_order.specs.Rules.InTime.{IsInTime, ReadsInTime}
 use Rattle.law_order.proofs.OfReads.Numbers.{called_hand}
@@ -42,9 +42,9 @@ use Rattle.fkv_table.specs.Planes.{plane}
 use Rattle.fkv_table.proofs.Lives.{led_run}
 use Rattle.law_threads.specs.Calls.{CallRun, HasRun, IsOver, events_of}
 use Rattle.law_threads.specs.Threads.{IsBeginning, ReadsWhatWasSeen, history_seen, read_told}
-use Rattle.law_threads.proofs.Course.{Answering, AtOnce, ByStep, InTurn, call_told, seen_called}
+use Rattle.law_threads.proofs.Course.{Answering, AtOnce, ByStep, InTurn, call_told}
 use Rattle.law_threads.proofs.Histories.{begins_with, events_both}
-use Rattle.law_threads.proofs.OfRuns.{IsToldIn, earlier, first, goes_on, hand_kept, idle, is_told, no_reply, oldest_added, reads_line, refused_at_once, since_call, was}
+use Rattle.law_threads.proofs.OfRuns.{earlier, first, goes_on, hand_kept, idle, is_told, no_reply, oldest_added, reads_line, refused_at_once, since_call, was}
 
 -- ---- histories
 widened : (m : Map) (less start last more : List HistoryEntry) (key : ℕ) (reply : Reply) → IsBeginning less start → IsBeginning last more → IsInTime m start last key reply → IsInTime m less more key reply

@@ -1,19 +1,12 @@
 -- A call that was run: how it was answered, and what callers have seen of it.
-use Rattle.std.proofs.Common.{◌≡◌, ◌⊎◌, inl, inr, ℕ, ◌∙◌, refl, sym, ap, subst, arith, Bool, true, false, List, [], ◌∷◌, ◌++◌, length, map, append-nil, append_assoc}
-use Rattle.std.specs.Prelude.{⊤, Option, Some, None, slice_get, ◌==◌}
+use Rattle.std.proofs.Common.{◌≡◌, inl, inr, ℕ, ◌∙◌, refl, sym, ap, subst, arith, true, false, List, [], ◌∷◌, ◌++◌, length, append_assoc}
+use Rattle.std.specs.Prelude.{Option, Some, None, slice_get, ◌==◌}
 use Rattle.std.proofs.lemmas.Bool.Decides.{nat_tests}
-use Rattle.fkv_epoch.proofs.Shown.{some_same}
 use Rattle.fkv_base.specs.declared.faults.Fault.{Fault}
-use Rattle.fkv_base.specs.declared.numbers.Key.{Key}
-use Rattle.fkv_core.specs.Openings.{beginning}
-use Rattle.fkv_map.specs.declared.history.HistoryEntry.{HistoryEntry}
 use Rattle.fkv_map.specs.declared.operations.Call.{Call}
-use Rattle.fkv_map.specs.declared.operations.Call.TheVariants as call
 use Rattle.fkv_map.specs.declared.operations.Op.{Op}
-use Rattle.fkv_map.specs.declared.operations.Op.TheVariants.{Read}
 use Rattle.fkv_map.specs.declared.operations.Reply.{Reply}
 use Rattle.fkv_map.specs.declared.operations.Reply.TheVariants as reply
-use Rattle.fkv_opening.specs.declared.opened_store.Opened.{Opened}
 use Rattle.fkv_seats.specs.declared.views.Role.TheVariants.{Sits}
 use Rattle.fkv_seats.specs.Rule.{Quiet, led}
 use Rattle.fkv_session.specs.declared.answers.Answer.{Answer}
@@ -24,29 +17,23 @@ use Rattle.fkv_session.specs.declared.answers.Told.TheVariants as told
 use Rattle.fkv_session.specs.declared.sessions.Sitting.TheVariants.{Idle}
 use Rattle.fkv_session.specs.Answers.{IsAnswerTold}
 use Rattle.fkv_session.specs.SessionRun.{Telling, telling}
-use Rattle.fkv_session.specs.Sessions.{Seat, SessionState, attempts, is_busy, op_begun, refusal_of, session_begun}
+use Rattle.fkv_session.specs.Sessions.{Seat, SessionState, attempts, is_busy, op_begun}
 use Rattle.fkv_world.specs.Past.{Traced, TraceEvent, Called, Answered}
-use Rattle.fkv_world.specs.Runs.{World, happens, run}
-use Rattle.fkv_world.specs.World as world
-use Rattle.fkv_world.specs.World.{Event, Now}
-use Rattle.law_log.specs.Trace.{AnswersRead, CallsRead, GivesResult, IsIn, TraceLine}
-use Rattle.law_opening.specs.Log.Maps.{opening_map}
-use Rattle.law_world.specs.Runs.Added.{ended_by, told_at, told_by}
-use Rattle.law_refine.specs.Calls.Calls.{event_adds}
-use Rattle.law_refine.specs.Events.GhostEvents.{serials_in}
+use Rattle.fkv_world.specs.Runs.{World}
+use Rattle.fkv_world.specs.World.{Now}
+use Rattle.law_log.specs.Trace.{AnswersRead, IsIn, TraceLine}
+use Rattle.law_world.specs.Runs.Added.{told_at}
 use Rattle.law_refine.specs.Events.Lines.{answer_lines, event_lines, lines_added, read_in_hand}
-use Rattle.law_order.specs.Rules.InTime.{IsInTime, ReadsInTime}
-use Rattle.law_order.proofs.OfReads.Numbers.{called_hand, is_other, other_hand}
-use Rattle.fkv_table.specs.Calls.{AreOthers, HasCalled, IsAnsweredLast, IsToldLast}
+use Rattle.law_order.proofs.OfReads.Numbers.{is_other, other_hand}
+use Rattle.fkv_table.specs.Calls.{AreOthers, IsToldLast}
 use Rattle.fkv_table.specs.declared.happenings.Happening.{Happening}
-use Rattle.fkv_table.specs.declared.happenings.Happening.TheVariants.{Calls, Moves}
-use Rattle.fkv_table.specs.Events.{event_of}
+use Rattle.fkv_table.specs.declared.happenings.Happening.TheVariants.{Calls}
 use Rattle.fkv_table.specs.Planes.{plane}
-use Rattle.fkv_table.proofs.Lives.{led_run, quiet_session}
-use Rattle.law_threads.specs.Calls.{CallRun, HasRun, IsOver, events_of}
+use Rattle.fkv_table.proofs.Lives.{quiet_session}
+use Rattle.law_threads.specs.Calls.{CallRun, HasRun}
 use Rattle.law_threads.specs.Threads.{IsBeginning, history_seen, read_told}
-use Rattle.law_threads.proofs.Course.{Answering, AtOnce, ByStep, Course, Going, HasEnded, InHand, InTurn, OfOthers, Over, call_told, course, seen_answered, seen_called}
-use Rattle.law_threads.proofs.Histories.{begins_with, events_both}
+use Rattle.law_threads.proofs.Course.{Answering, Course, Going, OfOthers, Over, course, seen_answered, seen_called}
+use Rattle.law_threads.proofs.Histories.{begins_with}
 
 pub same_number : (n : ℕ) → (n == n) ≡ true
 same_number n = grind (arith, nat_tests)
