@@ -11,6 +11,6 @@ mod OfRest
 mod OfRows
 pub mod OfRules
 mod OfServed
-mod OfTickets
+pub mod OfTickets
 mod OfTold
 mod OfTruth

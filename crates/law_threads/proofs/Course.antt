@@ -87,7 +87,7 @@ module _ {K : Type 0} (at : K → World) (opening : World) (number : ℕ) (call 
     pub adds : told_by (after (between ++ called_at)).now (happens (after (between ++ called_at)) (world.Moves number)).now (world.Moves number) ≡ Answered number (telling its finished) ∷ []
 
   pub data Answering (its : Told) (finished : List Finished) (es : List Happening) : Type 0 where
-    AtOnce : (s : SessionState) → (session_begun (world.seat_at (after rest).now number) s call).step ≡ Idle its → is_busy s.step ≡ false → Answering its finished es
+    AtOnce : (s : SessionState) → (session_begun (world.seat_at (after rest).now number) s call).step ≡ Idle its → (session_begun (world.seat_at (after rest).now number) s call).finished ≡ finished → Answering its finished es
     InTurn : ByStep its finished es → Answering its finished es
 
   -- it is over
@@ -147,7 +147,7 @@ module _ {K : Type 0} (at : K → World) (opening : World) (number : ℕ) (call 
       told = told_at (length (happens (after es) (event_of e)).past.history) (told_by (after es).now (happens (after es) (event_of e)).now (event_of e))
 
       one_later : Answering over.its over.finished es → Answering over.its over.finished (e ∷ es)
-      one_later (AtOnce s is idle) = AtOnce s is idle
+      one_later (AtOnce s is list) = AtOnce s is list
       one_later (InTurn its) = InTurn (record { later = e ∷ its.later; between = its.between; all = ap (λ (x : List Happening). e ∷ x) its.all; hand = its.hand; adds = its.adds })
 
   -- ---- a step of the session
@@ -247,7 +247,7 @@ module _ {K : Type 0} (at : K → World) (opening : World) (number : ℕ) (call 
       idle = ap is_busy is;
       its = its;
       finished = to.finished;
-      how = AtOnce s (ap (λ (x : SessionState). x.step) (sym begun) ∙ is) idle;
+      how = AtOnce s (ap (λ (x : SessionState). x.step) (sym begun) ∙ is) (ap (λ (x : SessionState). x.finished) (sym begun));
       since = [];
       others = tt;
       effects = length (happens (after rest) (world.Calls number call)).past.history;

@@ -159,8 +159,8 @@ module _ (in_turn : GivesSerialsInTurn) {K : Type 0} (at : K → World) (key : K
   abbrev numbers : ℕ → ℕ
   numbers = serials_in (at key).now
 
-  abbrev its_telling : IsToldIn at (at key) number its.call (earlier at key its run_so) (since_call at key its run_so) (told.Done serial reply)
-  its_telling = subst (IsToldIn at (at key) number its.call (earlier at key its run_so) (since_call at key its run_so)) (told_done run_so.answered.its run_so.answered.finished its.answer serial reply run_so.answered.told given) (is_told at key its run_so)
+  abbrev its_telling : IsToldIn at (at key) number its.call (earlier at key its run_so) (since_call at key its run_so) (told.Done serial reply) run_so.answered.finished
+  its_telling = subst (λ (x : Told). IsToldIn at (at key) number its.call (earlier at key its run_so) (since_call at key its run_so) x run_so.answered.finished) (told_done run_so.answered.its run_so.answered.finished its.answer serial reply run_so.answered.told given) (is_told at key its run_so)
 
   so : trace_at behind ≡ seen_answered its_telling.effects number (told.Done serial reply) its_telling.finished (its_telling.more ++ seen_called its_telling.began number its.call (trace_at before))
   so = sym (ap (λ (w : World). w.past.trace) (led_run at (at key) (since_call at key its run_so)))

@@ -146,8 +146,8 @@ module _ {K : Type 0} (at : K → World) (key : K) (o : Opened) (n : Now) (bytes
   abbrev number : ℕ
   number = its.number
 
-  abbrev its_telling : IsToldIn at (at key) number its.call (earlier at key its run_so) (since_call at key its run_so) (told.Durable serial)
-  its_telling = subst (IsToldIn at (at key) number its.call (earlier at key its run_so) (since_call at key its run_so)) (told_durable run_so.answered.its run_so.answered.finished its.answer serial run_so.answered.told given) (is_told at key its run_so)
+  abbrev its_telling : IsToldIn at (at key) number its.call (earlier at key its run_so) (since_call at key its run_so) (told.Durable serial) run_so.answered.finished
+  its_telling = subst (λ (x : Told). IsToldIn at (at key) number its.call (earlier at key its run_so) (since_call at key its run_so) x run_so.answered.finished) (told_durable run_so.answered.its run_so.answered.finished its.answer serial run_so.answered.told given) (is_told at key its run_so)
 
   abbrev trace_at : List Happening → List Traced
   trace_at es = trace_so_far n bytes (events_of es)

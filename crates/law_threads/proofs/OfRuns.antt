@@ -16,7 +16,7 @@ use Rattle.fkv_session.specs.declared.answers.Told.{Told}
 use Rattle.fkv_session.specs.declared.answers.Told.TheVariants as told
 use Rattle.fkv_session.specs.declared.sessions.Sitting.TheVariants.{Idle}
 use Rattle.fkv_session.specs.Answers.{IsAnswerTold}
-use Rattle.fkv_session.specs.SessionRun.{Telling, telling}
+use Rattle.fkv_session.specs.SessionRun.{Telling, telling, with_finished}
 use Rattle.fkv_session.specs.Sessions.{Seat, SessionState, attempts, is_busy, op_begun}
 use Rattle.fkv_world.specs.Past.{Traced, TraceEvent, Called, Answered}
 use Rattle.fkv_world.specs.Runs.{World}
@@ -65,6 +65,13 @@ told_same number its other f g e = ap (λ (x : TraceEvent). told_of x) e
     told_of (Answered session t) = t.its
     told_of event = its
 
+list_same : (number : ℕ) (its other : Told) (f g : List Finished) → Answered number (telling its f) ≡ Answered number (telling other g) → with_finished its f ≡ with_finished other g
+list_same number its other f g e = ap (λ (x : TraceEvent). list_of x) e
+  where
+    list_of : TraceEvent → List Finished
+    list_of (Answered session t) = t.finished
+    list_of event = []
+
 in_hand_tells_none : (number effects eff : ℕ) (its : Call) (telling : Telling) (since trace before earlier : List Traced) → OfOthers number since → trace ≡ since ++ seen_called effects number its earlier
     → trace ≡ record { its = Answered number telling; effects = eff } ∷ before → ⊥
 in_hand_tells_none number effects eff its telling [] trace before earlier others so newest = call_answers number number its telling (head_same _ _ _ _ (sym so ∙ newest))
@@ -76,11 +83,12 @@ none_since number eff telling (x ∷ since) trace before behind others so newest
 
 module _ {K : Type 0} (at : K → World) (opening : World) (number : ℕ) (its : Call) (rest : List Happening) where
   -- how the call was answered, and what callers see of it behind that
-  pub record IsToldIn (behind : List Happening) (t : Told) : Type 0 where
+  pub record IsToldIn (behind : List Happening) (t : Told) (list : List Finished) : Type 0 where
     pub s : SessionState
     pub found : slice_get (led (plane at) opening behind).now.sessions number ≡ Some s
     pub idle : is_busy s.step ≡ false
     pub finished : List Finished
+    pub same : with_finished t finished ≡ with_finished t list
     pub how : Answering at opening number its rest t finished behind
     pub effects : ℕ
     pub more : List Traced
@@ -88,14 +96,15 @@ module _ {K : Type 0} (at : K → World) (opening : World) (number : ℕ) (its :
     pub began : ℕ
     pub so : (led (plane at) opening behind).past.trace ≡ seen_answered effects number t finished (more ++ seen_called began number its (led (plane at) opening rest).past.trace)
 
-  told_in : (behind : List Happening) (t : Told) (list : List Finished) → IsToldLast (led (plane at) opening behind) number (telling t list) → Course at opening number its rest behind → IsToldIn behind t
+  told_in : (behind : List Happening) (t : Told) (list : List Finished) → IsToldLast (led (plane at) opening behind) number (telling t list) → Course at opening number its rest behind → IsToldIn behind t list
   told_in behind t list last (Going hand) = absurd (in_hand_tells_none number hand.effects (length (led (plane at) opening behind).past.history) its (telling t list) hand.since _ last.before _ hand.others hand.so last.newest)
   told_in behind t list last (Over e) =
       let none : e.since ≡ [] = none_since number (length (led (plane at) opening behind).past.history) (telling t list) e.since _ last.before _ e.others e.so last.newest in
       let so : (led (plane at) opening behind).past.trace ≡ seen_answered e.effects number e.its e.finished (e.more ++ seen_called e.began number its (led (plane at) opening rest).past.trace) =
       e.so ∙ ap (λ (x : List Traced). x ++ seen_answered e.effects number e.its e.finished (e.more ++ seen_called e.began number its (led (plane at) opening rest).past.trace)) none in
       let same : e.its ≡ t = told_same number e.its t e.finished list (head_same _ _ _ _ (sym so ∙ last.newest)) in
-      subst (IsToldIn behind) same (record { s = e.s; found = e.found; idle = e.idle; finished = e.finished; how = e.how; effects = e.effects; more = e.more; others = e.more_others; began = e.began; so = so })
+      let all : with_finished t e.finished ≡ with_finished t list = ap (λ (x : Told). with_finished x e.finished) (sym same) ∙ list_same number e.its t e.finished list (head_same _ _ _ _ (sym so ∙ last.newest)) in
+      subst (λ (x : Told). with_finished x e.finished ≡ with_finished x list → IsToldIn behind x list) same (λ listed. record { same = listed; s = e.s; found = e.found; idle = e.idle; finished = e.finished; how = e.how; effects = e.effects; more = e.more; others = e.more_others; began = e.began; so = so }) all
 
 module _ {K : Type 0} (at : K → World) (key : K) (its : CallRun) (run : HasRun at key its) where
   -- what stands in the list before the call's start
@@ -121,7 +130,7 @@ module _ {K : Type 0} (at : K → World) (key : K) (its : CallRun) (run : HasRun
   its_course : Course at (at key) its.number its.call earlier since_call
   its_course = course at (at key) its.number its.call earlier goes_on first was idle run.called.steps run.called.only
 
-  pub is_told : IsToldIn at (at key) its.number its.call earlier since_call run.answered.its
+  pub is_told : IsToldIn at (at key) its.number its.call earlier since_call run.answered.its run.answered.finished
   is_told = told_in at (at key) its.number its.call earlier since_call run.answered.its run.answered.finished
       (subst (λ (x : List Happening). IsToldLast (led (plane at) (at key) x) its.number (telling run.answered.its run.answered.finished)) run.called.so run.answered.last) its_course
 
