@@ -3,5 +3,7 @@ mod Histories
 mod OfDone
 mod OfDurable
 mod OfLaws
+mod OfPolls
 mod OfReads
 mod OfRuns
+mod OfTickets

@@ -108,11 +108,11 @@ points_more : (number : ℕ) (x : ToldPoint) (later before : List Traced) → Is
 points_more number x [] before is_in = is_in
 points_more number x (it ∷ later) before is_in = point_more number it.its (finishes_at_call number (later ++ before)) x (points_told number (later ++ before)) (points_more number x later before is_in)
 
-record IsTraceBehind (before behind : List Traced) : Type 0 where
-  later : List Traced
-  whole : behind ≡ later ++ before
+pub record IsTraceBehind (before behind : List Traced) : Type 0 where
+  pub later : List Traced
+  pub whole : behind ≡ later ++ before
 
-trace_behind : (w : World) (later : List Happening) (before : List Event) → IsTraceBehind (run w before).past.trace (run w (events_of later ++ before)).past.trace
+pub trace_behind : (w : World) (later : List Happening) (before : List Event) → IsTraceBehind (run w before).past.trace (run w (events_of later ++ before)).past.trace
 unfolding run
 trace_behind w [] before = record { later = []; whole = refl }
 trace_behind w (its ∷ later) before =

@@ -47,7 +47,7 @@ use Rattle.law_threads.proofs.Histories.{begins_with, events_both}
 use Rattle.law_threads.proofs.OfRuns.{earlier, first, goes_on, hand_kept, idle, is_told, no_reply, oldest_added, reads_line, refused_at_once, since_call, was}
 
 -- ---- histories
-widened : (m : Map) (less start last more : List HistoryEntry) (key : ℕ) (reply : Reply) → IsBeginning less start → IsBeginning last more → IsInTime m start last key reply → IsInTime m less more key reply
+pub widened : (m : Map) (less start last more : List HistoryEntry) (key : ℕ) (reply : Reply) → IsBeginning less start → IsBeginning last more → IsInTime m start last key reply → IsInTime m less more key reply
 widened m less start last more key reply front back its = record {
   between = front.newer ++ its.between;
   newer = its.newer ++ back.newer;
@@ -62,7 +62,7 @@ widened m less start last more key reply front back its = record {
         ∙ ap (λ (x : List HistoryEntry). a ++ x) (ap (λ (x : List HistoryEntry). x ++ e) (sym (append_assoc b c d)) ∙ append_assoc (b ++ c) d e))
 
 -- a read of a life, in what was seen
-seen_in_time : (o : Opened) (n : Now) (bytes : List ℕ) (later between before : List Happening) (start answer : Happening) (reader key : ℕ) (reply : Reply) → ReadsInTime o n bytes (events_of (later ++ answer ∷ (between ++ start ∷ before)))
+pub seen_in_time : (o : Opened) (n : Now) (bytes : List ℕ) (later between before : List Happening) (start answer : Happening) (reader key : ℕ) (reply : Reply) → ReadsInTime o n bytes (events_of (later ++ answer ∷ (between ++ start ∷ before)))
     → IsIn (CallsRead reader key) (event_adds (beginning n bytes) (events_of before) (event_of start)) → IsIn (AnswersRead reader reply) (event_adds (beginning n bytes) (events_of (between ++ start ∷ before)) (event_of answer))
     → IsInTime (opening_map bytes o) (history_seen n bytes (start ∷ before)) (history_seen n bytes (answer ∷ (between ++ start ∷ before))) key reply
 seen_in_time o n bytes later between before start answer reader key reply law calls answers =
@@ -95,10 +95,10 @@ module _ {K : Type 0} (at : K → World) (key : K) (its : CallRun) (run_so : Has
   abbrev reader : ℕ
   reader = length (world_at (earlier at key its run_so)).past.trace
 
-  to_run : (line : TraceLine) (es : List Happening) (event : Event) → IsIn line (adds_to numbers (world_at es) event) → IsIn line (event_adds (at key) (events_of es) event)
+  pub to_run : (line : TraceLine) (es : List Happening) (event : Event) → IsIn line (adds_to numbers (world_at es) event) → IsIn line (event_adds (at key) (events_of es) event)
   to_run line es event is_in = subst (λ (w : World). IsIn line (adds_to numbers w event)) (led_run at (at key) es) is_in
 
-  call_line : (k : Key) → its.call ≡ call.Op (Read k) → IsIn (CallsRead reader k.0) (event_adds (at key) (events_of (earlier at key its run_so)) (event_of start))
+  pub call_line : (k : Key) → its.call ≡ call.Op (Read k) → IsIn (CallsRead reader k.0) (event_adds (at key) (events_of (earlier at key its run_so)) (event_of start))
   call_line k is =
       let w : World = world_at (earlier at key its run_so) in
       to_run (CallsRead reader k.0) (earlier at key its run_so) (event_of start)

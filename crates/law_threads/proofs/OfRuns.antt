@@ -142,12 +142,12 @@ module _ {K : Type 0} (at : K → World) (key : K) (its : CallRun) (run : HasRun
       (begins_with n bytes (run.called.steps ++ Calls its.number its.call ∷ run.called.others) its.before)
 
 -- ---- lines
-in_left : (line : TraceLine) (xs ys : List TraceLine) → IsIn line xs → IsIn line (xs ++ ys)
+pub in_left : (line : TraceLine) (xs ys : List TraceLine) → IsIn line xs → IsIn line (xs ++ ys)
 in_left line [] ys is_in = absurd is_in
 in_left line (x ∷ xs) ys (inl same) = inl same
 in_left line (x ∷ xs) ys (inr more) = inr (in_left line xs ys more)
 
-in_right : (line : TraceLine) (xs ys : List TraceLine) → IsIn line ys → IsIn line (xs ++ ys)
+pub in_right : (line : TraceLine) (xs ys : List TraceLine) → IsIn line ys → IsIn line (xs ++ ys)
 in_right line [] ys is_in = is_in
 in_right line (x ∷ xs) ys is_in = inr (in_right line xs ys is_in)
 

@@ -1,3 +1,4 @@
 pub mod Calls
 pub mod Durable
+pub mod Polls
 pub mod Threads
