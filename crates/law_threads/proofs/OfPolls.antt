@@ -2,11 +2,13 @@
 use Rattle.std.proofs.Common.{◌≡◌, ◌⊎◌, inl, inr, ℕ, ◌≤◌, ◌∙◌, refl, sym, ap, subst, arith, Bool, true, false, List, [], ◌∷◌, ◌++◌, length, append_assoc}
 use Rattle.std.specs.Prelude.{Option, Some, None, if◌then◌else◌, not, slice_get}
 use Rattle.fkv_base.specs.declared.numbers.Key.{Key}
+use Rattle.fkv_base.specs.declared.numbers.Serial.{Serial}
 use Rattle.fkv_base.specs.declared.numbers.Value.{Value}
 use Rattle.fkv_core.specs.Openings.{beginning}
 use Rattle.fkv_map.specs.declared.operations.Call.{Call}
 use Rattle.fkv_map.specs.declared.operations.Call.TheVariants as call
 use Rattle.fkv_map.specs.declared.operations.Op.TheVariants.{Read}
+use Rattle.fkv_map.specs.declared.operations.Reply.{Reply}
 use Rattle.fkv_opening.specs.declared.opened_store.Opened.{Opened}
 use Rattle.fkv_pending.specs.declared.pending_requests.PendingRequest.{PendingRequest}
 use Rattle.fkv_pending.specs.declared.pending_requests.Ticket.{Ticket}
@@ -26,7 +28,7 @@ use Rattle.fkv_world.specs.Runs.{World, happens, run}
 use Rattle.fkv_world.specs.World as world
 use Rattle.fkv_world.specs.World.{Event, Now}
 use Rattle.law_log.specs.Trace.{AnswersRead, CallsRead, GivesResult, IsIn, TraceLine}
-use Rattle.law_refine.specs.Events.Lines.{event_lines, finished_line, finished_lines, lines_added, read_reply, read_in_hand, read_waiting}
+use Rattle.law_refine.specs.Events.Lines.{event_lines, finished_line, finished_lines, lines_added, lines_of, read_reply, read_in_hand, read_waiting}
 use Rattle.fkv_table.specs.declared.happenings.Happening.{Happening}
 use Rattle.fkv_base.specs.declared.faults.Fault.TheVariants as fault
 use Rattle.fkv_pending.specs.declared.mailing.MailTask.TheVariants.{Clear}
@@ -36,6 +38,7 @@ use Rattle.law_world.specs.Runs.Added.{told_at}
 use Rattle.law_refine.specs.Calls.Calls.{event_adds}
 use Rattle.law_refine.specs.Events.GhostEvents.{serials_in}
 use Rattle.law_order.specs.Rules.InTime.{IsInTime, ReadsInTime}
+use Rattle.law_order.specs.Rules.Ordered.{OrdersItsCalls}
 use Rattle.law_order.specs.Tickets.Few.{HasFewCalls}
 use Rattle.law_order.proofs.OfReads.Numbers.{called_hand}
 use Rattle.law_order.proofs.OfTickets.Events.{before_few}
@@ -44,7 +47,7 @@ use Rattle.fkv_table.specs.Events.{event_of}
 use Rattle.fkv_table.specs.Planes.{plane}
 use Rattle.fkv_table.proofs.Lives.{led_run}
 use Rattle.law_threads.specs.Calls.{CallRun, HasRun, IsOver, events_of}
-use Rattle.law_threads.specs.Polls.{HasFinished, IsPolledRead}
+use Rattle.law_threads.specs.Polls.{FinishedIsSeen, HasFinished, IsPolledRead}
 use Rattle.law_threads.specs.Threads.{IsBeginning, history_seen}
 use Rattle.law_threads.proofs.Course.{Answering, AtOnce, ByStep, InTurn, seen_answered, seen_called}
 use Rattle.law_threads.proofs.Histories.{begins_with, events_both}
@@ -263,3 +266,22 @@ module _ (in_turn : GivesTicketsInTurn) {K : Type 0} (at : K → World) (key : K
         let its_telling : IsToldIn at (at key) number poll.call rest (since_call at key poll polled) (told.Polled how.left) polled.answered.finished =
         subst (λ (x : Told). IsToldIn at (at key) number poll.call rest (since_call at key poll polled) x polled.answered.finished) how.polled (is_told at key poll polled) in
         by_how how.left its_telling.finished (subst (IsIn (finished.Read ticket value)) (sym its_telling.same) how.is_in) its_telling.how
+
+-- ---- updates that a poll says are finished
+polled_line : (numbers : ℕ → ℕ) (number effects left : ℕ) (list : List Finished) (before : List Traced) (serial : Serial) (reply : Reply) → IsIn (finished.Update serial reply) list
+    → IsIn (GivesResult number serial.0 reply) (lines_of numbers (seen_answered effects number (told.Polled left) list before))
+unfolding lines_of
+polled_line numbers number effects left list before serial reply is_in =
+    in_left (GivesResult number serial.0 reply) (finished_lines number before list) (lines_of numbers before) (finished_in number before (finished.Update serial reply) list is_in)
+
+pub finished_so : {K : Type 0} (at : K → World) (key : K) (o : Opened) (n : Now) (bytes : List ℕ) (its : CallRun) → IsOver at key o n bytes → HasRun at key its → OrdersItsCalls o n bytes (events_of its.behind) → FinishedIsSeen o n bytes its
+finished_so at key o n bytes its over ran law serial reply has =
+    let how = told_polled ran.answered.its ran.answered.finished its.answer (finished.Update serial reply) ran.answered.told has in
+    let its_telling : IsToldIn at (at key) its.number its.call (earlier at key its ran) (since_call at key its ran) (told.Polled how.left) ran.answered.finished =
+    subst (λ (x : Told). IsToldIn at (at key) its.number its.call (earlier at key its ran) (since_call at key its ran) x ran.answered.finished) how.polled (is_told at key its ran) in
+    let before : List Traced = its_telling.more ++ seen_called its_telling.began its.number its.call (led (plane at) (at key) (earlier at key its ran)).past.trace in
+    let so : (run (beginning n bytes) (events_of its.behind)).past.trace ≡ seen_answered its_telling.effects its.number (told.Polled how.left) its_telling.finished before =
+    (λ i. (run (sym over.same i) (events_of (ran.called.so i))).past.trace) ∙ (sym (ap (λ (w : World). w.past.trace) (led_run at (at key) (since_call at key its ran))) ∙ its_telling.so) in
+    law.given its.number serial.0 reply
+    (subst (λ (x : List Traced). IsIn (GivesResult its.number serial.0 reply) (lines_of (serials_in n) x)) (sym so)
+    (polled_line (serials_in n) its.number its_telling.effects how.left its_telling.finished before serial reply (subst (IsIn (finished.Update serial reply)) (sym its_telling.same) how.is_in)))

@@ -18,6 +18,7 @@ use Rattle.fkv_world.specs.World.{Event, Now}
 use Rattle.law_log.specs.Trace.{HasReply, IsIn}
 use Rattle.law_opening.specs.Log.Maps.{opening_map}
 use Rattle.law_order.specs.Rules.InTime.{IsInTime, ReadsInTime}
+use Rattle.law_order.specs.Rules.Ordered.{effects_so_far}
 use Rattle.law_order.specs.Tickets.Few.{HasFewCalls}
 use Rattle.law_refine.specs.Events.Lines.{read_reply}
 use Rattle.fkv_table.specs.declared.happenings.Happening.{Happening}
@@ -28,6 +29,10 @@ use Rattle.law_threads.specs.Threads.{history_seen}
 abbrev pub HasFinished : Answer → Finished → Type 0
 HasFinished (answer.Polled list left) its = IsIn its list.items
 HasFinished its_answer its = ⊥
+
+-- An update that a poll says is finished has taken effect by what the pass has seen, with its serial and the reply that is told.
+abbrev pub FinishedIsSeen : Opened → Now → List ℕ → CallRun → Type 0
+FinishedIsSeen o n bytes its = (serial : Serial) (reply : Reply) → HasFinished its.answer (finished.Update serial reply) → HasReply (effects_so_far n bytes (events_of its.behind)) its.number serial.0 reply
 
 -- A poll answers a read that the session had been told to wait for: its pass had seen then what the read's call had led to.
 pub record IsPolledRead (asked poll : CallRun) (key : Key) (value : Option Value) : Type 0 where

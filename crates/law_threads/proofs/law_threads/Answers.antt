@@ -3,6 +3,7 @@ use Rattle.fkv_seats.proofs.Seats.{in_order}
 use Rattle.fkv_table.specs.Planes.{plane}
 use Rattle.law_threads.proofs.OfDurable.{recovers_durable, tells_durable}
 use Rattle.law_threads.proofs.OfLaws.{by_prefix, shares, thread_law, without_commits}
+use Rattle.law_threads.proofs.OfPolls.{finished_so, polls_so}
 use Rattle.law_threads.proofs.law_threads.Goals as goal
 
 pub returns-clause-by_order : goal.returns-clause-by_order
@@ -13,6 +14,12 @@ returns-clause-without_commits g c = λ at. without_commits at c.law_order.ensur
 
 pub returns-clause-by_prefix : goal.returns-clause-by_prefix
 returns-clause-by_prefix g c = λ at prefix. by_prefix at prefix (thread_law c.law_world_sessions.ensures.serials at)
+
+pub returns-clause-polled : goal.returns-clause-polled
+returns-clause-polled g c = λ at key o n bytes asked poll over ran polled law few k value its. polls_so c.law_world_requests.ensures.tickets at key asked poll ran polled k value its few o n bytes over law
+
+pub returns-clause-finished : goal.returns-clause-finished
+returns-clause-finished g c = λ at. finished_so at
 
 pub returns-clause-durable : goal.returns-clause-durable
 returns-clause-durable g c = λ at. tells_durable at
