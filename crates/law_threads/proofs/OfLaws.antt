@@ -14,16 +14,21 @@ use Rattle.law_order.specs.Rules.Ordered.{HasLegalHistory, OrdersItsCalls}
 use Rattle.fkv_table.specs.declared.happenings.Happening.{Happening}
 use Rattle.fkv_table.specs.Planes.{plane}
 use Rattle.law_threads.specs.Calls.{events_of}
-use Rattle.law_threads.specs.Threads.{IsOrdered, IsSeenIn, IsThreadLaw, IsWithin, IsWithoutCommits, SharesOneHistory, IsBeginning, history_seen}
+use Rattle.law_threads.specs.Laws.{IsOrdered, IsSeenIn, IsThreadLaw, IsWithin, IsWithoutCommits, SharesOneHistory}
+use Rattle.law_threads.specs.Threads.{IsBeginning, history_seen}
 use Rattle.law_threads.proofs.Histories.{begins_with}
 use Rattle.law_threads.proofs.OfDone.{GivesSerialsInTurn, done_so}
+use Rattle.law_threads.proofs.OfPolls.{finished_so, polls_so}
 use Rattle.law_threads.proofs.OfReads.{reads_so}
+use Rattle.law_threads.proofs.OfTickets.{GivesTicketsInTurn}
 use Rattle.law_threads.proofs.OfRuns.{begins_so}
 
-pub thread_law : GivesSerialsInTurn → {K : Type 0} (at : K → World) → IsThreadLaw at IsOrdered
-thread_law in_turn at = record {
+pub thread_law : GivesSerialsInTurn → GivesTicketsInTurn → {K : Type 0} (at : K → World) → IsThreadLaw at IsOrdered
+thread_law in_turn tickets at = record {
   done = λ key o n bytes its over run law. done_so in_turn at key o n bytes its over run law.ordered;
   reads = λ key o n bytes its over run law. reads_so at key its run o n bytes over law.in_time;
+  finished = λ key o n bytes its over run law. finished_so at key o n bytes its over run law.ordered;
+  polled = λ key o n bytes asked poll over ran polled law few k value its. polls_so tickets at key asked poll ran polled k value its few o n bytes over law.in_time;
   history = λ key o n bytes its over run law. record { legal = law.legal; ordered = law.ordered; begins = begins_so at key its run n bytes };
 }
 
@@ -35,6 +40,8 @@ weaker : {K : Type 0} (at : K → World) (If Then : Opened → Now → List ℕ 
 weaker at If Then so law = record {
   done = λ key o n bytes its over run it. law.done key o n bytes its over run (so o n bytes (events_of its.behind) over.store over.begins it);
   reads = λ key o n bytes its over run it. law.reads key o n bytes its over run (so o n bytes (events_of its.behind) over.store over.begins it);
+  finished = λ key o n bytes its over run it. law.finished key o n bytes its over run (so o n bytes (events_of its.behind) over.store over.begins it);
+  polled = λ key o n bytes asked poll over ran polled it. law.polled key o n bytes asked poll over ran polled (so o n bytes (events_of poll.behind) over.store over.begins it);
   history = λ key o n bytes its over run it. law.history key o n bytes its over run (so o n bytes (events_of its.behind) over.store over.begins it);
 }
 

@@ -1,13 +1,12 @@
 -- A read that a poll answers gives its key's value after a beginning of the history that holds what its pass had seen when it was called.
-use Rattle.std.proofs.Common.{◌≡◌, ◌⊎◌, inl, inr, ℕ, ◌≤◌, ◌∙◌, refl, sym, ap, subst, arith, Bool, true, false, List, [], ◌∷◌, ◌++◌, length, append_assoc}
-use Rattle.std.specs.Prelude.{Option, Some, None, if◌then◌else◌, not, slice_get}
+use Rattle.std.proofs.Common.{◌≡◌, inl, inr, ℕ, ◌≤◌, ◌∙◌, refl, sym, ap, subst, Bool, true, false, List, [], ◌∷◌, ◌++◌, length, append_assoc}
+use Rattle.std.specs.Prelude.{Option, Some, None, if◌then◌else◌, slice_get}
 use Rattle.fkv_base.specs.declared.numbers.Key.{Key}
 use Rattle.fkv_base.specs.declared.numbers.Serial.{Serial}
 use Rattle.fkv_base.specs.declared.numbers.Value.{Value}
 use Rattle.fkv_core.specs.Openings.{beginning}
 use Rattle.fkv_map.specs.declared.operations.Call.{Call}
 use Rattle.fkv_map.specs.declared.operations.Call.TheVariants as call
-use Rattle.fkv_map.specs.declared.operations.Op.TheVariants.{Read}
 use Rattle.fkv_map.specs.declared.operations.Reply.{Reply}
 use Rattle.fkv_opening.specs.declared.opened_store.Opened.{Opened}
 use Rattle.fkv_pending.specs.declared.pending_requests.PendingRequest.{PendingRequest}
@@ -21,14 +20,14 @@ use Rattle.fkv_session.specs.declared.answers.Told.{Told}
 use Rattle.fkv_session.specs.declared.answers.Told.TheVariants as told
 use Rattle.fkv_session.specs.declared.sessions.Sitting.TheVariants.{ClearsMail, Idle}
 use Rattle.fkv_session.specs.Answers.{IsAnswerTold}
-use Rattle.fkv_session.specs.SessionRun.{telling, with_finished}
+use Rattle.fkv_session.specs.SessionRun.{telling}
 use Rattle.fkv_session.specs.Sessions.{Seat, SessionState, poll_begun, poll_call, polls_at, polls_request, refuses, session_begun}
-use Rattle.fkv_world.specs.Past.{Traced, TraceEvent, Answered, Called}
+use Rattle.fkv_world.specs.Past.{Traced, TraceEvent, Answered}
 use Rattle.fkv_world.specs.Runs.{World, happens, run}
 use Rattle.fkv_world.specs.World as world
 use Rattle.fkv_world.specs.World.{Event, Now}
-use Rattle.law_log.specs.Trace.{AnswersRead, CallsRead, GivesResult, IsIn, TraceLine}
-use Rattle.law_refine.specs.Events.Lines.{event_lines, finished_line, finished_lines, lines_added, lines_of, read_reply, read_in_hand, read_waiting}
+use Rattle.law_log.specs.Trace.{AnswersRead, CallsRead, GivesResult, IsIn}
+use Rattle.law_refine.specs.Events.Lines.{finished_line, finished_lines, lines_added, lines_of, read_reply, read_in_hand, read_waiting}
 use Rattle.fkv_table.specs.declared.happenings.Happening.{Happening}
 use Rattle.fkv_base.specs.declared.faults.Fault.TheVariants as fault
 use Rattle.fkv_pending.specs.declared.mailing.MailTask.TheVariants.{Clear}

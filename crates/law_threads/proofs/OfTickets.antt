@@ -1,9 +1,7 @@
 -- The read that waits for a ticket, in a trace in which no ticket comes again.
-use Rattle.std.proofs.Common.{◌≡◌, ℕ, ◌+◌, ◌^◌, ◌-◌, ◌<◌, ◌≤◌, ◌∙◌, refl, sym, ap, subst, arith, Bool, true, false, List, [], ◌∷◌, ◌++◌, length}
+use Rattle.std.proofs.Common.{◌≡◌, ℕ, ◌+◌, ◌≤◌, ◌∙◌, refl, sym, ap, subst, arith, Bool, true, false, List, [], ◌∷◌, ◌++◌}
 use Rattle.std.specs.Prelude.{◌==◌, ◌&&◌, if◌then◌else◌, slice_get, Some}
-use Rattle.std.proofs.lemmas.Bool.Decides.{nat_tests}
 use Rattle.fkv_pending.specs.declared.pending_requests.Ticket.{Ticket}
-use Rattle.fkv_session.specs.declared.answers.Finished.{Finished}
 use Rattle.fkv_session.specs.declared.answers.Told.{Told}
 use Rattle.fkv_session.specs.declared.answers.Told.TheVariants as told
 use Rattle.fkv_session.specs.Accounts.{left_pending, number_of, with_pending}
@@ -19,12 +17,12 @@ use Rattle.law_refine.specs.Events.Lines.{gives_ticket, read_in_hand, read_waiti
 use Rattle.law_refine.specs.Events.Lines as lines
 use Rattle.law_refine.proofs.OfCalls.InHand.{WasOpened, was_opened}
 use Rattle.law_refine.proofs.OfCalls.Life.{told_so}
-use Rattle.law_order.specs.Tickets.Few.{HasFewCalls, calls_in}
-use Rattle.law_order.proofs.OfReads.Numbers.{is_other, other_waiting}
+use Rattle.law_order.specs.Tickets.Few.{HasFewCalls}
+use Rattle.law_order.proofs.OfReads.Numbers.{other_waiting}
 use Rattle.law_order.proofs.OfTickets.Begun.{told_few}
 use Rattle.law_order.proofs.OfTickets.Events.{begun_few}
 use Rattle.law_order.proofs.OfTickets.Tickets.{is_ticket, left_once, tickets_few}
-use Rattle.law_threads.proofs.Course.{OfOthers, seen_called}
+use Rattle.law_threads.proofs.Course.{OfOthers}
 use Rattle.law_threads.proofs.OfRuns.{same_number}
 
 -- tickets are given in turn

@@ -3,7 +3,6 @@ use Rattle.std.specs.Prelude.{◌≡◌, ℕ, List, ◌++◌, Option}
 use Rattle.fkv_base.specs.declared.numbers.Key.{Key}
 use Rattle.fkv_base.specs.declared.numbers.Serial.{Serial}
 use Rattle.fkv_base.specs.declared.numbers.Value.{Value}
-use Rattle.fkv_core.specs.Openings.{beginning}
 use Rattle.fkv_map.specs.declared.operations.Call.TheVariants as call
 use Rattle.fkv_map.specs.declared.operations.Op.TheVariants.{Read}
 use Rattle.fkv_map.specs.declared.operations.Reply.{Reply}
@@ -17,7 +16,7 @@ use Rattle.fkv_world.specs.Runs.{World}
 use Rattle.fkv_world.specs.World.{Event, Now}
 use Rattle.law_log.specs.Trace.{HasReply, IsIn}
 use Rattle.law_opening.specs.Log.Maps.{opening_map}
-use Rattle.law_order.specs.Rules.InTime.{IsInTime, ReadsInTime}
+use Rattle.law_order.specs.Rules.InTime.{IsInTime}
 use Rattle.law_order.specs.Rules.Ordered.{effects_so_far}
 use Rattle.law_order.specs.Tickets.Few.{HasFewCalls}
 use Rattle.law_refine.specs.Events.Lines.{read_reply}
@@ -46,7 +45,7 @@ pub record IsPolledRead (asked poll : CallRun) (key : Key) (value : Option Value
   pub behind : poll.before ≡ later ++ asked.behind
 
 -- Such a read too gives its key's value after some beginning of the history that holds what its pass had seen when it was called, if few calls begin.
-abbrev pub PollsWhatWasSeen : {K : Type 0} → (K → World) → Type 0
-PollsWhatWasSeen {K} at = (key : K) (o : Opened) (n : Now) (bytes : List ℕ) (asked poll : CallRun) → IsOver at key o n bytes → HasRun at key asked → HasRun at key poll
-    → ReadsInTime o n bytes (events_of poll.behind) → HasFewCalls (events_of poll.behind) → (k : Key) (value : Option Value) → IsPolledRead asked poll k value
+abbrev pub PollsWhatWasSeen : {K : Type 0} → (K → World) → (Opened → Now → List ℕ → List Event → Type 0) → Type 0
+PollsWhatWasSeen {K} at If = (key : K) (o : Opened) (n : Now) (bytes : List ℕ) (asked poll : CallRun) → IsOver at key o n bytes → HasRun at key asked → HasRun at key poll
+    → If o n bytes (events_of poll.behind) → HasFewCalls (events_of poll.behind) → (k : Key) (value : Option Value) → IsPolledRead asked poll k value
     → IsInTime (opening_map bytes o) (history_seen n bytes asked.before) (history_seen n bytes poll.behind) k.0 (read_reply value)

@@ -1,8 +1,5 @@
 -- What the order law says of the calls that threads make.
-use Rattle.std.specs.Prelude.{◌≡◌, ◌⊎◌, ℕ, List, ◌++◌, Option, Some, None}
-use mathlib.Core.Option.{some}
-use lib.ListN.{get_elem?}
-use Rattle.atomic_table.specs.Table.{State}
+use Rattle.std.specs.Prelude.{◌≡◌, ℕ, List, ◌++◌, Option, Some, None}
 use Rattle.fkv_base.specs.declared.numbers.Key.{Key}
 use Rattle.fkv_base.specs.declared.numbers.Serial.{Serial}
 use Rattle.fkv_map.specs.declared.history.HistoryEntry.{HistoryEntry}
@@ -11,23 +8,16 @@ use Rattle.fkv_map.specs.declared.operations.Op.TheVariants.{Read}
 use Rattle.fkv_map.specs.declared.operations.Reply.{Reply}
 use Rattle.fkv_map.specs.declared.operations.Reply.TheVariants as reply
 use Rattle.fkv_opening.specs.declared.opened_store.Opened.{Opened}
-use Rattle.fkv_seats.specs.Rule.{IsSeenBy, Ruled}
 use Rattle.fkv_session.specs.declared.answers.Answer.{Answer}
 use Rattle.fkv_session.specs.declared.answers.Answer.TheVariants as answer
-use Rattle.fkv_world.specs.Runs.{World}
-use Rattle.fkv_world.specs.World.{Event, Now}
+use Rattle.fkv_world.specs.World.{Now}
 use Rattle.law_log.specs.Trace.{HasReply}
 use Rattle.law_opening.specs.Log.Maps.{opening_map}
 use Rattle.law_order.specs.Prefix.Law.{history_so_far}
-use Rattle.law_order.specs.Rest.Resting.{HasNoCommit}
-use Rattle.law_order.specs.Rules.InTime.{IsInTime, ReadsInTime}
+use Rattle.law_order.specs.Rules.InTime.{IsInTime}
 use Rattle.law_order.specs.Rules.Ordered.{HasLegalHistory, OrdersItsCalls, effects_so_far}
-use Rattle.law_order.specs.Served.Fits.{CallsFit}
-use Rattle.law_order.specs.Tickets.Few.{HasFewCalls}
 use Rattle.fkv_table.specs.declared.happenings.Happening.{Happening}
-use Rattle.fkv_table.specs.Desks.{Slot, Knows}
-use Rattle.fkv_table.specs.Planes.{plane}
-use Rattle.law_threads.specs.Calls.{CallRun, IsOver, OfEachRun, events_of}
+use Rattle.law_threads.specs.Calls.{CallRun, events_of}
 
 -- the updates that have taken effect by what was seen, in order
 abbrev pub history_seen : Now → List ℕ → List Happening → List HistoryEntry
@@ -67,37 +57,3 @@ pub record StandsInOneHistory (o : Opened) (n : Now) (bytes : List ℕ) (its : C
   pub legal : HasLegalHistory o n bytes (events_of its.behind)
   pub ordered : OrdersItsCalls o n bytes (events_of its.behind)
   pub begins : IsBeginning (history_seen n bytes its.before) (history_seen n bytes its.behind)
-
--- ---- the law
--- the order law's clauses of which the thread law makes use
-pub record IsOrdered (o : Opened) (n : Now) (bytes : List ℕ) (events : List Event) : Type 0 where
-  pub legal : HasLegalHistory o n bytes events
-  pub ordered : OrdersItsCalls o n bytes events
-  pub in_time : ReadsInTime o n bytes events
-
--- its premises: numbers below 2^64, and fewer than 2^64 - 1 calls
-pub record IsWithin (o : Opened) (n : Now) (bytes : List ℕ) (events : List Event) : Type 0 where
-  pub fits : CallsFit events
-  pub few : HasFewCalls events
-
--- and for now that no commit begins
-pub record IsWithoutCommits (o : Opened) (n : Now) (bytes : List ℕ) (events : List Event) : Type 0 where
-  pub within : IsWithin o n bytes events
-  pub rests : HasNoCommit events
-
--- The thread law, of lives of which this is so.
-pub record IsThreadLaw {K : Type 0} (at : K → World) (If : Opened → Now → List ℕ → List Event → Type 0) : Type 0 where
-  pub done : OfEachRun at If DoneIsSeen
-  pub reads : OfEachRun at If ReadsWhatWasSeen
-  pub history : OfEachRun at If StandsInOneHistory
-
--- ---- views
--- what one pass has seen is a beginning of what another has, and so are their histories
-pub record IsSeenIn {K : Type 0} (at : K → World) (n : Now) (bytes : List ℕ) (less more : List Happening) : Type 0 where
-  pub seen : IsSeenBy (plane at) less more
-  pub history : IsBeginning (history_seen n bytes less) (history_seen n bytes more)
-
--- So it is of any two passes at one moment of a table.
-abbrev pub SharesOneHistory : {K : Type 0} → (K → World) → Type 0
-SharesOneHistory {K} at = (key : K) (o : Opened) (n : Now) (bytes : List ℕ) (s : State Slot (Knows K)) (id other : ℕ) (v u : Knows K) → IsOver at key o n bytes → Ruled (plane at) key s
-    → get_elem? s.views id ≡ some v → get_elem? s.views other ≡ some u → IsSeenIn at n bytes v.seen u.seen ⊎ IsSeenIn at n bytes u.seen v.seen

@@ -2,11 +2,9 @@
 #![tactic(auto)]
 ghost use Rattle.fkv_world.specs.Runs.{World};
 ghost use Rattle.law_order.specs.Prefix.Law.{PrefixLaw, TellsDurable};
-ghost use Rattle.law_order.specs.Rules.Ordered.{OrdersItsCalls};
 ghost use Rattle.law_threads.specs.Calls.{OfEachRun};
 ghost use Rattle.law_threads.specs.Durable.{RecoversItsDurable, RecoversLater, TellsItsDurable};
-ghost use Rattle.law_threads.specs.Polls.{FinishedIsSeen, PollsWhatWasSeen};
-ghost use Rattle.law_threads.specs.Threads.{IsOrdered, IsThreadLaw, IsWithin, IsWithoutCommits, SharesOneHistory};
+ghost use Rattle.law_threads.specs.Laws.{IsOrdered, IsThreadLaw, IsWithin, IsWithoutCommits, SharesOneHistory};
 
 use law_order::law_order;
 use law_world::{law_world_requests, law_world_sessions};
@@ -22,8 +20,6 @@ pub fn law_threads<K>()
     ensures by_order { (at : K → World) → IsThreadLaw at IsOrdered }
     ensures without_commits { (at : K → World) → IsThreadLaw at IsWithoutCommits }
     ensures by_prefix { (at : K → World) → PrefixLaw → IsThreadLaw at IsWithin }
-    ensures polled { (at : K → World) → PollsWhatWasSeen at }
-    ensures finished { (at : K → World) → OfEachRun at OrdersItsCalls FinishedIsSeen }
     ensures durable { (at : K → World) → OfEachRun at TellsDurable TellsItsDurable }
     ensures recovered { (at : K → World) → OfEachRun at RecoversLater RecoversItsDurable }
     ensures views { (at : K → World) → SharesOneHistory at }

@@ -3,23 +3,16 @@ use Rattle.fkv_seats.proofs.Seats.{in_order}
 use Rattle.fkv_table.specs.Planes.{plane}
 use Rattle.law_threads.proofs.OfDurable.{recovers_durable, tells_durable}
 use Rattle.law_threads.proofs.OfLaws.{by_prefix, shares, thread_law, without_commits}
-use Rattle.law_threads.proofs.OfPolls.{finished_so, polls_so}
 use Rattle.law_threads.proofs.law_threads.Goals as goal
 
 pub returns-clause-by_order : goal.returns-clause-by_order
-returns-clause-by_order g c = λ at. thread_law c.law_world_sessions.ensures.serials at
+returns-clause-by_order g c = λ at. thread_law c.law_world_sessions.ensures.serials c.law_world_requests.ensures.tickets at
 
 pub returns-clause-without_commits : goal.returns-clause-without_commits
-returns-clause-without_commits g c = λ at. without_commits at c.law_order.ensures.legal c.law_order.ensures.ordered c.law_order.ensures.in_time (thread_law c.law_world_sessions.ensures.serials at)
+returns-clause-without_commits g c = λ at. without_commits at c.law_order.ensures.legal c.law_order.ensures.ordered c.law_order.ensures.in_time (thread_law c.law_world_sessions.ensures.serials c.law_world_requests.ensures.tickets at)
 
 pub returns-clause-by_prefix : goal.returns-clause-by_prefix
-returns-clause-by_prefix g c = λ at prefix. by_prefix at prefix (thread_law c.law_world_sessions.ensures.serials at)
-
-pub returns-clause-polled : goal.returns-clause-polled
-returns-clause-polled g c = λ at key o n bytes asked poll over ran polled law few k value its. polls_so c.law_world_requests.ensures.tickets at key asked poll ran polled k value its few o n bytes over law
-
-pub returns-clause-finished : goal.returns-clause-finished
-returns-clause-finished g c = λ at. finished_so at
+returns-clause-by_prefix g c = λ at prefix. by_prefix at prefix (thread_law c.law_world_sessions.ensures.serials c.law_world_requests.ensures.tickets at)
 
 pub returns-clause-durable : goal.returns-clause-durable
 returns-clause-durable g c = λ at. tells_durable at
