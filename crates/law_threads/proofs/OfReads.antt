@@ -71,7 +71,7 @@ seen_in_time o n bytes later between before start answer reader key reply law ca
     let whole : events_of (later ++ answer ∷ (between ++ start ∷ before)) ≡ events_of later ++ event_of answer ∷ (events_of between ++ event_of start ∷ events_of before) =
     events_both later (answer ∷ (between ++ start ∷ before)) ∙ ap (λ (x : List Event). events_of later ++ event_of answer ∷ x) mid in
     let its = law (events_of later) (events_of between) (events_of before) (event_of start) (event_of answer) reader key reply whole calls
-        (subst (λ (es : List Event). IsIn (AnswersRead reader reply) (event_adds opening es (event_of answer))) mid answers) in
+    (subst (λ (es : List Event). IsIn (AnswersRead reader reply) (event_adds opening es (event_of answer))) mid answers) in
     subst (λ (es : List Event). IsInTime (opening_map bytes o) (history_seen n bytes (start ∷ before)) (seen_by n bytes (event_of answer ∷ es)) key reply) (sym mid) its
   where
     seen_by : Now → List ℕ → List Event → List HistoryEntry

@@ -1,5 +1,6 @@
 //! The thread law: what the order law says of calls that sessions make at a table which threads share.
 #![tactic(auto)]
+
 ghost use Rattle.fkv_world.specs.Runs.{World};
 ghost use Rattle.law_order.specs.Prefix.Law.{PrefixLaw, TellsDurable};
 ghost use Rattle.law_threads.specs.Calls.{OfEachRun};
