@@ -10,13 +10,10 @@ use Rattle.fkv_map.specs.declared.operations.Op.{Op}
 use Rattle.fkv_map.specs.declared.operations.Op.TheVariants.{Read}
 use Rattle.fkv_map.specs.declared.operations.Reply.{Reply}
 use Rattle.fkv_opening.specs.declared.opened_store.Opened.{Opened}
-use Rattle.fkv_session.specs.declared.answers.Answer.{Answer}
 use Rattle.fkv_session.specs.declared.answers.Answer.TheVariants as answer
-use Rattle.fkv_session.specs.declared.answers.Finished.{Finished}
 use Rattle.fkv_session.specs.declared.answers.Told.{Told}
 use Rattle.fkv_session.specs.declared.answers.Told.TheVariants as told
 use Rattle.fkv_session.specs.Accounts.{AreInTurn, serials_after, serials_given}
-use Rattle.fkv_session.specs.Answers.{IsAnswerTold}
 use Rattle.fkv_session.specs.SessionRun.{Telling, telling}
 use Rattle.fkv_session.specs.Sessions.{SessionState}
 use Rattle.fkv_world.specs.Opened.{HasBecome, IsOpenedWorld, answer_to, answers_of, life_told}
@@ -38,56 +35,11 @@ use Rattle.fkv_table.proofs.Lives.{led_run}
 use Rattle.law_threads.specs.Calls.{CallRun, HasRun, IsOver, events_of}
 use Rattle.law_threads.specs.Threads.{DoneIsSeen}
 use Rattle.law_threads.proofs.Course.{OfOthers, seen_answered, seen_called}
-use Rattle.law_threads.proofs.OfRuns.{IsToldIn, earlier, first, idle, is_told, same_number, since_call, was}
+use Rattle.law_threads.proofs.OfRuns.{IsToldIn, earlier, first, idle, is_told, same_number, same_told, since_call, told_with, was}
 
 -- serials are given one after another
 abbrev pub GivesSerialsInTurn : Type 0
 GivesSerialsInTurn = (opening : World) (events : List Event) (session : ℕ) (first its : SessionState) → HasBecome opening events session first its → AreInTurn first.serial its.serial (life_told opening events session first)
-
--- ---- what it was told
-done_same : (s other : Serial) (r reply : Reply) → answer.Done s r ≡ answer.Done other reply → told.Done s r ≡ told.Done other reply
-done_same s other r reply e = cc
-
-told_done : (t : Told) (f : List Finished) (given : Answer) (serial : Serial) (reply : Reply) → IsAnswerTold t f given → given ≡ answer.Done serial reply → t ≡ told.Done serial reply
-told_done (told.Done s r) f given serial reply is e = done_same s serial r reply (sym is ∙ e)
-told_done (told.Polled left) f (answer.Polled list count) serial reply is e = cc
-told_done (told.Polled left) f given serial reply is e = absurd is
-told_done (told.Pending s why) f given serial reply is e = absurd (clash (sym is ∙ e))
-  where
-    clash : answer.Pending s why ≡ answer.Done serial reply → ⊥
-    clash e = cc
-told_done (told.Found value) f given serial reply is e = absurd (clash (sym is ∙ e))
-  where
-    clash : answer.Found value ≡ answer.Done serial reply → ⊥
-    clash e = cc
-told_done told.Absent f given serial reply is e = absurd (clash (sym is ∙ e))
-  where
-    clash : answer.Absent ≡ answer.Done serial reply → ⊥
-    clash e = cc
-told_done (told.PendingRead ticket) f given serial reply is e = absurd (clash (sym is ∙ e))
-  where
-    clash : answer.PendingRead ticket ≡ answer.Done serial reply → ⊥
-    clash e = cc
-told_done (told.Refreshed phase version) f given serial reply is e = absurd (clash (sym is ∙ e))
-  where
-    clash : answer.Refreshed phase version ≡ answer.Done serial reply → ⊥
-    clash e = cc
-told_done (told.Woken phase version) f given serial reply is e = absurd (clash (sym is ∙ e))
-  where
-    clash : answer.Woken phase version ≡ answer.Done serial reply → ⊥
-    clash e = cc
-told_done told.Slept f given serial reply is e = absurd (clash (sym is ∙ e))
-  where
-    clash : answer.Slept ≡ answer.Done serial reply → ⊥
-    clash e = cc
-told_done (told.Durable s) f given serial reply is e = absurd (clash (sym is ∙ e))
-  where
-    clash : answer.Durable s ≡ answer.Done serial reply → ⊥
-    clash e = cc
-told_done (told.Refused why) f given serial reply is e = absurd (clash (sym is ∙ e))
-  where
-    clash : answer.Refused why ≡ answer.Done serial reply → ⊥
-    clash e = cc
 
 -- ---- its serial
 head_of : (x y : ℕ) (xs ys : List ℕ) → x ∷ xs ≡ y ∷ ys → x ≡ y
@@ -160,7 +112,7 @@ module _ (in_turn : GivesSerialsInTurn) {K : Type 0} (at : K → World) (key : K
   numbers = serials_in (at key).now
 
   abbrev its_telling : IsToldIn at (at key) number its.call (earlier at key its run_so) (since_call at key its run_so) (told.Done serial reply) run_so.answered.finished
-  its_telling = subst (λ (x : Told). IsToldIn at (at key) number its.call (earlier at key its run_so) (since_call at key its run_so) x run_so.answered.finished) (told_done run_so.answered.its run_so.answered.finished its.answer serial reply run_so.answered.told given) (is_told at key its run_so)
+  its_telling = subst (λ (x : Told). IsToldIn at (at key) number its.call (earlier at key its run_so) (since_call at key its run_so) x run_so.answered.finished) (same_told run_so.answered.its run_so.answered.finished its.answer run_so.answered.told ∙ ap told_with given) (is_told at key its run_so)
 
   so : trace_at behind ≡ seen_answered its_telling.effects number (told.Done serial reply) its_telling.finished (its_telling.more ++ seen_called its_telling.began number its.call (trace_at before))
   so = sym (ap (λ (w : World). w.past.trace) (led_run at (at key) (since_call at key its run_so)))

@@ -10,12 +10,10 @@ use Rattle.fkv_map.specs.History.{point_of}
 use Rattle.fkv_opening.specs.Opened.{IsStoreOf}
 use Rattle.fkv_opening.specs.declared.opened_store.Opened.{Opened}
 use Rattle.fkv_seats.specs.Rule.{led}
-use Rattle.fkv_session.specs.declared.answers.Answer.{Answer}
 use Rattle.fkv_session.specs.declared.answers.Answer.TheVariants as answer
 use Rattle.fkv_session.specs.declared.answers.Finished.{Finished}
 use Rattle.fkv_session.specs.declared.answers.Told.{Told}
 use Rattle.fkv_session.specs.declared.answers.Told.TheVariants as told
-use Rattle.fkv_session.specs.Answers.{IsAnswerTold}
 use Rattle.fkv_world.specs.Past.{Traced, TraceEvent, Called, Answered, KeeperAnswered}
 use Rattle.fkv_world.specs.Runs.{World, happens, run}
 use Rattle.fkv_world.specs.World.{Event, Now}
@@ -33,52 +31,7 @@ use Rattle.law_threads.specs.Calls.{CallRun, HasRun, IsOver, events_of}
 use Rattle.law_threads.specs.Durable.{IsDurable, RecoversItsDurable, RecoversLater, TellsItsDurable}
 use Rattle.law_threads.proofs.Course.{OfOthers, seen_answered, seen_called}
 use Rattle.law_threads.proofs.Histories.{events_both}
-use Rattle.law_threads.proofs.OfRuns.{IsToldIn, earlier, is_told, same_number, since_call}
-
--- ---- what it was told
-durable_same : (s serial : Serial) → answer.Durable s ≡ answer.Durable serial → told.Durable s ≡ told.Durable serial
-durable_same s serial e = cc
-
-told_durable : (t : Told) (f : List Finished) (given : Answer) (serial : Serial) → IsAnswerTold t f given → given ≡ answer.Durable serial → t ≡ told.Durable serial
-told_durable (told.Durable s) f given serial is e = durable_same s serial (sym is ∙ e)
-told_durable (told.Polled left) f (answer.Polled list count) serial is e = cc
-told_durable (told.Polled left) f given serial is e = absurd is
-told_durable (told.Done s r) f given serial is e = absurd (clash (sym is ∙ e))
-  where
-    clash : answer.Done s r ≡ answer.Durable serial → ⊥
-    clash e = cc
-told_durable (told.Pending s why) f given serial is e = absurd (clash (sym is ∙ e))
-  where
-    clash : answer.Pending s why ≡ answer.Durable serial → ⊥
-    clash e = cc
-told_durable (told.Found value) f given serial is e = absurd (clash (sym is ∙ e))
-  where
-    clash : answer.Found value ≡ answer.Durable serial → ⊥
-    clash e = cc
-told_durable told.Absent f given serial is e = absurd (clash (sym is ∙ e))
-  where
-    clash : answer.Absent ≡ answer.Durable serial → ⊥
-    clash e = cc
-told_durable (told.PendingRead ticket) f given serial is e = absurd (clash (sym is ∙ e))
-  where
-    clash : answer.PendingRead ticket ≡ answer.Durable serial → ⊥
-    clash e = cc
-told_durable (told.Refreshed phase version) f given serial is e = absurd (clash (sym is ∙ e))
-  where
-    clash : answer.Refreshed phase version ≡ answer.Durable serial → ⊥
-    clash e = cc
-told_durable (told.Woken phase version) f given serial is e = absurd (clash (sym is ∙ e))
-  where
-    clash : answer.Woken phase version ≡ answer.Durable serial → ⊥
-    clash e = cc
-told_durable told.Slept f given serial is e = absurd (clash (sym is ∙ e))
-  where
-    clash : answer.Slept ≡ answer.Durable serial → ⊥
-    clash e = cc
-told_durable (told.Refused why) f given serial is e = absurd (clash (sym is ∙ e))
-  where
-    clash : answer.Refused why ≡ answer.Durable serial → ⊥
-    clash e = cc
+use Rattle.law_threads.proofs.OfRuns.{IsToldIn, earlier, is_told, same_number, same_told, since_call, told_with}
 
 -- ---- points that were told stay
 more_finished : (event : TraceEvent) (n : ℕ) → n ≤ and_one_finished event n
@@ -147,7 +100,7 @@ module _ {K : Type 0} (at : K → World) (key : K) (o : Opened) (n : Now) (bytes
   number = its.number
 
   abbrev its_telling : IsToldIn at (at key) number its.call (earlier at key its run_so) (since_call at key its run_so) (told.Durable serial) run_so.answered.finished
-  its_telling = subst (λ (x : Told). IsToldIn at (at key) number its.call (earlier at key its run_so) (since_call at key its run_so) x run_so.answered.finished) (told_durable run_so.answered.its run_so.answered.finished its.answer serial run_so.answered.told given) (is_told at key its run_so)
+  its_telling = subst (λ (x : Told). IsToldIn at (at key) number its.call (earlier at key its run_so) (since_call at key its run_so) x run_so.answered.finished) (same_told run_so.answered.its run_so.answered.finished its.answer run_so.answered.told ∙ ap told_with given) (is_told at key its run_so)
 
   abbrev trace_at : List Happening → List Traced
   trace_at es = trace_so_far n bytes (events_of es)

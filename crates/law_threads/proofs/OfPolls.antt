@@ -53,7 +53,7 @@ use Rattle.law_threads.proofs.Histories.{begins_with, events_both}
 use Rattle.law_threads.proofs.OfDurable.{trace_behind}
 use Rattle.law_threads.proofs.OfReads.{call_line, seen_in_time, to_run, widened}
 use Rattle.law_threads.proofs.OfTickets.{GivesTicketsInTurn, given_now, once_given, others_wait, times_given, waits_now, waits_on}
-use Rattle.law_threads.proofs.OfRuns.{IsToldIn, earlier, first, hand_kept, idle, in_left, in_right, is_told, oldest_added, since_call, was}
+use Rattle.law_threads.proofs.OfRuns.{IsToldIn, earlier, first, hand_kept, idle, in_left, in_right, is_told, oldest_added, same_told, since_call, told_with, was}
 
 -- ---- a poll's lines
 pub finished_in : (number : ℕ) (trace : List Traced) (it : Finished) (list : List Finished) → IsIn it list → IsIn (finished_line number trace it) (finished_lines number trace list)
@@ -110,50 +110,6 @@ few_before : (later before : List Event) → HasFewCalls (later ++ before) → H
 few_before [] before few = few
 few_before (event ∷ later) before few = few_before later before (before_few event (later ++ before) few)
 
-told_waits : (t : Told) (f : List Finished) (given : Answer) (ticket : Ticket) → IsAnswerTold t f given → given ≡ answer.PendingRead ticket → t ≡ told.PendingRead ticket
-told_waits (told.PendingRead other) f given ticket is e = same (sym is ∙ e)
-  where
-    same : answer.PendingRead other ≡ answer.PendingRead ticket → told.PendingRead other ≡ told.PendingRead ticket
-    same e = cc
-told_waits (told.Polled left) f (answer.Polled list count) ticket is e = cc
-told_waits (told.Polled left) f given ticket is e = absurd is
-told_waits (told.Done s r) f given ticket is e = absurd (clash (sym is ∙ e))
-  where
-    clash : answer.Done s r ≡ answer.PendingRead ticket → ⊥
-    clash e = cc
-told_waits (told.Pending s why) f given ticket is e = absurd (clash (sym is ∙ e))
-  where
-    clash : answer.Pending s why ≡ answer.PendingRead ticket → ⊥
-    clash e = cc
-told_waits (told.Found value) f given ticket is e = absurd (clash (sym is ∙ e))
-  where
-    clash : answer.Found value ≡ answer.PendingRead ticket → ⊥
-    clash e = cc
-told_waits told.Absent f given ticket is e = absurd (clash (sym is ∙ e))
-  where
-    clash : answer.Absent ≡ answer.PendingRead ticket → ⊥
-    clash e = cc
-told_waits (told.Refreshed phase version) f given ticket is e = absurd (clash (sym is ∙ e))
-  where
-    clash : answer.Refreshed phase version ≡ answer.PendingRead ticket → ⊥
-    clash e = cc
-told_waits (told.Woken phase version) f given ticket is e = absurd (clash (sym is ∙ e))
-  where
-    clash : answer.Woken phase version ≡ answer.PendingRead ticket → ⊥
-    clash e = cc
-told_waits told.Slept f given ticket is e = absurd (clash (sym is ∙ e))
-  where
-    clash : answer.Slept ≡ answer.PendingRead ticket → ⊥
-    clash e = cc
-told_waits (told.Durable s) f given ticket is e = absurd (clash (sym is ∙ e))
-  where
-    clash : answer.Durable s ≡ answer.PendingRead ticket → ⊥
-    clash e = cc
-told_waits (told.Refused why) f given ticket is e = absurd (clash (sym is ∙ e))
-  where
-    clash : answer.Refused why ≡ answer.PendingRead ticket → ⊥
-    clash e = cc
-
 module _ (in_turn : GivesTicketsInTurn) {K : Type 0} (at : K → World) (key : K) (asked poll : CallRun) (ran : HasRun at key asked) (polled : HasRun at key poll) (k : Key) (value : Option Value) (its : IsPolledRead asked poll k value) (few : HasFewCalls (events_of poll.behind)) where
   abbrev number : ℕ
   number = poll.number
@@ -177,7 +133,7 @@ module _ (in_turn : GivesTicketsInTurn) {K : Type 0} (at : K → World) (key : K
   reader = length (led (plane at) (at key) first_rest).past.trace
 
   abbrev asked_told : IsToldIn at (at key) asked.number asked.call first_rest (since_call at key asked ran) (told.PendingRead ticket) ran.answered.finished
-  asked_told = subst (λ (x : Told). IsToldIn at (at key) asked.number asked.call first_rest (since_call at key asked ran) x ran.answered.finished) (told_waits ran.answered.its ran.answered.finished asked.answer ticket ran.answered.told its.waits) (is_told at key asked ran)
+  asked_told = subst (λ (x : Told). IsToldIn at (at key) asked.number asked.call first_rest (since_call at key asked ran) x ran.answered.finished) (same_told ran.answered.its ran.answered.finished asked.answer ran.answered.told ∙ ap told_with its.waits) (is_told at key asked ran)
 
   abbrev asked_trace : List Traced
   asked_trace = asked_told.more ++ seen_called asked_told.began asked.number asked.call (led (plane at) (at key) first_rest).past.trace

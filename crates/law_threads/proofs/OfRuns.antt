@@ -141,6 +141,34 @@ module _ {K : Type 0} (at : K → World) (key : K) (its : CallRun) (run : HasRun
       (append_assoc run.called.steps (Calls its.number its.call ∷ run.called.others) its.before ∙ sym run.called.so)
       (begins_with n bytes (run.called.steps ++ Calls its.number its.call ∷ run.called.others) its.before)
 
+-- what was told, by the answer
+abbrev pub told_with : Answer → Told
+told_with (answer.Done serial r) = told.Done serial r
+told_with (answer.Pending serial why) = told.Pending serial why
+told_with (answer.Found value) = told.Found value
+told_with answer.Absent = told.Absent
+told_with (answer.PendingRead ticket) = told.PendingRead ticket
+told_with (answer.Refreshed phase version) = told.Refreshed phase version
+told_with (answer.Woken phase version) = told.Woken phase version
+told_with (answer.Polled list left) = told.Polled left
+told_with answer.Slept = told.Slept
+told_with (answer.Durable serial) = told.Durable serial
+told_with (answer.Refused why) = told.Refused why
+
+pub same_told : (t : Told) (f : List Finished) (given : Answer) → IsAnswerTold t f given → t ≡ told_with given
+same_told (told.Done serial r) f given is = sym (ap told_with is)
+same_told (told.Pending serial why) f given is = sym (ap told_with is)
+same_told (told.Found value) f given is = sym (ap told_with is)
+same_told told.Absent f given is = sym (ap told_with is)
+same_told (told.PendingRead ticket) f given is = sym (ap told_with is)
+same_told (told.Refreshed phase version) f given is = sym (ap told_with is)
+same_told (told.Woken phase version) f given is = sym (ap told_with is)
+same_told (told.Polled left) f (answer.Polled list count) is = ap (λ (n : ℕ). told.Polled n) (sym is.1)
+same_told (told.Polled left) f given is = absurd is
+same_told told.Slept f given is = sym (ap told_with is)
+same_told (told.Durable serial) f given is = sym (ap told_with is)
+same_told (told.Refused why) f given is = sym (ap told_with is)
+
 -- ---- lines
 pub in_left : (line : TraceLine) (xs ys : List TraceLine) → IsIn line xs → IsIn line (xs ++ ys)
 in_left line [] ys is_in = absurd is_in
