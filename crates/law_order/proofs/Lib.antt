@@ -6,11 +6,11 @@ mod OfOneHistory
 mod OfOrdered
 mod OfEnabled
 mod OfPrefix
-mod OfReads
+pub mod OfReads
 mod OfRest
 mod OfRows
 pub mod OfRules
 mod OfServed
-mod OfTickets
+pub mod OfTickets
 mod OfTold
 mod OfTruth

@@ -1,11 +1,11 @@
 mod Answers
 mod Coming
 mod Life
-mod LifeNumbers
+pub mod LifeNumbers
 pub mod LifeReads
 mod Moved
-mod Numbers
+pub mod Numbers
 mod ReadEnds
 mod Steps
 mod Touched
-mod Turns
+pub mod Turns

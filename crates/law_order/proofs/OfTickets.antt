@@ -1,5 +1,5 @@
 mod Apart
-mod Begun
-mod Events
+pub mod Begun
+pub mod Events
 pub mod Life
-mod Tickets
+pub mod Tickets

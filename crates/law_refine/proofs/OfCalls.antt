@@ -1,6 +1,6 @@
-mod Called
+pub mod Called
 pub mod InHand
-mod Life
+pub mod Life
 pub mod LifeHistory
 pub mod MadeBy
 mod Named

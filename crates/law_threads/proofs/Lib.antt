@@ -1,0 +1,9 @@
+mod Course
+mod Histories
+mod OfDone
+mod OfDurable
+mod OfLaws
+mod OfPolls
+mod OfReads
+mod OfRuns
+mod OfTickets

@@ -1,0 +1,152 @@
+-- What a session was told as durable, by the clauses of the law of prefixes.
+use Rattle.std.proofs.Common.{◌≡◌, inl, inr, ℕ, ◌≤◌, ◌∙◌, refl, sym, ap, subst, arith, Bool, true, false, List, [], ◌∷◌, ◌++◌, length, append_assoc}
+use Rattle.std.specs.Prelude.{◌==◌, if◌then◌else◌}
+use Rattle.fkv_base.specs.declared.numbers.Serial.{Serial}
+use Rattle.fkv_core.specs.Openings.{beginning}
+use Rattle.fkv_disk.specs.Calls.{MayLeave}
+use Rattle.fkv_keeper.specs.declared.answers.KeeperTold.TheVariants.{Turned}
+use Rattle.fkv_map.specs.declared.operations.Call.{Call}
+use Rattle.fkv_map.specs.History.{point_of}
+use Rattle.fkv_opening.specs.Opened.{IsStoreOf}
+use Rattle.fkv_opening.specs.declared.opened_store.Opened.{Opened}
+use Rattle.fkv_seats.specs.Rule.{led}
+use Rattle.fkv_session.specs.declared.answers.Answer.TheVariants as answer
+use Rattle.fkv_session.specs.declared.answers.Finished.{Finished}
+use Rattle.fkv_session.specs.declared.answers.Told.{Told}
+use Rattle.fkv_session.specs.declared.answers.Told.TheVariants as told
+use Rattle.fkv_world.specs.Past.{Traced, TraceEvent, Called, Answered, KeeperAnswered}
+use Rattle.fkv_world.specs.Runs.{World, happens, run}
+use Rattle.fkv_world.specs.World.{Event, Now}
+use Rattle.law_commit.specs.ToldPoints.{ToldPoint, and_one_finished, at_call_by, finishes_at_call, finishes_told, points_told, with_durable, with_point}
+use Rattle.law_log.specs.Trace.{IsIn}
+use Rattle.law_world.specs.Runs.Added.{told_at, told_by}
+use Rattle.law_world.proofs.OfRuns.Added.{trace_so}
+use Rattle.law_order.specs.Prefix.Law.{HoldsPrefix, IsKeptOf, ReachesFar, TellsDurable, calls_so_far, past_so_far, trace_so_far}
+use Rattle.law_order.proofs.OfReads.Numbers.{is_other}
+use Rattle.fkv_table.specs.declared.happenings.Happening.{Happening}
+use Rattle.fkv_table.specs.Events.{event_of}
+use Rattle.fkv_table.specs.Planes.{plane}
+use Rattle.fkv_table.proofs.Lives.{led_run}
+use Rattle.law_threads.specs.Calls.{CallRun, HasRun, IsOver, events_of}
+use Rattle.law_threads.specs.Durable.{IsDurable, RecoversItsDurable, RecoversLater, TellsItsDurable}
+use Rattle.law_threads.proofs.Course.{OfOthers, seen_answered, seen_called}
+use Rattle.law_threads.proofs.Histories.{events_both}
+use Rattle.law_threads.proofs.OfRuns.{IsToldIn, earlier, is_told, same_number, same_told, since_call, told_with}
+
+-- ---- points that were told stay
+more_finished : (event : TraceEvent) (n : ℕ) → n ≤ and_one_finished event n
+more_finished (KeeperAnswered (Turned true full) last) n = omega arith
+more_finished event n = omega arith
+
+finishes_more : (later before : List Traced) → finishes_told before ≤ finishes_told (later ++ before)
+finishes_more [] before = omega arith
+finishes_more (it ∷ later) before =
+    let rest = finishes_more later before in
+    let one = more_finished it.its (finishes_told (later ++ before)) in
+    omega (arith, rest, one)
+
+durable_more : (finished : ℕ) (its : Told) (x : ToldPoint) (points : List ToldPoint) → IsIn x points → IsIn x (with_durable finished its points)
+durable_more finished (told.Durable serial) x points is_in = inr is_in
+durable_more finished its x points is_in = is_in
+
+if_more : (c : Bool) (x : ToldPoint) (more points : List ToldPoint) → IsIn x points → IsIn x more → IsIn x (if c then more else points)
+if_more true x more points is_in there = there
+if_more false x more points is_in there = is_in
+
+point_more : (number : ℕ) (event : TraceEvent) (finished : ℕ) (x : ToldPoint) (points : List ToldPoint) → IsIn x points → IsIn x (with_point number event finished points)
+point_more number (Answered session its) finished x points is_in = if_more (session == number) x (with_durable finished its.its points) points is_in (durable_more finished its.its x points is_in)
+point_more number event finished x points is_in = is_in
+
+points_more : (number : ℕ) (x : ToldPoint) (later before : List Traced) → IsIn x (points_told number before) → IsIn x (points_told number (later ++ before))
+points_more number x [] before is_in = is_in
+points_more number x (it ∷ later) before is_in = point_more number it.its (finishes_at_call number (later ++ before)) x (points_told number (later ++ before)) (points_more number x later before is_in)
+
+pub record IsTraceBehind (before behind : List Traced) : Type 0 where
+  pub later : List Traced
+  pub whole : behind ≡ later ++ before
+
+pub trace_behind : (w : World) (later : List Happening) (before : List Event) → IsTraceBehind (run w before).past.trace (run w (events_of later ++ before)).past.trace
+unfolding run
+trace_behind w [] before = record { later = []; whole = refl }
+trace_behind w (its ∷ later) before =
+    let rest = trace_behind w later before in
+    let x : World = run w (events_of later ++ before) in
+    let new : List Traced = told_at (length (happens x (event_of its)).past.history) (told_by x.now (happens x (event_of its)).now (event_of its)) in
+    record { later = new ++ rest.later; whole = trace_so x (event_of its) ∙ (ap (λ (y : List Traced). new ++ y) rest.whole ∙ sym (append_assoc new rest.later (run w before).past.trace)) }
+
+-- ---- the call's own
+other_call : (number : ℕ) (event : TraceEvent) (now before : ℕ) → is_other number event → at_call_by number event now before ≡ before
+other_call number (Called session its) now before other = rw other refl
+other_call number event now before other = refl
+
+call_kept : (number : ℕ) (since before : List Traced) → OfOthers number since → finishes_at_call number (since ++ before) ≡ finishes_at_call number before
+call_kept number [] before others = refl
+call_kept number (it ∷ since) before others = other_call number it.its (finishes_told (since ++ before)) (finishes_at_call number (since ++ before)) others.0 ∙ call_kept number since before others.1
+
+own_call : (number effects : ℕ) (its : Call) (before : List Traced) → finishes_at_call number (seen_called effects number its before) ≡ finishes_told before
+own_call number effects its before = rw (same_number number) refl
+
+own_point : (number effects : ℕ) (serial : Serial) (list : List Finished) (before : List Traced)
+    → IsIn (record { point = serial.0; finished = finishes_at_call number before }) (points_told number (seen_answered effects number (told.Durable serial) list before))
+own_point number effects serial list before =
+    subst (λ (c : Bool). IsIn (record { point = serial.0; finished = finishes_at_call number before }) (if c then record { point = serial.0; finished = finishes_at_call number before } ∷ points_told number before else points_told number before))
+    (sym (same_number number)) (inl refl)
+
+module _ {K : Type 0} (at : K → World) (key : K) (o : Opened) (n : Now) (bytes : List ℕ) (its : CallRun) (over : IsOver at key o n bytes) (run_so : HasRun at key its) (serial : Serial) (given : its.answer ≡ answer.Durable serial) where
+  abbrev opening : World
+  opening = beginning n bytes
+
+  abbrev number : ℕ
+  number = its.number
+
+  abbrev its_telling : IsToldIn at (at key) number its.call (earlier at key its run_so) (since_call at key its run_so) (told.Durable serial) run_so.answered.finished
+  its_telling = subst (λ (x : Told). IsToldIn at (at key) number its.call (earlier at key its run_so) (since_call at key its run_so) x run_so.answered.finished) (same_told run_so.answered.its run_so.answered.finished its.answer run_so.answered.told ∙ ap told_with given) (is_told at key its run_so)
+
+  abbrev trace_at : List Happening → List Traced
+  trace_at es = trace_so_far n bytes (events_of es)
+
+  in_run : (es : List Happening) → (led (plane at) (at key) es).past.trace ≡ trace_at es
+  in_run es = ap (λ (w : World). w.past.trace) (led_run at (at key) es) ∙ ap (λ (w : World). (run w (events_of es)).past.trace) over.same
+
+  so : trace_at its.behind ≡ seen_answered its_telling.effects number (told.Durable serial) its_telling.finished (its_telling.more ++ seen_called its_telling.began number its.call (trace_at (earlier at key its run_so)))
+  so = ap trace_at run_so.called.so
+      ∙ (sym (in_run (since_call at key its run_so))
+      ∙ (its_telling.so ∙ ap (λ (x : List Traced). seen_answered its_telling.effects number (told.Durable serial) its_telling.finished (its_telling.more ++ seen_called its_telling.began number its.call x)) (in_run (earlier at key its run_so))))
+
+  abbrev point : ToldPoint
+  point = record { point = serial.0; finished = finishes_told (trace_at (earlier at key its run_so)) }
+
+  is_there : IsIn point ((past_so_far n bytes (events_of its.behind)).told number)
+  is_there =
+      let before : List Traced = its_telling.more ++ seen_called its_telling.began number its.call (trace_at (earlier at key its run_so)) in
+      let at_call : finishes_at_call number before ≡ finishes_told (trace_at (earlier at key its run_so)) =
+      call_kept number its_telling.more _ its_telling.others ∙ own_call number its_telling.began its.call (trace_at (earlier at key its run_so)) in
+      subst (λ (x : List Traced). IsIn point (points_told number x)) (sym so)
+      (subst (λ (x : ℕ). IsIn (record { point = serial.0; finished = x }) (points_told number (seen_answered its_telling.effects number (told.Durable serial) its_telling.finished before))) at_call
+      (own_point number its_telling.effects serial its_telling.finished before))
+
+  pub durable_at : TellsDurable o n bytes (events_of its.behind) → IsDurable o n bytes its serial
+  durable_at law = record {
+    finished = finishes_told (trace_at (earlier at key its run_so));
+    seen =
+        let behind = trace_behind opening run_so.called.others (events_of its.before) in
+        let same : trace_at (earlier at key its run_so) ≡ behind.later ++ trace_at its.before = ap (λ (es : List Event). (run opening es).past.trace) (events_both run_so.called.others its.before) ∙ behind.whole in
+        subst (λ (x : List Traced). finishes_told (trace_at its.before) ≤ finishes_told x) (sym same) (finishes_more behind.later (trace_at its.before));
+    durable = law number point is_there;
+  }
+
+  pub recovered_at : RecoversLater o n bytes (events_of its.behind) → ReachesFar bytes → (later : List Happening) (image : List ℕ) (r : Opened) → MayLeave bytes (calls_so_far n bytes (events_of (later ++ its.behind))) image → IsStoreOf image r
+      → serial.0 ≤ point_of r.points.items number
+  recovered_at law far later image r left store =
+      let both : events_of (later ++ its.behind) ≡ events_of later ++ events_of its.behind = events_both later its.behind in
+      let held : HoldsPrefix o n bytes (events_of later ++ events_of its.behind) image = law (events_of later) far image (subst (λ (es : List Event). MayLeave bytes (calls_so_far n bytes es) image) both left) in
+      let kept : IsKeptOf o n bytes (events_of later ++ events_of its.behind) held.commit image r = held.each r store in
+      let behind = trace_behind opening later (events_of its.behind) in
+      let there : IsIn point (points_told number (run opening (events_of later ++ events_of its.behind)).past.trace) = subst (λ (x : List Traced). IsIn point (points_told number x)) (sym behind.whole) (points_more number point behind.later _ is_there) in
+      subst (λ (x : ℕ). serial.0 ≤ x) (sym (kept.points number)) (held.current.durable number point there)
+
+pub tells_durable : {K : Type 0} (at : K → World) (key : K) (o : Opened) (n : Now) (bytes : List ℕ) (its : CallRun) → IsOver at key o n bytes → HasRun at key its → TellsDurable o n bytes (events_of its.behind) → TellsItsDurable o n bytes its
+tells_durable at key o n bytes its over run law serial given = durable_at at key o n bytes its over run serial given law
+
+pub recovers_durable : {K : Type 0} (at : K → World) (key : K) (o : Opened) (n : Now) (bytes : List ℕ) (its : CallRun) → IsOver at key o n bytes → HasRun at key its → RecoversLater o n bytes (events_of its.behind) → RecoversItsDurable o n bytes its
+recovers_durable at key o n bytes its over run law serial given = recovered_at at key o n bytes its over run serial given law

@@ -1,0 +1,32 @@
+-- What a session was told as durable.
+use Rattle.std.specs.Prelude.{◌≡◌, ◌≤◌, ℕ, List, ◌++◌}
+use Rattle.fkv_base.specs.declared.numbers.Serial.{Serial}
+use Rattle.fkv_disk.specs.Calls.{MayLeave}
+use Rattle.fkv_map.specs.History.{point_of}
+use Rattle.fkv_opening.specs.Opened.{IsStoreOf}
+use Rattle.fkv_opening.specs.declared.opened_store.Opened.{Opened}
+use Rattle.fkv_session.specs.declared.answers.Answer.TheVariants.{Durable}
+use Rattle.fkv_world.specs.World.{Event, Now}
+use Rattle.law_commit.specs.ToldPoints.{finishes_told}
+use Rattle.law_order.specs.Prefix.Law.{IsToldDurable, ReachesFar, RecoversPrefix, calls_so_far, past_so_far, trace_so_far}
+use Rattle.fkv_table.specs.declared.happenings.Happening.{Happening}
+use Rattle.law_threads.specs.Calls.{CallRun, events_of}
+
+-- The point is the session's in a commit that is sealed by what the pass has seen behind the answer. It is no less than its point in each commit that was told as
+-- finished before the call, those among them that the pass had seen finished.
+pub record IsDurable (o : Opened) (n : Now) (bytes : List ℕ) (its : CallRun) (serial : Serial) : Type 0 where
+  pub finished : ℕ
+  pub seen : finishes_told (trace_so_far n bytes (events_of its.before)) ≤ finished
+  pub durable : IsToldDurable o (past_so_far n bytes (events_of its.behind)) its.number (record { point = serial.0; finished = finished })
+
+abbrev pub TellsItsDurable : Opened → Now → List ℕ → CallRun → Type 0
+TellsItsDurable o n bytes its = (serial : Serial) → its.answer ≡ Durable serial → IsDurable o n bytes its serial
+
+-- Each image that a crash may leave then or later recovers a point of the session at or above it.
+abbrev pub RecoversItsDurable : Opened → Now → List ℕ → CallRun → Type 0
+RecoversItsDurable o n bytes its = (serial : Serial) → its.answer ≡ Durable serial → ReachesFar bytes
+    → (later : List Happening) (image : List ℕ) (r : Opened) → MayLeave bytes (calls_so_far n bytes (events_of (later ++ its.behind))) image → IsStoreOf image r → serial.0 ≤ point_of r.points.items its.number
+
+-- each image that a life leaves holds a prefix of it, as far as the life goes on
+abbrev pub RecoversLater : Opened → Now → List ℕ → List Event → Type 0
+RecoversLater o n bytes events = (later : List Event) → RecoversPrefix o n bytes (later ++ events)

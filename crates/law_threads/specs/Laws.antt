@@ -1,0 +1,55 @@
+-- The thread law, by clauses of the order law and of the law of prefixes.
+use Rattle.std.specs.Prelude.{◌≡◌, ◌⊎◌, ℕ, List}
+use mathlib.Core.Option.{some}
+use lib.ListN.{get_elem?}
+use Rattle.atomic_table.specs.Table.{State}
+use Rattle.fkv_opening.specs.declared.opened_store.Opened.{Opened}
+use Rattle.fkv_seats.specs.Rule.{IsSeenBy, Ruled}
+use Rattle.fkv_world.specs.Runs.{World}
+use Rattle.fkv_world.specs.World.{Event, Now}
+use Rattle.law_order.specs.Rest.Resting.{HasNoCommit}
+use Rattle.law_order.specs.Rules.InTime.{ReadsInTime}
+use Rattle.law_order.specs.Rules.Ordered.{HasLegalHistory, OrdersItsCalls}
+use Rattle.law_order.specs.Served.Fits.{CallsFit}
+use Rattle.law_order.specs.Tickets.Few.{HasFewCalls}
+use Rattle.fkv_table.specs.declared.happenings.Happening.{Happening}
+use Rattle.fkv_table.specs.Desks.{Slot, Knows}
+use Rattle.fkv_table.specs.Planes.{plane}
+use Rattle.law_threads.specs.Calls.{IsOver, OfEachRun}
+use Rattle.law_threads.specs.Polls.{FinishedIsSeen, PollsWhatWasSeen}
+use Rattle.law_threads.specs.Threads.{DoneIsSeen, IsBeginning, ReadsWhatWasSeen, StandsInOneHistory, history_seen}
+
+-- the order law's clauses of which the thread law makes use
+pub record IsOrdered (o : Opened) (n : Now) (bytes : List ℕ) (events : List Event) : Type 0 where
+  pub legal : HasLegalHistory o n bytes events
+  pub ordered : OrdersItsCalls o n bytes events
+  pub in_time : ReadsInTime o n bytes events
+
+-- its premises: numbers below 2^64, and fewer than 2^64 - 1 calls
+pub record IsWithin (o : Opened) (n : Now) (bytes : List ℕ) (events : List Event) : Type 0 where
+  pub fits : CallsFit events
+  pub few : HasFewCalls events
+
+-- and for now that no commit begins
+pub record IsWithoutCommits (o : Opened) (n : Now) (bytes : List ℕ) (events : List Event) : Type 0 where
+  pub within : IsWithin o n bytes events
+  pub rests : HasNoCommit events
+
+-- The thread law, of lives of which this is so.
+pub record IsThreadLaw {K : Type 0} (at : K → World) (If : Opened → Now → List ℕ → List Event → Type 0) : Type 0 where
+  pub done : OfEachRun at If DoneIsSeen
+  pub reads : OfEachRun at If ReadsWhatWasSeen
+  pub finished : OfEachRun at If FinishedIsSeen
+  pub polled : PollsWhatWasSeen at If
+  pub history : OfEachRun at If StandsInOneHistory
+
+-- ---- views
+-- what one pass has seen is a beginning of what another has, and so are their histories
+pub record IsSeenIn {K : Type 0} (at : K → World) (n : Now) (bytes : List ℕ) (less more : List Happening) : Type 0 where
+  pub seen : IsSeenBy (plane at) less more
+  pub history : IsBeginning (history_seen n bytes less) (history_seen n bytes more)
+
+-- So it is of any two passes at one moment of a table.
+abbrev pub SharesOneHistory : {K : Type 0} → (K → World) → Type 0
+SharesOneHistory {K} at = (key : K) (o : Opened) (n : Now) (bytes : List ℕ) (s : State Slot (Knows K)) (id other : ℕ) (v u : Knows K) → IsOver at key o n bytes → Ruled (plane at) key s
+    → get_elem? s.views id ≡ some v → get_elem? s.views other ≡ some u → IsSeenIn at n bytes v.seen u.seen ⊎ IsSeenIn at n bytes u.seen v.seen

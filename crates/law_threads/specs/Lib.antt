@@ -1,0 +1,5 @@
+pub mod Calls
+pub mod Durable
+pub mod Laws
+pub mod Polls
+pub mod Threads

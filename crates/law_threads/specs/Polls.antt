@@ -1,0 +1,51 @@
+-- What a poll at a table has finished.
+use Rattle.std.specs.Prelude.{◌≡◌, ℕ, List, ◌++◌, Option}
+use Rattle.fkv_base.specs.declared.numbers.Key.{Key}
+use Rattle.fkv_base.specs.declared.numbers.Serial.{Serial}
+use Rattle.fkv_base.specs.declared.numbers.Value.{Value}
+use Rattle.fkv_map.specs.declared.operations.Call.TheVariants as call
+use Rattle.fkv_map.specs.declared.operations.Op.TheVariants.{Read}
+use Rattle.fkv_map.specs.declared.operations.Reply.{Reply}
+use Rattle.fkv_opening.specs.declared.opened_store.Opened.{Opened}
+use Rattle.fkv_pending.specs.declared.pending_requests.Ticket.{Ticket}
+use Rattle.fkv_session.specs.declared.answers.Answer.{Answer}
+use Rattle.fkv_session.specs.declared.answers.Answer.TheVariants as answer
+use Rattle.fkv_session.specs.declared.answers.Finished.{Finished}
+use Rattle.fkv_session.specs.declared.answers.Finished.TheVariants as finished
+use Rattle.fkv_world.specs.Runs.{World}
+use Rattle.fkv_world.specs.World.{Event, Now}
+use Rattle.law_log.specs.Trace.{HasReply, IsIn}
+use Rattle.law_opening.specs.Log.Maps.{opening_map}
+use Rattle.law_order.specs.Rules.InTime.{IsInTime}
+use Rattle.law_order.specs.Rules.Ordered.{effects_so_far}
+use Rattle.law_order.specs.Tickets.Few.{HasFewCalls}
+use Rattle.law_refine.specs.Events.Lines.{read_reply}
+use Rattle.fkv_table.specs.declared.happenings.Happening.{Happening}
+use Rattle.law_threads.specs.Calls.{CallRun, HasRun, IsOver, events_of}
+use Rattle.law_threads.specs.Threads.{history_seen}
+
+-- an answer says that this is finished
+abbrev pub HasFinished : Answer → Finished → Type 0
+HasFinished (answer.Polled list left) its = IsIn its list.items
+HasFinished its_answer its = ⊥
+
+-- An update that a poll says is finished has taken effect by what the pass has seen, with its serial and the reply that is told.
+abbrev pub FinishedIsSeen : Opened → Now → List ℕ → CallRun → Type 0
+FinishedIsSeen o n bytes its = (serial : Serial) (reply : Reply) → HasFinished its.answer (finished.Update serial reply) → HasReply (effects_so_far n bytes (events_of its.behind)) its.number serial.0 reply
+
+-- A poll answers a read that the session had been told to wait for: its pass had seen then what the read's call had led to.
+pub record IsPolledRead (asked poll : CallRun) (key : Key) (value : Option Value) : Type 0 where
+  pub ticket : Ticket
+  pub reads : asked.call ≡ call.Op (Read key)
+  pub waits : asked.answer ≡ answer.PendingRead ticket
+  pub same : poll.number ≡ asked.number
+  pub polls : poll.call ≡ call.Poll
+  pub has_finished : HasFinished poll.answer (finished.Read ticket value)
+  pub later : List Happening
+  pub behind : poll.before ≡ later ++ asked.behind
+
+-- Such a read too gives its key's value after some beginning of the history that holds what its pass had seen when it was called, if few calls begin.
+abbrev pub PollsWhatWasSeen : {K : Type 0} → (K → World) → (Opened → Now → List ℕ → List Event → Type 0) → Type 0
+PollsWhatWasSeen {K} at If = (key : K) (o : Opened) (n : Now) (bytes : List ℕ) (asked poll : CallRun) → IsOver at key o n bytes → HasRun at key asked → HasRun at key poll
+    → If o n bytes (events_of poll.behind) → HasFewCalls (events_of poll.behind) → (k : Key) (value : Option Value) → IsPolledRead asked poll k value
+    → IsInTime (opening_map bytes o) (history_seen n bytes asked.before) (history_seen n bytes poll.behind) k.0 (read_reply value)
