@@ -53,16 +53,6 @@ ComesTo wanted status = (status ≡ wanted) ⊎ (status ≡ 4)
 abbrev pub Refuses : Fault → ℕ → ℕ → List ℕ → Type 0
 Refuses fault wanted status text = ComesTo wanted status × (text ≡ last_refusal fault)
 
--- the shape of these sizes
-pub record HasSizes (sizes : Sizes) (shape : Shape) : Type 0 where
-  pub bucket_bits : shape.bucket_bits ≡ sizes.bucket_bits
-  pub page : shape.page ≡ sizes.page
-  pub frames : shape.frames ≡ sizes.frames
-  pub mutable : shape.mutable ≡ sizes.mutable
-  pub sessions : shape.sessions ≡ sizes.sessions
-  pub overflow : shape.overflow ≡ sizes.overflow
-  pub disk_pages : shape.disk_pages ≡ sizes.disk_pages
-
 -- behind `shape` stand the sizes of a small store, and behind `large` those of a store that isn't small
 abbrev pub IsOfClass : Class → Type 0 → Type 0
 IsOfClass Small small = small
@@ -72,6 +62,17 @@ abbrev pub AreSizes : Sizes → Type 0
 AreSizes sizes =
     IsShape sizes.bucket_bits sizes.page sizes.frames sizes.mutable sizes.sessions sizes.overflow sizes.disk_pages
     × IsOfClass sizes.class (IsSmall sizes.bucket_bits sizes.page sizes.frames sizes.overflow sizes.disk_pages)
+
+-- The shape of these sizes, where a store of their line's class may have them.
+pub record HasSizes (sizes : Sizes) (shape : Shape) : Type 0 where
+  pub of_its_class : AreSizes sizes
+  pub bucket_bits : shape.bucket_bits ≡ sizes.bucket_bits
+  pub page : shape.page ≡ sizes.page
+  pub frames : shape.frames ≡ sizes.frames
+  pub mutable : shape.mutable ≡ sizes.mutable
+  pub sessions : shape.sessions ≡ sizes.sessions
+  pub overflow : shape.overflow ≡ sizes.overflow
+  pub disk_pages : shape.disk_pages ≡ sizes.disk_pages
 
 -- crashes are taken as the options say
 abbrev pub settings_of : Options → Settings
