@@ -1,0 +1,36 @@
+-- The call is one that the session has run, so the thread law speaks of it.
+use Rattle.std.proofs.Common.{refl}
+use Rattle.fkv_table.specs.Planes.{opening_of}
+use Rattle.law_order.specs.Prefix.Law.{TellsDurable}
+use Rattle.law_threads.specs.Durable.{RecoversItsDurable, RecoversLater, TellsItsDurable}
+use Rattle.fkv_threads.proofs.Lawful.{answered_to, lawful, of_this}
+use Rattle.fkv_threads.proofs.calls.run.Goals as goal
+
+pub returns-clause-called : goal.returns-clause-called
+returns-clause-called g c = record {
+  table = c.args.table.now.table.shared.table_id;
+  seat = c.args.pass.seat.table_id;
+  me = c.args.pass.seat.me;
+  machine = c.args.session.now.machine;
+  desk = c.args.session.now.desk;
+  ready = c.requires.ready;
+  number = refl;
+  seen = refl;
+  called = c.run.ensures.called;
+  answered = answered_to (opening_of g.D.Device.seen) _ _ _ _ _ c.run.ensures.number c.run.ensures.answer;
+}
+
+pub returns-clause-by_order : goal.returns-clause-by_order
+returns-clause-by_order g c = lawful (opening_of g.D.Device.seen) _ _ _ (returns-clause-called g c) (c.law_threads.ensures.by_order (opening_of g.D.Device.seen))
+
+pub returns-clause-without_commits : goal.returns-clause-without_commits
+returns-clause-without_commits g c = lawful (opening_of g.D.Device.seen) _ _ _ (returns-clause-called g c) (c.law_threads.ensures.without_commits (opening_of g.D.Device.seen))
+
+pub returns-clause-by_prefix : goal.returns-clause-by_prefix
+returns-clause-by_prefix g c = λ prefix. lawful (opening_of g.D.Device.seen) _ _ _ (returns-clause-called g c) (c.law_threads.ensures.by_prefix (opening_of g.D.Device.seen) prefix)
+
+pub returns-clause-durable : goal.returns-clause-durable
+returns-clause-durable g c = of_this (opening_of g.D.Device.seen) _ _ TellsDurable TellsItsDurable (returns-clause-called g c) (c.law_threads.ensures.durable (opening_of g.D.Device.seen))
+
+pub returns-clause-recovered : goal.returns-clause-recovered
+returns-clause-recovered g c = of_this (opening_of g.D.Device.seen) _ _ RecoversLater RecoversItsDurable (returns-clause-called g c) (c.law_threads.ensures.recovered (opening_of g.D.Device.seen))

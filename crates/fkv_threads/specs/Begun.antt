@@ -1,0 +1,28 @@
+-- How a table's sessions and its keeper begin.
+use Rattle.std.specs.Prelude.{◌≡◌, ℕ, List, []}
+use Rattle.atomic_table.specs.Seated.{TableId}
+use Rattle.atomic_table.specs.Table.{Me}
+use Rattle.fkv_keeper.specs.Keeping.{KeeperModel}
+use Rattle.fkv_opening.specs.declared.opened_store.Opened.{Opened}
+use Rattle.fkv_session.specs.Sessions.{Sitter}
+use Rattle.fkv_world.specs.Runs.{World}
+use Rattle.fkv_table.specs.Calls.{IsReady}
+use Rattle.fkv_table.specs.Desks.{Slot, Knows}
+use Rattle.fkv_table.specs.Keeps.{IsKeeperReady}
+use Rattle.law_threads.specs.Calls.{IsOver}
+
+module _ {K : Type 0} (at : K → World) where
+  -- the table lies over the world with which this store begins, that these bytes hold
+  abbrev pub IsOverStore : K → Opened → List ℕ → Type 0
+  IsOverStore key o bytes = IsOver at key o (at key).now bytes
+
+  -- A session with this number is ready with its pass, which has seen nothing.
+  pub record HasBegun (key : K) (table : TableId) (number : ℕ) (m : Sitter) (desk : ℕ) (seat : TableId) (me : Me Slot (Knows K)) : Type 0 where
+    pub ready : IsReady at key table seat me m desk
+    pub numbered : m.seat.number ≡ number
+    pub nothing_seen : me.0.seen ≡ []
+
+  -- So is the keeper.
+  pub record KeeperHasBegun (key : K) (table : TableId) (k : KeeperModel) (seat : TableId) (me : Me Slot (Knows K)) : Type 0 where
+    pub ready : IsKeeperReady at key table seat me k
+    pub nothing_seen : me.0.seen ≡ []

@@ -1,0 +1,49 @@
+//! The keeper's calls.
+ghost use Rattle.fkv_keeper.specs.Keeping.{keeper_ask};
+ghost use Rattle.fkv_keeper.specs.Running.{IsBeginTold, IsTurnTold};
+ghost use Rattle.fkv_table.specs.declared.happenings.Happening.TheVariants.{Commits, Turns};
+ghost use Rattle.fkv_table.specs.KeeperCalls.{HasKept};
+ghost use Rattle.fkv_table.specs.Keeps.{IsAfterSeen, IsKeeperReady, LeavesDevice};
+ghost use Rattle.fkv_table.specs.Planes.{opening_of};
+
+use fkv_base::{CommitKind, Fault, Version};
+use fkv_disk::Device;
+use fkv_keeper::Turn;
+use fkv_table::{Keeper, KeeperPass, Table};
+
+/// Makes a turn of the keeper to its end, with each call of the device that it needs: it flushes, serves and carries a commit on. It ends early with
+/// `Broken`, `Device`, `EpochsSpent` or `Memory`. The device is the one that the store was opened from, behind the calls that the keeper's pass has seen.
+pub fn turn<D: Device>(
+    keeper: &mut Keeper,
+    table: &Table<D>,
+    pass: KeeperPass<D>,
+    device: &mut D,
+) -> (KeeperPass<D>, Result<Turn, Fault>)
+    requires ready { IsKeeperReady (opening_of D.seen) table.now.table.shared.key table.now.table.shared.table_id pass.seat.table_id pass.seat.me keeper.old.machine }
+    requires honest { D.honest device.old }
+    requires after { IsAfterSeen (opening_of D.seen) table.now.table.shared.key pass.seat.me.0.seen (D.seen device.old) (D.may_leave device.old) }
+    ensures ready { IsKeeperReady (opening_of D.seen) table.now.table.shared.key table.now.table.shared.table_id result.0.seat.table_id result.0.seat.me keeper.new.machine }
+    ensures kept { HasKept Turns pass.seat.me.0.seen result.0.seat.me.0.seen }
+    ensures honest { D.honest device.new }
+    ensures after { IsAfterSeen (opening_of D.seen) table.now.table.shared.key result.0.seat.me.0.seen (D.seen device.new) (D.may_leave device.new) }
+    ensures told { IsTurnTold keeper.new.machine.state.last (keeper_ask keeper.new.machine.shape keeper.new.machine.places keeper.new.machine.state) result.1 }
+{
+    keeper.turn(table, pass, device)
+}
+
+/// Begins a commit of this kind and gives its number; later turns carry it through. It is refused with `Broken`, `CommitRunning`, `VersionsSpent`,
+/// `LostFull`, `EpochsSpent` or `DrainFull`. The device isn't called.
+pub fn ask_commit<D: Device>(
+    keeper: &mut Keeper,
+    table: &Table<D>,
+    pass: KeeperPass<D>,
+    kind: CommitKind,
+) -> (KeeperPass<D>, Result<Version, Fault>)
+    requires ready { IsKeeperReady (opening_of D.seen) table.now.table.shared.key table.now.table.shared.table_id pass.seat.table_id pass.seat.me keeper.old.machine }
+    ensures ready { IsKeeperReady (opening_of D.seen) table.now.table.shared.key table.now.table.shared.table_id result.0.seat.table_id result.0.seat.me keeper.new.machine }
+    ensures kept { HasKept (Commits kind) pass.seat.me.0.seen result.0.seat.me.0.seen }
+    ensures device { LeavesDevice (opening_of D.seen) table.now.table.shared.key pass.seat.me.0.seen result.0.seat.me.0.seen }
+    ensures told { IsBeginTold (keeper_ask keeper.new.machine.shape keeper.new.machine.places keeper.new.machine.state) result.1 }
+{
+    keeper.ask_commit(table, pass, kind)
+}

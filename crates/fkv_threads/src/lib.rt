@@ -1,0 +1,12 @@
+//! The store on threads: the calls of the table, each with what the thread law says of it.
+#![tactic(auto)]
+
+mod calls;
+mod keepers;
+mod opening;
+mod passes;
+
+pub use calls::run;
+pub use keepers::{ask_commit, turn};
+pub use opening::open;
+pub use passes::{close, join};
