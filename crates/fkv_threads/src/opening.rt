@@ -1,7 +1,9 @@
 //! A store that was opened becomes a table that threads share.
 ghost use Rattle.std.specs.Prelude.{◌≡◌, length, IfOk, OnErr, Err};
 ghost use Rattle.fkv_base.specs.declared.faults.Fault.TheVariants.{Memory};
+ghost use Rattle.fkv_disk.specs.Device.{LeavesOnly};
 ghost use Rattle.fkv_opening.specs.Opened.{IsStoreOf};
+ghost use Rattle.fkv_table.specs.Keeps.{IsAfterSeen};
 ghost use Rattle.fkv_table.specs.Planes.{opening_of};
 ghost use Rattle.fkv_table.specs.Starts.{EachAt};
 ghost use Rattle.fkv_threads.specs.Begun.{HasBegun, IsOverStore, KeeperHasBegun};
@@ -10,11 +12,12 @@ use fkv_base::Fault;
 use fkv_disk::Device;
 use fkv_opening::Opened;
 use fkv_table::{OpenTable, Table};
-use law_opening::law_guard_opens;
+use law_opening::{law_device_opens, law_guard_opens};
 use std::alloc::Global;
 
 /// The table of a store that the device holds, and was opened from it. Each session is ready for its first call with its pass, and so is the keeper.
-/// Nothing has happened yet. The device comes back, since the keeper alone calls it. `Memory` where memory was refused: then all that was handed in
+/// Nothing has happened yet. The device comes back, since the keeper alone calls it; if a crash leaves just what it reads as, the keeper's turns may
+/// begin with it. `Memory` where memory was refused: then all that was handed in
 /// is dropped, the device too.
 pub fn open<D: Device + Drop>(
     alloc: Global,
@@ -27,8 +30,10 @@ pub fn open<D: Device + Drop>(
     ensures sessions { IfOk result (λ t. EachAt t.sessions.items (λ i x. HasBegun (opening_of D.seen) t.table.table.shared.key t.table.table.shared.table_id i x.0.machine x.0.desk x.1.seat.table_id x.1.seat.me)) }
     ensures keeper { IfOk result (λ t. KeeperHasBegun (opening_of D.seen) t.table.table.shared.key t.table.table.shared.table_id t.keeper.machine t.pass.seat.table_id t.pass.seat.me) }
     ensures device { IfOk result (λ t. t.device ≡ device) }
+    ensures after { LeavesOnly (D.seen device) (D.may_leave device) → IfOk result (λ t. IsAfterSeen (opening_of D.seen) t.table.table.shared.key t.pass.seat.me.0.seen (D.seen t.device) (D.may_leave t.device)) }
     ensures err { OnErr result (result ≡ Err Memory) }
 {
     law_guard_opens();
+    law_device_opens(&device);
     Table::open(alloc, opened, device)
 }
