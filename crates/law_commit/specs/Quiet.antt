@@ -127,9 +127,9 @@ pub data ShowsPoint (version point first other : ℕ) : Type 0 where
   SaysFirst : first ≡ cut_at point version → ShowsPoint version point first other
   SleepsSince : (at : ℕ) → at < version → SleptAt at point first other ⊎ SleptAt at point other first → ShowsPoint version point first other
 
--- in wait-pending they show the point of the commit's number, but in the middle of a wake
+-- in wait-pending they show the point of the commit's number
 abbrev pub CutsShowPoints : Type 0
 CutsShowPoints =
     (opening : World) (start : ℕ) (events : List Event) (version session : ℕ) (first its : SessionState) → OpensQuiet opening start → ShowCuts opening.now → HasBecome opening events session first its
-    → rank_now opening events ≡ pending_rank version → its.step ≢ CatchesUp Wakes
+    → rank_now opening events ≡ pending_rank version
     → ShowsPoint version (point opening events session version) (word_now opening events (session_place session (cut_of version))) (word_now opening events (session_place session (other_cut_of version)))

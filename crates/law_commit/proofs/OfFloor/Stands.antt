@@ -70,7 +70,7 @@ opening_floored opening start guarded opens =
       };
     }
 
-life_floored : (opening : World) (start : ℕ) (events : List Event) → guard.IsOpened opening.now start → IsOpenedWorld opening → OpensSeen opening.now → PaperIsSound → LifeFloored opening start events
+pub life_floored : (opening : World) (start : ℕ) (events : List Event) → guard.IsOpened opening.now start → IsOpenedWorld opening → OpensSeen opening.now → PaperIsSound → LifeFloored opening start events
 life_floored opening start [] guarded opened opens paper_sound = opening_floored opening start guarded opens
 life_floored opening start (event ∷ before) guarded opened opens paper_sound =
     let past = life_floored opening start before guarded opened opens paper_sound in
