@@ -1,12 +1,10 @@
 -- That no update of a version is left, nor comes any more.
-use Rattle.std.specs.Prelude.{◌≡◌, ◌≢◌, ◌⊎◌, ◌+◌, ◌-◌, ◌*◌, ◌<◌, ◌≤◌, nat_le, ℕ, true, List, ◌∷◌, ◌++◌}
+use Rattle.std.specs.Prelude.{◌≡◌, ◌⊎◌, ◌+◌, ◌-◌, ◌*◌, ◌<◌, ◌≤◌, nat_le, ℕ, true, List, ◌∷◌, ◌++◌}
 use Rattle.fkv_words.specs.declared.phase_words.PhaseSaid.{PhaseSaid}
 use Rattle.fkv_words.specs.declared.phase_words.PhaseSaid.TheVariants.{Says, Spoiled}
 use Rattle.fkv_words.specs.PhaseWords.{phase_said}
 use Rattle.fkv_plane.specs.Places.{session_place}
 use Rattle.fkv_commit.specs.Cuts.{cut_of, other_cut_of}
-use Rattle.fkv_session.specs.declared.sessions.CatchCause.TheVariants.{Wakes}
-use Rattle.fkv_session.specs.declared.sessions.Sitting.TheVariants.{CatchesUp}
 use Rattle.fkv_session.specs.CatchingUp.{cut_at}
 use Rattle.fkv_session.specs.InOrder.{owing_place}
 use Rattle.fkv_session.specs.Sessions.{SessionState}

@@ -8,7 +8,7 @@ use Rattle.fkv_world.specs.Runs.{World, run}
 use Rattle.fkv_world.specs.World.{Event}
 use Rattle.law_paper.specs.Phases as paper
 use Rattle.law_paper.specs.Phases.{FitStage, defers, enters, flushes, goes_on, pends, prepares, rests}
-use Rattle.law_commit.specs.Floor.Stands.{PaperIsSound, stage_number}
+use Rattle.law_commit.specs.Floor.Stands.{PaperIsSound}
 use Rattle.law_commit.specs.Phases.Projected.{is_coming, paper_view}
 use Rattle.law_commit.specs.Quiet.{OpensQuiet, pending_rank, rank_now}
 use Rattle.law_commit.specs.Views.{View, sight_of}

@@ -1,5 +1,5 @@
 -- In wait-pending the two cut words of a session show its point of the commit's number, a sleeper's too.
-use Rattle.std.proofs.Common.{◌≡◌, ◌≢◌, ◌⊎◌, inl, inr, ℕ, ◌+◌, ◌*◌, ◌-◌, ◌<◌, ◌≤◌, ◌∙◌, List, [], ◌∷◌, length, refl, arith, ap, sym, subst, Bool, true, false}
+use Rattle.std.proofs.Common.{◌≡◌, ◌≢◌, ◌⊎◌, inl, inr, ℕ, ◌+◌, ◌-◌, ◌<◌, ◌≤◌, ◌∙◌, List, [], ◌∷◌, refl, arith, ap, sym, subst, Bool, true, false}
 use Rattle.std.specs.Prelude.{⊤, not, nat_le, ◌==◌, ◌%◌, if◌then◌else◌, Option, Some, None, slice_get}
 use Rattle.std.proofs.lemmas.Bool.Decides.{nat_tests}
 use Rattle.fkv_base.specs.declared.numbers.Version.{Version}
@@ -18,17 +18,17 @@ use Rattle.fkv_session.specs.Sessions.{IsOpened, Seat, SessionState}
 use Rattle.fkv_session.specs.SessionRun.{SessionEvent, session_run}
 use Rattle.fkv_session.specs.Versions.{IsVersion}
 use Rattle.fkv_session.specs.Words.{IsCutAsleep, left_with, stored_last}
-use Rattle.fkv_session.proofs.Shown.{HasCut, IsCatching, IsMarked, StepMarks, run_asleep, run_slept, run_version}
+use Rattle.fkv_session.proofs.Shown.{HasCut, IsCatching, IsMarked, StepMarks, run_asleep, run_version}
 use Rattle.fkv_world.specs.Opened.{HasBecome}
 use Rattle.fkv_world.specs.OwnEvents.{session_events}
 use Rattle.fkv_world.specs.Runs.{World, run}
 use Rattle.fkv_world.specs.World.{Event, seat_at}
 use Rattle.fkv_world.proofs.Shown.{session_runs}
-use Rattle.law_world.proofs.OfSessions.OwnRun.{opened_so, seated, to_run}
-use Rattle.law_commit.specs.Accepted.{HasRisingVersion, count_upto, point, serial_at, versions_accepted}
+use Rattle.law_world.proofs.OfSessions.OwnRun.{opened_so, seated}
+use Rattle.law_commit.specs.Accepted.{HasRisingVersion, point, versions_accepted}
 use Rattle.law_commit.specs.Cuts.{HasItsWords, ShowCuts, serial_before, word_now}
 use Rattle.law_commit.specs.PhaseVersions.{HasRisingPhase, phase_version}
-use Rattle.law_commit.specs.Quiet.{CutsShowPoints, LiveAreLater, OpensQuiet, SaysFirst, ShowsPoint, SleepsSince, SleptAt, pending_rank, rank_now}
+use Rattle.law_commit.specs.Quiet.{CutsShowPoints, LiveAreLater, OpensQuiet, SaysFirst, ShowsPoint, SleepsSince, pending_rank, rank_now}
 use Rattle.law_commit.specs.Views.{IsComing, IsTakenFrom, Sight, TakesUp, View, sight_of}
 use Rattle.law_commit.specs.Floor.Stands.{PaperIsSound}
 use Rattle.law_commit.proofs.Counted.{life_counted, life_point, run_moves}

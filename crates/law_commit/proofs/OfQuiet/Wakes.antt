@@ -1,6 +1,6 @@
 -- A session that wakes stores nothing in its cut words before it has loaded the phase: till then they are as it has slept.
-use Rattle.std.proofs.Common.{◌≡◌, ◌≢◌, inl, inr, ℕ, ◌+◌, ◌-◌, ◌<◌, ◌≤◌, ◌∙◌, List, [], ◌∷◌, length, refl, arith, ap, sym, subst, Bool, true, false}
-use Rattle.std.specs.Prelude.{⊤, not, ◌==◌, ◌%◌, ◌||◌, if◌then◌else◌, Option, Some, None, slice_get, slice_set}
+use Rattle.std.proofs.Common.{◌≡◌, ℕ, ◌+◌, ◌-◌, ◌<◌, ◌≤◌, ◌∙◌, List, [], ◌∷◌, length, refl, arith, ap, sym, subst, Bool, true, false}
+use Rattle.std.specs.Prelude.{⊤, not, ◌==◌, ◌||◌, if◌then◌else◌, Option, Some, None, slice_get, slice_set}
 use Rattle.std.specs.List.{position}
 use Rattle.std.proofs.lemmas.Bool.Decides.{nat_tests}
 use Rattle.fkv_base.specs.declared.faults.Fault.{Fault}
@@ -39,9 +39,9 @@ use Rattle.fkv_session.specs.declared.sessions.CatchCause.{CatchCause}
 use Rattle.fkv_session.specs.declared.sessions.CatchCause.TheVariants.{Refreshes, Wakes, Shifts}
 use Rattle.fkv_session.specs.declared.sessions.Sitting.{Sitting}
 use Rattle.fkv_session.specs.declared.sessions.Sitting.TheVariants.{Idle, Attempts, CatchesUp, ClearsMail, Polls, StoresOwing, Turns, StoresCut, Leaves, LoadsDurable}
-use Rattle.fkv_session.specs.CatchingUp.{CatchState, catch_requests, refresh_begun, wake_begun, catching_next, cuts, enters_prepare, finish_ledto, finishes, is_same_version, latch_begun, latch_ledto, latch_wanted, latches, protect_ledto, seen_after, takes_up}
+use Rattle.fkv_session.specs.CatchingUp.{CatchState, catch_requests, refresh_begun, wake_begun, catching_next, cuts, enters_prepare, finish_ledto, finishes, is_same_version, latch_begun, latch_ledto, latch_wanted, latches, protect_ledto, seen_after}
 use Rattle.fkv_session.specs.OwnTurns.{own_turn_ask, own_turn_given}
-use Rattle.fkv_session.specs.Sessions.{IsOpened, SessionState, Seat, asks_after, bits_of, caught, is_busy, is_word_ask, session_ask, accepts, answers, answers_after_turn, attempt_ledto, attempt_left, attempt_moved, attempted, attempts, call_begun, catch_ledto, caught_up, clear_ledto, finishes_request, is_finished, is_no_room, is_owed, keeps_request, lacks_room, leave_ledto, op_begun, own_turn_moved, poll_begun, poll_call, poll_ledto, polls_at, polls_request, refresh_call, refusal_of, refuses, request_finished, serial_taken, shifts, sitting_given, sitting_next, sleep_call, ticket_after, turn_ledto, update_done, wake_call, with_request}
+use Rattle.fkv_session.specs.Sessions.{IsOpened, SessionState, Seat, asks_after, bits_of, caught, is_busy, is_word_ask, session_ask, accepts, answers, answers_after_turn, attempt_ledto, attempt_left, attempt_moved, attempted, attempts, call_begun, catch_ledto, clear_ledto, finishes_request, is_finished, is_no_room, is_owed, keeps_request, lacks_room, leave_ledto, op_begun, own_turn_moved, poll_begun, poll_call, poll_ledto, polls_at, polls_request, refresh_call, refusal_of, refuses, request_finished, serial_taken, shifts, sitting_given, sitting_next, sleep_call, ticket_after, turn_ledto, update_done, wake_call, with_request}
 use Rattle.fkv_session.specs.SessionRun.{Begins, Gets, Replies, SessionEvent, begins, session_happens, session_run}
 use Rattle.fkv_session.specs.Words.{GoesToSleep, HasFinished, IsMark, IsMarkStore, LeavesVersion, OwesUpdates, stored_by, stored_last}
 use Rattle.fkv_session.proofs.Shown.{IsCatching, IsMarked, StepMarks, run_slept, run_stores}
