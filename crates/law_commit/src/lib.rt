@@ -14,7 +14,9 @@ mod versions;
 
 pub use copied::{law_copies_cover, law_world_copied};
 pub use cuts::{law_cuts_stand, law_durable_stands, law_marks_stand};
-pub use decided::{law_addresses_taken, law_commits_decided, law_commits_settled, law_later_above};
+pub use decided::{
+    law_addresses_taken, law_chains_below, law_commits_decided, law_commits_settled, law_later_above,
+};
 pub use floor::law_floor_stands;
 pub use laws::{
     law_begun, law_of_worked_pasts, law_of_worked_pieces, law_phase_stored, law_versions_counted,
