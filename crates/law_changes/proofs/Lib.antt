@@ -1,0 +1,4 @@
+mod AttemptRows
+mod Rows
+mod TryRows
+mod Walks

@@ -1,0 +1,33 @@
+-- What the laws say.
+use Rattle.std.specs.Prelude.{ℕ, List}
+use Rattle.fkv_world.specs.Opened.{IsOpenedWorld}
+use Rattle.fkv_world.specs.Runs.{World}
+use Rattle.fkv_world.specs.World.{Event}
+use Rattle.law_changes.specs.Linked.{IsLinkedLog}
+use Rattle.law_guard.specs.Guarded.Shows as guard
+use Rattle.law_log.specs.Ghosts.{Ghosts}
+use Rattle.law_parts.specs.Index.Shows as index
+use Rattle.law_refine.specs.Events.GhostEvents.{life_ghosts}
+use Rattle.law_refine.specs.Events.Reserved.{IsUnbornFrom, ReservesNothing, tail_at}
+use Rattle.law_refine.specs.Heads.Heads.{LeadToHeads}
+use Rattle.law_refine.specs.Records.Changes.{AreChangesPublished}
+
+-- what a life begins with here: a world that was opened, and beside it a log whose chains and records lead to published records alone
+pub record BeginsLinked (opening : World) (start : ℕ) (lists : ℕ → List ℕ) (ghosts : Ghosts) : Type 0 where
+  pub world : IsOpenedWorld opening
+  pub now : guard.IsOpened opening.now start
+  pub index : index.IsOpened opening lists
+  pub unborn : IsUnbornFrom (tail_at opening.now) ghosts
+  pub reserves : ReservesNothing ghosts
+  pub heads : LeadToHeads opening.now lists ghosts.log
+  pub linked : IsLinkedLog ghosts.log
+
+-- the record that a session changes in place is published
+abbrev pub ChangesArePublished : Type 0
+ChangesArePublished =
+    (opening : World) (start : ℕ) (lists : ℕ → List ℕ) (ghosts : Ghosts) (events : List Event) → BeginsLinked opening start lists ghosts → AreChangesPublished opening ghosts events
+
+-- chains and records lead to published records alone
+abbrev pub LogStaysLinked : Type 0
+LogStaysLinked =
+    (opening : World) (start : ℕ) (lists : ℕ → List ℕ) (ghosts : Ghosts) (events : List Event) → BeginsLinked opening start lists ghosts → IsLinkedLog (life_ghosts opening ghosts events).log
