@@ -1,4 +1,10 @@
 mod AttemptRows
+mod Calm
+mod Comes
+mod Life
+mod LifeLogs
+mod Logs
 mod Rows
+mod Told
 mod TryRows
 mod Walks

@@ -1,5 +1,5 @@
 -- What a session that attempts something knows of the log by its control state: whatever it goes by is published. And that it stays so as the log grows.
-use Rattle.std.proofs.Common.{◌≡◌, ◌⊎◌, inl, inr, ℕ, ◌≤◌, sym, subst}
+use Rattle.std.proofs.Common.{◌≡◌, inl, inr, ℕ, ◌≤◌}
 use Rattle.std.specs.Prelude.{⊤}
 use Rattle.fkv_base.specs.declared.numbers.Addr.{Addr}
 use Rattle.fkv_index.specs.Slots.{entry_addr}

@@ -1,5 +1,5 @@
 -- Each reply leads a try on to a state in which it goes by what is published.
-use Rattle.std.proofs.Common.{◌≡◌, ℕ, ◌∙◌, inl, refl, sym, ap, subst, Bool, true, false, Option, Some, None}
+use Rattle.std.proofs.Common.{◌≡◌, ℕ, inl, refl, sym, subst, Bool, true, false, Option, Some, None}
 use Rattle.std.specs.Prelude.{⊤, ◌==◌, ◌&&◌, not, nat_le, nat_lt, ◌^◌, if◌then◌else◌}
 use Rattle.fkv_base.specs.declared.numbers.Addr.{Addr}
 use Rattle.fkv_base.specs.declared.numbers.Version.{Version}
@@ -27,7 +27,7 @@ use Rattle.fkv_log.specs.declared.reserving.ReserveAnswer.{ReserveAnswer}
 use Rattle.fkv_log.specs.declared.reserving.ReserveAnswer.TheVariants as reserve
 use Rattle.fkv_ops.specs.Appending.{AppendState, addr_reserved, append_ask, append_ended, append_next, appending_next, fill_ledto, invalidate_ledto, publish_ledto, reserve_ledto}
 use Rattle.fkv_ops.specs.Requests.{is_blind, is_read}
-use Rattle.fkv_ops.specs.Trying.{TryState, answer_ledto, append_ledto, awaits, changes, copies, copies_from, current_ledto, ended_without, ends, appends, exclusive_dropped, exclusive_ledto, full_at, has_walked, held_used, is_own_version, is_wait, latch_moved, met_disk, met_nowhere, met_record, must_shift, new_try, old_ledto, region_met, safe_loaded, shared_dropped, shared_ledto, takes_effect, told_value, try_begun, try_next, trying_next, value_changed, walk_ledto, walked, walks, wants_exclusive, wants_shared, with_latch}
+use Rattle.fkv_ops.specs.Trying.{TryState, answer_ledto, append_ledto, awaits, changes, copies, copies_from, current_ledto, ended_without, ends, appends, exclusive_dropped, exclusive_ledto, full_at, has_walked, held_used, is_own_version, is_wait, met_disk, met_nowhere, met_record, must_shift, new_try, old_ledto, region_met, safe_loaded, shared_dropped, shared_ledto, takes_effect, told_value, try_begun, try_next, trying_next, value_changed, walk_ledto, walked, walks, wants_exclusive, wants_shared, with_latch}
 use Rattle.fkv_ops.specs.Values.{value_of}
 use Rattle.fkv_ops.specs.Walking.{WalkState, walk_ask, walk_next, walk_on, walk_rested}
 use Rattle.fkv_ops.specs.declared.answers.Reason.TheVariants as reason

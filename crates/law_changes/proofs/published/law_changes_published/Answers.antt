@@ -1,9 +1,10 @@
--- The law.
-use Rattle.law_changes.proofs.AttemptRows.{attempt_so}
+-- The law, by what each session goes by.
+use Rattle.law_changes.proofs.Life.{life_holds}
+use Rattle.law_changes.proofs.LifeLogs.{life_linked}
 use Rattle.law_changes.proofs.published.law_changes_published.Goals as goal
 
 pub returns-clause-published : goal.returns-clause-published
-returns-clause-published c = ?
+returns-clause-published c = λ opening start lists ghosts events begins. (life_holds opening start lists ghosts events begins).published
 
 pub returns-clause-linked : goal.returns-clause-linked
-returns-clause-linked c = ?
+returns-clause-linked c = λ opening start lists ghosts events begins. life_linked opening start lists ghosts events begins
