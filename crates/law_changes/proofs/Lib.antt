@@ -1,6 +1,7 @@
 mod AttemptRows
 mod Calm
 mod Comes
+mod Events
 mod Life
 mod LifeLogs
 mod Logs

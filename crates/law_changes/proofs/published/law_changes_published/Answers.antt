@@ -1,4 +1,5 @@
 -- The law, by what each session goes by.
+use Rattle.law_changes.proofs.Events.{step_so}
 use Rattle.law_changes.proofs.Life.{life_holds}
 use Rattle.law_changes.proofs.LifeLogs.{life_linked}
 use Rattle.law_changes.proofs.published.law_changes_published.Goals as goal
@@ -8,3 +9,9 @@ returns-clause-published c = λ opening start lists ghosts events begins. (life_
 
 pub returns-clause-linked : goal.returns-clause-linked
 returns-clause-linked c = λ opening start lists ghosts events begins. life_linked opening start lists ghosts events begins
+
+pub returns-clause-headers : goal.returns-clause-headers
+returns-clause-headers c = ?
+
+pub returns-clause-old : goal.returns-clause-old
+returns-clause-old c = ?
