@@ -1,6 +1,6 @@
 -- What a step does to the log, by what its session goes by: a record that it makes leads below the tail, and what it changes in place lies above the opening.
-use Rattle.std.proofs.Common.{◌≡◌, ℕ, ◌<◌, ◌≤◌, inl, inr, refl, Bool, true, false, List, [], ◌∷◌, ◌++◌}
-use Rattle.std.specs.Prelude.{⊤, ◌==◌, if◌then◌else◌, Some, None}
+use Rattle.std.proofs.Common.{◌≡◌, ℕ, ◌<◌, ◌≤◌, refl, Bool, true, false, List, [], ◌∷◌, ◌++◌}
+use Rattle.std.specs.Prelude.{⊤, ◌==◌, if◌then◌else◌, Some}
 use Rattle.fkv_index.specs.Finding.{find_next_ask}
 use Rattle.fkv_index.specs.Publishing.{publish_next_ask}
 use Rattle.fkv_index.specs.declared.finding.FindAnswer.{FindAnswer}
@@ -47,12 +47,12 @@ use Rattle.law_local.specs.Sessions.Known.{is_attempting}
 use Rattle.law_refine.specs.Events.Lines.{read_in_hand, read_waiting}
 use Rattle.law_guard.specs.Sessions.Tries.{is_for_entry}
 use Rattle.law_local.specs.Tries.TryRows.{cell_of}
-use Rattle.law_log.specs.Ghosts.{GhostEvent, Log, Tells, FindsEntry, TakesValue, Reserves, Publishes, Drops, Changes, Fixes}
+use Rattle.law_log.specs.Ghosts.{GhostEvent, Log, Reserves, Drops, Changes}
 use Rattle.law_refine.specs.Events.Appends.{append_ghosts, entry_made, invalidate_ghosts, publish_ghosts, reserved_ghosts}
 use Rattle.law_refine.specs.Events.Sessions.{attempt_ghosts, sitting_ghosts, step_ghosts, ticket_of, tried_ghosts, value_ghosts}
 use Rattle.law_refine.specs.Events.Tries.{find_ghosts, found_ghosts, search_ghosts, try_ghosts, walk_ghosts}
 use Rattle.law_changes.specs.Linked.{IsLed}
-use Rattle.law_changes.proofs.Rows.{AttemptSo, IsAt, TrySo, made_previous}
+use Rattle.law_changes.proofs.Rows.{AttemptSo, TrySo, made_previous}
 
 -- a record that is made leads below one address, and what changes in place lies above another
 abbrev pub is_so : ℕ → ℕ → GhostEvent → Type 0

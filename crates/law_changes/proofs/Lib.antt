@@ -3,8 +3,10 @@ mod Calm
 mod Comes
 mod Events
 mod Life
+mod LifeEvents
 mod LifeLogs
 mod Logs
+mod Openings
 mod Rows
 mod Told
 mod TryRows

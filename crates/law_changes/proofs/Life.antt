@@ -84,7 +84,7 @@ changes_published opening ghosts before (Moves session) known = session_publishe
 changes_published opening ghosts before event known = tt
 
 -- ---- a session attempts what it should
-life_attempts : (opening : World) (events : List Event) (session : ℕ) (s : SessionState) → IsOpenedWorld opening → slice_get (run opening events).now.sessions session ≡ Some s → AttemptsSo (seat_at opening.now session) s
+pub life_attempts : (opening : World) (events : List Event) (session : ℕ) (s : SessionState) → IsOpenedWorld opening → slice_get (run opening events).now.sessions session ≡ Some s → AttemptsSo (seat_at opening.now session) s
 life_attempts opening events session s opened found = by_first (slice_get opening.now.sessions session) refl
   where
     k : Seat

@@ -117,11 +117,11 @@ attempt_reply k words s (Attempts has_shifted) attempts = passed_reply words (at
 attempt_reply k words s (Polls index) attempts = passed_reply words (attempt_ask k.places k.number s.attempt) Slept
 attempt_reply k words s step attempts = cc
 
-record GoesSo (k : Seat) (s : SessionState) : Type 0 where
-  seen : s.attempt.seen ≡ s.seen
-  tries : TriesFor (bits_of k) s.attempt s.attempt.step
+pub record GoesSo (k : Seat) (s : SessionState) : Type 0 where
+  pub seen : s.attempt.seen ≡ s.seen
+  pub tries : TriesFor (bits_of k) s.attempt s.attempt.step
 
-goes_so : (k : Seat) (s : SessionState) (step : Sitting) → is_attempting step ≡ true → AttemptsBy k s step → GoesSo k s
+pub goes_so : (k : Seat) (s : SessionState) (step : Sitting) → is_attempting step ≡ true → AttemptsBy k s step → GoesSo k s
 goes_so k s (Attempts has_shifted) attempts so = record { seen = so.goes.its_seen; tries = so.goes.its_try }
 goes_so k s (Polls index) attempts so = record { seen = so.goes.its_seen; tries = so.goes.its_try }
 goes_so k s step attempts so = cc
