@@ -1,11 +1,10 @@
 mod AttemptRows
-mod Calm
-mod Comes
 mod Events
 mod Life
 mod LifeEvents
 mod LifeLogs
 mod Logs
+pub mod OfSessions
 mod Openings
 mod Rows
 mod Told

@@ -11,21 +11,17 @@ use Rattle.fkv_pending.specs.declared.attempting.Attempting.{Attempting}
 use Rattle.fkv_pending.specs.declared.attempting.Attempting.TheVariants.{Tries}
 use Rattle.fkv_pending.specs.declared.pending_requests.PendingRequest.{PendingRequest}
 use Rattle.fkv_plane.specs.Asked.{reply_to}
-use Rattle.fkv_session.specs.Sessions.{SessionState, Seat, bits_of, is_busy, request_in_hand, room_of, session_ask, session_next}
+use Rattle.fkv_session.specs.Sessions.{SessionState, Seat, bits_of, request_in_hand, room_of, session_ask, session_next}
 use Rattle.fkv_session.specs.declared.sessions.Sitting.{Sitting}
-use Rattle.fkv_session.specs.declared.sessions.Sitting.TheVariants.{Idle, Attempts, Polls, Turns}
+use Rattle.fkv_session.specs.declared.sessions.Sitting.TheVariants.{Attempts, Polls}
 use Rattle.fkv_world.specs.Moves.{Near, session_moved}
-use Rattle.fkv_world.specs.Opened.{HasBecome, IsOpenedWorld}
-use Rattle.fkv_world.specs.OwnEvents.{session_events}
 use Rattle.fkv_world.specs.Runs.{World, run}
 use Rattle.fkv_world.specs.World.{Event, Moves, Now, near, seat_at}
 use Rattle.fkv_world.proofs.Shown.{same_seat}
-use Rattle.law_guard.specs.Sessions.Followed.{is_turning}
 use Rattle.law_guard.specs.Sessions.InPlace.{attempt_changes, sitting_changes, try_changes}
 use Rattle.law_local.specs.Sessions.Inputs.{AttemptsSo}
 use Rattle.law_local.specs.Sessions.Known.{KnowsRequests, attempt_after, catch_after, caught_up_at, is_attempting, with_op}
 use Rattle.law_local.proofs.OfSessions.Known.{begun_known, next_known, opened_known, stays_known}
-use Rattle.law_local.proofs.OfSessions.SessionInputs.{run_so}
 use Rattle.law_log.specs.Ghosts.{Ghosts, Log}
 use Rattle.law_refine.specs.Events.GhostEvents.{life_ghosts}
 use Rattle.law_refine.specs.Events.Published.{IsPublished}
@@ -35,14 +31,13 @@ use Rattle.law_refine.specs.Records.Changes.{AreChangesPublished, ChangesPublish
 use Rattle.law_refine.proofs.OfHeads.LifeHeads.{life_found}
 use Rattle.law_refine.proofs.OfSeen.Alone.{moves_alone}
 use Rattle.law_refine.proofs.OfSeen.There.{there_before}
-use Rattle.law_world.proofs.OfRuns.Nothing.{none_ever}
-use Rattle.law_world.proofs.OfSessions.OwnRun.{of_run, opened_so}
 use Rattle.law_refine.specs.Events.GhostEvents.{home_number}
 use Rattle.law_changes.specs.Laws.{BeginsLinked}
 use Rattle.law_changes.specs.Linked.{IsLed}
 use Rattle.law_changes.proofs.AttemptRows.{AttemptTold, attempt_begins, attempt_so}
-use Rattle.law_changes.proofs.Calm.{calm_known, is_calm}
-use Rattle.law_changes.proofs.Comes.{SessionComes, Stays, Begins, Steps, session_comes}
+use Rattle.law_changes.proofs.OfSessions.Attempting.{life_attempts}
+use Rattle.law_changes.proofs.OfSessions.Calm.{calm_known, is_calm, not_calm}
+use Rattle.law_changes.proofs.OfSessions.Comes.{SessionComes, Stays, Begins, Steps, session_comes}
 use Rattle.law_changes.proofs.LifeLogs.{life_linked, life_stays}
 use Rattle.law_changes.proofs.Rows.{AttemptKnown, AttemptSo, TrySo, attempt_grows, made_previous}
 use Rattle.law_changes.proofs.Told.{headers_lead, session_told}
@@ -82,24 +77,6 @@ session_published log (Some s) knows = λ a e. sitting_published log s s.step a 
 changes_published : (opening : World) (ghosts : Ghosts) (before : List Event) (event : Event) → AllKnown opening ghosts before → ChangesPublished (run opening before).now (life_ghosts opening ghosts before).log event
 changes_published opening ghosts before (Moves session) known = session_published (life_ghosts opening ghosts before).log (slice_get (run opening before).now.sessions session) (λ s found. known session s found)
 changes_published opening ghosts before event known = tt
-
--- ---- a session attempts what it should
-pub life_attempts : (opening : World) (events : List Event) (session : ℕ) (s : SessionState) → IsOpenedWorld opening → slice_get (run opening events).now.sessions session ≡ Some s → AttemptsSo (seat_at opening.now session) s
-life_attempts opening events session s opened found = by_first (slice_get opening.now.sessions session) refl
-  where
-    k : Seat
-    k = seat_at opening.now session
-
-    by_first : (first : Option SessionState) → slice_get opening.now.sessions session ≡ first → AttemptsSo k s
-    by_first None e = none_some s (sym (none_ever opening events session e) ∙ found)
-    by_first (Some first) e =
-        let became : HasBecome opening events session first s = record { opened = opened; was = e; is_now = found } in
-        of_run (λ (x : SessionState). AttemptsSo k x) opening events session first s became (run_so k first (session_events opening session events) (opened_so opening events session first s became))
-
-not_calm : (step : Sitting) → is_calm step ≡ false → (is_busy step ≡ true) × (is_turning step ≡ false)
-not_calm (Idle its) e = cc
-not_calm (Turns its) e = cc
-not_calm step e = (refl, refl)
 
 -- ---- by each event
 module _ (opening : World) (start : ℕ) (lists : ℕ → List ℕ) (ghosts : Ghosts) (begins : BeginsLinked opening start lists ghosts) (before : List Event) (event : Event) (known : AllKnown opening ghosts before) (published : AreChangesPublished opening ghosts before) where

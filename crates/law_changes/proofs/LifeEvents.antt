@@ -43,9 +43,10 @@ use Rattle.law_refine.proofs.OfRecords.LogHeaders.{AllFall, falls_at}
 use Rattle.law_changes.specs.Laws.{BeginsLinked}
 use Rattle.law_changes.specs.Linked.{IsLed}
 use Rattle.law_changes.proofs.Events.{AllSo, both_so, is_so, step_so}
-use Rattle.law_changes.proofs.Life.{SessionKnown, life_attempts, life_holds}
+use Rattle.law_changes.proofs.Life.{SessionKnown, life_holds}
+use Rattle.law_changes.proofs.OfSessions.Attempting.{attempting_is, life_attempts}
 use Rattle.law_changes.proofs.Rows.{AttemptKnown, AttemptSo, TrySo, made_previous}
-use Rattle.law_changes.proofs.Told.{GoesSo, attempting_is, goes_so}
+use Rattle.law_changes.proofs.Told.{GoesSo, goes_so}
 
 -- ---- what is changed in place lies at or above the head that the session has seen
 above_so : (low at a : ℕ) (head seen : Addr) → head ≡ seen → low ≤ seen.0 → head.0 ≤ at → Some at ≡ Some a → low ≤ a

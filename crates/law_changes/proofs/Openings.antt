@@ -1,28 +1,12 @@
 -- The log of an opened store leads to published records alone.
 use Rattle.std.proofs.Common.{◌≡◌, inl, inr, ℕ, ◌∙◌, refl, sym, ap, subst, List, [], ◌∷◌}
 use Rattle.std.specs.Prelude.{Some}
-use Rattle.fkv_core.specs.Openings.{IsOpeningWorld, beginning}
-use Rattle.fkv_keeper.specs.KeeperRun.{is_in_hand}
-use Rattle.fkv_opening.specs.declared.opened_store.Opened.{Opened}
-use Rattle.fkv_world.specs.Opened.{IsOpenedWorld}
-use Rattle.fkv_world.specs.World.{Now}
 use Rattle.law_log.specs.Chains.{Cell, Logged, Published, head_of}
 use Rattle.law_log.specs.Enabled.{AreChains, IsLinked, previous_of}
 use Rattle.law_log.specs.Ghosts.{Log}
 use Rattle.law_log.specs.Trace.{IsIn}
 use Rattle.law_refine.specs.Events.Published.{IsPublished}
 use Rattle.law_changes.specs.Linked.{IsLed, IsLinkedLog}
-
-pub world_opens : (o : Opened) (n : Now) (bytes : List ℕ) → IsOpeningWorld o n → IsOpenedWorld (beginning n bytes)
-world_opens o n bytes its = record {
-  goes_on = its.goes_on;
-  no_history = refl;
-  no_trace = refl;
-  no_calls = refl;
-  seats = its.seats ∙ sym its.its_places.sessions;
-  keeper = (let k = its.its_keeper in record { none_in_hand = ap is_in_hand k.no_call; no_commit = k.no_commit; works = k.works });
-  sessions = λ number s found. (its.its_sessions number s found).opened;
-}
 
 -- each record of a chain is published
 abbrev AllPublished : Log → List ℕ → Type 0

@@ -20,7 +20,7 @@ use Rattle.fkv_ops.specs.declared.trying.Trying.TheVariants.{Walks}
 use Rattle.fkv_ops.specs.declared.walking.WalkAnswer.TheVariants as walk
 use Rattle.fkv_ops.specs.declared.walking.Walking.{Walking}
 use Rattle.fkv_ops.specs.declared.walking.Walking.TheVariants.{Finds, Meets}
-use Rattle.fkv_pending.specs.Attempting.{AttemptState, attempt_ask, attempting_ask}
+use Rattle.fkv_pending.specs.Attempting.{AttemptState, attempting_ask}
 use Rattle.fkv_pending.specs.declared.attempting.Attempting.{Attempting}
 use Rattle.fkv_pending.specs.declared.attempting.Attempting.TheVariants.{Tries}
 use Rattle.fkv_plane.specs.Asked.{reply_to, word_at}
@@ -31,7 +31,6 @@ use Rattle.fkv_plane.specs.declared.places.Places.{Places}
 use Rattle.fkv_plane.specs.declared.places.RecordWord.TheVariants as rec
 use Rattle.fkv_plane.proofs.Shown.{passed_reply}
 use Rattle.fkv_session.specs.Sessions.{SessionState, Seat, bits_of, sitting_ask}
-use Rattle.fkv_session.specs.declared.answers.Told.TheVariants.{Slept}
 use Rattle.fkv_session.specs.declared.sessions.Sitting.{Sitting}
 use Rattle.fkv_session.specs.declared.sessions.Sitting.TheVariants.{Attempts, Polls}
 use Rattle.fkv_world.specs.Runs.{World, run}
@@ -41,19 +40,19 @@ use Rattle.law_local.specs.Sessions.Known.{is_attempting}
 use Rattle.law_log.specs.Chains.{Cell, Logged, Unborn, Reserved, Published, Dropped}
 use Rattle.law_log.specs.Ghosts.{Ghosts, Log}
 use Rattle.law_log.proofs.Shown.{not_unborn}
-use Rattle.law_parts.specs.Index.Finders.{Search, SessionWork, attempt_part, search_in, sitting_part, try_work, walk_work}
+use Rattle.law_parts.specs.Index.Finders.{attempt_part, sitting_part, try_work, walk_work}
 use Rattle.law_refine.specs.Events.GhostEvents.{life_ghosts}
 use Rattle.law_refine.specs.Events.Published.{IsPublished}
 use Rattle.law_refine.specs.Events.Reserved.{tail_at}
 use Rattle.law_refine.specs.Heads.Searches.{IsHeadAnswered, IsHeadFound}
 use Rattle.law_refine.specs.Records.Changes.{AreChangesPublished}
-use Rattle.law_refine.specs.Records.Frames.{IsAttempting}
 use Rattle.law_refine.proofs.OfEvents.Unborn.{ghost_unborn}
 use Rattle.law_refine.proofs.OfRecords.Frames.{finds_framed, frames_show_log, head_above}
 use Rattle.law_changes.specs.Laws.{BeginsLinked}
 use Rattle.law_changes.specs.Linked.{IsLed}
 use Rattle.law_changes.proofs.AttemptRows.{AttemptTold}
 use Rattle.law_changes.proofs.LifeLogs.{life_linked}
+use Rattle.law_changes.proofs.OfSessions.Attempting.{FindsBy, attempt_reply, attempting_is, finds_by}
 use Rattle.law_changes.proofs.Rows.{IsAt, LeadsOn, LeadsSaid}
 use Rattle.law_changes.proofs.TryRows.{TryTold}
 use Rattle.law_changes.proofs.Walks.{FindSo, FoundSo, LoadTold, WalkTold}
@@ -66,10 +65,6 @@ found_so log head its led found = tt
 find_so : (log : Log) (head : ℕ) (ask : Ask FindAnswer) → IsLed log head → IsHeadAnswered head ask → FindSo log ask
 find_so log head (Done its) led found = found_so log head its.found led found
 find_so log head ask led found = tt
-
--- the search that is under way, if any, finds by this reply where the chain begins
-abbrev pub FindsBy : Places → ℕ → ℕ → SessionWork → Type 0
-FindsBy p head reply work = (its : Search) → search_in work ≡ Some its → IsHeadAnswered head (find_next_ask p its.finding reply)
 
 -- ---- what is loaded of a record that is published, from the head that the session has seen
 abbrev pub HeadersLead : Log → Places → Seen → List ℕ → Type 0
@@ -101,22 +96,6 @@ module _ (log : Log) (p : Places) (seen : Seen) (words : List ℕ) (lead : Heade
   attempt_told bits session a step same its e finds = tt
 
 -- ---- by what the session attempts
-pub attempting_is : (step : Sitting) → is_attempting step ≡ true → IsAttempting step
-attempting_is (Attempts has_shifted) attempts = tt
-attempting_is (Polls index) attempts = tt
-attempting_is step attempts = cc
-
-finds_by : (p : Places) (head reply : ℕ) (s : SessionState) (step : Sitting) → is_attempting step ≡ true → FindsBy p head reply (sitting_part s step).work → FindsBy p head reply (attempt_part s.attempt s.attempt.step).work
-finds_by p head reply s (Attempts has_shifted) attempts finds = finds
-finds_by p head reply s (Polls index) attempts finds = finds
-finds_by p head reply s step attempts finds = cc
-
-attempt_reply : (k : Seat) (words : List ℕ) (s : SessionState) (step : Sitting) → is_attempting step ≡ true → reply_to words (sitting_ask k s step) ≡ reply_to words (attempt_ask k.places k.number s.attempt)
-unfolding sitting_ask
-attempt_reply k words s (Attempts has_shifted) attempts = passed_reply words (attempt_ask k.places k.number s.attempt) Slept
-attempt_reply k words s (Polls index) attempts = passed_reply words (attempt_ask k.places k.number s.attempt) Slept
-attempt_reply k words s step attempts = cc
-
 pub record GoesSo (k : Seat) (s : SessionState) : Type 0 where
   pub seen : s.attempt.seen ≡ s.seen
   pub tries : TriesFor (bits_of k) s.attempt s.attempt.step

@@ -1,8 +1,9 @@
 -- The laws, by what an opened store begins with.
+use Rattle.std.proofs.Common.{◌∙◌, refl, sym}
 use Rattle.fkv_core.specs.Openings.{beginning}
 use Rattle.fkv_filling.specs.OpeningIndex.{opening_lists}
 use Rattle.law_opening.specs.Log.OpeningLog.{opening_ghosts}
-use Rattle.law_changes.proofs.Openings.{linked_log, world_opens}
+use Rattle.law_changes.proofs.Openings.{linked_log}
 use Rattle.law_refine.specs.Events.GhostEvents.{home_in}
 use Rattle.law_changes.proofs.lives.law_lives_change_published.Goals as goal
 
@@ -12,7 +13,15 @@ returns-clause-begins c = λ o n bytes store world.
     let first = c.law_log_begins.ensures bytes o n store world in
     let log = c.law_log_opened.ensures.opened bytes o store in
     record {
-      world = world_opens o n bytes world;
+      world = record {
+        goes_on = world.goes_on;
+        no_history = refl;
+        no_trace = refl;
+        no_calls = refl;
+        seats = world.seats ∙ sym world.its_places.sessions;
+        keeper = guarded.now.keeper;
+        sessions = λ number s found. (world.its_sessions number s found).opened;
+      };
       now = guarded.now;
       some = o.some_tail;
       index = c.law_index_opens.ensures.opened o n bytes world;
