@@ -7,6 +7,7 @@ use fkv_core::{Actor, Event, Told};
 use fkv_disk::FuseState;
 use fkv_plane::SharedWord;
 use fkv_session::Answer;
+use std::process::Abort;
 use std::test::Fail;
 
 /// More steps than the calls of these tests have.
@@ -43,15 +44,19 @@ fn ends_in_hand(store: &mut Store) -> bool {
         && shared_words(store) == before
 }
 
+fn all_ends(rt: &impl Abort, store: &mut Store) {
+    assert!(rt; begin(store, beginning(Up(0, 1, 10)), 4).is_none());
+    assert!(rt; ends_in_hand(store));
+    for line in [Get(0, 1), Commit, Turn] {
+        assert!(rt; is_nothing(store, line));
+    }
+}
+
 /// An update has reserved its address when the life ends: it is never answered, and neither another call nor the keeper does anything.
 #[test]
 fn nothing_happens_behind_a_crash(rt: HostRuntime) -> Result<(), Fail> {
     let mut store = new_store(rt.alloc(), WIDE)?;
-    assert!(rt; begin(&mut store, beginning(Up(0, 1, 10)), 4).is_none());
-    assert!(rt; ends_in_hand(&mut store));
-    for line in [Get(0, 1), Commit, Turn] {
-        assert!(rt; is_nothing(&mut store, line));
-    }
+    all_ends(&rt, &mut store);
     Ok(())
 }
 
@@ -68,16 +73,25 @@ fn effects_of_a_call(store: &mut Store) -> Option<u64> {
     None
 }
 
-/// Of the asks of an update one makes its effect, and the world shows it behind that one alone. A fuse shows how far it is from blowing.
+/// Of the asks of an update one makes its effect, and the world shows it behind that one alone.
+fn an_effect_is_shown(rt: &impl Abort, store: &mut Store) {
+    assert!(rt; store.step(beginning(Up(0, 1, 10))).is_none());
+    assert!(rt; effects_of_a_call(store) == Some(1));
+    assert!(rt; store.effect(1).is_none());
+}
+
+/// A fuse shows how far it is from blowing.
+fn a_fuse_is_shown(rt: &impl Abort, store: &mut Store) {
+    assert!(rt; store.fuse() == FuseState::Sound);
+    store.arm(3);
+    assert!(rt; store.fuse() == FuseState::Armed(3));
+}
+
 #[test]
 fn an_effect_and_a_fuse_are_shown(rt: HostRuntime) -> Result<(), Fail> {
     let mut store = new_store(rt.alloc(), WIDE)?;
-    assert!(rt; store.step(beginning(Up(0, 1, 10))).is_none());
-    assert_eq!(rt; effects_of_a_call(&mut store), Some(1));
-    assert!(rt; store.effect(1).is_none());
-    assert_eq!(rt; store.fuse(), FuseState::Sound);
-    store.arm(3);
-    assert_eq!(rt; store.fuse(), FuseState::Armed(3));
+    an_effect_is_shown(&rt, &mut store);
+    a_fuse_is_shown(&rt, &mut store);
     Ok(())
 }
 
@@ -94,24 +108,35 @@ fn events_of_a_read(store: &mut Store, key: u64) -> Option<u64> {
     None
 }
 
+/// There is no answer before the call's end.
+fn an_update_ends(rt: &impl Abort, store: &mut Store) {
+    assert!(rt; !store.advance(beginning(Up(0, 1, 10))));
+    assert!(rt; store.answer(Event::Move(0)).is_none());
+    assert!(rt; effects_of_a_call(store) == Some(1));
+}
+
+/// The answer is there, and stays there.
+fn a_read_ends(rt: &impl Abort, store: &mut Store) {
+    assert!(rt; events_of_a_read(store, 1).is_some());
+    let found = Some(Told::Session(0, Answer::Found(Value(10))));
+    for _ in 0..2 {
+        assert!(rt; store.answer(Event::Move(0)) == found);
+    }
+}
+
+/// Nothing moves behind the end, and no other actor has an answer.
+fn nothing_is_in_hand(rt: &impl Abort, store: &mut Store) {
+    assert!(rt; !store.advance(Event::Move(0)));
+    assert!(rt; store.answer(Event::Move(7)).is_none());
+    assert!(rt; store.answer(Event::Crash).is_none());
+}
+
 /// Where a call ends in an event its answer is there, and stays there up to the next call.
 #[test]
 fn an_answer_is_taken_behind_the_end(rt: HostRuntime) -> Result<(), Fail> {
     let mut store = new_store(rt.alloc(), WIDE)?;
-    assert!(rt; !store.advance(beginning(Up(0, 1, 10))));
-    assert!(rt; store.answer(Event::Move(0)).is_none());
-    assert_eq!(rt; effects_of_a_call(&mut store), Some(1));
-    assert!(rt; events_of_a_read(&mut store, 1).is_some());
-    assert_eq!(rt;
-        store.answer(Event::Move(0)),
-        Some(Told::Session(0, Answer::Found(Value(10))))
-    );
-    assert_eq!(rt;
-        store.answer(Event::Move(0)),
-        Some(Told::Session(0, Answer::Found(Value(10))))
-    );
-    assert!(rt; !store.advance(Event::Move(0)));
-    assert!(rt; store.answer(Event::Move(7)).is_none());
-    assert!(rt; store.answer(Event::Crash).is_none());
+    an_update_ends(&rt, &mut store);
+    a_read_ends(&rt, &mut store);
+    nothing_is_in_hand(&rt, &mut store);
     Ok(())
 }
