@@ -1,5 +1,6 @@
 //! Commits by hand over plain words and a device in memory, whose bytes are compared with images written by hand. The log is a ring
 //! of two frames of four records each, on a device of eight pages; there is one bucket and one session.
+use crate::stepwise::{memory_is_asked_for_first, the_call_that_is_told_is_made};
 use arrayvec::ArrayVec;
 use fkv_base::{Addr, CommitKind, DRAIN_SLOTS, Fault, LAST_EPOCH, Serial, Shape, Version};
 use fkv_disk::{Device, MemDisk};
@@ -440,16 +441,17 @@ fn second_commit_is_written(
 }
 
 /// The second commit writes over the slot of commit 0, whose gate stands open: ten calls.
-#[test]
-fn full_commits_are_written(rt: HostRuntime) -> Result<(), Fail> {
-    let mut own = new_store(rt.alloc())?;
-    let mut disk = created_disk(rt.alloc())?;
-    phases_pass(&rt, &mut own, &mut disk);
-    first_commit_is_written(&rt, &mut own, &mut disk);
-    holds_first(&rt, rt.alloc(), &disk)?;
-    second_commit_is_written(&rt, &mut own, &mut disk, (CommitKind::Full, 11, 10));
-    holds_second(&rt, rt.alloc(), &disk)?;
-    Ok(())
+fn full_commits_are_written(
+    rt: &impl Abort,
+    alloc: Global,
+    own: &mut SmallStore,
+    disk: &mut MemDisk,
+) -> Result<(), Fault> {
+    phases_pass(rt, own, disk);
+    first_commit_is_written(rt, own, disk);
+    holds_first(rt, alloc, disk)?;
+    second_commit_is_written(rt, own, disk, (CommitKind::Full, 11, 10));
+    holds_second(rt, alloc, disk)
 }
 
 /// A store that was opened behind commit 1, with one lost range.
@@ -467,13 +469,14 @@ fn store_with_loss(alloc: Global) -> Result<SmallStore, Fault> {
 
 /// A log commit writes no triples, so it makes a call less, and its slot names the checkpoint of the commit before and the lost range in
 /// hand.
-#[test]
-fn a_log_commit_keeps_the_checkpoint(rt: HostRuntime) -> Result<(), Fail> {
-    let mut own = store_with_loss(rt.alloc())?;
-    let mut disk = disk_of_first(rt.alloc())?;
-    second_commit_is_written(&rt, &mut own, &mut disk, (CommitKind::Log, 12, 9));
-    holds_log_commit(&rt, rt.alloc(), &disk)?;
-    Ok(())
+fn a_log_commit_keeps_the_checkpoint(
+    rt: &impl Abort,
+    alloc: Global,
+    own: &mut SmallStore,
+    disk: &mut MemDisk,
+) -> Result<(), Fault> {
+    second_commit_is_written(rt, own, disk, (CommitKind::Log, 12, 9));
+    holds_log_commit(rt, alloc, disk)
 }
 
 fn fill_the_drain(plane: &mut PlainWords, word: u64) {
@@ -529,16 +532,12 @@ fn is_refused(
 }
 
 /// Each refusal of a commit, in the order in which they are tested. None changes a word.
-#[test]
-fn a_commit_is_refused(rt: HostRuntime) -> Result<(), Fail> {
-    let mut own = store_that_refuses(rt.alloc())?;
-    let mut disk = MemDisk::new(rt.alloc());
+fn a_commit_is_refused(rt: &impl Abort, own: &mut SmallStore, disk: &mut MemDisk) {
     for row in REFUSALS {
-        is_refused(&rt, &mut own, &mut disk, row);
+        is_refused(rt, own, disk, row);
     }
     own.plane.perform::<()>(&Ask::Store(drain_place(7), 0));
-    begins(&rt, &mut own, &mut disk, CommitKind::Full, 1);
-    Ok(())
+    begins(rt, own, disk, CommitKind::Full, 1);
 }
 
 /// Where no drain slot is free in-progress goes on in a later turn.
@@ -564,13 +563,79 @@ fn is_spent(rt: &impl Abort, own: &mut SmallStore, disk: &mut MemDisk) {
     is_in(rt, own, WAIT_PENDING);
 }
 
+fn a_turn_is_refused_and_made_later(rt: &impl Abort, own: &mut SmallStore, disk: &mut MemDisk) {
+    commit(own, disk, CommitKind::Full);
+    waits_for_a_slot(rt, own, disk);
+    is_spent(rt, own, disk);
+}
+
+/// What is played over a store and its device.
+#[derive(Clone, Copy)]
+enum Scene {
+    FullCommits,
+    LogCommit,
+    RefusedCommits,
+    RefusedTurns,
+    RefusedMemory,
+    ToldCalls,
+}
+
+const SCENES: [Scene; 6] = [
+    Scene::FullCommits,
+    Scene::LogCommit,
+    Scene::RefusedCommits,
+    Scene::RefusedTurns,
+    Scene::RefusedMemory,
+    Scene::ToldCalls,
+];
+
+fn store_of(alloc: Global, scene: Scene) -> Result<SmallStore, Fault> {
+    match scene {
+        Scene::LogCommit => store_with_loss(alloc),
+        Scene::RefusedCommits => store_that_refuses(alloc),
+        _ => new_store(alloc),
+    }
+}
+
+fn disk_of(alloc: Global, scene: Scene) -> Result<MemDisk, Fault> {
+    match scene {
+        Scene::LogCommit => disk_of_first(alloc),
+        Scene::RefusedCommits | Scene::RefusedTurns => Ok(MemDisk::new(alloc)),
+        _ => created_disk(alloc),
+    }
+}
+
+fn plays(
+    rt: &impl Abort,
+    alloc: Global,
+    own: &mut SmallStore,
+    disk: &mut MemDisk,
+    scene: Scene,
+) -> Result<(), Fault> {
+    match scene {
+        Scene::FullCommits => full_commits_are_written(rt, alloc, own, disk)?,
+        Scene::LogCommit => a_log_commit_keeps_the_checkpoint(rt, alloc, own, disk)?,
+        Scene::RefusedCommits => a_commit_is_refused(rt, own, disk),
+        Scene::RefusedTurns => a_turn_is_refused_and_made_later(rt, own, disk),
+        Scene::RefusedMemory => memory_is_asked_for_first(rt, own, disk),
+        Scene::ToldCalls => {
+            the_call_that_is_told_is_made(rt, own, disk, &mut created_disk(alloc)?);
+        }
+    }
+    Ok(())
+}
+
+fn play(rt: &impl Abort, alloc: Global, scene: Scene) -> Result<(), Fault> {
+    let mut own = store_of(alloc, scene)?;
+    let mut disk = disk_of(alloc, scene)?;
+    plays(rt, alloc, &mut own, &mut disk, scene)
+}
+
 #[test]
-fn a_turn_is_refused_and_made_later(rt: HostRuntime) -> Result<(), Fail> {
-    let mut own = new_store(rt.alloc())?;
-    let mut disk = MemDisk::new(rt.alloc());
-    commit(&mut own, &mut disk, CommitKind::Full);
-    waits_for_a_slot(&rt, &mut own, &mut disk);
-    is_spent(&rt, &mut own, &mut disk);
+fn scenes_are_played(rt: HostRuntime) -> Result<(), Fail> {
+    for scene in SCENES {
+        play(&rt, rt.alloc(), scene)?;
+    }
     Ok(())
 }
 

@@ -1,15 +1,14 @@
-//! The keeper step by step, in the small store of `commits`: memory that is asked for before the step that needs it, and calls of the
+//! Scenes of `commits` in which the keeper goes step by step: memory that is asked for before the step that needs it, and calls of the
 //! device that a caller makes himself.
 use crate::commits::{
-    FIRST_ENTRY, FIRST_HEADER, SmallStore, WAIT_PENDING, append, begins, commit, created_disk,
-    is_in, new_store, sees, store_own, turned, turns_to,
+    FIRST_ENTRY, FIRST_HEADER, SmallStore, WAIT_PENDING, append, begins, commit, is_in, sees,
+    store_own, turned, turns_to,
 };
 use fkv_base::{CommitKind, Fault};
 use fkv_disk::{Device, DeviceAsk, MemDisk};
 use fkv_keeper::KeeperTold;
 use fkv_plane::{Ask, SessionWord};
 use std::process::Abort;
-use std::test::Fail;
 
 /// More steps than a turn has here.
 const MANY: usize = 512;
@@ -64,19 +63,15 @@ fn is_refused(rt: &impl Abort, own: &mut SmallStore, disk: &mut MemDisk) {
 
 /// A turn that leads to no copy needs no memory. The one that begins the copy asks for it before the phase is loaded, and is refused
 /// where there is none; the next one asks again.
-#[test]
-fn memory_is_asked_for_first(rt: HostRuntime) -> Result<(), Fail> {
-    let mut own = new_store(rt.alloc())?;
-    let mut disk = created_disk(rt.alloc())?;
+pub(crate) fn memory_is_asked_for_first(rt: &impl Abort, own: &mut SmallStore, disk: &mut MemDisk) {
     append(&mut own.plane, FIRST_HEADER, 10);
-    begins(&rt, &mut own, &mut disk, CommitKind::Full, 1);
-    is_made(&rt, &mut own, &mut disk, 0);
+    begins(rt, own, disk, CommitKind::Full, 1);
+    is_made(rt, own, disk, 0);
     store_own(&mut own.plane, SessionWord::OddCut, FIRST_ENTRY);
-    is_refused(&rt, &mut own, &mut disk);
-    is_made(&rt, &mut own, &mut disk, 1);
-    is_in(&rt, &own, WAIT_PENDING);
-    turns_to(&rt, &mut own, &mut disk, &turned(), 0);
-    Ok(())
+    is_refused(rt, own, disk);
+    is_made(rt, own, disk, 1);
+    is_in(rt, own, WAIT_PENDING);
+    turns_to(rt, own, disk, &turned(), 0);
 }
 
 /// Makes the call of the device that the keeper's next step makes: whether there is one, and it succeeded.
@@ -153,12 +148,12 @@ fn a_read_is_told(rt: &impl Abort, own: &mut SmallStore, disk: &mut MemDisk, sec
 
 /// A device to which each call is made that the keeper tells holds what the keeper's own device does, and what is read of it is put
 /// into the mailbox.
-#[test]
-fn the_call_that_is_told_is_made(rt: HostRuntime) -> Result<(), Fail> {
-    let mut own = new_store(rt.alloc())?;
-    let mut disk = created_disk(rt.alloc())?;
-    let mut second = created_disk(rt.alloc())?;
-    writes_are_told(&rt, &mut own, &mut disk, &mut second);
-    a_read_is_told(&rt, &mut own, &mut disk, &mut second);
-    Ok(())
+pub(crate) fn the_call_that_is_told_is_made(
+    rt: &impl Abort,
+    own: &mut SmallStore,
+    disk: &mut MemDisk,
+    second: &mut MemDisk,
+) {
+    writes_are_told(rt, own, disk, second);
+    a_read_is_told(rt, own, disk, second);
 }
