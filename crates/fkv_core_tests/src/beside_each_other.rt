@@ -2,11 +2,10 @@
 use crate::lines::Line::{Add, Commit, Finish, Get, Poll, Refresh, Turn, Up};
 use crate::lines::Says::{At, Begun, Done, Found, Kept, LateDone, Leaves, Nothing, Sees, Waits};
 use crate::lines::{Line, Says, actor, beginning};
-use crate::stores::{Store, WIDE_FOR_TWO, begin, is_said, new_store, whole};
+use crate::stores::{Store, begin, is_said, whole};
 use fkv_base::Phase::{InProgress, Prepare};
 use fkv_ops::Reason::Contended;
 use std::process::Abort;
-use std::test::Fail;
 
 /// One step of the scene.
 #[derive(Clone, Copy)]
@@ -54,15 +53,9 @@ const STEPS: [Step; 19] = [
     Step::Whole(Finish, Kept(1, 1, 2)),
 ];
 
-fn all_go(rt: &impl Abort, store: &mut Store) {
+/// Two sessions and the keeper meet in the middle of calls.
+pub(crate) fn all_go(rt: &impl Abort, store: &mut Store) {
     for (at, step) in STEPS.iter().enumerate() {
         assert!(rt; goes(store, *step), "at step {at}");
     }
-}
-
-#[test]
-fn two_sessions_and_the_keeper_meet_in_the_middle_of_calls(rt: HostRuntime) -> Result<(), Fail> {
-    let mut store = new_store(rt.alloc(), WIDE_FOR_TWO)?;
-    all_go(&rt, &mut store);
-    Ok(())
 }

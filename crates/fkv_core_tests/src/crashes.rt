@@ -1,12 +1,14 @@
 //! What comes behind a crash, and what a life shows of itself.
+use crate::beside_each_other::all_go;
 use crate::lines::Line::{Commit, Get, Turn, Up};
 use crate::lines::{Line, beginning};
-use crate::stores::{Store, WIDE, begin, new_store, steps};
-use fkv_base::Value;
+use crate::stores::{Sizes, Store, WIDE, WIDE_FOR_TWO, begin, new_store, steps};
+use fkv_base::{Fault, Value};
 use fkv_core::{Actor, Event, Told};
 use fkv_disk::FuseState;
 use fkv_plane::SharedWord;
 use fkv_session::Answer;
+use std::alloc::Global;
 use std::process::Abort;
 use std::test::Fail;
 
@@ -44,20 +46,13 @@ fn ends_in_hand(store: &mut Store) -> bool {
         && shared_words(store) == before
 }
 
-fn all_ends(rt: &impl Abort, store: &mut Store) {
+/// An update has reserved its address when the life ends: it is never answered, and neither another call nor the keeper does anything.
+fn nothing_happens_behind_a_crash(rt: &impl Abort, store: &mut Store) {
     assert!(rt; begin(store, beginning(Up(0, 1, 10)), 4).is_none());
     assert!(rt; ends_in_hand(store));
     for line in [Get(0, 1), Commit, Turn] {
         assert!(rt; is_nothing(store, line));
     }
-}
-
-/// An update has reserved its address when the life ends: it is never answered, and neither another call nor the keeper does anything.
-#[test]
-fn nothing_happens_behind_a_crash(rt: HostRuntime) -> Result<(), Fail> {
-    let mut store = new_store(rt.alloc(), WIDE)?;
-    all_ends(&rt, &mut store);
-    Ok(())
 }
 
 /// The effects that session 0 shows up to the end of its call, each behind one of its asks; none where it doesn't end.
@@ -85,14 +80,6 @@ fn a_fuse_is_shown(rt: &impl Abort, store: &mut Store) {
     assert!(rt; store.fuse() == FuseState::Sound);
     store.arm(3);
     assert!(rt; store.fuse() == FuseState::Armed(3));
-}
-
-#[test]
-fn an_effect_and_a_fuse_are_shown(rt: HostRuntime) -> Result<(), Fail> {
-    let mut store = new_store(rt.alloc(), WIDE)?;
-    an_effect_is_shown(&rt, &mut store);
-    a_fuse_is_shown(&rt, &mut store);
-    Ok(())
 }
 
 /// How many events begin and move session 0's read of this key up to the one in which it ends.
@@ -132,11 +119,48 @@ fn nothing_is_in_hand(rt: &impl Abort, store: &mut Store) {
 }
 
 /// Where a call ends in an event its answer is there, and stays there up to the next call.
+fn an_answer_is_taken_behind_the_end(rt: &impl Abort, store: &mut Store) {
+    an_update_ends(rt, store);
+    a_read_ends(rt, store);
+    nothing_is_in_hand(rt, store);
+}
+
+/// What is played over a new store.
+#[derive(Clone, Copy)]
+enum Scene {
+    Crash,
+    Shown,
+    Answer,
+    Middle,
+}
+
+fn plays(rt: &impl Abort, store: &mut Store, scene: Scene) {
+    match scene {
+        Scene::Crash => nothing_happens_behind_a_crash(rt, store),
+        Scene::Shown => {
+            an_effect_is_shown(rt, store);
+            a_fuse_is_shown(rt, store);
+        }
+        Scene::Answer => an_answer_is_taken_behind_the_end(rt, store),
+        Scene::Middle => all_go(rt, store),
+    }
+}
+
+fn play(rt: &impl Abort, alloc: Global, scene: Scene, sizes: Sizes) -> Result<(), Fault> {
+    let mut store = new_store(alloc, sizes)?;
+    plays(rt, &mut store, scene);
+    Ok(())
+}
+
 #[test]
-fn an_answer_is_taken_behind_the_end(rt: HostRuntime) -> Result<(), Fail> {
-    let mut store = new_store(rt.alloc(), WIDE)?;
-    an_update_ends(&rt, &mut store);
-    a_read_ends(&rt, &mut store);
-    nothing_is_in_hand(&rt, &mut store);
+fn scenes_are_played(rt: HostRuntime) -> Result<(), Fail> {
+    for (scene, sizes) in [
+        (Scene::Crash, WIDE),
+        (Scene::Shown, WIDE),
+        (Scene::Answer, WIDE),
+        (Scene::Middle, WIDE_FOR_TWO),
+    ] {
+        play(&rt, rt.alloc(), scene, sizes)?;
+    }
     Ok(())
 }
