@@ -1,12 +1,15 @@
 //! What comes behind a crash, and what a life shows of itself.
+use crate::beside_each_other::all_go;
 use crate::lines::Line::{Commit, Get, Turn, Up};
 use crate::lines::{Line, beginning};
-use crate::stores::{Store, WIDE, begin, new_store, steps};
-use fkv_base::Value;
+use crate::stores::{Sizes, Store, WIDE, WIDE_FOR_TWO, begin, new_store, steps};
+use fkv_base::{Fault, Value};
 use fkv_core::{Actor, Event, Told};
 use fkv_disk::FuseState;
 use fkv_plane::SharedWord;
 use fkv_session::Answer;
+use std::alloc::Global;
+use std::process::Abort;
 use std::test::Fail;
 
 /// More steps than the calls of these tests have.
@@ -44,15 +47,12 @@ fn ends_in_hand(store: &mut Store) -> bool {
 }
 
 /// An update has reserved its address when the life ends: it is never answered, and neither another call nor the keeper does anything.
-#[test]
-fn nothing_happens_behind_a_crash(rt: HostRuntime) -> Result<(), Fail> {
-    let mut store = new_store(rt.alloc(), WIDE)?;
-    assert!(rt; begin(&mut store, beginning(Up(0, 1, 10)), 4).is_none());
-    assert!(rt; ends_in_hand(&mut store));
+fn nothing_happens_behind_a_crash(rt: &impl Abort, store: &mut Store) {
+    assert!(rt; begin(store, beginning(Up(0, 1, 10)), 4).is_none());
+    assert!(rt; ends_in_hand(store));
     for line in [Get(0, 1), Commit, Turn] {
-        assert!(rt; is_nothing(&mut store, line));
+        assert!(rt; is_nothing(store, line));
     }
-    Ok(())
 }
 
 /// The effects that session 0 shows up to the end of its call, each behind one of its asks; none where it doesn't end.
@@ -68,17 +68,18 @@ fn effects_of_a_call(store: &mut Store) -> Option<u64> {
     None
 }
 
-/// Of the asks of an update one makes its effect, and the world shows it behind that one alone. A fuse shows how far it is from blowing.
-#[test]
-fn an_effect_and_a_fuse_are_shown(rt: HostRuntime) -> Result<(), Fail> {
-    let mut store = new_store(rt.alloc(), WIDE)?;
+/// Of the asks of an update one makes its effect, and the world shows it behind that one alone.
+fn an_effect_is_shown(rt: &impl Abort, store: &mut Store) {
     assert!(rt; store.step(beginning(Up(0, 1, 10))).is_none());
-    assert_eq!(rt; effects_of_a_call(&mut store), Some(1));
+    assert!(rt; effects_of_a_call(store) == Some(1));
     assert!(rt; store.effect(1).is_none());
-    assert_eq!(rt; store.fuse(), FuseState::Sound);
+}
+
+/// A fuse shows how far it is from blowing.
+fn a_fuse_is_shown(rt: &impl Abort, store: &mut Store) {
+    assert!(rt; store.fuse() == FuseState::Sound);
     store.arm(3);
-    assert_eq!(rt; store.fuse(), FuseState::Armed(3));
-    Ok(())
+    assert!(rt; store.fuse() == FuseState::Armed(3));
 }
 
 /// How many events begin and move session 0's read of this key up to the one in which it ends.
@@ -94,24 +95,72 @@ fn events_of_a_read(store: &mut Store, key: u64) -> Option<u64> {
     None
 }
 
-/// Where a call ends in an event its answer is there, and stays there up to the next call.
-#[test]
-fn an_answer_is_taken_behind_the_end(rt: HostRuntime) -> Result<(), Fail> {
-    let mut store = new_store(rt.alloc(), WIDE)?;
+/// There is no answer before the call's end.
+fn an_update_ends(rt: &impl Abort, store: &mut Store) {
     assert!(rt; !store.advance(beginning(Up(0, 1, 10))));
     assert!(rt; store.answer(Event::Move(0)).is_none());
-    assert_eq!(rt; effects_of_a_call(&mut store), Some(1));
-    assert!(rt; events_of_a_read(&mut store, 1).is_some());
-    assert_eq!(rt;
-        store.answer(Event::Move(0)),
-        Some(Told::Session(0, Answer::Found(Value(10))))
-    );
-    assert_eq!(rt;
-        store.answer(Event::Move(0)),
-        Some(Told::Session(0, Answer::Found(Value(10))))
-    );
+    assert!(rt; effects_of_a_call(store) == Some(1));
+}
+
+/// The answer is there, and stays there.
+fn a_read_ends(rt: &impl Abort, store: &mut Store) {
+    assert!(rt; events_of_a_read(store, 1).is_some());
+    let found = Some(Told::Session(0, Answer::Found(Value(10))));
+    for _ in 0..2 {
+        assert!(rt; store.answer(Event::Move(0)) == found);
+    }
+}
+
+/// Nothing moves behind the end, and no other actor has an answer.
+fn nothing_is_in_hand(rt: &impl Abort, store: &mut Store) {
     assert!(rt; !store.advance(Event::Move(0)));
     assert!(rt; store.answer(Event::Move(7)).is_none());
     assert!(rt; store.answer(Event::Crash).is_none());
+}
+
+/// Where a call ends in an event its answer is there, and stays there up to the next call.
+fn an_answer_is_taken_behind_the_end(rt: &impl Abort, store: &mut Store) {
+    an_update_ends(rt, store);
+    a_read_ends(rt, store);
+    nothing_is_in_hand(rt, store);
+}
+
+/// What is played over a new store.
+#[derive(Clone, Copy)]
+enum Scene {
+    Crash,
+    Shown,
+    Answer,
+    Middle,
+}
+
+fn plays(rt: &impl Abort, store: &mut Store, scene: Scene) {
+    match scene {
+        Scene::Crash => nothing_happens_behind_a_crash(rt, store),
+        Scene::Shown => {
+            an_effect_is_shown(rt, store);
+            a_fuse_is_shown(rt, store);
+        }
+        Scene::Answer => an_answer_is_taken_behind_the_end(rt, store),
+        Scene::Middle => all_go(rt, store),
+    }
+}
+
+fn play(rt: &impl Abort, alloc: Global, scene: Scene, sizes: Sizes) -> Result<(), Fault> {
+    let mut store = new_store(alloc, sizes)?;
+    plays(rt, &mut store, scene);
+    Ok(())
+}
+
+#[test]
+fn scenes_are_played(rt: HostRuntime) -> Result<(), Fail> {
+    for (scene, sizes) in [
+        (Scene::Crash, WIDE),
+        (Scene::Shown, WIDE),
+        (Scene::Answer, WIDE),
+        (Scene::Middle, WIDE_FOR_TWO),
+    ] {
+        play(&rt, rt.alloc(), scene, sizes)?;
+    }
     Ok(())
 }

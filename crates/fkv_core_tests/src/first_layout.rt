@@ -8,6 +8,7 @@ use fkv_base::{Fault, Serial, Version};
 use fkv_disk::MemDisk;
 use fkv_opening::recover;
 use std::alloc::Global;
+use std::process::Abort;
 use std::test::Fail;
 
 fn play(store: &mut Store, lines: &[Line]) {
@@ -27,36 +28,54 @@ fn in_first_layout(alloc: Global, store: Store) -> Result<Store, Fault> {
     store_of(alloc, MemDisk::from_bytes(alloc, bytes)?)
 }
 
-/// The number and the point that are recovered where so many calls of the device pass in the second commit.
-fn kept(
-    alloc: Global,
-    kind: Line,
-    passing: u64,
-    torn: u8,
-) -> Result<(Version, Option<Serial>), Fault> {
+/// A store with one commit of the first layout, and an update behind it.
+fn over_first_layout(alloc: Global) -> Result<Store, Fault> {
     let mut store = new_store(alloc, WIDE)?;
     play(&mut store, &[Up(0, 1, 1), Commit, Finish]);
-    let mut store = in_first_layout(alloc, store)?;
+    in_first_layout(alloc, store)
+}
+
+/// The image that is left where so many calls of the device pass in the second commit.
+fn left(alloc: Global, kind: Line, passing: u64, torn: u8) -> Result<MemDisk, Fault> {
+    let mut store = over_first_layout(alloc)?;
     play(&mut store, &[Up(0, 1, 2)]);
     store.arm(passing);
     play(&mut store, &[kind, Finish]);
-    let opened = recover(alloc, &mut crash(store, torn)?)?;
+    crash(store, torn)
+}
+
+/// The number and the point that are recovered of it.
+fn kept(alloc: Global, mut image: MemDisk) -> Result<(Version, Option<Serial>), Fault> {
+    let opened = recover(alloc, &mut image)?;
     Ok((opened.number, opened.points.first().copied()))
+}
+
+/// A second commit of so many calls stops where so many of them pass.
+fn stops(
+    rt: &impl Abort,
+    alloc: Global,
+    kind: Line,
+    calls: u64,
+    passing: u64,
+) -> Result<(), Fault> {
+    for torn in [0, 165, 255] {
+        let is_open = passing == calls || (torn == 165 && passing.saturating_add(2) >= calls);
+        let number = if is_open { 2 } else { 1 };
+        let kept = kept(alloc, left(alloc, kind, passing, torn)?)?;
+        assert!(rt; kept == (Version(number), Some(Serial(number))));
+    }
+    Ok(())
 }
 
 /// The first commit stands until the gate of the second one, of the newest layout, is open: a torn byte may have opened it two calls
 /// before the last one, which syncs it. A full commit makes ten calls, and a log commit nine, since it copies no index.
 #[test]
 fn a_commit_over_the_first_layout_stops_at_each_call(rt: HostRuntime) -> Result<(), Fail> {
-    for (kind, calls) in [(Commit, 10), (LogCommit, 9)] {
-        for passing in 0..calls + 1 {
-            for torn in [0, 165, 255] {
-                let is_open = passing == calls || (torn == 165 && passing + 2 >= calls);
-                let number = if is_open { 2 } else { 1 };
-                let kept = kept(rt.alloc(), kind, passing, torn)?;
-                assert_eq!(rt; kept, (Version(number), Some(Serial(number))));
-            }
-        }
+    for passing in 0..11 {
+        stops(&rt, rt.alloc(), Commit, 10, passing)?;
+    }
+    for passing in 0..10 {
+        stops(&rt, rt.alloc(), LogCommit, 9, passing)?;
     }
     Ok(())
 }

@@ -252,28 +252,45 @@ fn left(alloc: Global, lived: &Lived) -> Result<MemDisk, Fault> {
     crash(store, 0)
 }
 
-fn is_recovered_from_its_slot(rt: &impl Abort, alloc: Global, lived: &Lived) -> Result<(), Fail> {
-    let mut image = left(alloc, lived)?;
-    let slot = slot_in(&image, lived.recovered.number).ok_or("no open slot")?;
-    is_in_slot(rt, &slot, &lived.recovered);
-    let opened = recover(alloc, &mut image)?;
-    is_recovered(rt, &opened, &lived.recovered);
+fn has_its_slot(rt: &impl Abort, image: &MemDisk, what: &Recovered) {
+    match slot_in(image, what.number) {
+        Some(slot) => is_in_slot(rt, &slot, what),
+        None => assert!(rt; false, "no open slot"),
+    }
+}
+
+fn is_opened(
+    rt: &impl Abort,
+    alloc: Global,
+    image: &mut MemDisk,
+    what: &Recovered,
+) -> Result<(), Fault> {
+    let opened = recover(alloc, image)?;
+    is_recovered(rt, &opened, what);
     Ok(())
 }
 
+fn is_recovered_from_its_slot(rt: &impl Abort, alloc: Global, lived: &Lived) -> Result<(), Fault> {
+    let mut image = left(alloc, lived)?;
+    has_its_slot(rt, &image, &lived.recovered);
+    is_opened(rt, alloc, &mut image, &lived.recovered)
+}
+
+const LIVES: [&Lived<'static>; 8] = [
+    &LEFT_OUT,
+    &LOGGED,
+    &BEHIND_POINTS,
+    &SLEPT,
+    &OWED,
+    &SECOND_LIFE,
+    &NAMED,
+    &STAYS_LOST,
+];
+
 #[test]
 fn each_life_leaves_its_commit(rt: HostRuntime) -> Result<(), Fail> {
-    for lived in [
-        LEFT_OUT,
-        LOGGED,
-        BEHIND_POINTS,
-        SLEPT,
-        OWED,
-        SECOND_LIFE,
-        NAMED,
-        STAYS_LOST,
-    ] {
-        is_recovered_from_its_slot(&rt, rt.alloc(), &lived)?;
+    for lived in LIVES {
+        is_recovered_from_its_slot(&rt, rt.alloc(), lived)?;
     }
     Ok(())
 }

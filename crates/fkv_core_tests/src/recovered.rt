@@ -77,17 +77,16 @@ fn are_entries(opened: &Opened, entries: &[(u64, u64)]) -> bool {
 
 /// Just this commit is in its slot.
 pub(crate) fn is_in_slot(rt: &impl Abort, slot: &ManifestSlot, what: &Recovered) {
-    let (checkpoint, first, triples) = what.checkpoint;
-    assert_eq!(rt;
-        (slot.number, slot.first, slot.end),
-        (what.number, Addr(first), Addr(what.tail))
-    );
-    assert_eq!(rt;
-        (slot.triples, slot.area, slot.checkpoint),
-        (triples, checkpoint % 2, checkpoint)
-    );
+    has_checkpoint(rt, slot, what);
+    assert!(rt; (slot.number, slot.end) == (what.number, Addr(what.tail)));
     assert!(rt; are_points(slot.points.serials.as_slice(), what.points));
     assert!(rt; are_ranges(slot.lost.ranges.as_slice(), what.named));
+}
+
+fn has_checkpoint(rt: &impl Abort, slot: &ManifestSlot, what: &Recovered) {
+    let (checkpoint, first, triples) = what.checkpoint;
+    assert!(rt; (slot.first, slot.triples) == (Addr(first), triples));
+    assert!(rt; (slot.area, slot.checkpoint) == (checkpoint % 2, checkpoint));
 }
 
 /// Just this is recovered.
@@ -99,12 +98,13 @@ pub(crate) fn is_recovered(rt: &impl Abort, opened: &Opened, what: &Recovered) {
         triples,
         area: number % 2,
     };
-    assert_eq!(rt;
-        (opened.number, opened.tail),
-        (Version(what.number), Addr(what.tail))
-    );
+    assert!(rt; opened.checkpoint == checkpoint);
+    has_content(rt, opened, what);
+}
+
+fn has_content(rt: &impl Abort, opened: &Opened, what: &Recovered) {
+    assert!(rt; (opened.number, opened.tail) == (Version(what.number), Addr(what.tail)));
     assert!(rt; are_points(opened.points.as_slice(), what.points));
-    assert_eq!(rt; opened.checkpoint, checkpoint);
     assert!(rt; are_ranges(opened.lost.as_slice(), what.lost));
     assert!(rt; are_entries(opened, what.entries));
 }

@@ -170,8 +170,8 @@ fn stop_at_each(rt: &impl Abort, alloc: Global, stopped: &Stopped) -> Result<u64
 
 #[test]
 fn a_call_goes_on_behind_a_commit(rt: HostRuntime) -> Result<(), Fail> {
-    for stopped in [APPEND, WAKING, OWN_TURN] {
-        let asks = stop_at_each(&rt, rt.alloc(), &stopped)?;
+    for stopped in [&APPEND, &WAKING, &OWN_TURN] {
+        let asks = stop_at_each(&rt, rt.alloc(), stopped)?;
         assert!(rt; 0 < asks && asks < ENOUGH);
     }
     Ok(())

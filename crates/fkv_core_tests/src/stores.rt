@@ -7,7 +7,6 @@ use fkv_disk::{Fuse, MemDisk};
 use fkv_opening::recover;
 use fkv_plane::SharedWord;
 use std::alloc::Global;
-use std::process::Abort;
 
 /// Bucket bits, page, frames, mutable pages, sessions, overflow buckets, and pages on the device.
 pub(crate) type Sizes = [u64; 7];
@@ -102,20 +101,4 @@ fn finish(store: &mut Store) -> Option<Told> {
 /// Whether this came of the line, and the store is in the phase that it says.
 pub(crate) fn is_said(store: &Store, line: Line, says: Says, came: Option<Told>) -> bool {
     came == told(beginning(line), says) && is_phase(says, store.word(SharedWord::Phase.place()))
-}
-
-/// The first line that isn't answered as it says, if any.
-fn first_wrong(store: &mut Store, script: &[(Line, Says)]) -> Option<usize> {
-    for (at, (line, says)) in script.iter().enumerate() {
-        let came = whole(store, *line);
-        if !is_said(store, *line, *says, came) {
-            return Some(at);
-        }
-    }
-    None
-}
-
-/// Plays lines over a store, each of which has to be answered as it says.
-pub(crate) fn play(rt: &impl Abort, store: &mut Store, script: &[(Line, Says)]) {
-    assert_eq!(rt; first_wrong(store, script), None);
 }

@@ -5,6 +5,7 @@ use fkv_disk::{Device, MemDisk};
 use fkv_newest::{Newest, read_newest};
 use fkv_opening::{Opened, recover};
 use std::alloc::Global;
+use std::process::Abort;
 use std::test::Fail;
 
 fn shape() -> Result<Shape, Fault> {
@@ -40,15 +41,25 @@ fn created<D: Device>(d: &mut D) -> Result<(Newest, Newest), Fault> {
     Ok((told, read_newest(d)?))
 }
 
+// What is read is what was told, and no other slot is open.
+fn is_read(rt: &impl Abort, (told, newest): (Newest, Newest)) {
+    assert!(rt; newest.slot == told.slot);
+    assert!(rt; newest.index == 0);
+    assert!(rt; newest.open_numbers == (Some(0), None));
+}
+
+// Over so many bytes, which are so many behind it.
+fn is_laid(rt: &impl Abort, alloc: Global, len: usize, end: usize) -> Result<(), Fault> {
+    let mut disk = used(alloc, len)?;
+    is_read(rt, created(&mut disk)?);
+    assert!(rt; disk.bytes() == image(alloc, end)?.as_slice());
+    Ok(())
+}
+
 #[test]
 fn a_new_store_is_laid_and_read(rt: HostRuntime) -> Result<(), Fail> {
     for (len, end) in [(0, 1536), (700, 1536), (1600, 1600)] {
-        let mut disk = used(rt.alloc(), len)?;
-        let (told, newest) = created(&mut disk)?;
-        assert!(rt; disk.bytes() == image(rt.alloc(), end)?.as_slice());
-        assert!(rt; newest.slot == told.slot);
-        assert!(rt; newest.index == 0);
-        assert!(rt; newest.open_numbers == (Some(0), None));
+        is_laid(&rt, rt.alloc(), len, end)?;
     }
     Ok(())
 }
@@ -62,6 +73,30 @@ fn recovered(alloc: Global, disk: &mut MemDisk) -> Result<Opened, Fault> {
     }
 }
 
+// It is made at once, or once more where memory was refused.
+fn is_made(rt: &impl Abort, alloc: Global, disk: &mut MemDisk) -> Result<(), Fault> {
+    match create_opened(alloc, disk, shape()?) {
+        Ok(store) => {
+            assert!(rt; (store.number, store.tail) == (Version(0), Addr(1)));
+            assert!(rt; store.gates == (true, false));
+            Ok(())
+        }
+        Err(Fault::Memory) => Ok(()),
+        Err(Fault::Device) if disk.failures() == 1 => {
+            create(disk, shape()?)?;
+            Ok(())
+        }
+        Err(fault) => Err(fault),
+    }
+}
+
+fn is_recovered(rt: &impl Abort, alloc: Global, disk: &mut MemDisk) -> Result<(), Fault> {
+    let store = recovered(alloc, disk)?;
+    assert!(rt; (store.number, store.tail) == (Version(0), Addr(1)));
+    assert!(rt; (store.points.len(), store.entries.len()) == (1, 0));
+    Ok(())
+}
+
 // What is created is open at once, and recovered the same. A tool outside lets each request for memory fail in turn and runs
 // this test.
 #[test]
@@ -70,20 +105,8 @@ fn a_store_is_made_where_memory_is_refused(rt: HostRuntime) -> Result<(), Fail> 
     let (Ok(mut disk), Ok(made)) = (used(alloc, 1600), image(alloc, 1600)) else {
         return Ok(());
     };
-    match create_opened(alloc, &mut disk, shape()?) {
-        Ok(store) => {
-            assert!(rt; (store.number, store.tail) == (Version(0), Addr(1)));
-            assert!(rt; store.gates == (true, false));
-        }
-        Err(Fault::Memory) => {}
-        Err(Fault::Device) if disk.failures() == 1 => {
-            create(&mut disk, shape()?)?;
-        }
-        Err(fault) => return Err(fault.into()),
-    }
+    is_made(&rt, alloc, &mut disk)?;
     assert!(rt; disk.bytes() == made.as_slice());
-    let store = recovered(alloc, &mut disk)?;
-    assert!(rt; (store.number, store.tail) == (Version(0), Addr(1)));
-    assert!(rt; (store.points.len(), store.entries.len()) == (1, 0));
+    is_recovered(&rt, alloc, &mut disk)?;
     Ok(())
 }

@@ -3,6 +3,7 @@ use fkv_base::Fault;
 use fkv_disk::{Device, MemDisk};
 use fkv_manifest::{CommitWrites, GateWrites, NextCall, WriteAnswer, put_slot};
 use std::alloc::Global;
+use std::process::Abort;
 use std::test::Fail;
 
 // The bytes of a slot of this commit: nothing of it counts here but the gate, the number and that the rest is as written.
@@ -44,18 +45,33 @@ fn make_all<D: Device>(d: &mut D, commit: &mut CommitWrites) -> u64 {
     12
 }
 
+// The calls of a commit of so many bytes of triples, over a gate of this byte.
+fn is_written(rt: &impl Abort, disk: &mut MemDisk, gate: u8, triples: Vec<u8>, calls: u64) {
+    let writes = GateWrites::new(1024, 1, slot(3), gate == 165);
+    let mut commit = CommitWrites::new(1552, triples, writes);
+    assert!(rt; make_all(disk, &mut commit) == calls);
+    assert!(rt; commit.answer() == WriteAnswer::Written);
+}
+
+fn makes_its_calls(
+    rt: &impl Abort,
+    alloc: Global,
+    gate: u8,
+    count: usize,
+    calls: u64,
+) -> Result<(), Fault> {
+    let mut disk = device(alloc, gate)?;
+    is_written(rt, &mut disk, gate, vec![in alloc; 5u8; count]?, calls);
+    let triples = if count == 0 { 9 } else { 5 };
+    assert!(rt; disk.bytes() == image(alloc, 165, 3, triples)?.as_slice());
+    Ok(())
+}
+
 // Over a closed gate and over an open one, and of a commit that reuses a checkpoint.
 #[test]
 fn a_commit_makes_its_calls(rt: HostRuntime) -> Result<(), Fail> {
     for (gate, count, calls) in [(7, 16, 6), (165, 16, 8), (165, 0, 7)] {
-        let mut disk = device(rt.alloc(), gate)?;
-        let triples = vec![in rt.alloc(); 5u8; count]?;
-        let writes = GateWrites::new(1024, 1, slot(3), gate == 165);
-        let mut commit = CommitWrites::new(1552, triples, writes);
-        assert!(rt; make_all(&mut disk, &mut commit) == calls);
-        assert!(rt; commit.answer() == WriteAnswer::Written);
-        let triples = if count == 0 { 9 } else { 5 };
-        assert!(rt; disk.bytes() == image(rt.alloc(), 165, 3, triples)?.as_slice());
+        makes_its_calls(&rt, rt.alloc(), gate, count, calls)?;
     }
     Ok(())
 }
@@ -73,21 +89,34 @@ fn walk<D: Device>(d: &mut D, gate: &mut GateWrites) -> Result<(), Fault> {
     Ok(())
 }
 
-#[test]
-fn a_slot_is_put_in_one_go_or_call_by_call(rt: HostRuntime) -> Result<(), Fail> {
-    let wanted = image(rt.alloc(), 165, 3, 9)?;
-    let mut disk = device(rt.alloc(), 165)?;
+fn is_put(rt: &impl Abort, alloc: Global) -> Result<(), Fault> {
+    let mut disk = device(alloc, 165)?;
     put_slot(&mut disk, 1024, 1, slot(3), true)?;
-    assert!(rt; disk.bytes() == wanted.as_slice());
-    let mut disk = device(rt.alloc(), 165)?;
+    assert!(rt; disk.bytes() == image(alloc, 165, 3, 9)?.as_slice());
+    Ok(())
+}
+
+fn is_walked(rt: &impl Abort, alloc: Global) -> Result<(), Fault> {
+    let mut disk = device(alloc, 165)?;
     let mut gate = GateWrites::new(1024, 1, slot(3), true);
     walk(&mut disk, &mut gate)?;
     assert!(rt; gate.answer() == WriteAnswer::Written);
-    assert!(rt; disk.bytes() == wanted.as_slice());
-    // Behind a call that failed none comes.
+    assert!(rt; disk.bytes() == image(alloc, 165, 3, 9)?.as_slice());
+    Ok(())
+}
+
+// Behind a call that failed none comes.
+fn is_broken(rt: &impl Abort) {
     let mut broken = GateWrites::new(1024, 1, slot(3), false);
     broken.went(false);
     assert!(rt; broken.answer() == WriteAnswer::Broken(Fault::Device));
     assert!(rt; broken.next_call().is_none());
+}
+
+#[test]
+fn a_slot_is_put_in_one_go_or_call_by_call(rt: HostRuntime) -> Result<(), Fail> {
+    is_put(&rt, rt.alloc())?;
+    is_walked(&rt, rt.alloc())?;
+    is_broken(&rt);
     Ok(())
 }

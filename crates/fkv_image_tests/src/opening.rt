@@ -23,6 +23,10 @@ fn assert_opened(rt: &impl Abort, opened: &Opened) {
     assert!(rt; opened.points.as_slice() == [Serial(3)].as_slice());
     assert!(rt; opened.gates == (true, true));
     assert!(rt; entry_of(opened) == Some((1, 0, Addr(5))));
+}
+
+// Its checkpoint, and the range that was lost behind it.
+fn assert_checkpoint(rt: &impl Abort, opened: &Opened) {
     let checkpoint = Checkpoint {
         number: Version(1),
         first: Addr(3),
@@ -56,13 +60,18 @@ fn recovered<D: Device>(alloc: Global, d: &mut D) -> Result<(Opened, Vec<(Key, V
     Ok((opened, pairs))
 }
 
+fn assert_pairs(rt: &impl Abort, pairs: &[(Key, Value)]) {
+    let wanted = [(Key(FIRST_KEY), Value(13)), (Key(SECOND_KEY), Value(20))];
+    assert!(rt; pairs == wanted.as_slice());
+}
+
 #[test]
 fn a_log_commit_is_opened(rt: HostRuntime) -> Result<(), Fail> {
     let mut disk = second_commit(rt.alloc())?;
     let (opened, pairs) = recovered(rt.alloc(), &mut disk)?;
     assert_opened(&rt, &opened);
+    assert_checkpoint(&rt, &opened);
     assert_words(&rt, &opened);
-    let wanted = [(Key(FIRST_KEY), Value(13)), (Key(SECOND_KEY), Value(20))];
-    assert!(rt; pairs.as_slice() == wanted.as_slice());
+    assert_pairs(&rt, &pairs);
     Ok(())
 }

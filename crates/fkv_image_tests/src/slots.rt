@@ -6,6 +6,7 @@ use fkv_record::{
     Format, LostRange, LostRanges, ManifestSlot, Points, Slot, open_number, read_manifest_slot,
     read_slot, write_manifest_slot, write_newest_slot, write_slot,
 };
+use std::process::Abort;
 
 /// The slot of the first commit of a store with one session that has made one update.
 fn sample_slot() -> Slot {
@@ -52,19 +53,27 @@ const NO_SLOT: [(usize, u64); 7] = [
     (504, 1 << 63),
 ];
 
-#[test]
-fn what_is_no_slot_is_refused(rt: HostRuntime) {
-    for change in NO_SLOT {
-        let mut numbers = [change; 9];
-        numbers[..8].copy_from_slice(&SLOT);
-        assert!(rt; read_slot(&bytes_with(&rt, &numbers)).is_none());
-    }
-    // The last of 32 points is 7.
+fn is_refused(rt: &impl Abort, change: (usize, u64)) {
+    let mut numbers = [change; 9];
+    numbers[..8].copy_from_slice(&SLOT);
+    assert!(rt; read_slot(&bytes_with(rt, &numbers)).is_none());
+}
+
+// The last of 32 points is 7.
+fn most_points_are_read(rt: &impl Abort) {
     let mut most = [(48, MAX_SESSIONS); 10];
     most[..8].copy_from_slice(&SLOT);
     most[9] = (304, 7);
-    let read = read_slot(&bytes_with(&rt, &most));
+    let read = read_slot(&bytes_with(rt, &most));
     assert!(rt; read.map(|slot| slot.points.serials.len()) == Some(32));
+}
+
+#[test]
+fn what_is_no_slot_is_refused(rt: HostRuntime) {
+    for change in NO_SLOT {
+        is_refused(&rt, change);
+    }
+    most_points_are_read(&rt);
 }
 
 /// The slot of a second commit that uses the first one's checkpoint, with a range of records that were lost between them.
@@ -105,24 +114,32 @@ const SECOND: [(usize, u64); 5] = [(120, 1), (128, 1), (136, 5), (144, 2), (504,
 
 const THIRD: [(usize, u64); 5] = [(312, 1), (320, 1), (328, 5), (336, 2), (504, 3)];
 
-#[test]
-fn later_formats_have_their_bytes(rt: HostRuntime) {
+// The slot is written so in this format, and read back.
+fn has_its_bytes(rt: &impl Abort, more: &[(usize, u64); 5], format: Format) {
+    let mut numbers = [(0, 0); 13];
+    numbers[..8].copy_from_slice(&FRONT);
+    numbers[8..].copy_from_slice(more);
+    let bytes = bytes_with(rt, &numbers);
+    assert!(rt; write_manifest_slot(&sample_manifest(), format) == Some(bytes));
+    let read = read_manifest_slot(&bytes);
+    assert!(rt;
+        read.map(|(found, read)| (found, read == sample_manifest())) == Some((format, true))
+    );
+}
+
+// The first format has no place for another commit's checkpoint, nor for a range.
+fn has_no_first_format(rt: &impl Abort) {
     let slot = sample_manifest();
-    for (more, format) in [(SECOND, Format::Second), (THIRD, Format::Third)] {
-        let mut numbers = [(0, 0); 13];
-        numbers[..8].copy_from_slice(&FRONT);
-        numbers[8..].copy_from_slice(&more);
-        let bytes = bytes_with(&rt, &numbers);
-        assert!(rt; write_manifest_slot(&slot, format) == Some(bytes));
-        let read = read_manifest_slot(&bytes);
-        assert!(rt;
-            read.map(|(found, read)| (found, read == sample_manifest())) == Some((format, true))
-        );
-    }
-    // The first format has no place for another commit's checkpoint, nor for a range.
     assert!(rt; write_manifest_slot(&slot, Format::First).is_none());
     let newest = write_newest_slot(&slot);
     assert!(rt; write_manifest_slot(&slot, Format::Third) == Some(newest));
+}
+
+#[test]
+fn later_formats_have_their_bytes(rt: HostRuntime) {
+    has_its_bytes(&rt, &SECOND, Format::Second);
+    has_its_bytes(&rt, &THIRD, Format::Third);
+    has_no_first_format(&rt);
 }
 
 #[test]

@@ -1,5 +1,6 @@
 //! Commits by hand over plain words and a device in memory, whose bytes are compared with images written by hand. The log is a ring
 //! of two frames of four records each, on a device of eight pages; there is one bucket and one session.
+use crate::stepwise::{memory_is_asked_for_first, the_call_that_is_told_is_made};
 use arrayvec::ArrayVec;
 use fkv_base::{Addr, CommitKind, DRAIN_SLOTS, Fault, LAST_EPOCH, Serial, Shape, Version};
 use fkv_disk::{Device, MemDisk};
@@ -331,33 +332,96 @@ pub(crate) fn durable(own: &SmallStore) -> u64 {
     own.plane.word(SessionWord::Durable.place(0))
 }
 
-/// The first commit takes a turn for each phase.
-fn phases_pass(rt: &impl Abort, own: &mut SmallStore, disk: &mut MemDisk) {
-    append(&mut own.plane, FIRST_HEADER, 10);
-    assert!(rt; !own.keeper.busy());
-    assert_eq!(rt; own.keeper.finished(), None);
-    assert_eq!(rt; commit(own, disk, CommitKind::Full), begun(1));
-    assert_eq!(rt; phase(own), PREPARE);
-    for stands in [IN_PROGRESS, WAIT_PENDING, WAIT_FLUSH] {
-        store_own(&mut own.plane, SessionWord::OddCut, FIRST_ENTRY);
-        assert_eq!(rt; turn(own, disk), (turned(), 0));
-        assert_eq!(rt; phase(own), stands);
-    }
-    assert_eq!(rt; durable(own), 0);
-}
-
-/// Its last turn makes eight calls: two of the flush and six of the commit.
-fn first_commit_is_written(
+/// The turn ends so, with so many calls of the device.
+pub(crate) fn turns_to(
     rt: &impl Abort,
     own: &mut SmallStore,
     disk: &mut MemDisk,
-    wanted: &[u8],
+    wanted: &KeeperAsk,
+    calls: u8,
 ) {
-    assert_eq!(rt; turn(own, disk), (turned_finished(1, 1), 8));
-    assert_eq!(rt; phase(own), 2);
-    assert_eq!(rt; durable(own), 1);
-    assert_eq!(rt; own.keeper.finished(), finished(1, 1));
-    assert!(rt; disk.bytes() == wanted);
+    let (ended, made) = turn(own, disk);
+    assert!(rt; ended == *wanted);
+    assert_eq!(rt; made, calls);
+}
+
+/// The commit of this number begins.
+pub(crate) fn begins(
+    rt: &impl Abort,
+    own: &mut SmallStore,
+    disk: &mut MemDisk,
+    kind: CommitKind,
+    number: u64,
+) {
+    assert!(rt; commit(own, disk, kind) == begun(number));
+}
+
+pub(crate) fn is_in(rt: &impl Abort, own: &SmallStore, wanted: u64) {
+    assert_eq!(rt; phase(own), wanted);
+}
+
+fn is_durable(rt: &impl Abort, own: &SmallStore, wanted: u64) {
+    assert_eq!(rt; durable(own), wanted);
+}
+
+/// No commit runs, and none was finished.
+fn is_new(rt: &impl Abort, own: &SmallStore) {
+    assert!(rt; !own.keeper.busy());
+    assert!(rt; own.keeper.finished().is_none());
+}
+
+/// The device holds just these bytes.
+fn holds(
+    rt: &impl Abort,
+    alloc: Global,
+    disk: &MemDisk,
+    length: usize,
+    lists: &[&[(usize, u8)]],
+) -> Result<(), Fault> {
+    let wanted = image(alloc, length, lists)?;
+    assert!(rt; disk.bytes() == wanted.as_slice());
+    Ok(())
+}
+
+fn holds_first(rt: &impl Abort, alloc: Global, disk: &MemDisk) -> Result<(), Fault> {
+    holds(rt, alloc, disk, 1808, &[&CREATED, &FIRST_COMMIT])
+}
+
+fn holds_second(rt: &impl Abort, alloc: Global, disk: &MemDisk) -> Result<(), Fault> {
+    let lists: [&[(usize, u8)]; 3] = [&CREATED, &FIRST_COMMIT, &SECOND_COMMIT];
+    holds(rt, alloc, disk, 1832, &lists)
+}
+
+fn holds_log_commit(rt: &impl Abort, alloc: Global, disk: &MemDisk) -> Result<(), Fault> {
+    let lists: [&[(usize, u8)]; 3] = [&CREATED, &FIRST_COMMIT, &LOG_COMMIT];
+    holds(rt, alloc, disk, 1904, &lists)
+}
+
+/// The device behind the first commit, with room for the records up to address 4.
+fn disk_of_first(alloc: Global) -> Result<MemDisk, Fault> {
+    MemDisk::from_bytes(alloc, image(alloc, 1880, &[&CREATED, &FIRST_COMMIT])?)
+}
+
+/// The first commit takes a turn for each phase.
+fn phases_pass(rt: &impl Abort, own: &mut SmallStore, disk: &mut MemDisk) {
+    append(&mut own.plane, FIRST_HEADER, 10);
+    is_new(rt, own);
+    begins(rt, own, disk, CommitKind::Full, 1);
+    is_in(rt, own, PREPARE);
+    for stands in [IN_PROGRESS, WAIT_PENDING, WAIT_FLUSH] {
+        store_own(&mut own.plane, SessionWord::OddCut, FIRST_ENTRY);
+        turns_to(rt, own, disk, &turned(), 0);
+        is_in(rt, own, stands);
+    }
+    is_durable(rt, own, 0);
+}
+
+/// Its last turn makes eight calls: two of the flush and six of the commit.
+fn first_commit_is_written(rt: &impl Abort, own: &mut SmallStore, disk: &mut MemDisk) {
+    turns_to(rt, own, disk, &turned_finished(1, 1), 8);
+    is_in(rt, own, 2);
+    is_durable(rt, own, 1);
+    assert!(rt; own.keeper.finished() == finished(1, 1));
 }
 
 /// Commit 2 of one more record, whose last turn makes so many calls.
@@ -366,31 +430,28 @@ fn second_commit_is_written(
     own: &mut SmallStore,
     disk: &mut MemDisk,
     how: (CommitKind, u64, u8),
-    wanted: &[u8],
 ) {
     let (kind, value, calls) = how;
     append(&mut own.plane, SECOND_HEADER, value);
-    assert_eq!(rt; commit(own, disk, kind), begun(2));
+    begins(rt, own, disk, kind, 2);
     store_own(&mut own.plane, SessionWord::EvenCut, SECOND_CUT);
-    let ended = to_the_finish(own, disk);
-    assert_eq!(rt; ended, (turned_finished(2, 2), calls));
-    assert_eq!(rt; phase(own), 3);
-    assert_eq!(rt; durable(own), 2);
-    assert!(rt; disk.bytes() == wanted);
+    assert!(rt; to_the_finish(own, disk) == (turned_finished(2, 2), calls));
+    is_in(rt, own, 3);
+    is_durable(rt, own, 2);
 }
 
 /// The second commit writes over the slot of commit 0, whose gate stands open: ten calls.
-#[test]
-fn full_commits_are_written(rt: HostRuntime) -> Result<(), Fail> {
-    let mut own = new_store(rt.alloc())?;
-    let mut disk = created_disk(rt.alloc())?;
-    phases_pass(&rt, &mut own, &mut disk);
-    let wanted = image(rt.alloc(), 1808, &[&CREATED, &FIRST_COMMIT])?;
-    first_commit_is_written(&rt, &mut own, &mut disk, wanted.as_slice());
-    let wanted = image(rt.alloc(), 1832, &[&CREATED, &FIRST_COMMIT, &SECOND_COMMIT])?;
-    let how = (CommitKind::Full, 11, 10);
-    second_commit_is_written(&rt, &mut own, &mut disk, how, wanted.as_slice());
-    Ok(())
+fn full_commits_are_written(
+    rt: &impl Abort,
+    alloc: Global,
+    own: &mut SmallStore,
+    disk: &mut MemDisk,
+) -> Result<(), Fault> {
+    phases_pass(rt, own, disk);
+    first_commit_is_written(rt, own, disk);
+    holds_first(rt, alloc, disk)?;
+    second_commit_is_written(rt, own, disk, (CommitKind::Full, 11, 10));
+    holds_second(rt, alloc, disk)
 }
 
 /// A store that was opened behind commit 1, with one lost range.
@@ -408,15 +469,14 @@ fn store_with_loss(alloc: Global) -> Result<SmallStore, Fault> {
 
 /// A log commit writes no triples, so it makes a call less, and its slot names the checkpoint of the commit before and the lost range in
 /// hand.
-#[test]
-fn a_log_commit_keeps_the_checkpoint(rt: HostRuntime) -> Result<(), Fail> {
-    let mut own = store_with_loss(rt.alloc())?;
-    let before = image(rt.alloc(), 1880, &[&CREATED, &FIRST_COMMIT])?;
-    let mut disk = MemDisk::from_bytes(rt.alloc(), before)?;
-    let wanted = image(rt.alloc(), 1904, &[&CREATED, &FIRST_COMMIT, &LOG_COMMIT])?;
-    let how = (CommitKind::Log, 12, 9);
-    second_commit_is_written(&rt, &mut own, &mut disk, how, wanted.as_slice());
-    Ok(())
+fn a_log_commit_keeps_the_checkpoint(
+    rt: &impl Abort,
+    alloc: Global,
+    own: &mut SmallStore,
+    disk: &mut MemDisk,
+) -> Result<(), Fault> {
+    second_commit_is_written(rt, own, disk, (CommitKind::Log, 12, 9));
+    holds_log_commit(rt, alloc, disk)
 }
 
 fn fill_the_drain(plane: &mut PlainWords, word: u64) {
@@ -458,46 +518,124 @@ fn store_that_refuses(alloc: Global) -> Result<SmallStore, Fault> {
     Ok(SmallStore { plane, keeper })
 }
 
-/// Each refusal of a commit, in the order in which they are tested. None changes a word.
-#[test]
-fn a_commit_is_refused(rt: HostRuntime) -> Result<(), Fail> {
-    let mut own = store_that_refuses(rt.alloc())?;
-    let mut disk = MemDisk::new(rt.alloc());
-    for (word, number, kind, why) in REFUSALS {
-        store(&mut own.plane, word, number);
-        let refused = commit(&mut own, &mut disk, kind);
-        assert_eq!(rt; refused, KeeperAsk::Begun(Err(why)));
-        assert_eq!(rt; own.plane.word(word.place()), number);
-    }
-    own.plane.perform::<()>(&Ask::Store(drain_place(7), 0));
-    assert_eq!(rt; commit(&mut own, &mut disk, CommitKind::Full), begun(1));
-    Ok(())
+/// The commit of this kind is refused where this word stands, which stays.
+fn is_refused(
+    rt: &impl Abort,
+    own: &mut SmallStore,
+    disk: &mut MemDisk,
+    row: (SharedWord, u64, CommitKind, Fault),
+) {
+    let (word, number, kind, why) = row;
+    store(&mut own.plane, word, number);
+    assert!(rt; commit(own, disk, kind) == KeeperAsk::Begun(Err(why)));
+    assert_eq!(rt; own.plane.word(word.place()), number);
 }
 
-/// Where no drain slot is free in-progress goes on in a later turn, and where the epoch is at its last the turn ends as spent.
-#[test]
-fn a_turn_is_refused_and_made_later(rt: HostRuntime) -> Result<(), Fail> {
-    let mut own = new_store(rt.alloc())?;
-    let mut disk = MemDisk::new(rt.alloc());
-    commit(&mut own, &mut disk, CommitKind::Full);
+/// Each refusal of a commit, in the order in which they are tested. None changes a word.
+fn a_commit_is_refused(rt: &impl Abort, own: &mut SmallStore, disk: &mut MemDisk) {
+    for row in REFUSALS {
+        is_refused(rt, own, disk, row);
+    }
+    own.plane.perform::<()>(&Ask::Store(drain_place(7), 0));
+    begins(rt, own, disk, CommitKind::Full, 1);
+}
+
+/// Where no drain slot is free in-progress goes on in a later turn.
+fn waits_for_a_slot(rt: &impl Abort, own: &mut SmallStore, disk: &mut MemDisk) {
     store(&mut own.plane, SharedWord::Phase, IN_PROGRESS);
     fill_the_drain(&mut own.plane, 1);
     let full = KeeperAsk::Turned(Ok(Turn {
         finished: None,
         drain_full: true,
     }));
-    assert_eq!(rt; turn(&mut own, &mut disk).0, full);
+    assert!(rt; turn(own, disk).0 == full);
     fill_the_drain(&mut own.plane, 0);
+}
+
+/// Where the epoch is at its last the turn ends as spent, and a later one goes on.
+fn is_spent(rt: &impl Abort, own: &mut SmallStore, disk: &mut MemDisk) {
     store(&mut own.plane, SharedWord::Epoch, LAST_EPOCH);
-    assert_eq!(rt;
-        turn(&mut own, &mut disk).0,
-        turn_refused(Fault::EpochsSpent)
-    );
+    assert!(rt; turn(own, disk).0 == turn_refused(Fault::EpochsSpent));
     store(&mut own.plane, SharedWord::Epoch, 2);
     for _ in 0..2 {
-        assert_eq!(rt; turn(&mut own, &mut disk).0, turned());
+        assert!(rt; turn(own, disk).0 == turned());
     }
-    assert_eq!(rt; phase(&own), WAIT_PENDING);
+    is_in(rt, own, WAIT_PENDING);
+}
+
+fn a_turn_is_refused_and_made_later(rt: &impl Abort, own: &mut SmallStore, disk: &mut MemDisk) {
+    commit(own, disk, CommitKind::Full);
+    waits_for_a_slot(rt, own, disk);
+    is_spent(rt, own, disk);
+}
+
+/// What is played over a store and its device.
+#[derive(Clone, Copy)]
+enum Scene {
+    FullCommits,
+    LogCommit,
+    RefusedCommits,
+    RefusedTurns,
+    RefusedMemory,
+    ToldCalls,
+}
+
+const SCENES: [Scene; 6] = [
+    Scene::FullCommits,
+    Scene::LogCommit,
+    Scene::RefusedCommits,
+    Scene::RefusedTurns,
+    Scene::RefusedMemory,
+    Scene::ToldCalls,
+];
+
+fn store_of(alloc: Global, scene: Scene) -> Result<SmallStore, Fault> {
+    match scene {
+        Scene::LogCommit => store_with_loss(alloc),
+        Scene::RefusedCommits => store_that_refuses(alloc),
+        _ => new_store(alloc),
+    }
+}
+
+fn disk_of(alloc: Global, scene: Scene) -> Result<MemDisk, Fault> {
+    match scene {
+        Scene::LogCommit => disk_of_first(alloc),
+        Scene::RefusedCommits | Scene::RefusedTurns => Ok(MemDisk::new(alloc)),
+        _ => created_disk(alloc),
+    }
+}
+
+fn plays(
+    rt: &impl Abort,
+    alloc: Global,
+    own: &mut SmallStore,
+    disk: &mut MemDisk,
+    scene: Scene,
+) -> Result<(), Fault> {
+    match scene {
+        Scene::FullCommits => full_commits_are_written(rt, alloc, own, disk)?,
+        Scene::LogCommit => a_log_commit_keeps_the_checkpoint(rt, alloc, own, disk)?,
+        Scene::RefusedCommits => a_commit_is_refused(rt, own, disk),
+        Scene::RefusedTurns => a_turn_is_refused_and_made_later(rt, own, disk),
+        Scene::RefusedMemory => memory_is_asked_for_first(rt, own, disk),
+        Scene::ToldCalls => {
+            the_call_that_is_told_is_made(rt, own, disk, &mut created_disk(alloc)?);
+        }
+    }
+    Ok(())
+}
+
+fn play(rt: &impl Abort, alloc: Global, scene: Scene) -> Result<(), Fault> {
+    let mut own = store_of(alloc, scene)?;
+    let mut disk = disk_of(alloc, scene)?;
+    plays(rt, alloc, &mut own, &mut disk, scene)
+}
+
+#[test]
+fn scenes_are_played(rt: HostRuntime) -> Result<(), Fail> {
+    for scene in SCENES {
+        play(&rt, rt.alloc(), scene)?;
+    }
     Ok(())
 }
 
@@ -508,11 +646,19 @@ fn is_copied(rt: &impl Abort, own: &mut SmallStore, disk: &mut MemDisk) {
     turn(own, disk);
     store_own(&mut own.plane, SessionWord::OddCut, FIRST_ENTRY);
     let (copied, _) = turn(own, disk);
-    assert_eq!(rt; phase(own), WAIT_PENDING);
+    is_in(rt, own, WAIT_PENDING);
     if copied == turn_refused(Fault::Memory) {
-        assert_eq!(rt; turn(own, disk), (turned(), 0));
-        assert_eq!(rt; phase(own), WAIT_PENDING);
+        turns_to(rt, own, disk, &turned(), 0);
+        is_in(rt, own, WAIT_PENDING);
     }
+}
+
+/// The log is flushed, and the commit finishes, unless the device was refused memory.
+fn is_finished(rt: &impl Abort, own: &mut SmallStore, disk: &mut MemDisk) {
+    turns_to(rt, own, disk, &turned(), 0);
+    is_in(rt, own, WAIT_FLUSH);
+    let (answer, _) = turn(own, disk);
+    assert!(rt; answer == turned_finished(1, 1) || disk.failures() == 1);
 }
 
 /// A tool outside lets each request for memory fail in turn and runs this test: whichever it is, the commit finishes, but that the
@@ -526,9 +672,6 @@ fn a_refused_copy_begins_again(rt: HostRuntime) -> Result<(), Fail> {
         return Ok(());
     };
     is_copied(&rt, &mut own, &mut disk);
-    assert_eq!(rt; turn(&mut own, &mut disk), (turned(), 0));
-    assert_eq!(rt; phase(&own), WAIT_FLUSH);
-    let (answer, _) = turn(&mut own, &mut disk);
-    assert!(rt; answer == turned_finished(1, 1) || disk.failures() == 1);
+    is_finished(&rt, &mut own, &mut disk);
     Ok(())
 }

@@ -1,15 +1,14 @@
-//! The keeper step by step, in the small store of `commits`: memory that is asked for before the step that needs it, and calls of the
+//! Scenes of `commits` in which the keeper goes step by step: memory that is asked for before the step that needs it, and calls of the
 //! device that a caller makes himself.
 use crate::commits::{
-    FIRST_ENTRY, FIRST_HEADER, SmallStore, WAIT_PENDING, append, begun, commit, created_disk,
-    new_store, phase, sees, store_own, turn, turned,
+    FIRST_ENTRY, FIRST_HEADER, SmallStore, WAIT_PENDING, append, begins, commit, is_in, sees,
+    store_own, turned, turns_to,
 };
 use fkv_base::{CommitKind, Fault};
 use fkv_disk::{Device, DeviceAsk, MemDisk};
 use fkv_keeper::KeeperTold;
-use fkv_plane::{Ask, SessionWord, SharedWord};
+use fkv_plane::{Ask, SessionWord};
 use std::process::Abort;
-use std::test::Fail;
 
 /// More steps than a turn has here.
 const MANY: usize = 512;
@@ -49,26 +48,30 @@ fn turn_by_steps(
     (ask, got)
 }
 
+/// The turn is made, and got memory before so many steps.
+fn is_made(rt: &impl Abort, own: &mut SmallStore, disk: &mut MemDisk, rooms: usize) {
+    let (ended, got) = turn_by_steps(own, disk, true);
+    assert!(rt; matches!(ended, Ask::Done(KeeperTold::Turned(false, false))));
+    assert_eq!(rt; got, rooms);
+}
+
+/// The turn is refused, since no memory is granted.
+fn is_refused(rt: &impl Abort, own: &mut SmallStore, disk: &mut MemDisk) {
+    let (ended, _) = turn_by_steps(own, disk, false);
+    assert!(rt; matches!(ended, Ask::Done(KeeperTold::TurnRefused(Fault::Memory))));
+}
+
 /// A turn that leads to no copy needs no memory. The one that begins the copy asks for it before the phase is loaded, and is refused
 /// where there is none; the next one asks again.
-#[test]
-fn memory_is_asked_for_first(rt: HostRuntime) -> Result<(), Fail> {
-    let mut own = new_store(rt.alloc())?;
-    let mut disk = created_disk(rt.alloc())?;
+pub(crate) fn memory_is_asked_for_first(rt: &impl Abort, own: &mut SmallStore, disk: &mut MemDisk) {
     append(&mut own.plane, FIRST_HEADER, 10);
-    assert_eq!(rt; commit(&mut own, &mut disk, CommitKind::Full), begun(1));
-    let (entered, got) = turn_by_steps(&mut own, &mut disk, true);
-    assert!(rt; matches!(entered, Ask::Done(KeeperTold::Turned(false, false))));
-    assert_eq!(rt; got, 0);
+    begins(rt, own, disk, CommitKind::Full, 1);
+    is_made(rt, own, disk, 0);
     store_own(&mut own.plane, SessionWord::OddCut, FIRST_ENTRY);
-    let (refused, _) = turn_by_steps(&mut own, &mut disk, false);
-    assert!(rt; matches!(refused, Ask::Done(KeeperTold::TurnRefused(Fault::Memory))));
-    let (copied, got) = turn_by_steps(&mut own, &mut disk, true);
-    assert!(rt; matches!(copied, Ask::Done(KeeperTold::Turned(false, false))));
-    assert_eq!(rt; got, 1);
-    assert_eq!(rt; phase(&own), WAIT_PENDING);
-    assert_eq!(rt; turn(&mut own, &mut disk), (turned(), 0));
-    Ok(())
+    is_refused(rt, own, disk);
+    is_made(rt, own, disk, 1);
+    is_in(rt, own, WAIT_PENDING);
+    turns_to(rt, own, disk, &turned(), 0);
 }
 
 /// Makes the call of the device that the keeper's next step makes: whether there is one, and it succeeded.
@@ -117,25 +120,40 @@ fn turn_told(
     read
 }
 
-/// A device to which each call is made that the keeper tells holds what the keeper's own device does, and what is read of it is put
-/// into the mailbox.
-#[test]
-fn the_call_that_is_told_is_made(rt: HostRuntime) -> Result<(), Fail> {
-    let mut own = new_store(rt.alloc())?;
-    let mut disk = created_disk(rt.alloc())?;
-    let mut second = created_disk(rt.alloc())?;
+/// Turns of the first commit that are told: then both devices hold the same.
+fn writes_are_told(
+    rt: &impl Abort,
+    own: &mut SmallStore,
+    disk: &mut MemDisk,
+    second: &mut MemDisk,
+) {
     append(&mut own.plane, FIRST_HEADER, 10);
-    commit(&mut own, &mut disk, CommitKind::Full);
+    commit(own, disk, CommitKind::Full);
     for _ in 0..4 {
         store_own(&mut own.plane, SessionWord::OddCut, FIRST_ENTRY);
-        turn_told(&rt, &mut own, &mut disk, &mut second);
+        turn_told(rt, own, disk, second);
     }
-    assert_eq!(rt; own.plane.word(SharedWord::Phase.place()), 2);
+    is_in(rt, own, 2);
     assert!(rt; disk.bytes() == second.bytes());
+}
+
+/// What is read of the second device is what is put into the mailbox.
+fn a_read_is_told(rt: &impl Abort, own: &mut SmallStore, disk: &mut MemDisk, second: &mut MemDisk) {
     store_own(&mut own.plane, SessionWord::MailAddress, 1);
     store_own(&mut own.plane, SessionWord::MailState, 1);
-    let read = turn_told(&rt, &mut own, &mut disk, &mut second);
+    let read = turn_told(rt, own, disk, second);
     assert_eq!(rt; own.plane.word(SessionWord::MailValue.place(0)), 10);
     assert_eq!(rt; read[16], 10);
-    Ok(())
+}
+
+/// A device to which each call is made that the keeper tells holds what the keeper's own device does, and what is read of it is put
+/// into the mailbox.
+pub(crate) fn the_call_that_is_told_is_made(
+    rt: &impl Abort,
+    own: &mut SmallStore,
+    disk: &mut MemDisk,
+    second: &mut MemDisk,
+) {
+    writes_are_told(rt, own, disk, second);
+    a_read_is_told(rt, own, disk, second);
 }

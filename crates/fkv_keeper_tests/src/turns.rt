@@ -176,6 +176,21 @@ fn is_synced(rt: &impl Abort, disk: Fuse<MemDisk>) -> Result<(), Fault> {
     Ok(())
 }
 
+/// The flushed offset is raised behind the sync.
+fn flushes(
+    rt: &impl Abort,
+    plane: &mut PlainWords,
+    machine: &mut Maintain,
+    disk: &mut Fuse<MemDisk>,
+) {
+    machine.start();
+    for wanted in [1856, 1928, 1928] {
+        writes(rt, plane, machine, disk, wanted);
+    }
+    to_the_device(plane, machine);
+    assert_eq!(rt; plane.word(FLUSHED), 7);
+}
+
 /// Six records of two pages are flushed: a write for each page, and one sync, after which a crash loses nothing.
 #[test]
 fn a_write_for_each_page_and_a_sync(rt: HostRuntime) -> Result<(), Fail> {
@@ -183,12 +198,7 @@ fn a_write_for_each_page_and_a_sync(rt: HostRuntime) -> Result<(), Fail> {
     let mut plane = new_words(rt.alloc(), &shape)?;
     let mut machine = Maintain::new(rt.alloc(), shape, Places::of(&shape))?;
     let mut disk = Fuse::new(MemDisk::new(rt.alloc()));
-    machine.start();
-    for wanted in [1856, 1928, 1928] {
-        writes(&rt, &mut plane, &mut machine, &mut disk, wanted);
-    }
-    to_the_device(&mut plane, &mut machine);
-    assert_eq!(rt; plane.word(FLUSHED), 7);
+    flushes(&rt, &mut plane, &mut machine, &mut disk);
     is_synced(&rt, disk)?;
     Ok(())
 }
@@ -280,13 +290,17 @@ fn plays(rt: &impl Abort, stage: &mut Stage, step: &Step) {
     }
 }
 
-fn play(rt: &impl Abort, alloc: Global, scene: &Scene) -> Result<(), Fault> {
+fn new_stage(alloc: Global, passes: u64) -> Result<Stage, Fault> {
     let shape = small_shape()?;
-    let mut stage = Stage {
+    Ok(Stage {
         plane: new_words(alloc, &shape)?,
         machine: Maintain::new(alloc, shape, Places::of(&shape))?,
-        disk: Once::new(MemDisk::new(alloc), scene.passes),
-    };
+        disk: Once::new(MemDisk::new(alloc), passes),
+    })
+}
+
+fn play(rt: &impl Abort, alloc: Global, scene: &Scene) -> Result<(), Fault> {
+    let mut stage = new_stage(alloc, scene.passes)?;
     for step in scene.steps {
         plays(rt, &mut stage, step);
     }

@@ -134,40 +134,55 @@ const COMMITS: [Row; 3] = [
     },
 ];
 
-/// A commit begins by one call, and goes by one call for each turn.
-fn is_made(rt: &impl Abort, own: &mut SmallStore, disk: &mut Fuse<MemDisk>, row: &Row) {
+/// A commit begins by one call, and no other one while it runs.
+fn begins(rt: &impl Abort, own: &mut SmallStore, row: &Row) {
     let number = row.commit.0;
     append(&mut own.plane, row.header, number);
     let asked = own.keeper.ask_commit(&mut own.plane, row.kind);
-    assert_eq!(rt; asked, Ok(Version(number)));
+    assert!(rt; asked == Ok(Version(number)));
     let again = own.keeper.ask_commit(&mut own.plane, row.kind);
-    assert_eq!(rt; again, Err(Fault::CommitRunning));
+    assert!(rt; again == Err(Fault::CommitRunning));
+}
+
+/// It goes by one call for each turn.
+fn ends(rt: &impl Abort, own: &mut SmallStore, disk: &mut Fuse<MemDisk>, row: &Row) {
+    let number = row.commit.0;
     let (word, cut) = row.cut;
     store_own(&mut own.plane, word, cut);
-    let ended = to_the_finish(own, disk);
-    assert_eq!(rt; ended, (made(finished(number, number)), row.calls));
+    let (ended, calls) = to_the_finish(own, disk);
+    assert!(rt; ended == made(finished(number, number)));
+    assert_eq!(rt; calls, row.calls);
     assert_eq!(rt; durable(own), number);
 }
 
-/// Its slot says what it has made, and the other one is as it was before.
+/// Its slot says what it has made.
 fn is_said(rt: &impl Abort, disk: &Fuse<MemDisk>, row: &Row) {
-    let (its, other) = row.slots;
-    let said = slot(disk, its);
+    let said = slot(disk, row.slots.0);
     assert_eq!(rt; said.as_ref().map(commit_said), Some(row.commit));
     assert_eq!(rt; said.as_ref().map(checkpoint_said), Some(row.checkpoint));
-    let before = slot(disk, other).map(|said| said.number.wrapping_add(1));
+}
+
+/// The other slot is as it was before.
+fn is_left(rt: &impl Abort, disk: &Fuse<MemDisk>, row: &Row) {
+    let before = slot(disk, row.slots.1).map(|said| said.number.wrapping_add(1));
     assert_eq!(rt; before, Some(row.commit.0));
+}
+
+fn idles(rt: &impl Abort, own: &mut SmallStore, disk: &mut Fuse<MemDisk>) {
+    assert!(rt; slot(disk, ODD_SLOT).is_none());
+    assert!(rt; turn(own, disk) == (made(None), 0));
 }
 
 #[test]
 fn three_commits_in_a_row(rt: HostRuntime) -> Result<(), Fail> {
     let mut own = new_store(rt.alloc())?;
     let mut disk = Fuse::new(created_disk(rt.alloc())?);
-    assert!(rt; slot(&disk, ODD_SLOT).is_none());
-    assert_eq!(rt; turn(&mut own, &mut disk), (made(None), 0));
+    idles(&rt, &mut own, &mut disk);
     for row in &COMMITS {
-        is_made(&rt, &mut own, &mut disk, row);
+        begins(&rt, &mut own, row);
+        ends(&rt, &mut own, &mut disk, row);
         is_said(&rt, &disk, row);
+        is_left(&rt, &disk, row);
     }
     Ok(())
 }

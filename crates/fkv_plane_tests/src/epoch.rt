@@ -129,20 +129,25 @@ fn eight_is_safe(rt: &impl Abort, plane: &mut PlainWords) {
     assert!(rt; plane.word(1) == 8);
 }
 
-/// A session loads the epoch as 5 and stalls, 8 becomes safe, and it stores 5. What it loads then is fresh, and what was
-/// armed meanwhile runs.
-#[test]
-fn the_stall(rt: HostRuntime) -> Result<(), Fail> {
-    let mut plane = PlainWords::new(rt.alloc(), 64)?;
-    store(&mut plane, 0, 5);
-    let mut machine = Protect::new(0);
+/// A session loads the epoch as 5 and stalls, 8 becomes safe, and it stores 5.
+fn stalls(rt: &impl Abort, plane: &mut PlainWords, machine: &mut Protect) {
+    store(plane, 0, 5);
     let loads = machine.start();
     machine.drive(plane.perform(&loads));
-    eight_is_safe(&rt, &mut plane);
+    eight_is_safe(rt, plane);
     assert!(rt; machine.ask() == Ask::Store(24, 5));
-    let phase = machine.drive(plane.perform(&machine.ask()));
-    claim(&mut plane);
+    machine.drive(plane.perform(&machine.ask()));
+}
+
+/// What was armed meanwhile runs.
+fn runs_what_was_armed(rt: &impl Abort, plane: &mut PlainWords) {
+    claim(plane);
     assert!(rt; (plane.word(24), plane.word(6)) == (5, 16));
+}
+
+/// What the session loads then is fresh.
+fn loads_afresh(rt: &impl Abort, plane: &mut PlainWords, machine: &mut Protect) {
+    let phase = machine.ask();
     let read_only = machine.drive(plane.perform(&phase));
     let head = machine.drive(plane.perform(&read_only));
     let seen = Seen {
@@ -151,6 +156,15 @@ fn the_stall(rt: HostRuntime) -> Result<(), Fail> {
         head: Addr(0),
     };
     assert!(rt; machine.drive(plane.perform(&head)) == Ask::Done(seen));
+}
+
+#[test]
+fn the_stall(rt: HostRuntime) -> Result<(), Fail> {
+    let mut plane = PlainWords::new(rt.alloc(), 64)?;
+    let mut machine = Protect::new(0);
+    stalls(&rt, &mut plane, &mut machine);
+    runs_what_was_armed(&rt, &mut plane);
+    loads_afresh(&rt, &mut plane, &mut machine);
     Ok(())
 }
 
@@ -162,7 +176,7 @@ fn protected(rt: &impl Abort, plane: &mut PlainWords) {
         scan(plane, 1);
         claim(plane);
         let words = (plane.word(1), plane.word(9), plane.word(16));
-        assert_eq!(rt; words, (safe, closed, slot));
+        assert!(rt; words == (safe, closed, slot));
         assert!(rt; refreshed_head(plane) == Some(Addr(4)));
     }
 }
@@ -187,38 +201,50 @@ fn a_session_is_waited_for_until_it_leaves(rt: HostRuntime) -> Result<(), Fail> 
     Ok(())
 }
 
+/// A slot is armed, and the epoch is safe.
+fn is_armed(rt: &impl Abort, plane: &mut PlainWords) {
+    store(plane, 0, 1);
+    assert!(rt; arm(plane, Action::Close(Addr(4))) == Some(1));
+    scan(plane, 0);
+}
+
 /// Two actors find the same slot armed; the one whose Cas comes second claims nothing, and goes on to the next slot.
+fn is_claimed_once(rt: &impl Abort, plane: &mut PlainWords) {
+    let mut slow = Claim::new();
+    slow.start();
+    claim_on(plane, &mut slow);
+    assert!(rt; claim_on(plane, &mut slow) == Ask::Cas(16, 3, 1));
+    claim(plane);
+    assert!(rt; plane.word(9) == 4);
+    assert!(rt; claim_on(plane, &mut slow) == Ask::Load(17));
+}
+
 #[test]
 fn two_claims_of_one_slot(rt: HostRuntime) -> Result<(), Fail> {
     let mut plane = PlainWords::new(rt.alloc(), 64)?;
-    store(&mut plane, 0, 1);
-    assert!(rt; arm(&mut plane, Action::Close(Addr(4))) == Some(1));
-    scan(&mut plane, 0);
-    let mut slow = Claim::new();
-    slow.start();
-    claim_on(&mut plane, &mut slow);
-    assert!(rt; claim_on(&mut plane, &mut slow) == Ask::Cas(16, 3, 1));
-    claim(&mut plane);
-    assert!(rt; plane.word(9) == 4);
-    assert!(rt; claim_on(&mut plane, &mut slow) == Ask::Load(17));
+    is_armed(&rt, &mut plane);
+    is_claimed_once(&rt, &mut plane);
     Ok(())
 }
 
 /// A raise finds no epoch left, or a slot, or none.
-#[test]
-fn a_raise_is_refused(rt: HostRuntime) -> Result<(), Fail> {
-    let mut plane = PlainWords::new(rt.alloc(), 64)?;
+fn raises(rt: &impl Abort, plane: &mut PlainWords) {
     for slot in 16..23 {
-        store(&mut plane, slot, 1);
+        store(plane, slot, 1);
     }
     for (epoch, answer, after) in [
         (LAST_EPOCH, RaiseAnswer::Spent, LAST_EPOCH),
         (7, RaiseAnswer::Raised(7, 7), 8),
         (7, RaiseAnswer::NoSlot, 7),
     ] {
-        store(&mut plane, 0, epoch);
-        let came = (raise(&mut plane), plane.word(0));
-        assert_eq!(rt; came, (answer, after));
+        store(plane, 0, epoch);
+        let came = (raise(plane), plane.word(0));
+        assert!(rt; came == (answer, after));
     }
+}
+
+#[test]
+fn a_raise_is_refused(rt: HostRuntime) -> Result<(), Fail> {
+    raises(&rt, &mut PlainWords::new(rt.alloc(), 64)?);
     Ok(())
 }

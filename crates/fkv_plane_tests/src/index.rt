@@ -262,7 +262,7 @@ fn play(
 
 #[test]
 fn searches_come_to_slots(rt: HostRuntime) -> Result<(), Fail> {
-    assert_eq!(rt; home_of(Key(19), 4), Home { bucket: 3, tag: 1 });
+    assert!(rt; home_of(Key(19), 4) == Home { bucket: 3, tag: 1 });
     for (bits, overflow, lines) in [
         (0, 0, ONE_BUCKET.as_slice()),
         (0, 1, EIGHTH_ENTRY.as_slice()),

@@ -44,7 +44,7 @@ fn reservations(rt: &impl Abort, plane: &mut PlainWords, shape: &Shape) {
     ] {
         offsets(plane, tail, limit);
         let came = (reserve(plane, shape), plane.word(3));
-        assert_eq!(rt; came, (Some(answer), after));
+        assert!(rt; came == (Some(answer), after));
     }
 }
 
@@ -54,7 +54,7 @@ fn two_take_one_tail(rt: &impl Abort, plane: &mut PlainWords, shape: &Shape) {
     let mut slow = Reserve::new(shape);
     let mut ask = slow.start();
     for wanted in [Ask::Load(4), Ask::Load(3)] {
-        assert_eq!(rt; ask, wanted);
+        assert!(rt; ask == wanted);
         ask = slow.drive(plane.perform(&ask));
     }
     assert!(rt; ask == Ask::Cas(3, 1, 2));
@@ -113,7 +113,7 @@ fn fill(rt: &impl Abort, plane: &mut PlainWords, places: Places) {
         (RecordWord::Key, 5),
         (RecordWord::Header, HEADER),
     ] {
-        assert_eq!(rt; ask, Ask::Store(places.record(Addr(1), word), number));
+        assert!(rt; ask == Ask::Store(places.record(Addr(1), word), number));
         ask = machine.drive(plane.perform(&ask));
     }
     assert!(rt; ask == Ask::Done(()));
@@ -126,16 +126,19 @@ fn invalidate(rt: &impl Abort, plane: &mut PlainWords, places: Places) {
 }
 
 /// A record is loaded as it was written, and is invalidated by its header alone.
+fn has_header(rt: &impl Abort, plane: &mut PlainWords, places: Places, header: u64) {
+    let whole = LoadAnswer::Whole(header, Key(5), 50);
+    assert!(rt; load(plane, places, Addr(9)) == Some(whole));
+}
+
 #[test]
 fn a_record_is_written_and_given_up(rt: HostRuntime) -> Result<(), Fail> {
     let places = Places::of(&Shape::new(0, 4, 2, 1, 1, 0, 2)?);
     let mut plane = PlainWords::new(rt.alloc(), 128)?;
     fill(&rt, &mut plane, places);
-    let written = LoadAnswer::Whole(HEADER, Key(5), 50);
-    assert!(rt; load(&mut plane, places, Addr(9)) == Some(written));
+    has_header(&rt, &mut plane, places, HEADER);
     invalidate(&rt, &mut plane, places);
-    let given_up = LoadAnswer::Whole(INVALID_HEADER, Key(5), 50);
-    assert!(rt; load(&mut plane, places, Addr(9)) == Some(given_up));
+    has_header(&rt, &mut plane, places, INVALID_HEADER);
     Ok(())
 }
 
@@ -158,6 +161,6 @@ fn regions_follow_each_other(rt: HostRuntime) {
             seen_region(Addr(addr), seen),
             region(Addr(addr), seen, Addr(8)),
         );
-        assert_eq!(rt; its, (known, whole));
+        assert!(rt; its == (known, whole));
     }
 }

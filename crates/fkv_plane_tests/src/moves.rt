@@ -78,31 +78,32 @@ fn hold_slots(plane: &mut PlainWords) {
 }
 
 /// The read-only offset is shifted to where the last page begins. Without a free slot, or at the last epoch, it isn't.
-#[test]
-fn the_read_only_offset_is_shifted(rt: HostRuntime) -> Result<(), Fail> {
-    let mut plane = PlainWords::new(rt.alloc(), 128)?;
-    let shape = five_records(&mut plane)?;
-    hold_slots(&mut plane);
+fn shifts(rt: &impl Abort, plane: &mut PlainWords, shape: Shape) {
+    hold_slots(plane);
     for (tail, epoch, answer) in [
         (6, 1, ShiftAnswer::Through(Addr(6))),
         (8, 2, ShiftAnswer::NoSlot(Addr(8))),
         (8, LAST_EPOCH, ShiftAnswer::Spent(Addr(8))),
     ] {
-        offsets(&mut plane, tail, 8);
+        offsets(plane, tail, 8);
         plane.perform::<()>(&Ask::Store(SharedWord::Epoch.place(), epoch));
-        let came = (shift(&mut plane, shape), levels(&plane));
-        assert_eq!(rt; came, (Some(answer), [1, 1, 1, 1, 4, 8]));
+        let came = (shift(plane, shape), levels(plane));
+        assert!(rt; came == (Some(answer), [1, 1, 1, 1, 4, 8]));
     }
     assert!(rt; plane.take(0) == Some(Action::SafeReadOnly(Addr(4))));
+}
+
+#[test]
+fn the_read_only_offset_is_shifted(rt: HostRuntime) -> Result<(), Fail> {
+    let mut plane = PlainWords::new(rt.alloc(), 128)?;
+    let shape = five_records(&mut plane)?;
+    shifts(&rt, &mut plane, shape);
     Ok(())
 }
 
 /// A page's frame is wanted again: its page is closed once it is flushed, by a whole turn alone, and opened for another
 /// once it is closed. Each row has the closed offset and the flushed one, and the levels behind the turn.
-#[test]
-fn a_page_is_closed_and_its_frame_opened(rt: HostRuntime) -> Result<(), Fail> {
-    let mut plane = PlainWords::new(rt.alloc(), 128)?;
-    let shape = five_records(&mut plane)?;
+fn turns(rt: &impl Abort, plane: &mut PlainWords, shape: Shape) {
     for (form, closed, flushed, after) in [
         (TurnForm::Whole, 1, 1, [1, 1, 1, 1, 1, 8]),
         (TurnForm::OpensOnly, 1, 8, [1, 1, 8, 1, 1, 8]),
@@ -111,18 +112,23 @@ fn a_page_is_closed_and_its_frame_opened(rt: HostRuntime) -> Result<(), Fail> {
     ] {
         plane.perform::<()>(&Ask::Store(SharedWord::Closed.place(), closed));
         plane.perform::<()>(&Ask::Store(SharedWord::Flushed.place(), flushed));
-        let came = (turn_page(&mut plane, shape, form), levels(&plane));
-        assert_eq!(rt; came, (Some(MoveAnswer::Through), after));
+        let came = (turn_page(plane, shape, form), levels(plane));
+        assert!(rt; came == (Some(MoveAnswer::Through), after));
     }
     assert!(rt; plane.word(drain_place(0)) == 3);
     assert!(rt; plane.take(0) == Some(Action::Close(Addr(4))));
+}
+
+#[test]
+fn a_page_is_closed_and_its_frame_opened(rt: HostRuntime) -> Result<(), Fail> {
+    let mut plane = PlainWords::new(rt.alloc(), 128)?;
+    let shape = five_records(&mut plane)?;
+    turns(&rt, &mut plane, shape);
     Ok(())
 }
 
 /// An offset is moved once a slot is held, and before the epoch is raised.
-#[test]
-fn an_offset_is_moved(rt: HostRuntime) -> Result<(), Fail> {
-    let mut plane = PlainWords::new(rt.alloc(), 64)?;
+fn moves(rt: &impl Abort, plane: &mut PlainWords) {
     let mut machine = MoveOffset::new();
     let mut ask = machine.start(Offset::ReadOnly, Addr(12));
     for wanted in [
@@ -134,9 +140,14 @@ fn an_offset_is_moved(rt: HostRuntime) -> Result<(), Fail> {
         Ask::Put(0, Action::SafeReadOnly(Addr(12))),
         Ask::Store(16, 2),
     ] {
-        assert_eq!(rt; machine.ask(), wanted);
-        ask = machine.drive(reply(&mut plane, ask));
+        assert!(rt; machine.ask() == wanted);
+        ask = machine.drive(reply(plane, ask));
     }
     assert!(rt; ask == Ask::Done(MoveAnswer::Through));
+}
+
+#[test]
+fn an_offset_is_moved(rt: HostRuntime) -> Result<(), Fail> {
+    moves(&rt, &mut PlainWords::new(rt.alloc(), 64)?);
     Ok(())
 }

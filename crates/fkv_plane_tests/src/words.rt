@@ -118,7 +118,7 @@ fn phases_are_said(rt: &impl Abort) {
 fn homes(rt: &impl Abort) {
     for (key, bits, bucket, tag) in [(524291, 4, 3, 0), (19, 4, 3, 1), (19, 0, 0, 19)] {
         let found = (bucket_of(Key(key), bits), tag_of(Key(key), bits));
-        assert_eq!(rt; found, (bucket, tag));
+        assert!(rt; found == (bucket, tag));
     }
 }
 

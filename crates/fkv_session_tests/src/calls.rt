@@ -54,30 +54,44 @@ fn answers(
     wanted: Answer,
 ) {
     let (answered, effect) = answer(plane, session, call);
-    assert_eq!(rt; answered, Some(wanted));
-    assert_eq!(rt; effect, None);
+    assert!(rt; answered == Some(wanted));
+    assert!(rt; effect == None);
 }
 
-/// An update takes effect, and a read finds what it has left.
-fn operations_are_answered(rt: &impl Abort, plane: &mut PlainWords) -> Result<(), Fault> {
-    let mut session = Session::new(shape()?, 0, seen(Phase::Rest, 1, 1), Serial(0));
+/// An update that has begun is begun again, and takes effect.
+fn takes_effect(rt: &impl Abort, plane: &mut PlainWords, session: &mut Session) {
     let _ = session.start(UPSERT);
     assert!(rt; session.busy());
-    let (answered, effect) = answer(plane, &mut session, UPSERT);
-    assert_eq!(rt; answered, Some(Answer::Done(Serial(1), Reply::Nothing)));
+    let (answered, effect) = answer(plane, session, UPSERT);
+    assert!(rt; answered == Some(Answer::Done(Serial(1), Reply::Nothing)));
     let made = HistoryEntry {
         session: 0,
         serial: Serial(1),
         op: Op::Upsert(OTHER, Value(40)),
         reply: Reply::Nothing,
     };
-    assert_eq!(rt; effect, Some(made));
+    assert!(rt; effect == Some(made));
+}
+
+/// What a session shows of itself behind its first update.
+fn has_one_serial(rt: &impl Abort, session: &Session) {
     assert!(rt; !session.busy());
-    assert_eq!(rt; session.serial(), Serial(1));
-    assert_eq!(rt; session.asks(), 8);
+    assert!(rt; session.serial() == Serial(1));
+    assert!(rt; session.asks() == 8);
+}
+
+/// A read finds what the update has left.
+fn reads_find(rt: &impl Abort, plane: &mut PlainWords, session: &mut Session) {
     let found = Answer::Found(Value(40));
-    answers(rt, plane, &mut session, Call::Op(Op::Read(OTHER)), found);
-    answers(rt, plane, &mut session, READ, Answer::Absent);
+    answers(rt, plane, session, Call::Op(Op::Read(OTHER)), found);
+    answers(rt, plane, session, READ, Answer::Absent);
+}
+
+fn operations_are_answered(rt: &impl Abort, plane: &mut PlainWords) -> Result<(), Fault> {
+    let mut session = Session::new(shape()?, 0, seen(Phase::Rest, 1, 1), Serial(0));
+    takes_effect(rt, plane, &mut session);
+    has_one_serial(rt, &session);
+    reads_find(rt, plane, &mut session);
     Ok(())
 }
 
@@ -106,20 +120,29 @@ const OPENED: [(usize, u64); 8] = [
     (16, 4),
 ];
 
-/// An update that finds no room waits. Its session runs what is armed and safe, shifts the read-only offset and opens a page; the next
-/// poll finishes it. The head stays.
-fn who_has_no_room_opens_a_page(rt: &impl Abort, plane: &mut PlainWords) -> Result<(), Fault> {
+/// An update that finds no room waits. Its session runs what is armed and safe, shifts the read-only offset and opens a page. The head
+/// stays.
+fn opens_a_page(rt: &impl Abort, plane: &mut PlainWords, session: &mut Session) {
     store(plane, &FULL);
     let _ = plane.put(0, Action::SafeReadOnly(Addr(4)));
-    let mut session = Session::new(shape()?, 0, seen(Phase::Rest, 4, 4), Serial(0));
     let wanted = Answer::Pending(Serial(1), Reason::NoRoom);
-    answers(rt, plane, &mut session, UPSERT, wanted);
+    answers(rt, plane, session, UPSERT, wanted);
     stands(rt, plane, &OPENED);
-    assert_eq!(rt; plane.take(0), Some(Action::SafeReadOnly(Addr(8))));
-    let (answered, effect) = answer(plane, &mut session, Call::Poll);
+    assert!(rt; plane.take(0) == Some(Action::SafeReadOnly(Addr(8))));
+}
+
+/// The next poll finishes it.
+fn finishes_its_update(rt: &impl Abort, plane: &mut PlainWords, session: &mut Session) {
+    let (answered, effect) = answer(plane, session, Call::Poll);
     assert!(rt; matches!(answered, Some(Answer::Polled(_, 0))));
-    assert_eq!(rt; effect.map(|made| made.serial), Some(Serial(1)));
-    assert_eq!(rt; session.finished().len(), 1);
+    assert!(rt; effect.map(|made| made.serial) == Some(Serial(1)));
+    assert!(rt; session.finished().len() == 1);
+}
+
+fn who_has_no_room_opens_a_page(rt: &impl Abort, plane: &mut PlainWords) -> Result<(), Fault> {
+    let mut session = Session::new(shape()?, 0, seen(Phase::Rest, 4, 4), Serial(0));
+    opens_a_page(rt, plane, &mut session);
+    finishes_its_update(rt, plane, &mut session);
     Ok(())
 }
 
@@ -130,40 +153,44 @@ fn calls_are_answered(rt: HostRuntime) -> Result<(), Fail> {
     Ok(())
 }
 
-/// A session that catches up goes by what it has loaded.
+/// A session that catches up, by a refresh or a wake, goes by what it has loaded.
+fn catches_up(
+    rt: &impl Abort,
+    plane: &mut PlainWords,
+    machine: &mut CatchUp,
+    requests: &mut PendingList,
+    is_refresh: bool,
+) {
+    let was = seen(Phase::Rest, 1, 1);
+    let mut ask = if is_refresh {
+        machine.refresh(was, Serial(0))
+    } else {
+        machine.wake(was, Serial(0))
+    };
+    assert!(rt; machine.seen() == was);
+    for _ in 0..5 {
+        ask = machine.drive(requests, plane.perform(&ask));
+    }
+    assert!(rt; ask == Ask::Done(()));
+    assert!(rt; machine.seen() == seen(Phase::Rest, 4, 8));
+}
+
 #[test]
 fn a_session_catches_up(rt: HostRuntime) -> Result<(), Fail> {
     let mut plane = words(rt.alloc())?;
     let mut requests = PendingList::new();
     let shape = shape()?;
     let mut machine = CatchUp::new(Places::of(&shape), shape.bucket_bits, 0);
-    assert_eq!(rt; machine.ask(&requests), Ask::Done(()));
-    let was = seen(Phase::Rest, 1, 1);
-    let is = seen(Phase::Rest, 4, 8);
+    assert!(rt; machine.ask(&requests) == Ask::Done(()));
     store(&mut plane, &[(5, 8), (8, 4)]);
-    for is_refresh in [true, false] {
-        let mut ask = if is_refresh {
-            machine.refresh(was, Serial(0))
-        } else {
-            machine.wake(was, Serial(0))
-        };
-        assert_eq!(rt; machine.seen(), was);
-        for _ in 0..5 {
-            ask = machine.drive(&mut requests, plane.perform(&ask));
-        }
-        assert_eq!(rt; ask, Ask::Done(()));
-        assert_eq!(rt; machine.seen(), is);
-    }
+    catches_up(&rt, &mut plane, &mut machine, &mut requests, true);
+    catches_up(&rt, &mut plane, &mut machine, &mut requests, false);
     Ok(())
 }
 
 /// A turn of a session that finds nothing to do but to look.
-#[test]
-fn an_own_turn_looks(rt: HostRuntime) -> Result<(), Fail> {
-    let mut plane = words(rt.alloc())?;
-    store(&mut plane, &[(0, 2), (EPOCH, 2), (40, 2), (5, 8), (16, 3)]);
-    let mut machine = OwnTurn::new(shape()?);
-    assert_eq!(rt; machine.ask(), Ask::Done(()));
+fn looks(rt: &impl Abort, plane: &mut PlainWords, machine: &mut OwnTurn) {
+    assert!(rt; machine.ask() == Ask::Done(()));
     let mut ask = machine.start();
     for _ in 0..40 {
         ask = match ask {
@@ -171,8 +198,16 @@ fn an_own_turn_looks(rt: HostRuntime) -> Result<(), Fail> {
             other => machine.drive(plane.perform(&other)),
         };
     }
-    assert_eq!(rt; ask, Ask::Done(()));
-    assert_eq!(rt; [plane.word(1), plane.word(6), plane.word(16)], [1, 4, 0]);
+    assert!(rt; ask == Ask::Done(()));
+    assert!(rt; [plane.word(1), plane.word(6), plane.word(16)] == [1, 4, 0]);
+}
+
+#[test]
+fn an_own_turn_looks(rt: HostRuntime) -> Result<(), Fail> {
+    let mut plane = words(rt.alloc())?;
+    store(&mut plane, &[(0, 2), (EPOCH, 2), (40, 2), (5, 8), (16, 3)]);
+    let mut machine = OwnTurn::new(shape()?);
+    looks(&rt, &mut plane, &mut machine);
     Ok(())
 }
 

@@ -59,42 +59,42 @@ fn asks(
 ) {
     let mut ask = session.begin(call);
     for (number, wanted) in asks.iter().enumerate() {
-        assert_eq!(rt; ask, *wanted, "at ask {number}");
+        assert!(rt; ask == *wanted, "at ask {number}");
         ask = go_on(plane, session, ask);
     }
-    assert_eq!(rt; session.ask(), ask);
+    assert!(rt; session.ask() == ask);
 }
 
 /// The call is refused without an ask, and takes no serial.
 fn refused(rt: &impl Abort, session: &mut Session, call: Call, why: Fault) {
     let serial = session.serial();
     let count = session.pending();
-    assert_eq!(rt; session.begin(call), Ask::Done(Told::Refused(why)));
-    assert_eq!(rt; session.asks(), 0);
-    assert_eq!(rt; session.serial(), serial);
-    assert_eq!(rt; session.pending(), count);
+    assert!(rt; session.begin(call) == Ask::Done(Told::Refused(why)));
+    assert!(rt; session.asks() == 0);
+    assert!(rt; session.serial() == serial);
+    assert!(rt; session.pending() == count);
 }
 
 fn waits(rt: &impl Abort, plane: &mut PlainWords, session: &mut Session, reads: u64) {
     for number in 0..reads {
         let ticket = Ticket(number + 1);
-        assert_eq!(rt; told(plane, session, READ), Some(Told::PendingRead(ticket)));
+        assert!(rt; told(plane, session, READ) == Some(Told::PendingRead(ticket)));
     }
-    assert_eq!(rt; session.pending() as u64, reads);
+    assert!(rt; session.pending() as u64 == reads);
 }
 
 fn fills(rt: &impl Abort, plane: &mut PlainWords, session: &mut Session, keys: u64) {
     for before in 0..keys {
         let call = Call::Op(Op::Upsert(Key(before + 1), Value(10)));
         let done = Told::Done(Serial(before + 1), Reply::Nothing);
-        assert_eq!(rt; told(plane, session, call), Some(done));
+        assert!(rt; told(plane, session, call) == Some(done));
     }
 }
 
 fn finishes(rt: &impl Abort, session: &Session, list: &[Finished]) {
-    assert_eq!(rt; session.finished().len(), list.len());
+    assert!(rt; session.finished().len() == list.len());
     for (made, wanted) in session.finished().iter().zip(list) {
-        assert_eq!(rt; *made, *wanted);
+        assert!(rt; *made == *wanted);
     }
 }
 
@@ -106,10 +106,10 @@ fn plays(rt: &impl Abort, plane: &mut PlainWords, session: &mut Session, step: &
             let _ = plane.put(0, Action::Close(Addr(*addr)));
         }
         Step::Tells(call, wanted) => {
-            assert_eq!(rt; told(plane, session, *call), Some(*wanted));
+            assert!(rt; told(plane, session, *call) == Some(*wanted));
         }
         Step::Asks(call, wanted) => asks(rt, plane, session, *call, wanted),
-        Step::Counts(count) => assert_eq!(rt; session.asks(), *count),
+        Step::Counts(count) => assert!(rt; session.asks() == *count),
         Step::Finishes(list) => finishes(rt, session, list),
         Step::Stands(words) => stands(rt, plane, words),
         Step::Refuses(calls) => {
@@ -122,6 +122,12 @@ fn plays(rt: &impl Abort, plane: &mut PlainWords, session: &mut Session, step: &
     }
 }
 
+fn all_play(rt: &impl Abort, plane: &mut PlainWords, session: &mut Session, steps: &[Step]) {
+    for step in steps {
+        plays(rt, plane, session, step);
+    }
+}
+
 fn play(rt: &impl Abort, alloc: Global, scene: &Scene) -> Result<(), Fault> {
     let (mut plane, shape) = if scene.is_of_one {
         (words_of_one(alloc)?, shape_of_one()?)
@@ -131,9 +137,7 @@ fn play(rt: &impl Abort, alloc: Global, scene: &Scene) -> Result<(), Fault> {
     let seen = seen(scene.phase, scene.head, scene.read_only);
     let serial = Serial(scene.serial.min(Serial::LAST));
     let mut session = Session::new(shape, 0, seen, serial);
-    for step in scene.steps {
-        plays(rt, &mut plane, &mut session, step);
-    }
+    all_play(rt, &mut plane, &mut session, scene.steps);
     Ok(())
 }
 
@@ -572,19 +576,15 @@ const COPIES: [Step; 3] = [
 fn poll_drops_latch(rt: HostRuntime) -> Result<(), Fail> {
     let mut plane = words(rt.alloc())?;
     let mut session = Session::new(shape()?, 0, seen(Phase::Rest, 1, 5), Serial(0));
-    for step in &WAITS {
-        plays(&rt, &mut plane, &mut session, step);
-    }
+    all_play(&rt, &mut plane, &mut session, &WAITS);
     let mut other = Session::new(shape()?, 1, seen(Phase::Prepare, 1, 5), Serial(0));
-    for step in &COPIES {
-        plays(&rt, &mut plane, &mut other, step);
-    }
+    all_play(&rt, &mut plane, &mut other, &COPIES);
     Ok(())
 }
 
 /// What a sleep in one phase and a wake in the next one leave: the phase word of the wake, what it is told, and the session's epoch,
 /// its cut words and what it owes, asleep and awake.
-const PHASES: [(u64, Phase, u64, [u64; 4], [u64; 4]); 7] = [
+const PHASES: [PhaseRow; 7] = [
     (PREPARE, Phase::Prepare, 1, [0, 0, 1 + ONE, 7], [1, 0, 0, 7]),
     (
         IN_PROGRESS,
@@ -640,32 +640,32 @@ fn leaves(
     left: [u64; 4],
 ) {
     store(plane, &NO_MARKS);
-    assert_eq!(rt; told(plane, session, call), Some(wanted));
+    assert!(rt; told(plane, session, call) == Some(wanted));
     for (place, word) in [EPOCH, EVEN_CUT, ODD_CUT, OWING].iter().zip(left) {
-        assert_eq!(rt; plane.word(*place), word, "at place {place}");
+        assert!(rt; plane.word(*place) == word, "at place {place}");
     }
 }
 
+type PhaseRow = (u64, Phase, u64, [u64; 4], [u64; 4]);
+
 /// A session sleeps in each phase behind an update, and wakes in the next one. Asleep it has stored where its own version ends; awake,
 /// where the version before ends and that none is owed, just where the version has changed: also where it has slept through a commit.
+fn sleeps(rt: &impl Abort, plane: &mut PlainWords, session: &mut Session, row: PhaseRow) {
+    let (word, phase, version, asleep, awake) = row;
+    let _ = told(plane, session, EIGHTH);
+    leaves(rt, plane, session, Call::Sleep, Told::Slept, asleep);
+    store(plane, &[(2, word)]);
+    let woken = Told::Woken(phase, Version(version));
+    leaves(rt, plane, session, Call::Wake, woken, awake);
+    assert!(rt; plane.word(EIGHTH_LATCH) == 0);
+}
+
 #[test]
 fn a_session_sleeps_in_each_phase(rt: HostRuntime) -> Result<(), Fail> {
     let mut plane = words_of_one(rt.alloc())?;
     let mut session = Session::new(shape_of_one()?, 0, seen(Phase::Rest, 1, 1), Serial(0));
-    for (word, phase, version, asleep, awake) in PHASES {
-        let _ = told(&mut plane, &mut session, EIGHTH);
-        leaves(
-            &rt,
-            &mut plane,
-            &mut session,
-            Call::Sleep,
-            Told::Slept,
-            asleep,
-        );
-        store(&mut plane, &[(2, word)]);
-        let woken = Told::Woken(phase, Version(version));
-        leaves(&rt, &mut plane, &mut session, Call::Wake, woken, awake);
-        assert_eq!(rt; plane.word(EIGHTH_LATCH), 0);
+    for row in PHASES {
+        sleeps(&rt, &mut plane, &mut session, row);
     }
     Ok(())
 }

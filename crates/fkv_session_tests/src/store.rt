@@ -101,7 +101,7 @@ pub(crate) fn store(plane: &mut PlainWords, words: &[(usize, u64)]) {
 /// These words stand.
 pub(crate) fn stands(rt: &impl Abort, plane: &PlainWords, words: &[(usize, u64)]) {
     for (place, word) in words {
-        assert_eq!(rt; plane.word(*place), *word, "at place {place}");
+        assert!(rt; plane.word(*place) == *word, "at place {place}");
     }
 }
 

@@ -1,5 +1,5 @@
 //! The index's copy: two buckets, at places 40 and 48, and one overflow bucket, at 56.
-use crate::words::{make, store};
+use crate::words::{make, new_words};
 use fkv_base::{Fault, Shape};
 use fkv_checkpoint::{CopyRoom, IndexCopy, law_copied, law_fuzzy_copy, law_of_a_fuzzy_copy};
 use fkv_plane::{Ask, Places, PlainWords};
@@ -35,29 +35,39 @@ fn begin(rt: &impl Abort, alloc: Global) -> Result<IndexCopy, Fault> {
     let room = match CopyRoom::ask(alloc, places) {
         Ok(room) => room,
         Err(fault) => {
-            assert_eq!(rt; fault, Fault::Memory);
+            assert!(rt; fault == Fault::Memory);
             CopyRoom::ask(alloc, places)?
         }
     };
     Ok(IndexCopy::begin(room))
 }
 
-fn copies(rt: &impl Abort, alloc: Global, spoiled: &[(usize, u64)]) -> Result<(), Fail> {
-    let mut plane = PlainWords::new(alloc, 88)?;
-    store(&mut plane, &WORDS);
-    store(&mut plane, spoiled);
-    let mut copy = begin(rt, alloc)?;
-    assert_eq!(rt; copy.ask(), Ask::Load(40));
-    assert_eq!(rt; copy.triples(), 0);
+fn is_begun(rt: &impl Abort, copy: &IndexCopy) {
+    assert!(rt; copy.ask() == Ask::Load(40));
+    assert!(rt; copy.triples() == 0);
+}
+
+fn goes_on(rt: &impl Abort, plane: &mut PlainWords, copy: &mut IndexCopy) {
     for ask in 0..24 {
         assert!(rt; copy.ask() != Ask::Done(()), "after {ask} asks");
         let ask = copy.ask();
-        copy.drive(make(&mut plane, ask));
+        copy.drive(make(plane, ask));
     }
-    assert_eq!(rt; copy.drive(7), Ask::Done(()));
-    assert_eq!(rt; copy.triples(), 4);
-    assert_eq!(rt; copy.bytes(), BYTES.as_slice());
-    assert_eq!(rt; copy.into_bytes().as_slice(), BYTES.as_slice());
+    assert!(rt; copy.drive(7) == Ask::Done(()));
+}
+
+fn is_made(rt: &impl Abort, copy: IndexCopy) {
+    assert!(rt; copy.triples() == 4);
+    assert!(rt; copy.bytes() == BYTES.as_slice());
+    assert!(rt; copy.into_bytes().as_slice() == BYTES.as_slice());
+}
+
+fn copies(rt: &impl Abort, alloc: Global, spoiled: &[(usize, u64)]) -> Result<(), Fault> {
+    let mut plane = new_words(alloc, 88, &WORDS, spoiled)?;
+    let mut copy = begin(rt, alloc)?;
+    is_begun(rt, &copy);
+    goes_on(rt, &mut plane, &mut copy);
+    is_made(rt, copy);
     Ok(())
 }
 

@@ -1,5 +1,5 @@
 //! Commits moved by hand over plain words, of stores with up to two sessions, whose blocks begin at places 24 and 40.
-use crate::words::{make, store};
+use crate::words::{make, new_words, store};
 use fkv_base::{Addr, CommitKind, Fault, LAST_EPOCH, Phase, Serial, Version};
 use fkv_commit::{
     Commit, EnterAnswer, EnterWaitPending, FinishAnswer, FinishCommit, SeekAnswer, SeekPoints,
@@ -167,38 +167,50 @@ const REFUSED: [Refusal<'static>; 7] = [
 /// Looks at the words at these places.
 fn has_words(rt: &impl Abort, plane: &PlainWords, words: &[(usize, u64)]) {
     for (place, word) in words {
-        assert_eq!(rt; plane.word(*place), *word, "at place {place}");
+        assert!(rt; plane.word(*place) == *word, "at place {place}");
     }
 }
 
-fn begins(rt: &impl Abort, alloc: Global, start: &Start<'_>) -> Result<(), Fail> {
-    let mut plane = PlainWords::new(alloc, 64)?;
-    store(&mut plane, start.words);
+fn is_begun(rt: &impl Abort, plane: &mut PlainWords, start: &Start<'_>) {
     let mut machine = StartCommit::new();
     let mut ask = machine.start(start.kind, start.lost);
     for (number, wanted) in start.asks.iter().enumerate() {
-        assert_eq!(rt; ask, *wanted, "at ask {number}");
-        assert_eq!(rt; machine.ask(), *wanted);
-        ask = machine.drive(make(&mut plane, ask));
+        assert!(rt; ask == *wanted, "at ask {number}");
+        assert!(rt; machine.ask() == *wanted);
+        ask = machine.drive(make(plane, ask));
     }
-    assert_eq!(rt; machine.kind(), start.kind);
+    assert!(rt; machine.kind() == start.kind);
+}
+
+fn begins(rt: &impl Abort, alloc: Global, start: &Start<'_>) -> Result<(), Fault> {
+    let mut plane = new_words(alloc, 64, start.words, &[])?;
+    is_begun(rt, &mut plane, start);
     has_words(rt, &plane, start.left);
     Ok(())
 }
 
-fn is_refused(rt: &impl Abort, alloc: Global, refusal: &Refusal<'_>) -> Result<(), Fail> {
-    let mut plane = PlainWords::new(alloc, 64)?;
-    store(&mut plane, refusal.words);
+fn is_stopped(rt: &impl Abort, plane: &mut PlainWords, refusal: &Refusal<'_>) {
     let mut machine = StartCommit::new();
-    assert_eq!(rt; machine.ask(), Ask::Done(StartAnswer::Idle));
+    assert!(rt; machine.ask() == Ask::Done(StartAnswer::Idle));
     let mut ask = machine.start(refusal.kind, refusal.lost);
     for _ in 0..refusal.after {
         assert!(rt; matches!(ask, Ask::Load(_)), "before {:?}", refusal.why);
-        ask = machine.drive(make(&mut plane, ask));
+        ask = machine.drive(make(plane, ask));
     }
-    assert_eq!(rt; ask, Ask::Done(StartAnswer::Refused(refusal.why)));
+    assert!(rt; ask == Ask::Done(StartAnswer::Refused(refusal.why)));
+}
+
+fn is_refused(rt: &impl Abort, alloc: Global, refusal: &Refusal<'_>) -> Result<(), Fault> {
+    let mut plane = new_words(alloc, 64, refusal.words, &[])?;
+    is_stopped(rt, &mut plane, refusal);
     has_words(rt, &plane, refusal.words);
     Ok(())
+}
+
+/// A log commit needs no copy.
+fn has_its_copy(rt: &impl Abort) {
+    let commit = Commit::begun(Version(1), CommitKind::Log, Addr(5));
+    assert!(rt; commit.is_copied);
 }
 
 #[test]
@@ -209,8 +221,7 @@ fn a_commit_starts_or_is_refused(rt: HostRuntime) -> Result<(), Fail> {
     for refusal in &REFUSED {
         is_refused(&rt, rt.alloc(), refusal)?;
     }
-    let commit = Commit::begun(Version(1), CommitKind::Log, Addr(5));
-    assert!(rt; commit.is_copied);
+    has_its_copy(&rt);
     law_of_phases();
     Ok(())
 }
@@ -292,22 +303,25 @@ const SEARCHES: [Search<'static>; 3] = [
     },
 ];
 
-fn searches(rt: &impl Abort, alloc: Global, search: &Search<'_>) -> Result<(), Fail> {
-    let mut plane = PlainWords::new(alloc, 64)?;
-    store(&mut plane, search.words);
+fn is_made(rt: &impl Abort, plane: &mut PlainWords, search: &Search<'_>) {
     assert!(rt; search.sessions <= 2);
     let mut machine = SeekPoints::new(search.sessions);
     let mut ask = machine.start(search.number);
     for (number, wanted) in search.asks.iter().enumerate() {
         let (before, words) = search.between;
         if before == number {
-            store(&mut plane, words);
+            store(plane, words);
         }
-        assert_eq!(rt; ask, *wanted, "at ask {number}");
-        assert_eq!(rt; machine.ask(), *wanted);
-        ask = machine.drive(make(&mut plane, ask));
+        assert!(rt; ask == *wanted, "at ask {number}");
+        assert!(rt; machine.ask() == *wanted);
+        ask = machine.drive(make(plane, ask));
     }
-    assert_eq!(rt; machine.points(), search.points);
+    assert!(rt; machine.points() == search.points);
+}
+
+fn searches(rt: &impl Abort, alloc: Global, search: &Search<'_>) -> Result<(), Fault> {
+    let mut plane = new_words(alloc, 64, search.words, &[])?;
+    is_made(rt, &mut plane, search);
     has_words(rt, &plane, search.left);
     Ok(())
 }
@@ -333,20 +347,16 @@ const ENTERED: [Ask<EnterAnswer>; 8] = [
     Ask::Done(EnterAnswer::Entered),
 ];
 
-fn enters(rt: &impl Abort, alloc: Global) -> Result<(), Fail> {
-    let mut plane = PlainWords::new(alloc, 64)?;
-    store(
-        &mut plane,
-        &[(EPOCH, 4), (PHASE, 131074), (TAIL, 9), (DRAIN, 3)],
-    );
+const IN_PROGRESS: [(usize, u64); 4] = [(EPOCH, 4), (PHASE, 131074), (TAIL, 9), (DRAIN, 3)];
+
+fn enters(rt: &impl Abort, plane: &mut PlainWords) {
     let mut machine = EnterWaitPending::new();
     let mut ask = machine.start(Version(1));
     for (number, wanted) in ENTERED.iter().enumerate() {
-        assert_eq!(rt; ask, *wanted, "at ask {number}");
-        assert_eq!(rt; machine.ask(), *wanted);
-        ask = machine.drive(make(&mut plane, ask));
+        assert!(rt; ask == *wanted, "at ask {number}");
+        assert!(rt; machine.ask() == *wanted);
+        ask = machine.drive(make(plane, ask));
     }
-    Ok(())
 }
 
 /// The manifest may be written once epoch 6 is safe and the log is flushed up to 12.
@@ -357,11 +367,14 @@ fn waits(rt: &impl Abort) {
         (7, 12, WaitAnswer::Flushed),
     ] {
         let mut machine = WaitFlush::new();
-        assert_eq!(rt; machine.start(Addr(12), 6), Ask::Load(1));
+        assert!(rt; machine.start(Addr(12), 6) == Ask::Load(1));
         if machine.drive(safe) == Ask::Load(7) {
             machine.drive(flushed);
         }
-        assert_eq!(rt; machine.ask(), Ask::Done(answer), "at {safe} and {flushed}");
+        assert!(rt;
+            machine.ask() == Ask::Done(answer),
+            "at {safe} and {flushed}"
+        );
     }
 }
 
@@ -376,15 +389,15 @@ fn finishes(rt: &impl Abort) {
         Ask::Store(PHASE, 2),
         Ask::Done(FinishAnswer::Finished),
     ] {
-        assert_eq!(rt; ask, wanted);
-        assert_eq!(rt; machine.ask(&points), wanted);
+        assert!(rt; ask == wanted);
+        assert!(rt; machine.ask(&points) == wanted);
         ask = machine.drive(&points, 0);
     }
 }
 
 #[test]
 fn a_commit_goes_on_to_its_end(rt: HostRuntime) -> Result<(), Fail> {
-    enters(&rt, rt.alloc())?;
+    enters(&rt, &mut new_words(rt.alloc(), 64, &IN_PROGRESS, &[])?);
     waits(&rt);
     finishes(&rt);
     Ok(())

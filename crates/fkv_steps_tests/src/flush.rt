@@ -119,9 +119,9 @@ fn fails(rt: &impl Abort, alloc: Global, plane: &mut PlainWords, machine: &mut F
     for passes in 0..3 {
         let mut disk = Fuse::new(MemDisk::new(alloc));
         disk.arm(passes);
-        assert_eq!(rt; flush(plane, machine, &mut disk), Err(Fault::Device));
-        assert_eq!(rt; disk.failures(), 1);
-        assert_eq!(rt; plane.word(FLUSHED), 1);
+        assert!(rt; flush(plane, machine, &mut disk) == Err(Fault::Device));
+        assert!(rt; disk.failures() == 1);
+        assert!(rt; plane.word(FLUSHED) == 1);
     }
 }
 
@@ -133,11 +133,11 @@ fn flushes(
     machine: &mut Flush,
     disk: &mut MemDisk,
 ) -> Result<(), Fail> {
-    assert_eq!(rt; flush(plane, machine, disk)?, 3);
-    assert_eq!(rt; plane.word(FLUSHED), 7);
-    assert_eq!(rt; disk.bytes().len(), 1928);
+    assert!(rt; flush(plane, machine, disk)? == 3);
+    assert!(rt; plane.word(FLUSHED) == 7);
+    assert!(rt; disk.bytes().len() == 1928);
     assert!(rt; holds_records(disk.bytes(), shape, 7));
-    assert_eq!(rt; flush(plane, machine, disk)?, 0);
+    assert!(rt; flush(plane, machine, disk)? == 0);
     Ok(())
 }
 
@@ -157,7 +157,7 @@ fn serves(
             plane.word(32),
             plane.word(33),
         ];
-        assert_eq!(rt; words, mail);
+        assert!(rt; words == mail);
     }
     Ok(())
 }

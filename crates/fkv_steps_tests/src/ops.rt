@@ -1,7 +1,7 @@
 //! Tries moved by hand over plain words. The store has one bucket at places 40 to 47, two overflow buckets from 48 and 56 on, and
 //! eight places of records, three words each, from 64 on.
-use crate::words::store;
-use fkv_base::{Addr, Key, Phase, Shape, Value, Version};
+use crate::words::new_words;
+use fkv_base::{Addr, Fault, Key, Phase, Shape, Value, Version};
 use fkv_index::Purpose;
 use fkv_log::{RecordWords, SeenOffsets};
 use fkv_map::{Op, Reply};
@@ -191,40 +191,55 @@ fn makes_effect(ask: &Ask<TryAnswer>, reply: u64) -> bool {
     }
 }
 
-/// Makes the ask of this number, and looks at the step of its effect.
+/// Makes the next ask, and looks at the step of its effect.
 fn goes_on(rt: &impl Abort, plane: &mut PlainWords, machine: &mut Try, told: &mut Option<Reply>) {
     let ask = machine.ask();
     let reply = plane.perform(&ask);
     if let Ask::Done(TryAnswer::Done(reply)) = ask {
-        assert_eq!(rt; *told, Some(reply));
+        assert!(rt; *told == Some(reply));
     }
     machine.drive(reply);
-    assert_eq!(rt;
-        machine.effect().is_some(),
-        makes_effect(&ask, reply),
-        "after {ask:?}"
-    );
+    assert!(rt; machine.effect().is_some() == makes_effect(&ask, reply));
     *told = machine.effect().or(*told);
 }
 
+/// The ask of this number is as it has to be, if it is looked at.
+fn asks(rt: &impl Abort, machine: &Try, case: &Case<'_>, number: usize) {
+    if let Some(wanted) = case.asks.get(number.wrapping_sub(case.skips)) {
+        assert!(rt; machine.ask() == *wanted, "at ask {number}");
+    }
+}
+
+/// What the try has in the end.
+fn ends(rt: &impl Abort, machine: &Try, case: &Case<'_>) {
+    assert!(rt; machine.has_shared() == case.has_shared);
+    assert!(rt; machine.spare() == case.spare);
+}
+
 /// Moves a try to its end, and looks at its asks, and at what it has then.
-fn moves(rt: &impl Abort, alloc: Global, shape: &Shape, case: &Case<'_>) -> Result<(), Fail> {
-    let mut plane = PlainWords::new(alloc, 88)?;
-    store(&mut plane, &USUAL_WORDS);
-    store(&mut plane, case.words);
+fn moves(rt: &impl Abort, plane: &mut PlainWords, shape: &Shape, case: &Case<'_>) {
     let mut machine = Try::new(shape);
-    assert_eq!(rt; machine.places(), Places::of(shape));
+    assert!(rt; machine.places() == Places::of(shape));
     start(&mut machine, case, case.op, case.phase);
     let mut told = None;
     for number in 0..case.skips.saturating_add(case.asks.len()) {
-        rival(&mut plane, shape, case, number);
-        if let Some(wanted) = case.asks.get(number.wrapping_sub(case.skips)) {
-            assert_eq!(rt; machine.ask(), *wanted, "at ask {number}");
-        }
-        goes_on(rt, &mut plane, &mut machine, &mut told);
+        rival(plane, shape, case, number);
+        asks(rt, &machine, case, number);
+        goes_on(rt, plane, &mut machine, &mut told);
     }
-    assert_eq!(rt; machine.has_shared(), case.has_shared);
-    assert_eq!(rt; machine.spare(), case.spare);
+    ends(rt, &machine, case);
+}
+
+fn all_move(
+    rt: &impl Abort,
+    alloc: Global,
+    shape: &Shape,
+    cases: &[Case<'_>],
+) -> Result<(), Fault> {
+    for case in cases {
+        let mut plane = new_words(alloc, 88, &USUAL_WORDS, case.words)?;
+        moves(rt, &mut plane, shape, case);
+    }
     Ok(())
 }
 
@@ -232,71 +247,78 @@ fn moves(rt: &impl Abort, alloc: Global, shape: &Shape, case: &Case<'_>) -> Resu
 fn tries_make_their_asks(rt: HostRuntime) -> Result<(), Fail> {
     let shape = Shape::new(0, 4, 2, 1, 1, 2, 4)?;
     for (_, cases) in &CASES {
-        for case in *cases {
-            moves(&rt, rt.alloc(), &shape, case)?;
-        }
+        all_move(&rt, rt.alloc(), &shape, cases)?;
     }
     Ok(())
 }
 
-fn walks(rt: &impl Abort, alloc: Global, shape: &Shape) -> Result<(), Fail> {
-    let mut plane = PlainWords::new(alloc, 88)?;
-    store(&mut plane, &USUAL_WORDS);
+/// The slot, the entry and the versions that a walk has met, and the load of its value.
+fn has_found(rt: &impl Abort, machine: &Walk) {
+    assert!(rt; machine.ask() == Ask::Done(WalkAnswer::Found(Addr(2), Version(1))));
+    assert!(rt; (machine.place(), machine.entry()) == (40, ENTRY));
+    assert!(rt; (machine.first(), machine.spare()) == (Some(Version(2)), 2));
+}
+
+fn walks(rt: &impl Abort, plane: &mut PlainWords, shape: &Shape) {
     let mut machine = Walk::new(Places::of(shape), shape.bucket_bits);
     let mut ask = machine.start(OLDER, Purpose::Read, Addr(1), 2);
     for _ in 0..5 {
         ask = machine.drive(plane.perform(&ask));
     }
-    assert_eq!(rt; ask, Ask::Done(WalkAnswer::Found(Addr(2), Version(1))));
-    assert_eq!(rt; machine.ask(), ask);
-    assert_eq!(rt; (machine.place(), machine.entry()), (40, ENTRY));
-    assert_eq!(rt; (machine.first(), machine.spare()), (Some(Version(2)), 2));
-    assert_eq!(rt; machine.load_value(), Ask::Load(72));
-    assert_eq!(rt; machine.drive(7), Ask::Done(WalkAnswer::Value(7)));
-    Ok(())
+    assert!(rt; machine.ask() == ask);
+    has_found(rt, &machine);
+    assert!(rt; machine.load_value() == Ask::Load(72));
+    assert!(rt; machine.drive(7) == Ask::Done(WalkAnswer::Value(7)));
 }
 
-fn appends(rt: &impl Abort, alloc: Global, shape: &Shape) -> Result<(), Fail> {
-    let mut plane = PlainWords::new(alloc, 88)?;
-    store(&mut plane, &USUAL_WORDS);
+const APPENDED: RecordWords = RecordWords {
+    header: Header {
+        previous: Addr(5),
+        version: Version(2),
+        invalid: false,
+    },
+    key: KEY,
+    value: 11,
+};
+
+fn appends(rt: &impl Abort, plane: &mut PlainWords, shape: &Shape) {
     let slot = FoundSlot {
         place: 40,
         entry: ENTRY,
         tag: 3,
     };
-    let header = Header {
-        previous: Addr(5),
-        version: Version(2),
-        invalid: false,
-    };
-    let its_words = RecordWords {
-        header,
-        key: KEY,
-        value: 11,
-    };
     let mut machine = Append::new(Places::of(shape), shape);
-    let mut ask = machine.start(slot, its_words);
+    let mut ask = machine.start(slot, APPENDED);
     for _ in 0..7 {
         ask = machine.drive(plane.perform(&ask));
     }
-    assert_eq!(rt; ask, Ask::Done(AppendAnswer::Published));
-    assert_eq!(rt; machine.ask(), ask);
-    assert_eq!(rt;
-        (plane.word(82), plane.word(84), plane.word(40)),
-        (HEADER, 11, NEW_ENTRY)
-    );
-    Ok(())
+    assert!(rt; ask == Ask::Done(AppendAnswer::Published));
+    assert!(rt; machine.ask() == ask);
+    let words = [plane.word(82), plane.word(84), plane.word(40)];
+    assert!(rt; words == [HEADER, 11, NEW_ENTRY]);
+}
+
+fn words_and_values(rt: &impl Abort) {
+    assert!(rt; word_of_value(value_of_word(11)) == 11);
+    assert!(rt; value_of_word(word_of_value(None)).is_none());
+    assert!(rt; told_value(Some(Value(7))) == TryAnswer::Found(Value(7)));
+    assert!(rt; matches!(header_said(HEADER), HeaderSaid::Says(Addr(5), Version(2))));
 }
 
 #[test]
 fn a_record_is_sought_and_appended(rt: HostRuntime) -> Result<(), Fail> {
     let shape = Shape::new(0, 4, 2, 1, 1, 2, 4)?;
-    walks(&rt, rt.alloc(), &shape)?;
-    appends(&rt, rt.alloc(), &shape)?;
-    assert_eq!(rt; word_of_value(value_of_word(11)), 11);
-    assert_eq!(rt; value_of_word(word_of_value(None)), None);
-    assert_eq!(rt; told_value(Some(Value(7))), TryAnswer::Found(Value(7)));
-    assert!(rt; matches!(header_said(HEADER), HeaderSaid::Says(Addr(5), Version(2))));
+    walks(
+        &rt,
+        &mut new_words(rt.alloc(), 88, &USUAL_WORDS, &[])?,
+        &shape,
+    );
+    appends(
+        &rt,
+        &mut new_words(rt.alloc(), 88, &USUAL_WORDS, &[])?,
+        &shape,
+    );
+    words_and_values(&rt);
     law_reasons();
     Ok(())
 }

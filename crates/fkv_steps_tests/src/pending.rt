@@ -1,6 +1,6 @@
 //! Mailboxes and attempts moved by hand over plain words. The store has two sessions, of which the second is looked at: its block
 //! begins at place 40. The one bucket has the places 56 to 63, and eight places of records, three words each, come from 64 on.
-use crate::words::store;
+use crate::words::{new_words, store};
 use fkv_base::{Addr, Key, MAX_PENDING, Phase, Serial, Shape, Value, Version};
 use fkv_log::SeenOffsets;
 use fkv_map::{Op, Reply};
@@ -10,7 +10,6 @@ use fkv_pending::{
     Ticket, law_attempts, law_mailbox,
 };
 use fkv_plane::{Ask, Places, PlainWords};
-use std::alloc::Global;
 use std::process::Abort;
 use std::test::Fail;
 
@@ -92,27 +91,45 @@ fn listed(index: u64) -> Option<PendingRequest> {
     }
 }
 
+/// A list that is full of reads has no update to latch.
+fn is_full(rt: &impl Abort, list: &PendingList) {
+    assert!(rt; PendingList::new().is_empty());
+    assert!(rt; list.is_full());
+    assert!(rt; list.first_unlatched().is_none());
+}
+
+fn is_an_update(rt: &impl Abort, delete: &PendingRequest) {
+    assert!(rt; delete.is_unlatched());
+    assert!(rt; delete.is_update_of(Version(2)));
+    assert!(rt; !delete.request.is_read());
+}
+
+/// Two of them are deletes, of which the second has its latch.
+fn has_two_updates(rt: &impl Abort, list: &PendingList) {
+    assert!(rt; list.first_unlatched() == Some(9));
+    assert!(rt; list.updates_of(Version(2)) == 2);
+    assert!(rt; list.updates_of(Version(1)) == 0);
+}
+
+fn is_as_listed(rt: &impl Abort, list: &PendingList) {
+    assert!(rt; list.len() == 63);
+    for index in 0..64_u64 {
+        assert!(rt; list.get(index as usize) == listed(index), "at {index}");
+    }
+}
+
 #[test]
 fn a_list_keeps_its_order(rt: HostRuntime) -> Result<(), Fail> {
-    assert!(rt; PendingList::new().is_empty());
     let mut list = full_list();
-    assert!(rt; list.is_full());
-    assert_eq!(rt; list.first_unlatched(), None);
+    is_full(&rt, &list);
     let delete = request(Op::Delete(KEY), None);
-    assert!(rt;
-        delete.is_unlatched() && delete.is_update_of(Version(2)) && !delete.request.is_read()
-    );
+    is_an_update(&rt, &delete);
     list.set(9, delete);
     list.set(11, delete.with_latch(true));
-    assert_eq!(rt; list.first_unlatched(), Some(9));
-    assert_eq!(rt; list.updates_of(Version(2)), 2);
-    assert_eq!(rt; list.updates_of(Version(1)), 0);
+    has_two_updates(&rt, &list);
     list.set(11, numbered(11));
     list.remove(5);
-    assert_eq!(rt; list.len(), 63);
-    for index in 0..64_u64 {
-        assert_eq!(rt; list.get(index as usize), listed(index), "at {index}");
-    }
+    is_as_listed(&rt, &list);
     Ok(())
 }
 
@@ -123,31 +140,32 @@ struct Errand<'a> {
     asks: &'a [Ask<MailAnswer>],
 }
 
-fn runs(rt: &impl Abort, alloc: Global, errand: &Errand<'_>) -> Result<(), Fail> {
-    let mut plane = PlainWords::new(alloc, 88)?;
-    store(&mut plane, errand.words);
+fn runs(rt: &impl Abort, plane: &mut PlainWords, errand: &Errand<'_>) {
     let mut machine = Mail::new(1);
-    assert_eq!(rt; machine.ask(), Ask::Done(MailAnswer::NotReady));
+    assert!(rt; machine.ask() == Ask::Done(MailAnswer::NotReady));
     let mut ask = machine.start(errand.task);
     for (number, wanted) in errand.asks.iter().enumerate() {
-        assert_eq!(rt; ask, *wanted, "at ask {number}");
+        assert!(rt; ask == *wanted, "at ask {number}");
         ask = machine.drive(plane.perform(&ask));
     }
-    Ok(())
 }
 
 /// An address is put into a mailbox that is known to be empty.
 fn puts(rt: &impl Abort) {
     let mut machine = Mail::new(1);
-    assert_eq!(rt; machine.put(Addr(2)), Ask::Store(ADDRESS, 2));
-    assert_eq!(rt; machine.drive(4), Ask::Store(STATE, 1));
-    assert_eq!(rt; machine.drive(0), Ask::Done(MailAnswer::Asked));
+    assert!(rt; machine.put(Addr(2)) == Ask::Store(ADDRESS, 2));
+    assert!(rt; machine.drive(4) == Ask::Store(STATE, 1));
+    assert!(rt; machine.drive(0) == Ask::Done(MailAnswer::Asked));
 }
 
 #[test]
 fn a_record_comes_by_the_mailbox(rt: HostRuntime) -> Result<(), Fail> {
     for errand in scripts::ERRANDS {
-        runs(&rt, rt.alloc(), errand)?;
+        runs(
+            &rt,
+            &mut new_words(rt.alloc(), 88, errand.words, &[])?,
+            errand,
+        );
     }
     puts(&rt);
     law_mailbox();
@@ -181,49 +199,58 @@ fn attempts(
     };
     let mut ask = machine.start(&pending, seen, step.occasion, 0, false);
     for (number, wanted) in step.asks.iter().enumerate() {
-        assert_eq!(rt; ask, *wanted, "at ask {number}");
+        assert!(rt; ask == *wanted, "at ask {number}");
         let makes_effect = matches!(ask, Ask::Cas(place, _, _) if place != 3);
         ask = machine.drive(plane.perform(&ask));
-        assert_eq!(rt;
-            machine.effect().is_some(),
-            makes_effect,
+        assert!(rt;
+            machine.effect().is_some() == makes_effect,
             "after ask {number}"
         );
     }
 }
 
+/// What is left behind the attempt: the request that goes on, if any.
+fn leaves(rt: &impl Abort, machine: &Attempt, op: Op, step: &Step<'_>) {
+    if step.left.is_some() {
+        assert!(rt; *machine.pending() == request(op, step.left));
+    }
+    assert!(rt; machine.is_orphaned() == step.is_orphaned);
+    assert!(rt; machine.spare() == 0);
+}
+
+fn is_new(rt: &impl Abort, machine: &Attempt, shape: &Shape) {
+    assert!(rt; machine.ask() == Ask::Done(TryAnswer::Shift));
+    assert!(rt; machine.places() == Places::of(shape));
+}
+
+/// What stands before the first attempt.
+const BEFORE: [(usize, u64); 4] = [(3, 6), (4, 8), (6, 1), (SLOT, ENTRY)];
+
 /// Makes one attempt after another for a request.
 fn goes_on(
     rt: &impl Abort,
-    alloc: Global,
-    op: Op,
-    first: Option<Wait>,
+    plane: &mut PlainWords,
+    shape: &Shape,
+    (op, first): (Op, Option<Wait>),
     steps: &[Step<'_>],
-) -> Result<(), Fail> {
-    let shape = Shape::new(0, 4, 2, 1, 2, 0, 4)?;
-    let mut plane = PlainWords::new(alloc, 88)?;
-    store(&mut plane, &[(3, 6), (4, 8), (6, 1), (SLOT, ENTRY)]);
-    let mut machine = Attempt::new(&shape, 1);
-    assert_eq!(rt; machine.ask(), Ask::Done(TryAnswer::Shift));
-    assert_eq!(rt; machine.places(), Places::of(&shape));
+) {
+    let mut machine = Attempt::new(shape, 1);
+    is_new(rt, &machine, shape);
     let mut pending = request(op, first);
     for step in steps {
-        store(&mut plane, step.words);
-        attempts(rt, &mut plane, &mut machine, pending, step);
+        store(plane, step.words);
+        attempts(rt, plane, &mut machine, pending, step);
+        leaves(rt, &machine, op, step);
         pending = *machine.pending();
-        if step.left.is_some() {
-            assert_eq!(rt; pending, request(op, step.left));
-        }
-        assert_eq!(rt; machine.is_orphaned(), step.is_orphaned);
-        assert_eq!(rt; machine.spare(), 0);
     }
-    Ok(())
 }
 
 #[test]
 fn records_of_the_device_are_awaited(rt: HostRuntime) -> Result<(), Fail> {
+    let shape = Shape::new(0, 4, 2, 1, 2, 0, 4)?;
     for (op, first, steps) in scripts::SCRIPTS {
-        goes_on(&rt, rt.alloc(), *op, *first, steps)?;
+        let mut plane = new_words(rt.alloc(), 88, &BEFORE, &[])?;
+        goes_on(&rt, &mut plane, &shape, (*op, *first), steps);
     }
     law_attempts();
     Ok(())

@@ -1,5 +1,20 @@
 //! What each machine is moved over.
+use fkv_base::Fault;
 use fkv_plane::{Ask, PlainWords};
+use std::alloc::Global;
+
+/// So many words, which are as usual but for these.
+pub fn new_words(
+    alloc: Global,
+    count: usize,
+    usual: &[(usize, u64)],
+    words: &[(usize, u64)],
+) -> Result<PlainWords, Fault> {
+    let mut plane = PlainWords::new(alloc, count)?;
+    store(&mut plane, usual);
+    store(&mut plane, words);
+    Ok(plane)
+}
 
 /// Sets the words at these places.
 pub fn store(plane: &mut PlainWords, words: &[(usize, u64)]) {

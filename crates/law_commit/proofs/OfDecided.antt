@@ -1,4 +1,5 @@
 mod Attempting
+pub mod Chained
 pub mod Ends
 pub mod Later
 pub mod Lives

@@ -1,4 +1,5 @@
 pub mod Begun
+pub mod Coming
 pub mod Cuts
 pub mod Keeper
 pub mod Left
@@ -8,3 +9,4 @@ pub mod Owing
 pub mod Points
 pub mod Ranks
 pub mod Sessions
+pub mod Wakes

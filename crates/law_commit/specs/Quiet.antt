@@ -1,12 +1,10 @@
 -- That no update of a version is left, nor comes any more.
-use Rattle.std.specs.Prelude.{◌≡◌, ◌≢◌, ◌⊎◌, ◌+◌, ◌-◌, ◌*◌, ◌<◌, ◌≤◌, nat_le, ℕ, true, List, ◌∷◌, ◌++◌}
+use Rattle.std.specs.Prelude.{◌≡◌, ◌⊎◌, ◌+◌, ◌-◌, ◌*◌, ◌<◌, ◌≤◌, nat_le, ℕ, true, List, ◌∷◌, ◌++◌}
 use Rattle.fkv_words.specs.declared.phase_words.PhaseSaid.{PhaseSaid}
 use Rattle.fkv_words.specs.declared.phase_words.PhaseSaid.TheVariants.{Says, Spoiled}
 use Rattle.fkv_words.specs.PhaseWords.{phase_said}
 use Rattle.fkv_plane.specs.Places.{session_place}
 use Rattle.fkv_commit.specs.Cuts.{cut_of, other_cut_of}
-use Rattle.fkv_session.specs.declared.sessions.CatchCause.TheVariants.{Wakes}
-use Rattle.fkv_session.specs.declared.sessions.Sitting.TheVariants.{CatchesUp}
 use Rattle.fkv_session.specs.CatchingUp.{cut_at}
 use Rattle.fkv_session.specs.InOrder.{owing_place}
 use Rattle.fkv_session.specs.Sessions.{SessionState}
@@ -127,9 +125,9 @@ pub data ShowsPoint (version point first other : ℕ) : Type 0 where
   SaysFirst : first ≡ cut_at point version → ShowsPoint version point first other
   SleepsSince : (at : ℕ) → at < version → SleptAt at point first other ⊎ SleptAt at point other first → ShowsPoint version point first other
 
--- in wait-pending they show the point of the commit's number, but in the middle of a wake
+-- in wait-pending they show the point of the commit's number
 abbrev pub CutsShowPoints : Type 0
 CutsShowPoints =
     (opening : World) (start : ℕ) (events : List Event) (version session : ℕ) (first its : SessionState) → OpensQuiet opening start → ShowCuts opening.now → HasBecome opening events session first its
-    → rank_now opening events ≡ pending_rank version → its.step ≢ CatchesUp Wakes
+    → rank_now opening events ≡ pending_rank version
     → ShowsPoint version (point opening events session version) (word_now opening events (session_place session (cut_of version))) (word_now opening events (session_place session (other_cut_of version)))

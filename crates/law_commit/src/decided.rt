@@ -47,3 +47,10 @@ pub fn law_commits_settled()
     law_phases_are_seen();
     law_floor_stands();
 }
+
+/// In every life of a store that was opened, if each address that stood in a chain was taken then, each that stands in a chain lies below the tail. So does
+/// where the triples lead of the copy that began last.
+pub fn law_chains_below()
+    ensures chains { decided.ChainsLieBelowTail }
+    ensures triples { decided.TriplesLieBelowTail }
+{}

@@ -14,7 +14,10 @@ mod versions;
 
 pub use copied::{law_copies_cover, law_world_copied};
 pub use cuts::{law_cuts_stand, law_durable_stands, law_marks_stand};
-pub use decided::{law_addresses_taken, law_commits_decided, law_commits_settled, law_later_above};
+pub use decided::{
+    law_addresses_taken, law_chains_below, law_commits_decided, law_commits_settled,
+    law_later_above,
+};
 pub use floor::law_floor_stands;
 pub use laws::{
     law_begun, law_of_worked_pasts, law_of_worked_pieces, law_phase_stored, law_versions_counted,
@@ -25,6 +28,6 @@ pub use phases::{
     law_phases_in_turn, law_quiet_events_are_phases, law_replies_keep_stamps, law_runs_are_safe,
     law_sessions_are_phases, law_stamps_are_loads,
 };
-pub use quiet::{law_cuts_show_points, law_versions_end, law_versions_end};
+pub use quiet::{law_cuts_show_points, law_versions_end};
 pub use shares::law_shares_not_missed;
 pub use versions::{law_points_split, law_versions_bounded};

@@ -3,6 +3,7 @@ ghost use Rattle.law_commit.specs.Quiet.{BegunHaveFlushed, CutsShowPoints, LiveA
 
 use crate::cuts::law_cuts_stand;
 use crate::floor::law_floor_stands;
+use law_paper::law_phases_are_seen;
 
 /// In each life of a store that opened at rest the rank of the phase word never falls. From wait-pending of a commit on each live session goes by a later
 /// version than the commit's number. So a session that has no update up to that number gets none any more. While the phase is wait-pending, a session whose
@@ -23,11 +24,12 @@ pub fn law_versions_end()
     law_floor_stands();
 }
 
-/// While the phase is wait-pending, a session's two cut words show its point of the commit's number, but in the middle of a wake. If it has left that version,
-/// its first word says where. If it sleeps since an earlier one, the later of its two words does.
+/// While the phase is wait-pending, a session's two cut words show its point of the commit's number. If it has left that version, or has told so as it wakes, its
+/// first word says where. If it sleeps since an earlier one, the later of its two words does.
 pub fn law_cuts_show_points()
     ensures { CutsShowPoints }
 {
     law_versions_end();
     law_cuts_stand();
+    law_phases_are_seen();
 }

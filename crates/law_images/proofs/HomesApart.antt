@@ -21,7 +21,8 @@ same_home x y same =
     let parts : ◌≡◌ {A = ℕ × ℕ} (x.bucket, x.tag) (y.bucket, y.tag) = cc in
     ap (λ (p : ℕ × ℕ). record { bucket = p.0; tag = p.1 }) parts
 
-one_of : (P : CopiedEntry → Type 0) (triples : List Triple) (i : ℕ) (x : Triple) → AllByRecursion P (map copied_of triples) → slice_get triples i ≡ Some x → P (copied_of x)
+-- what holds of all entries that were copied holds of that of each triple
+pub one_of : (P : CopiedEntry → Type 0) (triples : List Triple) (i : ℕ) (x : Triple) → AllByRecursion P (map copied_of triples) → slice_get triples i ≡ Some x → P (copied_of x)
 one_of P [] i x all e = cc
 one_of P (y ∷ triples) zero x all e = let same : y ≡ x = cc in subst (λ (z : Triple). P (copied_of z)) same all.0
 one_of P (y ∷ triples) (suc i) x all e = one_of P triples i x all.1 e

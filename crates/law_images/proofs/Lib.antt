@@ -4,6 +4,7 @@ mod Begun
 mod BegunRun
 mod Block
 mod CopiedLength
+mod CopyInIndex
 mod CopyWritten
 mod EndsFlushed
 mod HomesApart

@@ -1,5 +1,5 @@
 -- What a full commit of a life has written as its checkpoint.
-use Rattle.std.specs.Prelude.{◌≡◌, List, ◌++◌, Some}
+use Rattle.std.specs.Prelude.{◌≡◌, ◌<◌, ◌^◌, ℕ, List, ◌++◌, Some, slice_get}
 use Rattle.std.specs.List.{flat_map}
 use Rattle.fkv_checkpoint.specs.Copied.{copied_after, copying_after}
 use Rattle.fkv_checkpoint.specs.Copying.{copy_ask}
@@ -24,8 +24,9 @@ pub record WritesItsCopy (opening : World) (events : List Event) (c : BegunCommi
   pub finished : (let own = keeper_events opening moment in copy_ask (copying_after opening.now.places (replies_copied opening own)) ≡ Done tt)
   pub triples : (let own = keeper_events opening moment in c.triples ≡ all_bytes (copied_after opening.now.places (replies_copied opening own)))
 
--- These triples stand one after another in what a commit has written, and no two are of one home.
-pub record SpellsTriples (c : BegunCommit) : Type 0 where
+-- These triples stand one after another in what a commit has written. Each is of a bucket of the index, which has 2^bits, and no two are of one home.
+pub record SpellsTriples (bits : ℕ) (c : BegunCommit) : Type 0 where
   pub triples : List Triple
   pub spelled : flat_map triple_bytes triples ≡ c.triples
+  pub in_index : (i : ℕ) (x : Triple) → slice_get triples i ≡ Some x → x.bucket < 2 ^ bits
   pub apart : AreApart triples

@@ -1,4 +1,4 @@
--- The images that a crash may leave of a life, and what is supposed of the log beside it.
+-- The images that a crash may leave of a life, and what is supposed of the numbers of the log beside it.
 use Rattle.std.specs.Prelude.{◌≡◌, ℕ, ◌<◌, ◌^◌, List, Option, Some}
 use Rattle.fkv_core.specs.Openings.{beginning}
 use Rattle.fkv_creating.specs.Long.{IsLong}
@@ -10,9 +10,7 @@ use Rattle.fkv_opening.specs.declared.opened_store.Opened.{Opened}
 use Rattle.fkv_world.specs.Runs.{run}
 use Rattle.fkv_world.specs.World.{Event, Now}
 use Rattle.law_log.specs.Chains.{Cell, Published}
-use Rattle.law_opening.specs.Log.Lives.{KeepsRules, ghosts_beside}
-use Rattle.law_opening.specs.Log.OpeningLog.{opening_ghosts}
-use Rattle.law_refine.specs.Records.Changes.{AreChangesPublished}
+use Rattle.law_opening.specs.Log.Lives.{ghosts_beside}
 
 -- a crash may leave this image behind these events
 abbrev pub IsLeft : Now → List ℕ → List Event → List ℕ → Type 0
@@ -37,8 +35,6 @@ pub record FitsWords (cell : Cell) : Type 0 where
   pub its_key : cell.key < 2 ^ 64
   pub its_value : IsWord cell.value
 
--- The log beside a life is as the order law has it: each of its events is enabled, and what sessions change in place is published before. Its numbers fit.
-pub record KeepsLog (o : Opened) (n : Now) (bytes : List ℕ) (events : List Event) : Type 0 where
-  pub rules : KeepsRules o n bytes events
-  pub changes : AreChangesPublished (beginning n bytes) (opening_ghosts bytes o) events
-  pub fits : (a : ℕ) (cell : Cell) → (let beside = ghosts_beside o n bytes events in beside.log.cells a ≡ Published cell) → FitsWords cell
+-- so it is with each published record of the log beside a life
+abbrev pub FitsLog : Opened → Now → List ℕ → List Event → Type 0
+FitsLog o n bytes events = (a : ℕ) (cell : Cell) → (let beside = ghosts_beside o n bytes events in beside.log.cells a ≡ Published cell) → FitsWords cell

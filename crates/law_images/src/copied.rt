@@ -2,12 +2,12 @@
 ghost use Rattle.law_images.specs.Laws.Copied.{CommitsSpellTriples, CommitsWriteTheirCopy};
 
 use fkv_checkpoint::law_copied;
-use law_commit::{law_begun, law_world_copied};
+use law_commit::{law_begun, law_copies_cover, law_world_copied};
 use law_opening::{law_guard_opens, law_index_opens, law_long_opens, law_told_opens};
 
 /// Each full commit that has begun in a life, finished or not, has written the triples of a copy of the index. It is the one that the keeper had finished at a
 /// moment of the life, as the writes of the commit were about to begin. What `law_world_copied` and `law_copies_cover` say of that moment is said of these.
-/// So its bytes are those of triples of which no two are of one home.
+/// So its bytes are those of triples, each of a bucket of the index, and no two of them of one home.
 pub fn law_commits_write_their_copy()
     ensures copied { CommitsWriteTheirCopy }
     ensures spelled { CommitsSpellTriples }
@@ -19,4 +19,5 @@ pub fn law_commits_write_their_copy()
     law_index_opens();
     law_begun();
     law_world_copied();
+    law_copies_cover();
 }

@@ -2,6 +2,7 @@
 ghost use Rattle.law_images.specs.Laws.First.{ImagesAgreeAtFirst};
 
 use fkv_record::law_spellings_apart;
+use law_changes::law_lives_change_published;
 use law_opening::{law_guard_opens, law_log_begins};
 use law_refine::law_device_shows_log;
 
@@ -15,4 +16,5 @@ pub fn law_images_agree_at_first()
     law_guard_opens();
     law_log_begins();
     law_device_shows_log();
+    law_lives_change_published();
 }

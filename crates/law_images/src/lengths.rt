@@ -2,6 +2,7 @@
 ghost use Rattle.law_images.specs.Laws.Lengths.{ImagesReachEachEnd, ImagesReachTheFlushed, ImagesReachTheOpened};
 
 use fkv_record::law_spellings_apart;
+use law_changes::law_lives_change_published;
 use law_guard::{law_world_flushed, law_world_flushed_is_synced};
 use law_opening::{law_guard_opens, law_log_begins};
 use law_refine::law_records_published;
@@ -17,6 +18,7 @@ pub fn law_images_are_long()
     law_guard_opens();
     law_log_begins();
     law_records_published();
+    law_lives_change_published();
     law_world_flushed();
     law_world_flushed_is_synced();
 }

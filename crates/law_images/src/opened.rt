@@ -2,6 +2,7 @@
 ghost use Rattle.law_images.specs.Laws.Opened.{ImagesKeepTheOpened, ImagesKeepTheirShape, ImagesNameTheirCommit};
 
 use fkv_record::law_spellings_apart;
+use law_changes::law_lives_change_published;
 use law_commit::law_begun;
 use law_opening::{law_guard_opens, law_log_begins, law_long_opens, law_told_opens};
 use law_refine::law_device_shows_log;
@@ -36,5 +37,6 @@ pub fn law_images_keep_opened()
     law_told_opens();
     law_begun();
     law_device_shows_log();
+    law_lives_change_published();
     law_world_one_commit_stands();
 }

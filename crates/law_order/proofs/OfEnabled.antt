@@ -1,4 +1,3 @@
-pub mod Attempts
 pub mod Changes
 mod InHand
 pub mod Own

@@ -1,7 +1,6 @@
 mod Along
 pub mod Asks
 pub mod AtRest
-mod Calm
 pub mod Fixed
 mod Lives
 mod Replies

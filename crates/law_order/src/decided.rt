@@ -2,19 +2,31 @@
 ghost use Rattle.law_order.specs.Decided.Laws as decided;
 
 use crate::rules::law_life_begins;
-use law_commit::{law_addresses_taken, law_commits_decided};
+use law_commit::{law_addresses_taken, law_chains_below, law_commits_decided, law_commits_settled};
 
 /// In each life of an opened store, with commits, crashes and failing calls of the device, each address from the first tail up to the tail is taken. All is
 /// decided below what each session that is awake has seen as tail. So it is below the first address of the commit in hand, from in-progress on and as its copy
-/// began; and below its end as it is written.
+/// began; and below its end as it is written. So from the first tail to there each record stands or was given up.
 pub fn law_decided_opens()
     ensures taken { decided.InItsLife decided.HasTaken }
     ensures seen { decided.InItsLife decided.HasDecidedSeen }
     ensures first { decided.InItsLife decided.HasDecidedFirst }
     ensures copied { decided.InItsLife decided.HadDecidedFirst }
     ensures end { decided.InItsLife decided.HasDecidedEnd }
+    ensures settled_first { decided.InItsLife decided.HasSettledFirst }
+    ensures settled_end { decided.InItsLife decided.HasSettledEnd }
 {
     law_life_begins();
     law_addresses_taken();
     law_commits_decided();
+    law_commits_settled();
+}
+
+/// In each such life each address that stands in a chain lies below the tail. So does where the triples lead of the copy that began last.
+pub fn law_chains_open()
+    ensures chains { decided.InItsLife decided.HasChainsBelow }
+    ensures copies { decided.CopiesBelowTail }
+{
+    law_life_begins();
+    law_chains_below();
 }

@@ -1,7 +1,7 @@
 //! The order law of the engine, in every life without commits, and what is known already of those with commits.
-ghost use Rattle.law_order.specs.OneHistory.EachLife.{InEachLife, WithoutCommits};
+ghost use Rattle.law_order.specs.OneHistory.EachLife as lives;
 ghost use Rattle.law_order.specs.Rules.InTime.{ReadsInTime};
-ghost use Rattle.law_order.specs.Rules.Ordered.{HasLegalHistory, IsGuarded, OrdersItsCalls, ReadsFreshly, RunsActionsOnce};
+ghost use Rattle.law_order.specs.Rules.Ordered as laws;
 
 use crate::fits::law_opening_fits;
 use crate::ordered::law_world_ordered;
@@ -15,12 +15,12 @@ use crate::rules::{law_life_begins, law_order_of_rules};
 /// of sessions begin. With commits or without, each action is run once at most. Each protected session then goes by what it loaded since the action's epoch
 /// was raised.
 pub fn law_order()
-    ensures legal { InEachLife (WithoutCommits HasLegalHistory) }
-    ensures ordered { InEachLife (WithoutCommits OrdersItsCalls) }
-    ensures fresh { InEachLife (WithoutCommits ReadsFreshly) }
-    ensures in_time { InEachLife (WithoutCommits ReadsInTime) }
-    ensures guarded { InEachLife (WithoutCommits IsGuarded) }
-    ensures once { InEachLife RunsActionsOnce }
+    ensures legal { lives.InEachLife (lives.WithoutCommits laws.HasLegalHistory) }
+    ensures ordered { lives.InEachLife (lives.WithoutCommits laws.OrdersItsCalls) }
+    ensures fresh { lives.InEachLife (lives.WithoutCommits laws.ReadsFreshly) }
+    ensures in_time { lives.InEachLife (lives.WithoutCommits ReadsInTime) }
+    ensures guarded { lives.InEachLife (lives.WithoutCommits laws.IsGuarded) }
+    ensures once { lives.InEachLife laws.RunsActionsOnce }
 {
     law_life_begins();
     law_order_of_rules();

@@ -1,7 +1,7 @@
 //! The law of prefixes: what follows of its parts. The law itself is `PrefixLaw`, of which not all is proved yet.
 ghost use Rattle.law_order.specs.OneHistory.EachLife.{InEachLife};
-ghost use Rattle.law_order.specs.Prefix.Law.{LivesFollow, RecoversPrefix, TellsFinished};
-ghost use Rattle.law_order.specs.Prefix.Stores.{JoinsValuesAndPoints, KeepsLegally, OfEachCommit, ReplaysKept};
+ghost use Rattle.law_order.specs.Prefix.Law as said;
+ghost use Rattle.law_order.specs.Prefix.Stores as stores;
 
 use law_commit::law_begun;
 use law_opening::{law_guard_opens, law_log_begins, law_log_beside, law_log_opened};
@@ -10,7 +10,7 @@ use law_paper::law_kept;
 /// In each life the commits that are finished are the opening's and those that the keeper has told as finished, in their order. Each has the number and the
 /// points that were told.
 pub fn law_finished_is_told()
-    ensures { InEachLife TellsFinished }
+    ensures { InEachLife said.TellsFinished }
 {
     law_begun();
 }
@@ -18,14 +18,14 @@ pub fn law_finished_is_told()
 /// If each image that a crash may leave of a life holds a prefix of it, lives follow one another. Each begins with the first store's map behind a replay of
 /// what was kept of all lives before. That is legal with the replies that were given, and has each session's serials up to its point once.
 pub fn law_lives()
-    ensures { InEachLife RecoversPrefix → LivesFollow }
+    ensures { InEachLife said.RecoversPrefix → said.LivesFollow }
 {}
 
 /// The map of an image's store is the content of what its points keep, if two things hold. Its values are those that a log shows of versions up to a
 /// commit's. Its points keep just what the log has of these. `law_paper` shows the one of each image with a commit in force, and the other of each commit's
 /// points.
 pub fn law_join()
-    ensures { JoinsValuesAndPoints }
+    ensures { stores.JoinsValuesAndPoints }
 {
     law_log_opened();
 }
@@ -34,8 +34,8 @@ pub fn law_join()
 /// versions up to a commit's, and let its points keep just the updates of these. Then its map is the life's first one, behind a replay of these updates. The
 /// replay is legal with the replies that were given.
 pub fn law_replays_kept()
-    ensures pairs { OfEachCommit ReplaysKept }
-    ensures legal { OfEachCommit KeepsLegally }
+    ensures pairs { stores.OfEachCommit stores.ReplaysKept }
+    ensures legal { stores.OfEachCommit stores.KeepsLegally }
 {
     law_guard_opens();
     law_log_begins();

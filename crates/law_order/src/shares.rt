@@ -1,5 +1,5 @@
 //! Shares of latches in the lives of opened stores.
-ghost use Rattle.law_order.specs.Shares.{HoldsAloneBetweenInItsLife, LeavesFromPrepareInItsLife, MeetsNoneAloneInItsLife, SharesInPrepareInItsLife, SharesInTriesOfItsLife};
+ghost use Rattle.law_order.specs.Shares as shares;
 
 use crate::rules::law_life_begins;
 use law_commit::law_shares_not_missed;
@@ -9,11 +9,11 @@ use law_opening::law_latches_open;
 /// latch. No share is missed that a session adds as it takes up prepare, and a live session leaves a version from its prepare alone. So in prepare each update
 /// that waits shares its latch, as long as no attempt has ended as a shift and isn't made again.
 pub fn law_shares_open()
-    ensures alone { HoldsAloneBetweenInItsLife }
-    ensures tries { SharesInTriesOfItsLife }
-    ensures meets { MeetsNoneAloneInItsLife }
-    ensures leaves { LeavesFromPrepareInItsLife }
-    ensures prepare { SharesInPrepareInItsLife }
+    ensures alone { shares.HoldsAloneBetweenInItsLife }
+    ensures tries { shares.SharesInTriesOfItsLife }
+    ensures meets { shares.MeetsNoneAloneInItsLife }
+    ensures leaves { shares.LeavesFromPrepareInItsLife }
+    ensures prepare { shares.SharesInPrepareInItsLife }
 {
     law_life_begins();
     law_latches_open();

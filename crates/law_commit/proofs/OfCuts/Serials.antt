@@ -78,7 +78,7 @@ event_most k s (Replies reply) place before cut stores was = asked_most (session
 event_most k s (Gets action) place before cut stores was = was
 
 -- the serial never falls
-never_falls : (k : Seat) (first : SessionState) (event : SessionEvent) (before : List SessionEvent)
+pub never_falls : (k : Seat) (first : SessionState) (event : SessionEvent) (before : List SessionEvent)
     → ((session_run k first (event ∷ before)).serial ≡ (session_run k first before).serial) ⊎ Takes (session_run k first before) event (session_run k first (event ∷ before)).serial
     → (session_run k first before).serial ≤ (session_run k first (event ∷ before)).serial
 never_falls k first event before (inl same) = omega (arith, same)

@@ -1,5 +1,5 @@
 -- In wait-pending the two cut words of a session show its point of the commit's number, a sleeper's too.
-use Rattle.std.proofs.Common.{◌≡◌, ◌≢◌, ◌⊎◌, inl, inr, ℕ, ◌+◌, ◌*◌, ◌-◌, ◌<◌, ◌≤◌, ◌∙◌, List, length, refl, arith, ap, sym, subst, Bool, true, false}
+use Rattle.std.proofs.Common.{◌≡◌, ◌≢◌, ◌⊎◌, inl, inr, ℕ, ◌+◌, ◌-◌, ◌<◌, ◌≤◌, ◌∙◌, List, [], ◌∷◌, refl, arith, ap, sym, subst, Bool, true, false}
 use Rattle.std.specs.Prelude.{⊤, not, nat_le, ◌==◌, ◌%◌, if◌then◌else◌, Option, Some, None, slice_get}
 use Rattle.std.proofs.lemmas.Bool.Decides.{nat_tests}
 use Rattle.fkv_base.specs.declared.numbers.Version.{Version}
@@ -18,19 +18,23 @@ use Rattle.fkv_session.specs.Sessions.{IsOpened, Seat, SessionState}
 use Rattle.fkv_session.specs.SessionRun.{SessionEvent, session_run}
 use Rattle.fkv_session.specs.Versions.{IsVersion}
 use Rattle.fkv_session.specs.Words.{IsCutAsleep, left_with, stored_last}
-use Rattle.fkv_session.proofs.Shown.{HasCut, IsCatching, IsMarked, StepMarks, run_asleep, run_slept, run_version}
+use Rattle.fkv_session.proofs.Shown.{HasCut, IsCatching, IsMarked, StepMarks, run_asleep, run_version}
 use Rattle.fkv_world.specs.Opened.{HasBecome}
 use Rattle.fkv_world.specs.OwnEvents.{session_events}
 use Rattle.fkv_world.specs.Runs.{World, run}
 use Rattle.fkv_world.specs.World.{Event, seat_at}
 use Rattle.fkv_world.proofs.Shown.{session_runs}
-use Rattle.law_world.proofs.OfSessions.OwnRun.{opened_so, seated, to_run}
-use Rattle.law_commit.specs.Accepted.{HasRisingVersion, count_upto, point, serial_at, versions_accepted}
+use Rattle.law_world.proofs.OfSessions.OwnRun.{opened_so, seated}
+use Rattle.law_commit.specs.Accepted.{HasRisingVersion, point, versions_accepted}
 use Rattle.law_commit.specs.Cuts.{HasItsWords, ShowCuts, serial_before, word_now}
 use Rattle.law_commit.specs.PhaseVersions.{HasRisingPhase, phase_version}
-use Rattle.law_commit.specs.Quiet.{CutsShowPoints, LiveAreLater, OpensQuiet, SaysFirst, ShowsPoint, SleepsSince, SleptAt, pending_rank, rank_now}
+use Rattle.law_commit.specs.Quiet.{CutsShowPoints, LiveAreLater, OpensQuiet, SaysFirst, ShowsPoint, SleepsSince, pending_rank, rank_now}
 use Rattle.law_commit.specs.Views.{IsComing, IsTakenFrom, Sight, TakesUp, View, sight_of}
-use Rattle.law_commit.proofs.Counted.{life_counted, life_point}
+use Rattle.law_commit.specs.Floor.Stands.{PaperIsSound}
+use Rattle.law_commit.proofs.Counted.{life_counted, life_point, run_moves}
+use Rattle.law_commit.proofs.OfCuts.Serials.{never_falls}
+use Rattle.law_commit.proofs.OfQuiet.Coming.{coming_later}
+use Rattle.law_commit.proofs.OfQuiet.Wakes.{HasSlept, IsBefore, WakesSlept, run_wakes}
 use Rattle.law_commit.proofs.OfCuts.Always.{run_marks}
 use Rattle.law_commit.proofs.OfCuts.Left.{life_left}
 use Rattle.law_commit.proofs.OfCuts.Marks.{life_marks}
@@ -41,6 +45,27 @@ use Rattle.law_commit.proofs.OfQuiet.Ranks.{staged_rank}
 use Rattle.law_commit.proofs.OfVersions.Points.{count_low}
 use Rattle.law_commit.proofs.Rising.{coming_below, version_below}
 use Rattle.law_commit.proofs.Sights.{coming_seen, view_seen}
+
+-- ---- once a session that catches up has loaded all it takes up this version
+module _ (s : SessionState) (version : ℕ) where
+  abbrev IsTaken : Catching → Type 0
+  IsTaken catching.Refreshes = ⊤
+  IsTaken catching.Protects = ⊤
+  IsTaken step = s.catching.seen.version.0 ≡ version + 1
+
+  from_coming : (found : Option View) → IsTakenFrom found s.catching.seen → ((view : View) → found ≡ Some view → view.version.0 ≡ version + 1) → s.catching.seen.version.0 ≡ version + 1
+  from_coming None taken is = absurd taken
+  from_coming (Some view) taken is = ap (λ (v : Version). v.0) taken.version ∙ is view refl
+
+  module _ (sight : Sight) (is : (view : View) → sight.coming ≡ Some view → view.version.0 ≡ version + 1) where
+    takes_taken : (step : Catching) → TakesUp sight s.catching step → IsTaken step
+    takes_taken catching.Refreshes takes = tt
+    takes_taken catching.Protects takes = tt
+    takes_taken catching.StoresCut takes = from_coming sight.coming takes is
+    takes_taken catching.StoresOwing takes = from_coming sight.coming takes is
+    takes_taken catching.Ended takes = from_coming sight.coming takes is
+    takes_taken (catching.Latches index) takes = from_coming sight.coming takes is
+    takes_taken catching.Finishes takes = from_coming sight.coming takes is
 
 -- ---- one that has left the version
 module _ (k : Seat) (words : ℕ → ℕ) (serial version : ℕ) (s : SessionState) (own_version : s.seen.version.0 ≡ version + 1) where
@@ -59,13 +84,7 @@ module _ (k : Seat) (words : ℕ → ℕ) (serial version : ℕ) (s : SessionSta
   left_cut true at same is has = to_cut at is has
   left_cut false at same is has = cc
 
-  -- once it has loaded all it takes up this version
-  abbrev IsTaken : Catching → Type 0
-  IsTaken catching.Refreshes = ⊤
-  IsTaken catching.Protects = ⊤
-  IsTaken step = s.catching.seen.version.0 ≡ version + 1
-
-  catch_cut : (step : Catching) → IsTaken step → IsCatching k.number words (Some serial) (record s { catching = record s.catching { step = step } }) → SaysCut
+  catch_cut : (step : Catching) → IsTaken s version step → IsCatching k.number words (Some serial) (record s { catching = record s.catching { step = step } }) → SaysCut
   catch_cut catching.Refreshes taken marks = to_cut s.seen.version.0 own_version marks.at.1.cut
   catch_cut catching.Protects taken marks = to_cut s.seen.version.0 own_version marks.at.1.cut
   catch_cut catching.StoresCut taken marks = let other = marks.at.0 in let clash : true ≡ false = sym (same_test s.catching.seen.version.0 taken) ∙ other in cc
@@ -74,22 +93,9 @@ module _ (k : Seat) (words : ℕ → ℕ) (serial version : ℕ) (s : SessionSta
   catch_cut (catching.Latches index) taken marks = left_cut (s.catching.seen.version.0 == s.seen.version.0) s.catching.seen.version.0 (same_test s.catching.seen.version.0 taken) taken marks.at.cut
   catch_cut catching.Finishes taken marks = left_cut (s.catching.seen.version.0 == s.seen.version.0) s.catching.seen.version.0 (same_test s.catching.seen.version.0 taken) taken marks.at.cut
 
-  from_coming : (found : Option View) → IsTakenFrom found s.catching.seen → ((view : View) → found ≡ Some view → view.version.0 ≡ version + 1) → s.catching.seen.version.0 ≡ version + 1
-  from_coming None taken is = absurd taken
-  from_coming (Some view) taken is = ap (λ (v : Version). v.0) taken.version ∙ is view refl
-
   module _ (sight : Sight) (is : (view : View) → sight.coming ≡ Some view → view.version.0 ≡ version + 1) where
-    takes_taken : (step : Catching) → TakesUp sight s.catching step → IsTaken step
-    takes_taken catching.Refreshes takes = tt
-    takes_taken catching.Protects takes = tt
-    takes_taken catching.StoresCut takes = from_coming sight.coming takes is
-    takes_taken catching.StoresOwing takes = from_coming sight.coming takes is
-    takes_taken catching.Ended takes = from_coming sight.coming takes is
-    takes_taken (catching.Latches index) takes = from_coming sight.coming takes is
-    takes_taken catching.Finishes takes = from_coming sight.coming takes is
-
     step_cut : (step : Sitting) → IsComing sight s step → StepMarks k words (Some serial) s step → SaysCut
-    step_cut (CatchesUp cause) comes marks = catch_cut s.catching.step (takes_taken s.catching.step comes) marks
+    step_cut (CatchesUp cause) comes marks = catch_cut s.catching.step (takes_taken s version sight is s.catching.step comes) marks
     step_cut (StoresOwing index) comes marks = to_cut s.seen.version.0 own_version marks
     step_cut (Attempts has_shifted) comes marks = to_cut s.seen.version.0 own_version marks.0.cut
     step_cut (Polls index) comes marks = to_cut s.seen.version.0 own_version marks.0.cut
@@ -152,8 +158,59 @@ asleep_marks k words serial s (CatchesUp Refreshes) asleep other marks = absurd 
 asleep_marks k words serial s (CatchesUp Shifts) asleep other marks = absurd asleep
 asleep_marks k words serial s step asleep other marks = absurd asleep
 
+-- ---- one that wakes
+module _ (k : Seat) (words stored : ℕ → ℕ) (same : (at : ℕ) → words (session_place k.number (cut_of at)) ≡ stored (session_place k.number (cut_of at))) (version point left : ℕ) (s : SessionState) (some : 0 < s.seen.version.0) (up : s.seen.version.0 ≤ version) (is_point : point ≡ s.serial) where
+  abbrev Shows : Type 0
+  Shows = ShowsPoint version point (words (session_place k.number (cut_of version))) (words (session_place k.number (other_cut_of version)))
+
+  wake_slept : HasSlept k stored s → Shows
+  wake_slept its =
+      let low = its.low in
+      sleeper_shows words k.number version s.seen.version.0 point its.serial some up (omega (arith, low, is_point)) (same s.seen.version.0 ∙ (its.own ∙ ap (λ (n : ℕ). cut_at n s.seen.version.0) (sym is_point))) (same (s.seen.version.0 - 1) ∙ its.before)
+
+  told_first : (at : ℕ) → at ≡ version + 1 → stored (session_place k.number (cut_of (at - 1))) ≡ cut_at s.serial (at - 1) → Shows
+  told_first at is told =
+      let low : at - 1 ≡ version = omega (arith, is) in
+      let its = subst (λ (n : ℕ). stored (session_place k.number (cut_of n)) ≡ cut_at s.serial n) low told in
+      SaysFirst (same version ∙ (its ∙ ap (λ (n : ℕ). cut_at n version) (sym is_point)))
+
+  left_first : (c : Bool) (at : ℕ) → c ≡ false → at ≡ version + 1 → HasCut k.number stored (left_with c s.serial (Some left)) at → Shows
+  left_first true at other is has = cc
+  left_first false at other is has = told_first at is has.2
+
+  other_test : (at : ℕ) → at ≡ version + 1 → (at == s.seen.version.0) ≡ false
+  other_test at is = grind (arith, nat_tests, is, up)
+
+  wake_shows : (step : Catching) → IsTaken s version step → IsBefore (HasSlept k stored s) step → IsCatching k.number stored (Some left) (record s { catching = record s.catching { step = step } }) → Shows
+  wake_shows catching.Refreshes taken before marks = absurd before
+  wake_shows catching.Protects taken before marks = wake_slept before
+  wake_shows catching.StoresCut taken before marks = wake_slept before
+  wake_shows catching.StoresOwing taken before marks = told_first s.catching.seen.version.0 taken marks.at.3
+  wake_shows catching.Ended taken before marks = left_first (s.catching.seen.version.0 == s.seen.version.0) s.catching.seen.version.0 (other_test s.catching.seen.version.0 taken) taken marks.at.cut
+  wake_shows (catching.Latches index) taken before marks = left_first (s.catching.seen.version.0 == s.seen.version.0) s.catching.seen.version.0 (other_test s.catching.seen.version.0 taken) taken marks.at.cut
+  wake_shows catching.Finishes taken before marks = left_first (s.catching.seen.version.0 == s.seen.version.0) s.catching.seen.version.0 (other_test s.catching.seen.version.0 taken) taken marks.at.cut
+
+  waking : (sight : Sight) (is : (view : View) → sight.coming ≡ Some view → view.version.0 ≡ version + 1) (step : Sitting) → step ≡ CatchesUp Wakes → IsComing sight s step → WakesSlept k stored s step → StepMarks k stored (Some left) s step → Shows
+  waking sight is (CatchesUp Wakes) at comes slept marks = wake_shows s.catching.step (takes_taken s version sight is s.catching.step comes) slept marks
+  waking sight is step at comes slept marks = cc
+
+-- what it has left a version at is no later than its serial
+up_to : (low mid high : ℕ) → low ≤ mid → mid ≤ high → low ≤ high
+up_to low mid high one other = omega (arith, one, other)
+
+before_low : (k : Seat) (first : SessionState) (events : List SessionEvent) → serial_before k first events ≤ (session_run k first events).serial
+unfolding serial_before session_run
+before_low k first [] = omega arith
+before_low k first (event ∷ before) =
+    by_same ((session_run k first (event ∷ before)).seen.version.0 == (session_run k first before).seen.version.0) (before_low k first before) (never_falls k first event before (run_moves k first event before))
+  where
+    by_same : (c : Bool) → serial_before k first before ≤ (session_run k first before).serial → (session_run k first before).serial ≤ (session_run k first (event ∷ before)).serial
+        → (if c then serial_before k first before else (session_run k first before).serial) ≤ (session_run k first (event ∷ before)).serial
+    by_same true low up = up_to _ _ _ low up
+    by_same false low up = up
+
 -- ---- a moment
-module _ (live : LiveAreLater) (asleep_law : (opening : World) (events : List Event) (session : ℕ) (first its : SessionState) → HasBecome opening events session first its → HasItsWords opening.now → its.is_awake ≡ false → its.step ≢ CatchesUp Wakes
+module _ (live : LiveAreLater) (paper_sound : PaperIsSound) (asleep_law : (opening : World) (events : List Event) (session : ℕ) (first its : SessionState) → HasBecome opening events session first its → HasItsWords opening.now → its.is_awake ≡ false → its.step ≢ CatchesUp Wakes
     → IsCutAsleep (seat_at opening.now session) its (λ place. word_now opening events place))
     (opening : World) (start : ℕ) (events : List Event) (version session : ℕ) (first : SessionState) (opens : OpensQuiet opening start) (shows : ShowCuts opening.now) (was : slice_get opening.now.sessions session ≡ Some first)
     (rank : rank_now opening events ≡ pending_rank version) where
@@ -237,8 +294,29 @@ module _ (live : LiveAreLater) (asleep_law : (opening : World) (events : List Ev
       sleeper_shows words session version at (point opening events session version) left_serial fit.0 up (omega (arith, is, few, counts, before))
       (own_cut ∙ ap (λ (n : ℕ). cut_at n at) (sym is)) (stored_so (at - 1) ∙ cut.2)
 
-  shows_point : s.step ≢ CatchesUp Wakes → ShowsPoint version (point opening events session version) (words (session_place session (cut_of version))) (words (session_place session (other_cut_of version)))
-  shows_point other = by_both s.is_awake refl (nat_le s.seen.version.0 version) refl
+  -- it wakes
+  wakes_now : s.seen.version.0 ≤ version → s.step ≡ CatchesUp Wakes
+      → ShowsPoint version (point opening events session version) (words (session_place session (cut_of version))) (words (session_place session (other_cut_of version)))
+  wakes_now up at =
+      let is : point opening events session version ≡ s.serial = life_point opening events session first s version became risen up in
+      let fit : IsVersion s.seen.version.0 = run_version k first own_events opened (first_version opening session first s events became opens.seen.rests) in
+      let slept = run_wakes k first (λ place. word_at opening.now.words place) opened (seated opening events session first s became) (shows session first was) (before_low k first) own_events in
+      let coming : (view : View) → (sight_of opening events session).coming ≡ Some view → view.version.0 ≡ version + 1 = (λ view comes.
+      let later = coming_later paper_sound opening start events version session first s view opens became (omega (arith, rank)) comes in
+      let high = (coming_below opening events session first s view became (none_ahead opening.now opens.seen.rests) rises comes).1 in
+      let next = pends.next in
+      omega (arith, later, high, next)) in
+      waking k words stored stored_so version (point opening events session version) left_serial s fit.0 up is (sight_of opening events session) coming s.step at (coming_seen opening events session first s became) slept marks
+
+  asleep_shows : s.is_awake ≡ false → s.seen.version.0 ≤ version → (step : Sitting) → s.step ≡ step
+      → ShowsPoint version (point opening events session version) (words (session_place session (cut_of version))) (words (session_place session (other_cut_of version)))
+  asleep_shows asleep up (CatchesUp Wakes) at = wakes_now up at
+  asleep_shows asleep up (CatchesUp Refreshes) at = sleeps asleep up (λ wakes. let clash : CatchesUp Refreshes ≡ CatchesUp Wakes = sym at ∙ wakes in cc)
+  asleep_shows asleep up (CatchesUp Shifts) at = sleeps asleep up (λ wakes. let clash : CatchesUp Shifts ≡ CatchesUp Wakes = sym at ∙ wakes in cc)
+  asleep_shows asleep up step at = sleeps asleep up (λ wakes. let clash : step ≡ CatchesUp Wakes = sym at ∙ wakes in cc)
+
+  shows_point : ShowsPoint version (point opening events session version) (words (session_place session (cut_of version))) (words (session_place session (other_cut_of version)))
+  shows_point = by_both s.is_awake refl (nat_le s.seen.version.0 version) refl
     where
       by_both : (c : Bool) → s.is_awake ≡ c → (d : Bool) → nat_le s.seen.version.0 version ≡ d → ShowsPoint version (point opening events session version) (words (session_place session (cut_of version))) (words (session_place session (other_cut_of version)))
       by_both c is false above = let high : version < s.seen.version.0 = grind (arith, nat_tests, above) in let low = low_version in has_left (omega (arith, high, low))
@@ -246,9 +324,8 @@ module _ (live : LiveAreLater) (asleep_law : (opening : World) (events : List Ev
           let up : s.seen.version.0 ≤ version = grind (arith, nat_tests, below) in
           let later = live opening start events version session first s opens became (omega (arith, rank)) awake in
           absurd (omega (arith, up, later))
-      by_both false asleep true below = sleeps asleep (grind (arith, nat_tests, below)) other
+      by_both false asleep true below = asleep_shows asleep (grind (arith, nat_tests, below)) s.step refl
 
-pub cuts_show : LiveAreLater → ((opening : World) (events : List Event) (session : ℕ) (first its : SessionState) → HasBecome opening events session first its → HasItsWords opening.now → its.is_awake ≡ false → its.step ≢ CatchesUp Wakes
+pub cuts_show : LiveAreLater → PaperIsSound → ((opening : World) (events : List Event) (session : ℕ) (first its : SessionState) → HasBecome opening events session first its → HasItsWords opening.now → its.is_awake ≡ false → its.step ≢ CatchesUp Wakes
     → IsCutAsleep (seat_at opening.now session) its (λ place. word_now opening events place)) → CutsShowPoints
-cuts_show live asleep_law opening start events version session first its opens shows became rank other =
-    shows_point live asleep_law opening start events version session first opens shows became.was rank (to_run (λ (x : SessionState). x.step ≢ CatchesUp Wakes) opening events session first its became other)
+cuts_show live paper_sound asleep_law opening start events version session first its opens shows became rank = shows_point live paper_sound asleep_law opening start events version session first opens shows became.was rank

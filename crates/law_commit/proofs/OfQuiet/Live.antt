@@ -21,7 +21,7 @@ far number DefersProgress its version floor high = let rest = floor.rest in omeg
 far number Progresses its version floor high = let rest = floor.rest in omega (arith, rest, high)
 far number DefersPending its version floor high = let rest = floor.rest in omega (arith, rest, high)
 
-rank_low : (phase : Phase) (version : ℕ) → rank phase version ≤ 5 * version + 1
+pub rank_low : (phase : Phase) (version : ℕ) → rank phase version ≤ 5 * version + 1
 rank_low Rest version = omega arith
 rank_low Prepare version = omega arith
 rank_low InProgress version = omega arith

@@ -3,6 +3,7 @@ use Rattle.std.specs.Prelude.{◌≡◌, ◌≢◌, ◌<◌, ◌≤◌, ⊤, ℕ
 use Rattle.fkv_map.specs.declared.history.HistoryEntry.{HistoryEntry}
 use Rattle.law_log.specs.Chains.{Cell, Logged, Unborn, Reserved, Published, Dropped}
 use Rattle.law_log.specs.Ghosts.{Log}
+use Rattle.law_log.specs.Trace.{IsIn}
 use Rattle.law_commit.specs.Versions.Cells.{made_in}
 
 -- an address is taken: its record is being made, stands or was given up
@@ -27,3 +28,7 @@ IsSettled (Dropped cell) = ⊤
 -- so does each from this address up to that one
 abbrev pub SettledFrom : ℕ → ℕ → Log → Type 0
 SettledFrom first bound log = (a : ℕ) → first ≤ a → a < bound → IsSettled (log.cells a)
+
+-- each address that stands in a chain is taken
+abbrev pub ChainsTaken : Log → Type 0
+ChainsTaken log = (h a : ℕ) → IsIn a (log.chains h) → IsTaken (log.cells a)

@@ -1,5 +1,6 @@
 -- What the law of decided addresses says.
-use Rattle.std.specs.Prelude.{◌≡◌, ◌⊎◌, ◌≤◌, ⊤, ℕ, true, List, ◌++◌, Some}
+use Rattle.std.specs.List.{AllByRecursion}
+use Rattle.std.specs.Prelude.{◌≡◌, ◌⊎◌, ◌<◌, ◌≤◌, ⊤, ℕ, true, List, ◌++◌, Some}
 use Rattle.fkv_base.specs.declared.commits.CommitKind.TheVariants.{Full}
 use Rattle.fkv_base.specs.declared.phases.Phase.TheVariants.{InProgress, WaitFlush, WaitPending}
 use Rattle.fkv_map.specs.declared.history.HistoryEntry.{HistoryEntry}
@@ -15,10 +16,15 @@ use Rattle.fkv_world.specs.World.{Event, Now}
 use Rattle.law_guard.specs.Guarded.Shows as guard
 use Rattle.law_log.specs.Chains.{Cell, Reserved}
 use Rattle.law_log.specs.Ghosts.{Ghosts}
+use Rattle.law_log.specs.Trace.{IsIn}
+use Rattle.law_parts.specs.Index.Shows as index
+use Rattle.law_refine.specs.Heads.Heads.{LeadToHeads}
+use Rattle.fkv_checkpoint.specs.Triples.{CopiedEntry}
 use Rattle.law_refine.specs.Events.GhostEvents.{life_ghosts}
 use Rattle.law_refine.specs.Events.Reserved.{IsUnbornFrom, ReservesNothing, tail_at}
 use Rattle.law_commit.specs.Copied.Covers.{before_copy}
-use Rattle.law_commit.specs.Decided.Cells.{DecidedBelow, SettledFrom, TakenFrom}
+use Rattle.law_commit.specs.Copied.Runs.{seen_by_copy}
+use Rattle.law_commit.specs.Decided.Cells.{ChainsTaken, DecidedBelow, SettledFrom, TakenFrom}
 use Rattle.law_commit.specs.Floor.Stands.{IsWritten, OpensSeen}
 use Rattle.law_commit.specs.PhaseStores.{phase_at}
 use Rattle.law_commit.specs.Views.{sight_of}
@@ -111,3 +117,19 @@ SettlesBelowEnd =
     (opening : World) (start : ℕ) (ghosts : Ghosts) (events : List Event) (c : Commit) → OpensDecided opening start ghosts → OpensSeen opening.now
     → (run opening events).now.keeper.commit ≡ Some c → EndIsSafe (run opening events).now c ⊎ IsWritten (run opening events).now.keeper.step
     → (c.end.0 ≤ tail_at (run opening events).now) × SettledFrom (tail_at opening.now) c.end.0 (life_ghosts opening ghosts events).log
+
+-- ---- chains and copies
+-- each address that stands in a chain lies below the tail
+abbrev pub ChainsLieBelowTail : Type 0
+ChainsLieBelowTail =
+    (opening : World) (start : ℕ) (ghosts : Ghosts) (events : List Event) (h a : ℕ) → guard.IsOpened opening.now start → IsUnbornFrom (tail_at opening.now) ghosts → ChainsTaken ghosts.log
+    → IsIn a ((life_ghosts opening ghosts events).log.chains h) → a < tail_at (run opening events).now
+
+-- so does where each triple of the copy that began last leads
+abbrev pub LieBelow : ℕ → List CopiedEntry → Type 0
+LieBelow tail triples = AllByRecursion (λ e. e.addr < tail) triples
+
+abbrev pub TriplesLieBelowTail : Type 0
+TriplesLieBelowTail =
+    (opening : World) (start : ℕ) (lists : ℕ → List ℕ) (ghosts : Ghosts) (events : List Event) → guard.IsOpened opening.now start → index.IsOpened opening lists → IsUnbornFrom (tail_at opening.now) ghosts
+    → ReservesNothing ghosts → LeadToHeads opening.now lists ghosts.log → ChainsTaken ghosts.log → LieBelow (tail_at (run opening events).now) (seen_by_copy opening lists events).triples

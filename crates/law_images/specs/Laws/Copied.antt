@@ -20,4 +20,4 @@ CommitsWriteTheirCopy =
 -- so its triples are of homes that are apart
 abbrev pub CommitsSpellTriples : Type 0
 CommitsSpellTriples =
-    (o : Opened) (n : Now) (bytes : List ℕ) (events : List Event) (c : BegunCommit) → IsStoreOf bytes o → IsOpeningWorld o n → OpensLong bytes → IsIn c (begun_so_far n bytes events) → c.kind ≡ Full → SpellsTriples c ⊎ (c ≡ commit_opened n bytes)
+    (o : Opened) (n : Now) (bytes : List ℕ) (events : List Event) (c : BegunCommit) → IsStoreOf bytes o → IsOpeningWorld o n → OpensLong bytes → IsIn c (begun_so_far n bytes events) → c.kind ≡ Full → SpellsTriples n.shape.bucket_bits c ⊎ (c ≡ commit_opened n bytes)

@@ -10,7 +10,7 @@ use Rattle.fkv_record.specs.declared.formats.Format.TheVariants.{Third}
 use Rattle.fkv_record.specs.declared.manifest_slots.ManifestSlot.{ManifestSlot}
 use Rattle.fkv_world.specs.OwnEvents.{keeper_events}
 use Rattle.fkv_world.specs.World.{Event, Now}
-use Rattle.law_images.specs.Left.{IsLeft, KeepsLog, OpensLong}
+use Rattle.law_images.specs.Left.{IsLeft, OpensLong}
 use Rattle.law_images.specs.Opened.{FinishesNoCommit, HasSlot, KeepsCommit, named_in}
 use Rattle.law_world.specs.Keeper.Lives.{life_writing}
 
@@ -28,6 +28,6 @@ ImagesNameTheirCommit =
 -- the opened commit stays in force until another is finished or stands whole
 abbrev pub ImagesKeepTheOpened : Type 0
 ImagesKeepTheOpened =
-    (o : Opened) (n : Now) (bytes : List ℕ) (events : List Event) (image : List ℕ) (store : IsStoreOf bytes o) → IsOpeningWorld o n → OpensLong bytes → KeepsLog o n bytes events
+    (o : Opened) (n : Now) (bytes : List ℕ) (events : List Event) (image : List ℕ) (store : IsStoreOf bytes o) → IsOpeningWorld o n → OpensLong bytes
     → FinishesNoCommit n.shape n.places n.keeper (keeper_events (beginning n bytes) events) → IsLeft n bytes events image
     → KeepsCommit bytes o store image ⊎ NewStands (let its = life_writing (beginning n bytes) events in its.first) image

@@ -4,7 +4,7 @@ use Rattle.fkv_core.specs.Openings.{IsOpeningWorld}
 use Rattle.fkv_opening.specs.Opened.{IsStoreOf}
 use Rattle.fkv_opening.specs.declared.opened_store.Opened.{Opened}
 use Rattle.fkv_world.specs.World.{Event, Now}
-use Rattle.law_images.specs.Left.{IsLeft, KeepsLog, OpensLong}
+use Rattle.law_images.specs.Left.{IsLeft, OpensLong}
 use Rattle.law_images.specs.Read.{ReadsBack}
 
 -- the newest slot of an image is read back
@@ -15,4 +15,4 @@ ImagesReadBack =
 -- and the image ends behind all that it names
 abbrev pub ImagesReachFar : Type 0
 ImagesReachFar =
-    (o : Opened) (n : Now) (bytes : List ℕ) (events : List Event) (image : List ℕ) → IsStoreOf bytes o → IsOpeningWorld o n → OpensLong bytes → KeepsLog o n bytes events → IsLeft n bytes events image → OpensLong image
+    (o : Opened) (n : Now) (bytes : List ℕ) (events : List Event) (image : List ℕ) → IsStoreOf bytes o → IsOpeningWorld o n → OpensLong bytes → IsLeft n bytes events image → OpensLong image

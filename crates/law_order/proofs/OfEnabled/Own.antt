@@ -47,7 +47,7 @@ use Rattle.law_order.specs.Rest.Sessions.{SitsAtRest}
 use Rattle.law_order.proofs.OfRest.Lives.{life_cells}
 use Rattle.law_order.proofs.OfRest.Worlds.{life_rests}
 use Rattle.law_order.proofs.OfRest.Cells.{none_above, none_above_reserved, none_copies}
-use Rattle.law_order.proofs.OfEnabled.Attempts.{life_attempts}
+use Rattle.law_changes.proofs.OfSessions.Attempting.{life_attempts}
 use Rattle.law_order.proofs.OfKnown.Newest.{known_now}
 use Rattle.law_order.proofs.OfEnabled.InHand.{made_in_hand}
 use Rattle.law_order.proofs.OfEnabled.Ready.{AreTakesEnabled, AllTakeUnborn, behind_enabled, meets_then, takes_enabled, takes_unborn}

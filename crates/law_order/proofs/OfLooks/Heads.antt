@@ -1,23 +1,11 @@
 -- No head that a session has seen lies above what is flushed.
-use Rattle.std.proofs.Common.{◌≡◌, ℕ, ◌≤◌, ◌∙◌, refl, ap, subst, arith, List}
+use Rattle.std.proofs.Common.{◌≡◌, ℕ, ◌≤◌, subst, arith, List}
 use Rattle.std.specs.Prelude.{Some, slice_get}
-use Rattle.fkv_flush.specs.Guarded.{seen_at, seen_of}
+use Rattle.fkv_flush.specs.Guarded.{seen_of}
 use Rattle.fkv_flush.specs.GuardLevels.{levels_of}
 use Rattle.fkv_flush.specs.GuardSeen.{LastSeen}
-use Rattle.fkv_flush.specs.GuardWorld.{Actor, GuardWorld}
-use Rattle.law_guard.specs.Sessions.Attempts.{attempt_likeness_at}
-use Rattle.law_guard.specs.Sessions.Followed.{Sits}
+use Rattle.fkv_flush.specs.GuardWorld.{GuardWorld}
 use Rattle.law_guard.specs.Sessions.Likenesses.{last_seen}
-use Rattle.law_guard.specs.Sessions.Sessions.{sitting_likeness}
-use Rattle.law_guard.specs.Sessions.Tries.{try_likeness_at}
-use Rattle.fkv_ops.specs.declared.trying.Trying.{Trying}
-use Rattle.fkv_ops.specs.declared.trying.Trying.TheVariants.{Appends}
-use Rattle.fkv_ops.specs.Trying.{TryState}
-use Rattle.fkv_pending.specs.declared.attempting.Attempting.{Attempting}
-use Rattle.fkv_pending.specs.declared.attempting.Attempting.TheVariants.{Tries}
-use Rattle.fkv_pending.specs.Attempting.{AttemptState}
-use Rattle.fkv_session.specs.declared.sessions.Sitting.{Sitting}
-use Rattle.fkv_session.specs.declared.sessions.Sitting.TheVariants.{Attempts, Polls}
 use Rattle.fkv_session.specs.Sessions.{SessionState}
 use Rattle.fkv_world.specs.Runs.{World, run}
 use Rattle.fkv_world.specs.World.{Event}

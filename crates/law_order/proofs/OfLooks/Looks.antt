@@ -37,7 +37,7 @@ use Rattle.law_refine.specs.Events.GhostEvents.{life_ghosts, mapped}
 use Rattle.law_order.specs.Rest.Resting.{HasNoCommit}
 use Rattle.law_order.specs.Served.Served.{ServedShow}
 use Rattle.law_order.proofs.OfServed.Later.{life_enabled_before}
-use Rattle.law_order.proofs.OfTruth.Attempts.{attempt_reply}
+use Rattle.law_changes.proofs.OfSessions.Attempting.{attempt_reply}
 use Rattle.law_order.specs.Asked.Asked.{LooksForAsked, outstanding}
 use Rattle.law_order.proofs.OfLooks.LifeMails.{its_mailbox}
 use Rattle.law_order.proofs.OfLooks.Ready.{HasReady, loads_ready, loads_word, look_mailing, ready_read}

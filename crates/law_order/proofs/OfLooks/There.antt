@@ -35,7 +35,8 @@ use Rattle.law_refine.proofs.OfEvents.Fixed.{life_rises}
 use Rattle.law_order.specs.Rest.Resting.{HasNoCommit}
 use Rattle.law_order.proofs.OfServed.Device.{flushed_fixed}
 use Rattle.law_order.proofs.OfServed.Later.{life_enabled_before, life_stays}
-use Rattle.law_order.proofs.OfTruth.Attempts.{attempting_is, life_seen}
+use Rattle.law_changes.proofs.OfSessions.Attempting.{attempting_is}
+use Rattle.law_order.proofs.OfTruth.Attempts.{life_seen}
 use Rattle.law_order.proofs.OfKnown.Newest.{known_now}
 use Rattle.law_order.specs.Asked.Asked.{AsksForSought, outstanding}
 use Rattle.law_order.proofs.OfLooks.Heads.{head_flushed}

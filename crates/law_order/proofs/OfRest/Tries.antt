@@ -14,7 +14,6 @@ use Rattle.fkv_plane.specs.declared.places.Places.{Places}
 use Rattle.fkv_log.specs.declared.regions.Region.{Region}
 use Rattle.fkv_log.specs.Regions.{seen_region_of}
 use Rattle.fkv_latch.specs.declared.latching.LatchTask.TheVariants.{TakeShared, DropShared, TakeExclusive, DropExclusive}
-use Rattle.fkv_index.specs.Slots.{home_of}
 use Rattle.fkv_ops.specs.declared.answers.Reason.TheVariants as reason
 use Rattle.fkv_ops.specs.declared.answers.TryAnswer.{TryAnswer}
 use Rattle.fkv_ops.specs.declared.answers.TryAnswer.TheVariants as answer

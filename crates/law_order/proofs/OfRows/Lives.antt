@@ -1,16 +1,11 @@
--- What an event makes of a session; and that its reads which have asked seek a record at every moment of a life.
-use Rattle.std.proofs.Common.{◌≡◌, ℕ, ◌∙◌, List, refl, ap, sym, subst, Bool, true, false}
-use Rattle.std.specs.Prelude.{Some, if◌then◌else◌, slice_get}
-use Rattle.fkv_epoch.proofs.Shown.{some_same}
-use Rattle.fkv_map.specs.declared.operations.Call.{Call}
-use Rattle.fkv_session.specs.Sessions.{SessionState, is_busy, session_begun}
-use Rattle.fkv_world.specs.Actors.{is_of_session, session_goes}
-use Rattle.fkv_world.specs.Moves.{session_moved}
+-- Reads of a session which have asked seek a record at every moment of a life.
+use Rattle.std.proofs.Common.{◌≡◌, ℕ, List, sym, subst}
+use Rattle.std.specs.Prelude.{Some, slice_get}
+use Rattle.fkv_session.specs.Sessions.{SessionState}
 use Rattle.fkv_world.specs.Opened.{IsOpenedWorld}
 use Rattle.fkv_world.specs.OwnEvents.{session_events}
-use Rattle.fkv_world.specs.Runs.{World, happens, run}
-use Rattle.fkv_world.specs.World.{Event, Calls, Moves, near, seat_at}
-use Rattle.fkv_world.proofs.Shown.{is_over, session_apart, session_written}
+use Rattle.fkv_world.specs.Runs.{World, run}
+use Rattle.fkv_world.specs.World.{Event, seat_at}
 use Rattle.law_refine.proofs.OfSeen.There.{was_there}
 use Rattle.law_order.specs.Rows.Asked.{AllSeek}
 use Rattle.law_order.proofs.OfRows.Asks.{run_seeks}
@@ -19,30 +14,3 @@ pub life_seeks : (opening : World) (events : List Event) (session : ℕ) (s : Se
 life_seeks opening events session s opened found =
     let its = was_there opening events session s found in
     subst AllSeek (sym its.became) (run_seeks (seat_at opening.now session) its.first (session_events opening session events) (opened.sessions session its.first its.was))
-
--- ---- what an event makes of a session: nothing, a call that begins, or a step
-pub data SessionComes (w : World) (session : ℕ) (s after : SessionState) : Type 0 where
-  Stays : after ≡ s → SessionComes w session s after
-  Begins : (its : Call) → is_busy s.step ≡ false → after ≡ session_begun (seat_at w.now session) s its → SessionComes w session s after
-  Steps : after ≡ (session_moved (seat_at w.now session) (near w.now s)).machine → SessionComes w session s after
-
-called_comes : (w : World) (session : ℕ) (s after : SessionState) (its : Call) (busy : Bool) → is_busy s.step ≡ busy → after ≡ (if busy then s else session_begun (seat_at w.now session) s its) → SessionComes w session s after
-called_comes w session s after its true e is = Stays is
-called_comes w session s after its false e is = Begins its e is
-
-own_comes : (w : World) (event : Event) (session : ℕ) (s after : SessionState) → is_of_session session event ≡ true → after ≡ (session_goes (seat_at w.now session) (near w.now s) event).machine → SessionComes w session s after
-unfolding session_goes
-own_comes w (Calls number its) session s after e is = called_comes w session s after its (is_busy s.step) refl is
-own_comes w (Moves number) session s after e is = Steps is
-own_comes w event session s after e is = cc
-
-pub session_comes : (w : World) (event : Event) (session : ℕ) (s after : SessionState) → slice_get w.now.sessions session ≡ Some s → slice_get (happens w event).now.sessions session ≡ Some after → SessionComes w session s after
-session_comes w event session s after was is_now = by_life w.now.crashed refl
-  where
-    by_actor : (mine : Bool) → is_of_session session event ≡ mine → w.now.crashed ≡ false → SessionComes w session s after
-    by_actor false e alive = Stays (some_same after s (sym is_now ∙ (session_apart w event session e ∙ was)))
-    by_actor true e alive = own_comes w event session s after e (some_same after _ (sym is_now ∙ session_written w event session s e alive was))
-
-    by_life : (crashed : Bool) → w.now.crashed ≡ crashed → SessionComes w session s after
-    by_life true e = Stays (some_same after s (sym is_now ∙ (ap (λ (x : World). slice_get x.now.sessions session) (is_over w event e) ∙ was)))
-    by_life false e = by_actor (is_of_session session event) refl e

@@ -2,7 +2,6 @@
 use Rattle.std.proofs.Common.{◌≡◌, ℕ, ◌≤◌, ◌∙◌, List, ◌∷◌, refl, arith, ap, sym, subst, Bool, true, false}
 use Rattle.std.specs.Prelude.{Some, None, slice_get}
 use Rattle.fkv_base.specs.declared.numbers.Version.{Version}
-use Rattle.law_guard.specs.Sessions.Followed.{is_turning}
 use Rattle.fkv_map.specs.Map.{is_reserved}
 use Rattle.law_log.specs.Ghosts.{Log}
 use Rattle.law_log.specs.Enabled.{AreEnabled, NoneAbove}
@@ -18,9 +17,9 @@ use Rattle.fkv_session.specs.declared.catching_up.Catching.TheVariants.{Latches}
 use Rattle.fkv_session.specs.declared.sessions.CatchCause.{CatchCause}
 use Rattle.fkv_session.specs.declared.sessions.CatchCause.TheVariants.{Shifts}
 use Rattle.fkv_session.specs.declared.sessions.Sitting.{Sitting}
-use Rattle.fkv_session.specs.declared.sessions.Sitting.TheVariants.{Idle, CatchesUp, Turns}
+use Rattle.fkv_session.specs.declared.sessions.Sitting.TheVariants.{CatchesUp}
 use Rattle.fkv_session.specs.CatchingUp.{CatchState, catch_requests, catching_requests}
-use Rattle.fkv_session.specs.Sessions.{SessionState, Seat, asks_after, attempts, catch_ledto, caught, is_busy, is_word_ask, session_ask, session_next, sitting_next}
+use Rattle.fkv_session.specs.Sessions.{SessionState, Seat, asks_after, attempts, catch_ledto, caught, is_word_ask, session_ask, session_next, sitting_next}
 use Rattle.law_local.specs.Sessions.Inputs.{AttemptsSo}
 use Rattle.law_local.specs.Sessions.Known.{KnowsRequests, catch_after, catch_comes_to, is_attempting}
 use Rattle.law_local.proofs.OfSessions.Known.{stays_known}
@@ -37,7 +36,9 @@ use Rattle.law_order.specs.Known.Knows.{AllKnowBehind, AreKnown, SessionKnows}
 use Rattle.law_order.specs.Known.Told.{AreToldTruly, reply_in}
 use Rattle.law_refine.specs.Events.GhostEvents.{life_ghosts, mapped}
 use Rattle.law_order.proofs.OfKnown.Newest.{known_now}
-use Rattle.law_order.proofs.OfEnabled.Attempts.{life_attempts}
+use Rattle.law_changes.proofs.OfSessions.Attempting.{life_attempts}
+use Rattle.law_changes.proofs.OfSessions.Calm.{calm_known, is_calm, not_calm}
+use Rattle.law_changes.proofs.OfSessions.Comes.{SessionComes, Stays, Begins, Steps, session_comes}
 use Rattle.law_order.proofs.OfEnabled.Own.{version_at}
 use Rattle.law_order.specs.Rest.Logs.{CellsRest}
 use Rattle.law_order.specs.Rest.Machines.{CatchesAtRest}
@@ -53,8 +54,7 @@ use Rattle.law_refine.proofs.OfSeen.Alone.{moves_alone}
 use Rattle.law_refine.proofs.OfSeen.There.{there_before}
 use Rattle.law_order.specs.Rows.Asked.{SeeksWhereAsked, AttemptSeeks}
 use Rattle.law_order.proofs.OfRows.AtRest.{attempt_stays, enabled_until, pending_stays}
-use Rattle.law_order.proofs.OfRows.Calm.{calm_known, is_calm}
-use Rattle.law_order.proofs.OfRows.Lives.{SessionComes, Stays, Begins, Steps, life_seeks, session_comes}
+use Rattle.law_order.proofs.OfRows.Lives.{life_seeks}
 use Rattle.law_order.proofs.OfRows.Replies.{KnowsSo, StepFacts, TriesSo, WaitsSo, call_so, plain_op, step_so}
 
 -- ---- control states
@@ -83,11 +83,6 @@ caught_seen k s reply its at done =
 
 plain_in_hand : (s : SessionState) → s.step ≡ CatchesUp Shifts → HasPlainOp s → is_reserved s.op ≡ false
 plain_in_hand s at plain = subst (λ (step : Sitting). OpIsPlain s step) at plain
-
-not_calm : (step : Sitting) → is_calm step ≡ false → (is_busy step ≡ true) × (is_turning step ≡ false)
-not_calm (Idle its) e = cc
-not_calm (Turns its) e = cc
-not_calm step e = (refl, refl)
 
 both : (P P' : PendingRequest → Type 0) (Q Q' : AttemptState → Type 0) (s : SessionState) → KnowsRequests P Q s → KnowsRequests P' Q' s → KnowsRequests (λ pending. P pending × P' pending) (λ a. Q a × Q' a) s
 both P P' Q Q' s one other = record {

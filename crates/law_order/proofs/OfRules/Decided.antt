@@ -1,11 +1,13 @@
 -- As the life of an opened store begins nothing of its log is undecided, and each session has seen its rest.
-use Rattle.std.specs.Prelude.{ℕ, List}
+use Rattle.std.proofs.Common.{◌∙◌, sym, ap, ℕ, List}
 use Rattle.fkv_core.specs.Openings.{IsOpeningWorld, beginning}
 use Rattle.fkv_opening.specs.Opened.{IsStoreOf}
 use Rattle.fkv_opening.specs.declared.opened_store.Opened.{Opened}
 use Rattle.fkv_world.specs.World.{Now}
 use Rattle.law_opening.specs.Log.OpeningLog.{opening_ghosts}
+use Rattle.law_commit.specs.Decided.Cells.{ChainsTaken}
 use Rattle.law_commit.specs.Decided.Laws.{OpensDecided}
+use Rattle.law_commit.specs.Versions.Cells.{made_in}
 use Rattle.law_commit.specs.Floor.Stands.{OpensSeen}
 use Rattle.law_order.specs.Rules.Openings.{BeginsItsLife}
 use Rattle.law_order.proofs.OfRules.Rests.{opens_at_rest}
@@ -16,3 +18,9 @@ module _ (begins : BeginsItsLife) (bytes : List ℕ) (o : Opened) (n : Now) (sto
 
   pub opens_seen : OpensSeen (beginning n bytes).now
   opens_seen = let life = begins bytes o n store its in record { rests = opens_at_rest o n its life.rests; seen = λ session first found. (life.rests.seen session first found).phase }
+
+  -- and each address that stands in a chain is taken
+  pub opens_taken : ChainsTaken (opening_ghosts bytes o).log
+  opens_taken h a is_in none =
+      let of_home = (begins bytes o n store its).log.chains.in_chain h a is_in in
+      let clash = sym (ap made_in of_home.its) ∙ none in cc

@@ -1,6 +1,5 @@
 -- What a session's search finds is where the chain of its key begins, and what it loads from its mailbox is true: so its attempt meets the log.
-use Rattle.std.proofs.Common.{◌≡◌, ℕ, ◌∙◌, refl, ap, subst, sym, true}
-use Rattle.std.specs.Prelude.{Some}
+use Rattle.std.proofs.Common.{◌≡◌, ℕ, ◌∙◌, refl, ap, subst, sym}
 use Rattle.fkv_base.specs.declared.numbers.Key.{Key}
 use Rattle.fkv_map.specs.Keys.{key_of}
 use Rattle.fkv_plane.specs.declared.asks.Ask.{Ask}
@@ -22,17 +21,14 @@ use Rattle.fkv_ops.specs.Trying.{TryState}
 use Rattle.fkv_pending.specs.declared.attempting.Attempting.{Attempting}
 use Rattle.fkv_pending.specs.declared.attempting.Attempting.TheVariants.{Looks, Tries}
 use Rattle.fkv_pending.specs.Attempting.{AttemptState}
-use Rattle.fkv_session.specs.declared.sessions.Sitting.{Sitting}
-use Rattle.fkv_session.specs.declared.sessions.Sitting.TheVariants.{Attempts, Polls}
-use Rattle.fkv_session.specs.Sessions.{SessionState}
-use Rattle.law_local.specs.Sessions.Known.{is_attempting}
 use Rattle.law_local.specs.Tries.AttemptRows.{AttemptRow}
 use Rattle.law_local.specs.Tries.MailRows.{IsTrueOfLook}
 use Rattle.law_local.specs.Tries.Replies.{LeadsToHead, EndsAtHead}
 use Rattle.law_local.specs.Tries.TryRows.{TryRow}
 use Rattle.law_local.specs.Tries.WordsShow.{WalkSearches, TrySearches, AttemptMeets}
+use Rattle.law_changes.proofs.OfSessions.Attempting.{FindsBy}
 use Rattle.law_refine.specs.Heads.Searches.{IsHeadFound, IsHeadAnswered}
-use Rattle.law_parts.specs.Index.Finders.{Search, SessionWork, attempt_part, search_in, sitting_part, try_work, walk_work}
+use Rattle.law_parts.specs.Index.Finders.{attempt_part, try_work, walk_work}
 
 -- ---- what a search finds
 leads_to_head : (head : ℕ) (its : Found) → IsHeadFound head its → LeadsToHead head its
@@ -44,11 +40,7 @@ ends_at_head : (head : ℕ) (ask : Ask FindAnswer) → IsHeadAnswered head ask �
 ends_at_head head (Done its) found = leads_to_head head its.found found
 ends_at_head head ask found = tt
 
--- the search that is under way, if any, finds by this reply where the chain begins
-abbrev pub FindsBy : Places → ℕ → ℕ → SessionWork → Type 0
-FindsBy p head reply work = (its : Search) → search_in work ≡ Some its → IsHeadAnswered head (find_next_ask p its.finding reply)
-
--- and that is the chain of this key
+-- it is the chain of this key
 abbrev pub BeginsFor : (ℕ → ℕ) → Log → ℕ → Key → Type 0
 BeginsFor home log head key = head_of (log.chains (home key.0)) ≡ head
 
@@ -70,9 +62,3 @@ pub attempt_meets : (home : ℕ → ℕ) (log : Log) (p : Places) (head reply : 
 attempt_meets home log p head reply a Looks begins row finds look = look refl
 attempt_meets home log p head reply a Tries begins row finds look = try_searches home log p head reply a.pending.request a.trial a.trial.step row.its_request begins row.knows.row finds
 attempt_meets home log p head reply a step begins row finds look = tt
-
--- the search of the session is that of its attempt
-pub finds_by : (p : Places) (head reply : ℕ) (s : SessionState) (step : Sitting) → is_attempting step ≡ true → FindsBy p head reply (sitting_part s step).work → FindsBy p head reply (attempt_part s.attempt s.attempt.step).work
-finds_by p head reply s (Attempts has_shifted) attempts finds = finds
-finds_by p head reply s (Polls index) attempts finds = finds
-finds_by p head reply s step attempts finds = cc

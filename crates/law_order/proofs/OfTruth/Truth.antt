@@ -27,8 +27,9 @@ use Rattle.law_order.specs.Known.Told.{AreToldTruly, LookTruly, reply_in}
 use Rattle.law_refine.specs.Events.GhostEvents.{home_number, life_ghosts, mapped}
 use Rattle.law_refine.specs.Records.Changes.{AreChangesPublished}
 use Rattle.law_order.proofs.OfKnown.Newest.{known_now}
-use Rattle.law_order.proofs.OfTruth.Attempts.{attempt_reply, attempting_is, life_seen}
-use Rattle.law_order.proofs.OfTruth.Searches.{BeginsFor, FindsBy, attempt_meets, finds_by}
+use Rattle.law_changes.proofs.OfSessions.Attempting.{FindsBy, attempt_reply, attempting_is, finds_by}
+use Rattle.law_order.proofs.OfTruth.Attempts.{life_seen}
+use Rattle.law_order.proofs.OfTruth.Searches.{BeginsFor, attempt_meets}
 use Rattle.law_order.proofs.OfTruth.Words.{words_show}
 
 -- the home that is attempted is that of the key, by its number

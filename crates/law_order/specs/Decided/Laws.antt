@@ -1,7 +1,8 @@
 -- What the law says of decided addresses in the lives of opened stores.
-use Rattle.std.specs.Prelude.{◌≡◌, ◌⊎◌, ℕ, true, List, Some}
+use Rattle.std.specs.Prelude.{◌≡◌, ◌⊎◌, ◌<◌, ◌≤◌, ℕ, true, List, Some}
 use Rattle.fkv_base.specs.declared.commits.CommitKind.TheVariants.{Full}
 use Rattle.fkv_commit.specs.declared.commits.Commit.{Commit}
+use Rattle.fkv_filling.specs.OpeningIndex.{opening_lists}
 use Rattle.fkv_core.specs.Openings.{IsOpeningWorld, beginning}
 use Rattle.fkv_opening.specs.Opened.{IsStoreOf}
 use Rattle.fkv_opening.specs.declared.opened_store.Opened.{Opened}
@@ -9,12 +10,14 @@ use Rattle.fkv_words.specs.PhaseWords.{phase_said}
 use Rattle.fkv_world.specs.Runs.{World, run}
 use Rattle.fkv_world.specs.World.{Event, Now}
 use Rattle.law_log.specs.Ghosts.{Ghosts}
+use Rattle.law_log.specs.Trace.{IsIn}
 use Rattle.law_opening.specs.Log.OpeningLog.{opening_ghosts}
 use Rattle.law_refine.specs.Events.GhostEvents.{life_ghosts}
 use Rattle.law_refine.specs.Events.Reserved.{tail_at}
 use Rattle.law_commit.specs.Copied.Covers.{before_copy}
-use Rattle.law_commit.specs.Decided.Cells.{DecidedBelow, TakenFrom}
-use Rattle.law_commit.specs.Decided.Laws.{EndIsSafe, HaveSeenTail, IsFromProgress}
+use Rattle.law_commit.specs.Copied.Runs.{seen_by_copy}
+use Rattle.law_commit.specs.Decided.Cells.{DecidedBelow, SettledFrom, TakenFrom}
+use Rattle.law_commit.specs.Decided.Laws.{EndIsSafe, HaveSeenTail, IsFromProgress, LieBelow}
 use Rattle.law_commit.specs.Floor.Stands.{IsWritten}
 use Rattle.law_commit.specs.PhaseStores.{phase_at}
 
@@ -44,3 +47,25 @@ HadDecidedFirst opening ghosts events =
 abbrev pub HasDecidedEnd : World → Ghosts → List Event → Type 0
 HasDecidedEnd opening ghosts events =
     (c : Commit) → (run opening events).now.keeper.commit ≡ Some c → EndIsSafe (run opening events).now c ⊎ IsWritten (run opening events).now.keeper.step → DecidedBelow c.end.0 (life_ghosts opening ghosts events).log
+
+-- so each record from the first tail to its first address stands or was given up
+abbrev pub HasSettledFirst : World → Ghosts → List Event → Type 0
+HasSettledFirst opening ghosts events =
+    (c : Commit) → (run opening events).now.keeper.commit ≡ Some c → IsFromProgress (phase_said (phase_at (run opening events).now))
+    → (c.first.0 ≤ tail_at (run opening events).now) × SettledFrom (tail_at opening.now) c.first.0 (life_ghosts opening ghosts events).log
+
+-- and to its end
+abbrev pub HasSettledEnd : World → Ghosts → List Event → Type 0
+HasSettledEnd opening ghosts events =
+    (c : Commit) → (run opening events).now.keeper.commit ≡ Some c → EndIsSafe (run opening events).now c ⊎ IsWritten (run opening events).now.keeper.step
+    → (c.end.0 ≤ tail_at (run opening events).now) × SettledFrom (tail_at opening.now) c.end.0 (life_ghosts opening ghosts events).log
+
+-- each address that stands in a chain lies below the tail
+abbrev pub HasChainsBelow : World → Ghosts → List Event → Type 0
+HasChainsBelow opening ghosts events = (h a : ℕ) → IsIn a ((life_ghosts opening ghosts events).log.chains h) → a < tail_at (run opening events).now
+
+-- so does where each triple of the copy that began last leads
+abbrev pub CopiesBelowTail : Type 0
+CopiesBelowTail =
+    (bytes : List ℕ) (o : Opened) (n : Now) (events : List Event) → IsStoreOf bytes o → IsOpeningWorld o n
+    → LieBelow (tail_at (run (beginning n bytes) events).now) (seen_by_copy (beginning n bytes) (opening_lists o.entries.items) events).triples

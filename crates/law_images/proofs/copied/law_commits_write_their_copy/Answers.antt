@@ -1,18 +1,21 @@
 -- The law, by what is known of each commit as its writes begin.
-use Rattle.std.proofs.Common.{◌∙◌, inl, inr, sym, subst, ℕ, List}
+use Rattle.std.proofs.Common.{◌∙◌, inl, inr, sym, subst, ℕ, List, map}
+use Rattle.std.specs.List.{AllByRecursion}
 use Rattle.fkv_checkpoint.specs.Copied.{copied_after}
 use Rattle.fkv_checkpoint.specs.Fuzzy.{AreApart as AreHomesApart}
-use Rattle.fkv_checkpoint.specs.Triples.{CopiedEntry}
+use Rattle.fkv_checkpoint.specs.Triples.{CopiedEntry, copied_of}
 use Rattle.fkv_core.specs.Openings.{beginning}
 use Rattle.fkv_filling.specs.OpeningIndex.{opening_lists}
 use Rattle.fkv_world.specs.Opened.{IsOpenedWorld}
 use Rattle.fkv_world.specs.OwnEvents.{keeper_events}
 use Rattle.fkv_world.specs.Runs.{World}
 use Rattle.fkv_world.specs.World.{Event}
+use Rattle.law_commit.specs.Copied.Covers.{HasStoodSince}
 use Rattle.law_guard.specs.Guarded.OpenedStore.{IsOpenedStore}
 use Rattle.law_images.proofs.AtRest.{opens_at_rest, world_opens}
 use Rattle.law_images.proofs.CopyWritten.{CopiesIfFull, all_copied}
-use Rattle.law_images.proofs.HomesApart.{triples_apart}
+use Rattle.law_images.proofs.CopyInIndex.{stood_in_index}
+use Rattle.law_images.proofs.HomesApart.{one_of, triples_apart}
 use Rattle.law_images.proofs.LifeNamed.{life_known}
 use Rattle.law_opening.specs.Lives.OpenedFrom.{IsOpenedFrom}
 use Rattle.law_world.specs.Keeper.Lives.{IsLifeTold, replies_copied}
@@ -42,10 +45,14 @@ returns-clause-spelled c = λ o n bytes events it store begins long is full. eli
       let by = c.law_world_copied.ensures.replies opening lists moment opened in
       let once = c.law_world_copied.ensures.once opening lists moment opened in
       let its = c.law_copied.ensures.triples n.places replies in
+      let stood = c.law_copies_cover.ensures.stood opening lists moment opened in
+      let all : AllByRecursion (HasStoodSince opening lists moment) (map copied_of its.triples) =
+      subst (AllByRecursion (HasStoodSince opening lists moment)) (sym its.said) (subst (AllByRecursion (HasStoodSince opening lists moment)) by.triples stood) in
       let apart : AreHomesApart (copied_after n.places replies) = subst (λ (entries : List CopiedEntry). AreHomesApart entries) by.triples once in
       inl (record {
         triples = its.triples;
         spelled = its.spelled ∙ sym own.triples;
+        in_index = λ i x there. stood_in_index opening lists moment opened (copied_of x) (one_of (HasStoodSince opening lists moment) its.triples i x all there);
         apart = triples_apart its.triples (subst (λ (entries : List CopiedEntry). AreHomesApart entries) (sym its.said) apart);
       })
 ]

@@ -38,13 +38,13 @@ front_below : (shape : Shape) (at size : ℕ) → at + size ≤ 1536 → at + si
 front_below shape at size within = omega (arith, within)
 
 pub returns : goal.returns
-returns c = λ o n bytes events image store begins long keeps writes left.
+returns c = λ o n bytes events image store begins long writes left.
     let opening : World = beginning n bytes in
     let opened : IsOpenedStore opening o.tail.0 = c.law_guard_opens.ensures o n bytes begins in
     let first = c.law_log_begins.ensures bytes o n store begins in
     let calls : List Call = (run opening events).past.calls in
     let words : ℕ → RecordWord → ℕ = stands (guard_opening n o.tail.0) (guarded.mapped opening events) in
-    let synced : IsSynced n.shape bytes calls words o.tail.0 (flushed_so_far n bytes events) = c.law_device_shows_log.ensures.synced opening o.tail.0 (opening_ghosts bytes o) events opened first.unborn keeps.changes in
+    let synced : IsSynced n.shape bytes calls words o.tail.0 (flushed_so_far n bytes events) = c.law_device_shows_log.ensures.synced opening o.tail.0 (opening_ghosts bytes o) events opened first.unborn (c.law_lives_change_published.ensures.published o n bytes events store begins) in
     let above = life_above opening (record_place n.shape 0) events refl (first_above opening events writes) in
     let its : Newest = store.newest in
     let told : IsNewestOf bytes its = store.checkpoint.newest in

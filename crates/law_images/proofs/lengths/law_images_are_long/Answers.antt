@@ -24,11 +24,11 @@ returns-clause-opened c = λ n bytes events image left.
     omega (arith, least, most)
 
 pub returns-clause-flushed : goal.returns-clause-flushed
-returns-clause-flushed c = λ o n bytes events image a store begins keeps left from to.
+returns-clause-flushed c = λ o n bytes events image a store begins left from to.
     let opening : World = beginning n bytes in
     let opened : IsOpenedStore opening o.tail.0 = c.law_guard_opens.ensures o n bytes begins in
     let first = c.law_log_begins.ensures bytes o n store begins in
-    let permitted = c.law_records_published.ensures.permitted opening o.tail.0 (opening_ghosts bytes o) events opened.now first.unborn keeps.changes in
+    let permitted = c.law_records_published.ensures.permitted opening o.tail.0 (opening_ghosts bytes o) events opened.now first.unborn (c.law_lives_change_published.ensures.published o n bytes events store begins) in
     let words : ℕ → RecordWord → ℕ = stands (guard_opening n o.tail.0) (guarded.mapped opening events) in
     let same = c.law_world_flushed_is_synced.ensures.calls opening o.tail.0 events opened in
     let synced : (other : List ℕ) → IsSynced n.shape other (run opening events).past.calls words o.tail.0 (flushed_so_far n bytes events) = λ other.
@@ -39,11 +39,11 @@ one_below : (end least : ℕ) → 1 < end → end - 1 < least → 0 < end - 1
 one_below end least some low = omega (arith, some)
 
 pub returns-clause-records : goal.returns-clause-records
-returns-clause-records c = λ o n bytes events image end store begins long keeps left some most. elim (cases_lt (end - 1) o.tail.0) [
+returns-clause-records c = λ o n bytes events image end store begins long left some most. elim (cases_lt (end - 1) o.tail.0) [
   | inl low ↦
       let there : record_place o.shape (end - 1) + 24 ≤ length bytes = holds_below c.law_spellings_apart.ensures.shapes bytes o store long (end - 1) (one_below end o.tail.0 some low) low in
       let least = synced_longer bytes (run (beginning n bytes) events).past.calls in
       let shorter = left.no_shorter in
       omega (arith, there, least, shorter)
-  | inr high ↦ returns-clause-flushed c o n bytes events image (end - 1) store begins keeps left high (omega (arith, some, most))
+  | inr high ↦ returns-clause-flushed c o n bytes events image (end - 1) store begins left high (omega (arith, some, most))
 ]

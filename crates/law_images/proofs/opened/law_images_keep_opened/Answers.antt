@@ -61,7 +61,7 @@ area_same o n bytes image store begins same =
     subst (λ (s : Shape). AreaSame image bytes s (let its = store.newest in its.slot.area) (let its = store.newest in its.slot.triples)) (begins.its_shape ∙ store.tells.shape) of_triples
 
 pub returns : goal.returns
-returns c = λ o n bytes events image store begins long keeps none left.
+returns c = λ o n bytes events image store begins long none left.
     let opening : World = beginning n bytes in
     let store_opened : IsOpenedStore opening o.tail.0 = c.law_guard_opens.ensures o n bytes begins in
     let from : IsOpenedFrom bytes o n = record { store = store; world = begins; long = c.law_long_opens.ensures bytes long.newest o long.its long.long store } in
@@ -76,7 +76,7 @@ returns c = λ o n bytes events image store begins long keeps none left.
     let reach = whole.slots in
     let first = c.law_log_begins.ensures bytes o n store begins in
     let words : ℕ → RecordWord → ℕ = stands_of (guard_opening n o.tail.0) (guarded.mapped opening events) in
-    let synced : IsSynced n.shape bytes (run opening events).past.calls words o.tail.0 (flushed_so_far n bytes events) = c.law_device_shows_log.ensures.synced opening o.tail.0 (opening_ghosts bytes o) events store_opened first.unborn keeps.changes in
+    let synced : IsSynced n.shape bytes (run opening events).past.calls words o.tail.0 (flushed_so_far n bytes events) = c.law_device_shows_log.ensures.synced opening o.tail.0 (opening_ghosts bytes o) events store_opened first.unborn (c.law_lives_change_published.ensures.published o n bytes events store begins) in
     let above = life_above opening 512 events refl (slots_above opening events store_opened.now.keeper) in
     let block : HasShape image its.shape = store.checkpoint.newest.block ∙ left_below bytes 512 (run opening events).past.calls image 0 64 above left (omega arith) (omega (arith, reach)) in
     let stands = c.law_world_one_commit_stands.ensures.stands opening events image life left in

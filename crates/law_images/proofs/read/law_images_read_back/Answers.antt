@@ -83,7 +83,7 @@ triples_end : (place triples size : ℕ) → ((k : ℕ) → k < 16 * triples →
 triples_end place triples size behind some = let last = behind (16 * triples - 1) (omega (arith, some)) in omega (arith, last, some)
 
 pub returns-clause-far : goal.returns-clause-far
-returns-clause-far c = λ o n bytes events image store begins long keeps left.
+returns-clause-far c = λ o n bytes events image store begins long left.
     let r : ReadsBack o n bytes events store image = returns-clause-slot c o n bytes events image store begins long left in
     let names = r.names in
     let named = names.named in
@@ -100,7 +100,7 @@ returns-clause-far c = λ o n bytes events image store begins long keeps left.
           let its : IsLong image n.shape slot = record {
             slots = behind.slots;
             records = λ some. subst (λ (s : Shape). record_place s (slot.end.0 - 1) + 24 ≤ length image) (sym begins.its_shape)
-                (c.law_images_are_long.ensures.records o n bytes events image slot.end.0 store begins long keeps left some (omega (arith, end, low)));
+                (c.law_images_are_long.ensures.records o n bytes events image slot.end.0 store begins long left some (omega (arith, end, low)));
             triples = λ some. subst (λ (m : ℕ). area_place n.shape slot.area + 16 * m ≤ length image) (sym triples)
                 (subst (λ (a : ℕ). area_place n.shape a + 16 * it.checkpoint.triples ≤ length image) (sym area)
                 (triples_end (area_place n.shape (area_number it.checkpoint.area)) it.checkpoint.triples (length image) behind.triples (omega (arith, some, triples))));

@@ -20,9 +20,9 @@ use Rattle.law_log.specs.Chains.{Cell, Logged, Published, Unborn}
 use Rattle.law_log.specs.Enabled.{IsOpened}
 use Rattle.law_log.specs.Ghosts.{Ghosts}
 use Rattle.law_opening.specs.Log.Maps.{opening_map}
+use Rattle.law_opening.specs.Log.Lives.{ghosts_beside}
 use Rattle.law_opening.specs.Log.OpeningLog.{opening_ghosts}
 use Rattle.law_refine.specs.Events.GhostEvents.{home_in}
-use Rattle.law_refine.proofs.OfEvents.Below.{life_below}
 use Rattle.law_images.proofs.records.law_images_show_log.Goals as goal
 
 none_there : (logged : Logged) (cell : Cell) → logged ≡ Unborn → logged ≡ Published cell → ⊥
@@ -34,15 +34,15 @@ some_addr (suc a) other = omega arith
 
 -- address 0 has no record, so those below the opened tail lie above it
 pub returns : goal.returns
-returns c = λ o n bytes events image store begins long keeps left shape.
+returns c = λ o n bytes events image store begins long fits left shape.
     let opening : World = beginning n bytes in
     let opened : IsOpenedStore opening o.tail.0 = c.law_guard_opens.ensures o n bytes begins in
     let first = c.law_log_begins.ensures bytes o n store begins in
     let ghosts : Ghosts = opening_ghosts bytes o in
     let words : ℕ → RecordWord → ℕ = stands (guard_opening n o.tail.0) (guarded.mapped opening events) in
-    let synced : IsSynced n.shape bytes (run opening events).past.calls words o.tail.0 (flushed_so_far n bytes events) = c.law_device_shows_log.ensures.synced opening o.tail.0 ghosts events opened first.unborn keeps.changes in
-    let shows = c.law_stands_show_log.ensures opening o.tail.0 ghosts events opened.now first.unborn first.reserves_nothing keeps.changes in
-    let headers = c.law_headers_show_log.ensures opening o.tail.0 ghosts events opened.now first.unborn first.reserves_nothing keeps.changes keeps.rules in
+    let synced : IsSynced n.shape bytes (run opening events).past.calls words o.tail.0 (flushed_so_far n bytes events) = c.law_device_shows_log.ensures.synced opening o.tail.0 ghosts events opened first.unborn (c.law_lives_change_published.ensures.published o n bytes events store begins) in
+    let shows = c.law_stands_show_log.ensures opening o.tail.0 ghosts events opened.now first.unborn first.reserves_nothing (c.law_lives_change_published.ensures.published o n bytes events store begins) in
+    let headers = c.law_lives_change_published.ensures.headers o n bytes events store begins in
     let same_shape : image.shape ≡ n.shape = shape ∙ sym begins.its_shape in
     let there : (a : ℕ) → o.tail.0 ≤ a → a < flushed_so_far n bytes events → HasWords image a (words a) = λ a from to.
     ap (λ (s : Shape). bytes_at image.image (record_place s a) 24) same_shape ∙ synced.records image.image (inr left) a from to in
@@ -50,12 +50,11 @@ returns c = λ o n bytes events image store begins long keeps left shape.
     let was_shape : was.shape ≡ o.shape = sym store.tells.shape in
     let counted = c.law_log_counted.ensures bytes o store in
     let log : IsOpened (home_in o.shape.bucket_bits) (opening_map bytes o) o.number.0 ghosts = c.law_log_opened.ensures.opened bytes o store in
-    let log_here : IsOpened (home_in n.shape.bucket_bits) (opening_map bytes o) o.number.0 ghosts = subst (λ (s : Shape). IsOpened (home_in s.bucket_bits) (opening_map bytes o) o.number.0 ghosts) (sym begins.its_shape) log in
-    let below = life_below opening o.tail.0 (opening_map bytes o) o.number.0 ghosts events opened.now log_here (omega arith) keeps.rules in
+    let same : (a : ℕ) → a < o.tail.0 → (ghosts_beside o n bytes events).log.cells a ≡ ghosts.log.cells a = λ a low. c.law_lives_change_published.ensures.old o n bytes events a store begins low in
     record {
       published = λ a cell e to. elim (cases_lt a o.tail.0) [
         | inl low ↦
-            let was_there : ghosts.log.cells a ≡ Published cell = sym (below.same a low) ∙ e in
+            let was_there : ghosts.log.cells a ≡ Published cell = sym (same a low) ∙ e in
             let some : 0 < a = some_addr a (λ zero_is. none_there (ghosts.log.cells a) cell (ap ghosts.log.cells zero_is ∙ log.none) was_there) in
             let within : record_place n.shape a + 24 ≤ length bytes = subst (λ (s : Shape). record_place s a + 24 ≤ length bytes) (sym begins.its_shape) (holds_below c.law_spellings_apart.ensures.shapes bytes o store long a some low) in
             let same = old_bytes n.shape bytes image.image (run opening events).past.calls words o.tail.0 (flushed_so_far n bytes events) a synced left low within in
@@ -63,7 +62,7 @@ returns c = λ o n bytes events image store begins long keeps left shape.
             (subst (λ (s : Shape). bytes_at image.image (record_place s a) 24 ≡ bytes_at bytes (record_place s a) 24) (begins.its_shape ∙ sym was_shape) same) (counted.published a cell was_there)
         | inr high ↦
             let its = shows a cell high e in
-            shows_words o.tail.0 image a (words a) cell (there a high to) (headers.published a cell high e) its.key its.value (keeps.fits a cell e)
+            shows_words o.tail.0 image a (words a) cell (there a high to) (headers.published a cell high e) its.key its.value (fits a cell e)
       ];
       dropped = λ a cell e from to young. shows_given_up image a (words a) cell (there a from to) (headers.dropped a cell from e) young;
     }

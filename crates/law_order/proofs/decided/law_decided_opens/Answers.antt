@@ -23,3 +23,11 @@ returns-clause-copied c = λ bytes o n events store its commit.
 pub returns-clause-end : goal.returns-clause-end
 returns-clause-end c = λ bytes o n events store its commit.
     c.law_commits_decided.ensures.end (beginning n bytes) o.tail.0 (opening_ghosts bytes o) events commit (opens_decided c.law_life_begins.ensures bytes o n store its) (opens_seen c.law_life_begins.ensures bytes o n store its)
+
+pub returns-clause-settled_first : goal.returns-clause-settled_first
+returns-clause-settled_first c = λ bytes o n events store its commit.
+    c.law_commits_settled.ensures.first (beginning n bytes) o.tail.0 (opening_ghosts bytes o) events commit (opens_decided c.law_life_begins.ensures bytes o n store its) (opens_seen c.law_life_begins.ensures bytes o n store its)
+
+pub returns-clause-settled_end : goal.returns-clause-settled_end
+returns-clause-settled_end c = λ bytes o n events store its commit.
+    c.law_commits_settled.ensures.end (beginning n bytes) o.tail.0 (opening_ghosts bytes o) events commit (opens_decided c.law_life_begins.ensures bytes o n store its) (opens_seen c.law_life_begins.ensures bytes o n store its)

@@ -12,7 +12,8 @@ use Rattle.fkv_session.specs.declared.answers.Told.{Told}
 use Rattle.fkv_session.specs.declared.sessions.Sitting.{Sitting}
 use Rattle.fkv_session.specs.declared.sessions.Sitting.TheVariants.{Idle, Attempts, CatchesUp, Polls, Turns}
 use Rattle.fkv_session.specs.OwnTurns.{own_turn_ask}
-use Rattle.fkv_session.specs.Sessions.{SessionState, Seat, asks_after, is_word_ask, own_turn_moved, session_ask, session_next, sitting_next, turn_ledto}
+use Rattle.fkv_session.specs.Sessions.{SessionState, Seat, asks_after, is_busy, is_word_ask, own_turn_moved, session_ask, session_next, sitting_next, turn_ledto}
+use Rattle.law_guard.specs.Sessions.Followed.{is_turning}
 use Rattle.law_local.specs.Sessions.Known.{KnowsRequests, is_attempting, is_polling}
 use Rattle.law_local.proofs.OfSessions.Known.{given_known, next_known}
 use Rattle.fkv_world.specs.Moves.{Near, session_asks, session_gets, session_replied, session_settled}
@@ -35,6 +36,11 @@ calm_none step calm = cc
 
 never : {X : Type 0} → false ≡ true → X
 never e = cc
+
+pub not_calm : (step : Sitting) → is_calm step ≡ false → (is_busy step ≡ true) × (is_turning step ≡ false)
+not_calm (Idle its) e = cc
+not_calm (Turns its) e = cc
+not_calm step e = (refl, refl)
 
 -- ---- it stays so
 turned_calm : (s : SessionState) (its : Told) (ask : Ask (Unit {0})) → s.step ≡ Turns its → is_calm (turn_ledto s its ask).step ≡ true

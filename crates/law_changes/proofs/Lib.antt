@@ -1,0 +1,12 @@
+mod AttemptRows
+mod Events
+mod Life
+mod LifeEvents
+mod LifeLogs
+mod Logs
+pub mod OfSessions
+mod Openings
+mod Rows
+mod Told
+mod TryRows
+mod Walks

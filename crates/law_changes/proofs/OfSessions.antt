@@ -1,0 +1,3 @@
+pub mod Attempting
+pub mod Calm
+pub mod Comes

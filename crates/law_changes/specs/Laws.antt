@@ -1,0 +1,50 @@
+-- What the laws say.
+use Rattle.std.specs.Prelude.{◌≡◌, ◌<◌, ℕ, List}
+use Rattle.fkv_flush.specs.GuardFlushed.{stands}
+use Rattle.fkv_world.specs.Opened.{IsOpenedWorld}
+use Rattle.fkv_world.specs.Runs.{World}
+use Rattle.fkv_world.specs.World.{Event}
+use Rattle.law_changes.specs.Linked.{IsLinkedLog}
+use Rattle.law_guard.specs.Guarded.GuardEvents as guarded
+use Rattle.law_guard.specs.Guarded.Shows as guard
+use Rattle.law_guard.specs.Guarded.Shows.{guard_opening}
+use Rattle.law_log.specs.Ghosts.{Ghosts}
+use Rattle.law_parts.specs.Index.Shows as index
+use Rattle.law_refine.specs.Events.GhostEvents.{life_ghosts}
+use Rattle.law_refine.specs.Events.Reserved.{IsUnbornFrom, ReservesNothing, tail_at}
+use Rattle.law_refine.specs.Heads.Heads.{LeadToHeads}
+use Rattle.law_refine.specs.Records.Changes.{AreChangesPublished}
+use Rattle.law_refine.specs.Records.Headers.{HeadersShowLog}
+
+-- what a life begins with here: a world that was opened, and beside it a log whose chains and records lead to published records alone
+pub record BeginsLinked (opening : World) (start : ℕ) (lists : ℕ → List ℕ) (ghosts : Ghosts) : Type 0 where
+  pub world : IsOpenedWorld opening
+  pub now : guard.IsOpened opening.now start
+  pub some : 0 < start
+  pub index : index.IsOpened opening lists
+  pub unborn : IsUnbornFrom (tail_at opening.now) ghosts
+  pub reserves : ReservesNothing ghosts
+  pub heads : LeadToHeads opening.now lists ghosts.log
+  pub linked : IsLinkedLog ghosts.log
+
+-- the record that a session changes in place is published
+abbrev pub ChangesArePublished : Type 0
+ChangesArePublished =
+    (opening : World) (start : ℕ) (lists : ℕ → List ℕ) (ghosts : Ghosts) (events : List Event) → BeginsLinked opening start lists ghosts → AreChangesPublished opening ghosts events
+
+-- chains and records lead to published records alone
+abbrev pub LogStaysLinked : Type 0
+LogStaysLinked =
+    (opening : World) (start : ℕ) (lists : ℕ → List ℕ) (ghosts : Ghosts) (events : List Event) → BeginsLinked opening start lists ghosts → IsLinkedLog (life_ghosts opening ghosts events).log
+
+-- the header of a decided record says what became of it
+abbrev pub HeadersAlwaysShow : Type 0
+HeadersAlwaysShow =
+    (opening : World) (start : ℕ) (lists : ℕ → List ℕ) (ghosts : Ghosts) (events : List Event) → BeginsLinked opening start lists ghosts
+    → HeadersShowLog start (stands (guard_opening opening.now start) (guarded.mapped opening events)) (life_ghosts opening ghosts events).log
+
+-- what the store was opened with stays
+abbrev pub OldRecordsStay : Type 0
+OldRecordsStay =
+    (opening : World) (start : ℕ) (lists : ℕ → List ℕ) (ghosts : Ghosts) (events : List Event) (a : ℕ) → BeginsLinked opening start lists ghosts → a < start
+    → (life_ghosts opening ghosts events).log.cells a ≡ ghosts.log.cells a

@@ -1,0 +1,3 @@
+pub mod Laws
+pub mod Linked
+pub mod Lives
