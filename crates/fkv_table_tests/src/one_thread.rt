@@ -1,6 +1,7 @@
 //! A table that is opened and used in one thread.
 ghost use Rattle.std.specs.Prelude.{◌≡◌};
 ghost use Rattle.fkv_disk.specs.Device.{LeavesOnly};
+ghost use Rattle.fkv_opening.specs.Opened.{IsStoreOf};
 ghost use Rattle.fkv_table.specs.Calls.{IsReady};
 ghost use Rattle.fkv_table.specs.Keeps.{IsAfterSeen, IsKeeperReady};
 ghost use Rattle.fkv_table.specs.Planes.{opening_of};
@@ -11,8 +12,8 @@ use fkv_disk::{Device, MemDisk};
 use fkv_map::{Call, Op};
 use fkv_opening::Opened;
 use fkv_session::Answer;
-use fkv_table::{Keeper, KeeperPass, OpenTable, Pass, Session, Table, join};
-use law_opening::{law_device_opens, law_guard_opens};
+use fkv_table::{Keeper, KeeperPass, OpenTable, Pass, Session, Table};
+use fkv_threads::{ask_commit, close, join, open, run, turn};
 use std::alloc::Global;
 use std::test::Fail;
 
@@ -28,10 +29,15 @@ fn call_and_meet<D: Device + Drop>(
     requires writer { IsReady (opening_of D.seen) table.table.shared.key table.table.shared.table_id two.seat.table_id two.seat.me writer.machine writer.desk }
     requires apart { ¬ (reader.machine.seat.number ≡ writer.machine.seat.number) }
 {
-    let (two, _) = writer.run(&table, two, Call::Op(Op::Upsert(Key(7), Value(10))));
+    let (two, _) = run(
+        &mut writer,
+        &table,
+        two,
+        Call::Op(Op::Upsert(Key(7), Value(10))),
+    );
     let (one, _) = join(&table, one, two);
-    let (_, read) = reader.run(&table, one, Call::Op(Op::Read(Key(7))));
-    table.close();
+    let (_, read) = run(&mut reader, &table, one, Call::Op(Op::Read(Key(7))));
+    close(table);
     read
 }
 
@@ -46,25 +52,24 @@ fn commit_and_turn<D: Device + Drop>(
     requires honest { D.honest device }
     requires after { IsAfterSeen (opening_of D.seen) table.now.table.shared.key pass.seat.me.0.seen (D.seen device) (D.may_leave device) }
 {
-    let (pass, begun) = keeper.ask_commit(table, pass, CommitKind::Full);
-    let (_, turned) = keeper.turn(table, pass, &mut device);
+    let (pass, begun) = ask_commit(&mut keeper, table, pass, CommitKind::Full);
+    let (_, turned) = turn(&mut keeper, table, pass, &mut device);
     begun.is_ok() && turned.is_ok()
 }
 
 /// So over the table of an opened store, if it has two sessions, behind a commit's beginning and a turn of the keeper.
 fn read_of_opened<D: Device + Drop>(alloc: Global, opened: Opened, disk: D) -> Result<Answer, Fault>
+    requires store { IsStoreOf (D.seen disk) opened }
     requires honest { D.honest disk }
     requires leaves { LeavesOnly (D.seen disk) (D.may_leave disk) }
 {
-    law_guard_opens();
-    law_device_opens(&disk);
     let OpenTable {
         table,
         mut sessions,
         keeper,
         pass,
         device,
-    } = Table::open(alloc, opened, disk)?;
+    } = open(alloc, opened, disk)?;
     if !commit_and_turn(&table, keeper, pass, device) {
         return Ok(Answer::Slept);
     }

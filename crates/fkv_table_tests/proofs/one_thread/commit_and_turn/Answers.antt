@@ -1,6 +1,6 @@
 -- The commit's beginning makes no call of the device, so this is behind the list as before.
 use Rattle.fkv_table.specs.Planes.{opening_of}
-use Rattle.fkv_table_tests.proofs.Guarded.{after_none}
+use Rattle.fkv_table_tests.proofs.Taken.{after_none}
 use Rattle.fkv_table_tests.proofs.one_thread.commit_and_turn.Goals as goal
 
 pub turn-turned-requires-clause-after : goal.turn-turned-requires-clause-after

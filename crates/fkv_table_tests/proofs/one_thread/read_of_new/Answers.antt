@@ -3,3 +3,6 @@ use Rattle.fkv_table_tests.proofs.one_thread.read_of_new.Goals as goal
 
 pub read_of_opened-requires-clause-leaves : goal.read_of_opened-requires-clause-leaves
 read_of_opened-requires-clause-leaves c = c.in_ok-opened.ensures.synced tt
+
+pub read_of_opened-requires-clause-store : goal.read_of_opened-requires-clause-store
+read_of_opened-requires-clause-store c = c.in_ok-opened.ensures.ok tt

@@ -1,6 +1,6 @@
 -- The sessions of a table that was just opened are ready, since the guard begins with its world.
 use Rattle.std.proofs.Common.{◌∙◌, sym, length}
-use Rattle.fkv_table_tests.proofs.Guarded.{after_opening, guard_so, popped, two_last}
+use Rattle.fkv_table_tests.proofs.Taken.{popped, two_last}
 use Rattle.fkv_table_tests.proofs.one_thread.read_of_opened.Goals as goal
 
 pub call_and_meet-requires-clause-reader : goal.call_and_meet-requires-clause-reader
@@ -10,7 +10,7 @@ call_and_meet-requires-clause-reader g c =
     let first = popped items c.pop.new.self.items c.pop.result (c.in-Some.writer, c.in-Some.two) c.pop.ensures.items c.in-Some.is in
     let second = popped c.pop.new.self.items c.pop-in-Some.new.self.items c.pop-in-Some.result (c.in-Some-pop.reader, c.in-Some-pop.one) c.pop-in-Some.ensures.items c.in-Some-pop.is in
     let both = two_last items c.pop.new.self.items c.pop-in-Some.new.self.items _ _ first second in
-    (made.sessions (length c.pop-in-Some.new.self.items) (c.in-Some-pop.reader, c.in-Some-pop.one) both.1).ready (guard_so c.args.opened _ c.law_guard_opens.ensures made.world made.opened)
+    (made.sessions (length c.pop-in-Some.new.self.items) (c.in-Some-pop.reader, c.in-Some-pop.one) both.1).ready
 
 pub call_and_meet-requires-clause-writer : goal.call_and_meet-requires-clause-writer
 call_and_meet-requires-clause-writer g c =
@@ -19,7 +19,7 @@ call_and_meet-requires-clause-writer g c =
     let first = popped items c.pop.new.self.items c.pop.result (c.in-Some.writer, c.in-Some.two) c.pop.ensures.items c.in-Some.is in
     let second = popped c.pop.new.self.items c.pop-in-Some.new.self.items c.pop-in-Some.result (c.in-Some-pop.reader, c.in-Some-pop.one) c.pop-in-Some.ensures.items c.in-Some-pop.is in
     let both = two_last items c.pop.new.self.items c.pop-in-Some.new.self.items _ _ first second in
-    (made.sessions (length c.pop.new.self.items) (c.in-Some.writer, c.in-Some.two) both.0).ready (guard_so c.args.opened _ c.law_guard_opens.ensures made.world made.opened)
+    (made.sessions (length c.pop.new.self.items) (c.in-Some.writer, c.in-Some.two) both.0).ready
 
 pub call_and_meet-requires-clause-apart : goal.call_and_meet-requires-clause-apart
 call_and_meet-requires-clause-apart g c =
@@ -35,9 +35,7 @@ call_and_meet-requires-clause-apart g c =
 pub commit_and_turn-requires-clause-ready : goal.commit_and_turn-requires-clause-ready
 commit_and_turn-requires-clause-ready g c =
     let made = c.in_ok-table.ensures in
-    made.keeper.ready (guard_so c.args.opened _ c.law_guard_opens.ensures made.world made.opened)
+    made.keeper.ready
 
 pub commit_and_turn-requires-clause-after : goal.commit_and_turn-requires-clause-after
-commit_and_turn-requires-clause-after g c =
-    let made = c.in_ok-table.ensures in
-    after_opening g.D.Device.seen g.D.Device.may_leave c.in_ok-table.field-0.table.table.shared.key _ c.args.disk c.in_ok-table.field-0.device made.keeper.nothing_seen made.bytes made.device (c.law_device_opens.ensures.device c.requires.leaves)
+commit_and_turn-requires-clause-after g c = c.in_ok-table.ensures.after c.requires.leaves

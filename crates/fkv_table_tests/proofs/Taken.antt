@@ -1,28 +1,11 @@
--- The world of a table that was opened is one with which the guard begins.
+-- What was taken from a list's end, and a device that nobody has called.
 use Rattle.std.proofs.Common.{◌≡◌, ℕ, zero, suc, refl, sym, ap, subst, ◌∙◌, arith, List, [], ◌∷◌, ◌++◌, length, length-append}
 use Rattle.std.specs.Prelude.{Option, Some, option_to_list, slice_get}
-use Rattle.std.specs.declared.snapshot.Snapshot.{Snapshot}
-use Rattle.fkv_core.specs.Openings.{IsOpeningWorld, beginning}
-use Rattle.fkv_core.specs.Worlds.{WorldModel}
 use Rattle.fkv_disk.specs.Calls.{Call}
 use Rattle.fkv_disk.specs.Device.{IsAfter}
-use Rattle.fkv_opening.specs.declared.opened_store.Opened.{Opened}
-use Rattle.fkv_world.specs.Opened.{IsOpenedWorld}
 use Rattle.fkv_world.specs.Runs.{World}
-use Rattle.law_opening.specs.Lives.Laws.{GuardOpens}
-use Rattle.fkv_seats.specs.Rule.{led}
 use Rattle.fkv_table.specs.declared.happenings.Happening.{Happening}
 use Rattle.fkv_table.specs.Keeps.{IsAfterSeen, LeavesDevice}
-use Rattle.fkv_table.specs.Openings.{IsGuardedOpening}
-use Rattle.fkv_table.specs.Planes.{opening_of}
-
-pub guard_so : (o : Opened) (w : World) → GuardOpens → IsOpeningWorld o w.now → IsOpenedWorld w → IsGuardedOpening w
-guard_so o w opens world opened = record {
-  start = o.tail.0;
-  guarded = (opens o w.now [] world).now;
-  opened = opened;
-  seeks = omega (arith, world.its_keeper.sought, world.its_places.sessions);
-}
 
 -- what stands last in a list, and before it
 pub last_there : {X : Type 0} (xs : List X) (x : X) → slice_get (xs ++ x ∷ []) (length xs) ≡ Some x
@@ -47,15 +30,7 @@ two_last {X = X} all rest less x y first second = (
 pub popped : {X : Type 0} (old new : List X) (r : Option X) (x : X) → old ≡ new ++ option_to_list r → r ≡ Some x → old ≡ new ++ x ∷ []
 popped old new r x left is = left ∙ ap (λ o. new ++ option_to_list o) is
 
--- the device is behind no call as the table begins, and stays as it was where none is made
-pub after_opening : {D : Type 0} (seen : D → List ℕ) (may_leave : D → List ℕ → Type 0) (key : Snapshot (WorldModel D)) (events : List Happening) (disk device : D) → events ≡ []
-    → opening_of seen key ≡ beginning (opening_of seen key).now (seen disk) → device ≡ disk → IsAfter (seen disk) [] (seen disk) (may_leave disk) → IsAfterSeen (opening_of seen) key events (seen device) (may_leave device)
-unfolding led
-after_opening {D = D} seen may_leave key events disk device none bytes same after =
-    subst (λ (es : List Happening). IsAfterSeen (opening_of seen) key es (seen device) (may_leave device)) (sym none)
-    (subst (λ (d : D). IsAfter (opening_of seen key).past.opened [] (seen d) (may_leave d)) (sym same)
-    (subst (λ (opened : List ℕ). IsAfter opened [] (seen disk) (may_leave disk)) (sym (ap (λ (w : World). w.past.opened) bytes)) after))
-
+-- the device stays behind the list as it was where no call is made
 pub after_none : {K : Type 0} (at : K → World) (key : K) (events events' : List Happening) (shown : List ℕ) (may_leave : List ℕ → Type 0) → LeavesDevice at key events events' → IsAfterSeen at key events shown may_leave
     → IsAfterSeen at key events' shown may_leave
 after_none at key events events' shown may_leave same after = subst (λ (z : List ℕ × List Call). IsAfter z.0 z.1 shown may_leave) (λ i. (sym same.0 i, sym same.1 i)) after
