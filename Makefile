@@ -28,6 +28,7 @@ run: toolchain
 test: toolchain
 	tools/docs/make --check
 	tools/names/check
+	@tools/script/check > /dev/null
 	rt ci
 	@tools/rows/run crates/fkv/out/fkv > /dev/null
 	@tools/openings/run > /dev/null
