@@ -1,5 +1,7 @@
 -- That no update of a version is left, nor comes any more.
 use Rattle.std.specs.Prelude.{◌≡◌, ◌⊎◌, ◌+◌, ◌-◌, ◌*◌, ◌<◌, ◌≤◌, nat_le, ℕ, true, List, ◌∷◌, ◌++◌}
+use Rattle.fkv_base.specs.declared.numbers.Version.{Version}
+use Rattle.fkv_base.specs.declared.phases.Phase.TheVariants.{InProgress, WaitPending}
 use Rattle.fkv_words.specs.declared.phase_words.PhaseSaid.{PhaseSaid}
 use Rattle.fkv_words.specs.declared.phase_words.PhaseSaid.TheVariants.{Says, Spoiled}
 use Rattle.fkv_words.specs.PhaseWords.{phase_said}
@@ -49,6 +51,19 @@ pub record HasNoneUpto (version : ℕ) (s : SessionState) : Type 0 where
   pub waiting : AreUpdatesSo (IsLater version) s.requests
   pub attempted : AttemptsSo (IsLater version) s s.step
 
+-- The phase word says in-progress or wait-pending of this version.
+abbrev pub SaysMovingTo : PhaseSaid → Version → Type 0
+SaysMovingTo said version = (said ≡ Says InProgress version) ⊎ (said ≡ Says WaitPending version)
+
+-- an update is of this version; or of the one before, as long as the phase word says so
+abbrev pub IsOwnOrBefore : PhaseSaid → Version → ℕ → Type 0
+IsOwnOrBefore said own its = (its ≡ own.0) ⊎ ((its + 1 ≡ own.0) × SaysMovingTo said own)
+
+-- Each update that waits or is attempted is of the session's version; or of the one before, as long as the phase word says so.
+pub record HasOwnOrBefore (said : PhaseSaid) (s : SessionState) : Type 0 where
+  pub waiting : AreUpdatesSo (IsOwnOrBefore said s.seen.version) s.requests
+  pub attempted : AttemptsSo (IsOwnOrBefore said s.seen.version) s s.step
+
 -- while it is awake the session goes by a later version
 abbrev pub IsLiveLater : ℕ → SessionState → Type 0
 IsLiveLater version s = s.is_awake ≡ true → version < s.seen.version.0
@@ -88,6 +103,12 @@ abbrev pub NoneIsLeft : Type 0
 NoneIsLeft =
     (opening : World) (start : ℕ) (events : List Event) (version session : ℕ) (first its : SessionState) → OpensQuiet opening start → HasBecome opening events session first its
     → flush_rank version ≤ rank_now opening events → HasNoneUpto version its
+
+-- so an update that waits is of its session's version, or of the one before
+abbrev pub WaitsFromBefore : Type 0
+WaitsFromBefore =
+    (opening : World) (start : ℕ) (events : List Event) (session : ℕ) (first its : SessionState) → OpensQuiet opening start → HasBecome opening events session first its
+    → HasOwnOrBefore (phase_said (phase_at (run opening events).now)) its
 
 -- ---- so of its points
 -- a session's point of this version splits its effects: just those have a serial up to it that are of this version or an earlier one

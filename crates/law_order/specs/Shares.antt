@@ -17,6 +17,7 @@ use Rattle.fkv_world.specs.Runs.{run}
 use Rattle.fkv_world.specs.World.{Event, Now, seat_at}
 use Rattle.law_parts.specs.Latches.Latchers.{session_alone}
 use Rattle.law_commit.specs.Shares.Leaving.{HasLoaded}
+use Rattle.law_commit.specs.Shares.Since.{AllShareSo, SharesOnly, SharesSince, seen_by}
 use Rattle.law_commit.specs.Shares.Tries.{SharesInHand}
 use Rattle.law_commit.specs.Shares.Waiting.{ShareSitting, has_shifted}
 
@@ -49,3 +50,15 @@ abbrev pub LeavesFromPrepareInItsLife : Type 0
 LeavesFromPrepareInItsLife =
     (bytes : List ℕ) (o : Opened) (n : Now) (events : List Event) (session : ℕ) (first its : SessionState) (cause : CatchCause) → IsStoreOf bytes o → IsOpeningWorld o n → HasBecome (beginning n bytes) events session first its
     → its.is_awake ≡ true → its.step ≡ CatchesUp cause → HasLoaded its.catching.step → (its.catching.seen.version.0 ≡ its.seen.version.0) ⊎ (is_prepare its.seen.phase ≡ true)
+
+-- No update shares its latch before its session has come to prepare of the update's version.
+abbrev pub ShareOnlySinceInItsLife : Type 0
+ShareOnlySinceInItsLife =
+    (bytes : List ℕ) (o : Opened) (n : Now) (events : List Event) (session : ℕ) (first its : SessionState) → IsStoreOf bytes o → IsOpeningWorld o n → HasBecome (beginning n bytes) events session first its
+    → AllShareSo (SharesOnly (seen_by its its.step)) its
+
+-- From there on each does, if none of the session's attempts has ended as a shift and isn't made again.
+abbrev pub AllShareSinceInItsLife : Type 0
+AllShareSinceInItsLife =
+    (bytes : List ℕ) (o : Opened) (n : Now) (events : List Event) (session : ℕ) (first its : SessionState) → IsStoreOf bytes o → IsOpeningWorld o n → HasBecome (beginning n bytes) events session first its
+    → has_shifted (seat_at n session) first (session_events (beginning n bytes) session events) ≡ false → AllShareSo (SharesSince its.seen) its

@@ -126,7 +126,12 @@ module _ (k : Seat) (homes : (pending : PendingRequest) → (home_of (bits_of k)
 
 -- ---- what its tries share
 so : (seen : Seen) (t : TryState) → t.seen ≡ seen → (t.has_exclusive ≡ true → MovesOn seen t) → HasShare t → SharesSo seen t
-so seen t same alone shares = record { prepares = λ prepare. shares.0 (subst (λ (x : Seen). is_prepare x.phase ≡ true) (sym same) prepare); kept = shares.1; alone = alone }
+so seen t same alone shares = record {
+  prepares = λ prepare. shares.0 (subst (λ (x : Seen). is_prepare x.phase ≡ true) (sym same) prepare);
+  kept = shares.1;
+  came = λ has. subst (λ (x : Seen). (is_prepare x.phase ≡ true) ⊎ (t.request.has_latch ≡ true)) same (shares.2 has);
+  alone = alone;
+}
 
 try_shares : (seen : Seen) (t : TryState) (step : Trying) → t.seen ≡ seen → (t.has_exclusive ≡ true → MovesOn seen t) → SharesBy t step → SharesTrying seen t step
 try_shares seen t Walks same alone shares = so seen t same alone shares
@@ -232,10 +237,10 @@ prepare_is WaitPending e = cc
 prepare_is WaitFlush e = cc
 
 -- ---- in a life
-homes_so : (k : Seat) → HasItsBuckets k → (pending : PendingRequest) → (home_of (bits_of k) (key_of pending.request.op)).bucket < k.places.buckets
+pub homes_so : (k : Seat) → HasItsBuckets k → (pending : PendingRequest) → (home_of (bits_of k) (key_of pending.request.op)).bucket < k.places.buckets
 homes_so k its pending = (homes_are_there k.places (bits_of k) (key_of pending.request.op) its).few
 
-moving_at : (opening : World) (events : List Event) (session : ℕ) (first its : SessionState) (buckets : HasItsBuckets (seat_at opening.now session)) → HasBecome opening events session first its
+pub moving_at : (opening : World) (events : List Event) (session : ℕ) (first its : SessionState) (buckets : HasItsBuckets (seat_at opening.now session)) → HasBecome opening events session first its
     → IsSessionMoving (seat_at opening.now session) (homes_so (seat_at opening.now session) buckets) its
 moving_at opening events session first its buckets became =
     let k : Seat = seat_at opening.now session in
@@ -246,7 +251,7 @@ awake_by : (its : SessionState) (awake : Bool) → its.is_awake ≡ awake → (i
 awake_by its true e asleep none = e
 awake_by its false e asleep none = absurd (none (asleep e))
 
-asleep_at : (opening : World) (events : List Event) (session : ℕ) (first its : SessionState) → HasBecome opening events session first its → its.is_awake ≡ false → IsAsleep its.requests its.step
+pub asleep_at : (opening : World) (events : List Event) (session : ℕ) (first its : SessionState) → HasBecome opening events session first its → its.is_awake ≡ false → IsAsleep its.requests its.step
 asleep_at opening events session first its became =
     of_run (λ s. s.is_awake ≡ false → IsAsleep s.requests s.step) opening events session first its became
     (run_asleep (seat_at opening.now session) first (session_events opening session events) (opened_so opening events session first its became))
@@ -271,7 +276,7 @@ drops_between opening start events session place first its guarded became drops 
     (moves.0, awake_at opening events session first its became (λ asleep. moves.1 asleep.accepts_none))
 
 -- ---- one session is between two versions, and another takes up prepare
-enters_so : (before after : Seen) → enters_prepare before after ≡ true → (is_prepare after.phase ≡ true) × (is_prepare before.phase ≡ true → before.version.0 ≡ after.version.0 → ⊥)
+pub enters_so : (before after : Seen) → enters_prepare before after ≡ true → (is_prepare after.phase ≡ true) × (is_prepare before.phase ≡ true → before.version.0 ≡ after.version.0 → ⊥)
 enters_so before after e =
     let both = both_are (is_prepare after.phase) (not (is_prepare before.phase && before.version.0 == after.version.0)) e in
     (both.0, λ prepares same. by_test (is_prepare before.phase) (before.version.0 == after.version.0) prepares (let it : (before.version.0 == after.version.0) ≡ true = grind (arith, nat_tests, same) in it) (is_false _ both.1))

@@ -1,4 +1,5 @@
 -- By the floor of live sessions.
+use Rattle.law_commit.proofs.OfQuiet.Before.{waits_from_before}
 use Rattle.law_commit.proofs.OfQuiet.Begun.{begun_have_flushed}
 use Rattle.law_commit.proofs.OfQuiet.Left.{none_is_left, owes_none}
 use Rattle.law_commit.proofs.OfQuiet.Life.{none_comes_back}
@@ -21,6 +22,9 @@ returns-clause-owes c = owes_none (live_later c.law_floor_stands.ensures.floor)
 
 pub returns-clause-left : goal.returns-clause-left
 returns-clause-left c = none_is_left (live_later c.law_floor_stands.ensures.floor)
+
+pub returns-clause-before : goal.returns-clause-before
+returns-clause-before c = waits_from_before (none_is_left (live_later c.law_floor_stands.ensures.floor))
 
 pub returns-clause-points : goal.returns-clause-points
 returns-clause-points c = points_stay (live_later c.law_floor_stands.ensures.floor)

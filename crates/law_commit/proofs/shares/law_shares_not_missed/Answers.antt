@@ -2,6 +2,7 @@
 use Rattle.law_commit.proofs.OfShares.Alone.{alone_between, alone_by_rank, meets_none, tries_share}
 use Rattle.law_commit.proofs.OfShares.Leaving.{leaves_from_prepare}
 use Rattle.law_commit.proofs.OfShares.Prepared.{shares_in_prepare}
+use Rattle.law_commit.proofs.OfShares.Since.{all_share_since, share_only_since}
 use Rattle.law_commit.proofs.shares.law_shares_not_missed.Goals as goal
 
 pub returns : goal.returns
@@ -12,4 +13,6 @@ returns c = record {
   meets = meets_none c.law_phases_are_seen.ensures.sound c.law_phases_are_seen.ensures.floor c.law_world_latched.ensures.shows c.law_world_latched.ensures.counted;
   leaves = leaves_from_prepare c.law_phases_are_seen.ensures.sound c.law_phases_are_seen.ensures.floor;
   prepare = shares_in_prepare c.law_phases_are_seen.ensures.sound c.law_phases_are_seen.ensures.floor c.law_world_latched.ensures.shows c.law_world_latched.ensures.counted;
+  only = share_only_since c.law_phases_are_seen.ensures.sound c.law_phases_are_seen.ensures.floor;
+  since = all_share_since c.law_phases_are_seen.ensures.sound c.law_phases_are_seen.ensures.floor c.law_world_latched.ensures.shows c.law_world_latched.ensures.counted;
 }
