@@ -6,6 +6,7 @@ use Rattle.fkv_map.specs.Keys.{key_of}
 use Rattle.fkv_plane.specs.declared.asks.Ask.{Ask}
 use Rattle.fkv_plane.specs.declared.asks.Ask.TheVariants.{Done}
 use Rattle.fkv_ops.specs.declared.answers.DiskRecord.{DiskRecord}
+use Rattle.fkv_ops.specs.declared.answers.Reason.TheVariants as reason
 use Rattle.fkv_ops.specs.declared.answers.TryAnswer.{TryAnswer}
 use Rattle.fkv_ops.specs.declared.answers.TryAnswer.TheVariants as answer
 use Rattle.fkv_ops.specs.declared.header_words.HeaderSaid.{HeaderSaid}
@@ -145,7 +146,7 @@ module _ (k : Seat) (its : HasItsBuckets k) (fair : Bool) (seen : Seen) where
   still_now a step at knows = subst (λ (x : Attempting). KnowsSharing a x) (sym at) knows
 
   puts_now : (a : AttemptState) (sought : Option DiskRecord) → IsSharing fair seen ⊥ a.pending → Now (puts_addr a sought)
-  puts_now a None so = full_left fair seen _ a.pending so
+  puts_now a None so = full_left fair seen (answer.Wait reason.Disk) a.pending so
   puts_now a (Some sought) so = so
 
   tries_now : (a : AttemptState) → a.seen ≡ seen → IsOlder fair seen a.pending → Now (tries k.places (bits_of k) a)
@@ -170,8 +171,8 @@ module _ (k : Seat) (its : HasItsBuckets k) (fair : Bool) (seen : Seen) where
       let moved : AttemptState = record a { pending = next } in
       let found : AttemptState = attempt_ended a (told_value (value_of its_mail.value)) in
       let absent : AttemptState = attempt_ended a answer.Absent in
-      either_now (its_mail.key.0 == (key_of a.pending.request.op).0) found (if previous.0 == 0 then absent else puts moved) (λ e. left_read fair seen _ a.pending read)
-      (either_now (previous.0 == 0) absent (puts moved) (λ e. left_read fair seen _ a.pending read)
+      either_now (its_mail.key.0 == (key_of a.pending.request.op).0) found (if previous.0 == 0 then absent else puts moved) (λ e. left_read fair seen (told_value (value_of its_mail.value)) a.pending read)
+      (either_now (previous.0 == 0) absent (puts moved) (λ e. left_read fair seen answer.Absent a.pending read)
       (puts_now moved next.sought (of_read fair seen next (sought_read fair seen a.pending (moved_on a.pending.sought previous) read))))
 
   look_now : (a : AttemptState) (ask : Ask MailAnswer) → a.step ≡ Looks → a.seen ≡ seen → IsSharing fair seen ⊥ a.pending → Now (look_ledto k.places (bits_of k) a ask)
@@ -183,13 +184,13 @@ module _ (k : Seat) (its : HasItsBuckets k) (fair : Bool) (seen : Seen) where
       either_now (is_seeking_read emptied) (read_on emptied it (header_said it.header)) (tries k.places (bits_of k) holding)
       (λ seeks. read_now emptied it (header_said it.header) (seeking_reads emptied seeks)) (tries_now holding same older)
   look_now a (Done other) at same so =
-      either_now (is_seeking_read a) (waits_for_disk a) (tries k.places (bits_of k) a) (λ seeks. left_read fair seen _ a.pending (seeking_reads a seeks)) (tries_now a same (full_older fair seen a.pending so))
+      either_now (is_seeking_read a) (waits_for_disk a) (tries k.places (bits_of k) a) (λ seeks. left_read fair seen (answer.Wait reason.Disk) a.pending (seeking_reads a seeks)) (tries_now a same (full_older fair seen a.pending so))
   look_now a ask at same so = still_now a Looks at (same, so)
 
   put_now : (a : AttemptState) (ask : Ask MailAnswer) → a.step ≡ Puts → IsSharing fair seen ⊥ a.pending → Now (put_ledto a ask)
   unfolding put_ledto
-  put_now a (Done mail.Asked) at so = full_left fair seen _ (with_asked a.pending true) (asked_full fair seen a.pending true so)
-  put_now a (Done other) at so = full_left fair seen _ a.pending so
+  put_now a (Done mail.Asked) at so = full_left fair seen (answer.Wait reason.Disk) (with_asked a.pending true) (asked_full fair seen a.pending true so)
+  put_now a (Done other) at so = full_left fair seen (answer.Wait reason.Disk) a.pending so
   put_now a ask at so = still_now a Puts at so
 
   -- the end of a try
@@ -200,7 +201,7 @@ module _ (k : Seat) (its : HasItsBuckets k) (fair : Bool) (seen : Seen) where
       let here : AttemptState = record a { pending = kept } in
       let next : PendingRequest = with_sought kept (Some sought) in
       let full = left_full fair seen (answer.AwaitsDisk sought) kept (λ is. refl) (held_left fair seen (answer.AwaitsDisk sought) a.pending held so) in
-      either_now a.pending.has_asked (waits_for_disk here) (puts (record here { pending = next })) (λ asked. full_left fair seen _ kept full)
+      either_now a.pending.has_asked (waits_for_disk here) (puts (record here { pending = next })) (λ asked. full_left fair seen (answer.Wait reason.Disk) kept full)
       (puts_now (record here { pending = next }) next.sought (sought_full fair seen kept (Some sought) full))
   tried_now a (answer.Wait why) so = so
   tried_now a (answer.Done reply) so = so

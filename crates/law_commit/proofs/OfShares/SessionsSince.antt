@@ -113,6 +113,9 @@ hand_older fair s fits updates =
     let few = fits.1 in
     record { upto = omega (arith, some, few); only = λ has. cc; since = λ c. (let less = c.1 in absurd (omega (arith, less, some, few))) }
 
+none_in : {X : Type 0} (index : ℕ) (p : PendingRequest) → slice_get [] index ≡ Some p → X
+none_in index p got = cc
+
 module _ (k : Seat) (its : HasItsBuckets k) (fair : Bool) where
   abbrev pub Waits : SessionState → PendingRequest → Type 0
   Waits s p = IsSharing fair s.seen (SitsTaking s s.step) p
@@ -309,7 +312,7 @@ module _ (k : Seat) (its : HasItsBuckets k) (fair : Bool) where
 
     none_there : (index : ℕ) (p : PendingRequest) → slice_get after.requests index ≡ Some p → s.requests ≡ [] → Waits after p
     none_there index p got none =
-        let clash : slice_get {A = PendingRequest} [] index ≡ Some p = ap (λ (requests : List PendingRequest). slice_get requests index) (sym (none_stay k s cause reply at none)) ∙ got in cc
+        none_in index p (ap (λ (requests : List PendingRequest). slice_get requests index) (sym (none_stay k s cause reply at none)) ∙ got)
 
     waits_then : CatchesSo s reply → (index : ℕ) (p : PendingRequest) → slice_get after.requests index ≡ Some p → So p → Waits after p
     waits_then so index p got sharing = elim so.onward [
@@ -374,6 +377,6 @@ module _ (k : Seat) (its : HasItsBuckets k) (fair : Bool) where
 
   pub event_known : (s : SessionState) (event : SessionEvent) → FitsEvent s event → IsVersion s.seen.version.0 → IsVersion (session_happens k s event).seen.version.0 → Knows s → Knows (session_happens k s event)
   unfolding session_happens
-  event_known s (Begins its_call) so fits after knows = begins_known s its_call (is_busy s.step) refl fits knows
-  event_known s (Replies reply) so fits after knows = replied_known s s.step reply refl so after knows
-  event_known s (Gets action) so fits after knows = gets_known s s.step action refl knows
+  event_known s (Begins its_call) so fits behind knows = begins_known s its_call (is_busy s.step) refl fits knows
+  event_known s (Replies reply) so fits behind knows = replied_known s s.step reply refl so behind knows
+  event_known s (Gets action) so fits behind knows = gets_known s s.step action refl knows

@@ -318,10 +318,10 @@ try_begun_moving p bits request seen occasion spare = by_want (wants_shared its)
     unwanted true true has e f g = cc
     unwanted false read has e f g = cc
 
-    first_one : (a b : Bool) → (a && b) ≡ true → a ≡ true
-    first_one true b e = refl
-    first_one false b e = cc
+    first_one : (a b c : Bool) → (a && b && c) ≡ true → a ≡ true
+    first_one true b c e = refl
+    first_one false b c e = cc
 
     by_want : (b : Bool) → wants_shared its ≡ b → IsTryMoving seen (if b then with_latch p its TakeShared TakesShared else walks p its)
-    by_want true e = record { keeps = (refl, λ x. no_drop x, λ x. no_drop x); takes = tt; shares = first_one (is_prepare seen.phase) (not (is_read request.op) && not request.has_latch) e }
+    by_want true e = record { keeps = (refl, λ x. no_drop x, λ x. no_drop x); takes = tt; shares = first_one (is_prepare seen.phase) (not (is_read request.op)) (not request.has_latch) e }
     by_want false e = walks_moving p seen its (refl, λ x. no_drop x, λ x. no_drop x, (λ prepare update. unwanted (is_prepare seen.phase) (is_read request.op) request.has_latch e prepare update, λ has. has, λ has. inr has))
