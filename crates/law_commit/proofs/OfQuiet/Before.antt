@@ -1,6 +1,6 @@
 -- An update that waits is of its session's version; or of the one before, as long as the phase word says in-progress or wait-pending of the session's.
-use Rattle.std.proofs.Common.{◌≡◌, ◌⊎◌, inl, inr, ℕ, ◌+◌, ◌-◌, ◌*◌, ◌<◌, ◌≤◌, List, refl, arith, ap, subst, Bool, true, false}
-use Rattle.std.specs.Prelude.{nat_le, nat_lt, Some, slice_get}
+use Rattle.std.proofs.Common.{◌≡◌, ◌⊎◌, inl, inr, ℕ, ◌+◌, ◌*◌, ◌<◌, ◌≤◌, List, refl, arith, ap, subst, Bool, true, false}
+use Rattle.std.specs.Prelude.{nat_le, Some, slice_get}
 use Rattle.std.proofs.lemmas.Bool.Decides.{nat_tests}
 use Rattle.fkv_base.specs.declared.numbers.Version.{Version}
 use Rattle.fkv_base.specs.declared.phases.Phase.TheVariants.{Rest, Prepare, InProgress, WaitPending, WaitFlush}
@@ -18,7 +18,7 @@ use Rattle.law_commit.specs.PhaseStores.{phase_at}
 use Rattle.law_commit.specs.PhaseVersions.{phase_version, version_said}
 use Rattle.law_commit.specs.Quiet.{HasNoneUpto, HasOwnOrBefore, IsLater, IsOwnOrBefore, NoneIsLeft, OpensQuiet, SaysMovingTo, WaitsFromBefore, flush_rank, rank_said}
 use Rattle.law_commit.specs.Versions.Cells.{IsFromUpto}
-use Rattle.law_commit.specs.Versions.Requests.{AreUpdatesSo, AttemptsSo, IsUpdateSo, RequestsFrom}
+use Rattle.law_commit.specs.Versions.Requests.{AttemptsSo, IsUpdateSo, RequestsFrom}
 use Rattle.law_commit.proofs.Rising.{version_below}
 use Rattle.law_commit.proofs.OfPhases.LifeStages.{none_ahead, rising_phase}
 use Rattle.law_commit.proofs.OfVersions.Requests.{all_so, life_requests, same_version, update_at}

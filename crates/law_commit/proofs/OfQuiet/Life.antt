@@ -1,5 +1,5 @@
 -- In a life a session that has no update up to a version, from wait-pending of the commit of this number on, gets none any more.
-use Rattle.std.proofs.Common.{◌≡◌, ℕ, zero, suc, ◌<◌, ◌≤◌, ◌∙◌, List, [], ◌∷◌, ◌++◌, refl, arith, ap, sym, subst, Bool, true, false}
+use Rattle.std.proofs.Common.{◌≡◌, ℕ, ◌<◌, ◌≤◌, ◌∙◌, List, [], ◌∷◌, ◌++◌, refl, arith, ap, sym, subst, Bool, true, false}
 use Rattle.std.specs.Prelude.{◌==◌, Option, Some, None, slice_get, if◌then◌else◌}
 use Rattle.std.proofs.lemmas.Bool.Decides.{nat_tests}
 use Rattle.fkv_base.specs.declared.numbers.Version.{Version}
@@ -30,7 +30,7 @@ use Rattle.law_local.specs.Sessions.Known.{is_attempting}
 use Rattle.law_world.proofs.OfSessions.OwnRun.{of_run, opened_so, to_run}
 use Rattle.law_commit.specs.Accepted.{HasRisingVersion}
 use Rattle.law_commit.specs.Quiet.{HasNoneUpto, IsLater, IsLiveLater, LiveAreLater, NoneComesBack, OpensQuiet, pending_rank, rank_now}
-use Rattle.law_commit.specs.Versions.Requests.{AreUpdatesSo, AttemptsSo}
+use Rattle.law_commit.specs.Versions.Requests.{AttemptsSo}
 use Rattle.law_commit.proofs.OfPhases.LifeStages.{first_version, rising_version}
 use Rattle.law_commit.proofs.OfQuiet.Ranks.{ranks_rise}
 use Rattle.law_commit.proofs.OfQuiet.Sessions.{HasNoCall, KnowsLater, Still, TriesLater, WaitsLater, no_calls, one_call}

@@ -17,7 +17,7 @@ use Rattle.fkv_ops.specs.declared.requests.Request.{Request}
 use Rattle.fkv_ops.specs.declared.requests.Seen.{Seen}
 use Rattle.fkv_ops.specs.HeaderWords.{header_said}
 use Rattle.fkv_ops.specs.Requests.{is_read}
-use Rattle.fkv_ops.specs.Trying.{is_prepare, is_wait, told_value, try_ask, try_next}
+use Rattle.fkv_ops.specs.Trying.{is_prepare, is_wait, told_value, try_ask}
 use Rattle.fkv_ops.specs.Values.{value_of}
 use Rattle.fkv_ops.proofs.Shown.{IsTrying, begun_trying, ended_keeps, next_trying}
 use Rattle.fkv_pending.specs.declared.attempting.Attempting.{Attempting}

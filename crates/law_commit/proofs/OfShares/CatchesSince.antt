@@ -1,5 +1,5 @@
 -- What a session takes up stays what it takes up, and only as it takes up prepare does it add shares.
-use Rattle.std.proofs.Common.{◌≡◌, ℕ, ◌∙◌, refl, ap, sym, subst, List, [], ◌∷◌, Bool, true, false}
+use Rattle.std.proofs.Common.{◌≡◌, ℕ, ◌∙◌, refl, ap, sym, subst, List, [], Bool, true, false}
 use Rattle.std.specs.Prelude.{⊤, Option, Some, None, if◌then◌else◌, slice_get}
 use Rattle.std.specs.List.{position}
 use Rattle.fkv_latch.specs.declared.latching.LatchAnswer.{LatchAnswer}

@@ -1,6 +1,6 @@
 -- What a life gives of each event of a session, for how its updates share.
-use Rattle.std.proofs.Common.{◌≡◌, ◌⊎◌, inl, inr, ℕ, ◌+◌, ◌*◌, ◌<◌, ◌≤◌, ◌∙◌, List, [], ◌∷◌, ◌++◌, refl, arith, ap, sym, subst, Bool, true, false}
-use Rattle.std.specs.Prelude.{⊤, Option, Some, None, slice_get}
+use Rattle.std.proofs.Common.{◌≡◌, ◌⊎◌, inl, inr, ℕ, ◌+◌, ◌*◌, ◌<◌, ◌≤◌, List, [], ◌∷◌, ◌++◌, refl, arith, ap, sym, subst, Bool, true, false}
+use Rattle.std.specs.Prelude.{⊤}
 use Rattle.fkv_base.specs.declared.numbers.Version.{Version}
 use Rattle.fkv_ops.specs.declared.requests.Seen.{Seen}
 use Rattle.fkv_pending.specs.declared.pending_requests.PendingRequest.{PendingRequest}
@@ -31,7 +31,7 @@ use Rattle.law_commit.proofs.OfShares.Enters.{CatchEnters}
 use Rattle.law_commit.proofs.OfShares.Leaving.{IsFloored, leaves_so}
 use Rattle.law_commit.proofs.OfShares.Onward.{IsOn, IsOnward, OwnOn, rank_onward, seen_rank}
 use Rattle.law_commit.proofs.OfShares.SessionsMove.{SittingMoving, session_run_moving}
-use Rattle.law_commit.proofs.OfShares.SessionsSince.{CatchesSo, FitsEvent, FitsReply, Knows, LeavesSo, Waits, event_known}
+use Rattle.law_commit.proofs.OfShares.SessionsSince.{CatchesSo, FitsEvent, Knows, LeavesSo, Waits, event_known}
 use Rattle.law_commit.proofs.OfShares.Waiting.{Latched, MeetNone, both_none, through_so}
 
 -- ---- each event of a session's own fits, so all of it is known

@@ -1,5 +1,5 @@
 -- The rank by which a session goes never falls, and is never above the phase word's.
-use Rattle.std.proofs.Common.{◌≡◌, ◌⊎◌, inl, inr, ℕ, ◌+◌, ◌*◌, ◌≤◌, ◌∙◌, List, [], ◌∷◌, ◌++◌, refl, arith, sym, ap, subst, Bool, true, false}
+use Rattle.std.proofs.Common.{◌≡◌, ℕ, ◌+◌, ◌*◌, ◌≤◌, List, [], ◌∷◌, ◌++◌, refl, arith, ap, subst, Bool, true, false}
 use Rattle.std.specs.Prelude.{⊤, Option, Some, None, slice_get}
 use Rattle.fkv_base.specs.declared.phases.Phase.{Phase}
 use Rattle.fkv_base.specs.declared.phases.Phase.TheVariants.{InProgress, Prepare, Rest, WaitFlush, WaitPending}
@@ -22,7 +22,7 @@ use Rattle.fkv_world.specs.World.{Event, Now, seat_at}
 use Rattle.fkv_world.proofs.Shown.{same_seat, session_runs, session_runs_on}
 use Rattle.law_guard.specs.Guarded.Shows as guard
 use Rattle.law_commit.specs.Floor.Stands.{OpensSeen}
-use Rattle.law_commit.specs.Quiet.{rank_now, rank_said}
+use Rattle.law_commit.specs.Quiet.{rank_said}
 use Rattle.law_commit.specs.Ranks.{rank}
 use Rattle.law_commit.specs.Views.{IsSeenAs, Sight, View, completed, loads_phase, rank_of, sight_by, sight_in, sight_left, sight_moved, sight_through, view_said, with_loaded}
 use Rattle.law_commit.proofs.Rising.{TellAll, Tells, TellsBy}

@@ -1,9 +1,8 @@
 -- By an event of a session its updates go on to share their latches just from prepare of their versions on.
 use Rattle.std.proofs.Common.{◌≡◌, ◌⊎◌, inl, inr, ℕ, zero, suc, ◌<◌, ◌≤◌, ◌∙◌, refl, arith, ap, sym, subst, List, [], ◌∷◌, Bool, true, false}
-use Rattle.std.specs.Prelude.{⊤, Option, Some, None, nat_lt, slice_get}
+use Rattle.std.specs.Prelude.{⊤, Some, None, nat_lt, slice_get}
 use Rattle.std.proofs.lemmas.Bool.Decides.{nat_tests}
 use Rattle.fkv_map.specs.declared.operations.Call.{Call}
-use Rattle.fkv_map.specs.declared.operations.Op.{Op}
 use Rattle.fkv_ops.specs.declared.answers.TryAnswer.{TryAnswer}
 use Rattle.fkv_ops.specs.declared.answers.TryAnswer.TheVariants as tried
 use Rattle.fkv_ops.specs.declared.requests.Occasion.TheVariants.{Call as AtCall, Poll as AtPoll}
@@ -24,11 +23,11 @@ use Rattle.fkv_session.specs.declared.sessions.CatchCause.TheVariants.{Refreshes
 use Rattle.fkv_session.specs.declared.sessions.Sitting.{Sitting}
 use Rattle.fkv_session.specs.declared.sessions.Sitting.TheVariants.{Attempts, CatchesUp, ClearsMail, Idle, Leaves, LoadsDurable, Polls, StoresCut, StoresOwing, Turns}
 use Rattle.fkv_session.specs.SessionRun.{Begins, Gets, Replies, SessionEvent, begins, session_happens}
-use Rattle.fkv_session.specs.Sessions.{Seat, SessionState, asks_after, attempts, bits_of, catch_ledto, caught, caught_up, is_busy, is_finished, is_word_ask, request_in_hand, session_ask, session_begun, session_given, session_next, sitting_given, sitting_next}
+use Rattle.fkv_session.specs.Sessions.{Seat, SessionState, asks_after, attempts, bits_of, catch_ledto, caught, is_busy, is_finished, is_word_ask, request_in_hand, session_ask, session_begun, session_given, session_next, sitting_given, sitting_next}
 use Rattle.fkv_session.specs.Shares.{AllUpdatesShare, HasItsBuckets, is_shift}
 use Rattle.fkv_session.specs.Versions.{IsVersion}
 use Rattle.fkv_session.proofs.Shown.{StepLatched, attempt_ends}
-use Rattle.law_local.specs.Sessions.Known.{KnowsRequests, attempt_after, attempt_comes_to, catch_after, catch_comes_to, caught_up_at, is_accepted, is_attempting, is_polling, with_op}
+use Rattle.law_local.specs.Sessions.Known.{KnowsRequests, attempt_after, attempt_comes_to, catch_after, caught_up_at, is_accepted, is_attempting, is_polling, with_op}
 use Rattle.law_local.proofs.OfSessions.Known.{begun_known, given_known, next_known, stays_known}
 use Rattle.law_commit.specs.Shares.Since.{HasPrepared}
 use Rattle.law_commit.specs.Shares.Waiting.{is_shifted, shifts_at, shifts_by}

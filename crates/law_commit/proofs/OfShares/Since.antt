@@ -1,12 +1,12 @@
 -- So in each life an update shares its latch just from prepare of its version on.
-use Rattle.std.proofs.Common.{◌≡◌, ◌⊎◌, inl, inr, ℕ, zero, suc, ◌+◌, ◌*◌, ◌<◌, ◌≤◌, ◌∙◌, List, [], ◌∷◌, ◌++◌, refl, arith, ap, sym, subst, Bool, true, false}
-use Rattle.std.specs.Prelude.{⊤, Option, Some, None, slice_get}
+use Rattle.std.proofs.Common.{◌≡◌, ◌⊎◌, inl, inr, ℕ, zero, suc, ◌<◌, ◌≤◌, ◌∙◌, List, [], ◌∷◌, ◌++◌, refl, arith, ap, sym, subst, Bool, true, false}
+use Rattle.std.specs.Prelude.{Option, Some, None, slice_get}
 use Rattle.fkv_ops.specs.declared.requests.Request.{Request}
 use Rattle.fkv_ops.specs.declared.requests.Seen.{Seen}
 use Rattle.fkv_ops.specs.declared.trying.Trying.{Trying}
 use Rattle.fkv_ops.specs.declared.trying.Trying.TheVariants as trying
 use Rattle.fkv_ops.specs.Requests.{is_read}
-use Rattle.fkv_ops.specs.Trying.{TryState, is_prepare}
+use Rattle.fkv_ops.specs.Trying.{TryState}
 use Rattle.fkv_pending.specs.declared.attempting.Attempting.{Attempting}
 use Rattle.fkv_pending.specs.declared.attempting.Attempting.TheVariants as attempting
 use Rattle.fkv_pending.specs.declared.pending_requests.PendingRequest.{PendingRequest}
@@ -14,11 +14,10 @@ use Rattle.fkv_pending.specs.Attempting.{AttemptState}
 use Rattle.fkv_plane.specs.declared.asks.Ask.TheVariants.{Add}
 use Rattle.fkv_session.specs.declared.catching_up.Catching.{Catching}
 use Rattle.fkv_session.specs.declared.catching_up.Catching.TheVariants as catching
-use Rattle.fkv_session.specs.declared.sessions.CatchCause.{CatchCause}
 use Rattle.fkv_session.specs.declared.sessions.Sitting.{Sitting}
 use Rattle.fkv_session.specs.declared.sessions.Sitting.TheVariants.{Attempts, CatchesUp, ClearsMail, Idle, Leaves, LoadsDurable, Polls, StoresCut, StoresOwing, Turns}
 use Rattle.fkv_session.specs.CatchingUp.{CatchState}
-use Rattle.fkv_session.specs.SessionRun.{Begins, SessionEvent, session_run}
+use Rattle.fkv_session.specs.SessionRun.{SessionEvent, session_run}
 use Rattle.fkv_session.specs.Sessions.{Seat, SessionState, bits_of, session_ask}
 use Rattle.fkv_session.specs.Shares.{HasItsBuckets}
 use Rattle.fkv_world.specs.Opened.{HasBecome, IsOpenedWorld}
@@ -34,7 +33,7 @@ use Rattle.law_local.proofs.OfSessions.SessionInputs.{attempt_at_call, attempt_i
 use Rattle.law_world.proofs.OfSessions.OwnRun.{of_run, opened_so}
 use Rattle.law_commit.specs.Floor.Stands.{OpensSeen, PaperHasFloor, PaperIsSound}
 use Rattle.law_commit.specs.Quiet.{rank_now}
-use Rattle.law_commit.specs.Shares.Since.{AllShareSince, AllShareSo, AttemptSo, HasPrepared, InHandSo, ShareOnlySince, SharesOnly, SharesSince, TriesSo, WaitSo, seen_by, taken_up, waiting_beside}
+use Rattle.law_commit.specs.Shares.Since.{AllShareSince, AttemptSo, HasPrepared, InHandSo, ShareOnlySince, SharesOnly, SharesSince, TriesSo, WaitSo, seen_by, taken_up, waiting_beside}
 use Rattle.law_commit.specs.Shares.Tries.{SharesAttempting, SharesInHand, SharesSo, SharesTrying}
 use Rattle.law_commit.specs.Shares.Waiting.{has_shifted}
 use Rattle.law_commit.specs.Views.{IsComing, IsTakenFrom, Sight, TakesUp, View, rank_of, sight_found, sight_in, sight_of}
@@ -45,7 +44,7 @@ use Rattle.law_commit.proofs.OfPhases.LifeStages.{first_version}
 use Rattle.law_commit.proofs.OfQuiet.Life.{by_event}
 use Rattle.law_commit.proofs.OfQuiet.Ranks.{staged_rank}
 use Rattle.law_commit.proofs.OfShares.Alone.{CountsLatches, ShowsLatches, meets_none, tries_share}
-use Rattle.law_commit.proofs.OfShares.AttemptsSince.{IsAttemptSharing, IsOlder, IsSharing, KnowsSharing}
+use Rattle.law_commit.proofs.OfShares.AttemptsSince.{IsOlder, IsSharing, KnowsSharing}
 use Rattle.law_commit.proofs.OfShares.CatchesSince.{TakesPrepare}
 use Rattle.law_commit.proofs.OfShares.Fits.{AllFit, OwnLatched, own_latched, part_fits, run_known}
 use Rattle.law_commit.proofs.OfShares.Leaving.{IsFloored}
