@@ -63,7 +63,8 @@ use Rattle.law_commit.specs.Ranks.{rank}
 use Rattle.law_commit.specs.Shares.Alone.{HoldsAloneBetween, HoldsAloneByRank, MeetsNoneAlone}
 use Rattle.law_commit.specs.Shares.Tries.{SharesAttempting, SharesInHand, SharesInTries, SharesSo, SharesTrying}
 use Rattle.law_commit.specs.Views.{IsComing, IsTakenFrom, Sight, TakesUp, View, rank_of, sight_found, sight_in, sight_of}
-use Rattle.law_commit.proofs.Rising.{ComesBetween, life_rise}
+use Rattle.law_commit.proofs.Measured.{ComesBetween}
+use Rattle.law_commit.proofs.Rising.{life_rise, of_version}
 use Rattle.law_commit.proofs.Sights.{coming_seen, view_seen}
 use Rattle.law_commit.proofs.OfFloor.Stands.{few_stages, has_floor, life_floored}
 use Rattle.law_commit.proofs.OfPhases.LifeStages.{life_staged, none_ahead}
@@ -286,8 +287,8 @@ enters_so before after e =
     by_test true false one other none = cc
     by_test false b one other none = cc
 
-between_so : (low top : ℕ) (found : Option View) (view : View) → found ≡ Some view → ComesBetween low top found → low ≤ view.version.0
-between_so low top found view e between = let here : ComesBetween low top (Some view) = subst (λ (x : Option View). ComesBetween low top x) e between in here.0
+between_so : (low top : ℕ) (found : Option View) (view : View) → found ≡ Some view → ComesBetween of_version low top found → low ≤ view.version.0
+between_so low top found view e between = let here : ComesBetween of_version low top (Some view) = subst (λ (x : Option View). ComesBetween of_version low top x) e between in here.0
 
 module _ (paper_sound : PaperIsSound) (paper_floor : PaperHasFloor) (opening : World) (start : ℕ) (events : List Event) (guarded : guard.IsOpened opening.now start) (opens : OpensSeen opening.now) where
   moving_far : (number : Version) (stage : Stage) (session : ℕ) (was other : SessionState) → 0 < number.0 → HasBecome opening events session was other → HasFloor number stage (sight_of opening events session).view → is_moving_on other.seen.phase ≡ true → 2 ≤ stage_number stage
@@ -301,7 +302,7 @@ module _ (paper_sound : PaperIsSound) (paper_floor : PaperHasFloor) (opening : W
       let opened = opened_so opening events session first its became in
       let risen = life_rise opening session first events became.was opened (none_ahead opening.now opens.rests session first became.was) (life_staged opening start events guarded became.opened opens.rests).rises in
       let same : sight_of opening events session ≡ sight_in opening session first events = ap (sight_found opening events session) became.was in
-      let between = subst (λ (x : Sight). ComesBetween x.view.version.0 (phase_version (run opening events).now.words) x.coming) (sym same) risen.below.coming in
+      let between = subst (λ (x : Sight). ComesBetween of_version x.view.version.0 (phase_version (run opening events).now.words) x.coming) (sym same) risen.below.coming in
       between_so _ _ (sight_of opening events session).coming view e between
 
   conflict : (session other : ℕ) (first its was holder : SessionState) (place : ℕ) → HasBecome opening events session first its → HasBecome opening events other was holder

@@ -25,8 +25,8 @@ use Rattle.law_commit.specs.Floor.Stands.{OpensSeen}
 use Rattle.law_commit.specs.Quiet.{rank_said}
 use Rattle.law_commit.specs.Ranks.{rank}
 use Rattle.law_commit.specs.Views.{IsSeenAs, Sight, View, completed, loads_phase, rank_of, sight_by, sight_in, sight_left, sight_moved, sight_through, view_said, with_loaded}
-use Rattle.law_commit.proofs.Rising.{TellAll, Tells, TellsBy}
-use Rattle.law_commit.proofs.Rising.{found_all as tell_all}
+use Rattle.law_commit.proofs.Measured.{HasRisen, IsBelow, by_risen, higher}
+use Rattle.law_commit.proofs.Telling.{TellAll, found_all}
 use Rattle.law_commit.proofs.Sights.{Sees, goes_by_view, life_sees, through}
 use Rattle.law_commit.proofs.OfQuiet.Live.{rank_low}
 use Rattle.law_commit.proofs.OfQuiet.Ranks.{rank_up}
@@ -75,80 +75,9 @@ rank_onward seen after up =
     }
 
 -- ---- a sight
--- what is coming is of no lower rank than what it goes by, and of no higher than the phase word's
-abbrev pub ComesUnder : ℕ → ℕ → Option View → Type 0
-ComesUnder low top None = ⊤
-ComesUnder low top (Some its) = (low ≤ rank_of its) × (rank_of its ≤ top)
-
-pub record IsUnder (top : ℕ) (its : Sight) : Type 0 where
-  pub view : rank_of its.view ≤ top
-  pub coming : ComesUnder (rank_of its.view) top its.coming
-
--- the same behind an event, where the rank of the view hasn't fallen
-record HasRisen (top : ℕ) (before after : Sight) : Type 0 where
-  rises : rank_of before.view ≤ rank_of after.view
-  under : IsUnder top after
-
-stays : (top : ℕ) (its : Sight) → IsUnder top its → HasRisen top its its
-stays top its under = record { rises = omega arith; under = under }
-
-under_higher : (low top new : ℕ) (found : Option View) → top ≤ new → ComesUnder low top found → ComesUnder low new found
-under_higher low top new None up under = tt
-under_higher low top new (Some its) up under = let below = under.1 in (under.0, omega (arith, below, up))
-
-higher : (top new : ℕ) (its : Sight) → top ≤ new → IsUnder top its → IsUnder new its
-higher top new its up under = let view = under.view in record { view = omega (arith, view, up); coming = under_higher (rank_of its.view) top new its.coming up under.coming }
-
-said_under : (words : List ℕ) (its : View) (said : PhaseSaid) → rank_of its ≤ rank_said said → ComesUnder (rank_of its) (rank_said said) (Some (view_said words its said))
+said_under : (words : List ℕ) (its : View) (said : PhaseSaid) → rank_of its ≤ rank_said said → (rank_of its ≤ rank_of (view_said words its said)) × (rank_of (view_said words its said) ≤ rank_said said)
 said_under words its Spoiled under = (omega arith, under)
 said_under words its (Says phase version) under = (under, omega arith)
-
-loaded_under : (words : List ℕ) (its : Sight) (loads : Bool) (reply : ℕ) → IsUnder (rank_in words) its → (loads ≡ true → reply ≡ word_at words (shared_place one.Phase)) → IsUnder (rank_in words) (with_loaded words loads reply its)
-loaded_under words its true reply under tells = rw (tells refl) (record { view = under.view; coming = said_under words its.view (phase_said (word_at words (shared_place one.Phase))) under.view })
-loaded_under words its false reply under tells = under
-
-loaded_view : (words : List ℕ) (its : Sight) (loads : Bool) (reply : ℕ) → (with_loaded words loads reply its).view ≡ its.view
-loaded_view words its true reply = refl
-loaded_view words its false reply = refl
-
-completed_risen : (top : ℕ) (its : Sight) (found : Option View) → its.coming ≡ found → IsUnder top its → HasRisen top its (completed found its)
-completed_risen top its None e under = stays top its under
-completed_risen top its (Some view) e under =
-    let between = subst (λ (c : Option View). ComesUnder (rank_of its.view) top c) e under.coming in
-    record { rises = between.0; under = record { view = between.1; coming = tt } }
-
-left_risen : (top : ℕ) (its : Sight) (step : Sitting) → IsUnder top its → HasRisen top its (sight_left step its)
-left_risen top its (CatchesUp cause) under = stays top its under
-left_risen top its (Idle told) under = completed_risen top its its.coming refl under
-left_risen top its (Attempts has_shifted) under = completed_risen top its its.coming refl under
-left_risen top its ClearsMail under = completed_risen top its its.coming refl under
-left_risen top its (Polls i) under = completed_risen top its its.coming refl under
-left_risen top its (StoresOwing i) under = completed_risen top its its.coming refl under
-left_risen top its (Turns told) under = completed_risen top its its.coming refl under
-left_risen top its StoresCut under = completed_risen top its its.coming refl under
-left_risen top its Leaves under = completed_risen top its its.coming refl under
-left_risen top its LoadsDurable under = completed_risen top its its.coming refl under
-
-moved_risen : (words : List ℕ) (its : Sight) (s : SessionState) (step : Sitting) (reply : ℕ) (after : Sitting) → IsUnder (rank_in words) its → Tells words s step reply
-    → HasRisen (rank_in words) its (sight_moved words s step reply after its)
-moved_risen words its s (CatchesUp cause) reply after under tells =
-    let loads : Bool = loads_phase s.catching s.catching.step in
-    let risen = left_risen (rank_in words) (with_loaded words loads reply its) after (loaded_under words its loads reply under tells) in
-    record { rises = subst (λ (v : View). rank_of v ≤ rank_of (sight_left after (with_loaded words loads reply its)).view) (loaded_view words its loads reply) risen.rises; under = risen.under }
-moved_risen words its s (Idle told) reply after under tells = stays (rank_in words) its under
-moved_risen words its s (Attempts has_shifted) reply after under tells = stays (rank_in words) its under
-moved_risen words its s ClearsMail reply after under tells = stays (rank_in words) its under
-moved_risen words its s (Polls i) reply after under tells = stays (rank_in words) its under
-moved_risen words its s (StoresOwing i) reply after under tells = stays (rank_in words) its under
-moved_risen words its s (Turns told) reply after under tells = stays (rank_in words) its under
-moved_risen words its s StoresCut reply after under tells = stays (rank_in words) its under
-moved_risen words its s Leaves reply after under tells = stays (rank_in words) its under
-moved_risen words its s LoadsDurable reply after under tells = stays (rank_in words) its under
-
-by_risen : (words : List ℕ) (its : Sight) (k : Seat) (s : SessionState) (event : SessionEvent) → IsUnder (rank_in words) its → TellsBy words s event → HasRisen (rank_in words) its (sight_by words k s event its)
-by_risen words its k s (Replies reply) under tells = moved_risen words its s s.step reply (session_happens k s (Replies reply)).step under tells
-by_risen words its k s (Begins call) under tells = stays (rank_in words) its under
-by_risen words its k s (Gets action) under tells = stays (rank_in words) its under
 
 -- ---- events of a session's own
 pub record IsOn (top : ℕ) (seen after : Seen) : Type 0 where
@@ -160,21 +89,21 @@ AllOn top k s [] = ⊤
 AllOn top k s (event ∷ before) = IsOn top (session_run k s before).seen (session_run k s (event ∷ before)).seen × AllOn top k s before
 
 record GoOn (top : ℕ) (k : Seat) (s : SessionState) (events : List SessionEvent) (after : Sight) : Type 0 where
-  under : IsUnder top after
+  under : IsBelow rank_of top after
   on : AllOn top k s events
 
 same_rank : (its : View) (seen : Seen) → IsSeenAs its seen → seen_rank seen ≡ rank_of its
 same_rank its seen as_seen = rw (as_seen.phase, as_seen.version) refl
 
-on_so : (top : ℕ) (before after : Sight) (seen then_seen : Seen) → IsSeenAs before.view seen → IsSeenAs after.view then_seen → HasRisen top before after → IsOn top seen then_seen
+on_so : (top : ℕ) (before after : Sight) (seen then_seen : Seen) → IsSeenAs before.view seen → IsSeenAs after.view then_seen → HasRisen rank_of top before after → IsOn top seen then_seen
 on_so top before after seen then_seen one other risen =
     let was = same_rank before.view seen one in
     let is = same_rank after.view then_seen other in
     let rises = risen.rises in
-    let low = risen.under.view in
+    let low = risen.below.view in
     record { rises = omega (arith, was, is, rises); low = omega (arith, is, low) }
 
-through_on : (words : List ℕ) (its : Sight) (k : Seat) (s : SessionState) (events : List SessionEvent) → IsUnder (rank_in words) its → Sees its s → TellAll words k s events
+through_on : (words : List ℕ) (its : Sight) (k : Seat) (s : SessionState) (events : List SessionEvent) → IsBelow rank_of (rank_in words) its → Sees its s → TellAll words k s events
     → GoOn (rank_in words) k s events (sight_through words k s events its)
 unfolding sight_through TellAll AllOn
 through_on words its k s [] under sees tells = record { under = under; on = tt }
@@ -185,8 +114,8 @@ through_on words its k s (event ∷ before) under sees tells =
     let other = session_run k s (event ∷ before) in
     let goes_by = goes_by_view was one one.step (through words its k s before sees) in
     let goes_after = goes_by_view (sight_through words k s (event ∷ before) its) other other.step (through words its k s (event ∷ before) sees) in
-    let risen = by_risen words was k one event past.under tells.0 in
-    record { under = risen.under; on = (on_so (rank_in words) was (sight_through words k s (event ∷ before) its) one.seen other.seen goes_by goes_after risen, past.on) }
+    let risen = by_risen rank_of rank_said said_under words was k one event past.under tells.0 in
+    record { under = risen.below; on = (on_so (rank_in words) was (sight_through words k s (event ∷ before) its) one.seen other.seen goes_by goes_after risen, past.on) }
 
 -- behind others of its own
 unfoldable pub OwnOn : ℕ → Seat → SessionState → List SessionEvent → List SessionEvent → Type 0
@@ -214,20 +143,20 @@ module _ (opening : World) (start session : ℕ) (first : SessionState) (guarded
       let its : rank first.seen.phase first.seen.version.0 ≡ 5 * first.seen.version.0 = ap (λ (x : Phase). rank x first.seen.version.0) phase in
       omega (arith, version, word, its)
 
-  part_on : (before : List Event) (event : Event) → IsUnder (rank_in (run opening before).now.words) (sight_in opening session first before)
+  part_on : (before : List Event) (event : Event) → IsBelow rank_of (rank_in (run opening before).now.words) (sight_in opening session first before)
       → GoOn (rank_in (run opening before).now.words) k (session_run k first (own before)) (session_part_of (run opening before).now session event)
       (sight_through (run opening before).now.words k (session_run k first (own before)) (session_part_of (run opening before).now session event) (sight_in opening session first before))
   part_on before event under =
       let now : Now = (run opening before).now in
       let s : SessionState = session_run k first (own before) in
-      let tell = tell_all now k s session event (slice_get now.sessions session) (session_runs opening session first before was) (same_seat opening before session) in
+      let tell = found_all now k s session event (slice_get now.sessions session) (session_runs opening session first before was) (same_seat opening before session) in
       through_on now.words (sight_in opening session first before) k s (session_part_of now session event) under (life_sees opening session first before (opened.sessions session first was)) tell
 
-  pub life_under : (events : List Event) → IsUnder (rank_in (run opening events).now.words) (sight_in opening session first events)
+  pub life_under : (events : List Event) → IsBelow rank_of (rank_in (run opening events).now.words) (sight_in opening session first events)
   unfolding sight_in run
   life_under [] = record { view = opened_under; coming = tt }
   life_under (event ∷ before) =
-      higher (rank_in (run opening before).now.words) (rank_in (run opening (event ∷ before)).now.words) _ (rank_up opening start before event guarded opened opens.rests) (part_on before event (life_under before)).under
+      higher rank_of (rank_in (run opening before).now.words) (rank_in (run opening (event ∷ before)).now.words) _ (rank_up opening start before event guarded opened opens.rests) (part_on before event (life_under before)).under
 
   pub life_on : (before : List Event) (event : Event) → OwnOn (rank_in (run opening before).now.words) k first (own before) (session_part_of (run opening before).now session event)
   life_on before event = own_on (rank_in (run opening before).now.words) k first (own before) (session_part_of (run opening before).now session event) (part_on before event (life_under before)).on

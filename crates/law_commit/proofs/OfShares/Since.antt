@@ -37,6 +37,7 @@ use Rattle.law_commit.specs.Shares.Since.{AllShareSince, AttemptSo, HasPrepared,
 use Rattle.law_commit.specs.Shares.Tries.{SharesAttempting, SharesInHand, SharesSo, SharesTrying}
 use Rattle.law_commit.specs.Shares.Waiting.{has_shifted}
 use Rattle.law_commit.specs.Views.{IsComing, IsTakenFrom, Sight, TakesUp, View, rank_of, sight_found, sight_in, sight_of}
+use Rattle.law_commit.proofs.Measured.{ComesBetween}
 use Rattle.law_commit.proofs.Sights.{coming_seen, view_seen}
 use Rattle.law_commit.proofs.OfFloor.LifeFloor.{LifeFloored}
 use Rattle.law_commit.proofs.OfFloor.Stands.{has_floor, life_floored}
@@ -48,7 +49,7 @@ use Rattle.law_commit.proofs.OfShares.AttemptsSince.{IsOlder, IsSharing, KnowsSh
 use Rattle.law_commit.proofs.OfShares.CatchesSince.{TakesPrepare}
 use Rattle.law_commit.proofs.OfShares.Fits.{AllFit, OwnLatched, own_latched, part_fits, run_known}
 use Rattle.law_commit.proofs.OfShares.Leaving.{IsFloored}
-use Rattle.law_commit.proofs.OfShares.Onward.{ComesUnder, IsOnward, OwnOn, life_on, life_under, rank_onward, seen_rank}
+use Rattle.law_commit.proofs.OfShares.Onward.{IsOnward, OwnOn, life_on, life_under, rank_onward, seen_rank}
 use Rattle.law_commit.proofs.OfShares.Prepared.{opened_latched}
 use Rattle.law_commit.proofs.OfShares.SessionsSince.{Knows, SitsTaking, Waits, prepared_on}
 use Rattle.law_commit.proofs.OfShares.Waiting.{NoneIsMet, life_latched, shifted_apart}
@@ -215,11 +216,11 @@ same_onward : (seen : Seen) → IsOnward seen seen
 same_onward seen = rank_onward seen seen (omega arith)
 
 -- what it takes up is of no lower rank
-come_up : (low top : ℕ) (found : Option View) (seen : Seen) → ComesUnder low top found → IsTakenFrom found seen → low ≤ seen_rank seen
+come_up : (low top : ℕ) (found : Option View) (seen : Seen) → ComesBetween rank_of low top found → IsTakenFrom found seen → low ≤ seen_rank seen
 come_up low top None seen under taken = absurd taken
 come_up low top (Some view) seen under taken = let up = under.0 in let same : seen_rank seen ≡ rank_of view = rw (taken.phase, taken.version) refl in omega (arith, up, same)
 
-taken_onward : (s : SessionState) (sight : Sight) (top : ℕ) (step : Catching) → seen_rank s.seen ≡ rank_of sight.view → ComesUnder (rank_of sight.view) top sight.coming → TakesUp sight s.catching step → IsOnward s.seen (taken_up s s.catching step)
+taken_onward : (s : SessionState) (sight : Sight) (top : ℕ) (step : Catching) → seen_rank s.seen ≡ rank_of sight.view → ComesBetween rank_of (rank_of sight.view) top sight.coming → TakesUp sight s.catching step → IsOnward s.seen (taken_up s s.catching step)
 taken_onward s sight top catching.Refreshes same under takes = same_onward s.seen
 taken_onward s sight top catching.Protects same under takes = same_onward s.seen
 taken_onward s sight top catching.Ended same under takes = rank_onward s.seen s.catching.seen (let up = come_up (rank_of sight.view) top sight.coming s.catching.seen under takes in omega (arith, up, same))
@@ -228,7 +229,7 @@ taken_onward s sight top catching.StoresOwing same under takes = rank_onward s.s
 taken_onward s sight top (catching.Latches i) same under takes = rank_onward s.seen s.catching.seen (let up = come_up (rank_of sight.view) top sight.coming s.catching.seen under takes in omega (arith, up, same))
 taken_onward s sight top catching.Finishes same under takes = rank_onward s.seen s.catching.seen (let up = come_up (rank_of sight.view) top sight.coming s.catching.seen under takes in omega (arith, up, same))
 
-sits_onward : (s : SessionState) (sight : Sight) (top : ℕ) (step : Sitting) → seen_rank s.seen ≡ rank_of sight.view → ComesUnder (rank_of sight.view) top sight.coming → IsComing sight s step → IsOnward s.seen (seen_by s step)
+sits_onward : (s : SessionState) (sight : Sight) (top : ℕ) (step : Sitting) → seen_rank s.seen ≡ rank_of sight.view → ComesBetween rank_of (rank_of sight.view) top sight.coming → IsComing sight s step → IsOnward s.seen (seen_by s step)
 sits_onward s sight top (CatchesUp cause) same under comes = taken_onward s sight top s.catching.step same under comes
 sits_onward s sight top (Idle told) same under comes = same_onward s.seen
 sits_onward s sight top (Attempts has_shifted) same under comes = same_onward s.seen
@@ -260,7 +261,7 @@ module _ (opening : World) (start : ℕ) (events : List Event) (session : ℕ) (
       let sight : Sight = sight_of opening events session in
       let saw = view_seen opening events session first its became in
       let same : sight_of opening events session ≡ sight_in opening session first events = ap (sight_found opening events session) became.was in
-      let under = subst (λ (x : Sight). ComesUnder (rank_of x.view) (rank_now opening events) x.coming) (sym same) (life_under opening start session first guarded became.opened opens became.was events).coming in
+      let under = subst (λ (x : Sight). ComesBetween rank_of (rank_of x.view) (rank_now opening events) x.coming) (sym same) (life_under opening start session first guarded became.opened opens became.was events).coming in
       sits_onward its sight (rank_now opening events) its.step (rw (saw.phase, saw.version) refl) under (coming_seen opening events session first its became)
 
 pub share_only_since : PaperIsSound → PaperHasFloor → ShareOnlySince
