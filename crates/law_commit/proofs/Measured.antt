@@ -1,46 +1,17 @@
 -- A number that the views of a session have, as their version or their rank, never falls and is never above the phase word's.
-use Rattle.std.proofs.Common.{◌≡◌, ℕ, ◌≤◌, ◌∙◌, List, [], ◌∷◌, ◌++◌, refl, arith, sym, ap, subst, Bool, true, false}
-use Rattle.std.specs.Prelude.{⊤, Option, Some, None, if◌then◌else◌, slice_get}
-use Rattle.fkv_plane.specs.declared.actions.Action.{Action}
-use Rattle.fkv_plane.specs.declared.asks.Ask.{Ask}
-use Rattle.fkv_plane.specs.declared.asks.Ask.TheVariants.{Load, Store, Swap, Cas, Add, Max, Put, Take, Done}
+use Rattle.std.proofs.Common.{◌≡◌, ℕ, ◌≤◌, List, refl, arith, subst, Bool, true, false}
+use Rattle.std.specs.Prelude.{⊤, Option, Some, None}
 use Rattle.fkv_plane.specs.declared.places.SharedWord.TheVariants as one
-use Rattle.fkv_plane.specs.Asked.{reply_to, word_at}
-use Rattle.fkv_plane.specs.Passing.{passed}
+use Rattle.fkv_plane.specs.Asked.{word_at}
 use Rattle.fkv_plane.specs.Places.{shared_place}
-use Rattle.fkv_plane.specs.Plane.{action_at}
 use Rattle.fkv_words.specs.declared.phase_words.PhaseSaid.{PhaseSaid}
-use Rattle.fkv_words.specs.declared.phase_words.PhaseSaid.TheVariants.{Says, Spoiled}
 use Rattle.fkv_words.specs.PhaseWords.{phase_said}
-use Rattle.fkv_epoch.specs.declared.refreshing.Refreshing.{Refreshing}
-use Rattle.fkv_epoch.specs.declared.refreshing.Refreshing.TheVariants as refresh
-use Rattle.fkv_epoch.specs.declared.protecting.Protecting.{Protecting}
-use Rattle.fkv_epoch.specs.declared.protecting.Protecting.TheVariants as protect
-use Rattle.fkv_epoch.specs.Refreshing.{refresh_ask}
-use Rattle.fkv_epoch.specs.Protecting.{protect_ask}
-use Rattle.fkv_session.specs.declared.answers.Told.{Told}
-use Rattle.fkv_session.specs.declared.answers.Told.TheVariants.{Slept}
-use Rattle.fkv_session.specs.declared.catching_up.Catching.{Catching}
-use Rattle.fkv_session.specs.declared.catching_up.Catching.TheVariants as catching
 use Rattle.fkv_session.specs.declared.sessions.Sitting.{Sitting}
 use Rattle.fkv_session.specs.declared.sessions.Sitting.TheVariants.{Idle, Attempts, CatchesUp, ClearsMail, Polls, StoresOwing, Turns, StoresCut, Leaves, LoadsDurable}
-use Rattle.fkv_session.specs.CatchingUp.{catch_ask, catching_ask}
-use Rattle.fkv_session.specs.Sessions.{SessionState, Seat, IsOpened, session_ask, session_next, sitting_ask}
-use Rattle.fkv_session.specs.SessionRun.{SessionEvent, Begins, Replies, Gets, session_happens, session_run}
-use Rattle.fkv_world.specs.Moves.{Near}
-use Rattle.fkv_world.specs.Opened.{HasBecome}
-use Rattle.fkv_world.specs.OwnEvents.{session_got, session_slots, session_steps, session_part, session_part_found, session_part_of, session_events}
-use Rattle.fkv_world.specs.Actors.{is_of_session}
-use Rattle.fkv_world.specs.Runs.{World, run}
-use Rattle.fkv_world.specs.World as world
-use Rattle.fkv_world.specs.World.{Event, Calls, Moves, Commits, KeeperMoves, Crashes, Now, near, seat_at}
-use Rattle.law_world.proofs.OfSessions.OwnRun.{of_run, opened_so}
-use Rattle.fkv_world.proofs.Shown.{same_seat, session_runs, session_runs_on}
-use Rattle.law_commit.specs.Accepted.{HasRisingVersion}
-use Rattle.law_commit.specs.PhaseVersions.{NoneIsAhead, HasRisingPhase, phase_version, version_said}
-use Rattle.law_commit.specs.Views.{View, Sight, completed, is_at_phase, loads_phase, sight_by, sight_found, sight_in, sight_left, sight_moved, sight_of, sight_through, view_said, wakes_at_phase, with_loaded}
+use Rattle.fkv_session.specs.Sessions.{SessionState, Seat}
+use Rattle.fkv_session.specs.SessionRun.{SessionEvent, Begins, Replies, Gets, session_happens}
+use Rattle.law_commit.specs.Views.{View, Sight, completed, loads_phase, sight_by, sight_left, sight_moved, view_said, with_loaded}
 use Rattle.law_commit.proofs.Telling.{Tells, TellsBy}
-use Rattle.law_commit.proofs.Sights.{Sees, goes_by_view, life_sees, through}
 
 module _ (measure : View → ℕ) where
   -- what is coming has no lower number than what it goes by, and no higher one than this

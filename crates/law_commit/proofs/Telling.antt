@@ -1,6 +1,6 @@
 -- Where a session loads the phase, the reply is what the phase word says.
-use Rattle.std.proofs.Common.{◌≡◌, ℕ, ◌≤◌, ◌∙◌, List, [], ◌∷◌, ◌++◌, refl, arith, sym, ap, subst, Bool, true, false}
-use Rattle.std.specs.Prelude.{⊤, Option, Some, None, if◌then◌else◌, slice_get}
+use Rattle.std.proofs.Common.{◌≡◌, ℕ, ◌∙◌, List, [], ◌∷◌, ◌++◌, refl, sym, ap, Bool, true, false}
+use Rattle.std.specs.Prelude.{⊤, Option, Some, None, if◌then◌else◌}
 use Rattle.fkv_plane.specs.declared.actions.Action.{Action}
 use Rattle.fkv_plane.specs.declared.asks.Ask.{Ask}
 use Rattle.fkv_plane.specs.declared.asks.Ask.TheVariants.{Load, Store, Swap, Cas, Add, Max, Put, Take, Done}
@@ -9,9 +9,6 @@ use Rattle.fkv_plane.specs.Asked.{reply_to, word_at}
 use Rattle.fkv_plane.specs.Passing.{passed}
 use Rattle.fkv_plane.specs.Places.{shared_place}
 use Rattle.fkv_plane.specs.Plane.{action_at}
-use Rattle.fkv_words.specs.declared.phase_words.PhaseSaid.{PhaseSaid}
-use Rattle.fkv_words.specs.declared.phase_words.PhaseSaid.TheVariants.{Says, Spoiled}
-use Rattle.fkv_words.specs.PhaseWords.{phase_said}
 use Rattle.fkv_epoch.specs.declared.refreshing.Refreshing.{Refreshing}
 use Rattle.fkv_epoch.specs.declared.refreshing.Refreshing.TheVariants as refresh
 use Rattle.fkv_epoch.specs.declared.protecting.Protecting.{Protecting}
@@ -25,21 +22,14 @@ use Rattle.fkv_session.specs.declared.catching_up.Catching.TheVariants as catchi
 use Rattle.fkv_session.specs.declared.sessions.Sitting.{Sitting}
 use Rattle.fkv_session.specs.declared.sessions.Sitting.TheVariants.{Idle, Attempts, CatchesUp, ClearsMail, Polls, StoresOwing, Turns, StoresCut, Leaves, LoadsDurable}
 use Rattle.fkv_session.specs.CatchingUp.{catch_ask, catching_ask}
-use Rattle.fkv_session.specs.Sessions.{SessionState, Seat, IsOpened, session_ask, session_next, sitting_ask}
-use Rattle.fkv_session.specs.SessionRun.{SessionEvent, Begins, Replies, Gets, session_happens, session_run}
+use Rattle.fkv_session.specs.Sessions.{SessionState, Seat, session_ask, session_next, sitting_ask}
+use Rattle.fkv_session.specs.SessionRun.{SessionEvent, Replies, session_happens, session_run}
 use Rattle.fkv_world.specs.Moves.{Near}
-use Rattle.fkv_world.specs.Opened.{HasBecome}
-use Rattle.fkv_world.specs.OwnEvents.{session_got, session_slots, session_steps, session_part, session_part_found, session_part_of, session_events}
+use Rattle.fkv_world.specs.OwnEvents.{session_got, session_slots, session_steps, session_part, session_part_found}
 use Rattle.fkv_world.specs.Actors.{is_of_session}
-use Rattle.fkv_world.specs.Runs.{World, run}
 use Rattle.fkv_world.specs.World as world
 use Rattle.fkv_world.specs.World.{Event, Calls, Moves, Commits, KeeperMoves, Crashes, Now, near, seat_at}
-use Rattle.law_world.proofs.OfSessions.OwnRun.{of_run, opened_so}
-use Rattle.fkv_world.proofs.Shown.{same_seat, session_runs, session_runs_on}
-use Rattle.law_commit.specs.Accepted.{HasRisingVersion}
-use Rattle.law_commit.specs.PhaseVersions.{NoneIsAhead, HasRisingPhase, phase_version, version_said}
-use Rattle.law_commit.specs.Views.{View, Sight, completed, is_at_phase, loads_phase, sight_by, sight_found, sight_in, sight_left, sight_moved, sight_of, sight_through, view_said, wakes_at_phase, with_loaded}
-use Rattle.law_commit.proofs.Sights.{Sees, goes_by_view, life_sees, through}
+use Rattle.law_commit.specs.Views.{is_at_phase, loads_phase, wakes_at_phase}
 
 -- where the phase is what a session loads, the reply is the phase word
 abbrev pub Tells : List ℕ → SessionState → Sitting → ℕ → Type 0

@@ -1,6 +1,6 @@
 -- The rank by which a session goes never falls, and is never above the phase word's.
-use Rattle.std.proofs.Common.{◌≡◌, ℕ, ◌+◌, ◌*◌, ◌≤◌, List, [], ◌∷◌, ◌++◌, refl, arith, ap, subst, Bool, true, false}
-use Rattle.std.specs.Prelude.{⊤, Option, Some, None, slice_get}
+use Rattle.std.proofs.Common.{◌≡◌, ℕ, ◌+◌, ◌*◌, ◌≤◌, List, [], ◌∷◌, ◌++◌, refl, arith, ap, true}
+use Rattle.std.specs.Prelude.{⊤, Some, slice_get}
 use Rattle.fkv_base.specs.declared.phases.Phase.{Phase}
 use Rattle.fkv_base.specs.declared.phases.Phase.TheVariants.{InProgress, Prepare, Rest, WaitFlush, WaitPending}
 use Rattle.fkv_ops.specs.declared.requests.Seen.{Seen}
@@ -8,9 +8,7 @@ use Rattle.fkv_ops.specs.Trying.{is_prepare}
 use Rattle.fkv_plane.specs.declared.places.SharedWord.TheVariants as one
 use Rattle.fkv_plane.specs.Asked.{word_at}
 use Rattle.fkv_plane.specs.Places.{shared_place}
-use Rattle.fkv_session.specs.declared.sessions.Sitting.{Sitting}
-use Rattle.fkv_session.specs.declared.sessions.Sitting.TheVariants.{Attempts, CatchesUp, ClearsMail, Idle, Leaves, LoadsDurable, Polls, StoresCut, StoresOwing, Turns}
-use Rattle.fkv_session.specs.SessionRun.{Begins, Gets, Replies, SessionEvent, session_happens, session_run}
+use Rattle.fkv_session.specs.SessionRun.{SessionEvent, session_run}
 use Rattle.fkv_session.specs.Sessions.{Seat, SessionState}
 use Rattle.fkv_words.specs.declared.phase_words.PhaseSaid.{PhaseSaid}
 use Rattle.fkv_words.specs.declared.phase_words.PhaseSaid.TheVariants.{Says, Spoiled}
@@ -24,7 +22,7 @@ use Rattle.law_guard.specs.Guarded.Shows as guard
 use Rattle.law_commit.specs.Floor.Stands.{OpensSeen}
 use Rattle.law_commit.specs.Quiet.{rank_said}
 use Rattle.law_commit.specs.Ranks.{rank}
-use Rattle.law_commit.specs.Views.{IsSeenAs, Sight, View, completed, loads_phase, rank_of, sight_by, sight_in, sight_left, sight_moved, sight_through, view_said, with_loaded}
+use Rattle.law_commit.specs.Views.{IsSeenAs, Sight, View, rank_of, sight_in, sight_through, view_said}
 use Rattle.law_commit.proofs.Measured.{HasRisen, IsBelow, by_risen, higher}
 use Rattle.law_commit.proofs.Telling.{TellAll, found_all}
 use Rattle.law_commit.proofs.Sights.{Sees, goes_by_view, life_sees, through}
