@@ -5,6 +5,7 @@ mod CatchesSince
 mod Enters
 mod Fits
 mod Holders
+pub mod Just
 pub mod Leaving
 mod Onward
 pub mod Prepared

@@ -17,7 +17,7 @@ use Rattle.fkv_world.specs.Runs.{run}
 use Rattle.fkv_world.specs.World.{Event, Now, seat_at}
 use Rattle.law_parts.specs.Latches.Latchers.{session_alone}
 use Rattle.law_commit.specs.Shares.Leaving.{HasLoaded}
-use Rattle.law_commit.specs.Shares.Since.{AllShareSo, SharesOnly, SharesSince, seen_by}
+use Rattle.law_commit.specs.Shares.Since.{AllShareSo, SharesJust, SharesOnly, SharesSince, seen_by}
 use Rattle.law_commit.specs.Shares.Tries.{SharesInHand}
 use Rattle.law_commit.specs.Shares.Waiting.{ShareSitting, has_shifted}
 
@@ -62,3 +62,9 @@ abbrev pub AllShareSinceInItsLife : Type 0
 AllShareSinceInItsLife =
     (bytes : List ℕ) (o : Opened) (n : Now) (events : List Event) (session : ℕ) (first its : SessionState) → IsStoreOf bytes o → IsOpeningWorld o n → HasBecome (beginning n bytes) events session first its
     → has_shifted (seat_at n session) first (session_events (beginning n bytes) session events) ≡ false → AllShareSo (SharesSince its.seen) its
+
+-- So each shares its latch just if its session has come to prepare of its version, as long as the session takes up no other phase.
+abbrev pub AllShareJustInItsLife : Type 0
+AllShareJustInItsLife =
+    (bytes : List ℕ) (o : Opened) (n : Now) (events : List Event) (session : ℕ) (first its : SessionState) → IsStoreOf bytes o → IsOpeningWorld o n → HasBecome (beginning n bytes) events session first its
+    → has_shifted (seat_at n session) first (session_events (beginning n bytes) session events) ≡ false → seen_by its its.step ≡ its.seen → AllShareSo (SharesJust its.seen) its

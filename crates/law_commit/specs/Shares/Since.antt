@@ -1,5 +1,5 @@
 -- Which updates share their latch: those whose session has come to prepare of their version, or further.
-use Rattle.std.specs.Prelude.{◌≡◌, ◌⊎◌, ◌<◌, ⊤, ℕ, Bool, true, false, List, [], ◌∷◌}
+use Rattle.std.specs.Prelude.{◌≡◌, ◌⊎◌, ◌↔◌, ◌<◌, ⊤, ℕ, Bool, true, false, List, [], ◌∷◌}
 use Rattle.std.specs.List.{remove}
 use Rattle.fkv_ops.specs.declared.requests.Request.{Request}
 use Rattle.fkv_ops.specs.declared.requests.Seen.{Seen}
@@ -38,6 +38,10 @@ SharesOnly seen request shares = is_read request.op ≡ false → shares ≡ tru
 -- and if it has, the update does
 abbrev pub SharesSince : Seen → Request → Bool → Type 0
 SharesSince seen request shares = is_read request.op ≡ false → HasPrepared seen request.version.0 → shares ≡ true
+
+-- so it shares just if its session has
+abbrev pub SharesJust : Seen → Request → Bool → Type 0
+SharesJust seen request shares = is_read request.op ≡ false → (shares ≡ true) ↔ HasPrepared seen request.version.0
 
 -- ---- so do all that wait, and the one in hand
 abbrev pub WaitSo : (Request → Bool → Type 0) → List PendingRequest → Type 0
@@ -94,3 +98,9 @@ abbrev pub AllShareSince : Type 0
 AllShareSince =
     (opening : World) (start : ℕ) (events : List Event) (session : ℕ) (first its : SessionState) → guard.IsOpened opening.now start → latches.IsOpened opening.now → OpensSeen opening.now → HasBecome opening events session first its
     → has_shifted (seat_at opening.now session) first (session_events opening session events) ≡ false → AllShareSo (SharesSince its.seen) its
+
+-- So each shares its latch just if its session has come to prepare of its version, as long as the session takes up no other phase.
+abbrev pub AllShareJust : Type 0
+AllShareJust =
+    (opening : World) (start : ℕ) (events : List Event) (session : ℕ) (first its : SessionState) → guard.IsOpened opening.now start → latches.IsOpened opening.now → OpensSeen opening.now → HasBecome opening events session first its
+    → has_shifted (seat_at opening.now session) first (session_events opening session events) ≡ false → seen_by its its.step ≡ its.seen → AllShareSo (SharesJust its.seen) its
