@@ -12,7 +12,7 @@ use Rattle.fkv_pending.specs.Attempting.{AttemptState}
 use Rattle.fkv_session.specs.declared.sessions.Sitting.{Sitting}
 use Rattle.fkv_session.specs.declared.sessions.Sitting.TheVariants.{Attempts, Polls}
 use Rattle.fkv_session.specs.Sessions.{SessionState}
-use Rattle.law_commit.specs.Shares.Since.{AllShareJust, AllShareSince, AllShareSo, AttemptSo, InHandSo, ShareOnlySince, SharesJust, SharesOnly, SharesSince, TriesSo, WaitSo, seen_by}
+use Rattle.law_commit.specs.Shares.Since.{AllShareJust, AllShareSince, AllShareSo, AttemptSo, InHandSo, ShareOnlySince, SharesJust, SharesOnly, SharesSince, TriesSo, WaitSo}
 
 module _ (P Q R : Request → Bool → Type 0) (each : (request : Request) (shares : Bool) → P request shares → Q request shares → R request shares) where
   both_wait : (requests : List PendingRequest) → WaitSo P requests → WaitSo Q requests → WaitSo R requests
