@@ -2,14 +2,14 @@ pub mod Alone
 mod AttemptsMove
 mod AttemptsSince
 mod CatchesSince
-mod Enters
+pub mod Enters
 mod Fits
 mod Holders
 pub mod Just
 pub mod Leaving
-mod Onward
+pub mod Onward
 pub mod Prepared
-mod SessionsMove
+pub mod SessionsMove
 mod SessionsSince
 pub mod Since
 mod TriesMove

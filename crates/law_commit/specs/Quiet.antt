@@ -7,6 +7,9 @@ use Rattle.fkv_words.specs.declared.phase_words.PhaseSaid.TheVariants.{Says, Spo
 use Rattle.fkv_words.specs.PhaseWords.{phase_said}
 use Rattle.fkv_plane.specs.Places.{session_place}
 use Rattle.fkv_commit.specs.Cuts.{cut_of, other_cut_of}
+use Rattle.fkv_session.specs.declared.catching_up.Catching.TheVariants.{Latches}
+use Rattle.fkv_session.specs.declared.sessions.CatchCause.{CatchCause}
+use Rattle.fkv_session.specs.declared.sessions.Sitting.TheVariants.{CatchesUp}
 use Rattle.fkv_session.specs.CatchingUp.{cut_at}
 use Rattle.fkv_session.specs.InOrder.{owing_place}
 use Rattle.fkv_session.specs.Sessions.{SessionState}
@@ -21,6 +24,7 @@ use Rattle.law_commit.specs.BegunCommits.{BegunCommit, life_begun}
 use Rattle.law_commit.specs.Cuts.{ShowCuts, word_now}
 use Rattle.law_commit.specs.Floor.Stands.{OpensSeen}
 use Rattle.law_commit.specs.PhaseStores.{phase_at}
+use Rattle.law_commit.specs.PhaseVersions.{phase_version}
 use Rattle.law_commit.specs.Ranks.{rank}
 use Rattle.law_commit.specs.Versions.Requests.{AreUpdatesSo, AttemptsSo}
 
@@ -109,6 +113,12 @@ abbrev pub WaitsFromBefore : Type 0
 WaitsFromBefore =
     (opening : World) (start : ℕ) (events : List Event) (session : ℕ) (first its : SessionState) → OpensQuiet opening start → HasBecome opening events session first its
     → HasOwnOrBefore (phase_said (phase_at (run opening events).now)) its
+
+-- and as a session takes shares for what waits, each update that waits is of the version that the phase word says
+abbrev pub LatchesAtItsVersion : Type 0
+LatchesAtItsVersion =
+    (opening : World) (start : ℕ) (events : List Event) (session : ℕ) (first its : SessionState) (cause : CatchCause) (i : ℕ) → OpensQuiet opening start → HasBecome opening events session first its
+    → its.step ≡ CatchesUp cause → its.catching.step ≡ Latches i → AreUpdatesSo (λ version. version ≡ phase_version (run opening events).now.words) its.requests
 
 -- ---- so of its points
 -- a session's point of this version splits its effects: just those have a serial up to it that are of this version or an earlier one

@@ -1,7 +1,7 @@
 //! Shares of latches.
 ghost use Rattle.law_commit.specs.Shares.Alone.{HoldsAloneBetween, HoldsAloneByRank, MeetsNoneAlone};
 ghost use Rattle.law_commit.specs.Shares.Leaving.{LeavesFromPrepare};
-ghost use Rattle.law_commit.specs.Shares.Since.{AllShareJust, AllShareSince, ShareOnlySince};
+ghost use Rattle.law_commit.specs.Shares.Since.{AllShareJust, AllShareSince, OlderComeSharing, ShareOnlySince};
 ghost use Rattle.law_commit.specs.Shares.Tries.{SharesInTries};
 ghost use Rattle.law_commit.specs.Shares.Waiting.{SharesInPrepare};
 
@@ -24,6 +24,7 @@ pub fn law_shares_not_missed()
     ensures prepare { SharesInPrepare }
     ensures only { ShareOnlySince }
     ensures since { AllShareSince }
+    ensures older { OlderComeSharing }
     ensures just { AllShareJust }
 {
     law_phases_are_seen();

@@ -42,7 +42,7 @@ moving (Says WaitFlush version) own some up low = absurd (omega (arith, some, up
 moving (Says InProgress version) own some up low = inl (ap (λ (x : Version). Says InProgress x) (same_version version own (omega (arith, some, up, low))))
 moving (Says WaitPending version) own some up low = inr (ap (λ (x : Version). Says WaitPending x) (same_version version own (omega (arith, some, up, low))))
 
-lower_or : (m n : ℕ) → (m ≤ n) ⊎ (n < m)
+pub lower_or : (m n : ℕ) → (m ≤ n) ⊎ (n < m)
 lower_or m n = by_test (nat_le m n) refl
   where
     by_test : (b : Bool) → nat_le m n ≡ b → (m ≤ n) ⊎ (n < m)

@@ -222,7 +222,7 @@ gone_on number stage Prepare version some low rest e = cc
 gone_on number stage WaitFlush version some low rest e = cc
 
 -- so nobody enters prepare then
-never_enters : (number : Version) (stage : Stage) (phase : Phase) (version coming : ℕ) → 2 ≤ stage_number stage → 5 * number.0 + 1 ≤ rank phase version → rank Prepare coming ≤ 5 * number.0 + stage_number stage → version ≤ coming
+pub never_enters : (number : Version) (stage : Stage) (phase : Phase) (version coming : ℕ) → 2 ≤ stage_number stage → 5 * number.0 + 1 ≤ rank phase version → rank Prepare coming ≤ 5 * number.0 + stage_number stage → version ≤ coming
     → (is_prepare phase ≡ true → version ≡ coming → ⊥) → ⊥
 never_enters number stage Rest version coming far low high rises other = let few = few_stages stage in omega (arith, few, low, high, rises)
 never_enters number stage Prepare version coming far low high rises other = let few = few_stages stage in other refl (omega (arith, few, low, high, rises))
@@ -230,7 +230,7 @@ never_enters number stage InProgress version coming far low high rises other = l
 never_enters number stage WaitPending version coming far low high rises other = let few = few_stages stage in omega (arith, few, low, high, rises)
 never_enters number stage WaitFlush version coming far low high rises other = let few = few_stages stage in omega (arith, few, low, high, rises)
 
-prepare_is : (phase : Phase) → is_prepare phase ≡ true → phase ≡ Prepare
+pub prepare_is : (phase : Phase) → is_prepare phase ≡ true → phase ≡ Prepare
 prepare_is Prepare e = refl
 prepare_is Rest e = cc
 prepare_is InProgress e = cc
@@ -257,7 +257,7 @@ asleep_at opening events session first its became =
     of_run (λ s. s.is_awake ≡ false → IsAsleep s.requests s.step) opening events session first its became
     (run_asleep (seat_at opening.now session) first (session_events opening session events) (opened_so opening events session first its became))
 
-awake_at : (opening : World) (events : List Event) (session : ℕ) (first its : SessionState) → HasBecome opening events session first its → (IsAsleep its.requests its.step → ⊥) → its.is_awake ≡ true
+pub awake_at : (opening : World) (events : List Event) (session : ℕ) (first its : SessionState) → HasBecome opening events session first its → (IsAsleep its.requests its.step → ⊥) → its.is_awake ≡ true
 awake_at opening events session first its became none = awake_by its its.is_awake refl (asleep_at opening events session first its became) none
 
 pub alone_between : HoldsAloneBetween

@@ -42,7 +42,7 @@ pub record IsOnward (seen after : Seen) : Type 0 where
   pub rises : seen.version.0 ≤ after.version.0
   pub stays : after.version.0 ≡ seen.version.0 → is_prepare seen.phase ≡ true → is_prepare after.phase ≡ true
 
-rank_high : (phase : Phase) (version : ℕ) → 5 * version ≤ rank phase version + 3
+pub rank_high : (phase : Phase) (version : ℕ) → 5 * version ≤ rank phase version + 3
 rank_high Rest version = omega arith
 rank_high Prepare version = omega arith
 rank_high InProgress version = omega arith

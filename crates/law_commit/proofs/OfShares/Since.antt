@@ -26,6 +26,7 @@ use Rattle.fkv_world.specs.Runs.{World, run}
 use Rattle.fkv_world.specs.World.{Event, Now, seat_at}
 use Rattle.fkv_world.proofs.Shown.{same_seat, session_runs}
 use Rattle.law_guard.specs.Guarded.Shows as guard
+use Rattle.law_parts.specs.Latches.Shows as latches
 use Rattle.law_local.specs.Sessions.Inputs.{AttemptsSo, TriesFor}
 use Rattle.law_local.specs.Sessions.Known.{is_attempting}
 use Rattle.law_local.proofs.OfSessions.Lists.{AllBut, AllKnown, all_left}
@@ -33,7 +34,7 @@ use Rattle.law_local.proofs.OfSessions.SessionInputs.{attempt_at_call, attempt_i
 use Rattle.law_world.proofs.OfSessions.OwnRun.{of_run, opened_so}
 use Rattle.law_commit.specs.Floor.Stands.{OpensSeen, PaperHasFloor, PaperIsSound}
 use Rattle.law_commit.specs.Quiet.{rank_now}
-use Rattle.law_commit.specs.Shares.Since.{AllShareSince, AttemptSo, HasPrepared, InHandSo, ShareOnlySince, SharesOnly, SharesSince, TriesSo, WaitSo, seen_by, taken_up, waiting_beside}
+use Rattle.law_commit.specs.Shares.Since.{AllShareSince, AttemptSo, HasPrepared, InHandSo, OlderComeSharing, ShareOnlySince, SharesOnly, SharesSince, TriesSo, WaitSo, seen_by, taken_up, waiting_beside}
 use Rattle.law_commit.specs.Shares.Tries.{SharesAttempting, SharesInHand, SharesSo, SharesTrying}
 use Rattle.law_commit.specs.Shares.Waiting.{has_shifted}
 use Rattle.law_commit.specs.Views.{IsComing, IsTakenFrom, Sight, TakesUp, View, rank_of, sight_found, sight_in, sight_of}
@@ -277,17 +278,38 @@ share_only_since paper_sound paper_floor opening start events session first its 
           (λ t p same older so. tried_only false its.seen t p same older so) its.step refl (tries_share opening start events session first its guarded became));
     }
 
+-- if none has shifted
+module _ (paper_sound : PaperIsSound) (paper_floor : PaperHasFloor) (shows : ShowsLatches) (counted : CountsLatches) (opening : World) (start : ℕ) (events : List Event) (session : ℕ) (first its : SessionState) (guarded : guard.IsOpened opening.now start)
+    (held : latches.IsOpened opening.now) (opens : OpensSeen opening.now) (became : HasBecome opening events session first its) (none : has_shifted (seat_at opening.now session) first (session_events opening session events) ≡ false) where
+  known_now : Knows (seat_at opening.now session) guarded.buckets true its
+  known_now =
+      of_run (Knows (seat_at opening.now session) guarded.buckets true) opening events session first its became
+      (life_known paper_sound paper_floor opening start session first guarded became.opened opens became.was true
+      (λ f before s there cause place number at asks. meets_none paper_sound paper_floor shows counted opening start before session place number first s cause guarded held opens (record { opened = became.opened; was = became.was; is_now = there }) at
+      (subst (λ (k : Seat). session_ask k s ≡ Add place number) (sym (same_seat opening before session)) asks))
+      events (λ f. none))
+
 pub all_share_since : PaperIsSound → PaperHasFloor → ShowsLatches → CountsLatches → AllShareSince
 all_share_since paper_sound paper_floor shows counted opening start events session first its guarded held opens became none =
     let k : Seat = seat_at opening.now session in
-    let knows = of_run (Knows k guarded.buckets true) opening events session first its became
-    (life_known paper_sound paper_floor opening start session first guarded became.opened opens became.was true
-    (λ f before s there cause place number at asks.
-    meets_none paper_sound paper_floor shows counted opening start before session place number first s cause guarded held opens (record { opened = became.opened; was = became.was; is_now = there }) at
-    (subst (λ (seat : Seat). session_ask seat s ≡ Add place number) (sym (same_seat opening before session)) asks))
-    events (λ f. none)) in
+    let knows = known_now paper_sound paper_floor shows counted opening start events session first its guarded held opens became none in
     record {
       waiting = waits_so k guarded.buckets true (SharesSince its.seen) its knows (λ p so updates prepared. (so updates).since (refl, prepared)) its.step refl;
       in_hand = hand_so k guarded.buckets true (SharesSince its.seen) its knows (inputs_now opening start events session first its guarded opens became) (λ p so updates prepared. (so updates).since (refl, prepared))
           (λ t p same older so. tried_since its.seen t p same older so) its.step refl (tries_share opening start events session first its guarded became);
     }
+
+-- so an older one has come with its share
+tries_its : (k : Seat) (s : SessionState) (step : Sitting) → s.step ≡ step → is_attempting step ≡ true → AttemptsSo k s → TriesFor (bits_of k) s.attempt s.attempt.step
+tries_its k s (Attempts has_shifted) at attempts so = (attempt_at_call k s has_shifted at so).goes.its_try
+tries_its k s (Polls i) at attempts so = (attempt_in_poll k s i at so).goes.its_try
+tries_its k s step at attempts so = cc
+
+pub older_come_sharing : PaperIsSound → PaperHasFloor → ShowsLatches → CountsLatches → OlderComeSharing
+older_come_sharing paper_sound paper_floor shows counted opening start events session first its guarded held opens became none attempts tries updates less =
+    let k : Seat = seat_at opening.now session in
+    let knows = known_now paper_sound paper_floor shows counted opening start events session first its guarded held opens became none in
+    let known : KnowsSharing k guarded.buckets true its.seen its.attempt attempting.Tries = subst (λ (step : Attempting). KnowsSharing k guarded.buckets true its.seen its.attempt step) tries (knows.attempted attempts).knows in
+    let goes : TriesFor (bits_of k) its.attempt attempting.Tries =
+        subst (λ (step : Attempting). TriesFor (bits_of k) its.attempt step) tries (tries_its k its its.step refl attempts (inputs_now opening start events session first its guarded opens became)) in
+    subst (λ (r : Request). r.has_latch ≡ true) (sym goes.its_request) ((known.1 updates).since (refl, less))

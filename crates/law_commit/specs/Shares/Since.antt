@@ -23,6 +23,7 @@ use Rattle.fkv_world.specs.OwnEvents.{session_events}
 use Rattle.fkv_world.specs.Runs.{World}
 use Rattle.fkv_world.specs.World.{Event, seat_at}
 use Rattle.law_guard.specs.Guarded.Shows as guard
+use Rattle.law_local.specs.Sessions.Known.{is_attempting}
 use Rattle.law_parts.specs.Latches.Shows as latches
 use Rattle.law_commit.specs.Floor.Stands.{OpensSeen}
 use Rattle.law_commit.specs.Shares.Waiting.{has_shifted}
@@ -99,7 +100,14 @@ AllShareSince =
     (opening : World) (start : ℕ) (events : List Event) (session : ℕ) (first its : SessionState) → guard.IsOpened opening.now start → latches.IsOpened opening.now → OpensSeen opening.now → HasBecome opening events session first its
     → has_shifted (seat_at opening.now session) first (session_events opening session events) ≡ false → AllShareSo (SharesSince its.seen) its
 
--- So each shares its latch just if its session has come to prepare of its version, as long as the session takes up no other phase.
+-- So an update that is tried and is of an earlier version than its session's has come with its share.
+abbrev pub OlderComeSharing : Type 0
+OlderComeSharing =
+    (opening : World) (start : ℕ) (events : List Event) (session : ℕ) (first its : SessionState) → guard.IsOpened opening.now start → latches.IsOpened opening.now → OpensSeen opening.now → HasBecome opening events session first its
+    → has_shifted (seat_at opening.now session) first (session_events opening session events) ≡ false → is_attempting its.step ≡ true → its.attempt.step ≡ Tries → is_read its.attempt.pending.request.op ≡ false
+    → its.attempt.pending.request.version.0 < its.seen.version.0 → its.attempt.trial.request.has_latch ≡ true
+
+-- And each shares its latch just if its session has come to prepare of its version, as long as the session takes up no other phase.
 abbrev pub AllShareJust : Type 0
 AllShareJust =
     (opening : World) (start : ℕ) (events : List Event) (session : ℕ) (first its : SessionState) → guard.IsOpened opening.now start → latches.IsOpened opening.now → OpensSeen opening.now → HasBecome opening events session first its

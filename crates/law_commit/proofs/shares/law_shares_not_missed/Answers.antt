@@ -3,7 +3,7 @@ use Rattle.law_commit.proofs.OfShares.Alone.{alone_between, alone_by_rank, meets
 use Rattle.law_commit.proofs.OfShares.Just.{all_share_just}
 use Rattle.law_commit.proofs.OfShares.Leaving.{leaves_from_prepare}
 use Rattle.law_commit.proofs.OfShares.Prepared.{shares_in_prepare}
-use Rattle.law_commit.proofs.OfShares.Since.{all_share_since, share_only_since}
+use Rattle.law_commit.proofs.OfShares.Since.{all_share_since, older_come_sharing, share_only_since}
 use Rattle.law_commit.proofs.shares.law_shares_not_missed.Goals as goal
 
 pub returns : goal.returns
@@ -16,6 +16,7 @@ returns c = record {
   prepare = shares_in_prepare c.law_phases_are_seen.ensures.sound c.law_phases_are_seen.ensures.floor c.law_world_latched.ensures.shows c.law_world_latched.ensures.counted;
   only = share_only_since c.law_phases_are_seen.ensures.sound c.law_phases_are_seen.ensures.floor;
   since = all_share_since c.law_phases_are_seen.ensures.sound c.law_phases_are_seen.ensures.floor c.law_world_latched.ensures.shows c.law_world_latched.ensures.counted;
+  older = older_come_sharing c.law_phases_are_seen.ensures.sound c.law_phases_are_seen.ensures.floor c.law_world_latched.ensures.shows c.law_world_latched.ensures.counted;
   just = all_share_just (share_only_since c.law_phases_are_seen.ensures.sound c.law_phases_are_seen.ensures.floor)
       (all_share_since c.law_phases_are_seen.ensures.sound c.law_phases_are_seen.ensures.floor c.law_world_latched.ensures.shows c.law_world_latched.ensures.counted);
 }
