@@ -18,6 +18,7 @@ pub fn law_shares_open()
     ensures prepare { shares.SharesInPrepareInItsLife }
     ensures only { shares.ShareOnlySinceInItsLife }
     ensures since { shares.AllShareSinceInItsLife }
+    ensures older { shares.OlderComeSharingInItsLife }
     ensures just { shares.AllShareJustInItsLife }
 {
     law_life_begins();

@@ -109,13 +109,13 @@ module _ (floors : FloorAlwaysStands) (before : WaitsFromBefore) (opening : Worl
       let up = between.0 in
       let high = between.1 in
       let here = at_prepare stands.number stands.stage said sight.view view.version.0 stands.staged.fits.some (staged_rank (run opening events).now stands.number stands.stage stands.staged) floor (omega (arith, up, rank_is)) (omega (arith, high, rank_is))
-          (λ was same. other (subst (λ (phase : Phase). is_prepare phase ≡ true) (sym saw.phase) was) (ap (λ (v : Version). v.0) saw.version ∙ (same ∙ sym (ap (λ (v : Version). v.0) taken.version)))) in
+      (λ was same. other (subst (λ (phase : Phase). is_prepare phase ≡ true) (sym saw.phase) was) (ap (λ (v : Version). v.0) saw.version ∙ (same ∙ sym (ap (λ (v : Version). v.0) taken.version)))) in
       subst (λ (v : Version). IsAtPrepare said v.0) (sym saw.version) here
 
   pub latches_so : (cause : CatchCause) (i : ℕ) → its.step ≡ CatchesUp cause → its.catching.step ≡ Latches i → AreUpdatesSo (λ version. version ≡ version_said said) its.requests
   latches_so cause i at is =
       let moving : SittingMoving k (homes_so k opens.guarded.buckets) its (CatchesUp cause) =
-          subst (λ (step : Sitting). SittingMoving k (homes_so k opens.guarded.buckets) its step) at (moving_at opening events session first its opens.guarded.buckets became) in
+      subst (λ (step : Sitting). SittingMoving k (homes_so k opens.guarded.buckets) its step) at (moving_at opening events session first its opens.guarded.buckets became) in
       let enters : CatchEnters k.places its.seen its.requests its.catching (Latches i) = subst (λ (step : Catching). CatchEnters k.places its.seen its.requests its.catching step) is moving in
       let takes : TakesUp sight its.catching its.catching.step = subst (λ (step : Sitting). IsComing sight its step) at (coming_seen opening events session first its became) in
       let taken : IsTakenFrom sight.coming its.catching.seen = subst (λ (step : Catching). TakesUp sight its.catching step) is takes in

@@ -311,5 +311,5 @@ older_come_sharing paper_sound paper_floor shows counted opening start events se
     let knows = known_now paper_sound paper_floor shows counted opening start events session first its guarded held opens became none in
     let known : KnowsSharing k guarded.buckets true its.seen its.attempt attempting.Tries = subst (λ (step : Attempting). KnowsSharing k guarded.buckets true its.seen its.attempt step) tries (knows.attempted attempts).knows in
     let goes : TriesFor (bits_of k) its.attempt attempting.Tries =
-        subst (λ (step : Attempting). TriesFor (bits_of k) its.attempt step) tries (tries_its k its its.step refl attempts (inputs_now opening start events session first its guarded opens became)) in
+    subst (λ (step : Attempting). TriesFor (bits_of k) its.attempt step) tries (tries_its k its its.step refl attempts (inputs_now opening start events session first its guarded opens became)) in
     subst (λ (r : Request). r.has_latch ≡ true) (sym goes.its_request) ((known.1 updates).since (refl, less))

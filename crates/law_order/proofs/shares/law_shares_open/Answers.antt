@@ -46,3 +46,9 @@ returns-clause-just c = λ bytes o n events session first its store opens.
     let begins = c.law_life_begins.ensures bytes o n store opens in
     c.law_shares_not_missed.ensures.just (beginning n bytes) o.tail.0 events session first its begins.store.now (c.law_latches_open.ensures o n opens)
     (record { rests = opens_at_rest o n opens begins.rests; seen = λ other was found. (begins.rests.seen other was found).phase })
+
+pub returns-clause-older : goal.returns-clause-older
+returns-clause-older c = λ bytes o n events session first its store opens.
+    let begins = c.law_life_begins.ensures bytes o n store opens in
+    c.law_shares_not_missed.ensures.older (beginning n bytes) o.tail.0 events session first its begins.store.now (c.law_latches_open.ensures o n opens)
+    (record { rests = opens_at_rest o n opens begins.rests; seen = λ other was found. (begins.rests.seen other was found).phase })
