@@ -61,13 +61,18 @@ OpKnown c asked (told.Refused fault.LogFull) = TryEnded c asked tried.LogFull
 OpKnown c asked its = ⊥
 
 -- what another call is answered
-abbrev pub OtherKnown : Seat → Seen → List Exchange → SessionState → Told → Type 0
-OtherKnown k was asked s (told.Refreshed phase version) = IsPhaseSeen was s.seen (loaded_last asked (shared_place one.Phase)) phase version
-OtherKnown k was asked s (told.Woken phase version) = IsPhaseSeen was s.seen (loaded_last asked (shared_place one.Phase)) phase version × (s.is_awake ≡ true)
-OtherKnown k was asked s (told.Durable serial) = loaded_last asked (session_place k.number own.Durable) ≡ Some serial.0
-OtherKnown k was asked s told.Slept = s.is_awake ≡ false
-OtherKnown k was asked s (told.Polled left) = ⊤
-OtherKnown k was asked s its = ⊥
+abbrev pub OtherKnown : Seat → Seen → List Exchange → SessionState → Call → Told → Type 0
+OtherKnown k was asked s call.Refresh (told.Refreshed phase version) = IsPhaseSeen was s.seen (loaded_last asked (shared_place one.Phase)) phase version
+OtherKnown k was asked s call.Wake (told.Woken phase version) = IsPhaseSeen was s.seen (loaded_last asked (shared_place one.Phase)) phase version × (s.is_awake ≡ true)
+OtherKnown k was asked s call.Durable (told.Durable serial) = loaded_last asked (session_place k.number own.Durable) ≡ Some serial.0
+OtherKnown k was asked s call.Sleep told.Slept = s.is_awake ≡ false
+OtherKnown k was asked s call.Poll (told.Polled left) = ⊤
+OtherKnown k was asked s its it = ⊥
+
+-- the call that catches up for itself
+abbrev pub call_of : CatchCause → Call
+call_of Wakes = call.Wake
+call_of cause = call.Refresh
 
 not_done : (ask : Ask TryAnswer) (its : TryAnswer) → is_done ask ≡ false → ask ≡ Done its → ⊥
 not_done (Done it) its e same = cc
@@ -80,22 +85,25 @@ unfolding attempting_ask
 end_at c asked p n a (Ended it) its at done e = let same : it ≡ its = cc in subst (λ (x : TryAnswer). AttemptEnd c asked x) same at
 end_at c asked p n a step its at done e = absurd (not_done (attempting_ask p n a step) its done e)
 
-module _ (k : Seat) (buckets : HasItsBuckets k) (was : Seen) (called : Option Op) where
+module _ (k : Seat) (buckets : HasItsBuckets k) (was : Seen) (called : Option Call) where
   -- where a call ends
   pub data EndKnown (asked : List Exchange) (s : SessionState) (its : Told) : Type 0 where
-    ByOp : called ≡ Some s.op → OpKnown (trial_of k buckets s.seen s.op) asked its → EndKnown asked s its
-    ByOther : called ≡ None → OtherKnown k was asked s its → EndKnown asked s its
+    ByOp : called ≡ Some (call.Op s.op) → OpKnown (trial_of k buckets s.seen s.op) asked its → EndKnown asked s its
+    ByOther : (other : Call) → called ≡ Some other → OtherKnown k was asked s other its → EndKnown asked s its
 
   -- a turn keeps what its call is answered behind it
   abbrev pub StepKnown : List Exchange → SessionState → Sitting → Type 0
   StepKnown asked s (Idle its) = ⊤
-  StepKnown asked s (Attempts has_shifted) = (called ≡ Some s.op) × AttemptRestsOrAsks s.attempt × AttemptNow (trial_of k buckets s.seen s.op) asked s.attempt × (has_shifted ≡ true → HasRefreshed asked)
-  StepKnown asked s (CatchesUp Shifts) = (called ≡ Some s.op) × PhaseNow s.seen asked s.catching
-  StepKnown asked s (CatchesUp cause) = (called ≡ None) × (s.seen ≡ was) × PhaseNow s.seen asked s.catching
-  StepKnown asked s (Turns (told.Pending serial why)) = (called ≡ Some s.op) × (is_read s.op ≡ false) × LastTry (trial_of k buckets s.seen s.op) asked why
-  StepKnown asked s (Turns (told.Polled left)) = called ≡ None
+  StepKnown asked s (Attempts has_shifted) = (called ≡ Some (call.Op s.op)) × AttemptRestsOrAsks s.attempt × AttemptNow (trial_of k buckets s.seen s.op) asked s.attempt × (has_shifted ≡ true → HasRefreshed asked)
+  StepKnown asked s (CatchesUp Shifts) = (called ≡ Some (call.Op s.op)) × PhaseNow s.seen asked s.catching
+  StepKnown asked s (CatchesUp cause) = (called ≡ Some (call_of cause)) × (s.seen ≡ was) × PhaseNow s.seen asked s.catching
+  StepKnown asked s (Turns (told.Pending serial why)) = (called ≡ Some (call.Op s.op)) × (is_read s.op ≡ false) × LastTry (trial_of k buckets s.seen s.op) asked why
+  StepKnown asked s (Turns (told.Polled left)) = called ≡ Some call.Poll
   StepKnown asked s (Turns its) = ⊥
-  StepKnown asked s step = called ≡ None
+  StepKnown asked s StoresCut = called ≡ Some call.Sleep
+  StepKnown asked s Leaves = called ≡ Some call.Sleep
+  StepKnown asked s LoadsDurable = called ≡ Some call.Durable
+  StepKnown asked s step = called ≡ Some call.Poll
 
   abbrev AfterKnown : List Exchange → SessionState → Sitting → Type 0
   AfterKnown asked s (Idle its) = EndKnown asked s its
@@ -122,27 +130,27 @@ module _ (k : Seat) (buckets : HasItsBuckets k) (was : Seen) (called : Option Op
   either true asked one other known known_other = known
   either false asked one other known known_other = known_other
 
-  turn_waits : (asked : List Exchange) (s : SessionState) (serial : Serial) (why : Reason) → called ≡ Some s.op → is_read s.op ≡ false → LastTry (trial_of k buckets s.seen s.op) asked why → KnownAfter asked (answers_after_turn s (told.Pending serial why))
+  turn_waits : (asked : List Exchange) (s : SessionState) (serial : Serial) (why : Reason) → called ≡ Some (call.Op s.op) → is_read s.op ≡ false → LastTry (trial_of k buckets s.seen s.op) asked why → KnownAfter asked (answers_after_turn s (told.Pending serial why))
   turn_waits asked s serial why op update last = either s.wants_turn asked _ (answers s (told.Pending serial why)) (op, update, last) (ByOp op (update, last))
 
-  turn_polled : (asked : List Exchange) (s : SessionState) (left : ℕ) → called ≡ None → KnownAfter asked (answers_after_turn s (told.Polled left))
-  turn_polled asked s left none = either s.wants_turn asked _ (answers s (told.Polled left)) none (ByOther none tt)
+  turn_polled : (asked : List Exchange) (s : SessionState) (left : ℕ) → called ≡ Some call.Poll → KnownAfter asked (answers_after_turn s (told.Polled left))
+  turn_polled asked s left poll = either s.wants_turn asked _ (answers s (told.Polled left)) poll (ByOther call.Poll poll tt)
 
-  attempts_known : (asked : List Exchange) (s : SessionState) (has_shifted : Bool) → called ≡ Some s.op → (has_shifted ≡ true → HasRefreshed asked) → KnownAfter asked (attempts k s has_shifted)
+  attempts_known : (asked : List Exchange) (s : SessionState) (has_shifted : Bool) → called ≡ Some (call.Op s.op) → (has_shifted ≡ true → HasRefreshed asked) → KnownAfter asked (attempts k s has_shifted)
   unfolding attempts
   attempts_known asked s has_shifted op has =
       (op, attempt_begun_rests k.places (bits_of k) (request_in_hand s) s.seen AtCall s.spare s.is_orphaned, begun_ran (trial_of k buckets s.seen s.op) asked s.spare, has)
 
-  found_known : (asked : List Exchange) (s : SessionState) (i : ℕ) (found : Option PendingRequest) → called ≡ None → KnownAfter asked (polls_request k s i found)
-  found_known asked s i None none = turn_polled asked s (length s.requests) none
-  found_known asked s i (Some pending) none = none
+  found_known : (asked : List Exchange) (s : SessionState) (i : ℕ) (found : Option PendingRequest) → called ≡ Some call.Poll → KnownAfter asked (polls_request k s i found)
+  found_known asked s i None poll = turn_polled asked s (length s.requests) poll
+  found_known asked s i (Some pending) poll = poll
 
-  polls_known : (asked : List Exchange) (s : SessionState) (i : ℕ) → called ≡ None → KnownAfter asked (polls_at k s i)
+  polls_known : (asked : List Exchange) (s : SessionState) (i : ℕ) → called ≡ Some call.Poll → KnownAfter asked (polls_at k s i)
   unfolding polls_at
-  polls_known asked s i none = found_known asked s i (slice_get s.requests i) none
+  polls_known asked s i poll = found_known asked s i (slice_get s.requests i) poll
 
   -- what an attempt at a call leads to
-  accepts_known : (asked : List Exchange) (s : SessionState) (why : Reason) → called ≡ Some s.op → LastTry (trial_of k buckets s.seen s.op) asked why → KnownAfter asked (accepts s why)
+  accepts_known : (asked : List Exchange) (s : SessionState) (why : Reason) → called ≡ Some (call.Op s.op) → LastTry (trial_of k buckets s.seen s.op) asked why → KnownAfter asked (accepts s why)
   unfolding accepts
   accepts_known asked s why op last = tested (is_read s.op) refl
     where
@@ -152,12 +160,12 @@ module _ (k : Seat) (buckets : HasItsBuckets k) (was : Seen) (called : Option Op
       tested true e = ByOp op (e, record { why = why; last = last })
       tested false e = turn_waits asked (with_request (serial_taken (record s { wants_turn = is_no_room why }))) (record { 0 = s.serial + 1 }) why op e last
 
-  shifts_known : (asked : List Exchange) (s : SessionState) (has_shifted : Bool) → called ≡ Some s.op → (has_shifted ≡ true → HasRefreshed asked) → TryEnded (trial_of k buckets s.seen s.op) asked tried.Shift → KnownAfter asked (shifts s has_shifted)
+  shifts_known : (asked : List Exchange) (s : SessionState) (has_shifted : Bool) → called ≡ Some (call.Op s.op) → (has_shifted ≡ true → HasRefreshed asked) → TryEnded (trial_of k buckets s.seen s.op) asked tried.Shift → KnownAfter asked (shifts s has_shifted)
   unfolding shifts
   shifts_known asked s false op has ended = (op, refresh_now s.seen asked s.catching s.serial)
   shifts_known asked s true op has ended = accepts_known asked s reason.Contended op (HasShifted refl ended (has refl))
 
-  done_known : (asked : List Exchange) (s : SessionState) (its : Reply) → called ≡ Some s.op → is_read s.op ≡ false → KnownAfter asked (if is_read s.op then answers s told.Absent else update_done s its)
+  done_known : (asked : List Exchange) (s : SessionState) (its : Reply) → called ≡ Some (call.Op s.op) → is_read s.op ≡ false → KnownAfter asked (if is_read s.op then answers s told.Absent else update_done s its)
   done_known asked s its op update = tested (is_read s.op) refl
     where
       tested : (b : Bool) → is_read s.op ≡ b → KnownAfter asked (if b then answers s told.Absent else update_done s its)
@@ -167,7 +175,7 @@ module _ (k : Seat) (buckets : HasItsBuckets k) (was : Seen) (called : Option Op
           never e = cc
       tested false e = ByOp op update
 
-  attempted_known : (asked : List Exchange) (s : SessionState) (has_shifted : Bool) (its : TryAnswer) → called ≡ Some s.op → (has_shifted ≡ true → HasRefreshed asked) → AttemptEnd (trial_of k buckets s.seen s.op) asked its → KnownAfter asked (attempted s has_shifted its)
+  attempted_known : (asked : List Exchange) (s : SessionState) (has_shifted : Bool) (its : TryAnswer) → called ≡ Some (call.Op s.op) → (has_shifted ≡ true → HasRefreshed asked) → AttemptEnd (trial_of k buckets s.seen s.op) asked its → KnownAfter asked (attempted s has_shifted its)
   attempted_known asked s has_shifted (tried.Done its) op has end = done_known asked s its op (ended_true (trial_of k buckets s.seen s.op) asked (tried.Done its) end)
   attempted_known asked s has_shifted (tried.Found value) op has end = ByOp op end
   attempted_known asked s has_shifted tried.Absent op has end = ByOp op end
@@ -197,39 +205,39 @@ module _ (k : Seat) (buckets : HasItsBuckets k) (was : Seen) (called : Option Op
   catch_known : (asked : List Exchange) (s : SessionState) (cause : CatchCause) (ask : Ask (Unit {0})) → s.step ≡ CatchesUp cause → StepKnown asked s (CatchesUp cause) → catch_ask k.places k.number s.catching s.requests ≡ ask
       → KnownAfter asked (catch_ledto k s cause ask)
   unfolding catch_ledto
-  catch_known asked s Refreshes (Done its) e known asks = ByOther known.0 (phase_so asked s its known.1 known.2 asks)
-  catch_known asked s Wakes (Done its) e known asks = ByOther known.0 (phase_so asked s its known.1 known.2 asks, refl)
+  catch_known asked s Refreshes (Done its) e known asks = ByOther call.Refresh known.0 (phase_so asked s its known.1 known.2 asks)
+  catch_known asked s Wakes (Done its) e known asks = ByOther call.Wake known.0 (phase_so asked s its known.1 known.2 asks, refl)
   catch_known asked s Shifts (Done its) e known asks =
       attempts_known asked (record s { seen = s.catching.seen }) true known.0
       (λ _. has_refreshed asked s.seen s.catching.seen (phase_taken k.places k.number s.seen asked s.catching s.requests s.catching.step its known.1 asks))
   catch_known asked s cause ask e known asks = still asked s (CatchesUp cause) e refl known
 
   -- polls
-  clear_known : (asked : List Exchange) (s : SessionState) (ask : Ask MailAnswer) → s.step ≡ ClearsMail → called ≡ None → KnownAfter asked (clear_ledto k s ask)
+  clear_known : (asked : List Exchange) (s : SessionState) (ask : Ask MailAnswer) → s.step ≡ ClearsMail → called ≡ Some call.Poll → KnownAfter asked (clear_ledto k s ask)
   unfolding clear_ledto
-  clear_known asked s (Done Cleared) e none = polls_known asked (record s { is_orphaned = false }) 0 none
-  clear_known asked s (Done its) e none = polls_known asked s 0 none
-  clear_known asked s ask e none = still asked s ClearsMail e refl none
+  clear_known asked s (Done Cleared) e poll = polls_known asked (record s { is_orphaned = false }) 0 poll
+  clear_known asked s (Done its) e poll = polls_known asked s 0 poll
+  clear_known asked s ask e poll = still asked s ClearsMail e refl poll
 
-  finishes_known : (asked : List Exchange) (s : SessionState) (i : ℕ) (its : TryAnswer) → called ≡ None → KnownAfter asked (finishes_request k s i its)
+  finishes_known : (asked : List Exchange) (s : SessionState) (i : ℕ) (its : TryAnswer) → called ≡ Some call.Poll → KnownAfter asked (finishes_request k s i its)
   unfolding finishes_request
-  finishes_known asked s i its none = either (is_owed s) asked (request_finished s i its) (polls_at k (request_finished s i its) i) none (polls_known asked (request_finished s i its) i none)
+  finishes_known asked s i its poll = either (is_owed s) asked (request_finished s i its) (polls_at k (request_finished s i its) i) poll (polls_known asked (request_finished s i its) i poll)
 
-  keeps_known : (asked : List Exchange) (s : SessionState) (i : ℕ) (its : TryAnswer) → called ≡ None → KnownAfter asked (keeps_request k s i its)
+  keeps_known : (asked : List Exchange) (s : SessionState) (i : ℕ) (its : TryAnswer) → called ≡ Some call.Poll → KnownAfter asked (keeps_request k s i its)
   unfolding keeps_request
-  keeps_known asked s i its none = polls_known asked (record s { requests = slice_set s.requests i s.attempt.pending; wants_turn = s.wants_turn || lacks_room its }) (i + 1) none
+  keeps_known asked s i its poll = polls_known asked (record s { requests = slice_set s.requests i s.attempt.pending; wants_turn = s.wants_turn || lacks_room its }) (i + 1) poll
 
-  poll_known : (asked : List Exchange) (s : SessionState) (i : ℕ) (ask : Ask TryAnswer) → s.step ≡ Polls i → called ≡ None → KnownAfter asked (poll_ledto k s i ask)
+  poll_known : (asked : List Exchange) (s : SessionState) (i : ℕ) (ask : Ask TryAnswer) → s.step ≡ Polls i → called ≡ Some call.Poll → KnownAfter asked (poll_ledto k s i ask)
   unfolding poll_ledto
-  poll_known asked s i (Done its) e none =
-      either (is_finished its) asked (finishes_request k (attempt_left s) i its) (keeps_request k (attempt_left s) i its) (finishes_known asked (attempt_left s) i its none) (keeps_known asked (attempt_left s) i its none)
-  poll_known asked s i ask e none = still asked s (Polls i) e refl none
+  poll_known asked s i (Done its) e poll =
+      either (is_finished its) asked (finishes_request k (attempt_left s) i its) (keeps_request k (attempt_left s) i its) (finishes_known asked (attempt_left s) i its poll) (keeps_known asked (attempt_left s) i its poll)
+  poll_known asked s i ask e poll = still asked s (Polls i) e refl poll
 
   -- turns and sleep
   turned_known : (asked : List Exchange) (s : SessionState) (its : Told) (ask : Ask (Unit {0})) → s.step ≡ Turns its → StepKnown asked s (Turns its) → KnownAfter asked (turn_ledto s its ask)
   unfolding turn_ledto
   turned_known asked s (told.Pending serial why) (Done through) e known = ByOp known.0 (known.1, known.2)
-  turned_known asked s (told.Polled left) (Done through) e known = ByOther known tt
+  turned_known asked s (told.Polled left) (Done through) e known = ByOther call.Poll known tt
   turned_known asked s its (Done through) e known = absurd known
   turned_known asked s its ask e known = still asked s (Turns its) e refl known
 
@@ -238,10 +246,10 @@ module _ (k : Seat) (buckets : HasItsBuckets k) (was : Seen) (called : Option Op
   more_turned asked it s (told.Polled left) known = known
   more_turned asked it s its known = absurd known
 
-  left_known : (asked : List Exchange) (s : SessionState) (ask : Ask (Unit {0})) → s.step ≡ Leaves → called ≡ None → KnownAfter asked (leave_ledto s ask)
+  left_known : (asked : List Exchange) (s : SessionState) (ask : Ask (Unit {0})) → s.step ≡ Leaves → called ≡ Some call.Sleep → KnownAfter asked (leave_ledto s ask)
   unfolding leave_ledto
-  left_known asked s (Done its) e none = ByOther none refl
-  left_known asked s ask e none = still asked s Leaves e refl none
+  left_known asked s (Done its) e sleep = ByOther call.Sleep sleep refl
+  left_known asked s ask e sleep = still asked s Leaves e refl sleep
 
   -- behind each reply
   abbrev with_ask : SessionState → Sitting → ℕ → List Exchange → List Exchange
@@ -284,7 +292,7 @@ module _ (k : Seat) (buckets : HasItsBuckets k) (was : Seen) (called : Option Op
       moved_turned its known = absurd known
   next_known asked s asks StoresCut reply e busy known = known
   next_known asked s asks Leaves reply e busy known = let t : SessionState = record s { asks = asks; effect = None } in left_known (with_ask s Leaves reply asked) (record t { leaving = leave_next s.leaving }) _ e known
-  next_known asked s asks LoadsDurable reply e busy known = ByOther known (loaded_there (session_place k.number own.Durable) reply asked)
+  next_known asked s asks LoadsDurable reply e busy known = ByOther call.Durable known (loaded_there (session_place k.number own.Durable) reply asked)
     where
       loaded_there : (place reply : ℕ) (before : List Exchange) → loaded_last (record { ask = Load place; reply = reply } ∷ before) place ≡ Some reply
       loaded_there place reply before = rw (itself place) refl
@@ -339,35 +347,31 @@ module _ (k : Seat) (buckets : HasItsBuckets k) (was : Seen) (called : Option Op
 
 -- a call that begins
 module _ (k : Seat) (buckets : HasItsBuckets k) where
-  abbrev BegunKnown : Seen → Option Op → SessionState → Type 0
+  abbrev BegunKnown : Seen → Option Call → SessionState → Type 0
   BegunKnown was called s = KnownNow k buckets was called [] s
 
-  either_begun : (b : Bool) (was : Seen) (called : Option Op) (one other : SessionState) → BegunKnown was called one → BegunKnown was called other → BegunKnown was called (if b then one else other)
+  either_begun : (b : Bool) (was : Seen) (called : Option Call) (one other : SessionState) → BegunKnown was called one → BegunKnown was called other → BegunKnown was called (if b then one else other)
   either_begun true was called one other known known_other = known
   either_begun false was called one other known known_other = known_other
 
-  op_known : (was : Seen) (s : SessionState) (op : Op) (found : Option Fault) → BegunKnown was (Some op) (op_begun k s op found)
+  op_known : (was : Seen) (s : SessionState) (op : Op) (found : Option Fault) → BegunKnown was (Some (call.Op op)) (op_begun k s op found)
   unfolding op_begun
   op_known was s op (Some why) = tt
   op_known was s op None =
       let its : SessionState = record s { op = op } in
       let after : SessionState = attempts k its false in
-      after_step k buckets was (Some op) [] after after.step (attempts_known k buckets was (Some op) [] its false refl (λ e. cc))
+      after_step k buckets was (Some (call.Op op)) [] after after.step (attempts_known k buckets was (Some (call.Op op)) [] its false refl (λ e. cc))
 
-  abbrev op_of : Call → Option Op
-  op_of (call.Op op) = Some op
-  op_of its = None
-
-  pub call_known : (s : SessionState) (its : Call) → BegunKnown s.seen (op_of its) (call_begun k s its)
+  pub call_known : (s : SessionState) (its : Call) → BegunKnown s.seen (Some its) (call_begun k s its)
   unfolding refresh_call poll_call sleep_call wake_call
   call_known s (call.Op op) = op_known s.seen s op (refusal_of s op)
-  call_known s call.Refresh = either_begun s.is_awake s.seen None _ (refuses s fault.Asleep) (refl, refl, refresh_now s.seen [] s.catching s.serial) tt
+  call_known s call.Refresh = either_begun s.is_awake s.seen (Some call.Refresh) _ (refuses s fault.Asleep) (refl, refl, refresh_now s.seen [] s.catching s.serial) tt
   call_known s call.Poll =
       let its : SessionState = record s { finished = [] } in
       let after : SessionState = polls_at k its 0 in
-      either_begun s.is_awake s.seen None (poll_begun k its) (refuses s fault.Asleep)
-      (either_begun s.is_orphaned s.seen None _ after refl (after_step k buckets s.seen None [] after after.step (polls_known k buckets s.seen None [] its 0 refl))) tt
+      either_begun s.is_awake s.seen (Some call.Poll) (poll_begun k its) (refuses s fault.Asleep)
+      (either_begun s.is_orphaned s.seen (Some call.Poll) _ after refl (after_step k buckets s.seen (Some call.Poll) [] after after.step (polls_known k buckets s.seen (Some call.Poll) [] its 0 refl))) tt
   call_known s call.Sleep =
-      either_begun (not s.is_awake) s.seen None (refuses s fault.Asleep) _ tt (either_begun (length s.requests == 0) s.seen None (record s { step = StoresCut }) (refuses s fault.PendingLeft) refl tt)
-  call_known s call.Wake = either_begun s.is_awake s.seen None (refuses s fault.Awake) _ tt (refl, refl, wake_now s.seen [] s.catching s.serial)
+      either_begun (not s.is_awake) s.seen (Some call.Sleep) (refuses s fault.Asleep) _ tt (either_begun (length s.requests == 0) s.seen (Some call.Sleep) (record s { step = StoresCut }) (refuses s fault.PendingLeft) refl tt)
+  call_known s call.Wake = either_begun s.is_awake s.seen (Some call.Wake) (refuses s fault.Awake) _ tt (refl, refl, wake_now s.seen [] s.catching s.serial)
   call_known s call.Durable = refl

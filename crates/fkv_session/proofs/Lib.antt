@@ -4,6 +4,7 @@ mod AnswersKnown
 mod AnswersTrue
 mod AsksCounted
 mod AsleepKept
+mod AtOnce
 mod AwakeTold
 mod Bounded
 mod CallTries

@@ -4,7 +4,8 @@ pub use Rattle.fkv_session.proofs.OwnTurnLeft.{own_turn_left, own_turn_fewer, ow
 pub use Rattle.fkv_session.proofs.SessionLeft.{session_left, session_begun_left, session_fewer, session_given_fewer}
 pub use Rattle.fkv_session.proofs.Bounded.{run_within}
 pub use Rattle.fkv_session.proofs.RoomKept.{HasRoomNow, run_room}
-pub use Rattle.fkv_session.proofs.AnswersTrue.{run_durable, run_refreshed, run_true, run_woken}
+pub use Rattle.fkv_session.proofs.AnswersTrue.{run_durable, run_kind, run_refreshed, run_true, run_woken}
+pub use Rattle.fkv_session.proofs.AtOnce.{begun_at_once}
 pub use Rattle.fkv_session.proofs.AwakeTold.{Sleeps, AsksNone, Rests, Loads, SleepsFrom, SleepsOn, FallsAsleep, run_awake, run_begun, run_falls, run_given}
 pub use Rattle.fkv_session.proofs.FirstCauses.{begun_caused, begun_refused}
 pub use Rattle.fkv_session.proofs.AttemptKeeps.{attempt_keeps}

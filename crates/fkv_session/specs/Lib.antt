@@ -10,6 +10,7 @@ pub mod Causes
 pub mod Counted
 pub mod Cuts
 pub mod InOrder
+pub mod Kinds
 pub mod OwnTurns
 pub mod Polls
 pub mod Reads

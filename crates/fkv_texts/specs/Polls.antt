@@ -1,5 +1,5 @@
 -- The lines of the requests that a poll has finished.
-use Rattle.std.specs.Prelude.{ℕ, List, ◌++◌, codes, Bool, nat_eq, Option, Some, None, option_map}
+use Rattle.std.specs.Prelude.{ℕ, List, ◌++◌, codes, Bool, nat_eq, Option, Some, None, option_map, reverse}
 use Rattle.std.specs.List.{find, flat_map}
 use Rattle.std.specs.Fmt.{decimal}
 use Rattle.fkv_base.specs.declared.numbers.Key.{Key}
@@ -15,9 +15,9 @@ use Rattle.fkv_texts.specs.Lines.{session_line, key_word, reply_text}
 abbrev pub has_ticket : Ticket → WaitingRead → Bool
 has_ticket ticket read = nat_eq read.ticket.0 ticket.0
 
--- the key of the first waiting read with this ticket
+-- the key of the last waiting read with this ticket
 abbrev pub key_of_ticket : List WaitingRead → Ticket → Option Key
-key_of_ticket waiting ticket = option_map (λ read. read.key) (find (has_ticket ticket) waiting)
+key_of_ticket waiting ticket = option_map (λ read. read.key) (find (has_ticket ticket) (reverse waiting))
 
 -- what a read replied that found this value, or none
 abbrev pub reply_of_read : Option Value → Reply

@@ -30,7 +30,7 @@ impl WaitingRead {
 /// A line for each request that a poll of this session has finished, in their order: `0 #5 done` or `0 #5 = 11` of an update,
 /// `0 @1 get 7 = 10` or `0 @1 get 7 absent` of a read. How many are left is not written.
 ///
-/// The key of a read is that of the first waiting read with its ticket; where none has it, the line has no key, as
+/// The key of a read is that of the last waiting read with its ticket; where none has it, the line has no key, as
 /// `0 @1 get = 10`. An error is the output's own; it may have taken some of the lines then, and a part of one.
 pub fn write_finished<W: Write>(
     output: &mut W,
@@ -68,12 +68,13 @@ fn write_finished_line<W: Write>(
     }
 }
 
-/// The key of the first waiting read with this ticket.
+/// The key of the last waiting read with this ticket. Those that a poll finishes are among the last, so it looks from there.
 fn key_of_ticket(waiting: &[WaitingRead], ticket: Ticket) -> Option<Key>
     ensures { result ≡ key_of_ticket waiting.now ticket }
 {
     waiting
         .iter()
+        .rev()
         .find(|read| read.has_ticket(ticket))
         .map(|read| read.key)
 }

@@ -19,6 +19,7 @@ ghost use Rattle.fkv_session.specs.Causes.{IsFirstCause};
 ghost use Rattle.fkv_session.specs.Counted.{words_replied};
 ghost use Rattle.fkv_session.specs.Cuts.{IsCutTold};
 ghost use Rattle.fkv_session.specs.InOrder.{AreToldInOrder, IsEpochLast, IsOwedOrOneMore, epoch_place, exchanged, loaded_last, owing_place, owing_told, serial_leaving};
+ghost use Rattle.fkv_session.specs.Kinds.{IsAnswerAtOnce, IsAnswerTo, last_call};
 ghost use Rattle.fkv_session.specs.Polls.{IsPollOf, attempted_in_poll};
 ghost use Rattle.fkv_session.specs.Reads.{AreReadsAnswered, IsAttemptOf, reads_ended};
 ghost use Rattle.fkv_session.specs.Refused.{IsRefusal, IsRefusedWhole, before_call, has_caught_up};
@@ -201,16 +202,25 @@ pub fn law_world_refusals()
         → IsRefusal (before_call (seat_at opening.now session) first (session_events opening session events)) its (has_caught_up (seat_at opening.now session) first (session_events opening session events)) }
 {}
 
-/// Whatever the other actors do, what an operation of a session is answered behind its asks stands in the words that its call has loaded. A
-/// refresh and a wake tell what the session goes by from then on, by the phase word that the call has loaded last; and what is durable is the
-/// word that the call has loaded. A session sleeps from the answer that it sleeps to the answer that it has woken, as callers see these, and is
-/// awake at all other times.
+/// Whatever the other actors do, each call of a session is answered in its kind. Behind its asks only an operation may be refused, where the
+/// index or the log is full. A call that asks nothing is refused, as the law of refusals says, or it is a poll for which nothing waits. What an
+/// operation is answered behind its asks stands in the words that its call has loaded. A refresh and a wake tell what the session goes by from
+/// then on, by the phase word that the call has loaded last; and what is durable is the word that the call has loaded. A session sleeps from the
+/// answer that it sleeps to the answer that it has woken, as callers see these, and is awake at all other times.
 pub fn law_world_told()
     ensures operations { (opening : World) (events : List Event) (session : ℕ) (first its : SessionState) (event : SessionEvent) (before : List SessionEvent) (buckets : HasItsBuckets (seat_at opening.now session)) (told : Told) (op : Op) → HasBecome opening events session first its
         → session_events opening session events ≡ event ∷ before
         → Ends (seat_at opening.now session) first event before told
         → op_called (seat_at opening.now session) first (event ∷ before) ≡ Some op
         → IsTrueOf (trial_of (seat_at opening.now session) buckets its.seen op) (told_in (asked_in_call (seat_at opening.now session) first (event ∷ before))) told }
+    ensures kinds { (opening : World) (events : List Event) (session : ℕ) (first its : SessionState) (event : SessionEvent) (before : List SessionEvent) (told : Told) → HasBecome opening events session first its
+        → session_events opening session events ≡ event ∷ before
+        → HasItsBuckets (seat_at opening.now session)
+        → Ends (seat_at opening.now session) first event before told
+        → IsAnswerTo (last_call (seat_at opening.now session) first (event ∷ before)) told }
+    ensures asks_none { (opening : World) (events : List Event) (session : ℕ) (first its : SessionState) (call : Call) (told : Told) → HasBecome opening events session first its
+        → (session_begun (seat_at opening.now session) its call).step ≡ Idle told
+        → IsAnswerAtOnce its call told }
     ensures refreshed { (opening : World) (events : List Event) (session : ℕ) (first its : SessionState) (event : SessionEvent) (before : List SessionEvent) (phase : Phase) (version : Version) → HasBecome opening events session first its
         → session_events opening session events ≡ event ∷ before
         → HasItsBuckets (seat_at opening.now session)

@@ -3,7 +3,7 @@ use Rattle.fkv_keeper.specs.Keeping.{KeeperState}
 use Rattle.fkv_session.specs.Sessions.{SessionState}
 use Rattle.law_wrong_runs.specs.WrongLives.{AreWrongLives}
 use Rattle.law_wrong_runs.proofs.Computed.{guard_opened, is_fixed, is_fuzzy, places, places_fit, right_copied, right_in_place, shape, world_opened, wrong_copied, wrong_in_place, wrong_stale}
-use Rattle.law_wrong_runs.proofs.OfGuard.{slot_armed, slot_claimed, wrong_change, wrong_early, wrong_unclosed, wrong_untold, wrong_woken}
+use Rattle.law_wrong_runs.proofs.OfGuard.{right_refused, slot_armed, slot_claimed, wrong_change, wrong_early, wrong_refused, wrong_unclosed, wrong_untold, wrong_woken}
 
 pub wrong_lives : (its : KeeperState) (one other : SessionState) → AreWrongLives its one other
 wrong_lives its one other = record {
@@ -20,6 +20,8 @@ wrong_lives its one other = record {
   copied_right = right_copied its one other;
   stale = wrong_stale its one other;
   untold = wrong_untold its one other;
+  refused = wrong_refused its one other;
+  refused_right = right_refused its one other;
   unclosed = wrong_unclosed its one other;
   woken = wrong_woken its one other;
   woken_changes = wrong_change its one other;

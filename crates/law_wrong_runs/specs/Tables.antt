@@ -1,6 +1,6 @@
 -- Lives in which a row of one machine's table is wrong.
 use Rattle.std.specs.Prelude.{ℕ, ◌+◌, ◌-◌, nat_le, if◌then◌else◌, List, [], ◌∷◌, ◌++◌, slice_get, slice_set, Option, Some}
-use Rattle.fkv_base.specs.declared.faults.Fault.TheVariants.{LogFull}
+use Rattle.fkv_base.specs.declared.faults.Fault.TheVariants.{Asleep, LogFull}
 use Rattle.fkv_epoch.specs.EpochWorld as epochs
 use Rattle.fkv_epoch.specs.EpochWorld.{EpochMachine}
 use Rattle.fkv_epoch.specs.declared.claiming.Claiming.{Claiming}
@@ -18,7 +18,7 @@ use Rattle.fkv_ops.specs.declared.trying.Trying.{Trying}
 use Rattle.fkv_ops.specs.declared.trying.Trying.TheVariants as trying
 use Rattle.fkv_ops.specs.declared.trying.OldValue.TheVariants.{InMemory}
 use Rattle.fkv_ops.specs.Trying.{TryState, changes, copies_from}
-use Rattle.fkv_session.specs.declared.answers.Told.TheVariants.{Absent, Done, Found, Refused}
+use Rattle.fkv_session.specs.declared.answers.Told.TheVariants.{Absent, Done, Durable, Found, Refused}
 use Rattle.fkv_session.specs.declared.sessions.CatchCause.TheVariants.{Wakes}
 use Rattle.fkv_session.specs.declared.sessions.Sitting.{Sitting}
 use Rattle.fkv_session.specs.declared.sessions.Sitting.TheVariants.{CatchesUp, Idle}
@@ -115,6 +115,14 @@ tells_refusal step = step
 
 abbrev pub effect_is_told_to_nobody : Tables
 effect_is_told_to_nobody = of_sessions (λ was s. record s { step = tells_refusal s.step })
+
+-- who asks what is durable is refused behind its ask, as if it slept
+abbrev pub tells_asleep : Sitting → Sitting
+tells_asleep (Idle (Durable serial)) = Idle (Refused Asleep)
+tells_asleep step = step
+
+abbrev pub durable_is_refused : Tables
+durable_is_refused = of_sessions (λ was s. record s { step = tells_asleep s.step })
 
 -- who wakes goes by the offsets of before it slept
 abbrev pub with_offsets : Seen → Sitting → SessionState → SessionState

@@ -9,6 +9,7 @@ use Rattle.fkv_keeper.specs.declared.answers.KeeperTold.TheVariants.{Turned}
 use Rattle.fkv_keeper.specs.declared.keepers.Keeping.TheVariants as keeping
 use Rattle.fkv_keeper.specs.Keeping.{KeeperState}
 use Rattle.fkv_keeper.specs.NewKeepers.{ArePlacesOfStore}
+use Rattle.fkv_map.specs.declared.operations.Call.{Call}
 use Rattle.fkv_map.specs.declared.operations.Call.TheVariants as call
 use Rattle.fkv_map.specs.declared.operations.Op.{Op}
 use Rattle.fkv_map.specs.declared.operations.Op.TheVariants.{Read, Upsert}
@@ -16,8 +17,10 @@ use Rattle.fkv_map.specs.History.{IsLegal}
 use Rattle.law_log.specs.Trace.{OrdersCalls, ReadsAreFresh, history_of}
 use Rattle.law_log.specs.Worked.{no_map}
 use Rattle.fkv_plane.specs.declared.places.Places.{Places}
+use Rattle.fkv_session.specs.Kinds.{IsOfKind}
+use Rattle.fkv_session.specs.SessionRun.{Telling}
 use Rattle.fkv_session.specs.Sessions.{SessionState}
-use Rattle.fkv_world.specs.Opened.{IsOpenedWorld}
+use Rattle.fkv_world.specs.Opened.{IsOpenedWorld, answers_of}
 use Rattle.fkv_world.specs.Runs.{World, run}
 use Rattle.fkv_world.specs.World.{Event, Calls, Moves, Now, Turns, KeeperMoves}
 use Rattle.law_refine.specs.Calls.Calls.{effects_in_log}
@@ -26,7 +29,7 @@ use Rattle.law_guard.specs.Guarded.LoadedSince.{HaveLoadedSince}
 use Rattle.law_guard.specs.Guarded.Shows as guard
 use Rattle.law_refine.specs.Events.Lines.{lines_of}
 use Rattle.law_refine.specs.Events.Worked.{adds_5, first_world, gives_70, gives_8}
-use Rattle.law_wrong_runs.specs.Tables.{Tables, action_is_claimed_early, add_copies_in_fuzzy_region, effect_is_told_to_nobody, guard_run_by, in_place_below_seen_read_only, machine_claims_early, mapped_by, page_opens_unclosed, read_gives_opening_state, run_by, wake_keeps_offsets}
+use Rattle.law_wrong_runs.specs.Tables.{Tables, action_is_claimed_early, add_copies_in_fuzzy_region, durable_is_refused, effect_is_told_to_nobody, guard_run_by, in_place_below_seen_read_only, machine_claims_early, mapped_by, page_opens_unclosed, read_gives_opening_state, run_by, wake_keeps_offsets}
 
 -- ---- what a life leaves
 -- its history is legal from an empty map
@@ -40,6 +43,14 @@ LeavesFresh w = ReadsAreFresh no_map (effects_in_log w.past.history) (lines_of (
 -- and it orders the calls
 abbrev pub LeavesOrdered : World → Type 0
 LeavesOrdered w = OrdersCalls (effects_in_log w.past.history) (lines_of (λ session. 0) w.past.trace)
+
+-- and what session 1 was told last is of this call's kind
+abbrev pub IsNewestOfKind : Call → List Telling → Type 0
+IsNewestOfKind its [] = ⊥
+IsNewestOfKind its (it ∷ before) = IsOfKind its it.its
+
+abbrev pub LeavesOfKind : Call → World → Type 0
+LeavesOfKind its w = IsNewestOfKind its (answers_of 1 w.past.trace)
 
 -- ---- the beginning: a store of two sessions that was just opened, whose keeper has no call and no commit in hand, and finishes commits for both
 abbrev pub idle : KeeperState → KeeperState
@@ -85,6 +96,10 @@ fuzzy_events = Moves 0 ∷ (replicate 11 (Moves 1) ++ Calls 1 (call.Op adds_5) �
 abbrev pub read_events : List Event
 read_events = replicate 4 (Moves 1) ++ Calls 1 (call.Op (Read (record { 0 = 5 }))) ∷ gives_events
 
+-- session 1 asks what is durable
+abbrev pub durable_events : List Event
+durable_events = Moves 1 ∷ Calls 1 call.Durable ∷ []
+
 -- a turn of the keeper has come to where it opens the third page, for which it has no frame yet
 abbrev pub unclosed_begun : List Event
 unclosed_begun = replicate 23 (KeeperMoves true true) ++ Turns ∷ filled_events
@@ -125,7 +140,8 @@ levels_after opening events = levels_of (run opening events).now.words
 -- In a store of this shape, with its places: as the lives begin the record is fixed and below the head, and in the fuzzy region. Where the record that is fixed is
 -- changed in place, the sum that session 0 is told leaves out what session 1 gave; where the record is copied that session 0 may still change, both are told 75; and
 -- where a read is told what the store was opened with, it isn't fresh. By the right table the first two leave legal histories. Where an update that has taken
--- effect is told as refused, the history doesn't order the calls. Where a page is opened without a look at the closed offset, what its frame held isn't flushed.
+-- effect is told as refused, the history doesn't order the calls. Where a session that asks what is durable is refused behind its ask, its answer isn't of that
+-- call's kind; by the right table it is. Where a page is opened without a look at the closed offset, what its frame held isn't flushed.
 -- Where a session that wakes keeps its old offsets, it writes a flushed record. Where an action is claimed one epoch early, its epoch was raised after sessions
 -- loaded what they go by.
 pub record AreWrongLives (keeper : KeeperState) (one other : SessionState) : Type 0 where
@@ -142,6 +158,8 @@ pub record AreWrongLives (keeper : KeeperState) (one other : SessionState) : Typ
   pub copied_right : LeavesLegal (run (opened_world shape places keeper one other) fuzzy_events)
   pub stale : LeavesFresh (run_by read_gives_opening_state (opened_world shape places keeper one other) read_events) → ⊥
   pub untold : LeavesOrdered (run_by effect_is_told_to_nobody (opened_world shape places keeper one other) gives_events) → ⊥
+  pub refused : LeavesOfKind call.Durable (run_by durable_is_refused (opened_world shape places keeper one other) durable_events) → ⊥
+  pub refused_right : LeavesOfKind call.Durable (run (opened_world shape places keeper one other) durable_events)
   pub unclosed : FailsAt OpensNextPage page_opens_unclosed (opened_world shape places keeper one other) unclosed_begun (KeeperMoves true true)
   pub woken : FailsAt (λ n after w. WritesOpenPlaces n (Moves 1) w) wake_keeps_offsets (opened_world shape places keeper one other) woken_begun (Moves 1)
   pub woken_changes : FailsAt ChangesOpenPlaces wake_keeps_offsets (opened_world shape places keeper one other) woken_begun (Moves 1)

@@ -6,8 +6,9 @@ ghost use Rattle.law_wrong_runs.specs.WrongLives.{AreWrongLives};
 /// Two sessions of a store with one bucket, whose key has 70 by one record. A table by which a record that is fixed is changed in place leads to a
 /// history that isn't legal, as does one by which a record is copied while another session may still change it in place; the same events leave legal
 /// histories by the right table. And a table by which a read is told what the store was opened with leads to a read that isn't fresh. An update that is
-/// told as refused behind its effect leaves calls without an order. A page that is opened without a look at the closed offset isn't flushed in its frame,
-/// a session that keeps its offsets as it wakes writes a flushed record, and an action that is claimed one epoch early isn't seen by each session.
+/// told as refused behind its effect leaves calls without an order. A call that asks what is durable, and is refused behind its ask, isn't answered
+/// in its kind. A page that is opened without a look at the closed offset isn't flushed in its frame, a session that keeps its offsets as it wakes
+/// writes a flushed record, and an action that is claimed one epoch early isn't seen by each session.
 pub fn law_of_wrong_lives()
     ensures { (keeper : KeeperState) (one other : SessionState) → AreWrongLives keeper one other }
 {}
