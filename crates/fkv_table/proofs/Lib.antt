@@ -1,6 +1,7 @@
 pub mod Called
 pub mod KeeperCalled
 pub mod KeeperCommits
+pub mod KeeperMoments
 pub mod KeeperNotes
 pub mod KeeperSettled
 pub mod KeeperSteps

@@ -2,6 +2,7 @@
 use Rattle.std.specs.Prelude.{◌≡◌, ⊤, ℕ, Bool, true, false, List, [], ◌∷◌, ◌++◌, Option, Some, None}
 use Rattle.atomic_table.specs.Seated.{TableId}
 use Rattle.atomic_table.specs.Table.{Me, Step, rest}
+use Rattle.fkv_disk.specs.Calls.{MayLeave}
 use Rattle.fkv_disk.specs.Device.{IsAfter}
 use Rattle.fkv_plane.specs.declared.actions.Action.{Action}
 use Rattle.fkv_plane.specs.declared.asks.Ask.{Ask}
@@ -16,7 +17,7 @@ use Rattle.fkv_world.specs.Past.{Past}
 use Rattle.fkv_world.specs.Runs.{World}
 use Rattle.fkv_seats.specs.declared.held.Held.TheVariants.{Drain}
 use Rattle.fkv_seats.specs.declared.views.Role.TheVariants.{Rest}
-use Rattle.fkv_seats.specs.Rule.{Carries, HandFits, Quiet, Stepped, base, led, speaks}
+use Rattle.fkv_seats.specs.Rule.{Carries, HandFits, IsSeenBy, Quiet, Stepped, base, led, speaks}
 use Rattle.fkv_table.specs.declared.happenings.Happening.{Happening}
 use Rattle.fkv_table.specs.declared.happenings.Happening.TheVariants.{KeeperMoves}
 use Rattle.fkv_table.specs.Desks.{Slot, Knows}
@@ -51,6 +52,14 @@ module _ {K : Type 0} (at : K → World) where
   -- A device reads as, and may leave, what the calls give that are past behind a list of events.
   abbrev pub IsAfterSeen : K → List Happening → List ℕ → (List ℕ → Type 0) → Type 0
   IsAfterSeen key events shown may_leave = let p : Past = (led (plane at) (at key) events).past in IsAfter p.opened p.calls shown may_leave
+
+  -- An image is one that a crash may leave in a call of the keeper. `now` is the list of events at that moment. It goes on from what the keeper's pass had seen,
+  -- and what the pass has seen behind the call goes on from it.
+  pub record IsLeftWithin (key : K) (seen seen' : List Happening) (image : List ℕ) : Type 0 where
+    pub now : List Happening
+    pub from : IsSeenBy (plane at) seen now
+    pub to : IsSeenBy (plane at) now seen'
+    pub left : (let p : Past = (led (plane at) (at key) now).past in MayLeave p.opened p.calls image)
 
   -- behind the second list the calls of the device are those behind the first, over the same bytes
   abbrev pub LeavesDevice : K → List Happening → List Happening → Type 0

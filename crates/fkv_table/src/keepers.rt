@@ -2,6 +2,7 @@
 ghost use Rattle.std.specs.Prelude.{◌≡◌, ◌<◌, ◌≤◌, ◌↔◌, ℕ, Bool, Some, None, [], true, false, is_some, is_ok};
 ghost use Rattle.fkv_base.specs.declared.commits.CommitKind.TheVariants.{Full, Log};
 ghost use Rattle.fkv_checkpoint.specs.Copying.{IsRoomFor};
+ghost use Rattle.fkv_disk.specs.Device.{AtEachMoment};
 ghost use Rattle.fkv_keeper.specs.Answers.{is_busy};
 ghost use Rattle.fkv_keeper.specs.Keeping.{keeper_ask};
 ghost use Rattle.fkv_keeper.specs.KeeperAsks.{keeper_asks_left};
@@ -13,7 +14,7 @@ ghost use Rattle.fkv_plane.specs.declared.asks.Ask.TheVariants.{Done};
 ghost use Rattle.fkv_seats.specs.Rule.{HandFits, led};
 ghost use Rattle.fkv_table.specs.declared.happenings.Happening.TheVariants.{Commits, KeeperMoves, Turns};
 ghost use Rattle.fkv_table.specs.KeeperCalls.{HasGoneOn, HasKept, IsBeginning};
-ghost use Rattle.fkv_table.specs.Keeps.{IsAfterSeen, IsKeeping, IsKeeperReady, IsNoted, KeeperIsAsked, KeeperReplied, KeeperSettled, LeavesDevice, Spares};
+ghost use Rattle.fkv_table.specs.Keeps.{IsAfterSeen, IsKeeping, IsKeeperReady, IsLeftWithin, IsNoted, KeeperIsAsked, KeeperReplied, KeeperSettled, LeavesDevice, Spares};
 ghost use Rattle.fkv_table.specs.Openings.{IsTableOf};
 ghost use Rattle.fkv_table.specs.Planes.{plane, opening_of};
 
@@ -283,6 +284,7 @@ fn call_device<D: Device>(
     ensures went { HasGoneOn seat.old.me.0.seen seat.new.me.0.seen }
     ensures honest { D.honest d.new }
     ensures after { IsAfterSeen (opening_of D.seen) words.now.key seat.new.me.0.seen (D.seen d.new) (D.may_leave d.new) }
+    ensures moments { AtEachMoment D.moment D.left_since d.old d.new (IsLeftWithin (opening_of D.seen) words.now.key seat.old.me.0.seen seat.new.me.0.seen) }
     ensures fewer { keeper_asks_left machine.new.shape machine.new.places machine.new.state < keeper_asks_left machine.old.shape machine.old.places machine.old.state }
 {
     match machine.call_device(d) {
@@ -307,6 +309,7 @@ fn steps_on<D: Device>(
     ensures went { HasGoneOn seat.old.me.0.seen seat.new.me.0.seen }
     ensures honest { D.honest d.new }
     ensures after { IsAfterSeen (opening_of D.seen) words.now.key seat.new.me.0.seen (D.seen d.new) (D.may_leave d.new) }
+    ensures moments { AtEachMoment D.moment D.left_since d.old d.new (IsLeftWithin (opening_of D.seen) words.now.key seat.old.me.0.seen seat.new.me.0.seen) }
     ensures over { is_busy (keeper_ask machine.new.shape machine.new.places machine.new.state) ≡ false }
 {
     'asks: loop {
@@ -341,7 +344,8 @@ fn commit_steps<D: Device>(words: &Words<D>, seat: &mut Place<D>, machine: &mut 
 
 impl Keeper {
     /// Makes a turn to its end, with each call of the device that it needs. Its answers are those of the keeper's machine: it ends early
-    /// with `Broken`, `Device`, `EpochsSpent` or `Memory`. The device is the one that the store was opened from, and it is honest.
+    /// with `Broken`, `Device`, `EpochsSpent` or `Memory`. The device is the one that the store was opened from, and it is honest. What a crash
+    /// leaves in the middle of a turn is what the life's calls may leave behind a part of what the turn adds to the list.
     pub fn turn<D: Device>(
         &mut self,
         table: &Table<D>,
@@ -355,6 +359,7 @@ impl Keeper {
         ensures kept { HasKept Turns pass.seat.me.0.seen result.0.seat.me.0.seen }
         ensures honest { D.honest d.new }
         ensures after { IsAfterSeen (opening_of D.seen) table.now.table.shared.key result.0.seat.me.0.seen (D.seen d.new) (D.may_leave d.new) }
+        ensures moments { AtEachMoment D.moment D.left_since d.old d.new (IsLeftWithin (opening_of D.seen) table.now.table.shared.key pass.seat.me.0.seen result.0.seat.me.0.seen) }
         ensures told { IsTurnTold self.new.machine.state.last (keeper_ask self.new.machine.shape self.new.machine.places self.new.machine.state) result.1 }
     {
         let words = &table.table.shared;

@@ -1,6 +1,8 @@
 pub mod BelowTail
 pub mod Ends
 pub mod Permitted
+pub mod ReadSlots
+pub mod Reads
 pub mod FewAsks
 pub mod FewKeeperAsks
 pub mod Flushed

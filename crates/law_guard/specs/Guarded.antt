@@ -3,6 +3,7 @@ pub mod GuardEvents
 pub mod KeptGuarded
 pub mod LoadedSince
 pub mod OpenedStore
+pub mod Reads
 pub mod Shows
 pub mod SlotsApart
 pub mod SlotsFound

@@ -3,6 +3,7 @@
 
 mod guarded;
 mod keeper;
+mod reads;
 mod sessions;
 
 pub use guarded::{
@@ -11,4 +12,5 @@ pub use guarded::{
     law_world_slots,
 };
 pub use keeper::{law_keeper_calls, law_keeper_followed};
+pub use reads::{law_reads, law_reads_ends, law_reads_places, law_reads_slots};
 pub use sessions::{law_sessions_followed, law_sessions_permitted};

@@ -2,6 +2,7 @@ mod Course
 mod Histories
 mod OfDone
 mod OfDurable
+mod OfImages
 mod OfLaws
 mod OfPolls
 mod OfReads

@@ -1,5 +1,6 @@
 pub mod Calls
 pub mod Durable
+pub mod Images
 pub mod Laws
 pub mod Polls
 pub mod Threads

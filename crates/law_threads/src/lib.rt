@@ -1,10 +1,13 @@
 //! The thread law: what the order law says of calls that sessions make at a table which threads share.
 #![tactic(auto)]
 
+ghost use Rattle.std.specs.Prelude.{List};
+ghost use Rattle.fkv_table.specs.declared.happenings.Happening.{Happening};
 ghost use Rattle.fkv_world.specs.Runs.{World};
 ghost use Rattle.law_order.specs.Prefix.Law.{PrefixLaw, TellsDurable};
-ghost use Rattle.law_threads.specs.Calls.{OfEachRun};
+ghost use Rattle.law_threads.specs.Calls.{OfEachRun, events_of};
 ghost use Rattle.law_threads.specs.Durable.{RecoversItsDurable, RecoversLater, TellsItsDurable};
+ghost use Rattle.law_threads.specs.Images.{RecoversWithin};
 ghost use Rattle.law_threads.specs.Laws.{IsOrdered, IsThreadLaw, IsWithin, IsWithoutCommits, SharesOneHistory};
 
 use law_order::law_order;
@@ -15,14 +18,17 @@ use law_world::{law_world_requests, law_world_sessions};
 /// and so has one that a poll says is finished. A read gives its key's value after some beginning of the history that holds what the pass had seen at the call.
 /// So does one that a poll answers, if few calls begin (`polled`). The calls stand once in one legal history. It begins with the history of what the pass had seen
 /// before. So it is in lives without commits, and in all lives if the law of prefixes holds (`by_prefix`). A point that is told as durable is a sealed commit's
-/// (`durable`). Each image that is left then or later recovers a point at or above it (`recovered`). These two rest on clauses of the law of prefixes. Of two passes
-/// at one moment one has seen a beginning of what the other has, and so are their histories.
+/// (`durable`). Each image that is left then or later recovers a point at or above it (`recovered`). These two rest on clauses of the law of prefixes. So does this:
+/// each image that a crash may leave in the middle of a turn holds a prefix of the life as it was at some moment of the turn (`turns`, `turns_by_prefix`). Of two
+/// passes at one moment one has seen a beginning of what the other has, and so are their histories.
 pub fn law_threads<K>()
     ensures by_order { (at : K → World) → IsThreadLaw at IsOrdered }
     ensures without_commits { (at : K → World) → IsThreadLaw at IsWithoutCommits }
     ensures by_prefix { (at : K → World) → PrefixLaw → IsThreadLaw at IsWithin }
     ensures durable { (at : K → World) → OfEachRun at TellsDurable TellsItsDurable }
     ensures recovered { (at : K → World) → OfEachRun at RecoversLater RecoversItsDurable }
+    ensures turns { (at : K → World) (key : K) (seen seen' : List Happening) → RecoversWithin at (λ o n bytes. RecoversLater o n bytes (events_of seen)) key seen seen' }
+    ensures turns_by_prefix { (at : K → World) (key : K) (seen seen' : List Happening) → PrefixLaw → RecoversWithin at (λ o n bytes. IsWithin o n bytes (events_of seen')) key seen seen' }
     ensures views { (at : K → World) → SharesOneHistory at }
 {
     law_order();

@@ -32,7 +32,7 @@ use Rattle.law_guard.specs.Guarded.EndsAlone.{AreKeeperMoves}
 use Rattle.law_guard.specs.Guarded.Shows.{IsOpened}
 use Rattle.law_guard.proofs.OfGuarded.Slots.{life_keeper_rests, life_session_rests}
 
-takes_none : {A : Type 0} (ask : Ask A) → slot_asked ask ≡ None → takes_action ask ≡ false
+pub takes_none : {A : Type 0} (ask : Ask A) → slot_asked ask ≡ None → takes_action ask ≡ false
 takes_none (Take slot) e = cc
 takes_none ask e = refl
 

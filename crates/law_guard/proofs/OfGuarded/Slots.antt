@@ -44,10 +44,10 @@ module _ (n : Now) (actors : List Actor) (past : EpochPast) (shows : Shows n (wo
   abbrev W : GuardWorld
   W = world_of n actors past
 
-  session_at_none : (number : ℕ) (s : SessionState) → slice_get n.sessions number ≡ Some s → slot_asked (session_ask (seat_at n number) s) ≡ None
+  pub session_at_none : (number : ℕ) (s : SessionState) → slice_get n.sessions number ≡ Some s → slot_asked (session_ask (seat_at n number) s) ≡ None
   session_at_none number s there = let seat = shows.sessions number s there in session_rests W number seat.actor s seat.sits
 
-  keeper_at_none : slot_asked (keeper_ask n.shape n.places n.keeper) ≡ None
+  pub keeper_at_none : slot_asked (keeper_ask n.shape n.places n.keeper) ≡ None
   keeper_at_none = keeper_rests W (keeper_number n) shows.keeper.actor shows.keeper.seen n.keeper shows.keeper.keeps
 
   -- what is found in a slot is there
@@ -103,7 +103,7 @@ module _ (n : Now) (actors : List Actor) (past : EpochPast) (shows : Shows n (wo
       by_ask (Done its) e = (tt, λ other named. cc)
       by_ask ask e = by_behind behind refl (ap is_done e)
 
-  finds : (event : Event) → WriteOuter n → FindsItsSlot n event
+  pub finds : (event : Event) → WriteOuter n → FindsItsSlot n event
   finds (Moves number) outer = by (slice_get n.sessions number) refl
     where
       by : (found : Option SessionState) → slice_get n.sessions number ≡ found → SessionFindsSlot n (seat_at n number) found
@@ -112,7 +112,7 @@ module _ (n : Now) (actors : List Actor) (past : EpochPast) (shows : Shows n (wo
   finds (KeeperMoves granted done) outer = (keeper_found granted).0
   finds event outer = tt
 
-  names_within : (event : Event) (slot : ℕ) → WriteOuter n → slot_named n event ≡ Some slot → slot < drain_slots
+  pub names_within : (event : Event) (slot : ℕ) → WriteOuter n → slot_named n event ≡ Some slot → slot < drain_slots
   names_within (Moves number) slot outer named = by (slice_get n.sessions number) refl named
     where
       by : (found : Option SessionState) → slice_get n.sessions number ≡ found → session_slot_named n (seat_at n number) found ≡ Some slot → slot < drain_slots

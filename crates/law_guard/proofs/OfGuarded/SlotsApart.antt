@@ -94,11 +94,11 @@ module _ (n : Now) (actors : List Actor) (past : EpochPast) (shows : Shows n (wo
   W = world_of n actors past
 
   -- whose session there is sits below the keeper
-  below : (i : ℕ) (s : SessionState) → slice_get n.sessions i ≡ Some s → i < keeper_number n
+  pub below : (i : ℕ) (s : SessionState) → slice_get n.sessions i ≡ Some s → i < keeper_number n
   below i s there = (shows.sessions i s there).sits.below
 
   -- A session's move that turns to a slot, and one of the keeper.
-  session_turns : (i slot : ℕ) (s : SessionState) → slice_get n.sessions i ≡ Some s → WriteOuter n → session_slot_named n (seat_at n i) (Some s) ≡ Some slot
+  pub session_turns : (i slot : ℕ) (s : SessionState) → slice_get n.sessions i ≡ Some s → WriteOuter n → session_slot_named n (seat_at n i) (Some s) ≡ Some slot
       → TurnsTo W (guard_run W (moved_events n i (Some s))) i slot
   session_turns i slot s there outer named =
       let k : Seat = seat_at n i in
@@ -108,7 +108,7 @@ module _ (n : Now) (actors : List Actor) (past : EpochPast) (shows : Shows n (wo
       let changes = found_moves n.actions (slot_ask (session_ask k s) behind) slot shows.sound.epochs.eight_slots (session_found n actors past shows i s there (outer i s there)) (sym (same_slot (session_ask k s) behind) ∙ named) in
       step_turns (keeper_number n) i W (moved_events n i (Some s)) slot shows.sound (moved_is n i (Some s)) (λ e. changes (ap (λ (actions : List (Option Action)). action_at actions slot) (sym same) ∙ e))
 
-  keeper_turns : (granted done : Bool) (read : List ℕ) (slot : ℕ) → slot_named n (KeeperMoves granted done) ≡ Some slot
+  pub keeper_turns : (granted done : Bool) (read : List ℕ) (slot : ℕ) → slot_named n (KeeperMoves granted done) ≡ Some slot
       → TurnsTo W (guard_run W (keeper_move_events (keeper_number n) n.shape n.places granted done read n.keeper n.words)) (keeper_number n) slot
   keeper_turns granted done read slot named =
       let events : List GuardEvent = keeper_move_events (keeper_number n) n.shape n.places granted done read n.keeper n.words in
@@ -128,7 +128,7 @@ module _ (n : Now) (actors : List Actor) (past : EpochPast) (shows : Shows n (wo
       by true = tt
       by false = others
 
-  session_spared : (read : List ℕ) (i : ℕ) (event : Event) → i < keeper_number n → is_of_session i event ≡ false → AreOther (guard_events n read event) i
+  pub session_spared : (read : List ℕ) (i : ℕ) (event : Event) → i < keeper_number n → is_of_session i event ≡ false → AreOther (guard_events n read event) i
   unfolding life_events
   session_spared read i event low other = by_crash i (life_events n read event) (by event other)
     where
@@ -146,7 +146,7 @@ module _ (n : Now) (actors : List Actor) (past : EpochPast) (shows : Shows n (wo
       by (KeeperMoves granted done) its = of_others (keeper_number n) (keeper_number n) _ (keeper_steps (keeper_number n) n.shape n.places granted done read n.keeper n.words) i above
       by Crashes its = tt
 
-  keeper_spared : (read : List ℕ) (event : Event) → is_of_keeper event ≡ false → AreOther (guard_events n read event) (keeper_number n)
+  pub keeper_spared : (read : List ℕ) (event : Event) → is_of_keeper event ≡ false → AreOther (guard_events n read event) (keeper_number n)
   unfolding life_events
   keeper_spared read event other = by_crash (keeper_number n) (life_events n read event) (by event other)
     where
@@ -168,7 +168,7 @@ module _ (n : Now) (actors : List Actor) (past : EpochPast) (shows : Shows n (wo
       by e its = cc
 
   -- Where another actor holds the slot, no event turns to it.
-  session_turns_not : (read : List ℕ) (i slot : ℕ) (event : Event) → WriteOuter n → IsHolder W.now i slot → i < keeper_number n → is_of_session i event ≡ false → slot_named n event ≢ Some slot
+  pub session_turns_not : (read : List ℕ) (i slot : ℕ) (event : Event) → WriteOuter n → IsHolder W.now i slot → i < keeper_number n → is_of_session i event ≡ false → slot_named n event ≢ Some slot
   session_turns_not read i slot (Moves j) outer holder low other named = by (slice_get n.sessions j) refl named
     where
       by : (found : Option SessionState) → slice_get n.sessions j ≡ found → session_slot_named n (seat_at n j) found ≡ Some slot → ⊥
@@ -177,7 +177,7 @@ module _ (n : Now) (actors : List Actor) (past : EpochPast) (shows : Shows n (wo
   session_turns_not read i slot (KeeperMoves granted done) outer holder low other named = let same = (keeper_turns granted done read slot named).alone i holder in absurd (omega (arith, low, same))
   session_turns_not read i slot event outer holder low other named = cc
 
-  keeper_turns_not : (slot : ℕ) (event : Event) → WriteOuter n → IsHolder W.now (keeper_number n) slot → is_of_keeper event ≡ false → slot_named n event ≢ Some slot
+  pub keeper_turns_not : (slot : ℕ) (event : Event) → WriteOuter n → IsHolder W.now (keeper_number n) slot → is_of_keeper event ≡ false → slot_named n event ≢ Some slot
   keeper_turns_not slot (Moves j) outer holder other named = by (slice_get n.sessions j) refl named
     where
       by : (found : Option SessionState) → slice_get n.sessions j ≡ found → session_slot_named n (seat_at n j) found ≡ Some slot → ⊥

@@ -28,13 +28,13 @@ use Rattle.law_guard.proofs.OfKeeper.WordsWithin.{keeper_within}
 use Rattle.law_guard.proofs.OfSessions.WordsWithin.{IsWithin, named_within, run_within}
 
 -- where the guard's world has what the engine's has
-session_here : (n : Now) (actors : List Actor) (past : EpochPast) → Shows n (world_of n actors past) → (number : ℕ) (k : Seat) (o : SessionState) (came : List SessionEvent)
+pub session_here : (n : Now) (actors : List Actor) (past : EpochPast) → Shows n (world_of n actors past) → (number : ℕ) (k : Seat) (o : SessionState) (came : List SessionEvent)
     → session.IsOpened o → HasItsBuckets k → k.places ≡ n.places → slice_get n.sessions number ≡ Some (session_run k o came) → IsWithin n.places (session_ask (seat_at n number) (session_run k o came))
 session_here n actors past shows number k o came opened its same there =
     let seat = shows.sessions number (session_run k o came) there in
     run_within (world_of n actors past) number seat.actor k o came opened its same seat.sits
 
-keeper_here : (n : Now) (actors : List Actor) (past : EpochPast) → Shows n (world_of n actors past) → n.keeper.seek.sessions ≤ n.places.sessions → IsKeeperRow n.places n.keeper → IsWithin n.places (keeper_ask n.shape n.places n.keeper)
+pub keeper_here : (n : Now) (actors : List Actor) (past : EpochPast) → Shows n (world_of n actors past) → n.keeper.seek.sessions ≤ n.places.sessions → IsKeeperRow n.places n.keeper → IsWithin n.places (keeper_ask n.shape n.places n.keeper)
 keeper_here n actors past shows few row = keeper_within (world_of n actors past) (keeper_number n) shows.keeper.actor shows.keeper.seen n.keeper shows.keeper.keeps few row
 
 shown : (first : World) (start : ℕ) (events : List Event) → IsOpened first.now start

@@ -2,6 +2,7 @@
 use Rattle.fkv_seats.proofs.Seats.{in_order}
 use Rattle.fkv_table.specs.Planes.{plane}
 use Rattle.law_threads.proofs.OfDurable.{recovers_durable, tells_durable}
+use Rattle.law_threads.proofs.OfImages.{by_later, by_law}
 use Rattle.law_threads.proofs.OfLaws.{by_prefix, shares, thread_law, without_commits}
 use Rattle.law_threads.proofs.law_threads.Goals as goal
 
@@ -19,6 +20,12 @@ returns-clause-durable g c = λ at. tells_durable at
 
 pub returns-clause-recovered : goal.returns-clause-recovered
 returns-clause-recovered g c = λ at. recovers_durable at
+
+pub returns-clause-turns : goal.returns-clause-turns
+returns-clause-turns g c = λ at key seen seen'. by_later at key seen seen'
+
+pub returns-clause-turns_by_prefix : goal.returns-clause-turns_by_prefix
+returns-clause-turns_by_prefix g c = λ at key seen seen' prefix. by_law at key seen seen' prefix
 
 pub returns-clause-views : goal.returns-clause-views
 returns-clause-views g c = λ at. shares at (in_order (plane at))

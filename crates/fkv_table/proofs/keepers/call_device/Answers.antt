@@ -3,6 +3,7 @@ use Rattle.std.proofs.Common.{true, false}
 use Rattle.fkv_table.specs.Planes.{opening_of}
 use Rattle.fkv_table.proofs.KeeperNotes.{spares_call}
 use Rattle.fkv_table.proofs.KeeperCalled.{after_on, called_on, went_on}
+use Rattle.fkv_table.proofs.KeeperMoments.{moments_called}
 use Rattle.fkv_table.proofs.keepers.call_device.Goals as goal
 
 pub note-requires-clause-spares : goal.note-requires-clause-spares
@@ -38,3 +39,21 @@ pub returns-in-Err-clause-after : goal.returns-in-Err-clause-after
 returns-in-Err-clause-after g c =
     after_on (opening_of g.D.Device.seen) _ _ c.args.machine.now c.requires.table.1.opening c.requires.keeping c.requires.ask false c.note-in-Err.new.seat.me c.note-in-Err.ensures.noted (g.D.Device.seen c.args.d.now) (g.D.Device.may_leave c.args.d.now) c.requires.after
     (g.D.Device.seen c.call_device.new.d) (g.D.Device.may_leave c.call_device.new.d) (c.in-Err.ensures.calls c.requires.honest)
+
+pub returns-in-Ok-clause-moments : goal.returns-in-Ok-clause-moments
+returns-in-Ok-clause-moments g c =
+    let d = g.D.Device in
+    let after = after_on (opening_of d.seen) _ _ c.args.machine.now c.requires.table.1.opening c.requires.keeping c.requires.ask true c.note.new.seat.me c.note.ensures.noted (d.seen c.args.d.now) (d.may_leave c.args.d.now) c.requires.after
+    (d.seen c.call_device.new.d) (d.may_leave c.call_device.new.d) (c.in-Ok.ensures.calls c.requires.honest) in
+    let went = went_on (opening_of d.seen) _ _ c.args.machine.now c.requires.table.1.opening c.requires.keeping c.requires.ask true c.note.new.seat.me c.note.ensures.noted (d.seen c.args.d.now) (d.may_leave c.args.d.now) c.requires.after in
+    moments_called (opening_of d.seen) d.moment d.left_since _ c.args.d.now c.call_device.new.d _ _ (d.seen c.args.d.now) (d.seen c.call_device.new.d) (d.may_leave c.args.d.now) (d.may_leave c.call_device.new.d) c.requires.after after went
+    (λ image left. g.met.D.Device.only_now c.args.d.now image c.requires.honest left) (c.in-Ok.ensures.time c.requires.honest)
+
+pub returns-in-Err-clause-moments : goal.returns-in-Err-clause-moments
+returns-in-Err-clause-moments g c =
+    let d = g.D.Device in
+    let after = after_on (opening_of d.seen) _ _ c.args.machine.now c.requires.table.1.opening c.requires.keeping c.requires.ask false c.note-in-Err.new.seat.me c.note-in-Err.ensures.noted (d.seen c.args.d.now) (d.may_leave c.args.d.now) c.requires.after
+    (d.seen c.call_device.new.d) (d.may_leave c.call_device.new.d) (c.in-Err.ensures.calls c.requires.honest) in
+    let went = went_on (opening_of d.seen) _ _ c.args.machine.now c.requires.table.1.opening c.requires.keeping c.requires.ask false c.note-in-Err.new.seat.me c.note-in-Err.ensures.noted (d.seen c.args.d.now) (d.may_leave c.args.d.now) c.requires.after in
+    moments_called (opening_of d.seen) d.moment d.left_since _ c.args.d.now c.call_device.new.d _ _ (d.seen c.args.d.now) (d.seen c.call_device.new.d) (d.may_leave c.args.d.now) (d.may_leave c.call_device.new.d) c.requires.after after went
+    (λ image left. g.met.D.Device.only_now c.args.d.now image c.requires.honest left) (c.in-Err.ensures.time c.requires.honest)

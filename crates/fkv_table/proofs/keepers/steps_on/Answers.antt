@@ -1,8 +1,22 @@
 -- Each step and each call of the device leads the keeper on, up to the end of its call.
-use Rattle.std.proofs.Common.{◌∙◌}
+use Rattle.std.proofs.Common.{◌∙◌, refl, []}
 use Rattle.fkv_table.specs.Planes.{opening_of}
 use Rattle.fkv_table.proofs.KeeperCalled.{gone_both, keeper_word, step_spares}
+use Rattle.fkv_table.proofs.KeeperMoments.{moments_begin, moments_both, moments_stepped}
 use Rattle.fkv_table.proofs.keepers.steps_on.Goals as goal
+
+pub asks-init : goal.asks-init
+asks-init g c = record {
+  table = refl;
+  id = refl;
+  keeping = c.requires.keeping;
+  went = record { steps = []; begins = tt; so = refl };
+  honest = c.requires.honest;
+  after = c.requires.after;
+  moments =
+      let d = g.D.Device in
+      moments_begin (opening_of d.seen) d.moment d.left_since _ c.args.d.now _ (d.seen c.args.d.now) (d.may_leave c.args.d.now) c.requires.after (λ image left. g.met.D.Device.only_now c.args.d.now image c.requires.honest left);
+}
 
 pub asks-preserved-in-Device : goal.asks-preserved-in-Device
 asks-preserved-in-Device g c = let inv = c.asks.invariant in let did = c.call_device.ensures in record {
@@ -12,6 +26,7 @@ asks-preserved-in-Device g c = let inv = c.asks.invariant in let did = c.call_de
   went = gone_both (opening_of g.D.Device.seen) _ _ _ inv.went did.went;
   honest = did.honest;
   after = did.after;
+  moments = moments_both (opening_of g.D.Device.seen) g.D.Device.moment g.D.Device.left_since _ _ _ _ _ _ _ inv.went did.went inv.moments did.moments;
 }
 
 pub step-requires : goal.step-requires
@@ -30,4 +45,5 @@ asks-preserved g c = let inv = c.asks.invariant in let did = c.step.ensures in r
   went = gone_both (opening_of g.D.Device.seen) _ _ _ inv.went did.went;
   honest = inv.honest;
   after = step_spares (opening_of g.D.Device.seen) _ _ _ _ _ did.calls inv.after;
+  moments = moments_stepped (opening_of g.D.Device.seen) g.D.Device.moment g.D.Device.left_since _ _ _ _ _ _ did.went inv.moments;
 }

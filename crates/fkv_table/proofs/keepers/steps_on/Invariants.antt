@@ -1,7 +1,8 @@
 use Rattle.std.proofs.Common.{◌≡◌}
+use Rattle.fkv_disk.specs.Device.{AtEachMoment}
 use Rattle.fkv_keeper.specs.KeeperAsks.{keeper_asks_left}
 use Rattle.fkv_table.specs.KeeperCalls.{HasGoneOn}
-use Rattle.fkv_table.specs.Keeps.{IsAfterSeen, IsKeeping}
+use Rattle.fkv_table.specs.Keeps.{IsAfterSeen, IsKeeping, IsLeftWithin}
 use Rattle.fkv_table.specs.Planes.{opening_of}
 use Rattle.fkv_table.proofs.keepers.steps_on.Given as goal
 
@@ -13,6 +14,7 @@ invariant-asks g l = record {
   went : HasGoneOn l.fn.seat.me.0.seen l.seat.me.0.seen;
   honest : g.D.Device.honest l.d;
   after : IsAfterSeen (opening_of g.D.Device.seen) l.fn.words.key l.seat.me.0.seen (g.D.Device.seen l.d) (g.D.Device.may_leave l.d);
+  moments : AtEachMoment g.D.Device.moment g.D.Device.left_since l.fn.d l.d (IsLeftWithin (opening_of g.D.Device.seen) l.fn.words.key l.fn.seat.me.0.seen l.seat.me.0.seen);
 }
 
 abbrev pub decreases-asks : goal.decreases-asks

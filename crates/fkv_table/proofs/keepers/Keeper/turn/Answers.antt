@@ -2,9 +2,11 @@
 use Rattle.std.proofs.Common.{◌∙◌, sym, ap, subst}
 use Rattle.fkv_keeper.specs.Keeping.{KeeperModel}
 use Rattle.fkv_keeper.specs.KeeperRun.{is_in_hand}
+use Rattle.fkv_table.specs.declared.happenings.Happening.TheVariants.{Turns}
 use Rattle.fkv_table.specs.Keeps.{IsKeeping}
 use Rattle.fkv_table.specs.Planes.{opening_of}
 use Rattle.fkv_table.proofs.KeeperCalled.{kept_so, over_idle, start_spares}
+use Rattle.fkv_table.proofs.KeeperMoments.{moments_noted}
 use Rattle.fkv_table.proofs.keepers.Keeper.turn.Goals as goal
 
 pub steps_on-requires-clause-after : goal.steps_on-requires-clause-after
@@ -28,3 +30,7 @@ returns-clause-ready g c =
       keeping = subst (λ (k : KeeperModel). IsKeeping (opening_of g.D.Device.seen) c.args.table.now.table.shared.key c.steps_on.new.seat.me k) (sym same) c.steps_on.ensures.keeping;
       idle = ap (λ (k : KeeperModel). is_in_hand k.state.step) same ∙ over_idle (opening_of g.D.Device.seen) _ _ _ r.opened.opening c.steps_on.ensures.keeping c.steps_on.ensures.over;
     }
+
+pub returns-clause-moments : goal.returns-clause-moments
+returns-clause-moments g c =
+    moments_noted (opening_of g.D.Device.seen) g.D.Device.moment g.D.Device.left_since _ _ _ _ _ Turns _ c.begin_turn.ensures.noted c.steps_on.ensures.moments

@@ -1,0 +1,24 @@
+-- What images hold that a crash may leave in a call of the keeper.
+use Rattle.std.specs.Prelude.{ℕ, List}
+use Rattle.fkv_opening.specs.declared.opened_store.Opened.{Opened}
+use Rattle.fkv_seats.specs.Rule.{IsSeenBy}
+use Rattle.fkv_world.specs.Runs.{World}
+use Rattle.fkv_world.specs.World.{Now}
+use Rattle.law_order.specs.Prefix.Law.{HoldsPrefix, ReachesFar}
+use Rattle.fkv_table.specs.declared.happenings.Happening.{Happening}
+use Rattle.fkv_table.specs.Keeps.{IsLeftWithin}
+use Rattle.fkv_table.specs.Planes.{plane}
+use Rattle.law_threads.specs.Calls.{IsOver, events_of}
+
+module _ {K : Type 0} (at : K → World) where
+  -- An image holds a prefix of the life as it is at some moment of the call, behind these events.
+  pub record HoldsWithin (o : Opened) (n : Now) (bytes : List ℕ) (seen seen' : List Happening) (image : List ℕ) : Type 0 where
+    pub now : List Happening
+    pub from : IsSeenBy (plane at) seen now
+    pub to : IsSeenBy (plane at) now seen'
+    pub holds : HoldsPrefix o n bytes (events_of now) image
+
+  -- So does each image that a crash may leave in the call, over each store of which this is so, if the life began with an image that reaches far.
+  abbrev pub RecoversWithin : (Opened → Now → List ℕ → Type 0) → K → List Happening → List Happening → Type 0
+  RecoversWithin If key seen seen' = (o : Opened) (n : Now) (bytes : List ℕ) → IsOver at key o n bytes → If o n bytes → ReachesFar bytes
+      → (image : List ℕ) → IsLeftWithin at key seen seen' image → HoldsWithin o n bytes seen seen' image
