@@ -1,0 +1,6 @@
+mod Bytes
+pub mod Image
+pub mod Mailboxes
+pub mod Openings
+pub mod There
+pub mod Words

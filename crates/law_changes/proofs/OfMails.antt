@@ -1,0 +1,3 @@
+mod AttemptMails
+pub mod Life
+pub mod SessionMails

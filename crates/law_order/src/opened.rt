@@ -1,0 +1,54 @@
+//! Cuts, copies and links in the lives of opened stores.
+ghost use Rattle.law_order.specs.Opened as opened;
+
+use crate::in_turn::law_phases_open;
+use crate::rules::{law_cuts_open, law_life_begins};
+use law_commit::{
+    law_copies_cover, law_cuts_stand, law_durable_stands, law_links_meet_empty, law_marks_stand,
+    law_world_copied,
+};
+
+/// In each life of an opened store, with commits, crashes and failing calls of the device, both cut words of a session and its owing word are what it has stored
+/// there last. Its durable word is what the keeper has: a point of the newest finished commit, or of the one whose words are stored. The cut word of the version
+/// that the session has left shows its point of that version, but for what it is about to store. A sleeper's shows its serial.
+pub fn law_marks_open()
+    ensures marks { opened.OfItsSessions opened.HasItsMarks }
+    ensures durable { opened.OfItsSessions opened.HasItsDurable }
+    ensures points { opened.OfItsSessions opened.ShowsItsPoint }
+    ensures told { opened.OfItsSessions opened.TellsItsLeaving }
+    ensures left { opened.OfItsSessions opened.LeavesAtItsPoint }
+    ensures asleep { opened.OfItsSessions opened.ShowsItsCutAsleep }
+    ensures serials { opened.OfItsSessions opened.CutsNoLater }
+{
+    law_life_begins();
+    law_cuts_open();
+    law_phases_open();
+    law_marks_stand();
+    law_cuts_stand();
+    law_durable_stands();
+}
+
+/// In each such life the copy of the index that the keeper has begun last has each home once, by an entry that has stood there since. It leaves none out that
+/// had an entry as it began. Its triples lead into the chains of the log, and a finished copy covers them as they were then. The copy of a full commit in hand
+/// began while the commit was in hand.
+pub fn law_copies_open()
+    ensures stood { opened.WithItsIndex opened.CopiesWhatStood }
+    ensures once { opened.WithItsIndex opened.CopiesHomesOnce }
+    ensures whole { opened.WithItsIndex opened.LeavesNoneOut }
+    ensures in_chains { opened.WithItsIndex opened.LeadsIntoChains }
+    ensures covers { opened.WithItsIndex opened.CoversItsChains }
+    ensures commit { opened.WithItsIndex opened.BeginsItsCopy }
+{
+    law_life_begins();
+    law_world_copied();
+    law_copies_cover();
+}
+
+/// In each such life an update's search that goes on to link an overflow bucket has met an empty chain.
+pub fn law_links_open()
+    ensures meets { opened.WithItsIndex opened.LinksWhereEmpty }
+    ensures linked { opened.WithItsIndex opened.HasMetEmpty }
+{
+    law_life_begins();
+    law_links_meet_empty();
+}
