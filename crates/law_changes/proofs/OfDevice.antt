@@ -1,4 +1,4 @@
-mod Bytes
+pub mod Bytes
 pub mod Image
 pub mod Mailboxes
 pub mod Openings

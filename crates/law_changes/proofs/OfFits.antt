@@ -1,14 +1,14 @@
-mod Attempts
-mod Effects
-mod Events
-mod Held
+pub mod Attempts
+pub mod Effects
+pub mod Events
+pub mod Held
 pub mod Life
-mod Lines
-mod Logs
-mod Mails
-mod Numbers
-mod Rows
-mod Taken
-mod Told
-mod Tries
-mod Walks
+pub mod Lines
+pub mod Logs
+pub mod Mails
+pub mod Numbers
+pub mod Rows
+pub mod Taken
+pub mod Told
+pub mod Tries
+pub mod Walks

@@ -1,3 +1,3 @@
-mod AttemptMails
+pub mod AttemptMails
 pub mod Life
 pub mod SessionMails

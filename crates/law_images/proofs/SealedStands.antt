@@ -12,7 +12,7 @@ clash : {X : Type 0} (b : Bool) → b ≡ true → b ≡ false → X
 clash b e f = cc
 
 all_finished : {X : Type 0} (begun : List BegunCommit) (last : Finality) (d : BegunCommit) (rest : List BegunCommit) → HaveFinished begun last → begun ≡ d ∷ rest → d.is_finished ≡ false → X
-all_finished begun last d rest all e open = clash d.is_finished (subst AreFinished e all.finished).1.0 open
+all_finished begun last d rest all e still_open = clash d.is_finished (subst AreFinished e all.finished).1.0 still_open
 
 one_open : {X : Type 0} (begun : List BegunCommit) (last : Finality) (d : BegunCommit) (rest : List BegunCommit) → OneIsOpen begun last → begun ≡ d ∷ rest → d.is_sealed ≡ true → X
 one_open begun last d rest one e is =
@@ -21,15 +21,15 @@ one_open begun last d rest one e is =
     clash d.is_sealed is (subst (λ (x : BegunCommit). x.is_sealed ≡ false) same one.unsealed)
 
 none_or_one : (begun : List BegunCommit) (last : Finality) (w : CommitWriter) (image : List ℕ) → HaveFinished begun last ⊎ OneIsOpen begun last → SealedStands begun w image
-none_or_one begun last w image (inl all) = λ d rest e open is. all_finished begun last d rest all e open
-none_or_one begun last w image (inr one) = λ d rest e open is. one_open begun last d rest one e is
+none_or_one begun last w image (inl all) = λ d rest e still_open is. all_finished begun last d rest all e still_open
+none_or_one begun last w image (inr one) = λ d rest e still_open is. one_open begun last d rest one e is
 
 at_end : (begun : List BegunCommit) (s : KeeperState) (w : CommitWriter) (image : List ℕ) (broken : Bool) → AtEnd begun s broken → SealedStands begun w image
 at_end begun s w image true its = none_or_one begun s.last w image its
 at_end begun s w image false its = none_or_one begun s.last w image (inl its)
 
 pub sealed_stands : (begun : List BegunCommit) (s : KeeperState) (step : Keeping) (w : CommitWriter) (image : List ℕ) → AtKeeping begun s step → (step ≡ Finishes → NewStands w image) → SealedStands begun w image
-sealed_stands begun s Finishes w image its written = λ d rest e open is. written refl
+sealed_stands begun s Finishes w image its written = λ d rest e still_open is. written refl
 sealed_stands begun s Writes w image its written = none_or_one begun s.last w image its
 sealed_stands begun s (Ended told) w image its written = at_end begun s w image s.is_broken its
 sealed_stands begun s Starts w image its written = none_or_one begun s.last w image (inl its)

@@ -1,5 +1,5 @@
 -- The words of an opened store say for each session what it is opened with, and nothing is asked for in a mailbox.
-use Rattle.std.proofs.Common.{◌≡◌, refl, arith, ℕ, ◌%◌, ◌^◌, ◌<◌, ◌≤◌, Bool, true, false, List, length}
+use Rattle.std.proofs.Common.{refl, arith, ℕ, ◌%◌, ◌^◌, ◌<◌, ◌≤◌, Bool, true, false, length}
 use Rattle.std.specs.Prelude.{if◌then◌else◌, nat_eq}
 use Rattle.std.proofs.lemmas.List.{get_or-map}
 use Rattle.std.proofs.lemmas.List.Elements.{All-get_or}

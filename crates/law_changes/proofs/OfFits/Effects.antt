@@ -1,6 +1,5 @@
 -- All that has taken effect in a life was called, so its operations fit in words.
-use Rattle.std.proofs.Common.{◌≡◌, ℕ, inl, inr, sym, ap, subst, List, [], ◌∷◌}
-use Rattle.std.specs.Prelude.{Some}
+use Rattle.std.proofs.Common.{inl, inr, sym, subst, List, [], ◌∷◌}
 use Rattle.fkv_map.specs.Fits.{OpFits}
 use Rattle.fkv_world.specs.Opened.{IsOpenedWorld}
 use Rattle.fkv_world.specs.Past as world
@@ -29,5 +28,5 @@ effects_fit opening (event ∷ before) opened fits =
     let was : EntriesFit (run opening before).past.history = effects_fit opening before opened fits.1 in
     elim (history_so (run opening before) event) [
       | inl same ↦ subst EntriesFit (sym same) was
-      | inr its ↦ subst EntriesFit (sym its.1.0) (effect_fits opening before event its.0 opened fits.1 its.1.1, was)
+      | inr its ↦ subst EntriesFit (sym its.1) (effect_fits opening before event its.0 opened fits.1 its.2, was)
     ]

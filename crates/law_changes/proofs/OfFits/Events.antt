@@ -1,7 +1,6 @@
 -- What a step makes fits in words, for operations that fit.
-use Rattle.std.proofs.Common.{◌≡◌, ℕ, refl, sym, subst, Bool, true, false, List, [], ◌∷◌, ◌++◌}
+use Rattle.std.proofs.Common.{◌≡◌, ℕ, refl, sym, subst, Bool, true, false, List, [], ◌∷◌}
 use Rattle.std.specs.Prelude.{◌==◌, if◌then◌else◌}
-use Rattle.fkv_base.specs.declared.numbers.Addr.{Addr}
 use Rattle.fkv_index.specs.Finding.{find_next_ask}
 use Rattle.fkv_index.specs.Publishing.{publish_next_ask}
 use Rattle.fkv_index.specs.declared.finding.FindAnswer.{FindAnswer}
@@ -49,13 +48,13 @@ use Rattle.fkv_world.specs.Past.{Traced}
 use Rattle.law_changes.proofs.OfFits.Logs.{AllMakeFit, both_make}
 use Rattle.law_changes.proofs.OfFits.Numbers.{said_fits}
 use Rattle.law_changes.proofs.OfFits.Rows.{AttemptOk, TryRow, WordsOk}
-use Rattle.law_changes.proofs.Told.{GoesSo, goes_so}
+use Rattle.law_changes.proofs.Told.{goes_so}
 use Rattle.law_changes.specs.Fits.{CellFits}
 use Rattle.law_guard.specs.Sessions.Tries.{is_for_entry}
 use Rattle.law_local.specs.Sessions.Inputs.{AttemptsBy, TriesFor}
 use Rattle.law_local.specs.Sessions.Known.{is_attempting}
 use Rattle.law_local.specs.Tries.TryRows.{cell_of}
-use Rattle.law_log.specs.Ghosts.{GhostEvent, Changes, Drops, Log, Reserves}
+use Rattle.law_log.specs.Ghosts.{Changes, Drops, Log, Reserves}
 use Rattle.law_refine.specs.Events.Appends.{append_ghosts, entry_made, invalidate_ghosts, publish_ghosts, reserved_ghosts}
 use Rattle.law_refine.specs.Events.Lines.{read_in_hand, read_waiting}
 use Rattle.law_refine.specs.Events.Sessions.{attempt_ghosts, sitting_ghosts, step_ghosts, ticket_of, tried_ghosts, value_ghosts}

@@ -1,5 +1,5 @@
 -- What holds of numbers at each moment of a life, and how it goes from moment to moment.
-use Rattle.std.proofs.Common.{◌≡◌, ℕ, ◌<◌, ◌≤◌, arith, subst, true, List, [], ◌∷◌, ◌++◌}
+use Rattle.std.proofs.Common.{◌≡◌, ℕ, ◌<◌, ◌≤◌, arith, subst, List, [], ◌∷◌, ◌++◌}
 use Rattle.std.specs.Prelude.{Some, slice_get}
 use Rattle.fkv_flush.specs.GuardLevels.{levels_of}
 use Rattle.fkv_ops.specs.declared.header_words.HeaderSaid.{HeaderSaid}
@@ -15,7 +15,6 @@ use Rattle.law_changes.proofs.Rows.{Stays}
 use Rattle.law_changes.specs.Fits.{CellsFit}
 use Rattle.law_changes.specs.Laws.{BeginsLinked}
 use Rattle.law_local.specs.Sessions.Known.{KnowsRequests}
-use Rattle.law_log.specs.Chains.{Published}
 use Rattle.law_log.specs.Ghosts.{Ghosts, Log}
 use Rattle.law_parts.specs.Mail.Reads.{mail_past}
 use Rattle.law_refine.proofs.OfEvents.Fixed.{life_rises}
@@ -74,5 +73,5 @@ module _ (opening : World) (start : ℕ) (lists : ℕ → List ℕ) (ghosts : Gh
   record_grows later event earlier its said ok = (
     ok.0,
     said_there_grows (log_at opening ghosts earlier) (log_at opening ghosts (later ++ (event ∷ earlier))) (λ a there. later_stays later (event ∷ earlier) a (one_stays earlier event a there)) (flushed_at opening earlier) (flushed_at opening (later ++ (event ∷ earlier)))
-    (let was = one_rises earlier event in let now = later_rises later (event ∷ earlier) in omega (arith, was, now)) said ok.1,
+        (let was = one_rises earlier event in let now = later_rises later (event ∷ earlier) in omega (arith, was, now)) said ok.1,
   )

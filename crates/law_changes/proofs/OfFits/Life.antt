@@ -1,7 +1,7 @@
 -- At every moment of a life all that sessions have loaded, all that they have asked for and all records of the log fit in words.
 use Rattle.std.proofs.Common.{◌≡◌, ℕ, ◌^◌, ◌<◌, ◌≤◌, ◌∙◌, refl, sym, ap, subst, arith, Bool, true, false, List, [], ◌∷◌, ◌++◌}
 use Rattle.std.proofs.lemmas.Bool.Decides.{nat_tests}
-use Rattle.std.specs.Prelude.{⊤, ◌==◌, map, nat_lt, if◌then◌else◌, Option, Some, None, slice_get}
+use Rattle.std.specs.Prelude.{◌==◌, map, nat_lt, if◌then◌else◌, Option, Some, None, slice_get}
 use Rattle.fkv_epoch.proofs.Shown.{some_same}
 use Rattle.fkv_flush.specs.declared.serving.Serving.{Serving}
 use Rattle.fkv_flush.specs.declared.serving.Serving.TheVariants as serve
@@ -9,7 +9,7 @@ use Rattle.fkv_keeper.specs.Keeping.{keeper_ask}
 use Rattle.fkv_map.specs.declared.operations.Call.{Call}
 use Rattle.fkv_ops.specs.declared.requests.Occasion.TheVariants.{Call as AtCall, Poll as AtPoll}
 use Rattle.fkv_pending.specs.Attempting.{AttemptState}
-use Rattle.fkv_pending.specs.MailWorld.{MailEvent, MailWorld, Moves as MailMoves, mailbox_of}
+use Rattle.fkv_pending.specs.MailWorld.{MailEvent, mailbox_of}
 use Rattle.fkv_pending.specs.Mailbox.{past_of}
 use Rattle.fkv_pending.specs.declared.attempting.Attempting.{Attempting}
 use Rattle.fkv_pending.specs.declared.attempting.Attempting.TheVariants as attempting
@@ -19,6 +19,7 @@ use Rattle.fkv_pending.specs.declared.mailing.Mailing.{Mailing}
 use Rattle.fkv_pending.specs.declared.mailing.Mailing.TheVariants as mailing
 use Rattle.fkv_pending.specs.declared.pending_requests.PendingRequest.{PendingRequest}
 use Rattle.fkv_plane.specs.Asked.{reply_to}
+use Rattle.fkv_plane.specs.declared.asks.Ask.{Ask}
 use Rattle.fkv_session.specs.Sessions.{SessionState, Seat, bits_of, is_busy, request_in_hand, room_of, session_ask, session_next}
 use Rattle.fkv_session.specs.declared.sessions.Sitting.{Sitting}
 use Rattle.fkv_session.specs.declared.sessions.Sitting.TheVariants.{Attempts, ClearsMail, Polls}
@@ -42,7 +43,7 @@ use Rattle.law_changes.proofs.OfFits.Taken.{takes_fit}
 use Rattle.law_changes.proofs.OfFits.Told.{session_told, values_fit}
 use Rattle.law_changes.proofs.OfMails.AttemptMails.{is_putting}
 use Rattle.law_changes.proofs.OfMails.Life.{life_mails}
-use Rattle.law_changes.proofs.OfMails.SessionMails.{MailsAt, MailsSo}
+use Rattle.law_changes.proofs.OfMails.SessionMails.{MailsAt}
 use Rattle.law_changes.proofs.OfSessions.Attempting.{attempting_is, life_attempts}
 use Rattle.law_changes.proofs.OfSessions.Calm.{calm_known, is_calm, not_calm}
 use Rattle.law_changes.proofs.OfSessions.Comes.{SessionComes, Begins, Stays as Remains, Steps, session_comes}
@@ -66,8 +67,7 @@ use Rattle.law_refine.proofs.OfRecords.LogHeaders.{fall_first}
 use Rattle.law_refine.proofs.OfRecords.Meets.{life_meets_published}
 use Rattle.law_refine.proofs.OfSeen.Alone.{moves_alone}
 use Rattle.law_refine.proofs.OfSeen.There.{there_before}
-use Rattle.law_refine.specs.Calls.Calls.{effects_of_life, entries_of}
-use Rattle.law_refine.specs.Events.GhostEvents.{fixed_ghosts, ghost_events, home_in, life_ghosts, mapped, moved_ghosts, own_ghosts, safe_at, serials_in, traced_by}
+use Rattle.law_refine.specs.Events.GhostEvents.{fixed_ghosts, ghost_events, home_in, mapped, moved_ghosts, own_ghosts, safe_at, serials_in, traced_by}
 use Rattle.law_refine.specs.Events.Lines.{lines_added}
 use Rattle.law_refine.specs.Records.Changes.{AreChangesPublished}
 
@@ -102,7 +102,7 @@ sitting_begins_ok log flushed s (Polls index) mails ok = attempt_begins_ok log f
 sitting_begins_ok log flushed s ClearsMail mails ok = begins_ok log flushed s.mailing (not_putting_ok log flushed s.mailing mails)
 sitting_begins_ok log flushed s step mails ok = tt
 
-asked_ok : {A : Type 0} (log : Log) (flushed : ℕ) (words : List ℕ) (found : Option Mailing) (ask : _) → AreOk log flushed (asked_by {A = A} words found ask)
+asked_ok : {A : Type 0} (log : Log) (flushed : ℕ) (words : List ℕ) (found : Option Mailing) (ask : Ask A) → AreOk log flushed (asked_by words found ask)
 asked_ok log flushed words None ask = changed_ok log flushed words ask
 asked_ok log flushed words (Some step) ask = (tt, tt)
 
@@ -243,11 +243,11 @@ module _ (opening : World) (start : ℕ) (lists : ℕ → List ℕ) (ghosts : Gh
 
     called_ok : (number : ℕ) (its : Call) → CallsFit (Calls number its ∷ before) → (found : Option SessionState) → slice_get M.sessions number ≡ found
         → OkBehind (Calls number its) (called_events M session number its found)
+    unfolding session_goes
     called_ok number its fits None e = tt
     called_ok number its fits (Some s) e = by_number (number == session) refl
       where
         begun_ok : (number == session) ≡ true → OkBehind (Calls number its) (begins (session_mailing (session_called (seat_at M session) s its)))
-        unfolding session_goes
         begun_ok same = goes_ok before (Calls number its) fits so_far session s alive (subst (λ (x : ℕ). slice_get M.sessions x ≡ Some s) (same_number number same) e) same
 
         by_busy : (busy : Bool) → (number == session) ≡ true → OkBehind (Calls number its) (if busy then [] else begins (session_mailing (session_called (seat_at M session) s its)))
@@ -260,11 +260,11 @@ module _ (opening : World) (start : ℕ) (lists : ℕ → List ℕ) (ghosts : Gh
 
     moved_ok : (number : ℕ) → CallsFit (Moves number ∷ before) → (found : Option SessionState) → slice_get M.sessions number ≡ found
         → OkBehind (Moves number) (moved_events M session number found)
+    unfolding session_goes
     moved_ok number fits None e = tt
     moved_ok number fits (Some s) e = by_number (number == session) refl
       where
         begun_ok : (number == session) ≡ true → OkBehind (Moves number) (begins (session_mailing (session_moved (seat_at M session) (near M s)).machine))
-        unfolding session_goes
         begun_ok same = goes_ok before (Moves number) fits so_far session s alive (subst (λ (x : ℕ). slice_get M.sessions x ≡ Some s) (same_number number same) e) same
 
         by_number : (c : Bool) → (number == session) ≡ c → OkBehind (Moves number) (if c then own_events M session s else changed_by M.words (session_ask (seat_at M number) s))

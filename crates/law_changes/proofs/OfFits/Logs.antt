@@ -1,5 +1,5 @@
 -- The records of a log fit in words if what is made fits for operations that fit, and all that has taken effect does.
-use Rattle.std.proofs.Common.{◌≡◌, ◌⊎◌, ℕ, ◌<◌, ◌≤◌, ◌∙◌, inl, inr, refl, sym, subst, List, [], ◌∷◌, ◌++◌}
+use Rattle.std.proofs.Common.{ℕ, ◌<◌, ◌≤◌, inl, inr, sym, subst, List, [], ◌∷◌, ◌++◌}
 use Rattle.std.specs.Prelude.{⊤}
 use Rattle.fkv_map.specs.Fits.{OpFits}
 use Rattle.fkv_map.specs.declared.history.HistoryEntry.{HistoryEntry}

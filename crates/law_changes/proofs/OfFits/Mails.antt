@@ -1,7 +1,6 @@
 -- Whatever a session asks for in its mailbox is there.
-use Rattle.std.proofs.Common.{◌≡◌, ℕ, ◌≤◌, Bool, true, false, List, [], ◌∷◌, ◌++◌, Option, Some, None}
+use Rattle.std.proofs.Common.{ℕ, ◌≤◌, Bool, true, false, List, [], ◌∷◌, ◌++◌, Option, Some, None}
 use Rattle.std.specs.Prelude.{⊤, ◌&&◌, not, if◌then◌else◌, ◌==◌}
-use Rattle.fkv_base.specs.declared.numbers.Addr.{Addr}
 use Rattle.fkv_pending.specs.Mailbox.{MailNote, HasAskedFor, WasServed, HasTaken, HasLetGo, MailPast, asked_notes, answered_notes, asked_then, past_after, past_moved, past_of, served_notes}
 use Rattle.fkv_pending.specs.MailWorld.{Keeping, GivesReady, Mailbox, MailEvent, MailWorld, Begins, BeginsPut, Moves, Serves, Changes, has_emptied, is_at_end, mail_happens, mail_run, mailbox_of}
 use Rattle.fkv_pending.specs.Mailing.{mail_asked}

@@ -1,5 +1,5 @@
 -- Numbers that fit in a word, and what operations make of them.
-use Rattle.std.proofs.Common.{◌≡◌, ℕ, ◌+◌, refl, subst, sym, arith, Bool, true, false, min, max}
+use Rattle.std.proofs.Common.{ℕ, ◌+◌, arith, Bool, true, false, min, max}
 use Rattle.std.specs.Prelude.{◌==◌, if◌then◌else◌, Option, Some, None}
 use Rattle.fkv_map.specs.Fits.{NumberFits, OpFits}
 use Rattle.fkv_map.specs.Keys.{key_of, value_applied}

@@ -1,7 +1,6 @@
 -- What a session that attempts something knows by its control state of numbers: what it has loaded fits in a word, and what it seeks on the device is there.
 use Rattle.std.proofs.Common.{◌≡◌, ◌⊎◌, inl, inr, ℕ, ◌<◌, ◌≤◌, arith, false, subst, Option, Some, None}
 use Rattle.std.specs.Prelude.{⊤, ◌==◌}
-use Rattle.fkv_base.specs.declared.numbers.Addr.{Addr}
 use Rattle.fkv_log.specs.declared.loading.Loading.{Loading}
 use Rattle.fkv_log.specs.declared.loading.Loading.TheVariants as load
 use Rattle.fkv_log.specs.declared.record_words.RecordWords.{RecordWords}

@@ -1,16 +1,15 @@
 -- What an attempt takes from its session's mailbox fits in words, since it was read where a record was there.
-use Rattle.std.proofs.Common.{◌≡◌, ℕ, ◌<◌, ◌∙◌, refl, sym, ap, subst, true, false, List, ◌∷◌, ◌++◌, Option}
-use Rattle.std.specs.Prelude.{⊤, Some, slice_get}
+use Rattle.std.proofs.Common.{◌≡◌, ℕ, ◌<◌, ◌∙◌, refl, sym, ap, subst, true, false, List, ◌∷◌, ◌++◌}
+use Rattle.std.specs.Prelude.{Some, slice_get}
 use Rattle.fkv_ops.specs.HeaderWords.{header_said}
 use Rattle.fkv_ops.specs.declared.answers.TryAnswer.TheVariants as answer
 use Rattle.fkv_pending.specs.Attempting.{attempting_ask}
-use Rattle.fkv_pending.specs.Mailbox.{HasAskedFor, MailNote}
+use Rattle.fkv_pending.specs.Mailbox.{HasAskedFor}
 use Rattle.fkv_pending.specs.Mailing.{mail_ask, mail_next}
 use Rattle.fkv_pending.specs.declared.attempting.Attempting.{Attempting}
 use Rattle.fkv_pending.specs.declared.attempting.Attempting.TheVariants.{Looks}
 use Rattle.fkv_pending.specs.declared.mailing.MailAnswer.TheVariants as mail
 use Rattle.fkv_pending.specs.declared.mailing.MailRecord.{MailRecord}
-use Rattle.fkv_pending.specs.declared.mailing.Mailing.{Mailing}
 use Rattle.fkv_plane.proofs.Shown.{passed_reply}
 use Rattle.fkv_plane.specs.Asked.{reply_to}
 use Rattle.fkv_plane.specs.declared.asks.Ask.TheVariants.{Done}
@@ -23,7 +22,7 @@ use Rattle.law_changes.proofs.OfDevice.There.{CallsLaw, read_ok}
 use Rattle.law_changes.proofs.OfDevice.Words.{WordsLaw}
 use Rattle.law_changes.proofs.OfFits.Held.{Held, HeldSoFar, flushed_at, held_now, held_then, log_at, record_grows}
 use Rattle.law_changes.proofs.OfFits.Mails.{NotesOk}
-use Rattle.law_changes.proofs.OfFits.Rows.{IsThere, RecordOk}
+use Rattle.law_changes.proofs.OfFits.Rows.{RecordOk}
 use Rattle.law_changes.proofs.OfFits.Told.{TakesFit}
 use Rattle.law_changes.proofs.OfMails.Life.{its_seat}
 use Rattle.law_changes.proofs.OfSessions.Attempting.{attempt_reply}
@@ -31,8 +30,8 @@ use Rattle.law_changes.specs.Laws.{BeginsFitting}
 use Rattle.law_local.specs.Sessions.Known.{is_attempting}
 use Rattle.law_log.specs.Ghosts.{Ghosts}
 use Rattle.law_parts.proofs.OfMail.Takes.{takes_read}
-use Rattle.law_parts.specs.Mail.Mailers.{attempt_mailing, session_mailing, sitting_mailing}
-use Rattle.law_parts.specs.Mail.Reads.{HasTakenRead, IsTaking, ReadSince, mail_notes, mail_past}
+use Rattle.law_parts.specs.Mail.Mailers.{attempt_mailing, sitting_mailing}
+use Rattle.law_parts.specs.Mail.Reads.{HasTakenRead, IsTaking}
 
 -- an attempt that looks into the mailbox works on it
 looks_by : (s : SessionState) (step : Sitting) → is_attempting step ≡ true → s.attempt.step ≡ Looks → sitting_mailing s step ≡ Some s.attempt.mailing

@@ -8,7 +8,6 @@ use Rattle.fkv_latch.specs.declared.latching.LatchAnswer.{LatchAnswer}
 use Rattle.fkv_latch.specs.declared.latching.LatchAnswer.TheVariants as latch
 use Rattle.fkv_latch.specs.declared.latching.LatchTask.TheVariants.{DropExclusive, DropShared, TakeExclusive, TakeShared}
 use Rattle.fkv_log.specs.Regions.{seen_region_of}
-use Rattle.fkv_log.specs.declared.record_words.RecordWords.{RecordWords}
 use Rattle.fkv_log.specs.declared.regions.Region.{Region}
 use Rattle.fkv_map.specs.Fits.{NumberFits, OpFits}
 use Rattle.fkv_map.specs.Keys.{key_of, reply_from, value_applied}
