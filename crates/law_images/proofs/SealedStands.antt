@@ -12,7 +12,7 @@ clash : {X : Type 0} (b : Bool) → b ≡ true → b ≡ false → X
 clash b e f = cc
 
 all_finished : {X : Type 0} (begun : List BegunCommit) (last : Finality) (d : BegunCommit) (rest : List BegunCommit) → HaveFinished begun last → begun ≡ d ∷ rest → d.is_finished ≡ false → X
-all_finished begun last d rest all e still_open = clash d.is_finished (subst AreFinished e all.finished).1.0 still_open
+all_finished begun last d rest all e still_open = clash d.is_finished (subst AreFinished e all.finished).1 still_open
 
 one_open : {X : Type 0} (begun : List BegunCommit) (last : Finality) (d : BegunCommit) (rest : List BegunCommit) → OneIsOpen begun last → begun ≡ d ∷ rest → d.is_sealed ≡ true → X
 one_open begun last d rest one e is =
