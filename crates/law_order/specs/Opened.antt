@@ -1,6 +1,6 @@
 -- What the laws of cuts, copies and links say of the lives of opened stores.
 use Rattle.std.specs.List.{AllByRecursion}
-use Rattle.std.specs.Prelude.{◌≡◌, ◌≢◌, ◌<◌, ◌≤◌, ◌-◌, ℕ, List, false}
+use Rattle.std.specs.Prelude.{◌≡◌, ◌≢◌, ◌≤◌, ◌-◌, ℕ, List, false}
 use Rattle.fkv_checkpoint.specs.Fuzzy.{CopiedHaveStood, HomesOnce, NoneLeftOut}
 use Rattle.fkv_checkpoint.specs.declared.copying.CopyStep.TheVariants.{Ended}
 use Rattle.fkv_commit.specs.Cuts.{serial_said}

@@ -2,24 +2,18 @@
 use Rattle.std.proofs.Common.{◌≡◌, ℕ, ◌<◌, ◌^◌, ◌∙◌, sym, ap, subst, List, [], ◌∷◌, ◌++◌}
 use Rattle.fkv_base.specs.declared.shapes.Shape.{Shape}
 use Rattle.fkv_disk.specs.Bytes.{bytes_at}
-use Rattle.fkv_disk.specs.Calls.{reads_as}
 use Rattle.law_log.specs.Chains.{Cell, Logged, Published}
-use Rattle.law_log.specs.Ghosts.{Ghosts}
 use Rattle.law_log.specs.Enabled.{AreEnabled}
 use Rattle.fkv_plane.specs.declared.places.RecordWord.TheVariants as rec
 use Rattle.fkv_record.specs.Places as image
 use Rattle.law_local.specs.Tries.MailRows.{IsRecordOf}
-use Rattle.fkv_world.specs.Runs.{World, run}
 use Rattle.fkv_world.specs.World.{Event}
-use Rattle.law_world.proofs.OfKeeper.OwnCalls.{opened_stays}
-use Rattle.fkv_world.proofs.Shown.{shape_stays}
 use Rattle.law_changes.proofs.OfDevice.There.{CallsLaw, device_there, read_then, there_read}
 use Rattle.law_changes.proofs.OfDevice.Words.{WordsLaw, header_fits, read_back, value_fits}
 use Rattle.law_changes.proofs.OfFits.Life.{life_fits}
 use Rattle.law_changes.specs.Images.{IsInImage}
 use Rattle.law_order.specs.Known.Begins.{BegunLife, home_of_world}
 use Rattle.law_parts.specs.Mail.MailEvents.{record_read}
-use Rattle.law_parts.specs.Mail.Reads.{record_there}
 use Rattle.law_refine.specs.Events.GhostEvents.{life_ghosts, mapped}
 use Rattle.law_refine.specs.Records.Changes.{AreChangesPublished}
 use Rattle.law_order.specs.Served.Fits.{CallsFit, CellFits, CellsFit}
