@@ -1,10 +1,11 @@
--- What the laws of cuts, copies and links say of the lives of opened stores.
+-- What the laws of phases, cuts, copies and links say of the lives of opened stores.
 use Rattle.std.specs.List.{AllByRecursion}
-use Rattle.std.specs.Prelude.{◌≡◌, ◌≢◌, ◌≤◌, ◌-◌, ℕ, List, false}
+use Rattle.std.specs.Prelude.{◌≡◌, ◌≢◌, ◌<◌, ◌≤◌, ◌-◌, ℕ, List, Some, false, true}
 use Rattle.fkv_checkpoint.specs.Fuzzy.{CopiedHaveStood, HomesOnce, NoneLeftOut}
 use Rattle.fkv_checkpoint.specs.declared.copying.CopyStep.TheVariants.{Ended}
 use Rattle.fkv_commit.specs.Cuts.{serial_said}
 use Rattle.fkv_core.specs.Openings.{IsOpeningWorld, beginning}
+use Rattle.fkv_epoch.specs.EpochWorld.{safe_of}
 use Rattle.fkv_filling.specs.OpeningIndex.{opening_lists}
 use Rattle.fkv_opening.specs.Opened.{IsStoreOf}
 use Rattle.fkv_opening.specs.declared.opened_store.Opened.{Opened}
@@ -24,6 +25,10 @@ use Rattle.law_commit.specs.Copied.Covers.{CoverHeads, HasBegunFor, HasStoodSinc
 use Rattle.law_commit.specs.Copied.Runs.{copy_events, opening_copy, seen_by_copy}
 use Rattle.law_commit.specs.Cuts.{IsCutPlace, durable_at, life_leaving, serial_before, stored_by_keeper, stored_by_session, word_now}
 use Rattle.law_commit.specs.Linked.{HaveMetEmpty, MeetEmpty}
+use Rattle.law_commit.specs.Phases.Staged.{HasStage}
+use Rattle.law_commit.specs.Phases.Stamped.{SessionStamped, is_live}
+use Rattle.law_commit.specs.Views.{View, sight_of}
+use Rattle.law_guard.specs.Guarded.Shows.{seen_by_guard}
 use Rattle.law_log.specs.Ghosts.{Ghosts}
 use Rattle.law_opening.specs.Log.OpeningLog.{opening_ghosts}
 use Rattle.law_refine.specs.Events.GhostEvents.{life_ghosts}
@@ -62,6 +67,30 @@ ShowsItsCutAsleep opening events session first its = its.is_awake ≡ false → 
 -- neither of its cut words shows a serial above its own
 abbrev pub CutsNoLater : World → List Event → ℕ → SessionState → SessionState → Type 0
 CutsNoLater opening events session first its = (place : ℕ) → IsCutPlace session place → serial_said (word_now opening events place) ≤ its.serial
+
+-- ---- of the phases
+-- so it is of each life of an opened store
+abbrev pub OfItsLives : (World → List Event → Type 0) → Type 0
+OfItsLives P =
+    (bytes : List ℕ) (o : Opened) (n : Now) (events : List Event) → IsStoreOf bytes o → IsOpeningWorld o n → P (beginning n bytes) events
+
+-- the store is at a stage of the commit that is next
+abbrev pub IsAtAStage : World → List Event → Type 0
+IsAtAStage opening events = HasStage (run opening events).now
+
+-- the stamps of a session's views are the guard's loads of the phase
+abbrev pub StampsItsLoads : Type 0
+StampsItsLoads =
+    (bytes : List ℕ) (o : Opened) (n : Now) (events : List Event) (session : ℕ) (first its : SessionState) → IsStoreOf bytes o → IsOpeningWorld o n → HasBecome (beginning n bytes) events session first its
+    → SessionStamped (sight_of (beginning n bytes) events session) ((seen_by_guard (beginning n bytes) o.tail.0 events).past.loads session) ((seen_by_guard (beginning n bytes) o.tail.0 events).past.in_force session) its
+
+-- the view by which a live session goes was loaded after each safe epoch was raised
+abbrev pub GoesAboveSafe : World → List Event → ℕ → SessionState → SessionState → Type 0
+GoesAboveSafe opening events session first its = (epoch : ℕ) → is_live its ≡ true → epoch ≤ safe_of (run opening events).now.words → epoch < (sight_of opening events session).view.stamp
+
+-- and so was the one that is coming
+abbrev pub ComesAboveSafe : World → List Event → ℕ → SessionState → SessionState → Type 0
+ComesAboveSafe opening events session first its = (epoch : ℕ) (view : View) → (sight_of opening events session).coming ≡ Some view → epoch ≤ safe_of (run opening events).now.words → epoch < view.stamp
 
 -- ---- of the copies of the index, and of searches
 -- so it is in each such life, with the overflow buckets and the log of its image

@@ -1,12 +1,33 @@
-//! Cuts, copies and links in the lives of opened stores.
+//! Phases, cuts, copies and links in the lives of opened stores.
+ghost use Rattle.law_commit.specs.Floor.OnPaper.{IsOnPaper};
+ghost use Rattle.law_commit.specs.PhaseVersions.{HasRisingPhase, RestsAreNext};
 ghost use Rattle.law_order.specs.Opened as opened;
 
 use crate::in_turn::law_phases_open;
 use crate::rules::{law_cuts_open, law_life_begins};
 use law_commit::{
-    law_copies_cover, law_cuts_stand, law_durable_stands, law_links_meet_empty, law_marks_stand,
+    law_copies_cover, law_cuts_stand, law_durable_stands, law_links_meet_empty,
+    law_lives_are_phases, law_marks_stand, law_phases_in_turn, law_stamps_are_loads,
     law_world_copied,
 };
+
+/// Each life of an opened store, with commits, crashes and failing calls of the device, is a run of the phases on paper, by events that are enabled there. At
+/// each moment the store is at one stage of the commit that is next. The version of the phase word never falls, and the word says rest only of the version
+/// behind the newest finished commit's number. The stamps of each session's views are the guard's loads of the phase. So they are above each safe epoch.
+pub fn law_stages_open()
+    ensures paper { opened.OfItsLives IsOnPaper }
+    ensures stages { opened.OfItsLives opened.IsAtAStage }
+    ensures rises { opened.OfItsLives HasRisingPhase }
+    ensures rests { opened.OfItsLives RestsAreNext }
+    ensures stamped { opened.StampsItsLoads }
+    ensures view { opened.OfItsSessions opened.GoesAboveSafe }
+    ensures coming { opened.OfItsSessions opened.ComesAboveSafe }
+{
+    law_life_begins();
+    law_lives_are_phases();
+    law_phases_in_turn();
+    law_stamps_are_loads();
+}
 
 /// In each life of an opened store, with commits, crashes and failing calls of the device, both cut words of a session and its owing word are what it has stored
 /// there last. Its durable word is what the keeper has: a point of the newest finished commit, or of the one whose words are stored. The cut word of the version
