@@ -1,6 +1,6 @@
--- What the laws of phases, cuts, copies and links say of the lives of opened stores.
+-- What the laws of phases, versions, cuts, copies and links say of the lives of opened stores.
 use Rattle.std.specs.List.{AllByRecursion}
-use Rattle.std.specs.Prelude.{◌≡◌, ◌≢◌, ◌<◌, ◌≤◌, ◌-◌, ℕ, List, Some, false, true}
+use Rattle.std.specs.Prelude.{◌≡◌, ◌≢◌, ◌<◌, ◌≤◌, ◌+◌, ◌-◌, ℕ, List, Some, false, length, true}
 use Rattle.fkv_checkpoint.specs.Fuzzy.{CopiedHaveStood, HomesOnce, NoneLeftOut}
 use Rattle.fkv_checkpoint.specs.declared.copying.CopyStep.TheVariants.{Ended}
 use Rattle.fkv_commit.specs.Cuts.{serial_said}
@@ -20,13 +20,15 @@ use Rattle.fkv_world.specs.Opened.{HasBecome}
 use Rattle.fkv_world.specs.OwnEvents.{session_events}
 use Rattle.fkv_world.specs.Runs.{World, run}
 use Rattle.fkv_world.specs.World.{Event, Now, seat_at}
-use Rattle.law_commit.specs.Accepted.{point}
+use Rattle.law_commit.specs.Accepted.{HasRisingVersion, NeverFall, point, serial_at}
 use Rattle.law_commit.specs.Copied.Covers.{CoverHeads, HasBegunFor, HasStoodSince, LeadIntoChains, before_copy}
 use Rattle.law_commit.specs.Copied.Runs.{copy_events, opening_copy, seen_by_copy}
 use Rattle.law_commit.specs.Cuts.{IsCutPlace, durable_at, life_leaving, serial_before, stored_by_keeper, stored_by_session, word_now}
 use Rattle.law_commit.specs.Linked.{HaveMetEmpty, MeetEmpty}
+use Rattle.law_commit.specs.PhaseVersions.{phase_version}
 use Rattle.law_commit.specs.Phases.Staged.{HasStage}
 use Rattle.law_commit.specs.Phases.Stamped.{SessionStamped, is_live}
+use Rattle.law_commit.specs.PrefixPast.{prefix_past}
 use Rattle.law_commit.specs.Views.{View, sight_of}
 use Rattle.law_guard.specs.Guarded.Shows.{seen_by_guard}
 use Rattle.law_log.specs.Ghosts.{Ghosts}
@@ -91,6 +93,27 @@ GoesAboveSafe opening events session first its = (epoch : ℕ) → is_live its �
 -- and so was the one that is coming
 abbrev pub ComesAboveSafe : World → List Event → ℕ → SessionState → SessionState → Type 0
 ComesAboveSafe opening events session first its = (epoch : ℕ) (view : View) → (sight_of opening events session).coming ≡ Some view → epoch ≤ safe_of (run opening events).now.words → epoch < view.stamp
+
+-- ---- of versions and serials
+-- its serial counts its updates
+abbrev pub CountsItsUpdates : World → List Event → ℕ → SessionState → SessionState → Type 0
+CountsItsUpdates opening events session first its = its.serial ≡ serial_at opening.now session + length ((prefix_past opening events).versions session)
+
+-- their versions never fall, and none is above its own
+abbrev pub UpdatesInOrder : World → List Event → ℕ → SessionState → SessionState → Type 0
+UpdatesInOrder opening events session first its = NeverFall its.seen.version.0 ((prefix_past opening events).versions session)
+
+-- its serial is its point of each version from its own on
+abbrev pub HasItsPoint : World → List Event → ℕ → SessionState → SessionState → Type 0
+HasItsPoint opening events session first its = (version : ℕ) → its.seen.version.0 ≤ version → point opening events session version ≡ its.serial
+
+-- its own never falls
+abbrev pub GoesUp : World → List Event → ℕ → SessionState → SessionState → Type 0
+GoesUp opening events session first its = HasRisingVersion (seat_at opening.now session) first (session_events opening session events)
+
+-- and is never above that of the phase word
+abbrev pub IsNotAhead : World → List Event → ℕ → SessionState → SessionState → Type 0
+IsNotAhead opening events session first its = its.seen.version.0 ≤ phase_version (run opening events).now.words
 
 -- ---- of the copies of the index, and of searches
 -- so it is in each such life, with the overflow buckets and the log of its image

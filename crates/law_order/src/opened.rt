@@ -1,4 +1,4 @@
-//! Phases, cuts, copies and links in the lives of opened stores.
+//! Phases, versions, cuts, copies and links in the lives of opened stores.
 ghost use Rattle.law_commit.specs.Floor.OnPaper.{IsOnPaper};
 ghost use Rattle.law_commit.specs.PhaseVersions.{HasRisingPhase, RestsAreNext};
 ghost use Rattle.law_order.specs.Opened as opened;
@@ -8,7 +8,7 @@ use crate::rules::{law_cuts_open, law_life_begins};
 use law_commit::{
     law_copies_cover, law_cuts_stand, law_durable_stands, law_links_meet_empty,
     law_lives_are_phases, law_marks_stand, law_phases_in_turn, law_stamps_are_loads,
-    law_world_copied,
+    law_versions_counted, law_world_copied,
 };
 
 /// Each life of an opened store, with commits, crashes and failing calls of the device, is a run of the phases on paper, by events that are enabled there. At
@@ -27,6 +27,20 @@ pub fn law_stages_open()
     law_lives_are_phases();
     law_phases_in_turn();
     law_stamps_are_loads();
+}
+
+/// In each such life the serial of a session is the one with which the life began, and one more for each update whose version is counted. The versions of its
+/// updates never fall, nor does its own, which is below none of them and not above the phase word's. Its serial is its point of each version from its own on.
+pub fn law_serials_open()
+    ensures counted { opened.OfItsSessions opened.CountsItsUpdates }
+    ensures risen { opened.OfItsSessions opened.UpdatesInOrder }
+    ensures point { opened.OfItsSessions opened.HasItsPoint }
+    ensures rises { opened.OfItsSessions opened.GoesUp }
+    ensures below { opened.OfItsSessions opened.IsNotAhead }
+{
+    law_life_begins();
+    law_phases_open();
+    law_versions_counted();
 }
 
 /// In each life of an opened store, with commits, crashes and failing calls of the device, both cut words of a session and its owing word are what it has stored
