@@ -4,8 +4,11 @@ mod Life
 mod LifeEvents
 mod LifeLogs
 mod Logs
+pub mod OfDevice
+pub mod OfFits
+pub mod OfMails
 pub mod OfSessions
-mod Openings
+pub mod Openings
 mod Rows
 mod Told
 mod TryRows

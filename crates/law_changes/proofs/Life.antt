@@ -78,6 +78,20 @@ changes_published : (opening : World) (ghosts : Ghosts) (before : List Event) (e
 changes_published opening ghosts before (Moves session) known = session_published (life_ghosts opening ghosts before).log (slice_get (run opening before).now.sessions session) (λ s found. known session s found)
 changes_published opening ghosts before event known = tt
 
+-- what an attempt is told leads to published records
+pub life_told : (opening : World) (start : ℕ) (lists : ℕ → List ℕ) (ghosts : Ghosts) (events : List Event) (session : ℕ) (s : SessionState) → BeginsLinked opening start lists ghosts → AreChangesPublished opening ghosts events
+    → slice_get (run opening events).now.sessions session ≡ Some s → is_attempting s.step ≡ true
+    → AttemptTold (life_ghosts opening ghosts events).log (run opening events).now.places s.attempt s.attempt.step (reply_to (run opening events).now.words (session_ask (seat_at (run opening events).now session) s))
+life_told opening start lists ghosts events session s begins published was attempts =
+    let n : Now = (run opening events).now in
+    let k : Seat = seat_at n session in
+    let log : Log = (life_ghosts opening ghosts events).log in
+    let head : ℕ = head_at log (home_attempted n s) in
+    let so : AttemptsSo k s = subst (λ (its : Seat). AttemptsSo its s) (sym (same_seat opening events session)) (life_attempts opening events session s begins.world was) in
+    let led : IsLed log head = (life_linked opening start lists ghosts events begins).begins (home_number (home_attempted n s)) in
+    session_told log k n.words s head attempts so (headers_lead opening start lists ghosts events session s begins published was attempts) led
+    (λ its searches. (life_found opening start lists ghosts events begins.now begins.index begins.unborn begins.reserves begins.heads session s its was searches).replied)
+
 -- ---- by each event
 module _ (opening : World) (start : ℕ) (lists : ℕ → List ℕ) (ghosts : Ghosts) (begins : BeginsLinked opening start lists ghosts) (before : List Event) (event : Event) (known : AllKnown opening ghosts before) (published : AreChangesPublished opening ghosts before) where
   abbrev W : World
@@ -106,12 +120,7 @@ module _ (opening : World) (start : ℕ) (lists : ℕ → List ℕ) (ghosts : Gh
     stays = stays_known NoneNeeded NoneNeeded (λ a. AttemptKnown L a) (λ a. AttemptKnown L' a) s (λ pending its. tt) (λ attempting its. grows s.attempt its) knows
 
     told : is_attempting s.step ≡ true → AttemptTold L N.places s.attempt s.attempt.step (reply_to N.words (session_ask K s))
-    told attempts =
-        let head : ℕ = head_at L (home_attempted N s) in
-        let so : AttemptsSo K s = subst (λ (k : Seat). AttemptsSo k s) (sym (same_seat opening before session)) (life_attempts opening before session s begins.world was) in
-        let led : IsLed L head = (life_linked opening start lists ghosts before begins).begins (home_number (home_attempted N s)) in
-        session_told L K N.words s head attempts so (headers_lead opening start lists ghosts before session s begins published was attempts) led
-        (λ its searches. (life_found opening start lists ghosts before begins.now begins.index begins.unborn begins.reserves begins.heads session s its was searches).replied)
+    told attempts = life_told opening start lists ghosts before session s begins published was attempts
 
     replied : SessionKnown L' (session_next K s (reply_to N.words (session_ask K s)))
     replied =

@@ -1,3 +1,4 @@
 pub mod Attempting
 pub mod Calm
 pub mod Comes
+pub mod Heads

@@ -45,7 +45,9 @@ use Rattle.law_refine.specs.Events.GhostEvents.{life_ghosts}
 use Rattle.law_refine.specs.Events.Published.{IsPublished}
 use Rattle.law_refine.specs.Events.Reserved.{tail_at}
 use Rattle.law_refine.specs.Heads.Searches.{IsHeadAnswered, IsHeadFound}
+use Rattle.law_refine.specs.Records.Cells.{ShowsCell}
 use Rattle.law_refine.specs.Records.Changes.{AreChangesPublished}
+use Rattle.law_refine.specs.Records.Frames.{words_framed}
 use Rattle.law_refine.proofs.OfEvents.Unborn.{ghost_unborn}
 use Rattle.law_refine.proofs.OfRecords.Frames.{finds_framed, frames_show_log, head_above}
 use Rattle.law_changes.specs.Laws.{BeginsLinked}
@@ -119,9 +121,15 @@ there log a Unborn e its = absurd its
 there log a (Reserved entry cell) e its = absurd its
 there log a (Dropped cell) e its = absurd its
 
-pub headers_lead : (opening : World) (start : ℕ) (lists : ℕ → List ℕ) (ghosts : Ghosts) (events : List Event) (session : ℕ) (s : SessionState) → BeginsLinked opening start lists ghosts → AreChangesPublished opening ghosts events
-    → slice_get (run opening events).now.sessions session ≡ Some s → is_attempting s.step ≡ true → HeadersLead (life_ghosts opening ghosts events).log (run opening events).now.places s.seen (run opening events).now.words
-headers_lead opening start lists ghosts events session s begins published found attempts = λ a at.
+-- what it finds in a frame at or above the head that it has seen
+pub record IsFramedCell (opening : World) (ghosts : Ghosts) (events : List Event) (a : ℕ) : Type 0 where
+  pub cell : Cell
+  pub published : (life_ghosts opening ghosts events).log.cells a ≡ Published cell
+  pub shows : ShowsCell (words_framed (run opening events).now a) cell
+
+pub framed_there : (opening : World) (start : ℕ) (lists : ℕ → List ℕ) (ghosts : Ghosts) (events : List Event) (session : ℕ) (s : SessionState) (a : ℕ) → BeginsLinked opening start lists ghosts → AreChangesPublished opening ghosts events
+    → slice_get (run opening events).now.sessions session ≡ Some s → is_attempting s.step ≡ true → IsAt (life_ghosts opening ghosts events).log s.seen.offsets.head.0 a → IsFramedCell opening ghosts events a
+framed_there opening start lists ghosts events session s a begins published found attempts at =
     let n : Now = (run opening events).now in
     let log : Log = (life_ghosts opening ghosts events).log in
     let its = there log a (log.cells a) refl at.0 in
@@ -132,5 +140,15 @@ headers_lead opening start lists ghosts events session s begins published found 
       | inl low ↦ low
       | inr up ↦ absurd (not_unborn (log.cells a) its.0 its.1 (ghost_unborn opening start ghosts events begins.now begins.unborn a up))
     ] in
-    let shows = frames_show_log opening start ghosts events begins.now begins.unborn begins.reserves published a its.0 (omega (arith, head, high)) (finds_framed opening start events session s begins.now found attempting a high below) its.1 in
-    subst (LeadsSaid log) (sym shows.header) ((life_linked opening start lists ghosts events begins).leads a its.0 its.1)
+    record {
+      cell = its.0;
+      published = its.1;
+      shows = frames_show_log opening start ghosts events begins.now begins.unborn begins.reserves published a its.0 (omega (arith, head, high)) (finds_framed opening start events session s begins.now found attempting a high below) its.1;
+    }
+
+pub headers_lead : (opening : World) (start : ℕ) (lists : ℕ → List ℕ) (ghosts : Ghosts) (events : List Event) (session : ℕ) (s : SessionState) → BeginsLinked opening start lists ghosts → AreChangesPublished opening ghosts events
+    → slice_get (run opening events).now.sessions session ≡ Some s → is_attempting s.step ≡ true → HeadersLead (life_ghosts opening ghosts events).log (run opening events).now.places s.seen (run opening events).now.words
+headers_lead opening start lists ghosts events session s begins published found attempts = λ a at.
+    let log : Log = (life_ghosts opening ghosts events).log in
+    let its = framed_there opening start lists ghosts events session s a begins published found attempts at in
+    subst (LeadsSaid log) (sym its.shows.header) ((life_linked opening start lists ghosts events begins).leads a its.cell its.published)

@@ -89,7 +89,7 @@ unfolding invalidate_ledto
 invalidate_same a (Done told) = refl
 invalidate_same a ask = refl
 
-append_same : (p : Places) (room : ℕ) (a : AppendState) (step : Appending) (reply : ℕ) → (appending_next p room a step reply).its_words ≡ a.its_words
+pub append_same : (p : Places) (room : ℕ) (a : AppendState) (step : Appending) (reply : ℕ) → (appending_next p room a step reply).its_words ≡ a.its_words
 unfolding appending_next
 append_same p room a (appending.Ended told) reply = refl
 append_same p room a appending.Reserves reply = reserve_same (record a { reserving = reserve_next a.reserving reply }) (reserve_next_ask room a.reserving reply)

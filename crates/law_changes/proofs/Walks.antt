@@ -52,15 +52,23 @@ WalkTold log p w (Meets addr) reply = LoadTold log w.head.0 w.loading reply
 WalkTold log p w step reply = ⊤
 
 -- ---- where it leads
-led_there : (log : Log) (a : ℕ) → (a == 0) ≡ false → IsLed log a → IsPublished (log.cells a)
+pub led_there : (log : Log) (a : ℕ) → (a == 0) ≡ false → IsLed log a → IsPublished (log.cells a)
 led_there log a other (inl none) = absurd (not_zero a none other)
   where
     not_zero : (n : ℕ) → n ≡ 0 → (n == 0) ≡ false → ⊥
     not_zero n none other = let zero : (0 == 0) ≡ false = subst (λ (x : ℕ). (x == 0) ≡ false) none other in cc
 led_there log a other (inr there) = there
 
-high : (a b : ℕ) → nat_lt a b ≡ false → b ≤ a
+pub high : (a b : ℕ) → nat_lt a b ≡ false → b ≤ a
 high a b e = grind (arith, nat_tests, e)
+
+pub passed_answer : {A B : Type 0} (ask : Ask A) (a b : B) → passed ask a ≡ Done b → b ≡ a
+unfolding passed
+passed_answer (Done its) a b e = cc
+passed_answer ask a b e = cc
+
+pub the_answer : (a b : WalkAnswer) → Done a ≡ Done b → a ≡ b
+the_answer a b e = cc
 
 module _ (log : Log) (p : Places) where
   reached_so : (w : WalkState) (addr : ℕ) → IsLed log (entry_addr w.entry) → IsLed log addr → WalkKnown log (reached p w addr)
@@ -144,14 +152,6 @@ module _ (log : Log) (p : Places) where
 
   contended : (w : WalkState) (its : WalkAnswer) → its ≡ answer.Contended → AnswerSo w its
   contended w its e = subst (AnswerSo w) (sym e) tt
-
-  passed_answer : {A B : Type 0} (ask : Ask A) (a b : B) → passed ask a ≡ Done b → b ≡ a
-  unfolding passed
-  passed_answer (Done its) a b e = cc
-  passed_answer ask a b e = cc
-
-  the_answer : (a b : WalkAnswer) → Done a ≡ Done b → a ≡ b
-  the_answer a b e = cc
 
   row_answers : (w : WalkState) (step : Walking) (its : WalkAnswer) → w.step ≡ step → WalkSo log w.head.0 w.loading step → walking_ask p w step ≡ Done its → AnswerSo w its
   unfolding walking_ask

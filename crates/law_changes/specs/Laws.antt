@@ -1,15 +1,20 @@
 -- What the laws say.
-use Rattle.std.specs.Prelude.{◌≡◌, ◌<◌, ℕ, List}
+use Rattle.std.specs.Prelude.{◌≡◌, ◌<◌, ℕ, List, []}
 use Rattle.fkv_flush.specs.GuardFlushed.{stands}
 use Rattle.fkv_world.specs.Opened.{IsOpenedWorld}
 use Rattle.fkv_world.specs.Runs.{World}
 use Rattle.fkv_world.specs.World.{Event}
+use Rattle.law_changes.specs.Fits.{CallsFit, CellsFit}
+use Rattle.law_changes.specs.Images.{IsInImage}
 use Rattle.law_changes.specs.Linked.{IsLinkedLog}
 use Rattle.law_guard.specs.Guarded.GuardEvents as guarded
+use Rattle.law_guard.specs.Guarded.OpenedStore.{IsOpenedStore}
 use Rattle.law_guard.specs.Guarded.Shows as guard
 use Rattle.law_guard.specs.Guarded.Shows.{guard_opening}
+use Rattle.law_log.specs.Chains.{Cell, Published}
 use Rattle.law_log.specs.Ghosts.{Ghosts}
 use Rattle.law_parts.specs.Index.Shows as index
+use Rattle.law_parts.specs.Mail.Shows as mail
 use Rattle.law_refine.specs.Events.GhostEvents.{life_ghosts}
 use Rattle.law_refine.specs.Events.Reserved.{IsUnbornFrom, ReservesNothing, tail_at}
 use Rattle.law_refine.specs.Heads.Heads.{LeadToHeads}
@@ -26,6 +31,15 @@ pub record BeginsLinked (opening : World) (start : ℕ) (lists : ℕ → List �
   pub reserves : ReservesNothing ghosts
   pub heads : LeadToHeads opening.now lists ghosts.log
   pub linked : IsLinkedLog ghosts.log
+
+-- It begins so beside a log with numbers that fit in words: the device has each of its records, and nothing has taken effect. Each session has its mailbox.
+pub record BeginsFitting (opening : World) (start : ℕ) (lists : ℕ → List ℕ) (ghosts : Ghosts) : Type 0 where
+  pub linked : BeginsLinked opening start lists ghosts
+  pub store : IsOpenedStore opening start
+  pub mailboxes : (session : ℕ) → session < opening.now.places.sessions → mail.IsOpened opening.now session
+  pub device : (a : ℕ) (cell : Cell) → ghosts.log.cells a ≡ Published cell → IsInImage opening.now.shape opening.past.opened a cell
+  pub fits : CellsFit ghosts.log
+  pub no_history : ghosts.log.history ≡ []
 
 -- the record that a session changes in place is published
 abbrev pub ChangesArePublished : Type 0
@@ -48,3 +62,9 @@ abbrev pub OldRecordsStay : Type 0
 OldRecordsStay =
     (opening : World) (start : ℕ) (lists : ℕ → List ℕ) (ghosts : Ghosts) (events : List Event) (a : ℕ) → BeginsLinked opening start lists ghosts → a < start
     → (life_ghosts opening ghosts events).log.cells a ≡ ghosts.log.cells a
+
+-- the records of the log keep numbers that fit in words, if those of all that is called do
+abbrev pub LogStaysFitting : Type 0
+LogStaysFitting =
+    (opening : World) (start : ℕ) (lists : ℕ → List ℕ) (ghosts : Ghosts) (events : List Event) → BeginsFitting opening start lists ghosts → CallsFit events
+    → CellsFit (life_ghosts opening ghosts events).log

@@ -6,7 +6,8 @@ use Rattle.fkv_flush.specs.GuardFlushed.{stands}
 use Rattle.fkv_opening.specs.Opened.{IsStoreOf}
 use Rattle.fkv_opening.specs.declared.opened_store.Opened.{Opened}
 use Rattle.fkv_world.specs.World.{Event, Now}
-use Rattle.law_changes.specs.Laws.{BeginsLinked}
+use Rattle.law_changes.specs.Fits.{CallsFit, CellsFit}
+use Rattle.law_changes.specs.Laws.{BeginsFitting, BeginsLinked}
 use Rattle.law_guard.specs.Guarded.GuardEvents as guarded
 use Rattle.law_guard.specs.Guarded.Shows.{guard_opening}
 use Rattle.law_opening.specs.Log.Lives.{ghosts_beside}
@@ -35,3 +36,14 @@ abbrev pub LivesKeepOldRecords : Type 0
 LivesKeepOldRecords =
     (o : Opened) (n : Now) (bytes : List ℕ) (events : List Event) (a : ℕ) → IsStoreOf bytes o → IsOpeningWorld o n → a < o.tail.0
     → (let beside = ghosts_beside o n bytes events in beside.log.cells a) ≡ (let first = opening_ghosts bytes o in first.log.cells a)
+
+-- a life of it begins with numbers that fit in words
+abbrev pub LivesBeginFitting : Type 0
+LivesBeginFitting =
+    (o : Opened) (n : Now) (bytes : List ℕ) → IsStoreOf bytes o → IsOpeningWorld o n → BeginsFitting (beginning n bytes) o.tail.0 (opening_lists o.entries.items) (opening_ghosts bytes o)
+
+-- and the records of its log keep such numbers
+abbrev pub LivesKeepFitting : Type 0
+LivesKeepFitting =
+    (o : Opened) (n : Now) (bytes : List ℕ) (events : List Event) → IsStoreOf bytes o → IsOpeningWorld o n → CallsFit events
+    → (let beside = ghosts_beside o n bytes events in CellsFit beside.log)

@@ -232,8 +232,8 @@ failed_gate begun s gate.SyncsClosed found here is its = rw here (inl its)
 failed_gate begun s gate.WritesBody found here is its = rw here (inl its)
 failed_gate begun s gate.SyncsBody found here is its = rw here (inl its)
 failed_gate begun s gate.Opens None here none its = rw (here, none) (inl its)
-failed_gate begun s gate.Opens (Some c) here found its = rw (here, found) (inr (record { newest = commit_opening s c; older = begun; its = refl; unfinished = refl; others = its }))
-failed_gate begun s gate.SyncsOpen found here is its = rw here (inr (record { newest = its.newest; older = its.older; its = its.its; unfinished = its.unfinished; others = its.others }))
+failed_gate begun s gate.Opens (Some c) here found its = rw (here, found) (inr (record { newest = commit_opening s c; older = begun; its = refl; unfinished = refl; unsealed = refl; others = its }))
+failed_gate begun s gate.SyncsOpen found here is its = rw here (inr (record { newest = its.newest; older = its.older; its = its.its; unfinished = its.unfinished; unsealed = its.is_so; others = its.others }))
 failed_gate begun s gate.Written found here is its = absurd its
 failed_gate begun s (gate.Broken why) found here is its = absurd its
 
@@ -327,7 +327,7 @@ gate_open begun s gate.SyncsClosed its = inl its
 gate_open begun s gate.WritesBody its = inl its
 gate_open begun s gate.SyncsBody its = inl its
 gate_open begun s gate.Opens its = inl its
-gate_open begun s gate.SyncsOpen its = inr (record { newest = its.newest; older = its.older; its = its.its; unfinished = its.unfinished; others = its.others })
+gate_open begun s gate.SyncsOpen its = inr (record { newest = its.newest; older = its.older; its = its.its; unfinished = its.unfinished; unsealed = its.is_so; others = its.others })
 gate_open begun s gate.Written its = absurd its
 gate_open begun s (gate.Broken why) its = absurd its
 

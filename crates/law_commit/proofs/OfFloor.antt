@@ -5,6 +5,7 @@ pub mod KeeperGoes
 pub mod KeeperOver
 pub mod KeeperPuts
 pub mod LifeFloor
+pub mod OnPaper
 pub mod Papers
 pub mod PartsFit
 pub mod Paths

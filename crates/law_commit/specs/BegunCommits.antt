@@ -157,12 +157,13 @@ pub record HaveFinished (begun : List BegunCommit) (finality : Finality) : Type 
   pub finished : AreFinished begun
   pub last : IsAsLast finality newest
 
--- So it is of all but the newest, which hasn't finished.
+-- So it is of all but the newest, which is neither sealed nor finished.
 pub record OneIsOpen (begun : List BegunCommit) (finality : Finality) : Type 0 where
   pub newest : BegunCommit
   pub older : List BegunCommit
   pub its : begun ≡ newest ∷ older
   pub unfinished : newest.is_finished ≡ false
+  pub unsealed : newest.is_sealed ≡ false
   pub others : HaveFinished older finality
 
 -- The newest is the commit in hand, with the triples, the points, the checkpoint and the lost ranges that are written, and it is sealed or not; all others

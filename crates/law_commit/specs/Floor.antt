@@ -1,1 +1,2 @@
+pub mod OnPaper
 pub mod Stands

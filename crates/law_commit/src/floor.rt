@@ -1,7 +1,17 @@
 //! The floor of each live session's view.
+ghost use Rattle.law_commit.specs.Floor.OnPaper.{LivesAreOnPaper};
 ghost use Rattle.law_commit.specs.Floor.Stands.{FloorAlwaysStands, ViewsAreNear};
 
 use law_paper::law_phases_are_seen;
+
+/// Each life of a store that opened at rest, as its sessions have seen, is a run of the phases on paper, whatever its calls, commits and the order of its
+/// steps. Each of its events is some on paper, which are enabled there: what its session does, the steps of the phase word, raises of the epoch, reservations,
+/// and what is safe then. What is on paper shows the life at each moment.
+pub fn law_lives_are_phases()
+    ensures { LivesAreOnPaper }
+{
+    law_phases_are_seen();
+}
 
 /// In each life of a store that opened at rest, as its sessions have seen, the view of each live session has its floor. The view is no older than wait-flush
 /// of the commit before. From in-progress on all have seen prepare, and a tail at or above the first address of the commit in hand. From wait-pending on

@@ -39,10 +39,10 @@ pub fn law_quiet_events_are_phases()
     ensures { QuietEventsAreShown }
 {}
 
-/// In each life of a store that opened at rest, as each does, whatever its calls, commits and the order of its steps, commits go through their stages one
-/// behind the other. The phase word says the phase of the stage, in the version of the commit that is next or the one behind it. At most one action that
-/// stores a phase is in a slot or in hand, and it stores the next phase. What the keeper is at fits the stage, and a commit in hand has the number that is
-/// next. So the version of the phase word never falls, and the word says rest only of the version behind the newest finished commit's number.
+/// In each life of a store that opened at rest, as each does, whatever its calls, commits and the order of its steps, at each moment the store is at one stage
+/// of the commit that is next. The phase word says the phase of the stage, in the version of that commit or the one behind it. At most one action that stores a
+/// phase is in a slot or in hand, and it stores the phase behind the stage's. What the keeper is at fits the stage, and a commit in hand has the number that is
+/// next. From moment to moment the version of the phase word never falls, and the word says rest only of the version behind the newest finished commit's number.
 pub fn law_phases_in_turn()
     ensures stages { phases.CommitsGoByStages }
     ensures rises { phases.PhaseVersionNeverFalls }

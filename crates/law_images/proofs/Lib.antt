@@ -19,6 +19,7 @@ mod NamedNow
 mod OpenedLong
 mod Ranges
 mod Reaching
+mod SealedStands
 mod Shows
 mod SlotSaid
 mod Tails

@@ -9,7 +9,7 @@ use Rattle.fkv_world.specs.Runs.{World, run}
 use Rattle.fkv_world.specs.World.{Event}
 use Rattle.law_commit.specs.BegunCommits.{BegunCommit, IsAsLast, commit_opened, life_begun}
 use Rattle.law_log.specs.Trace.{IsIn}
-use Rattle.law_images.proofs.NamedNow.{AllGood, Named, StandsUncalled, named_now, run_holds}
+use Rattle.law_images.proofs.NamedNow.{AllGood, Named, SealedStands, StandsUncalled, named_now, run_holds}
 use Rattle.law_images.proofs.Begun.{plain}
 use Rattle.law_images.proofs.BegunRun.{known}
 use Rattle.law_world.proofs.OfKeeper.OwnRun.{to_keeper}
@@ -27,16 +27,17 @@ AllOfLife opening Good events = AllGood opening.now.shape opening.now.places ope
 
 pub life_named : StandsUncalled → (opening : World) (Good : BegunCommit → Type 0) (events : List Event) (image : List ℕ) → IsLifeTold opening events → AllOfLife opening Good events
     → ((c : BegunCommit) → Good c → c.kind ≡ Full → c.checkpoint.triples ≤ most_triples opening.now.shape)
-    → calls_made opening.now.shape opening.now.places opening.now.keeper (keeper_events opening events) ≡ (run opening events).past.calls → MayLeave opening.past.opened (run opening events).past.calls image
+    → calls_made opening.now.shape opening.now.places opening.now.keeper (keeper_events opening events) ≡ (run opening events).past.calls → SealedStands (life_begun opening events) (life_writing opening events).first image
+    → MayLeave opening.past.opened (run opening events).past.calls image
     → IsOneInForce (is_life_writing opening events) (run opening events).now.keeper.last (life_standing opening events) (life_writing opening events).first image
     → TriplesStand opening.now.shape (run opening events).now.keeper.last.checkpoint (life_standing opening events) image
     → Named opening.now.shape opening.past.opened (commit_opened opening.now opening.past.opened) Good (life_begun opening events) image
-life_named gates opening Good events image life good fits calls left stands stand =
+life_named gates opening Good events image life good fits calls seals left stands stand =
     let s : KeeperState = keeper_after opening (keeper_events opening events) in
     let first : BegunCommit = commit_opened opening.now opening.past.opened in
     let holds = run_holds opening.now.shape opening.now.places opening.past.opened opening.now.keeper first Good life.told (opening_last opening) refl (keeper_events opening events) life.in_turn good in
     named_now opening.now.shape opening.past.opened first Good gates fits (is_life_writing opening events) s (life_standing opening events) (life_writing opening events)
-    (calls_made opening.now.shape opening.now.places opening.now.keeper (keeper_events opening events)) (life_begun opening events) image holds
+    (calls_made opening.now.shape opening.now.places opening.now.keeper (keeper_events opening events)) (life_begun opening events) image holds seals
     (subst (λ (m : List Call). MayLeave opening.past.opened m image) (sym calls) left)
     (to_keeper (λ (x : KeeperState). IsOneInForce (is_life_writing opening events) x.last (life_standing opening events) (life_writing opening events).first image) opening events stands)
     (to_keeper (λ (x : KeeperState). TriplesStand opening.now.shape x.last.checkpoint (life_standing opening events) image) opening events stand)

@@ -43,6 +43,10 @@ StandsUncalled =
     (w : CommitWriter) (opened : List ℕ) (before : List Call) (other : ℕ) (steps : List Bool) (image : List ℕ) → Begins w opened before other → MayLeave opened (commit_made w steps ++ before) image
     → has_begun w.gate.place (commit_made w steps) ≡ false → LastStands (reads_as opened before) other image
 
+-- a commit that is sealed and not finished stands, whole
+abbrev pub SealedStands : List BegunCommit → CommitWriter → List ℕ → Type 0
+SealedStands begun w image = (d : BegunCommit) (rest : List BegunCommit) → begun ≡ d ∷ rest → d.is_finished ≡ false → d.is_sealed ≡ true → NewStands w image
+
 not_both : (found : Option ℕ) (place other : ℕ) → AreTheSlots place other → found ≡ Some place → found ≡ Some other → ⊥
 not_both found place other slots one two =
     let same : place ≡ other = (let both : Some place ≡ Some other = sym one ∙ two in cc) in
@@ -64,6 +68,7 @@ module _ (shape : Shape) (opened : List ℕ) (first : BegunCommit) (Good : Begun
     pub commit : BegunCommit
     pub is_in : IsIn commit begun
     pub current : AreInTurn begun → (d : BegunCommit) → IsIn d begun → d.is_finished ≡ true → (let c = commit in d.number.0 ≤ c.number.0)
+    pub sealed : AreInTurn begun → (d : BegunCommit) → IsIn d begun → d.is_sealed ≡ true → (let c = commit in d.number.0 ≤ c.number.0)
     pub has : Has begun commit image
 
   -- ---- the newest finished one
@@ -77,6 +82,7 @@ module _ (shape : Shape) (opened : List ℕ) (first : BegunCommit) (Good : Begun
         commit = c;
         is_in = subst (λ (x : List BegunCommit). IsIn c x) (sym l.list) (inl refl);
         current = λ turn d is done. below c l.older (subst AreInTurn l.list turn) d (subst (λ (x : List BegunCommit). IsIn d x) l.list is);
+        sealed = λ turn d is done. below c l.older (subst AreInTurn l.list turn) d (subst (λ (x : List BegunCommit). IsIn d x) l.list is);
         has = record {
           in_force = force.in_force ∙ ap (λ (v : Version). Some (slot_place v)) (sym number);
           slot = subst (λ (bytes : List ℕ). HasSlot shape opened first Good c bytes) (sym slot) l.slot;
@@ -91,8 +97,8 @@ module _ (shape : Shape) (opened : List ℕ) (first : BegunCommit) (Good : Begun
   not_so b one other = let clash : true ≡ false = sym one ∙ other in cc
 
   -- though another has begun behind it
-  named_before : (begun rest : List BegunCommit) (c : BegunCommit) (image : List ℕ) → HasBegunFor begun rest c → Named rest image → Named begun image
-  named_before begun rest c image later is =
+  named_before : (begun rest : List BegunCommit) (c : BegunCommit) (image : List ℕ) (later : HasBegunFor begun rest c) → ((let n = later.newest in n.is_sealed ≡ true) → ⊥) → Named rest image → Named begun image
+  named_before begun rest c image later unsealed is =
       let d : BegunCommit = is.commit in
       let has = is.has in
       record {
@@ -101,6 +107,10 @@ module _ (shape : Shape) (opened : List ℕ) (first : BegunCommit) (Good : Begun
         current = λ turn e there done. elim (subst (λ (x : List BegunCommit). IsIn e x) later.its there) [
           | inl same ↦ absurd (not_so e.is_finished done (ap (λ (x : BegunCommit). x.is_finished) (sym same) ∙ later.unfinished))
           | inr other ↦ is.current (subst AreInTurn later.its turn).1 e other done
+        ];
+        sealed = λ turn e there done. elim (subst (λ (x : List BegunCommit). IsIn e x) later.its there) [
+          | inl same ↦ absurd (unsealed (subst (λ (x : BegunCommit). x.is_sealed ≡ true) (sym same) done))
+          | inr other ↦ is.sealed (subst AreInTurn later.its turn).1 e other done
         ];
         has = record {
           in_force = has.in_force;
@@ -166,6 +176,7 @@ module _ (shape : Shape) (opened : List ℕ) (first : BegunCommit) (Good : Begun
         commit = d;
         is_in = subst (λ (x : List BegunCommit). IsIn d x) (sym later.its) (inl refl);
         current = λ turn e there done. below d l.rest (subst AreInTurn later.its turn) e (subst (λ (x : List BegunCommit). IsIn e x) later.its there);
+        sealed = λ turn e there done. below d l.rest (subst AreInTurn later.its turn) e (subst (λ (x : List BegunCommit). IsIn e x) later.its there);
         has = record {
           in_force = new.in_force ∙ ap (λ (at : ℕ). Some at) place;
           slot = inl (slot, subst Good (sym later.same) l.good);
@@ -177,15 +188,19 @@ module _ (shape : Shape) (opened : List ℕ) (first : BegunCommit) (Good : Begun
 
   -- ---- either
   named_written : StandsUncalled → (last : Finality) (its : Standing) (w : Writing) (calls : List Call) (begun : List BegunCommit) (image : List ℕ) (l : IsLeft shape opened first Good last its w calls begun)
-      → (let c = l.commit in c.kind ≡ Full → c.checkpoint.triples ≤ most_triples shape) → MayLeave opened calls image → IsInForce last its image ⊎ NewStands w.first image → TriplesStand shape last.checkpoint its image → Named begun image
-  named_written gates last its w calls begun image l few left stands stand = by_called (is_called w) refl
+      → (let c = l.commit in c.kind ≡ Full → c.checkpoint.triples ≤ most_triples shape) → SealedStands begun w.first image → MayLeave opened calls image → IsInForce last its image ⊎ NewStands w.first image → TriplesStand shape last.checkpoint its image → Named begun image
+  named_written gates last its w calls begun image l few seals left stands stand = by_called (is_called w) refl
     where
       later_or : (b : Bool) → is_called w ≡ b → Lists b begun l.rest l.commit
       later_or b e = subst (λ (x : Bool). Lists x begun l.rest l.commit) e l.list
 
       by_called : (b : Bool) → is_called w ≡ b → Named begun image
       by_called true e = elim stands [
-        | inl old ↦ named_before begun l.rest l.commit image (later_or true e) (named_last last its l.rest image l.before old stand)
+        | inl old ↦
+            let later : HasBegunFor begun l.rest l.commit = later_or true e in
+            named_before begun l.rest l.commit image later
+            (λ is. not_both (manifest.newest image) w.first.gate.place (slot_place last.number) l.way.begins.ready.slots (seals later.newest l.rest later.its later.unfinished is).in_force old.in_force)
+            (named_last last its l.rest image l.before old stand)
         | inr new ↦ named_new last its w calls begun image l few (later_or true e) new stand
       ]
       by_called false e = elim stands [
@@ -196,12 +211,12 @@ module _ (shape : Shape) (opened : List ℕ) (first : BegunCommit) (Good : Begun
       ]
 
   pub named_now : StandsUncalled → ((c : BegunCommit) → Good c → c.kind ≡ Full → c.checkpoint.triples ≤ most_triples shape) → (was : Bool) (s : KeeperState) (its : Standing) (w : Writing) (calls : List Call) (begun : List BegunCommit) (image : List ℕ)
-      → Holds shape opened first Good was s its w calls begun → MayLeave opened calls image → IsOneInForce was s.last its w.first image → TriplesStand shape s.last.checkpoint its image → Named begun image
-  named_now gates fits was s its w calls begun image holds left stands stand = elim (either shape opened first Good was s its w calls begun s.step holds) [
+      → Holds shape opened first Good was s its w calls begun → SealedStands begun w.first image → MayLeave opened calls image → IsOneInForce was s.last its w.first image → TriplesStand shape s.last.checkpoint its image → Named begun image
+  named_now gates fits was s its w calls begun image holds seals left stands stand = elim (either shape opened first Good was s its w calls begun s.step holds) [
     | inl none ↦ named_last s.last its begun image none.1 (subst (λ (b : Bool). IsOneInForce b s.last its w.first image) none.0 stands) stand
     | inr some ↦
         let l = some.1 in
-        named_written gates s.last its w calls begun image l (fits l.commit l.good) left (subst (λ (b : Bool). IsOneInForce b s.last its w.first image) some.0 stands) stand
+        named_written gates s.last its w calls begun image l (fits l.commit l.good) seals left (subst (λ (b : Bool). IsOneInForce b s.last its w.first image) some.0 stands) stand
   ]
 
 -- ---- a run

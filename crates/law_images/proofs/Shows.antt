@@ -12,9 +12,10 @@ use Rattle.fkv_record.specs.Layout.{record_bytes}
 use Rattle.fkv_record.specs.Numbers.{spelled}
 use Rattle.fkv_record.specs.Places.{area_place, record_place}
 use Rattle.fkv_scan.specs.Log as scan
-use Rattle.law_images.specs.Left.{FitsWords}
+use Rattle.law_changes.proofs.OfDevice.Words.{value_fits}
+use Rattle.law_changes.specs.Fits.{CellFits}
 use Rattle.law_images.proofs.Ranges.{range_same}
-use Rattle.law_images.proofs.Words.{low_bytes, low_word, value_fits}
+use Rattle.law_images.proofs.Words.{low_bytes, low_word}
 use Rattle.law_log.specs.Chains.{Cell}
 use Rattle.law_opening.specs.Log.Records.{IsCellOf, cell_of}
 use Rattle.law_paper.specs.Paper.Images.{ShowsCell, ShowsDropped}
@@ -25,15 +26,15 @@ abbrev pub HasWords : scan.Log → ℕ → (RecordWord → ℕ) → Type 0
 HasWords image a words = bytes_at image.image (record_place image.shape a) 24 ≡ spelled (words rec.Header ∷ words rec.Key ∷ words rec.Value ∷ [])
 
 pub shows_words : (from : ℕ) (image : scan.Log) (a : ℕ) (words : RecordWord → ℕ) (cell : Cell) → HasWords image a words → IsHeaderOf cell false (words rec.Header) → words rec.Key ≡ cell.key → value_of (words rec.Value) ≡ cell.value
-    → FitsWords cell → ShowsCell from image a cell
+    → CellFits cell → ShowsCell from image a cell
 unfolding record_bytes
 shows_words from image a words cell there is key value fits = record {
   held = record {
     header = is.header;
     key = record { 0 = words rec.Key };
     value = words rec.Value;
-    key_fits = subst (λ (n : ℕ). n < 2 ^ 64) (sym key) fits.its_key;
-    value_fits = value_fits (words rec.Value) cell.value value fits.its_value;
+    key_fits = subst (λ (n : ℕ). n < 2 ^ 64) (sym key) fits.0;
+    value_fits = value_fits (words rec.Value) cell.value value fits.1;
   };
   stands = sym (there ∙ ap (λ (h : ℕ). spelled (h ∷ words rec.Key ∷ words rec.Value ∷ [])) is.spells);
   valid = is.bit;

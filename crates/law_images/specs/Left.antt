@@ -1,16 +1,13 @@
--- The images that a crash may leave of a life, and what is supposed of the numbers of the log beside it.
-use Rattle.std.specs.Prelude.{◌≡◌, ℕ, ◌<◌, ◌^◌, List, Option, Some}
+-- The images that a crash may leave of a life, and what is supposed of the opened bytes.
+use Rattle.std.specs.Prelude.{ℕ, List}
 use Rattle.fkv_core.specs.Openings.{beginning}
 use Rattle.fkv_creating.specs.Long.{IsLong}
 use Rattle.fkv_disk.specs.Calls.{MayLeave}
 use Rattle.fkv_flush.specs.GuardLevels.{levels_of}
 use Rattle.fkv_newest.specs.Newest.{IsNewestOf}
 use Rattle.fkv_newest.specs.declared.newest_slots.Newest.{Newest}
-use Rattle.fkv_opening.specs.declared.opened_store.Opened.{Opened}
 use Rattle.fkv_world.specs.Runs.{run}
 use Rattle.fkv_world.specs.World.{Event, Now}
-use Rattle.law_log.specs.Chains.{Cell, Published}
-use Rattle.law_opening.specs.Log.Lives.{ghosts_beside}
 
 -- a crash may leave this image behind these events
 abbrev pub IsLeft : Now → List ℕ → List Event → List ℕ → Type 0
@@ -25,16 +22,3 @@ pub record OpensLong (bytes : List ℕ) : Type 0 where
   pub newest : Newest
   pub its : IsNewestOf bytes newest
   pub long : IsLong bytes newest.shape newest.slot
-
--- a value is below 2^64, where there is one
-abbrev pub IsWord : Option ℕ → Type 0
-IsWord value = (n : ℕ) → value ≡ Some n → n < 2 ^ 64
-
--- a published record is of numbers that a word holds
-pub record FitsWords (cell : Cell) : Type 0 where
-  pub its_key : cell.key < 2 ^ 64
-  pub its_value : IsWord cell.value
-
--- so it is with each published record of the log beside a life
-abbrev pub FitsLog : Opened → Now → List ℕ → List Event → Type 0
-FitsLog o n bytes events = (a : ℕ) (cell : Cell) → (let beside = ghosts_beside o n bytes events in beside.log.cells a ≡ Published cell) → FitsWords cell

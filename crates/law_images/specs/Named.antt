@@ -37,12 +37,13 @@ pub record IsMadeBy (c : BegunCommit) (its : Checkpoint) (stored : List ℕ) : T
 abbrev pub AreTriplesOf : Shape → List ℕ → BegunCommit → List BegunCommit → Checkpoint → List ℕ → Type 0
 AreTriplesOf shape opened first begun its triples = ((c : BegunCommit) × IsIn c begun × IsMadeBy c its triples) ⊎ ((its ≡ first.checkpoint) × (triples ≡ triples_in shape opened its))
 
--- The newest slot of an image is that of a commit that has begun. No finished commit is newer. The triples of the checkpoint that it uses stand, and the image
--- reaches behind them.
+-- The newest slot of an image is that of a commit that has begun. No finished commit is newer, nor one whose open gate is synced. The triples of the checkpoint
+-- that it uses stand, and the image reaches behind them.
 pub record NamesBegun (n : Now) (bytes : List ℕ) (events : List Event) (image : List ℕ) : Type 0 where
   pub commit : BegunCommit
   pub begun : IsIn commit (begun_so_far n bytes events)
   pub current : (d : BegunCommit) → IsIn d (begun_so_far n bytes events) → d.is_finished ≡ true → (let c = commit in d.number.0 ≤ c.number.0)
+  pub sealed : (d : BegunCommit) → IsIn d (begun_so_far n bytes events) → d.is_sealed ≡ true → (let c = commit in d.number.0 ≤ c.number.0)
   pub in_force : (let c = commit in newest image ≡ Some (slot_place c.number))
   pub slot : (let c = commit in AreSlotOf n.shape bytes (commit_opened n bytes) c (slot_in image (slot_place c.number)))
   pub triples : (let c = commit in AreTriplesOf n.shape bytes (commit_opened n bytes) (begun_so_far n bytes events) c.checkpoint (triples_in n.shape image c.checkpoint))

@@ -2,13 +2,14 @@
 ghost use Rattle.law_images.specs.Laws.Records.{ImagesShowTheLog};
 
 use fkv_record::law_spellings_apart;
-use law_changes::law_lives_change_published;
+use law_changes::{law_lives_change_published, law_lives_fit};
 use law_opening::{law_guard_opens, law_log_begins, law_log_counted, law_log_opened};
 use law_refine::{law_device_shows_log, law_stands_show_log};
 
 /// In each image that a crash may leave of a life, commits and crashes anywhere, the records below the flushed offset stand as the log beside the life has
 /// them. A published one is valid, with its key, its value, its version and what it leads to. One that was given up has the invalid bit, leads below itself
-/// and has its version, so recovery passes over it. What the store was opened with stands as it was. The numbers of that log are ones that words hold.
+/// and has its version, so recovery passes over it. What the store was opened with stands as it was. The calls of the
+/// life are of numbers below 2^64, as all that a program can make are. So the log's numbers fit in words.
 pub fn law_images_show_log()
     ensures { ImagesShowTheLog }
 {
@@ -19,5 +20,6 @@ pub fn law_images_show_log()
     law_log_opened();
     law_device_shows_log();
     law_lives_change_published();
+    law_lives_fit();
     law_stands_show_log();
 }

@@ -1,5 +1,4 @@
 mod OfAsked
-mod OfFits
 mod OfKnown
 mod OfLooks
 mod OfOneHistory

@@ -1,7 +1,6 @@
 pub mod Beginning
 pub mod Cuts
 pub mod Decided
-pub mod Image
 pub mod InTime
 pub mod Kept
 mod ReadRuns

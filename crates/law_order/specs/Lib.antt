@@ -3,6 +3,7 @@ pub mod Decided
 pub mod InTurn
 pub mod Known
 pub mod OneHistory
+pub mod Opened
 pub mod Ordered
 pub mod Prefix
 pub mod Reads

@@ -10,6 +10,7 @@ mod known;
 mod looks;
 mod new_lives;
 mod one_history;
+mod opened;
 mod ordered;
 mod prefix;
 mod reads;
@@ -33,6 +34,9 @@ pub use known::law_sessions_begin;
 pub use looks::law_looks_true;
 pub use new_lives::law_life_exists;
 pub use one_history::law_order;
+pub use opened::{
+    law_copies_open, law_links_open, law_marks_open, law_serials_open, law_stages_open,
+};
 pub use ordered::{law_rules_kept, law_world_ordered};
 pub use prefix::{law_finished_is_told, law_join, law_lives, law_replays_kept};
 pub use reads::law_world_reads;

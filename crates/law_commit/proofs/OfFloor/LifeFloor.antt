@@ -63,6 +63,7 @@ use Rattle.law_commit.proofs.OfFloor.KeeperFits.{EndingFits, EnterFits, Ground, 
 use Rattle.law_commit.proofs.OfFloor.KeeperGoes.{KeeperReply, StoresReady, asked_fits, called_fits, commit_asked_fits, enter_puts_fit, given_fits, keeper_goes_fits, rest_fits, seek_puts_fit, start_puts_fit, turn_asked_fits, turn_puts_fit}
 use Rattle.law_commit.proofs.OfFloor.KeeperOver.{IsOver, hand_over, keeper_reply, over_fits}
 use Rattle.law_commit.proofs.OfFloor.KeeperPuts.{KeeperPuts, is_put, keeper_puts}
+use Rattle.law_commit.proofs.OfFloor.OnPaper.{LeadsHere, goes_on_paper}
 use Rattle.law_commit.proofs.OfFloor.Papers.{Papers, RaisedAt, one_more, staged_rank}
 use Rattle.law_commit.proofs.OfFloor.Paths.{Path, SameAddresses, ending_raises, ending_step, one_on, pending_raises, pending_step, prepares_step, progress_first, progress_step, raises_epoch, rests_step, runs_step, stores_epoch, waited_raises, waits_step}
 use Rattle.law_commit.proofs.OfPhases.LifeStages.{event_on, low_now}
@@ -162,6 +163,7 @@ ground_of p top = record { raises = p.raises; tail = p.tail; safe = p.safe; befo
 pub record Floored (opening : World) (start : ℕ) (events : List Event) (number : Version) (stage : Stage) (p : Phasing) : Type 0 where
   pub staged : IsStaged (run opening events).now number stage
   pub life : ShowsLife p opening events
+  pub on_paper : LeadsHere opening events p
   pub sound : paper.IsSound p
   pub papers : Papers p number stage
   pub fits : KeeperFits (ground_of p p.epoch) (run opening events).now.keeper
@@ -251,6 +253,7 @@ module _ (opening : World) (start : ℕ) (guarded : guard.IsOpened opening.now s
         its = record {
           staged = staged;
           life = rest.shows;
+          on_paper = goes_on_paper opening events event p (rest_events there.words q list) was.on_paper rest.enabled rest.shows;
           sound = paper_sound p (rest_events there.words q list) was.sound rest.enabled;
           papers = record { base = same.base ∙ path.papers.base; at = same.stage ∙ path.papers.at; raised = subst (λ (x : paper.Raises). RaisedAt after x) (sym same.raises) path.papers.raised };
           fits = over_fits (ground list) (ground_of r r.epoch) over (levels_of (seen_by_guard opening start (event ∷ events)).now.words) there.keeper shows.keeper.keeps.knows.its fits;

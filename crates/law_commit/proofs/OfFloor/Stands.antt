@@ -17,13 +17,15 @@ use Rattle.law_guard.specs.Guarded.Shows as guard
 use Rattle.law_guard.specs.Guarded.Shows.{seen_by_guard}
 use Rattle.law_paper.specs.Phases as paper
 use Rattle.law_paper.specs.Phases.{AreEnabled, Phasing, phase_run}
+use Rattle.law_commit.specs.Floor.OnPaper.{LivesAreOnPaper}
 use Rattle.law_commit.specs.Floor.Stands.{AreNear, FloorAlwaysStands, HasFloor, HasSeenEnd, IsWritten, OpensSeen, PaperHasFloor, PaperIsSound, SeesCommit, ViewsAreNear, stage_number}
-use Rattle.law_commit.specs.Phases.Projected.{BeginsAtRest, paper_view, phasing_opened}
+use Rattle.law_commit.specs.Phases.Projected.{BeginsAtRest, ShowsLife, paper_view, phasing_opened}
 use Rattle.law_commit.specs.Phases.Staged.{DefersPending, DefersProgress, Flushes, Pends, Prepares, Progresses, Rests, Stage}
 use Rattle.law_commit.specs.Views.{View, sight_of}
 use Rattle.law_commit.proofs.OfFloor.Armed.{ArmedSo}
 use Rattle.law_commit.proofs.OfFloor.KeeperFits.{Ground, KeeperFits, KeepingFits}
 use Rattle.law_commit.proofs.OfFloor.LifeFloor.{Floored, LifeFloored, event_floored, ground_of}
+use Rattle.law_commit.proofs.OfFloor.OnPaper.{begins_on_paper}
 use Rattle.law_commit.proofs.OfPhases.LifeStages.{opens_staged}
 use Rattle.law_commit.proofs.OfPhases.OpeningSound.{opening_sound}
 use Rattle.law_commit.proofs.OfPhases.SessionsShown.{opening_shown}
@@ -55,13 +57,15 @@ opening_floored opening start guarded opens =
     let n : Now = opening.now in
     let version : Version = record { 0 = n.keeper.last.number.0 + 1 } in
     let begins = opening_sound n start version guarded (begins_at_rest n opens) in
+    let shows : ShowsLife (phasing_opened n version) opening [] = record { words = begins.words; safe = refl; sessions = opening_shown opening } in
     record {
       number = version;
       stage = Rests;
       p = phasing_opened n version;
       its = record {
         staged = opens_staged n start guarded opens.rests;
-        life = record { words = begins.words; safe = refl; sessions = opening_shown opening };
+        life = shows;
+        on_paper = begins_on_paper opening shows;
         sound = begins.sound;
         papers = record { base = refl; at = refl; raised = (refl, refl, refl) };
         fits = opened_fits _ n.keeper guarded.keeper.none_in_hand guarded.keeper.no_commit;
@@ -75,6 +79,9 @@ life_floored opening start [] guarded opened opens paper_sound = opening_floored
 life_floored opening start (event ∷ before) guarded opened opens paper_sound =
     let past = life_floored opening start before guarded opened opens paper_sound in
     event_floored opening start guarded opened paper_sound before event past.number past.stage past.p past.its
+
+pub on_paper : PaperIsSound → LivesAreOnPaper
+on_paper paper_sound opening start events guarded opened opens = (life_floored opening start events guarded opened opens paper_sound).its.on_paper.paper
 
 -- ---- what a live session has seen
 none_enabled : (p : Phasing) → AreEnabled p []
@@ -90,15 +97,15 @@ module _ (opening : World) (start : ℕ) (events : List Event) (number : Version
   abbrev seen : View
   seen = (sight_of opening events session).view
 
-  on_paper : paper.HasFloor p (paper_view seen)
-  on_paper =
+  floor_shown : paper.HasFloor p (paper_view seen)
+  floor_shown =
       let shown = its.life.sessions.there session first its_state became in
       let floor = subst (λ (q : Phasing). paper.HaveFloor q) (run_none p) (paper_floor p [] its.sound (none_enabled p)) in
       subst (λ (v : paper.View). paper.HasFloor p v) (shown.view awake) (floor session (shown.live ∙ awake))
 
   pub has_floor : HasFloor number stage seen
   has_floor =
-      let floor = on_paper in
+      let floor = floor_shown in
       let base = its.papers.base in
       let at = its.papers.at in
       let low = floor.low in
@@ -113,7 +120,7 @@ module _ (opening : World) (start : ℕ) (events : List Event) (number : Version
   -- once the raise for the commit's end is safe
   seen_end : (c : Commit) → 0 < p.raises.ending → p.raises.ending ≤ p.safe → c.end.0 ≡ p.raises.end → HasSeenEnd number c seen
   seen_end c some safe end =
-      let it = on_paper.ending some safe in
+      let it = floor_shown.ending some safe in
       let base = its.papers.base in
       let rank = it.0 in
       let tail = it.1 in
@@ -142,7 +149,7 @@ module _ (opening : World) (start : ℕ) (events : List Event) (number : Version
       let same = hand.first c is in
       let safe = its.life.safe in
       record {
-        first = λ far. let it = (on_paper.in_progress (omega (arith, far, at))).1 in omega (arith, it, same);
+        first = λ far. let it = (floor_shown.in_progress (omega (arith, far, at))).1 in omega (arith, it, same);
         ending = λ has low.
             let ending = hand.points c is has in
             let epoch = ending.epoch_is in

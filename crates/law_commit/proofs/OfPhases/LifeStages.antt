@@ -1,4 +1,4 @@
--- In each life of a store that opens at rest the commits go through their stages.
+-- At each moment of a life of a store that opens at rest it is at a stage of the commit that is next.
 use Rattle.std.proofs.Common.{◌≡◌, inl, inr, ℕ, zero, suc, ◌+◌, ◌*◌, ◌<◌, ◌≤◌, ◌∙◌, List, [], ◌∷◌, length, refl, arith, sym, ap, subst, Bool, true, false}
 use Rattle.std.specs.Prelude.{if◌then◌else◌, replicate, Option, Some, None, slice_get}
 use Rattle.fkv_base.specs.Limits.{drain_slots}

@@ -87,12 +87,12 @@ given_same k s (Turns its) action = turned_same (record s { own_turn = own_turn_
 given_same k s step action = refl
 
 -- ---- one list of events behind another
-runs_on : (p : Phasing) (later before : List PhaseEvent) → phase_run p (later ++ before) ≡ phase_run (phase_run p before) later
+pub runs_on : (p : Phasing) (later before : List PhaseEvent) → phase_run p (later ++ before) ≡ phase_run (phase_run p before) later
 unfolding phase_run
 runs_on p [] before = refl
 runs_on p (event ∷ later) before = ap (λ (q : Phasing). phase_after q event) (runs_on p later before)
 
-enabled_on : (p : Phasing) (later before : List PhaseEvent) → AreEnabled (phase_run p before) later → AreEnabled p before → AreEnabled p (later ++ before)
+pub enabled_on : (p : Phasing) (later before : List PhaseEvent) → AreEnabled (phase_run p before) later → AreEnabled p before → AreEnabled p (later ++ before)
 unfolding AreEnabled phase_run
 enabled_on p [] before later_enabled enabled = enabled
 enabled_on p (event ∷ later) before later_enabled enabled = (enabled_on p later before later_enabled.0 enabled, subst (λ (q : Phasing). IsEnabled q event) (sym (runs_on p later before)) later_enabled.1)

@@ -40,7 +40,7 @@ abbrev pub OpeningShowsSessions : Type 0
 OpeningShowsSessions =
     (opening : World) → ShowsSessions (sessions_opened opening.now) opening []
 
--- commits go through their stages one behind the other
+-- at each moment the store is at a stage of the commit that is next
 abbrev pub CommitsGoByStages : Type 0
 CommitsGoByStages =
     (opening : World) (start : ℕ) (events : List Event) → IsOpened opening.now start → IsOpenedWorld opening → OpensAtRest opening.now → HasStage (run opening events).now

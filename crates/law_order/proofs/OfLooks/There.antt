@@ -39,10 +39,10 @@ use Rattle.law_changes.proofs.OfSessions.Attempting.{attempting_is}
 use Rattle.law_order.proofs.OfTruth.Attempts.{life_seen}
 use Rattle.law_order.proofs.OfKnown.Newest.{known_now}
 use Rattle.law_order.specs.Asked.Asked.{AsksForSought, outstanding}
-use Rattle.law_order.proofs.OfLooks.Heads.{head_flushed}
+use Rattle.law_changes.proofs.OfSessions.Heads.{head_flushed}
 use Rattle.law_order.proofs.OfLooks.LifeAsks.{IsAboutToAsk, was_or_comes}
-use Rattle.law_order.proofs.OfLooks.LifeMails.{life_mails}
-use Rattle.law_order.proofs.OfLooks.SessionMails.{asks_by_put}
+use Rattle.law_changes.proofs.OfMails.Life.{life_mails}
+use Rattle.law_changes.proofs.OfMails.SessionMails.{asks_by_put}
 
 -- the record at an address is published, and flushed
 pub record IsThere (opening : World) (ghosts : Ghosts) (events : List Event) (a : ℕ) : Type 0 where

@@ -20,8 +20,8 @@ use Rattle.law_order.specs.Rest.Resting.{HasNoCommit}
 use Rattle.law_order.proofs.OfRows.Rows.{rows_go_on}
 use Rattle.law_order.specs.Served.Fits.{CallsFit, CellsFit}
 use Rattle.law_order.specs.Served.Served.{ServedShow}
-use Rattle.law_order.proofs.OfServed.Device.{CallsLaw}
-use Rattle.law_order.proofs.OfServed.Words.{WordsLaw}
+use Rattle.law_changes.proofs.OfDevice.There.{CallsLaw}
+use Rattle.law_changes.proofs.OfDevice.Words.{WordsLaw}
 use Rattle.law_order.proofs.OfServed.Served.{served_show}
 use Rattle.law_order.proofs.OfTold.Enabled.{lines_enabled, mapped_crashed}
 use Rattle.law_order.proofs.OfTruth.Truth.{words_true}

@@ -1,18 +1,11 @@
 -- What a life without commits begins with, beside the log of the order law.
-use Rattle.std.specs.Prelude.{◌≡◌, ℕ, ◌<◌, List, [], ◌∷◌}
+use Rattle.std.specs.Prelude.{◌≡◌, ℕ, ◌<◌, List}
 use Rattle.fkv_base.specs.declared.numbers.Version.{Version}
-use Rattle.fkv_base.specs.declared.shapes.Shape.{Shape}
-use Rattle.fkv_disk.specs.Bytes.{bytes_at}
 use Rattle.fkv_map.specs.Map.{Map}
-use Rattle.fkv_ops.specs.Values.{value_of}
+use Rattle.law_changes.specs.Images.{IsInImage}
 use Rattle.law_log.specs.Chains.{Cell, Published}
 use Rattle.law_log.specs.Ghosts.{Ghosts}
 use Rattle.law_log.specs.Enabled as order
-use Rattle.fkv_plane.specs.declared.places.RecordWord.{RecordWord}
-use Rattle.fkv_plane.specs.declared.places.RecordWord.TheVariants as rec
-use Rattle.fkv_record.specs.Numbers.{spelled}
-use Rattle.fkv_record.specs.Places as image
-use Rattle.law_local.specs.Tries.MailRows.{LeadsTo}
 use Rattle.fkv_world.specs.Opened.{IsOpenedWorld}
 use Rattle.fkv_world.specs.Runs.{World}
 use Rattle.law_guard.specs.Guarded.OpenedStore.{IsOpenedStore}
@@ -27,14 +20,6 @@ use Rattle.law_order.specs.Rest.Resting.{RestsIn}
 -- the home of a key in the store of a world
 abbrev pub home_of_world : World → ℕ → ℕ
 home_of_world w = home_in w.now.shape.bucket_bits
-
--- The bytes have the record at its place: three words of which the first leads where the record does, and the others are its key and its value.
-pub record IsInImage (shape : Shape) (bytes : List ℕ) (a : ℕ) (cell : Cell) : Type 0 where
-  pub words : RecordWord → ℕ
-  pub leads : LeadsTo cell.previous (words rec.Header)
-  pub key : words rec.Key ≡ cell.key
-  pub value : value_of (words rec.Value) ≡ cell.value
-  pub there : bytes_at bytes (image.record_place shape a) 24 ≡ spelled (words rec.Header ∷ words rec.Key ∷ words rec.Value ∷ [])
 
 -- A store was just opened, with its records' end at `start`: to the engine, the guard, the index (whose overflow buckets follow in these lists) and each
 -- mailbox. It rests in a version. The log is one with which the order law begins, from a map and in a version of its own; it has fixed what lies below the

@@ -11,13 +11,14 @@ use Rattle.law_commit.specs.BegunCommits.{BegunCommit, commit_opened}
 use Rattle.law_guard.specs.Guarded.OpenedStore.{IsOpenedStore}
 use Rattle.law_images.specs.Fits.{FitsLife}
 use Rattle.law_images.specs.Left.{flushed_so_far}
-use Rattle.law_images.specs.Named.{AreSlotOf, slot_of}
+use Rattle.law_images.specs.Named.{AreSlotOf, begun_so_far, slot_of}
 use Rattle.law_images.proofs.AtRest.{opens_at_rest, world_opens}
 use Rattle.law_images.proofs.Begun.{HasSlot}
 use Rattle.law_images.proofs.LifeFits.{life_fits, of_plain}
 use Rattle.law_images.proofs.LifeNamed.{life_known, life_named}
+use Rattle.law_images.proofs.SealedStands.{sealed_stands}
 use Rattle.law_opening.specs.Lives.OpenedFrom.{IsOpenedFrom}
-use Rattle.law_world.specs.Keeper.Lives.{IsLifeTold}
+use Rattle.law_world.specs.Keeper.Lives.{IsLifeTold, life_writing}
 use Rattle.law_images.proofs.fits.law_commits_fit.Goals as goal
 
 slot_either : (o : Opened) (n : Now) (flushed : ℕ) (opened : List ℕ) (first c : BegunCommit) (bytes : List ℕ) → HasSlot n.shape opened first (FitsLife o n flushed) c bytes
@@ -56,7 +57,8 @@ returns-clause-named c = λ o n bytes events image store begins long left.
     let rests = opens_at_rest o n begins in
     let life : IsLifeTold opening events = record { opened = world; told = told; in_turn = c.law_begun.ensures.numbers opening o.tail.0 events world opened.now rests } in
     let fits = life_fits o n bytes events begins life c.law_of_slots.ensures.room (λ before event. c.law_world_is_guarded.ensures.rises opening o.tail.0 before (event ∷ []) opened.now) in
-    let named = life_named c.law_gates.ensures.begun opening (FitsLife o n flushed) events image life fits (λ it good. good.room) (c.law_world_one_commit_stands.ensures.calls opening events world) left
+    let seals = sealed_stands (begun_so_far n bytes events) (run opening events).now.keeper (run opening events).now.keeper.step (life_writing opening events).first image (c.law_begun.ensures.begun opening events world) (c.law_world_one_commit_stands.ensures.written opening events image life left) in
+    let named = life_named c.law_gates.ensures.begun opening (FitsLife o n flushed) events image life fits (λ it good. good.room) (c.law_world_one_commit_stands.ensures.calls opening events world) seals left
     (c.law_world_one_commit_stands.ensures.stands opening events image life left) (c.law_world_one_commit_stands.ensures.triples opening events image life left) in
     let has = named.has in
     record {
@@ -64,6 +66,7 @@ returns-clause-named c = λ o n bytes events image store begins long left.
         commit = named.commit;
         begun = named.is_in;
         current = named.current (c.law_begun.ensures.in_turn opening o.tail.0 events world opened.now rests);
+        sealed = named.sealed (c.law_begun.ensures.in_turn opening o.tail.0 events world opened.now rests);
         in_force = has.in_force;
         slot = slot_only o n flushed bytes (commit_opened n bytes) named.commit (slot_in image (let it = named.commit in slot_place it.number)) has.slot;
         triples = has.triples;

@@ -5,17 +5,18 @@ use Rattle.fkv_keeper.specs.LastCommits.{slot_place}
 use Rattle.fkv_manifest.specs.Newest.{slot_in}
 use Rattle.fkv_world.specs.OwnEvents.{keeper_events}
 use Rattle.fkv_world.specs.Opened.{IsOpenedWorld}
-use Rattle.fkv_world.specs.Runs.{World}
+use Rattle.fkv_world.specs.Runs.{World, run}
 use Rattle.law_commit.specs.BegunCommits.{BegunCommit, commit_opened}
 use Rattle.law_guard.specs.Guarded.OpenedStore.{IsOpenedStore}
 use Rattle.law_images.proofs.AtRest.{opens_at_rest, world_opens}
 use Rattle.law_images.proofs.Begun.{HasSlot}
 use Rattle.law_images.proofs.AreaFits.{FitsArea, all_good, begun_fits}
 use Rattle.law_images.proofs.LifeNamed.{life_named}
-use Rattle.law_images.specs.Named.{AreSlotOf}
+use Rattle.law_images.proofs.SealedStands.{sealed_stands}
+use Rattle.law_images.specs.Named.{AreSlotOf, begun_so_far}
 use Rattle.fkv_base.specs.declared.shapes.Shape.{Shape}
 use Rattle.law_opening.specs.Lives.OpenedFrom.{IsOpenedFrom}
-use Rattle.law_world.specs.Keeper.Lives.{IsLifeTold}
+use Rattle.law_world.specs.Keeper.Lives.{IsLifeTold, life_writing}
 use Rattle.law_images.proofs.named.law_images_name_a_begun.Goals as goal
 
 slot_either : (shape : Shape) (opened : List ℕ) (first : BegunCommit) (Good : BegunCommit → Type 0) (c : BegunCommit) (bytes : List ℕ) → HasSlot shape opened first Good c bytes → AreSlotOf shape opened first c bytes
@@ -32,13 +33,15 @@ returns c = λ o n bytes events image store begins long left.
     let rests = opens_at_rest o n begins in
     let life : IsLifeTold opening events = record { opened = world; told = told; in_turn = c.law_begun.ensures.numbers opening o.tail.0 events world opened.now rests } in
     let fits = all_good n.shape n.places n.keeper (FitsArea n.shape) (λ event before commit waits writes found. begun_fits n.shape n.places n.keeper event before commit opened.now.keeper told.buckets told.overflow waits writes found) (keeper_events opening events) in
-    let named = life_named c.law_gates.ensures.begun opening (FitsArea n.shape) events image life fits (λ it good. good) (c.law_world_one_commit_stands.ensures.calls opening events world) left
+    let seals = sealed_stands (begun_so_far n bytes events) (run opening events).now.keeper (run opening events).now.keeper.step (life_writing opening events).first image (c.law_begun.ensures.begun opening events world) (c.law_world_one_commit_stands.ensures.written opening events image life left) in
+    let named = life_named c.law_gates.ensures.begun opening (FitsArea n.shape) events image life fits (λ it good. good) (c.law_world_one_commit_stands.ensures.calls opening events world) seals left
     (c.law_world_one_commit_stands.ensures.stands opening events image life left) (c.law_world_one_commit_stands.ensures.triples opening events image life left) in
     let has = named.has in
     record {
       commit = named.commit;
       begun = named.is_in;
       current = named.current (c.law_begun.ensures.in_turn opening o.tail.0 events world opened.now rests);
+      sealed = named.sealed (c.law_begun.ensures.in_turn opening o.tail.0 events world opened.now rests);
       in_force = has.in_force;
       slot = slot_either n.shape bytes (commit_opened n bytes) (FitsArea n.shape) named.commit (slot_in image (let it = named.commit in slot_place it.number)) has.slot;
       triples = has.triples;

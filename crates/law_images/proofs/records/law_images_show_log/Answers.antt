@@ -62,7 +62,7 @@ returns c = λ o n bytes events image store begins long fits left shape.
             (subst (λ (s : Shape). bytes_at image.image (record_place s a) 24 ≡ bytes_at bytes (record_place s a) 24) (begins.its_shape ∙ sym was_shape) same) (counted.published a cell was_there)
         | inr high ↦
             let its = shows a cell high e in
-            shows_words o.tail.0 image a (words a) cell (there a high to) (headers.published a cell high e) its.key its.value (fits a cell e)
+            shows_words o.tail.0 image a (words a) cell (there a high to) (headers.published a cell high e) its.key its.value (c.law_lives_fit.ensures.fit o n bytes events store begins fits a cell e)
       ];
       dropped = λ a cell e from to young. shows_given_up image a (words a) cell (there a from to) (headers.dropped a cell from e) young;
     }

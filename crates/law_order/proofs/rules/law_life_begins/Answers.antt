@@ -1,6 +1,8 @@
 -- The law, by those of its parts.
 use Rattle.std.proofs.Common.{sym, subst, arith}
 use Rattle.fkv_base.specs.declared.shapes.Shape.{Shape}
+use Rattle.law_changes.proofs.OfDevice.Image.{in_image}
+use Rattle.law_changes.proofs.OfDevice.Mailboxes.{mailboxes_empty}
 use Rattle.law_log.specs.Enabled.{IsOpened}
 use Rattle.law_parts.proofs.OfMail.Openings.{opened_mailbox}
 use Rattle.law_refine.specs.Events.GhostEvents.{home_in}
@@ -8,8 +10,7 @@ use Rattle.law_opening.specs.Log.Maps.{opening_map}
 use Rattle.law_opening.specs.Log.OpeningLog.{opening_ghosts}
 use Rattle.law_order.specs.Rules.Ordered.{opening_version}
 use Rattle.law_order.proofs.OfRules.Beginning.{cells_rest, world_opens}
-use Rattle.law_order.proofs.OfRules.Image.{in_image}
-use Rattle.law_order.proofs.OfRules.Words.{mailboxes_empty, rests_in}
+use Rattle.law_order.proofs.OfRules.Words.{rests_in}
 use Rattle.law_order.proofs.rules.law_life_begins.Goals as goal
 
 pub returns : goal.returns

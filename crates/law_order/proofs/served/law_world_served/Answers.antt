@@ -7,4 +7,4 @@ returns-clause-served c = λ life events was fits enabled published.
     served_show c.law_world_flushed_is_synced.ensures.calls c.law_mail.ensures.words life events was fits enabled published
 
 pub returns-clause-fit : goal.returns-clause-fit
-returns-clause-fit c = λ life events was fits enabled. cells_fit life events was fits enabled
+returns-clause-fit c = λ life events was fits enabled. cells_fit c.law_world_flushed_is_synced.ensures.calls c.law_mail.ensures.words life events was fits

@@ -39,7 +39,7 @@ use Rattle.fkv_session.specs.SessionRun.{SessionEvent, Begins, Replies, Gets, be
 use Rattle.fkv_session.specs.Sessions.{SessionState, Seat, bits_of, room_of, is_busy, answers, answers_after_turn, request_in_hand, attempts, polls_request, polls_at, refuses, refusal_of, op_begun, refresh_call, poll_begun, poll_call, sleep_call, wake_call, call_begun, session_begun, session_next, session_given, attempt_left, serial_taken, update_done, ticket_after, is_no_room, with_request, accepts, shifts, attempted, attempt_ledto, caught_up, catch_ledto, clear_ledto, is_finished, is_owed, request_finished, finishes_request, lacks_room, keeps_request, poll_ledto, turn_ledto, leave_ledto, attempt_moved, caught, own_turn_moved, sitting_next, sitting_given, asks_after, is_word_ask, session_ask, IsOpened}
 use Rattle.law_local.specs.Sessions.Known.{attempt_comes_to, is_attempting}
 use Rattle.law_parts.specs.Mail.Mailers.{attempt_mailing, session_mailing, sitting_mailing}
-use Rattle.law_order.proofs.OfLooks.AttemptMails.{AttemptLooks, LooksAlone, begun_looks, is_putting, next_looks, next_puts}
+use Rattle.law_changes.proofs.OfMails.AttemptMails.{AttemptLooks, LooksAlone, begun_looks, is_putting, next_looks, next_puts}
 
 -- a poll that begins lets a record go with a machine that puts nothing
 abbrev pub MailsAt : SessionState → Sitting → Type 0

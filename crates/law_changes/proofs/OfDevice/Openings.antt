@@ -1,27 +1,17 @@
 -- The numbers of an opened store's log fit in words, since its records stand in the image.
-use Rattle.std.proofs.Common.{ℕ, ◌<◌, ◌^◌, sym, subst, Bool, true, false, List}
-use Rattle.std.specs.Prelude.{None, Some, if◌then◌else◌, ◌==◌}
-use Rattle.fkv_map.specs.Map.{absent_word}
+use Rattle.std.proofs.Common.{ℕ, sym, subst, List}
 use Rattle.fkv_opening.specs.Opened.{IsStoreOf}
 use Rattle.fkv_opening.specs.declared.opened_store.Opened.{Opened}
-use Rattle.fkv_ops.specs.Values.{value_of}
 use Rattle.fkv_pairs.specs.Pairs.{log_of_store}
 use Rattle.fkv_record.specs.declared.records.Record.{Record}
 use Rattle.law_opening.specs.Log.OpeningLog.{opening_ghosts, opening_log}
 use Rattle.law_opening.specs.Log.Records.{HasWhatCounts, IsCellOf, cell_of}
-use Rattle.law_order.specs.Served.Fits.{CellFits, CellsFit, ValueFits}
-
--- the value that a word stands for
-value_fits : (word : ℕ) → word < 2 ^ 64 → ValueFits (value_of word)
-value_fits word fits = by_test (word == absent_word)
-  where
-    by_test : (absent : Bool) → ValueFits (if absent then None else Some word)
-    by_test true = tt
-    by_test false = fits
+use Rattle.law_changes.proofs.OfFits.Numbers.{said_fits}
+use Rattle.law_changes.specs.Fits.{CellFits, CellsFit}
 
 -- a record as a cell
 record_fits : (version : ℕ) (x : Record) → CellFits (cell_of version x)
-record_fits version x = (x.key_fits, value_fits x.value x.value_fits)
+record_fits version x = (x.key_fits, said_fits x.value x.value_fits)
 
 -- where the log has the records of the image that count, and no others
 pub cells_fit_opened : (bytes : List ℕ) (o : Opened) (store : IsStoreOf bytes o) → HasWhatCounts (log_of_store bytes o store) (opening_log bytes o) → CellsFit (opening_ghosts bytes o).log

@@ -1,12 +1,11 @@
 -- The updates that the lines of a life call are of numbers that fit, where the calls of its events are.
-use Rattle.std.proofs.Common.{◌≡◌, ℕ, sym, subst, Bool, true, false, List, [], ◌∷◌, ◌++◌}
-use Rattle.std.specs.Prelude.{⊤, if◌then◌else◌, length, Option, Some, None, slice_get}
+use Rattle.std.proofs.Common.{◌≡◌, ℕ, sym, subst, Bool, true, false, cond, List, [], ◌∷◌, ◌++◌}
+use Rattle.std.specs.Prelude.{⊤, ◌&&◌, nat_eq, if◌then◌else◌, length, Option, Some, None, slice_get}
 use Rattle.fkv_map.specs.declared.operations.Call.{Call}
 use Rattle.fkv_map.specs.declared.operations.Call.TheVariants as call
 use Rattle.fkv_map.specs.declared.operations.Op.{Op}
 use Rattle.fkv_map.specs.declared.operations.Op.TheVariants.{Upsert, Delete, Add, Max, Read}
-use Rattle.law_log.specs.Ghosts.{Ghosts}
-use Rattle.law_log.specs.Trace.{TraceLine}
+use Rattle.law_log.specs.Trace.{TraceLine, CallsUpdate, RefusesUpdate, GivesResult, CallsRead, AnswersRead, called_as}
 use Rattle.fkv_keeper.specs.declared.keepers.Keeping.{Keeping}
 use Rattle.fkv_keeper.specs.declared.keepers.Keeping.TheVariants.{Ended}
 use Rattle.fkv_keeper.specs.Keeping.{Finality}
@@ -23,13 +22,38 @@ use Rattle.fkv_world.specs.Past.{Traced, TraceEvent, Called, Answered, CommitAsk
 use Rattle.fkv_world.specs.Runs.{World, happens, run}
 use Rattle.fkv_world.specs.World.{Event, Calls, Moves, Commits, Turns, KeeperMoves, Crashes, Now}
 use Rattle.law_world.proofs.OfRuns.Added.{trace_so}
-use Rattle.law_refine.specs.Events.GhostEvents.{serials_in, life_ghosts}
+use Rattle.law_refine.specs.Calls.Calls.{lines_of_life}
+use Rattle.law_refine.specs.Events.GhostEvents.{serials_in}
 use Rattle.law_refine.specs.Events.Lines.{CallMade, op_line, call_lines, finished_line, finished_lines, refused_op, refused_call, refused_lines, answer_lines, event_lines, lines_of, last_call, next_serial}
-use Rattle.law_refine.proofs.OfEvents.Trace.{ghost_trace}
 use Rattle.fkv_map.specs.Fits.{OpFits}
-use Rattle.law_order.specs.Served.Fits.{CallFits, CallsFit, EventFits}
-use Rattle.law_order.proofs.OfServed.LogFits.{LineFits, LinesFit}
+use Rattle.law_changes.specs.Fits.{CallFits, CallsFit, EventFits}
 
+-- each update that these lines call is of numbers that fit
+abbrev pub LineFits : TraceLine → Type 0
+LineFits (CallsUpdate session serial op) = OpFits op
+LineFits line = ⊤
+
+abbrev pub LinesFit : List TraceLine → Type 0
+LinesFit [] = ⊤
+LinesFit (line ∷ before) = LineFits line × LinesFit before
+
+abbrev pub FoundFits : Option Op → Type 0
+FoundFits None = ⊤
+FoundFits (Some op) = OpFits op
+
+found_fits : (t : Bool) (one other : Option Op) → FoundFits one → FoundFits other → FoundFits (cond t one other)
+found_fits true one other fits others = fits
+found_fits false one other fits others = others
+
+pub called_fits : (trace : List TraceLine) (session serial : ℕ) → LinesFit trace → FoundFits (called_as trace session serial)
+called_fits [] session serial fits = tt
+called_fits (CallsUpdate s n op ∷ before) session serial fits = found_fits (nat_eq s session && nat_eq n serial) (Some op) (called_as before session serial) fits.0 (called_fits before session serial fits.1)
+called_fits (RefusesUpdate s n ∷ before) session serial fits = found_fits (nat_eq s session && nat_eq n serial) None (called_as before session serial) tt (called_fits before session serial fits.1)
+called_fits (GivesResult s n reply ∷ before) session serial fits = called_fits before session serial fits.1
+called_fits (CallsRead reader key ∷ before) session serial fits = called_fits before session serial fits.1
+called_fits (AnswersRead reader reply ∷ before) session serial fits = called_fits before session serial fits.1
+
+-- ---- a trace
 -- the calls that a trace has
 abbrev IsTracedFit : TraceEvent → Type 0
 IsTracedFit (Called session its) = CallFits its
@@ -160,6 +184,5 @@ unfolding lines_of
 lines_fit first [] fits = tt
 lines_fit first (it ∷ before) fits = both_lines (event_lines first before it.its) (lines_of first before) (event_fits first before it.its fits.0) (lines_fit first before fits.1)
 
-pub life_lines_fit : (opening : World) (ghosts : Ghosts) (events : List Event) → opening.past.trace ≡ [] → ghosts.trace ≡ [] → CallsFit events → LinesFit (life_ghosts opening ghosts events).trace
-life_lines_fit opening ghosts events none untold fits =
-    subst LinesFit (sym (ghost_trace opening ghosts events none untold)) (lines_fit (serials_in opening.now) (run opening events).past.trace (trace_fits opening events none fits))
+pub life_lines_fit : (opening : World) (events : List Event) → opening.past.trace ≡ [] → CallsFit events → LinesFit (lines_of_life opening events)
+life_lines_fit opening events none fits = lines_fit (serials_in opening.now) (run opening events).past.trace (trace_fits opening events none fits)

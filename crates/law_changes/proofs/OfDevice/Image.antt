@@ -18,7 +18,7 @@ use Rattle.fkv_record.specs.declared.records.Record.{Record}
 use Rattle.law_local.specs.Tries.MailRows.{LeadsTo}
 use Rattle.fkv_words.specs.Layout.{header_word}
 use Rattle.fkv_world.specs.World.{Now}
-use Rattle.law_order.specs.Known.Begins.{IsInImage}
+use Rattle.law_changes.specs.Images.{IsInImage}
 use Rattle.law_refine.proofs.OfRecords.Numbers.{filled_shows}
 
 -- a record's three words

@@ -14,7 +14,7 @@ use Rattle.fkv_record.specs.Numbers.{spelled}
 use Rattle.law_parts.specs.Mail.MailEvents.{record_read}
 use Rattle.law_parts.specs.Mail.Servers.{record_of}
 use Rattle.fkv_map.specs.Fits.{NumberFits}
-use Rattle.law_order.specs.Served.Fits.{ValueFits}
+use Rattle.law_changes.specs.Fits.{ValueFits}
 
 -- ---- a word of a record that fits
 pub header_fits : (word : ℕ) (previous : Addr) (version : Version) → header_said word ≡ Says previous version → NumberFits word

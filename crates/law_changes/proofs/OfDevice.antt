@@ -1,0 +1,6 @@
+pub mod Bytes
+pub mod Image
+pub mod Mailboxes
+pub mod Openings
+pub mod There
+pub mod Words

@@ -1,0 +1,14 @@
+pub mod Attempts
+pub mod Effects
+pub mod Events
+pub mod Held
+pub mod Life
+pub mod Lines
+pub mod Logs
+pub mod Mails
+pub mod Numbers
+pub mod Rows
+pub mod Taken
+pub mod Told
+pub mod Tries
+pub mod Walks

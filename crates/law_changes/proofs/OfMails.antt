@@ -1,0 +1,3 @@
+pub mod AttemptMails
+pub mod Life
+pub mod SessionMails
