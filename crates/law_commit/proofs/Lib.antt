@@ -12,6 +12,7 @@ pub mod OfDecided
 pub mod OfFloor
 pub mod OfLinked
 pub mod OfPhases
+pub mod OfPoints
 pub mod OfShares
 pub mod OfQuiet
 pub mod OfVersions

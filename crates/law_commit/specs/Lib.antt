@@ -10,6 +10,7 @@ pub mod Linked
 pub mod PhaseStores
 pub mod PhaseVersions
 pub mod Phases
+pub mod Points
 pub mod PrefixPast
 pub mod Quiet
 pub mod Raises

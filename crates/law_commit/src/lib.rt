@@ -8,6 +8,7 @@ mod floor;
 mod laws;
 mod linked;
 mod phases;
+mod points;
 mod quiet;
 mod shares;
 mod versions;
@@ -28,6 +29,7 @@ pub use phases::{
     law_phases_in_turn, law_quiet_events_are_phases, law_replies_keep_stamps, law_runs_are_safe,
     law_sessions_are_phases, law_stamps_are_loads,
 };
+pub use points::{law_points_between, law_points_taken};
 pub use quiet::{law_cuts_show_points, law_versions_end};
 pub use shares::law_shares_not_missed;
 pub use versions::{law_points_split, law_versions_bounded};

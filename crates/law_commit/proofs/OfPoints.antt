@@ -1,0 +1,9 @@
+pub mod AsTaken
+pub mod Asked
+pub mod Begun
+pub mod GoOn
+pub mod Rises
+pub mod Starting
+pub mod Taken
+pub mod Taking
+pub mod Words
