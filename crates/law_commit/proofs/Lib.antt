@@ -14,6 +14,7 @@ pub mod OfLinked
 pub mod OfPhases
 pub mod OfPoints
 pub mod OfShares
+pub mod OfTold
 pub mod OfQuiet
 pub mod OfVersions
 mod OwnTurnStores

@@ -2,6 +2,7 @@ pub mod AsTaken
 pub mod Asked
 pub mod Begun
 pub mod GoOn
+pub mod Last
 pub mod Rises
 pub mod Starting
 pub mod Taken

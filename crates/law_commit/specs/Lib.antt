@@ -16,6 +16,7 @@ pub mod Quiet
 pub mod Raises
 pub mod Ranks
 pub mod Shares
+pub mod ToldDurable
 pub mod ToldPoints
 pub mod Versions
 pub mod Views

@@ -92,3 +92,15 @@ UpToGiven =
 -- and no more than its point of a later version
 abbrev pub RisesByVersion : Type 0
 RisesByVersion = (opening : World) (events : List Event) (session version later : ℕ) → version ≤ later → point opening events session version ≤ point opening events session later
+
+-- ---- and the commit before it
+-- the points of the newest finished commit are those of its number
+abbrev pub LastHasPoints : Type 0
+LastHasPoints =
+    (opening : World) (start : ℕ) (events : List Event) → OpensPointed opening start → ArePointsOf opening events (run opening events).now.keeper.last.number.0 (run opening events).now.keeper.last.points
+
+-- those of the commit in hand are no less
+abbrev pub RisesFromLast : Type 0
+RisesFromLast =
+    (opening : World) (start : ℕ) (events : List Event) (c : Commit) (session : ℕ) → OpensPointed opening start → (run opening events).now.keeper.commit ≡ Some c → (run opening events).now.keeper.has_points ≡ true
+    → point_of (run opening events).now.keeper.last.points session ≤ point_of (run opening events).now.keeper.seek.points session

@@ -4,6 +4,7 @@ pub mod Decided
 pub mod Image
 pub mod InTime
 pub mod Kept
+pub mod Points
 mod ReadRuns
 pub mod Rests
 pub mod SameEntries

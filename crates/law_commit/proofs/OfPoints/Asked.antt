@@ -78,7 +78,7 @@ absent_event w event i none = by_crash w.now.crashed refl
     by_crash true over = ap (λ (x : World). slice_get x.now.sessions i) (is_over w event over) ∙ none
     by_crash false alive = ap (λ (n : Now). slice_get n.sessions i) (lives w event alive) ∙ absent_goes w.now (read_by_keeper w) event i none
 
-absent_now : (opening : World) (events : List Event) (i : ℕ) → slice_get opening.now.sessions i ≡ None → slice_get (run opening events).now.sessions i ≡ None
+pub absent_now : (opening : World) (events : List Event) (i : ℕ) → slice_get opening.now.sessions i ≡ None → slice_get (run opening events).now.sessions i ≡ None
 unfolding run
 absent_now opening [] i none = none
 absent_now opening (event ∷ before) i none = absent_event (run opening before) event i (absent_now opening before i none)

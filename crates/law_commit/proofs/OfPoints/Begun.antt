@@ -71,7 +71,7 @@ module _ (live : LiveAreLater) (paper_sound : PaperIsSound) (cuts_show : CutsSho
       let own : List KeeperEvent = keeper_events opening before in
       let all = weaker (Pointed before) P (life_begun opening before) (pointed_on event before) (all_pointed before) in
       let now = to_keeper (λ (s : KeeperState). s.step ≡ Writes → (c : Commit) → s.commit ≡ Some c → P c.number.0 s.seek.points) opening before
-          (λ writes c is. pointed_on event before c.number.0 (run opening before).now.keeper.seek.points (writes_pointed before writes c is)) in
+      (λ writes c is. pointed_on event before c.number.0 (run opening before).now.keeper.seek.points (writes_pointed before writes c is)) in
       by_event P (λ (part : List KeeperEvent). AllBegun P (commits_begun opening.now.shape opening.now.places opening.now.keeper first (part ++ own))) (run opening before) event
       (λ done bytes. call_all P opening.now.shape opening.now.places opening.now.keeper first done bytes own now all)
       (λ part none. others_all P opening.now.shape opening.now.places opening.now.keeper first part own none all)

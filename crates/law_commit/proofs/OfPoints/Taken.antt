@@ -221,8 +221,7 @@ module _ (live : LiveAreLater) (paper_sound : PaperIsSound) (cuts_show : CutsSho
       first_told at loads first was =
           let rank = pends_rank (seek_at at).0 (here at seek.LoadsCut loads).0 in
           let is : reply ≡ first_cut opening events session version = read (session_place session (cut_of version)) (asks_first n.shape n.places n.keeper at loads) in
-          let from : pending_rank version ≤ rank_now opening events = omega (arith, rank) in
-          (
+          let from : pending_rank version ≤ rank_now opening events = omega (arith, rank) in (
             (λ same. record {
               from = from;
               is = λ other found. ap serial_said is ∙ first_says version (At events version session) (small events version session first was) (first_cut opening events session version) (other_cut opening events session version)
@@ -233,7 +232,7 @@ module _ (live : LiveAreLater) (paper_sound : PaperIsSound) (cuts_show : CutsSho
               meets = λ other found pending. subst (λ (word : ℕ). Meets version (At events version session) word (first_cut opening events session version) (other_cut opening events session version)) (sym is)
                   (first_meets version (At events version session) (small events version session first was) (first_cut opening events session version) (other_cut opening events session version) (few_versions first was rank)
                   (shown events version session first was rank) (λ same. apart (ap version_said is ∙ same)));
-            })
+            }),
           )
 
       other_told : (met : ℕ) → n.keeper.step ≡ Seeks → n.keeper.seek.step ≡ seek.LoadsOther met → Met events version session met → (first : SessionState) → slice_get opening.now.sessions session ≡ Some first
@@ -243,8 +242,7 @@ module _ (live : LiveAreLater) (paper_sound : PaperIsSound) (cuts_show : CutsSho
           let is : reply ≡ other_cut opening events session version = read (session_place session (other_cut_of version)) (asks_other n.shape n.places n.keeper met at loads) in
           let from : pending_rank version ≤ rank_now opening events = omega (arith, rank) in
           let said = ap version_said is in
-          let meets = known.meets first was rank in
-          (
+          let meets = known.meets first was rank in (
             (λ low. record {
               from = from;
               is = λ other found. ap (λ (word : ℕ). max (serial_said met) (serial_said word)) is
@@ -253,7 +251,7 @@ module _ (live : LiveAreLater) (paper_sound : PaperIsSound) (cuts_show : CutsSho
             (λ later. record {
               from = from;
               says = λ other found pending. goes_again version (At events version session) (small events version session first was) met (first_cut opening events session version) (other_cut opening events session version) meets (omega (arith, said, later));
-            })
+            }),
           )
 
       again_told : n.keeper.step ≡ Seeks → n.keeper.seek.step ≡ seek.LoadsAgain → Again events version session → (first : SessionState) → slice_get opening.now.sessions session ≡ Some first

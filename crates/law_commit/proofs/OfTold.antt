@@ -1,0 +1,5 @@
+pub mod Loads
+pub mod News
+pub mod Numbers
+pub mod Other
+pub mod Sealed
