@@ -55,9 +55,9 @@ module _ (session : ℕ) where
   with_other finished its before other = refl
 
   one_quiet : (event : TraceEvent) (finished : ℕ) (before : List ToldPoint) → IsQuiet event → with_point session event finished before ≡ before
-  one_quiet (Answered number its) finished before quiet = by_number (session == number) refl
+  one_quiet (Answered number its) finished before quiet = by_number (number == session) refl
     where
-      by_number : (same : Bool) → (session == number) ≡ same → (if same then with_durable finished its.its before else before) ≡ before
+      by_number : (same : Bool) → (number == session) ≡ same → (if same then with_durable finished its.its before else before) ≡ before
       by_number true e = let same : number ≡ session = grind (arith, nat_tests, e) in with_other finished its.its before (quiet same)
       by_number false e = refl
   one_quiet (Called number call) finished before quiet = refl
@@ -112,11 +112,15 @@ module _ (opening : World) (opened : IsOpenedWorld opening) (event : Event) (bef
     pub point : its.point ≡ word_now opening before (session_place session own.Durable)
     pub finished : its.finished ≡ finishes_at_call session trace
 
+  -- nothing more is told, or that word
+  abbrev pub IsToldMore : List ToldPoint → Type 0
+  IsToldMore points = (points ≡ points_told session trace) ⊎ ((new : ToldPoint) × (points ≡ new ∷ points_told session trace) × IsNew new)
+
   abbrev Tells : List TraceEvent → Type 0
-  Tells events = (its : ToldPoint) (effects : ℕ) → IsIn its (points_told session (told_at effects events ++ trace)) → IsIn its (points_told session trace) ⊎ IsNew its
+  Tells events = (effects : ℕ) → IsToldMore (points_told session (told_at effects events ++ trace))
 
   quiet_tells : (events : List TraceEvent) → AllQuiet session events → Tells events
-  quiet_tells events quiet its effects there = inl (subst (λ (xs : List ToldPoint). IsIn its xs) (all_quiet session effects events trace quiet) there)
+  quiet_tells events quiet effects = inl (all_quiet session effects events trace quiet)
 
   -- ---- if there is such a session
   module _ (first : SessionState) (was : slice_get opening.now.sessions session ≡ Some first) where
@@ -133,28 +137,22 @@ module _ (opening : World) (opened : IsOpenedWorld opening) (event : Event) (bef
     is_next = session_runs opening session first (event ∷ before) was
 
     durable_tells : (serial : Serial) (finished : List Finished) → is_busy state.step ≡ true → next.step ≡ Idle (told.Durable serial) → Tells (Answered session (telling (told.Durable serial) finished) ∷ [])
-    durable_tells serial finished busy is its effects there = by_same (session == session) refl there
+    durable_tells serial finished busy is effects = by_same (session == session) refl
       where
-        by_same : (same : Bool) → (session == session) ≡ same
-            → IsIn its (if same then with_durable (finishes_at_call session trace) (told.Durable serial) (points_told session trace) else points_told session trace) → IsIn its (points_told session trace) ⊎ IsNew its
-        by_same true e (inl same) =
+        by_same : (same : Bool) → (session == session) ≡ same → IsToldMore (if same then with_durable (finishes_at_call session trace) (told.Durable serial) (points_told session trace) else points_told session trace)
+        by_same true e =
             let load = event_told opening before session first was (opened.sessions session first was) event serial busy is in
-            inr (record {
-              there = (first, was);
-              point = sym (ap (λ (x : ToldPoint). x.point) same) ∙ load.word;
-              finished = sym (ap (λ (x : ToldPoint). x.finished) same);
-            })
-        by_same true e (inr other) = inl other
-        by_same false e other = inl other
+            inr (record { point = serial.0; finished = finishes_at_call session trace }, refl, record { there = (first, was); point = load.word; finished = refl })
+        by_same false e = inl refl
 
     answer_tells : (busy : Bool) (step : Sitting) (finished : List Finished) → is_busy state.step ≡ busy → next.step ≡ step → Tells (call_answered session busy step finished ++ [])
-    answer_tells false step finished busy is = λ its effects there. inl there
+    answer_tells false step finished busy is = λ effects. inl refl
     answer_tells true (Idle its) finished busy is = by_told its is
       where
         by_told : (it : Told) → next.step ≡ Idle it → Tells (Answered session (telling it finished) ∷ [])
         by_told (told.Durable serial) at = durable_tells serial finished busy at
         by_told it at = quiet_tells (Answered session (telling it finished) ∷ []) ((λ same. tt), tt)
-    answer_tells true step finished busy is = λ its effects there. inl there
+    answer_tells true step finished busy is = λ effects. inl refl
 
     own_tells : Tells (session_answered session (is_calling false (slice_get n.sessions session)) (slice_get after.sessions session) ++ [])
     own_tells =
@@ -250,5 +248,17 @@ module _ (opening : World) (opened : IsOpenedWorld opening) (event : Event) (bef
   unfolding run
   trace_now = trace_so (run opening before) event
 
+  -- what it was told behind the event
+  pub told_more : IsToldMore (points_told session (run opening (event ∷ before)).past.trace)
+  told_more = subst (λ (xs : List Traced). IsToldMore (points_told session xs)) (sym trace_now) (event_tells (length (run opening (event ∷ before)).past.history))
+
+  among : (its : ToldPoint) (points : List ToldPoint) → IsToldMore points → IsIn its points → IsIn its (points_told session trace) ⊎ IsNew its
+  among its points (inl same) there = inl (subst (λ (xs : List ToldPoint). IsIn its xs) same there)
+  among its points (inr new) there = by_place (subst (λ (xs : List ToldPoint). IsIn its xs) new.1 there)
+    where
+      by_place : IsIn its (new.0 ∷ points_told session trace) → IsIn its (points_told session trace) ⊎ IsNew its
+      by_place (inl same) = inr (subst IsNew same new.2)
+      by_place (inr other) = inl other
+
   pub told_now : (its : ToldPoint) → IsIn its (points_told session (run opening (event ∷ before)).past.trace) → IsIn its (points_told session trace) ⊎ IsNew its
-  told_now its there = event_tells its (length (run opening (event ∷ before)).past.history) (subst (λ (xs : List Traced). IsIn its (points_told session xs)) trace_now there)
+  told_now its there = among its (points_told session (run opening (event ∷ before)).past.trace) told_more there

@@ -64,16 +64,13 @@ all_next (c ∷ []) all turn = finished_on c [] all.1 tt tt
 all_next (c ∷ d ∷ older) all turn = finished_on c (d ∷ older) all.1 (finished_next c d older all.2.1 turn.0) (all_next (d ∷ older) all.2 turn.1)
 
 -- ---- of those that were told
+told_event : (event : TraceEvent) (base finishes : ℕ) (before : List ToldCommit) → (AreNext before → HeadIs (base + finishes) before) → AreNext (with_told event before) → HeadIs (base + and_one_finished event finishes) (with_told event before)
+told_event (KeeperAnswered (Turned true full) last) base finishes before head next = let up = next_head (told_of last) (base + finishes) before next.0 (head next.1) in omega (arith, up)
+told_event event base finishes before head next = head next
+
 told_head : (trace : List Traced) (first : ToldCommit) → AreNext (commits_told trace (first ∷ [])) → HeadIs (first.number.0 + finishes_told trace) (commits_told trace (first ∷ []))
 told_head [] first next = omega arith
-told_head (it ∷ before) first next = by_event it.its next
-  where
-    by_event : (event : TraceEvent) → AreNext (with_told event (commits_told before (first ∷ []))) → HeadIs (first.number.0 + and_one_finished event (finishes_told before)) (with_told event (commits_told before (first ∷ [])))
-    by_event (KeeperAnswered (Turned true full) last) turn =
-        let head = told_head before first turn.1 in
-        let up = next_head (told_of last) (first.number.0 + finishes_told before) (commits_told before (first ∷ [])) turn.0 head in
-        omega (arith, up)
-    by_event event turn = told_head before first turn
+told_head (it ∷ before) first next = told_event it.its first.number.0 (finishes_told before) (commits_told before (first ∷ [])) (told_head before first) next
 
 same_head : (begun : List BegunCommit) (newest : BegunCommit) (trace : List Traced) (first : ToldCommit) → AreFinished begun → AreInTurn begun → HeadIs newest.number.0 (commits_finished begun) → commits_finished begun ≡ commits_told trace (first ∷ [])
     → newest.number.0 ≡ first.number.0 + finishes_told trace

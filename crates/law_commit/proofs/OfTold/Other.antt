@@ -236,10 +236,10 @@ pub record IsLoad (s : SessionState) (event : SessionEvent) (serial : Serial) : 
   pub loads : s.step ≡ LoadsDurable
   pub reply : event ≡ Replies serial.0
 
-not_other : {X : Type 0} (step : Sitting) (serial : Serial) → step ≡ Idle (told.Durable serial) → OtherAt step → X
+pub not_other : {X : Type 0} (step : Sitting) (serial : Serial) → step ≡ Idle (told.Durable serial) → OtherAt step → X
 not_other step serial is other = absurd (subst OtherAt is other)
 
-idle_busy : {X : Type 0} (step : Sitting) (its : Told) → is_busy step ≡ true → step ≡ Idle its → X
+pub idle_busy : {X : Type 0} (step : Sitting) (its : Told) → is_busy step ≡ true → step ≡ Idle its → X
 idle_busy step its busy is = let idle : is_busy step ≡ false = ap is_busy is in let clash : true ≡ false = sym busy ∙ idle in cc
 
 loaded : (k : Seat) (s : SessionState) (asks : ℕ) (step : Sitting) (reply : ℕ) (serial : Serial) → s.step ≡ step → is_busy step ≡ true → TurnAt step → (sitting_next k (record s { asks = asks; effect = None }) step reply).step ≡ Idle (told.Durable serial)
