@@ -1,3 +1,4 @@
+pub mod Falls
 pub mod Loads
 pub mod News
 pub mod Numbers

@@ -1,11 +1,13 @@
 -- What sessions were told as durable: their points in sealed commits.
-use Rattle.std.specs.Prelude.{◌≡◌, ◌+◌, ◌≤◌, ℕ, true, List}
+use Rattle.std.specs.Prelude.{◌≡◌, ◌+◌, ◌<◌, ◌≤◌, ⊤, ℕ, true, List, [], ◌∷◌}
 use Rattle.fkv_map.specs.History.{point_of}
+use Rattle.fkv_plane.specs.declared.places.SessionWord.TheVariants.{Durable}
+use Rattle.fkv_plane.specs.Places.{session_place}
 use Rattle.fkv_world.specs.Runs.{World, run}
 use Rattle.fkv_world.specs.World.{Event}
 use Rattle.law_log.specs.Trace.{IsIn}
 use Rattle.law_commit.specs.BegunCommits.{BegunCommit, life_begun}
-use Rattle.law_commit.specs.Cuts.{ShowsDurable}
+use Rattle.law_commit.specs.Cuts.{ShowsDurable, word_now}
 use Rattle.law_commit.specs.Points.{OpensPointed}
 use Rattle.law_commit.specs.ToldPoints.{ToldPoint, points_told}
 
@@ -23,3 +25,14 @@ abbrev pub TellsSealedPoints : Type 0
 TellsSealedPoints =
     (opening : World) (start : ℕ) (events : List Event) (session : ℕ) (told : ToldPoint) → OpensPointed opening start → ShowsDurable opening.now → IsIn told (points_told session (run opening events).past.trace)
     → IsSealedPoint opening events session told
+
+-- of points that were told, the newest first, none is more than the one told next, and the newest is no more than this
+abbrev pub NoneFalls : ℕ → List ToldPoint → Type 0
+NoneFalls most [] = ⊤
+NoneFalls most (told ∷ before) = (told.point ≤ most) × NoneFalls told.point before
+
+-- what a session was told never falls, and is no more than its durable word
+abbrev pub ToldNeverFalls : Type 0
+ToldNeverFalls =
+    (opening : World) (start : ℕ) (events : List Event) (session : ℕ) → OpensPointed opening start → ShowsDurable opening.now → session < opening.now.places.sessions
+    → NoneFalls (word_now opening events (session_place session Durable)) (points_told session (run opening events).past.trace)

@@ -1,5 +1,5 @@
 //! What sessions were told as durable.
-ghost use Rattle.law_commit.specs.ToldDurable.{TellsSealedPoints};
+ghost use Rattle.law_commit.specs.ToldDurable.{TellsSealedPoints, ToldNeverFalls};
 
 use crate::cuts::law_durable_stands;
 use crate::laws::law_begun;
@@ -11,6 +11,14 @@ pub fn law_told_are_sealed()
     ensures { TellsSealedPoints }
 {
     law_begun();
+    law_durable_stands();
+    law_points_taken();
+}
+
+/// In each such life no answer to a session tells less as durable than an earlier one. None tells more than the session's durable word, which never falls.
+pub fn law_told_never_falls()
+    ensures { ToldNeverFalls }
+{
     law_durable_stands();
     law_points_taken();
 }

@@ -20,7 +20,7 @@ pub use decided::{
     law_addresses_taken, law_chains_below, law_commits_decided, law_commits_settled,
     law_later_above,
 };
-pub use durable::law_told_are_sealed;
+pub use durable::{law_told_are_sealed, law_told_never_falls};
 pub use floor::law_floor_stands;
 pub use laws::{
     law_begun, law_of_worked_pasts, law_of_worked_pieces, law_phase_stored, law_versions_counted,

@@ -36,8 +36,8 @@ pub use new_lives::law_life_exists;
 pub use one_history::law_order;
 pub use ordered::{law_rules_kept, law_world_ordered};
 pub use prefix::{
-    law_commits_in_turn, law_durable_is_sealed, law_finished_is_told, law_join, law_lives,
-    law_points_are_fair, law_replays_kept,
+    law_commits_in_turn, law_durable_is_sealed, law_durable_never_falls, law_finished_is_told,
+    law_join, law_lives, law_points_are_fair, law_replays_kept,
 };
 pub use reads::law_world_reads;
 pub use rest::{law_life_rests, law_log_rests, law_rest_said};

@@ -1,11 +1,14 @@
 //! The law of prefixes: what follows of its parts. The law itself is `PrefixLaw`, of which not all is proved yet.
 ghost use Rattle.law_order.specs.OneHistory.EachLife.{InEachLife};
+ghost use Rattle.law_order.specs.Prefix.Durable.{ToldNeverFalls};
 ghost use Rattle.law_order.specs.Prefix.Law as said;
 ghost use Rattle.law_order.specs.Prefix.Stores as stores;
 
 use crate::in_turn::{law_phases_open, law_points_open};
 use crate::rules::{law_cuts_open, law_life_begins};
-use law_commit::{law_begun, law_points_between, law_points_taken, law_told_are_sealed};
+use law_commit::{
+    law_begun, law_points_between, law_points_taken, law_told_are_sealed, law_told_never_falls,
+};
 use law_opening::{law_guard_opens, law_log_begins, law_log_beside, law_log_opened};
 use law_paper::law_kept;
 
@@ -44,6 +47,15 @@ pub fn law_durable_is_sealed()
     law_points_open();
     law_cuts_open();
     law_told_are_sealed();
+}
+
+/// And no answer to a session tells less as durable than an earlier one.
+pub fn law_durable_never_falls()
+    ensures { InEachLife ToldNeverFalls }
+{
+    law_points_open();
+    law_cuts_open();
+    law_told_never_falls();
 }
 
 /// If each image that a crash may leave of a life holds a prefix of it, lives follow one another. Each begins with the first store's map behind a replay of

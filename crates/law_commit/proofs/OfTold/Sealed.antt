@@ -45,7 +45,7 @@ use Rattle.law_commit.proofs.OfTold.News.{IsNew, told_now}
 use Rattle.law_commit.proofs.OfTold.Numbers.{at_call, last_counts}
 
 -- a session's point, in both words
-same_point : (points : List Serial) (session : ℕ) → finish.point_of (slice_get points session) ≡ point_of points session
+pub same_point : (points : List Serial) (session : ℕ) → finish.point_of (slice_get points session) ≡ point_of points session
 same_point [] session = refl
 same_point (x ∷ rest) zero = refl
 same_point (x ∷ rest) (suc i) = same_point rest i
