@@ -44,7 +44,8 @@ use Rattle.law_commit.proofs.OfPhases.LifeStages.{event_on, life_staged, none_ah
 use Rattle.law_commit.proofs.OfPhases.StageMoves.{LedOn, QuietKeeper, Quietly, RunBySession}
 use Rattle.law_commit.proofs.OfPoints.Rises.{event_rises, point_given, serial_now}
 use Rattle.law_commit.proofs.OfPoints.Starting.{KeeperSays, StartReply, event_says, idle_says, says_on}
-use Rattle.law_commit.proofs.OfPoints.Taken.{none_past, put_no_load}
+use Rattle.law_commit.proofs.OfPoints.Taken.{none_past}
+use Rattle.law_commit.proofs.OfQuiet.Left.{put_no_load}
 use Rattle.law_commit.proofs.Rising.{version_below}
 
 -- ---- a session that isn't there never is

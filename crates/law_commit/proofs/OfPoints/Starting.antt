@@ -12,9 +12,8 @@ use Rattle.fkv_words.specs.declared.phase_words.PhaseSaid.{PhaseSaid}
 use Rattle.fkv_words.specs.declared.phase_words.PhaseSaid.TheVariants.{Says, Spoiled}
 use Rattle.fkv_words.specs.PhaseWords.{phase_said}
 use Rattle.fkv_plane.specs.declared.asks.Ask.{Ask}
-use Rattle.fkv_plane.specs.declared.asks.Ask.TheVariants.{Load, Store, Swap, Cas, Add, Max, Put, Take, Done}
+use Rattle.fkv_plane.specs.declared.asks.Ask.TheVariants.{Done}
 use Rattle.fkv_plane.specs.declared.places.Places.{Places}
-use Rattle.fkv_plane.specs.Passing.{passed}
 use Rattle.fkv_commit.specs.declared.commits.Commit.{Commit}
 use Rattle.fkv_commit.specs.declared.deferring.Deferred.TheVariants.{EntersPhase}
 use Rattle.fkv_commit.specs.declared.deferring.DeferAnswer.{DeferAnswer}
@@ -35,6 +34,8 @@ use Rattle.fkv_keeper.specs.KeeperRun.{BeginsCommit, BeginsTurn, Calls, Gets, Ke
 use Rattle.fkv_keeper.proofs.Shown.{each_move}
 use Rattle.law_world.proofs.OfStanding.Runs.{happens_at}
 use Rattle.law_commit.proofs.BegunStands.{there}
+use Rattle.law_commit.proofs.InTurn.{not_none, some_commit}
+use Rattle.law_commit.proofs.OfPoints.Taking.{passed_end}
 
 -- `R number`: what is said of the number
 module _ (R : ℕ → Type 0) where
@@ -100,28 +101,16 @@ module _ (R : ℕ → Type 0) where
   start_says s (start.Defers number first) reply at says tells = defer_says number first (record s { defer = defer_next s.defer reply }) (defer_ask (defer_next s.defer reply)) at says
 
   -- where it tells that the commit has begun
-  passed_told : (ask : Ask DeferAnswer) (number : Version) (first : Addr) → passed ask started.Idle ≡ Done (started.Begun number first) → ⊥
-  unfolding passed
-  passed_told (Done its) number first is = cc
-  passed_told (Load at) number first is = cc
-  passed_told (Store at word) number first is = cc
-  passed_told (Swap at word) number first is = cc
-  passed_told (Cas at old new) number first is = cc
-  passed_told (Add at n) number first is = cc
-  passed_told (Max at n) number first is = cc
-  passed_told (Put slot action) number first is = cc
-  passed_told (Take slot) number first is = cc
-
   begun_says : (s : StartState) (step : Starting) (number : Version) (first : Addr) → StartSays step → starting_ask s step ≡ Done (started.Begun number first) → R number.0
   unfolding starting_ask
   begun_says s (start.Ended (started.Begun its at)) number first says is = let same : its ≡ number = cc in subst (λ (v : Version). R v.0) same says
   begun_says s (start.Ended (started.Refused why)) number first says is = cc
   begun_says s (start.Ended started.Idle) number first says is = cc
   begun_says s start.LoadsPhase number first says is = cc
-  begun_says s (start.Seeks its) number first says is = absurd (passed_told (defer_ask s.defer) number first is)
+  begun_says s (start.Seeks its) number first says is = (let same : started.Idle ≡ started.Begun number first = passed_end (defer_ask s.defer) started.Idle (started.Begun number first) is in cc)
   begun_says s (start.StoresPrepare its) number first says is = cc
   begun_says s (start.LoadsTail its) number first says is = cc
-  begun_says s (start.Defers its at) number first says is = absurd (passed_told (defer_ask s.defer) number first is)
+  begun_says s (start.Defers its at) number first says is = (let same : started.Idle ≡ started.Begun number first = passed_end (defer_ask s.defer) started.Idle (started.Begun number first) is in cc)
 
   starts_say : (s : KeeperState) (ask : Ask StartAnswer) → s.step ≡ Starts → start_ask s.start ≡ ask → HandSays s.commit → StartSays s.start.step → KeeperSays (start_ledto s ask)
   unfolding start_ledto
@@ -161,20 +150,14 @@ module _ (R : ℕ → Type 0) where
   ended_led shape p s (Calls done bytes) told at hand = stays s (Ended told) at hand tt
 
   -- ---- elsewhere
-  some_commit : (found : Option Commit) (c d : Commit) → found ≡ Some c → found ≡ Some d → c ≡ d
-  some_commit found c d one other = let both : Some c ≡ Some d = sym one ∙ other in cc
-
-  not_none : {X : Type 0} (found : Option Commit) (c : Commit) → found ≡ None → found ≡ Some c → X
-  not_none found c none some = let both : None ≡ Some c = sym none ∙ some in cc
-
   hand_after : (s a : KeeperState) (found : Option Commit) → s.commit ≡ found → (s.step ≡ Starts → ⊥) → HandSays s.commit → IsCommitAfter found s a → HandSays a.commit
-  hand_after s a None was other hand (inl none) = λ c is. not_none a.commit c none is
+  hand_after s a None was other hand (inl none) = λ c is. absurd (not_none a.commit c none is)
   hand_after s a None was other hand (inr begun) = absurd (other begun.starts)
   hand_after s a (Some b) was other hand (inl goes) = λ c is.
       let same : goes.commit ≡ c = some_commit a.commit goes.commit c goes.in_hand is in
       let number : b.number ≡ c.number = sym goes.number ∙ ap (λ (x : Commit). x.number) same in
       subst (λ (v : Version). R v.0) number (hand b was)
-  hand_after s a (Some b) was other hand (inr (inl over)) = λ c is. not_none a.commit c over.none_in_hand is
+  hand_after s a (Some b) was other hand (inr (inl over)) = λ c is. absurd (not_none a.commit c over.none_in_hand is)
   hand_after s a (Some b) was other hand (inr (inr begun)) = absurd (other begun.starts)
 
   -- no start follows
@@ -243,7 +226,7 @@ module _ (R : ℕ → Type 0) where
   idle_step s step idle = cc
 
   pub idle_says : (s : KeeperState) → is_in_hand s.step ≡ false → s.commit ≡ None → KeeperSays s
-  idle_says s idle none = record { hand = λ c is. not_none s.commit c none is; step = idle_step s s.step idle }
+  idle_says s idle none = record { hand = λ c is. absurd (not_none s.commit c none is); step = idle_step s s.step idle }
 
 -- ---- what is said goes on
 start_on : (R Q : ℕ → Type 0) (step : Starting) → ((number : ℕ) → R number → Q number) → StartSays R step → StartSays Q step

@@ -1,6 +1,7 @@
 -- In a life the points that the keeper takes are the sessions' points of the commit's number.
 use Rattle.std.proofs.Common.{◌≡◌, ◌⊎◌, inl, inr, ℕ, zero, suc, ◌+◌, ◌*◌, ◌<◌, ◌≤◌, ◌∙◌, List, [], ◌∷◌, ◌++◌, length, refl, arith, ap, sym, subst, Bool, true, false}
 use Rattle.std.specs.Prelude.{⊤, max, slice_index_or, Option, Some, None, slice_get}
+use Rattle.std.proofs.lemmas.Option.{slice_get_within}
 use Rattle.fkv_base.specs.Limits.{last_serial, last_version}
 use Rattle.fkv_base.specs.declared.numbers.Serial.{Serial}
 use Rattle.fkv_base.specs.declared.numbers.Version.{Version}
@@ -45,16 +46,12 @@ use Rattle.law_commit.proofs.OfPhases.StageMoves.{LedOn, QuietKeeper, Quietly, R
 use Rattle.law_commit.proofs.OfPoints.GoOn.{event_goes, few}
 use Rattle.law_commit.proofs.OfPoints.Taking.{AreTaken, HasAll, KeeperTakes, KeepingReply, KeepingTakes, SeekReply, StepTakes, asked_takes, called_takes, commit_takes, given_takes, has_taken, opened_takes, replied_takes, takes_on, turn_takes}
 use Rattle.law_commit.proofs.OfPoints.Words.{Meets, again_says, first_meets, first_says, goes_again, other_says, still_meets, still_says}
+use Rattle.law_commit.proofs.OfQuiet.Left.{put_no_load}
 use Rattle.law_commit.proofs.OfQuiet.Points.{points_stay}
 use Rattle.law_commit.proofs.OfQuiet.Ranks.{ranks_rise, staged_rank}
 use Rattle.law_commit.proofs.OfVersions.Points.{count_low}
 
 -- ---- lists by index
-some_within : {X : Type 0} (xs : List X) (i : ℕ) (x : X) → slice_get xs i ≡ Some x → i < length xs
-some_within [] i x got = cc
-some_within (y ∷ xs) zero x got = omega arith
-some_within (y ∷ xs) (suc i) x got = let rest = some_within xs i x got in omega (arith, rest)
-
 pub none_past : {X : Type 0} (xs : List X) (i : ℕ) → slice_get xs i ≡ None → length xs ≤ i
 none_past [] i none = omega arith
 none_past (x ∷ xs) zero none = cc
@@ -87,9 +84,6 @@ asks_other shape p s met at loads = rw (at, loads) refl
 asks_again : (shape : Shape) (p : Places) (s : KeeperState) → s.step ≡ Seeks → s.seek.step ≡ seek.LoadsAgain → keeper_ask shape p s ≡ Load (session_place (length s.seek.points) (cut_of s.seek.number.0))
 unfolding keeping_ask seeking_ask passed
 asks_again shape p s at loads = rw (at, loads) refl
-
-pub put_no_load : {X : Type 0} (ask : Ask KeeperTold) (slot : ℕ) (action : Action) (place : ℕ) → ask ≡ Put slot action → ask ≡ Load place → X
-put_no_load ask slot action place puts loads = let clash : Put slot action ≡ Load place = sym puts ∙ loads in cc
 
 module _ (live : LiveAreLater) (paper_sound : PaperIsSound) (cuts_show : CutsShowPoints) (opening : World) (start : ℕ) (opens : OpensQuiet opening start) (shows : ShowCuts opening.now) where
   abbrev count : ℕ
@@ -407,7 +401,7 @@ module _ (live : LiveAreLater) (paper_sound : PaperIsSound) (cuts_show : CutsSho
           by_point : (it : Option Serial) → slice_get points session ≡ it → point_of points session ≡ point opening events session version
           by_point None none =
               let past = none_past points session none in
-              let within = some_within opening.now.sessions session first found in
+              let within = slice_get_within opening.now.sessions session first found in
               let same = many in
               absurd (omega (arith, past, within, same, all))
           by_point (Some it) got = point_there points session it got ∙ (taken session it got).is first found

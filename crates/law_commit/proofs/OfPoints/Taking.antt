@@ -51,6 +51,20 @@ use Rattle.fkv_keeper.specs.declared.keepers.Keeping.TheVariants.{Ended, Starts,
 use Rattle.fkv_keeper.specs.KeeperRun.{is_in_hand}
 use Rattle.fkv_keeper.specs.Keeping.{KeeperState, commit_asked, copied, copies, copies_next, copy_asked, copy_driven, copy_ledto, ended, enter_ledto, finish_ledto, finished, keeping_called, keeping_given, keeping_next, maintain_ledto, part_begun, phase_ledto, points_known, seek_ledto, start_ledto, turn_asked, turned, wait_ledto, write_ledto, writes_begun, writes_called}
 use Rattle.fkv_world.specs.World.{keeper_asked}
+use Rattle.law_commit.proofs.InTurn.{some_commit}
+
+-- ---- a machine inside is at its end
+pub passed_end : {A B : Type 0} (ask : Ask A) (end told : B) → passed ask end ≡ Done told → end ≡ told
+unfolding passed
+passed_end (Done its) end told is = cc
+passed_end (Load at) end told is = cc
+passed_end (Store at word) end told is = cc
+passed_end (Swap at word) end told is = cc
+passed_end (Cas at old new) end told is = cc
+passed_end (Add at n) end told is = cc
+passed_end (Max at n) end told is = cc
+passed_end (Put slot action) end told is = cc
+passed_end (Take slot) end told is = cc
 
 -- ---- a list that gets one more
 some_serial : (x y : Serial) → Some x ≡ Some y → x ≡ y
@@ -281,9 +295,6 @@ module _ (count : ℕ) (F : ℕ → ℕ → ℕ → Type 0) (A : ℕ → ℕ →
   turned_takes : (s : KeeperState) → Has s → KeeperTakes (turned s)
   turned_takes s has = record { sessions = has.sessions; hand = has.hand; step = tt }
 
-  some_commit : (found : Option Commit) (c d : Commit) → found ≡ Some c → found ≡ Some d → c ≡ d
-  some_commit found c d one other = let both : Some c ≡ Some d = sym one ∙ other in cc
-
   seek_begins : (s : KeeperState) (c : Commit) → s.commit ≡ Some c → Has s → KeeperTakes (record s { seek = seek_begun s.seek c.number; has_points = false; step = Seeks })
   seek_begins s c is has =
       let its = owing_takes (record s.seek { number = c.number; points = [] }) 0 has.sessions refl in
@@ -338,18 +349,6 @@ module _ (count : ℕ) (F : ℕ → ℕ → ℕ → Type 0) (A : ℕ → ℕ →
       record { number = number its refl ∙ same; taken = taken; all = all }
 
   -- where the search tells that it has taken them
-  passed_told : (ask : Ask DeferAnswer) (end : Addr) (epoch : ℕ) → passed ask sought.Idle ≡ Done (sought.Taken end epoch) → ⊥
-  unfolding passed
-  passed_told (Done its) end epoch is = cc
-  passed_told (Load at) end epoch is = cc
-  passed_told (Store at word) end epoch is = cc
-  passed_told (Swap at word) end epoch is = cc
-  passed_told (Cas at old new) end epoch is = cc
-  passed_told (Add at n) end epoch is = cc
-  passed_told (Max at n) end epoch is = cc
-  passed_told (Put slot action) end epoch is = cc
-  passed_told (Take slot) end epoch is = cc
-
   all_told : (s : SeekState) (step : Seeking) (end : Addr) (epoch : ℕ) → StepTakes s step → seeking_ask s step ≡ Done (sought.Taken end epoch) → length s.points ≡ count
   unfolding seeking_ask
   all_told s (seek.Ended (sought.Taken to at)) end epoch knows is = knows
@@ -358,14 +357,14 @@ module _ (count : ℕ) (F : ℕ → ℕ → ℕ → Type 0) (A : ℕ → ℕ →
   all_told s (seek.Ended sought.DrainFull) end epoch knows is = cc
   all_told s (seek.Ended sought.EpochsSpent) end epoch knows is = cc
   all_told s (seek.LoadsOwing session) end epoch knows is = cc
-  all_told s seek.SeeksSlot end epoch knows is = absurd (passed_told (defer_ask s.defer) end epoch is)
+  all_told s seek.SeeksSlot end epoch knows is = (let same : sought.Idle ≡ sought.Taken end epoch = passed_end (defer_ask s.defer) sought.Idle (sought.Taken end epoch) is in cc)
   all_told s seek.LoadsCut end epoch knows is = cc
   all_told s (seek.LoadsOther first) end epoch knows is = cc
   all_told s seek.LoadsAgain end epoch knows is = cc
   all_told s seek.StoresWaitFlush end epoch knows is = cc
   all_told s seek.LoadsTail end epoch knows is = cc
   all_told s (seek.RaisesReadOnly to) end epoch knows is = cc
-  all_told s (seek.Defers to) end epoch knows is = absurd (passed_told (defer_ask s.defer) end epoch is)
+  all_told s (seek.Defers to) end epoch knows is = (let same : sought.Idle ≡ sought.Taken end epoch = passed_end (defer_ask s.defer) sought.Idle (sought.Taken end epoch) is in cc)
 
   sought_takes : (s : KeeperState) (ask : Ask SeekAnswer) → s.step ≡ Seeks → seek_ask s.seek ≡ ask → IsSought s.seek s.commit s.has_points → KeeperTakes (seek_ledto s ask)
   unfolding seek_ledto
