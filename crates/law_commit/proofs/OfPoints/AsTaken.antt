@@ -1,5 +1,5 @@
 -- The newest commit that has begun is the one in hand, with the points that were taken, as long as it isn't finished.
-use Rattle.std.proofs.Common.{◌≡◌, ◌⊎◌, inl, inr, ℕ, ◌∙◌, List, [], ◌∷◌, refl, ap, sym, subst, Bool, true, false}
+use Rattle.std.proofs.Common.{◌≡◌, ℕ, ◌∙◌, List, [], ◌∷◌, refl, sym, subst, Bool, true, false}
 use Rattle.std.specs.Prelude.{⊤, if◌then◌else◌, Option, Some, None}
 use Rattle.fkv_base.specs.declared.faults.Fault.TheVariants as fault
 use Rattle.fkv_base.specs.declared.shapes.Shape.{Shape}
@@ -25,11 +25,9 @@ use Rattle.fkv_keeper.specs.declared.keepers.Keeping.TheVariants.{Ended, Starts,
 use Rattle.fkv_keeper.specs.Keeping.{KeeperState, commit_asked, ended, finish_ledto, finished, keeping_called, keeping_given, keeping_next, turn_asked, turned, write_ledto, writes_called}
 use Rattle.fkv_keeper.specs.KeeperRun.{BeginsCommit, BeginsTurn, Calls, Gets, IsOpened, KeeperEvent, Replies, begins, is_in_hand, keeper_happens, keeper_run}
 use Rattle.fkv_world.specs.OwnEvents.{keeper_events}
-use Rattle.fkv_world.specs.Runs.{World, run}
-use Rattle.fkv_world.specs.World.{Event}
 use Rattle.law_world.proofs.OfKeeper.OwnRun.{of_keeper}
 use Rattle.law_world.proofs.OfStanding.Runs.{happens_at}
-use Rattle.law_commit.specs.BegunCommits.{AreFinished, BegunCommit, HaveFinished, begun_at_end, begun_at_gate, begun_at_writes, begun_by, commit_opened, commit_opening, commits_begun, with_finished, with_opening, with_sealed}
+use Rattle.law_commit.specs.BegunCommits.{AreFinished, BegunCommit, HaveFinished, begun_at_end, begun_at_gate, begun_at_writes, begun_by, commit_opened, commits_begun, with_finished, with_opening, with_sealed}
 use Rattle.law_commit.specs.Points.{BeginsAsTaken, BegunAreAsTaken, IsAsTaken}
 use Rattle.law_commit.proofs.BegunStands.{StandsAt, run_stands, there}
 use Rattle.law_commit.proofs.LifeBegun.{opening_finished}

@@ -1,24 +1,23 @@
 -- The points of each commit that has begun are the sessions' points of its number, for ever.
-use Rattle.std.proofs.Common.{◌≡◌, ℕ, ◌+◌, ◌*◌, ◌≤◌, ◌∙◌, List, [], ◌∷◌, ◌++◌, refl, arith, ap, sym, subst, true}
+use Rattle.std.proofs.Common.{◌≡◌, ℕ, ◌≤◌, ◌∙◌, List, [], ◌∷◌, ◌++◌, refl, arith, ap, sym}
 use Rattle.std.specs.Prelude.{Option, Some, None, slice_get}
 use Rattle.fkv_base.specs.declared.numbers.Serial.{Serial}
 use Rattle.fkv_commit.specs.declared.commits.Commit.{Commit}
 use Rattle.fkv_keeper.specs.declared.keepers.Keeping.TheVariants.{Writes}
 use Rattle.fkv_keeper.specs.Keeping.{KeeperState}
-use Rattle.fkv_keeper.specs.KeeperRun.{Calls, KeeperEvent}
+use Rattle.fkv_keeper.specs.KeeperRun.{KeeperEvent}
 use Rattle.fkv_session.specs.Sessions.{SessionState}
 use Rattle.fkv_session.specs.Versions.{versions_taken}
 use Rattle.fkv_world.specs.OwnEvents.{keeper_events, session_events}
 use Rattle.fkv_world.specs.Runs.{World, run}
-use Rattle.fkv_world.specs.World.{Event, Now, seat_at}
+use Rattle.fkv_world.specs.World.{Event}
 use Rattle.fkv_world.proofs.Shown.{session_runs}
 use Rattle.law_world.proofs.OfKeeper.OwnRun.{to_keeper}
-use Rattle.law_commit.specs.Accepted.{count_upto, point, serial_at, serial_of, versions_of}
+use Rattle.law_commit.specs.Accepted.{point, serial_at}
 use Rattle.law_commit.specs.BegunCommits.{BegunCommit, commit_opened, commits_begun, life_begun}
 use Rattle.law_commit.specs.Floor.Stands.{PaperIsSound}
 use Rattle.law_commit.specs.Points.{ArePointsOf, BegunHavePoints, OpensPointed}
 use Rattle.law_commit.specs.Quiet.{CutsShowPoints, LiveAreLater, pending_rank, rank_now, rank_said}
-use Rattle.law_commit.proofs.Counted.{found_so}
 use Rattle.law_commit.proofs.OfPoints.Taken.{takes_points, writes_taken}
 use Rattle.law_commit.proofs.OfQuiet.Begun.{AllBegun, by_event, call_all, one_of, others_all, weaker, written}
 use Rattle.law_commit.proofs.OfQuiet.Points.{points_stay}

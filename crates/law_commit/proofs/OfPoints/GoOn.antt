@@ -1,6 +1,6 @@
 -- In wait-pending a session's two cut words go on: the first one stays or says the point, and the other stays or is of a later version.
-use Rattle.std.proofs.Common.{◌≡◌, ◌≢◌, ◌⊎◌, inl, inr, ℕ, ◌+◌, ◌-◌, ◌*◌, ◌<◌, ◌≤◌, ◌∙◌, List, [], ◌∷◌, ◌++◌, refl, arith, ap, sym, subst, Bool, true, false}
-use Rattle.std.specs.Prelude.{not, nat_le, ◌==◌, ◌%◌, if◌then◌else◌, Option, Some, None, slice_get}
+use Rattle.std.proofs.Common.{◌≡◌, ◌≢◌, ◌⊎◌, inl, inr, ℕ, ◌+◌, ◌*◌, ◌<◌, ◌≤◌, ◌∙◌, List, [], ◌∷◌, ◌++◌, refl, arith, ap, sym, subst, Bool, true, false}
+use Rattle.std.specs.Prelude.{not, ◌==◌, ◌%◌, if◌then◌else◌, Option, Some, None, slice_get}
 use Rattle.std.proofs.lemmas.Bool.Decides.{nat_tests}
 use Rattle.fkv_base.specs.Limits.{last_version}
 use Rattle.fkv_base.specs.declared.numbers.Version.{Version}
@@ -28,7 +28,7 @@ use Rattle.fkv_session.proofs.Shown.{IsCatching, StepMarks, run_asleep, run_mark
 use Rattle.fkv_world.specs.Opened.{HasBecome, IsOpenedWorld}
 use Rattle.fkv_world.specs.OwnEvents.{session_events}
 use Rattle.fkv_world.specs.Runs.{World, run}
-use Rattle.fkv_world.specs.World.{Event, Moves, Now, seat_at}
+use Rattle.fkv_world.specs.World.{Event, seat_at}
 use Rattle.fkv_world.proofs.Shown.{same_seat, session_runs}
 use Rattle.law_world.proofs.OfSessions.OwnRun.{opened_so, seated}
 use Rattle.law_commit.specs.Accepted.{HasRisingVersion, point}
@@ -43,14 +43,14 @@ use Rattle.law_commit.proofs.Counted.{life_point}
 use Rattle.law_commit.proofs.OfCuts.Events.{event_words}
 use Rattle.law_commit.proofs.OfCuts.Marks.{Follows, follows_now, seat_of}
 use Rattle.law_commit.proofs.OfCuts.Serials.{cut_is_mark, not_owing}
-use Rattle.law_commit.proofs.OfPhases.LifeStages.{first_version, life_staged, none_ahead, rising_version, version_now}
+use Rattle.law_commit.proofs.OfPhases.LifeStages.{life_staged, none_ahead, rising_version, version_now}
 use Rattle.law_commit.proofs.OfPoints.Words.{FirstGoesOn, OtherGoesOn, said_version}
 use Rattle.law_commit.proofs.OfQuiet.Coming.{coming_later}
 use Rattle.law_commit.proofs.OfQuiet.Owing.{Pending, pending_version}
 use Rattle.law_commit.proofs.OfQuiet.Points.{points_stay}
 use Rattle.law_commit.proofs.OfQuiet.Ranks.{ranks_rise, staged_rank}
 use Rattle.law_commit.proofs.Rising.{coming_below, version_below}
-use Rattle.law_commit.proofs.Sights.{coming_seen, view_seen}
+use Rattle.law_commit.proofs.Sights.{coming_seen}
 
 -- ---- an event leaves such a word, or the session stores it
 module _ (opening : World) (before : List Event) (session : ℕ) (first : SessionState) (opened_world : IsOpenedWorld opening) (enough : HasItsWords opening.now) (was : slice_get opening.now.sessions session ≡ Some first) (place : ℕ) (mark : IsMark session place) where

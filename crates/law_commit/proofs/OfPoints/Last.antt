@@ -1,18 +1,16 @@
 -- The newest finished commit has begun, so its points are the sessions' points of its number. Those of the commit in hand are no less.
-use Rattle.std.proofs.Common.{◌≡◌, ◌⊎◌, inl, inr, ℕ, ◌+◌, ◌≤◌, ◌∙◌, List, [], ◌∷◌, refl, arith, ap, sym, subst, Bool, true, false}
+use Rattle.std.proofs.Common.{◌≡◌, inl, inr, ◌∙◌, List, ◌∷◌, refl, arith, ap, sym, subst, Bool, true, false}
 use Rattle.fkv_base.specs.declared.numbers.Serial.{Serial}
 use Rattle.fkv_base.specs.declared.numbers.Version.{Version}
-use Rattle.fkv_commit.specs.declared.commits.Commit.{Commit}
 use Rattle.fkv_keeper.specs.declared.keepers.Keeping.{Keeping}
 use Rattle.fkv_keeper.specs.declared.keepers.Keeping.TheVariants.{Ended, Starts, Maintains, LoadsPhase, Enters, Copies, Seeks, Waits, Writes, Finishes}
 use Rattle.fkv_keeper.specs.Keeping.{Finality, KeeperState}
 use Rattle.fkv_map.specs.History.{point_of}
-use Rattle.fkv_world.specs.Runs.{World, run}
-use Rattle.fkv_world.specs.World.{Event}
+use Rattle.fkv_world.specs.Runs.{run}
 use Rattle.law_log.specs.Trace.{IsIn}
 use Rattle.law_commit.specs.Accepted.{point}
 use Rattle.law_commit.specs.BegunCommits.{AreFinished, AtEnd, AtKeeping, BegunCommit, HaveFinished, IsAsLast, life_begun}
-use Rattle.law_commit.specs.Points.{ArePointsOf, BegunHavePoints, LastHasPoints, RisesFromLast, TakesPoints}
+use Rattle.law_commit.specs.Points.{BegunHavePoints, LastHasPoints, RisesFromLast, TakesPoints}
 use Rattle.law_commit.proofs.LifeBegun.{life_stands}
 use Rattle.law_commit.proofs.OfPhases.LifeStages.{life_staged}
 use Rattle.law_commit.proofs.OfPoints.Rises.{rises_by_version}

@@ -1,19 +1,18 @@
 -- What a session's point lies between: it never falls, neither as the life goes on nor from a version to a later one, and is no more than the session has given.
-use Rattle.std.proofs.Common.{◌≡◌, ℕ, ◌+◌, ◌<◌, ◌≤◌, ◌∙◌, List, [], ◌∷◌, ◌++◌, length, refl, arith, ap, sym, Bool, true, false}
+use Rattle.std.proofs.Common.{◌≡◌, ℕ, ◌+◌, ◌≤◌, List, [], ◌∷◌, ◌++◌, refl, arith, ap, Bool, true, false}
 use Rattle.std.specs.Prelude.{Option, Some, None, nat_le, cond, slice_get}
 use Rattle.std.proofs.lemmas.Bool.Decides.{nat_tests}
 use Rattle.fkv_map.specs.declared.operations.Op.{Op}
 use Rattle.fkv_session.specs.Sessions.{Seat, SessionState}
-use Rattle.fkv_session.specs.SessionRun.{SessionEvent, session_run}
+use Rattle.fkv_session.specs.SessionRun.{SessionEvent}
 use Rattle.fkv_session.specs.Versions.{TakenAt, taken_at_after, versions_taken}
 use Rattle.fkv_world.specs.Opened.{HasBecome}
 use Rattle.fkv_world.specs.OwnEvents.{session_events}
 use Rattle.fkv_world.specs.Runs.{World, run}
-use Rattle.fkv_world.specs.World.{Event, Now, seat_at}
+use Rattle.fkv_world.specs.World.{Event, seat_at}
 use Rattle.fkv_world.proofs.Shown.{session_runs}
-use Rattle.law_commit.specs.Accepted.{count_upto, point, serial_at, serial_of, versions_accepted, versions_found, versions_of}
+use Rattle.law_commit.specs.Accepted.{count_upto, point, serial_at, serial_of, versions_accepted, versions_of}
 use Rattle.law_commit.specs.Points.{RisesByVersion, UpToGiven}
-use Rattle.law_commit.specs.Quiet.{OpensQuiet}
 use Rattle.law_commit.proofs.Counted.{found_so, life_counted}
 use Rattle.law_commit.proofs.OfVersions.Points.{count_low}
 

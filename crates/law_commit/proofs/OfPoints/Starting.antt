@@ -1,8 +1,7 @@
 -- What the keeper knows of the commit that it starts and has in hand, whatever is said of the commit's number.
-use Rattle.std.proofs.Common.{◌≡◌, ◌⊎◌, inl, inr, ℕ, ◌∙◌, List, length, refl, ap, sym, subst, Bool, true, false}
+use Rattle.std.proofs.Common.{◌≡◌, inl, inr, ℕ, ◌∙◌, length, refl, ap, sym, subst, Bool, true, false}
 use Rattle.std.specs.Prelude.{⊤, nat_le, if◌then◌else◌, Option, Some, None}
 use Rattle.fkv_base.specs.Limits.{last_version}
-use Rattle.fkv_base.specs.declared.commits.CommitKind.{CommitKind}
 use Rattle.fkv_base.specs.declared.faults.Fault.TheVariants as fault
 use Rattle.fkv_base.specs.declared.numbers.Addr.{Addr}
 use Rattle.fkv_base.specs.declared.numbers.Version.{Version}
@@ -15,22 +14,21 @@ use Rattle.fkv_plane.specs.declared.asks.Ask.{Ask}
 use Rattle.fkv_plane.specs.declared.asks.Ask.TheVariants.{Done}
 use Rattle.fkv_plane.specs.declared.places.Places.{Places}
 use Rattle.fkv_commit.specs.declared.commits.Commit.{Commit}
-use Rattle.fkv_commit.specs.declared.deferring.Deferred.TheVariants.{EntersPhase}
 use Rattle.fkv_commit.specs.declared.deferring.DeferAnswer.{DeferAnswer}
 use Rattle.fkv_commit.specs.declared.deferring.DeferAnswer.TheVariants.{Armed, Held, Spent}
 use Rattle.fkv_commit.specs.declared.starting.StartAnswer.{StartAnswer}
 use Rattle.fkv_commit.specs.declared.starting.StartAnswer.TheVariants as started
 use Rattle.fkv_commit.specs.declared.starting.Starting.{Starting}
 use Rattle.fkv_commit.specs.declared.starting.Starting.TheVariants as start
-use Rattle.fkv_commit.specs.Commits.{commit_begun, version_after}
-use Rattle.fkv_commit.specs.Deferring.{defer_ask, defer_begun, defer_next, defer_on}
+use Rattle.fkv_commit.specs.Commits.{commit_begun}
+use Rattle.fkv_commit.specs.Deferring.{defer_ask, defer_begun, defer_next}
 use Rattle.fkv_commit.specs.Starting.{StartState, defer_led, is_lost_full, phase_found, refused, seek_led, start_ask, start_begun, start_next, starting_ask, starting_next}
 use Rattle.fkv_keeper.specs.declared.answers.KeeperTold.TheVariants.{CommitRefused, TurnRefused}
 use Rattle.fkv_keeper.specs.declared.keepers.Keeping.{Keeping}
 use Rattle.fkv_keeper.specs.declared.keepers.Keeping.TheVariants.{Ended, Starts, Maintains, LoadsPhase, Enters, Copies, Seeks, Waits, Writes, Finishes}
 use Rattle.fkv_keeper.specs.CheckpointLaws.{IsCommitAfter, MayFollow}
-use Rattle.fkv_keeper.specs.Keeping.{KeeperState, commit_asked, ended, keeping_called, keeping_given, keeping_next, start_ledto, turn_asked}
-use Rattle.fkv_keeper.specs.KeeperRun.{BeginsCommit, BeginsTurn, Calls, Gets, KeeperEvent, Replies, begins, is_in_hand, keeper_happens}
+use Rattle.fkv_keeper.specs.Keeping.{KeeperState, ended, keeping_called, keeping_given, keeping_next, start_ledto}
+use Rattle.fkv_keeper.specs.KeeperRun.{BeginsCommit, BeginsTurn, Calls, Gets, KeeperEvent, Replies, is_in_hand, keeper_happens}
 use Rattle.fkv_keeper.proofs.Shown.{each_move}
 use Rattle.law_world.proofs.OfStanding.Runs.{happens_at}
 use Rattle.law_commit.proofs.BegunStands.{there}

@@ -1,6 +1,6 @@
 -- In a life the points that the keeper takes are the sessions' points of the commit's number.
-use Rattle.std.proofs.Common.{◌≡◌, ◌⊎◌, inl, inr, ℕ, zero, suc, ◌+◌, ◌*◌, ◌<◌, ◌≤◌, ◌∙◌, List, [], ◌∷◌, ◌++◌, length, refl, arith, ap, sym, subst, Bool, true, false}
-use Rattle.std.specs.Prelude.{⊤, max, slice_index_or, Option, Some, None, slice_get}
+use Rattle.std.proofs.Common.{◌≡◌, ◌⊎◌, inl, inr, ℕ, zero, suc, ◌<◌, ◌≤◌, ◌∙◌, List, [], ◌∷◌, length, refl, arith, ap, sym, subst, true}
+use Rattle.std.specs.Prelude.{max, Option, Some, None, slice_get}
 use Rattle.std.proofs.lemmas.Option.{slice_get_within}
 use Rattle.fkv_base.specs.Limits.{last_serial, last_version}
 use Rattle.fkv_base.specs.declared.numbers.Serial.{Serial}
@@ -13,18 +13,17 @@ use Rattle.fkv_plane.specs.declared.places.Places.{Places}
 use Rattle.fkv_plane.specs.Asked.{reply_to}
 use Rattle.fkv_plane.specs.Passing.{passed}
 use Rattle.fkv_plane.specs.Places.{session_place}
-use Rattle.fkv_commit.specs.declared.commits.Commit.{Commit}
 use Rattle.fkv_commit.specs.declared.seeking.Seeking.{Seeking}
 use Rattle.fkv_commit.specs.declared.seeking.Seeking.TheVariants as seek
 use Rattle.fkv_commit.specs.Cuts.{cut_of, other_cut_of, serial_said, version_said}
-use Rattle.fkv_commit.specs.Seeking.{SeekState, seeking_ask}
+use Rattle.fkv_commit.specs.Seeking.{seeking_ask}
 use Rattle.fkv_keeper.specs.declared.answers.KeeperTold.{KeeperTold}
 use Rattle.fkv_keeper.specs.declared.keepers.Keeping.{Keeping}
 use Rattle.fkv_keeper.specs.declared.keepers.Keeping.TheVariants.{Ended, Starts, Maintains, LoadsPhase, Enters, Copies, Seeks, Waits, Writes, Finishes}
 use Rattle.fkv_keeper.specs.Keeping.{KeeperState, commit_asked, keeper_ask, keeping_ask, turn_asked}
 use Rattle.fkv_map.specs.History.{point_of}
 use Rattle.fkv_session.specs.CatchingUp.{cut_at}
-use Rattle.fkv_session.specs.Sessions.{Seat, SessionState}
+use Rattle.fkv_session.specs.Sessions.{SessionState}
 use Rattle.fkv_session.specs.SessionRun.{session_run}
 use Rattle.fkv_world.specs.Moves.{keeper_gets}
 use Rattle.fkv_world.specs.Opened.{HasBecome}
@@ -33,18 +32,18 @@ use Rattle.fkv_world.specs.Runs.{World, run}
 use Rattle.fkv_world.specs.World.{Event, Now, seat_at}
 use Rattle.fkv_world.proofs.Shown.{session_runs}
 use Rattle.law_world.proofs.OfSessions.OwnRun.{opened_so}
-use Rattle.law_commit.specs.Accepted.{point, serial_at, serial_of, versions_found}
+use Rattle.law_commit.specs.Accepted.{point, versions_found}
 use Rattle.law_commit.specs.Cuts.{ShowCuts}
 use Rattle.law_commit.specs.Floor.Stands.{PaperIsSound, stage_number}
 use Rattle.law_commit.specs.Phases.Staged.{IsStaged, Pends, SeekAt, Stage, StepAt}
-use Rattle.law_commit.specs.Points.{ArePointsOf, OpensPointed, TakesPoints, first_cut, other_cut}
+use Rattle.law_commit.specs.Points.{ArePointsOf, TakesPoints, first_cut, other_cut}
 use Rattle.law_commit.specs.Quiet.{CutsShowPoints, LiveAreLater, OpensQuiet, ShowsPoint, pending_rank, rank_now}
 use Rattle.law_commit.proofs.Counted.{life_counted}
 use Rattle.law_commit.proofs.OfCuts.Fits.{run_fits}
 use Rattle.law_commit.proofs.OfPhases.LifeStages.{event_on, life_staged}
 use Rattle.law_commit.proofs.OfPhases.StageMoves.{LedOn, QuietKeeper, Quietly, RunBySession}
 use Rattle.law_commit.proofs.OfPoints.GoOn.{event_goes, few}
-use Rattle.law_commit.proofs.OfPoints.Taking.{AreTaken, HasAll, KeeperTakes, KeepingReply, KeepingTakes, SeekReply, StepTakes, asked_takes, called_takes, commit_takes, given_takes, has_taken, opened_takes, replied_takes, takes_on, turn_takes}
+use Rattle.law_commit.proofs.OfPoints.Taking.{AreTaken, KeeperTakes, KeepingReply, KeepingTakes, SeekReply, StepTakes, asked_takes, called_takes, commit_takes, given_takes, has_taken, opened_takes, replied_takes, takes_on, turn_takes}
 use Rattle.law_commit.proofs.OfPoints.Words.{Meets, again_says, first_meets, first_says, goes_again, other_says, still_meets, still_says}
 use Rattle.law_commit.proofs.OfQuiet.Left.{put_no_load}
 use Rattle.law_commit.proofs.OfQuiet.Points.{points_stay}

@@ -1,6 +1,6 @@
 -- What the keeper reads in a session's two cut words that show its point.
-use Rattle.std.proofs.Common.{◌≡◌, ◌⊎◌, inl, inr, ℕ, ◌+◌, ◌-◌, ◌*◌, ◌/◌, ◌%◌, ◌^◌, ◌<◌, ◌≤◌, ◌∙◌, refl, arith, ap, Bool, true, false}
-use Rattle.std.specs.Prelude.{if◌then◌else◌, max, min, ◌==◌}
+use Rattle.std.proofs.Common.{◌≡◌, ◌⊎◌, inl, inr, ℕ, ◌+◌, ◌-◌, ◌*◌, ◌/◌, ◌^◌, ◌<◌, ◌≤◌, ◌∙◌, refl, arith, ap, true}
+use Rattle.std.specs.Prelude.{max, min}
 use Rattle.std.proofs.Math.Nat.{max-eq_left, max-eq_right, min-eq_left, min-le_left, min-le_right}
 use Rattle.std.proofs.lemmas.Bool.Decides.{nat_tests}
 use Rattle.fkv_base.specs.Limits.{last_serial, last_version}

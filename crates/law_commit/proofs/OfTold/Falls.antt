@@ -1,6 +1,6 @@
 -- What a session is told as durable is no less than what it was told before.
-use Rattle.std.proofs.Common.{◌≡◌, ◌⊎◌, inl, inr, ℕ, ◌+◌, ◌<◌, ◌≤◌, ◌∙◌, List, [], ◌∷◌, refl, arith, ap, sym, subst, Bool, true, false}
-use Rattle.std.specs.Prelude.{⊤, nat_lt, if◌then◌else◌, slice_get}
+use Rattle.std.proofs.Common.{◌≡◌, inl, inr, ℕ, ◌<◌, ◌≤◌, ◌∙◌, List, [], ◌∷◌, refl, arith, ap, sym, subst, true, false}
+use Rattle.std.specs.Prelude.{nat_lt, slice_get}
 use Rattle.std.proofs.lemmas.Bool.Decides.{nat_tests}
 use Rattle.fkv_base.specs.declared.numbers.Serial.{Serial}
 use Rattle.fkv_base.specs.declared.numbers.Version.{Version}
@@ -17,7 +17,6 @@ use Rattle.fkv_world.specs.Past.{Traced}
 use Rattle.fkv_world.specs.Runs.{World, run}
 use Rattle.fkv_world.specs.World.{Event}
 use Rattle.law_log.specs.Trace.{IsIn}
-use Rattle.law_commit.specs.Accepted.{point}
 use Rattle.law_commit.specs.BegunCommits.{AtKeeping, BegunCommit, IsInHand, life_begun}
 use Rattle.law_commit.specs.Cuts.{ShowsDurable, durable_at, durable_in, word_now}
 use Rattle.law_commit.specs.Laws.Cuts.{DurableWordsShowPoints}
@@ -25,7 +24,7 @@ use Rattle.law_commit.specs.Points.{BegunHavePoints, LastHasPoints, OpensPointed
 use Rattle.law_commit.specs.ToldDurable.{NoneFalls, ToldNeverFalls}
 use Rattle.law_commit.specs.ToldPoints.{ToldPoint, points_told}
 use Rattle.law_commit.proofs.LifeBegun.{life_stands}
-use Rattle.law_commit.proofs.OfCuts.Durables.{IsStoredNow, durable_left}
+use Rattle.law_commit.proofs.OfCuts.Durables.{durable_left}
 use Rattle.law_commit.proofs.OfPhases.LifeStages.{life_staged}
 use Rattle.law_commit.proofs.OfPoints.Rises.{rises_by_version}
 use Rattle.law_commit.proofs.OfTold.News.{IsNew, IsToldMore, told_more}

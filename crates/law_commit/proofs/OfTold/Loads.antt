@@ -1,13 +1,13 @@
 -- If an event ends a call with an answer that tells what is durable, the session has loaded its durable word in this event.
-use Rattle.std.proofs.Common.{◌≡◌, ◌⊎◌, inl, inr, ℕ, ◌<◌, ◌∙◌, List, [], ◌∷◌, ◌++◌, refl, arith, ap, sym, subst, Bool, true, false}
-use Rattle.std.specs.Prelude.{◌==◌, if◌then◌else◌, Option, Some, None, slice_get}
+use Rattle.std.proofs.Common.{◌≡◌, ℕ, ◌∙◌, List, [], ◌∷◌, ◌++◌, refl, ap, sym, subst, Bool, true, false}
+use Rattle.std.specs.Prelude.{if◌then◌else◌, Option, Some, None, slice_get}
 use Rattle.fkv_base.specs.declared.numbers.Serial.{Serial}
 use Rattle.fkv_map.specs.declared.operations.Call.{Call}
 use Rattle.fkv_plane.specs.declared.actions.Action.{Action}
 use Rattle.fkv_plane.specs.declared.asks.Ask.{Ask}
 use Rattle.fkv_plane.specs.declared.asks.Ask.TheVariants.{Load, Store, Swap, Cas, Add, Max, Put, Take, Done}
 use Rattle.fkv_plane.specs.declared.places.SessionWord.TheVariants as own
-use Rattle.fkv_plane.specs.Asked.{reply_to, word_at}
+use Rattle.fkv_plane.specs.Asked.{reply_to}
 use Rattle.fkv_plane.specs.Places.{session_place}
 use Rattle.fkv_plane.specs.Plane.{action_at}
 use Rattle.fkv_session.specs.declared.answers.Told.{Told}
@@ -18,12 +18,11 @@ use Rattle.fkv_session.specs.Sessions.{IsOpened, Seat, SessionState, is_busy, se
 use Rattle.fkv_session.specs.SessionRun.{Begins, Gets, Replies, SessionEvent, begins, session_happens, session_run}
 use Rattle.fkv_world.specs.Actors.{is_of_session}
 use Rattle.fkv_world.specs.Moves.{Near}
-use Rattle.fkv_world.specs.OwnEvents.{session_events, session_got, session_part, session_part_found, session_part_of, session_slots, session_steps}
+use Rattle.fkv_world.specs.OwnEvents.{session_events, session_got, session_part, session_part_found, session_slots, session_steps}
 use Rattle.fkv_world.specs.Runs.{World, run}
 use Rattle.fkv_world.specs.World.{Event, Calls, Commits, Crashes, KeeperMoves, Moves, Now, Turns, near, seat_at}
 use Rattle.fkv_world.proofs.Shown.{same_seat, session_runs}
-use Rattle.law_commit.specs.Cuts.{word_now}
-use Rattle.law_commit.proofs.OfTold.Other.{IsLoad, begun_other, idle_busy, not_other, run_load}
+use Rattle.law_commit.proofs.OfTold.Other.{begun_other, idle_busy, not_other, run_load}
 
 -- it loads its durable word, and tells it
 pub record TellsLoad (k : Seat) (words : List ℕ) (s : SessionState) (serial : Serial) : Type 0 where

@@ -1,12 +1,10 @@
 -- What a session was told as durable is its point in a sealed commit, no less than in each that was told as finished before its call.
-use Rattle.std.proofs.Common.{◌≡◌, ◌⊎◌, inl, inr, ℕ, zero, suc, ◌+◌, ◌<◌, ◌≤◌, ◌∙◌, List, [], ◌∷◌, ◌++◌, refl, arith, ap, sym, subst, Bool, true, false}
-use Rattle.std.specs.Prelude.{⊤, if◌then◌else◌, nat_lt, Option, Some, None, slice_get}
+use Rattle.std.proofs.Common.{◌≡◌, inl, inr, ℕ, zero, suc, ◌+◌, ◌<◌, ◌≤◌, ◌∙◌, List, [], ◌∷◌, ◌++◌, refl, arith, ap, sym, subst, Bool, true, false}
+use Rattle.std.specs.Prelude.{if◌then◌else◌, nat_lt, Option, Some, None, slice_get}
 use Rattle.fkv_base.specs.declared.numbers.Serial.{Serial}
 use Rattle.fkv_base.specs.declared.numbers.Version.{Version}
 use Rattle.fkv_base.specs.declared.shapes.Shape.{Shape}
 use Rattle.fkv_plane.specs.declared.places.Places.{Places}
-use Rattle.fkv_plane.specs.declared.places.SessionWord.TheVariants as own
-use Rattle.fkv_plane.specs.Places.{session_place}
 use Rattle.fkv_commit.specs.declared.commits.Commit.{Commit}
 use Rattle.fkv_commit.specs.declared.finishing.Finishing.{Finishing}
 use Rattle.fkv_commit.specs.declared.finishing.Finishing.TheVariants as finishing
@@ -18,23 +16,21 @@ use Rattle.fkv_manifest.specs.declared.gates.Gating.TheVariants.{Opens, SyncsOpe
 use Rattle.fkv_keeper.specs.declared.answers.KeeperTold.TheVariants.{Turned}
 use Rattle.fkv_keeper.specs.declared.keepers.Keeping.{Keeping}
 use Rattle.fkv_keeper.specs.declared.keepers.Keeping.TheVariants.{Ended, Starts, Maintains, LoadsPhase, Enters, Copies, Seeks, Waits, Writes, Finishes}
-use Rattle.fkv_keeper.specs.Keeping.{Finality, KeeperState}
+use Rattle.fkv_keeper.specs.Keeping.{KeeperState}
 use Rattle.fkv_keeper.specs.KeeperRun.{Calls, KeeperEvent, keeper_run}
 use Rattle.fkv_map.specs.History.{point_of}
-use Rattle.fkv_session.specs.Sessions.{SessionState}
 use Rattle.fkv_world.specs.OwnEvents.{keeper_events, keeper_part_of}
 use Rattle.fkv_world.specs.Past.{Traced}
 use Rattle.fkv_world.specs.Runs.{World, run}
-use Rattle.fkv_world.specs.World.{Event, Now}
+use Rattle.fkv_world.specs.World.{Event}
 use Rattle.law_log.specs.Trace.{IsIn}
-use Rattle.law_commit.specs.Accepted.{point}
 use Rattle.law_commit.specs.BegunCommits.{AtKeeping, BegunCommit, IsInHand, begun_at_end, begun_at_gate, begun_at_writes, begun_by, commit_opened, commit_opening, commits_begun, life_begun, with_finished, with_opening, with_sealed}
-use Rattle.law_commit.specs.Cuts.{ShowsDurable, durable_at, durable_in, word_now}
-use Rattle.law_commit.specs.FinishedCommits.{commits_finished, commits_told, told_of}
+use Rattle.law_commit.specs.Cuts.{ShowsDurable, durable_at, durable_in}
+use Rattle.law_commit.specs.FinishedCommits.{told_of}
 use Rattle.law_commit.specs.Laws.Cuts.{DurableWordsShowPoints}
 use Rattle.law_commit.specs.Laws.Pasts.{BegunAreInTurn, FinishedAreTold}
 use Rattle.law_commit.specs.Points.{BegunHavePoints, OpensPointed}
-use Rattle.law_commit.specs.ToldDurable.{IsSealedPoint, TellsSealedPoints}
+use Rattle.law_commit.specs.ToldDurable.{TellsSealedPoints}
 use Rattle.law_commit.specs.ToldPoints.{ToldPoint, finishes_at_call, finishes_told, points_told}
 use Rattle.law_commit.proofs.LifeBegun.{life_stands}
 use Rattle.law_commit.proofs.OfCuts.Marks.{seat_of}
