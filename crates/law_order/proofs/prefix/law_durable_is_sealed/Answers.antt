@@ -1,5 +1,5 @@
 -- By the law of what sessions were told as durable, of an opened store.
-use Rattle.std.proofs.Common.{◌≡◌, ℕ, ◌+◌, ◌≤◌, arith, ap}
+use Rattle.std.proofs.Common.{arith, ap}
 use Rattle.fkv_core.specs.Openings.{beginning}
 use Rattle.fkv_keeper.specs.Keeping.{Finality}
 use Rattle.fkv_world.specs.Runs.{World}

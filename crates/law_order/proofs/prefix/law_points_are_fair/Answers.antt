@@ -1,15 +1,13 @@
 -- By the laws of the points that commits take.
-use Rattle.std.proofs.Common.{◌≡◌, ℕ, ◌≤◌, List, [], ◌∷◌, sym, subst, false}
-use Rattle.fkv_commit.specs.declared.commits.Commit.{Commit}
+use Rattle.std.proofs.Common.{ℕ, ◌≤◌, List, [], ◌∷◌, sym, subst}
 use Rattle.fkv_core.specs.Openings.{beginning}
-use Rattle.fkv_map.specs.History.{point_of}
 use Rattle.fkv_world.specs.Runs.{World, run}
-use Rattle.fkv_world.specs.World.{Event, Now}
-use Rattle.law_commit.specs.Accepted.{point, serial_at}
+use Rattle.fkv_world.specs.World.{Now}
+use Rattle.law_commit.specs.Accepted.{serial_at}
 use Rattle.law_commit.specs.BegunCommits.{BegunCommit, life_begun}
 use Rattle.law_commit.specs.Points.{BeginsAsTaken, OpensPointed}
 use Rattle.law_commit.specs.PrefixPast.{serials_asked}
-use Rattle.law_order.specs.Prefix.Law.{BeginsWithTaken, IsFairPoint}
+use Rattle.law_order.specs.Prefix.Law.{BeginsWithTaken}
 use Rattle.law_order.proofs.prefix.law_points_are_fair.Goals as goal
 
 -- the newest that has begun, in the words of the law
