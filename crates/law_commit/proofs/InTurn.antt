@@ -24,10 +24,10 @@ use Rattle.law_commit.proofs.BegunStands.{AtGate, AtWrites, StandsAt, run_stands
 abbrev NextInHand : KeeperState → Type 0
 NextInHand s = (c : Commit) → s.commit ≡ Some c → c.number.0 ≡ s.last.number.0 + 1
 
-some_commit : (found : Option Commit) (c d : Commit) → found ≡ Some c → found ≡ Some d → c ≡ d
+pub some_commit : (found : Option Commit) (c d : Commit) → found ≡ Some c → found ≡ Some d → c ≡ d
 some_commit found c d one other = let both : Some c ≡ Some d = sym one ∙ other in cc
 
-not_none : (found : Option Commit) (c : Commit) → found ≡ None → found ≡ Some c → ⊥
+pub not_none : (found : Option Commit) (c : Commit) → found ≡ None → found ≡ Some c → ⊥
 not_none found c none some = let both : None ≡ Some c = sym none ∙ some in cc
 
 abbrev Lists : KeeperState → KeeperState → Type 0

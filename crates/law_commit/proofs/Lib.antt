@@ -13,7 +13,9 @@ pub mod OfDecided
 pub mod OfFloor
 pub mod OfLinked
 pub mod OfPhases
+pub mod OfPoints
 pub mod OfShares
+pub mod OfTold
 pub mod OfQuiet
 pub mod OfVersions
 mod OwnTurnStores

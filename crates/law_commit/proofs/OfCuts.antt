@@ -1,6 +1,7 @@
 pub mod Always
 pub mod Durables
 pub mod Events
+pub mod Fits
 pub mod Left
 pub mod Marks
 pub mod Points

@@ -10,11 +10,13 @@ pub mod Linked
 pub mod PhaseStores
 pub mod PhaseVersions
 pub mod Phases
+pub mod Points
 pub mod PrefixPast
 pub mod Quiet
 pub mod Raises
 pub mod Ranks
 pub mod Shares
+pub mod ToldDurable
 pub mod ToldPoints
 pub mod Versions
 pub mod Views

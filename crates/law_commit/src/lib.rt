@@ -4,10 +4,12 @@
 mod copied;
 mod cuts;
 mod decided;
+mod durable;
 mod floor;
 mod laws;
 mod linked;
 mod phases;
+mod points;
 mod quiet;
 mod shares;
 mod versions;
@@ -18,6 +20,7 @@ pub use decided::{
     law_addresses_taken, law_chains_below, law_commits_decided, law_commits_settled,
     law_later_above,
 };
+pub use durable::{law_told_are_sealed, law_told_never_falls};
 pub use floor::{law_floor_stands, law_lives_are_phases};
 pub use laws::{
     law_begun, law_of_worked_pasts, law_of_worked_pieces, law_phase_stored, law_versions_counted,
@@ -28,6 +31,7 @@ pub use phases::{
     law_phases_in_turn, law_quiet_events_are_phases, law_replies_keep_stamps, law_runs_are_safe,
     law_sessions_are_phases, law_stamps_are_loads,
 };
+pub use points::{law_points_between, law_points_taken};
 pub use quiet::{law_cuts_show_points, law_versions_end};
 pub use shares::law_shares_not_missed;
 pub use versions::{law_points_split, law_versions_bounded};

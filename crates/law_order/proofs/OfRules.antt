@@ -3,6 +3,7 @@ pub mod Cuts
 pub mod Decided
 pub mod InTime
 pub mod Kept
+pub mod Points
 mod ReadRuns
 pub mod Rests
 pub mod SameEntries

@@ -1,2 +1,3 @@
+pub mod Durable
 pub mod Law
 pub mod Stores

@@ -1,9 +1,9 @@
 //! Of each life of a store that was opened: its commits' phases and numbers are in turn, so one commit always stands.
 ghost use Rattle.law_order.specs.InTurn.Laws as commits;
-ghost use Rattle.law_order.specs.Rules.Openings.{OpensItsEnds, OpensItsVersions};
+ghost use Rattle.law_order.specs.Rules.Openings.{OpensItsEnds, OpensItsPoints, OpensItsVersions};
 
 use crate::rest::law_rest_said;
-use crate::rules::law_life_begins;
+use crate::rules::{law_cuts_open, law_life_begins};
 use fkv_disk::Device;
 use law_commit::{law_begun, law_floor_stands};
 use law_opening::{law_opened_commit_stands, law_told_opens};
@@ -49,6 +49,15 @@ pub fn law_ends_open()
 {
     law_phases_open();
     law_life_begins();
+}
+
+/// The points of an opened store's newest commit are its sessions' serials, and its words show them. So the laws of the points that commits take hold of each of
+/// its lives.
+pub fn law_points_open()
+    ensures { OpensItsPoints }
+{
+    law_ends_open();
+    law_cuts_open();
 }
 
 /// And behind any steps of an opened store's world one commit stands in each image that a crash leaves of the device: the newest finished one, or, while

@@ -28,7 +28,8 @@ pub use decided::{law_chains_open, law_decided_opens};
 pub use enabled::law_world_enabled;
 pub use fits::law_opening_fits;
 pub use in_turn::{
-    law_commit_always_stands, law_ends_open, law_floor_opens, law_phases_open, law_versions_open,
+    law_commit_always_stands, law_ends_open, law_floor_opens, law_phases_open, law_points_open,
+    law_versions_open,
 };
 pub use known::law_sessions_begin;
 pub use looks::law_looks_true;
@@ -38,7 +39,10 @@ pub use opened::{
     law_copies_open, law_links_open, law_marks_open, law_serials_open, law_stages_open,
 };
 pub use ordered::{law_rules_kept, law_world_ordered};
-pub use prefix::{law_finished_is_told, law_join, law_lives, law_replays_kept};
+pub use prefix::{
+    law_commits_in_turn, law_durable_is_sealed, law_durable_never_falls, law_finished_is_told,
+    law_join, law_lives, law_points_are_fair, law_replays_kept,
+};
 pub use reads::law_world_reads;
 pub use rest::{law_life_rests, law_log_rests, law_rest_said};
 pub use rows::{law_requests_asked, law_rows_at_rest, law_rows_go_on};

@@ -1,9 +1,14 @@
 //! The law of prefixes: what follows of its parts. The law itself is `PrefixLaw`, of which not all is proved yet.
 ghost use Rattle.law_order.specs.OneHistory.EachLife.{InEachLife};
+ghost use Rattle.law_order.specs.Prefix.Durable.{ToldNeverFalls};
 ghost use Rattle.law_order.specs.Prefix.Law as said;
 ghost use Rattle.law_order.specs.Prefix.Stores as stores;
 
-use law_commit::law_begun;
+use crate::in_turn::{law_phases_open, law_points_open};
+use crate::rules::{law_cuts_open, law_life_begins};
+use law_commit::{
+    law_begun, law_points_between, law_points_taken, law_told_are_sealed, law_told_never_falls,
+};
 use law_opening::{law_guard_opens, law_log_begins, law_log_beside, law_log_opened};
 use law_paper::law_kept;
 
@@ -13,6 +18,44 @@ pub fn law_finished_is_told()
     ensures { InEachLife said.TellsFinished }
 {
     law_begun();
+}
+
+/// In each life each commit has the number behind that of the one before, from the opening's on.
+pub fn law_commits_in_turn()
+    ensures { InEachLife said.HasCommitsInTurn }
+{
+    law_life_begins();
+    law_phases_open();
+    law_begun();
+}
+
+/// In each life a commit's points are fair, from the moment at which they are taken. Each is no less than what its session had given as the commit was asked for,
+/// no more than what the session has given by then, and no less than its point in the commit before. A commit that has begun has the points that were taken.
+pub fn law_points_are_fair()
+    ensures { InEachLife said.HasFairPoints }
+{
+    law_points_open();
+    law_points_taken();
+    law_points_between();
+}
+
+/// In each life what a session was told as durable is its point in a commit whose open gate is synced. It is no less than its point in each commit that was told
+/// as finished before its call.
+pub fn law_durable_is_sealed()
+    ensures { InEachLife said.TellsDurable }
+{
+    law_points_open();
+    law_cuts_open();
+    law_told_are_sealed();
+}
+
+/// And no answer to a session tells less as durable than an earlier one.
+pub fn law_durable_never_falls()
+    ensures { InEachLife ToldNeverFalls }
+{
+    law_points_open();
+    law_cuts_open();
+    law_told_never_falls();
 }
 
 /// If each image that a crash may leave of a life holds a prefix of it, lives follow one another. Each begins with the first store's map behind a replay of

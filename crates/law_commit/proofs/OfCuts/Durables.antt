@@ -1,6 +1,7 @@
 -- A session's durable word is what the keeper has stored last there.
 use Rattle.std.proofs.Common.{◌≡◌, ◌≢◌, ◌⊎◌, ◌<◌, inl, inr, ℕ, ◌∙◌, ◌++◌, List, [], ◌∷◌, length, refl, arith, sym, ap, subst, Bool, true, false}
-use Rattle.std.specs.Prelude.{if◌then◌else◌, Option, Some, None, slice_get}
+use Rattle.std.specs.Prelude.{if◌then◌else◌, ◌==◌, Option, Some, None, slice_get}
+use Rattle.std.proofs.lemmas.Bool.Decides.{nat_tests}
 use Rattle.fkv_base.specs.declared.shapes.Shape.{Shape}
 use Rattle.fkv_plane.specs.declared.actions.Action.{Action}
 use Rattle.fkv_plane.specs.declared.asks.Ask.{Ask}
@@ -14,7 +15,7 @@ use Rattle.fkv_plane.specs.Plane.{action_at}
 use Rattle.fkv_epoch.proofs.Shown.{same_or}
 use Rattle.fkv_commit.specs.declared.finishing.Finishing.{Finishing}
 use Rattle.fkv_commit.specs.declared.finishing.Finishing.TheVariants as finishing
-use Rattle.fkv_commit.specs.Finishing.{finishing_ask}
+use Rattle.fkv_commit.specs.Finishing.{finishing_ask, point_of}
 use Rattle.fkv_keeper.specs.declared.answers.KeeperTold.{KeeperTold}
 use Rattle.fkv_keeper.specs.declared.answers.KeeperTold.TheVariants.{Device}
 use Rattle.fkv_keeper.specs.declared.keepers.Keeping.{Keeping}
@@ -252,3 +253,50 @@ life_shows opening events number opened words shows seat =
     life_durable opening events number opened words seat
     ∙ (run_shows opening.now.shape opening.now.places number opening.now.keeper (λ at. word_at opening.now.words at) (keeper_events opening events) opened.keeper (omega (arith, same, seat)) (shows.points number seat)
     ∙ ap (λ (s : KeeperState). durable_at s s.step number) (sym (keeper_runs opening events)))
+
+-- ---- what an event leaves of it
+-- the point of the commit that finishes is stored there
+pub record IsStoredNow (s : KeeperState) (number word : ℕ) : Type 0 where
+  pub finishes : s.step ≡ Finishes
+  pub stores : s.finish.step ≡ finishing.StoresDurable number
+  pub is : word ≡ point_of (slice_get s.seek.points number)
+
+asks_store : (shape : Shape) (p : Places) (s : KeeperState) (number : ℕ) → s.step ≡ Finishes → s.finish.step ≡ finishing.StoresDurable number → keeper_ask shape p s ≡ Store (session_place number own.Durable) (point_of (slice_get s.seek.points number))
+unfolding keeping_ask finishing_ask passed
+asks_store shape p s number finishes stores = rw (finishes, stores) refl
+
+stored_there : (place word before : ℕ) → stored_by {A = KeeperTold} (Store place word) place before ≡ word
+stored_there place word before = let here : (place == place) ≡ true = grind (arith, nat_tests) in rw here refl
+
+module _ (opening : World) (event : Event) (before : List Event) (number : ℕ) (opened : IsOpenedWorld opening) (words : HasItsWords opening.now) (seat : number < opening.now.places.sessions) where
+  abbrev here_now : Now
+  here_now = (run opening before).now
+
+  abbrev place : ℕ
+  place = session_place number own.Durable
+
+  abbrev IsDurableLeft : ℕ → Type 0
+  IsDurableLeft word = (word ≡ word_now opening before place) ⊎ IsStoredNow here_now.keeper number word
+
+  follows_here : Follows (run opening before) place
+  follows_here = follows_now opening before number opened words seat
+
+  keeper_left : IsStoring number here_now.keeper → IsDurableLeft (word_at (words_after here_now.words (keeper_ask here_now.shape here_now.places here_now.keeper)) place)
+  keeper_left (Storing finishes stores) =
+      let asks = asks_store here_now.shape here_now.places here_now.keeper number finishes stores in
+      inr (record {
+        finishes = finishes;
+        stores = stores;
+        is = follows_here.own ∙ (ap (λ (ask : Ask KeeperTold). stored_by ask place (word_now opening before place)) asks ∙ stored_there place (point_of (slice_get here_now.keeper.seek.points number)) (word_now opening before place));
+      })
+  keeper_left (StoringNone other) =
+      let spares = keeper_spares (TheDurable number) opening before (λ e. cc) opened.keeper tt tt (λ session e. cc) (finishes_not here_now.keeper number other) in
+      inl (spared_word here_now.places number Durable here_now.words (keeper_ask here_now.shape here_now.places here_now.keeper) place (there_now opening before number seat) (low_now opening before number words seat) spares)
+
+  pub durable_left : IsDurableLeft (word_now opening (event ∷ before) place)
+  unfolding run
+  durable_left =
+      event_words (λ (xs : List ℕ). IsDurableLeft (word_at xs place)) (run opening before) event (inl refl) (record {
+        session = λ at t moves found. inl (follows_here.sessions at t found);
+        keeper = λ granted done moves. keeper_left (is_storing number here_now.keeper here_now.keeper.step refl);
+      })

@@ -141,10 +141,10 @@ other_ask k s number other sparing =
 
 -- ---- one event
 -- what each of them does to the word at a place of these, as things stand
-record Follows (w : World) (number : ℕ) (s : SessionState) (place : ℕ) : Type 0 where
-  own : word_at (words_after w.now.words (session_ask (seat_at w.now number) s)) place ≡ stored_by (session_ask (seat_at w.now number) s) place (word_at w.now.words place)
-  other : (at : ℕ) (t : SessionState) → at ≢ number → slice_get w.now.sessions at ≡ Some t → word_at (words_after w.now.words (session_ask (seat_at w.now at) t)) place ≡ word_at w.now.words place
-  keeper : word_at (words_after w.now.words (keeper_ask w.now.shape w.now.places w.now.keeper)) place ≡ word_at w.now.words place
+pub record Follows (w : World) (number : ℕ) (s : SessionState) (place : ℕ) : Type 0 where
+  pub own : word_at (words_after w.now.words (session_ask (seat_at w.now number) s)) place ≡ stored_by (session_ask (seat_at w.now number) s) place (word_at w.now.words place)
+  pub other : (at : ℕ) (t : SessionState) → at ≢ number → slice_get w.now.sessions at ≡ Some t → word_at (words_after w.now.words (session_ask (seat_at w.now at) t)) place ≡ word_at w.now.words place
+  pub keeper : word_at (words_after w.now.words (keeper_ask w.now.shape w.now.places w.now.keeper)) place ≡ word_at w.now.words place
 
 module _ (w : World) (number : ℕ) (s : SessionState) (place : ℕ) where
   other_event : (event : Event) → is_of_session number event ≡ false → Follows w number s place → word_at (happens w event).now.words place ≡ word_at w.now.words place
@@ -202,7 +202,7 @@ sparing_now opening events number s opened found =
     at_each_moment (λ seat x. IsSessionSparing seat.places x) opening events number s
     (λ first was. session_run_spares (seat_at opening.now number) first (session_events opening number events) (opened.sessions number first was)) found
 
-seat_of : (opening : World) (number : ℕ) (first : SessionState) → IsOpenedWorld opening → slice_get opening.now.sessions number ≡ Some first → number < opening.now.places.sessions
+pub seat_of : (opening : World) (number : ℕ) (first : SessionState) → IsOpenedWorld opening → slice_get opening.now.sessions number ≡ Some first → number < opening.now.places.sessions
 seat_of opening number first opened was = subst (λ (count : ℕ). number < count) opened.seats (item_within opening.now.sessions number first was)
 
 there_now : (opening : World) (events : List Event) (number : ℕ) (first : SessionState) (place : ℕ) → IsOpenedWorld opening → slice_get opening.now.sessions number ≡ Some first → IsMark number place
@@ -219,7 +219,7 @@ low_now opening events number first place opened words was mark =
     subst (λ (count : ℕ). place < count) (sym (length_stays opening events))
     (few_places opening.now.places (length opening.now.words) number place (seat_of opening number first opened was) words (omega (arith, to)))
 
-follows_now : (opening : World) (events : List Event) (number : ℕ) (first s : SessionState) (place : ℕ) → IsOpenedWorld opening → HasItsWords opening.now → slice_get opening.now.sessions number ≡ Some first
+pub follows_now : (opening : World) (events : List Event) (number : ℕ) (first s : SessionState) (place : ℕ) → IsOpenedWorld opening → HasItsWords opening.now → slice_get opening.now.sessions number ≡ Some first
     → slice_get (run opening events).now.sessions number ≡ Some s → IsMark number place → Follows (run opening events) number s place
 follows_now opening events number first s place opened words was found mark =
     let n : Now = (run opening events).now in

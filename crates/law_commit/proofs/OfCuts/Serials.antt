@@ -40,12 +40,12 @@ said_most serial version =
     let small = min-le_right serial last_serial in
     low_said (cut_at serial version) serial (omega (arith, low, small))
 
-cut_is_mark : (number place : ℕ) → IsCutPlace number place → IsMark number place
+pub cut_is_mark : (number place : ℕ) → IsCutPlace number place → IsMark number place
 cut_is_mark number place (inl even) = inl even
 cut_is_mark number place (inr odd) = inr (inl odd)
 
 -- the owing word is none
-not_owing : (number place : ℕ) → IsCutPlace number place → place ≡ session_place number own.Owing → ⊥
+pub not_owing : (number place : ℕ) → IsCutPlace number place → place ≡ session_place number own.Owing → ⊥
 not_owing number place (inl even) owing = omega (arith, even, owing)
 not_owing number place (inr odd) owing = omega (arith, odd, owing)
 

@@ -1,6 +1,7 @@
 -- Each commit that has begun in a life has come to wait-flush. So each session's point of its number stays and splits the session's effects, for ever.
 use Rattle.std.proofs.Common.{◌≡◌, inl, inr, ℕ, ◌≤◌, List, [], ◌∷◌, ◌++◌, refl, arith, ap, subst, Bool, true, false}
 use Rattle.std.specs.Prelude.{⊤, if◌then◌else◌, Option, Some, None}
+use Rattle.fkv_base.specs.declared.numbers.Serial.{Serial}
 use Rattle.fkv_base.specs.declared.numbers.Version.{Version}
 use Rattle.fkv_base.specs.declared.shapes.Shape.{Shape}
 use Rattle.fkv_plane.specs.declared.actions.Action.{Action}
@@ -34,21 +35,21 @@ use Rattle.law_commit.specs.Quiet.{BegunHaveFlushed, OpensQuiet, flush_rank, ran
 use Rattle.law_commit.proofs.OfPhases.LifeStages.{life_staged}
 use Rattle.law_commit.proofs.OfQuiet.Ranks.{ranks_rise, staged_rank}
 
--- ---- the numbers of those that have begun
-abbrev AllBegun : (ℕ → Type 0) → List BegunCommit → Type 0
+-- ---- the numbers and the points of those that have begun
+abbrev pub AllBegun : (ℕ → List Serial → Type 0) → List BegunCommit → Type 0
 AllBegun P [] = ⊤
-AllBegun P (c ∷ before) = P c.number.0 × AllBegun P before
+AllBegun P (c ∷ before) = P c.number.0 c.points × AllBegun P before
 
-weaker : (P Q : ℕ → Type 0) (begun : List BegunCommit) → ((number : ℕ) → P number → Q number) → AllBegun P begun → AllBegun Q begun
+pub weaker : (P Q : ℕ → List Serial → Type 0) (begun : List BegunCommit) → ((number : ℕ) (points : List Serial) → P number points → Q number points) → AllBegun P begun → AllBegun Q begun
 weaker P Q [] on all = tt
-weaker P Q (c ∷ before) on all = (on c.number.0 all.0, weaker P Q before on all.1)
+weaker P Q (c ∷ before) on all = (on c.number.0 c.points all.0, weaker P Q before on all.1)
 
-one_of : (P : ℕ → Type 0) (c : BegunCommit) (begun : List BegunCommit) → IsIn c begun → AllBegun P begun → P c.number.0
+pub one_of : (P : ℕ → List Serial → Type 0) (c : BegunCommit) (begun : List BegunCommit) → IsIn c begun → AllBegun P begun → P c.number.0 c.points
 one_of P c [] there all = absurd there
-one_of P c (x ∷ before) (inl same) all = subst (λ (y : BegunCommit). P y.number.0) same all.0
+one_of P c (x ∷ before) (inl same) all = subst (λ (y : BegunCommit). P y.number.0 y.points) same all.0
 one_of P c (x ∷ before) (inr there) all = one_of P c before there all.1
 
-module _ (P : ℕ → Type 0) where
+module _ (P : ℕ → List Serial → Type 0) where
   sealed_all : (begun : List BegunCommit) → AllBegun P begun → AllBegun P (with_sealed begun)
   sealed_all [] all = tt
   sealed_all (c ∷ before) all = all
@@ -57,16 +58,16 @@ module _ (P : ℕ → Type 0) where
   finished_all [] all = tt
   finished_all (c ∷ before) all = all
 
-  opening_all : (s : KeeperState) (found : Option Commit) (before : List BegunCommit) → ((c : Commit) → found ≡ Some c → P c.number.0) → AllBegun P before → AllBegun P (with_opening s found before)
+  opening_all : (s : KeeperState) (found : Option Commit) (before : List BegunCommit) → ((c : Commit) → found ≡ Some c → P c.number.0 s.seek.points) → AllBegun P before → AllBegun P (with_opening s found before)
   opening_all s None before new all = all
   opening_all s (Some c) before new all = (new c refl, all)
 
-  gate_all : (s : KeeperState) (step : Gating) (done : Bool) (before : List BegunCommit) → ((c : Commit) → s.commit ≡ Some c → P c.number.0) → AllBegun P before → AllBegun P (begun_at_gate s step done before)
+  gate_all : (s : KeeperState) (step : Gating) (done : Bool) (before : List BegunCommit) → ((c : Commit) → s.commit ≡ Some c → P c.number.0 s.seek.points) → AllBegun P before → AllBegun P (begun_at_gate s step done before)
   gate_all s Opens done before new all = opening_all s s.commit before new all
   gate_all s SyncsOpen true before new all = sealed_all before all
   gate_all s step done before new all = all
 
-  writes_all : (s : KeeperState) (step : Committing) (done : Bool) (before : List BegunCommit) → ((c : Commit) → s.commit ≡ Some c → P c.number.0) → AllBegun P before → AllBegun P (begun_at_writes s step done before)
+  writes_all : (s : KeeperState) (step : Committing) (done : Bool) (before : List BegunCommit) → ((c : Commit) → s.commit ≡ Some c → P c.number.0 s.seek.points) → AllBegun P before → AllBegun P (begun_at_writes s step done before)
   writes_all s PutsSlot done before new all = gate_all s s.writes.gate.step done before new all
   writes_all s step done before new all = all
 
@@ -74,14 +75,14 @@ module _ (P : ℕ → Type 0) where
   end_all (Ended (Turned true full)) before all = finished_all before all
   end_all after before all = all
 
-  called_all : (s : KeeperState) (step : Keeping) (done : Bool) (bytes : List ℕ) (after : Keeping) (before : List BegunCommit) → (step ≡ Writes → (c : Commit) → s.commit ≡ Some c → P c.number.0) → AllBegun P before
+  called_all : (s : KeeperState) (step : Keeping) (done : Bool) (bytes : List ℕ) (after : Keeping) (before : List BegunCommit) → (step ≡ Writes → (c : Commit) → s.commit ≡ Some c → P c.number.0 s.seek.points) → AllBegun P before
       → AllBegun P (begun_by s step (Calls done bytes) after before)
   called_all s Writes done bytes after before new all = writes_all s s.writes.step done before (new refl) all
   called_all s Finishes done bytes after before new all = end_all after before all
   called_all s step done bytes after before new all = all
 
   -- another event begins none
-  abbrev IsNoCall : KeeperEvent → Type 0
+  abbrev pub IsNoCall : KeeperEvent → Type 0
   IsNoCall (Calls done bytes) = ⊥
   IsNoCall event = ⊤
 
@@ -90,19 +91,19 @@ module _ (P : ℕ → Type 0) where
   other_all s Writes (Calls done bytes) after before none all = absurd none
   other_all s step event after before none all = all
 
-  abbrev HasNoCall : List KeeperEvent → Type 0
+  abbrev pub HasNoCall : List KeeperEvent → Type 0
   HasNoCall [] = ⊤
   HasNoCall (event ∷ before) = IsNoCall event × HasNoCall before
 
   module _ (shape : Shape) (p : Places) (opening : KeeperState) (first : List BegunCommit) where
-    others_all : (later own : List KeeperEvent) → HasNoCall later → AllBegun P (commits_begun shape p opening first own) → AllBegun P (commits_begun shape p opening first (later ++ own))
+    pub others_all : (later own : List KeeperEvent) → HasNoCall later → AllBegun P (commits_begun shape p opening first own) → AllBegun P (commits_begun shape p opening first (later ++ own))
     unfolding commits_begun
     others_all [] own none all = all
     others_all (event ∷ later) own none all =
         other_all (keeper_run shape p opening (later ++ own)) (keeper_run shape p opening (later ++ own)).step event (keeper_run shape p opening (event ∷ later ++ own)).step (commits_begun shape p opening first (later ++ own)) none.0
         (others_all later own none.1 all)
 
-    call_all : (done : Bool) (bytes : List ℕ) (own : List KeeperEvent) → ((keeper_run shape p opening own).step ≡ Writes → (c : Commit) → (keeper_run shape p opening own).commit ≡ Some c → P c.number.0) → AllBegun P (commits_begun shape p opening first own)
+    pub call_all : (done : Bool) (bytes : List ℕ) (own : List KeeperEvent) → ((keeper_run shape p opening own).step ≡ Writes → (c : Commit) → (keeper_run shape p opening own).commit ≡ Some c → P c.number.0 (keeper_run shape p opening own).seek.points) → AllBegun P (commits_begun shape p opening first own)
         → AllBegun P (commits_begun shape p opening first (Calls done bytes ∷ own))
     unfolding commits_begun
     call_all done bytes own new all =
@@ -152,7 +153,7 @@ module _ (P : ℕ → Type 0) where
   by_part G shape p read n (Moves number) called other = other [] tt
   by_part G shape p read n Crashes called other = other [] tt
 
-  by_event : (G : List KeeperEvent → Type 0) (w : World) (event : Event) → ((done : Bool) (bytes : List ℕ) → G (Calls done bytes ∷ [])) → ((part : List KeeperEvent) → HasNoCall part → G part) → G (keeper_part_of w event)
+  pub by_event : (G : List KeeperEvent → Type 0) (w : World) (event : Event) → ((done : Bool) (bytes : List ℕ) → G (Calls done bytes ∷ [])) → ((part : List KeeperEvent) → HasNoCall part → G part) → G (keeper_part_of w event)
   by_event G w event called other = by_crash w.now.crashed
     where
       by_crash : (c : Bool) → G (if c then [] else keeper_part w.now.shape w.now.places (read_by_keeper w) (near w.now w.now.keeper) event)
@@ -168,11 +169,11 @@ writes_flush number stage s Writes at is = is
 writes_flush number stage s step at is = cc
 
 module _ (opening : World) (start : ℕ) (opens : OpensQuiet opening start) where
-  abbrev HasFlushed : List Event → ℕ → Type 0
-  HasFlushed events number = flush_rank number ≤ rank_now opening events
+  abbrev HasFlushed : List Event → ℕ → List Serial → Type 0
+  HasFlushed events number points = flush_rank number ≤ rank_now opening events
 
   -- the commit that is written
-  written : (events : List Event) → (run opening events).now.keeper.step ≡ Writes → (c : Commit) → (run opening events).now.keeper.commit ≡ Some c → HasFlushed events c.number.0
+  pub written : (events : List Event) → (run opening events).now.keeper.step ≡ Writes → (c : Commit) → (run opening events).now.keeper.commit ≡ Some c → HasFlushed events c.number.0 (run opening events).now.keeper.seek.points
   written events writes c is =
       let n : Now = (run opening events).now in
       let lived = life_staged opening start events opens.guarded opens.opened opens.seen.rests in
@@ -185,12 +186,12 @@ module _ (opening : World) (start : ℕ) (opens : OpensQuiet opening start) wher
   unfolding keeper_events commits_begun run
   all_flushed [] = let said = ap rank_said opens.seen.rests.says in (omega (arith, said), tt)
   all_flushed (event ∷ before) =
-      let P : ℕ → Type 0 = HasFlushed (event ∷ before) in
+      let P : ℕ → List Serial → Type 0 = HasFlushed (event ∷ before) in
       let up = ranks_rise opening start before event opens in
       let first : List BegunCommit = commit_opened opening.now opening.past.opened ∷ [] in
       let own : List KeeperEvent = keeper_events opening before in
-      let all = weaker (HasFlushed before) P (life_begun opening before) (λ number. higher number (rank_now opening before) (rank_now opening (event ∷ before)) up) (all_flushed before) in
-      let now = to_keeper (λ (s : KeeperState). s.step ≡ Writes → (c : Commit) → s.commit ≡ Some c → P c.number.0) opening before (λ writes c is. higher c.number.0 (rank_now opening before) (rank_now opening (event ∷ before)) up (written before writes c is)) in
+      let all = weaker (HasFlushed before) P (life_begun opening before) (λ number points. higher number (rank_now opening before) (rank_now opening (event ∷ before)) up) (all_flushed before) in
+      let now = to_keeper (λ (s : KeeperState). s.step ≡ Writes → (c : Commit) → s.commit ≡ Some c → P c.number.0 s.seek.points) opening before (λ writes c is. higher c.number.0 (rank_now opening before) (rank_now opening (event ∷ before)) up (written before writes c is)) in
       by_event P (λ (part : List KeeperEvent). AllBegun P (commits_begun opening.now.shape opening.now.places opening.now.keeper first (part ++ own))) (run opening before) event
       (λ done bytes. call_all P opening.now.shape opening.now.places opening.now.keeper first done bytes own now all)
       (λ part none. others_all P opening.now.shape opening.now.places opening.now.keeper first part own none all)

@@ -204,7 +204,7 @@ asks_owing : (shape : Shape) (p : Places) (s : KeeperState) (session : ℕ) → 
 unfolding keeping_ask seeking_ask passed
 asks_owing shape p s session at loads = rw (at, loads) refl
 
-put_no_load : {X : Type 0} (ask : Ask KeeperTold) (slot : ℕ) (action : Action) (place : ℕ) → ask ≡ Put slot action → ask ≡ Load place → X
+pub put_no_load : {X : Type 0} (ask : Ask KeeperTold) (slot : ℕ) (action : Action) (place : ℕ) → ask ≡ Put slot action → ask ≡ Load place → X
 put_no_load ask slot action place puts loads = let clash : Put slot action ≡ Load place = sym puts ∙ loads in cc
 
 -- ---- an earlier version

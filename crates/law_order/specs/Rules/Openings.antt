@@ -8,6 +8,7 @@ use Rattle.law_opening.specs.Log.Maps.{opening_map}
 use Rattle.law_opening.specs.Log.OpeningLog.{opening_ghosts}
 use Rattle.fkv_world.specs.World.{Now}
 use Rattle.law_commit.specs.Cuts.{HasItsWords, ShowCuts, ShowsDurable}
+use Rattle.law_commit.specs.Points.{OpensPointed}
 use Rattle.law_commit.specs.Quiet.{OpensQuiet}
 use Rattle.law_commit.specs.Versions.Laws.{OpensWithLog}
 use Rattle.law_order.specs.Known.Begins.{BeginsLife}
@@ -43,3 +44,8 @@ OpensItsVersions =
 abbrev pub OpensItsEnds : Type 0
 OpensItsEnds =
     (bytes : List ℕ) (o : Opened) (n : Now) → IsStoreOf bytes o → IsOpeningWorld o n → OpensQuiet (beginning n bytes) o.tail.0
+
+-- and the points of its newest commit are its sessions' serials
+abbrev pub OpensItsPoints : Type 0
+OpensItsPoints =
+    (bytes : List ℕ) (o : Opened) (n : Now) → IsStoreOf bytes o → IsOpeningWorld o n → OpensPointed (beginning n bytes) o.tail.0

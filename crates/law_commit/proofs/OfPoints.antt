@@ -1,0 +1,10 @@
+pub mod AsTaken
+pub mod Asked
+pub mod Begun
+pub mod GoOn
+pub mod Last
+pub mod Rises
+pub mod Starting
+pub mod Taken
+pub mod Taking
+pub mod Words

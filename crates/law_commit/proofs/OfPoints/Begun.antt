@@ -1,0 +1,80 @@
+-- The points of each commit that has begun are the sessions' points of its number, for ever.
+use Rattle.std.proofs.Common.{◌≡◌, ℕ, ◌≤◌, ◌∙◌, List, [], ◌∷◌, ◌++◌, refl, arith, ap, sym}
+use Rattle.std.specs.Prelude.{Option, Some, None, slice_get}
+use Rattle.fkv_base.specs.declared.numbers.Serial.{Serial}
+use Rattle.fkv_commit.specs.declared.commits.Commit.{Commit}
+use Rattle.fkv_keeper.specs.declared.keepers.Keeping.TheVariants.{Writes}
+use Rattle.fkv_keeper.specs.Keeping.{KeeperState}
+use Rattle.fkv_keeper.specs.KeeperRun.{KeeperEvent}
+use Rattle.fkv_session.specs.Sessions.{SessionState}
+use Rattle.fkv_session.specs.Versions.{versions_taken}
+use Rattle.fkv_world.specs.OwnEvents.{keeper_events, session_events}
+use Rattle.fkv_world.specs.Runs.{World, run}
+use Rattle.fkv_world.specs.World.{Event}
+use Rattle.fkv_world.proofs.Shown.{session_runs}
+use Rattle.law_world.proofs.OfKeeper.OwnRun.{to_keeper}
+use Rattle.law_commit.specs.Accepted.{point, serial_at}
+use Rattle.law_commit.specs.BegunCommits.{BegunCommit, commit_opened, commits_begun, life_begun}
+use Rattle.law_commit.specs.Floor.Stands.{PaperIsSound}
+use Rattle.law_commit.specs.Points.{ArePointsOf, BegunHavePoints, OpensPointed}
+use Rattle.law_commit.specs.Quiet.{CutsShowPoints, LiveAreLater, pending_rank, rank_now, rank_said}
+use Rattle.law_commit.proofs.OfPoints.Taken.{takes_points, writes_taken}
+use Rattle.law_commit.proofs.OfQuiet.Begun.{AllBegun, by_event, call_all, one_of, others_all, weaker, written}
+use Rattle.law_commit.proofs.OfQuiet.Points.{points_stay}
+use Rattle.law_commit.proofs.OfQuiet.Ranks.{ranks_rise}
+
+-- as a life begins a session's point of any version is its serial
+pub point_opens : (opening : World) (session version : ℕ) → point opening [] session version ≡ serial_at opening.now session
+unfolding session_events versions_taken
+point_opens opening session version = by_found (slice_get opening.now.sessions session) refl
+  where
+    by_found : (found : Option SessionState) → slice_get opening.now.sessions session ≡ found → point opening [] session version ≡ serial_at opening.now session
+    by_found None none = rw none refl
+    by_found (Some first) found = rw found (omega arith)
+
+module _ (live : LiveAreLater) (paper_sound : PaperIsSound) (cuts_show : CutsShowPoints) (opening : World) (start : ℕ) (opens : OpensPointed opening start) where
+  -- from wait-pending on a point stays, of whatever session
+  pub same_point : (event : Event) (before : List Event) (version session : ℕ) → pending_rank version ≤ rank_now opening before → point opening (event ∷ before) session version ≡ point opening before session version
+  same_point event before version session high = by_found (slice_get opening.now.sessions session) refl
+    where
+      by_found : (found : Option SessionState) → slice_get opening.now.sessions session ≡ found → point opening (event ∷ before) session version ≡ point opening before session version
+      by_found None none = rw none refl
+      by_found (Some first) found =
+          points_stay live opening start (event ∷ []) before version session first _ opens.quiet high (record { opened = opens.quiet.opened; was = found; is_now = session_runs opening session first before found })
+
+  abbrev Pointed : List Event → ℕ → List Serial → Type 0
+  Pointed events number points = (pending_rank number ≤ rank_now opening events) × ArePointsOf opening events number points
+
+  higher : (low mid high : ℕ) → low ≤ mid → mid ≤ high → low ≤ high
+  higher low mid high one other = omega (arith, one, other)
+
+  pointed_on : (event : Event) (before : List Event) (number : ℕ) (points : List Serial) → Pointed before number points → Pointed (event ∷ before) number points
+  pointed_on event before number points its =
+      (higher (pending_rank number) (rank_now opening before) (rank_now opening (event ∷ before)) its.0 (ranks_rise opening start before event opens.quiet), λ session. its.1 session ∙ sym (same_point event before number session its.0))
+
+  -- the commit that is written
+  writes_pointed : (events : List Event) → (run opening events).now.keeper.step ≡ Writes → (c : Commit) → (run opening events).now.keeper.commit ≡ Some c → Pointed events c.number.0 (run opening events).now.keeper.seek.points
+  writes_pointed events writes c in_hand =
+      let flushed = written opening start opens.quiet events writes c in_hand in
+      let has_them = writes_taken live paper_sound cuts_show opening start opens.quiet opens.cuts events writes in
+      (omega (arith, flushed), takes_points live paper_sound cuts_show opening start events c opens in_hand has_them)
+
+  all_pointed : (events : List Event) → AllBegun (Pointed events) (life_begun opening events)
+  unfolding keeper_events commits_begun run
+  all_pointed [] =
+      let said = ap rank_said opens.quiet.seen.rests.says in
+      ((omega (arith, said), λ session. opens.points session ∙ sym (point_opens opening session opening.now.keeper.last.number.0)), tt)
+  all_pointed (event ∷ before) =
+      let P : ℕ → List Serial → Type 0 = Pointed (event ∷ before) in
+      let first : List BegunCommit = commit_opened opening.now opening.past.opened ∷ [] in
+      let own : List KeeperEvent = keeper_events opening before in
+      let all = weaker (Pointed before) P (life_begun opening before) (pointed_on event before) (all_pointed before) in
+      let now = to_keeper (λ (s : KeeperState). s.step ≡ Writes → (c : Commit) → s.commit ≡ Some c → P c.number.0 s.seek.points) opening before
+      (λ writes c is. pointed_on event before c.number.0 (run opening before).now.keeper.seek.points (writes_pointed before writes c is)) in
+      by_event P (λ (part : List KeeperEvent). AllBegun P (commits_begun opening.now.shape opening.now.places opening.now.keeper first (part ++ own))) (run opening before) event
+      (λ done bytes. call_all P opening.now.shape opening.now.places opening.now.keeper first done bytes own now all)
+      (λ part none. others_all P opening.now.shape opening.now.places opening.now.keeper first part own none all)
+
+pub begun_have_points : LiveAreLater → PaperIsSound → CutsShowPoints → BegunHavePoints
+begun_have_points live paper_sound cuts_show opening start events c opens there =
+    (one_of (Pointed live paper_sound cuts_show opening start opens events) c (life_begun opening events) there (all_pointed live paper_sound cuts_show opening start opens events)).1

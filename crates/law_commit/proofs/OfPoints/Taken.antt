@@ -1,0 +1,413 @@
+-- In a life the points that the keeper takes are the sessions' points of the commit's number.
+use Rattle.std.proofs.Common.{◌≡◌, ◌⊎◌, inl, inr, ℕ, zero, suc, ◌<◌, ◌≤◌, ◌∙◌, List, [], ◌∷◌, length, refl, arith, ap, sym, subst, true}
+use Rattle.std.specs.Prelude.{max, Option, Some, None, slice_get}
+use Rattle.std.proofs.lemmas.Option.{slice_get_within}
+use Rattle.fkv_base.specs.Limits.{last_serial, last_version}
+use Rattle.fkv_base.specs.declared.numbers.Serial.{Serial}
+use Rattle.fkv_base.specs.declared.numbers.Version.{Version}
+use Rattle.fkv_base.specs.declared.shapes.Shape.{Shape}
+use Rattle.fkv_plane.specs.declared.actions.Action.{Action}
+use Rattle.fkv_plane.specs.declared.asks.Ask.{Ask}
+use Rattle.fkv_plane.specs.declared.asks.Ask.TheVariants.{Load, Put}
+use Rattle.fkv_plane.specs.declared.places.Places.{Places}
+use Rattle.fkv_plane.specs.Asked.{reply_to}
+use Rattle.fkv_plane.specs.Passing.{passed}
+use Rattle.fkv_plane.specs.Places.{session_place}
+use Rattle.fkv_commit.specs.declared.seeking.Seeking.{Seeking}
+use Rattle.fkv_commit.specs.declared.seeking.Seeking.TheVariants as seek
+use Rattle.fkv_commit.specs.Cuts.{cut_of, other_cut_of, serial_said, version_said}
+use Rattle.fkv_commit.specs.Seeking.{seeking_ask}
+use Rattle.fkv_keeper.specs.declared.answers.KeeperTold.{KeeperTold}
+use Rattle.fkv_keeper.specs.declared.keepers.Keeping.{Keeping}
+use Rattle.fkv_keeper.specs.declared.keepers.Keeping.TheVariants.{Ended, Starts, Maintains, LoadsPhase, Enters, Copies, Seeks, Waits, Writes, Finishes}
+use Rattle.fkv_keeper.specs.Keeping.{KeeperState, commit_asked, keeper_ask, keeping_ask, turn_asked}
+use Rattle.fkv_map.specs.History.{point_of}
+use Rattle.fkv_session.specs.CatchingUp.{cut_at}
+use Rattle.fkv_session.specs.Sessions.{SessionState}
+use Rattle.fkv_session.specs.SessionRun.{session_run}
+use Rattle.fkv_world.specs.Moves.{keeper_gets}
+use Rattle.fkv_world.specs.Opened.{HasBecome}
+use Rattle.fkv_world.specs.OwnEvents.{session_events}
+use Rattle.fkv_world.specs.Runs.{World, run}
+use Rattle.fkv_world.specs.World.{Event, Now, seat_at}
+use Rattle.fkv_world.proofs.Shown.{session_runs}
+use Rattle.law_world.proofs.OfSessions.OwnRun.{opened_so}
+use Rattle.law_commit.specs.Accepted.{point, versions_found}
+use Rattle.law_commit.specs.Cuts.{ShowCuts}
+use Rattle.law_commit.specs.Floor.Stands.{PaperIsSound, stage_number}
+use Rattle.law_commit.specs.Phases.Staged.{IsStaged, Pends, SeekAt, Stage, StepAt}
+use Rattle.law_commit.specs.Points.{ArePointsOf, TakesPoints, first_cut, other_cut}
+use Rattle.law_commit.specs.Quiet.{CutsShowPoints, LiveAreLater, OpensQuiet, ShowsPoint, pending_rank, rank_now}
+use Rattle.law_commit.proofs.Counted.{life_counted}
+use Rattle.law_commit.proofs.OfCuts.Fits.{run_fits}
+use Rattle.law_commit.proofs.OfPhases.LifeStages.{event_on, life_staged}
+use Rattle.law_commit.proofs.OfPhases.StageMoves.{LedOn, QuietKeeper, Quietly, RunBySession}
+use Rattle.law_commit.proofs.OfPoints.GoOn.{event_goes, few}
+use Rattle.law_commit.proofs.OfPoints.Taking.{AreTaken, KeeperTakes, KeepingReply, KeepingTakes, SeekReply, StepTakes, asked_takes, called_takes, commit_takes, given_takes, has_taken, opened_takes, replied_takes, takes_on, turn_takes}
+use Rattle.law_commit.proofs.OfPoints.Words.{Meets, again_says, first_meets, first_says, goes_again, other_says, still_meets, still_says}
+use Rattle.law_commit.proofs.OfQuiet.Left.{put_no_load}
+use Rattle.law_commit.proofs.OfQuiet.Points.{points_stay}
+use Rattle.law_commit.proofs.OfQuiet.Ranks.{ranks_rise, staged_rank}
+use Rattle.law_commit.proofs.OfVersions.Points.{count_low}
+
+-- ---- lists by index
+pub none_past : {X : Type 0} (xs : List X) (i : ℕ) → slice_get xs i ≡ None → length xs ≤ i
+none_past [] i none = omega arith
+none_past (x ∷ xs) zero none = cc
+none_past (x ∷ xs) (suc i) none = let rest = none_past xs i none in omega (arith, rest)
+
+pub some_there : {X : Type 0} (xs : List X) (i : ℕ) → i < length xs → (x : X) × (slice_get xs i ≡ Some x)
+some_there [] i low = absurd (omega (arith, low))
+some_there (x ∷ xs) zero low = (x, refl)
+some_there (x ∷ xs) (suc i) low = some_there xs i (omega (arith, low))
+
+pub point_there : (points : List Serial) (session : ℕ) (it : Serial) → slice_get points session ≡ Some it → point_of points session ≡ it.0
+point_there [] session it got = cc
+point_there (x ∷ rest) zero it got = let same : x ≡ it = cc in ap (λ (y : Serial). y.0) same
+point_there (x ∷ rest) (suc i) it got = point_there rest i it got
+
+pub point_past : (points : List Serial) (session : ℕ) → length points ≤ session → point_of points session ≡ 0
+point_past [] session past = refl
+point_past (x ∷ rest) zero past = absurd (omega (arith, past))
+point_past (x ∷ rest) (suc i) past = point_past rest i (omega (arith, past))
+
+-- ---- what the keeper loads
+asks_first : (shape : Shape) (p : Places) (s : KeeperState) → s.step ≡ Seeks → s.seek.step ≡ seek.LoadsCut → keeper_ask shape p s ≡ Load (session_place (length s.seek.points) (cut_of s.seek.number.0))
+unfolding keeping_ask seeking_ask passed
+asks_first shape p s at loads = rw (at, loads) refl
+
+asks_other : (shape : Shape) (p : Places) (s : KeeperState) (met : ℕ) → s.step ≡ Seeks → s.seek.step ≡ seek.LoadsOther met → keeper_ask shape p s ≡ Load (session_place (length s.seek.points) (other_cut_of s.seek.number.0))
+unfolding keeping_ask seeking_ask passed
+asks_other shape p s met at loads = rw (at, loads) refl
+
+asks_again : (shape : Shape) (p : Places) (s : KeeperState) → s.step ≡ Seeks → s.seek.step ≡ seek.LoadsAgain → keeper_ask shape p s ≡ Load (session_place (length s.seek.points) (cut_of s.seek.number.0))
+unfolding keeping_ask seeking_ask passed
+asks_again shape p s at loads = rw (at, loads) refl
+
+module _ (live : LiveAreLater) (paper_sound : PaperIsSound) (cuts_show : CutsShowPoints) (opening : World) (start : ℕ) (opens : OpensQuiet opening start) (shows : ShowCuts opening.now) where
+  abbrev count : ℕ
+  count = opening.now.places.sessions
+
+  -- ---- what is known of a session at a moment
+  abbrev At : List Event → ℕ → ℕ → ℕ
+  At events version session = point opening events session version
+
+  -- a word that was met as its first: while the phase is wait-pending its words say what follows
+  record Met (events : List Event) (version session word : ℕ) : Type 0 where
+    from : pending_rank version ≤ rank_now opening events
+    meets : (first : SessionState) → slice_get opening.now.sessions session ≡ Some first → rank_now opening events ≡ pending_rank version
+        → Meets version (At events version session) word (first_cut opening events session version) (other_cut opening events session version)
+
+  -- its first word says the point
+  record Again (events : List Event) (version session : ℕ) : Type 0 where
+    from : pending_rank version ≤ rank_now opening events
+    says : (first : SessionState) → slice_get opening.now.sessions session ≡ Some first → rank_now opening events ≡ pending_rank version → first_cut opening events session version ≡ cut_at (At events version session) version
+
+  -- a serial is its point
+  record Point (events : List Event) (version session serial : ℕ) : Type 0 where
+    from : pending_rank version ≤ rank_now opening events
+    is : (first : SessionState) → slice_get opening.now.sessions session ≡ Some first → serial ≡ At events version session
+
+  abbrev Takes : List Event → KeeperState → Type 0
+  Takes events s = KeeperTakes count (Met events) (Again events) (Point events) s
+
+  become : (events : List Event) (session : ℕ) (first : SessionState) → slice_get opening.now.sessions session ≡ Some first
+      → HasBecome opening events session first (session_run (seat_at opening.now session) first (session_events opening session events))
+  become events session first was = record { opened = opens.opened; was = was; is_now = session_runs opening session first events was }
+
+  shown : (events : List Event) (version session : ℕ) (first : SessionState) → slice_get opening.now.sessions session ≡ Some first → rank_now opening events ≡ pending_rank version
+      → ShowsPoint version (At events version session) (first_cut opening events session version) (other_cut opening events session version)
+  shown events version session first was rank = cuts_show opening start events version session first _ opens shows (become events session first was) rank
+
+  -- a point is a serial
+  small : (events : List Event) (version session : ℕ) (first : SessionState) → slice_get opening.now.sessions session ≡ Some first → At events version session ≤ last_serial
+  small events version session first was =
+      let its : SessionState = session_run (seat_at opening.now session) first (session_events opening session events) in
+      let became = become events session first was in
+      let fits : its.serial ≤ last_serial = run_fits (seat_at opening.now session) first (session_events opening session events) (opened_so opening events session first its became) in
+      let counts = life_counted opening events session first its became in
+      let low = count_low version (versions_found opening events session (slice_get opening.now.sessions session)) in
+      omega (arith, fits, counts, low)
+
+  -- ---- it goes on
+  module _ (event : Event) (before : List Event) where
+    up : rank_now opening before ≤ rank_now opening (event ∷ before)
+    up = ranks_rise opening start before event opens
+
+    same_point : (version session : ℕ) (first : SessionState) → slice_get opening.now.sessions session ≡ Some first → pending_rank version ≤ rank_now opening before → At (event ∷ before) version session ≡ At before version session
+    same_point version session first was from = points_stay live opening start (event ∷ []) before version session first _ opens from (become before session first was)
+
+    still_pends : (version : ℕ) → pending_rank version ≤ rank_now opening before → rank_now opening (event ∷ before) ≡ pending_rank version → rank_now opening before ≡ pending_rank version
+    still_pends version from here = let rise = up in omega (arith, rise, from, here)
+
+    met_on : (version session word : ℕ) → Met before version session word → Met (event ∷ before) version session word
+    met_on version session word its =
+        let rise = up in
+        let from = its.from in
+        record {
+          from = omega (arith, rise, from);
+          meets = λ first was here.
+              let rank = still_pends version its.from here in
+              let goes = event_goes live paper_sound opening start before version session first opens was rank event in
+              let same = same_point version session first was its.from in
+              let shows_now = subst (λ (n : ℕ). ShowsPoint version n (first_cut opening (event ∷ before) session version) (other_cut opening (event ∷ before) session version)) same (shown (event ∷ before) version session first was here) in
+              subst (λ (n : ℕ). Meets version n word (first_cut opening (event ∷ before) session version) (other_cut opening (event ∷ before) session version)) (sym same)
+              (still_meets version (At before version session) (small before version session first was) word (first_cut opening before session version) (other_cut opening before session version) (first_cut opening (event ∷ before) session version)
+              (other_cut opening (event ∷ before) session version) goes.first goes.other shows_now (its.meets first was rank));
+        }
+
+    again_on : (version session : ℕ) → Again before version session → Again (event ∷ before) version session
+    again_on version session its =
+        let rise = up in
+        let from = its.from in
+        record {
+          from = omega (arith, rise, from);
+          says = λ first was here.
+              let rank = still_pends version its.from here in
+              let goes = event_goes live paper_sound opening start before version session first opens was rank event in
+              let same = same_point version session first was its.from in
+              still_says version (At before version session) (small before version session first was) (first_cut opening before session version) (first_cut opening (event ∷ before) session version) goes.first (its.says first was rank)
+              ∙ ap (λ (n : ℕ). cut_at n version) (sym same);
+        }
+
+    point_on : (version session serial : ℕ) → Point before version session serial → Point (event ∷ before) version session serial
+    point_on version session serial its =
+        let rise = up in
+        let from = its.from in
+        record { from = omega (arith, rise, from); is = λ first was. its.is first was ∙ sym (same_point version session first was its.from) }
+
+    carried : (s : KeeperState) → Takes before s → Takes (event ∷ before) s
+    carried s its = takes_on count (Met before) (Met (event ∷ before)) (Again before) (Again (event ∷ before)) (Point before) (Point (event ∷ before)) met_on again_on point_on s its
+
+  -- ---- what the keeper reads
+  module _ (events : List Event) where
+    abbrev n : Now
+    n = (run opening events).now
+
+    abbrev reply : ℕ
+    reply = reply_to n.words (keeper_ask n.shape n.places n.keeper)
+
+    module _ (number : Version) (stage : Stage) (staged : IsStaged n number stage) where
+      pends_rank : n.keeper.seek.number ≡ number → stage ≡ Pends → rank_now opening events ≡ pending_rank n.keeper.seek.number.0
+      pends_rank same pends = let a = staged_rank n number stage staged in let b = ap stage_number pends in let c = ap (λ (v : Version). v.0) same in omega (arith, a, b, c)
+
+      seek_at : n.keeper.step ≡ Seeks → (n.keeper.seek.number ≡ number) × SeekAt number stage n.keeper.seek n.keeper.seek.step
+      seek_at at = subst (λ (x : Keeping). StepAt number stage n.keeper x) at staged.keeper.step
+
+      here : n.keeper.step ≡ Seeks → (step : Seeking) → n.keeper.seek.step ≡ step → SeekAt number stage n.keeper.seek step
+      here at step is = subst (λ (x : Seeking). SeekAt number stage n.keeper.seek x) is (seek_at at).1
+
+      abbrev version : ℕ
+      version = n.keeper.seek.number.0
+
+      abbrev session : ℕ
+      session = length n.keeper.seek.points
+
+      read : (place : ℕ) → keeper_ask n.shape n.places n.keeper ≡ Load place → reply ≡ reply_to {A = KeeperTold} n.words (Load place)
+      read place asks = ap (λ (ask : Ask KeeperTold). reply_to n.words ask) asks
+
+      -- the version that it commits is no later than the last
+      few_versions : (first : SessionState) → slice_get opening.now.sessions session ≡ Some first → rank_now opening events ≡ pending_rank version → version ≤ last_version
+      few_versions first was rank = let low = few live paper_sound opening start events version session first opens was rank in omega (arith, low)
+
+      first_told : n.keeper.step ≡ Seeks → n.keeper.seek.step ≡ seek.LoadsCut → (first : SessionState) → slice_get opening.now.sessions session ≡ Some first → SeekReply count (Met events) (Again events) (Point events) n.keeper.seek seek.LoadsCut reply
+      first_told at loads first was =
+          let rank = pends_rank (seek_at at).0 (here at seek.LoadsCut loads).0 in
+          let is : reply ≡ first_cut opening events session version = read (session_place session (cut_of version)) (asks_first n.shape n.places n.keeper at loads) in
+          let from : pending_rank version ≤ rank_now opening events = omega (arith, rank) in (
+            (λ same. record {
+              from = from;
+              is = λ other found. ap serial_said is ∙ first_says version (At events version session) (small events version session first was) (first_cut opening events session version) (other_cut opening events session version)
+                  (shown events version session first was rank) (ap version_said (sym is) ∙ same);
+            }),
+            (λ apart. record {
+              from = from;
+              meets = λ other found pending. subst (λ (word : ℕ). Meets version (At events version session) word (first_cut opening events session version) (other_cut opening events session version)) (sym is)
+                  (first_meets version (At events version session) (small events version session first was) (first_cut opening events session version) (other_cut opening events session version) (few_versions first was rank)
+                  (shown events version session first was rank) (λ same. apart (ap version_said is ∙ same)));
+            }),
+          )
+
+      other_told : (met : ℕ) → n.keeper.step ≡ Seeks → n.keeper.seek.step ≡ seek.LoadsOther met → Met events version session met → (first : SessionState) → slice_get opening.now.sessions session ≡ Some first
+          → SeekReply count (Met events) (Again events) (Point events) n.keeper.seek (seek.LoadsOther met) reply
+      other_told met at loads known first was =
+          let rank = pends_rank (seek_at at).0 (here at (seek.LoadsOther met) loads).0 in
+          let is : reply ≡ other_cut opening events session version = read (session_place session (other_cut_of version)) (asks_other n.shape n.places n.keeper met at loads) in
+          let from : pending_rank version ≤ rank_now opening events = omega (arith, rank) in
+          let said = ap version_said is in
+          let meets = known.meets first was rank in (
+            (λ low. record {
+              from = from;
+              is = λ other found. ap (λ (word : ℕ). max (serial_said met) (serial_said word)) is
+                  ∙ other_says version (At events version session) (small events version session first was) met (first_cut opening events session version) (other_cut opening events session version) meets (omega (arith, said, low));
+            }),
+            (λ later. record {
+              from = from;
+              says = λ other found pending. goes_again version (At events version session) (small events version session first was) met (first_cut opening events session version) (other_cut opening events session version) meets (omega (arith, said, later));
+            }),
+          )
+
+      again_told : n.keeper.step ≡ Seeks → n.keeper.seek.step ≡ seek.LoadsAgain → Again events version session → (first : SessionState) → slice_get opening.now.sessions session ≡ Some first
+          → SeekReply count (Met events) (Again events) (Point events) n.keeper.seek seek.LoadsAgain reply
+      again_told at loads known first was =
+          let rank = pends_rank (seek_at at).0 (here at seek.LoadsAgain loads).0 in
+          let is : reply ≡ first_cut opening events session version = read (session_place session (cut_of version)) (asks_again n.shape n.places n.keeper at loads) in
+          record {
+            from = omega (arith, rank);
+            is = λ other found. ap serial_said is ∙ again_says version (At events version session) (small events version session first was) (first_cut opening events session version) (known.says first was rank);
+          }
+
+      -- the session whose point it seeks is there
+      there : session < count → (first : SessionState) × (slice_get opening.now.sessions session ≡ Some first)
+      there low = let many = opens.opened.seats in some_there opening.now.sessions session (omega (arith, low, many))
+
+      seek_told : (step : Seeking) → n.keeper.step ≡ Seeks → n.keeper.seek.step ≡ step → StepTakes count (Met events) (Again events) (Point events) n.keeper.seek step → SeekReply count (Met events) (Again events) (Point events) n.keeper.seek step reply
+      seek_told seek.LoadsCut at is knows = let its = there knows in first_told at is its.0 its.1
+      seek_told (seek.LoadsOther met) at is knows = let its = there knows.0 in other_told met at is knows.1 its.0 its.1
+      seek_told seek.LoadsAgain at is knows = let its = there knows.0 in again_told at is knows.1 its.0 its.1
+      seek_told (seek.Ended its) at is knows = tt
+      seek_told (seek.LoadsOwing other) at is knows = tt
+      seek_told seek.SeeksSlot at is knows = tt
+      seek_told seek.StoresWaitFlush at is knows = tt
+      seek_told seek.LoadsTail at is knows = tt
+      seek_told (seek.RaisesReadOnly end) at is knows = tt
+      seek_told (seek.Defers end) at is knows = tt
+
+      keeping_told : (step : Keeping) → n.keeper.step ≡ step → KeepingTakes count (Met events) (Again events) (Point events) n.keeper step → KeepingReply count (Met events) (Again events) (Point events) n.keeper step reply
+      keeping_told Seeks at knows = seek_told n.keeper.seek.step at refl knows.its.step
+      keeping_told (Ended told) at knows = tt
+      keeping_told Starts at knows = tt
+      keeping_told Maintains at knows = tt
+      keeping_told LoadsPhase at knows = tt
+      keeping_told Enters at knows = tt
+      keeping_told Copies at knows = tt
+      keeping_told Waits at knows = tt
+      keeping_told Writes at knows = tt
+      keeping_told Finishes at knows = tt
+
+    -- as it puts an action it reads nothing
+    seek_puts : (s : KeeperState) (step : Seeking) (slot : ℕ) (action : Action) → s.step ≡ Seeks → s.seek.step ≡ step → keeper_ask n.shape n.places s ≡ Put slot action → SeekReply count (Met events) (Again events) (Point events) s.seek step 0
+    seek_puts s seek.LoadsCut slot action at is puts = put_no_load (keeper_ask n.shape n.places s) slot action (session_place (length s.seek.points) (cut_of s.seek.number.0)) puts (asks_first n.shape n.places s at is)
+    seek_puts s (seek.LoadsOther met) slot action at is puts = put_no_load (keeper_ask n.shape n.places s) slot action (session_place (length s.seek.points) (other_cut_of s.seek.number.0)) puts (asks_other n.shape n.places s met at is)
+    seek_puts s seek.LoadsAgain slot action at is puts = put_no_load (keeper_ask n.shape n.places s) slot action (session_place (length s.seek.points) (cut_of s.seek.number.0)) puts (asks_again n.shape n.places s at is)
+    seek_puts s (seek.Ended its) slot action at is puts = tt
+    seek_puts s (seek.LoadsOwing other) slot action at is puts = tt
+    seek_puts s seek.SeeksSlot slot action at is puts = tt
+    seek_puts s seek.StoresWaitFlush slot action at is puts = tt
+    seek_puts s seek.LoadsTail slot action at is puts = tt
+    seek_puts s (seek.RaisesReadOnly end) slot action at is puts = tt
+    seek_puts s (seek.Defers end) slot action at is puts = tt
+
+    keeping_puts : (s : KeeperState) (step : Keeping) (slot : ℕ) (action : Action) → s.step ≡ step → keeper_ask n.shape n.places s ≡ Put slot action → KeepingReply count (Met events) (Again events) (Point events) s step 0
+    keeping_puts s Seeks slot action at puts = seek_puts s s.seek.step slot action at refl puts
+    keeping_puts s (Ended told) slot action at puts = tt
+    keeping_puts s Starts slot action at puts = tt
+    keeping_puts s Maintains slot action at puts = tt
+    keeping_puts s LoadsPhase slot action at puts = tt
+    keeping_puts s Enters slot action at puts = tt
+    keeping_puts s Copies slot action at puts = tt
+    keeping_puts s Waits slot action at puts = tt
+    keeping_puts s Writes slot action at puts = tt
+    keeping_puts s Finishes slot action at puts = tt
+
+  -- ---- an event
+  module _ (event : Event) (before : List Event) (was : Takes before (run opening before).now.keeper) where
+    abbrev from : Now
+    from = (run opening before).now
+
+    abbrev after : Now
+    after = (run opening (event ∷ before)).now
+
+    abbrev Holds : KeeperState → Type 0
+    Holds s = Takes before s
+
+    gets_takes : (led : KeeperState) (found : Option Action) → Holds led → Holds (keeper_gets from.shape from.places led found)
+    gets_takes led None its = its
+    gets_takes led (Some action) its = given_takes count (Met before) (Again before) (Point before) from.shape from.places led led.step action refl its
+
+    quiet_takes : QuietKeeper from after.keeper → Holds after.keeper
+    quiet_takes (inl same) = subst Holds (sym same) was
+    quiet_takes (inr (inl called)) = subst Holds (sym called.2) (called_takes count (Met before) (Again before) (Point before) from.shape from.places from.keeper from.keeper.step called.0 called.1 refl was)
+    quiet_takes (inr (inr (inl commit))) =
+        subst Holds (sym commit.1)
+        (asked_takes count (Met before) (Again before) (Point before) from.keeper (commit_asked from.keeper commit.0) was
+        (commit_takes count (Met before) (Again before) (Point before) from.keeper commit.0 (has_taken count (Met before) (Again before) (Point before) from.keeper was)))
+    quiet_takes (inr (inr (inr turn))) =
+        subst Holds (sym turn)
+        (asked_takes count (Met before) (Again before) (Point before) from.keeper (turn_asked from.keeper) was
+        (turn_takes count (Met before) (Again before) (Point before) from.keeper (has_taken count (Met before) (Again before) (Point before) from.keeper was)))
+
+    module _ (number : Version) (stage : Stage) (staged : IsStaged from number stage) where
+      onto_takes : (next : Version) (there : Stage) → LedOn from after.keeper after.words number next stage there → Holds after.keeper
+      onto_takes next there its =
+          let onto = its.onto in
+          let led : Holds onto.led =
+          subst Holds (sym onto.is_led)
+          (replied_takes count (Met before) (Again before) (Point before) from.shape from.places from.keeper from.keeper.step (reply_to from.words (keeper_ask from.shape from.places from.keeper)) its.granted refl
+          (has_taken count (Met before) (Again before) (Point before) from.keeper was) was.step (keeping_told before number stage staged from.keeper.step refl was.step)) in
+          elim onto.settled [
+            | inl plain ↦ elim plain.keeper [
+              | inl same ↦ subst Holds (sym same) led
+              | inr gets ↦ subst Holds (sym gets.1) (gets_takes onto.led gets.0 led)
+            ]
+            | inr puts ↦ subst Holds (sym puts.keeper)
+                (replied_takes count (Met before) (Again before) (Point before) from.shape from.places onto.led onto.led.step 0 its.granted refl (has_taken count (Met before) (Again before) (Point before) onto.led led) led.step
+                (keeping_puts before onto.led onto.led.step puts.slot puts.action refl puts.asks))
+          ]
+
+      how_takes : (next : Version) (there : Stage) → Quietly from after.keeper number next stage there ⊎ (RunBySession from after.keeper number next stage there ⊎ LedOn from after.keeper after.words number next stage there) → Holds after.keeper
+      how_takes next there (inl quiet) = quiet_takes quiet.keeper
+      how_takes next there (inr (inl session)) = subst Holds (sym session.keeper) was
+      how_takes next there (inr (inr led)) = onto_takes next there led
+
+    event_takes : Takes (event ∷ before) after.keeper
+    event_takes =
+        let lived = life_staged opening start before opens.guarded opens.opened opens.seen.rests in
+        let there = event_on opening start opens.guarded opens.opened before event lived.number lived.stage lived.staged in
+        carried event before after.keeper (how_takes lived.number lived.stage lived.staged there.on.its_number there.on.its_stage there.how)
+
+  -- ---- a life
+  opened_keeper : Takes [] (run opening []).now.keeper
+  unfolding run
+  opened_keeper =
+      opened_takes count (Met []) (Again []) (Point []) opening.now.keeper opening.now.keeper.step refl opens.guarded.keeper.none_in_hand opens.guarded.keeper.no_commit opens.sought
+
+  life_takes : (events : List Event) → Takes events (run opening events).now.keeper
+  life_takes [] = opened_keeper
+  life_takes (event ∷ before) = event_takes event before (life_takes before)
+
+  -- where a commit is written they are
+  pub writes_taken : (events : List Event) → (run opening events).now.keeper.step ≡ Writes → (run opening events).now.keeper.has_points ≡ true
+  writes_taken events writes = subst (λ (x : Keeping). KeepingTakes count (Met events) (Again events) (Point events) (run opening events).now.keeper x) writes (life_takes events).step
+
+  -- all points of a version, once they are taken
+  none_given : (events : List Event) (version session : ℕ) → slice_get opening.now.sessions session ≡ None → 0 ≡ point opening events session version
+  none_given events version session none = rw none refl
+
+  points_of : (events : List Event) (version : ℕ) (points : List Serial) → AreTaken count (Met events) (Again events) (Point events) version points → length points ≡ count → ArePointsOf opening events version points
+  points_of events version points taken all session = by_session (slice_get opening.now.sessions session) refl
+    where
+      many : length opening.now.sessions ≡ count
+      many = opens.opened.seats
+
+      by_session : (found : Option SessionState) → slice_get opening.now.sessions session ≡ found → point_of points session ≡ point opening events session version
+      by_session None none =
+          let past = none_past opening.now.sessions session none in
+          let same = many in
+          point_past points session (omega (arith, past, same, all)) ∙ none_given events version session none
+      by_session (Some first) found = by_point (slice_get points session) refl
+        where
+          by_point : (it : Option Serial) → slice_get points session ≡ it → point_of points session ≡ point opening events session version
+          by_point None none =
+              let past = none_past points session none in
+              let within = slice_get_within opening.now.sessions session first found in
+              let same = many in
+              absurd (omega (arith, past, within, same, all))
+          by_point (Some it) got = point_there points session it got ∙ (taken session it got).is first found
+
+pub takes_points : LiveAreLater → PaperIsSound → CutsShowPoints → TakesPoints
+takes_points live paper_sound cuts_show opening start events c opens in_hand has_them =
+    let its = life_takes live paper_sound cuts_show opening start opens.quiet opens.cuts events in
+    let all = its.hand c in_hand has_them in
+    subst (λ (v : Version). ArePointsOf opening events v.0 (run opening events).now.keeper.seek.points) all.number
+    (points_of live paper_sound cuts_show opening start opens.quiet opens.cuts events (run opening events).now.keeper.seek.number.0 (run opening events).now.keeper.seek.points all.taken all.all)
