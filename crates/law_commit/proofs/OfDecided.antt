@@ -1,8 +1,12 @@
 mod Attempting
+pub mod BelowEnd
 pub mod Chained
+pub mod Ended
 pub mod Ends
+mod KeeperEnds
 pub mod Later
 pub mod Lives
+pub mod Spelled
 pub mod Taken
 mod Tails
 mod Undecided
