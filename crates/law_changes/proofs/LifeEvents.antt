@@ -149,7 +149,7 @@ module _ (opening : World) (start : ℕ) (lists : ℕ → List ℕ) (ghosts : Gh
           (both_so start high (fixed_ghosts (safe_at w.now) (safe_at (happens w event).now)) (own_ghosts w event) (fixed_so start high (safe_at w.now) (safe_at (happens w event).now)) (own_so before event))
 
   -- ---- addresses lie above what their records lead to
-  life_falls : (events : List Event) → AllFall (mapped opening events)
+  pub life_falls : (events : List Event) → AllFall (mapped opening events)
   unfolding mapped
   life_falls [] = tt
   life_falls (event ∷ before) =

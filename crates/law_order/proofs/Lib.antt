@@ -1,4 +1,5 @@
 mod OfAsked
+mod OfDecided
 mod OfFits
 mod OfKnown
 mod OfLooks

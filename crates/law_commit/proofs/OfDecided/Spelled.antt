@@ -45,6 +45,7 @@ use Rattle.law_commit.specs.PhaseStores.{phase_at}
 use Rattle.law_commit.proofs.OfCopied.Began.{all_of, life_since, since_copy}
 use Rattle.law_commit.proofs.OfCopied.BegunFor.{life_begun_for}
 use Rattle.law_commit.proofs.OfCopied.Covers.{life_covers, life_grown, life_in_chains}
+use Rattle.law_commit.proofs.OfCopied.HomesApart.{triples_apart}
 use Rattle.law_commit.proofs.OfCopied.Leads.{HasHeads}
 use Rattle.law_commit.proofs.OfCopied.Lives.{life_copies, life_keeps}
 use Rattle.law_commit.proofs.OfCopied.Sound.{life_sound}
@@ -202,7 +203,7 @@ module _ (opening : World) (start : ℕ) (lists : ℕ → List ℕ) (ghosts : Gh
             in_index = subst (AllByRecursion (λ (e : CopiedEntry). IsHome opening.now.places e.home)) said (all_of copy.triples its_home stood);
             in_chains = subst (λ (t : List CopiedEntry). LeadIntoChains t (life_ghosts opening ghosts (later ++ moment)).log) said (in_chains later);
             below = subst (LieBelow x.end.0) said below;
-            apart = subst AreApart said apart;
+            apart = triples_apart made.triples (subst AreApart said apart);
             begun = before_copy opening moment;
             later = later ++ since.later;
             split = split;

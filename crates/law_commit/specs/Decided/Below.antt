@@ -2,12 +2,12 @@
 use Rattle.std.specs.List.{AllByRecursion, flat_map}
 use Rattle.std.specs.Prelude.{◌≡◌, ◌⊎◌, ◌<◌, ◌+◌, ◌≤◌, ℕ, List, ◌++◌, Some, map}
 use Rattle.fkv_base.specs.declared.commits.CommitKind.TheVariants.{Full}
-use Rattle.fkv_checkpoint.specs.Fuzzy.{AreApart}
 use Rattle.fkv_checkpoint.specs.Triples.{CopiedEntry, copied_of}
 use Rattle.fkv_index.specs.OneEntry.{IsHome}
 use Rattle.fkv_plane.specs.declared.places.Places.{Places}
 use Rattle.fkv_record.specs.Layout.{triple_bytes}
 use Rattle.fkv_record.specs.declared.triples.Triple.{Triple}
+use Rattle.fkv_scan.specs.Log.{AreApart}
 use Rattle.fkv_world.specs.Runs.{World}
 use Rattle.fkv_world.specs.World.{Event}
 use Rattle.law_log.specs.Ghosts.{Ghosts, Log}
@@ -72,7 +72,7 @@ pub record SpellsChains (p : Places) (opening : World) (ghosts : Ghosts) (events
   pub in_index : AllByRecursion (λ (e : CopiedEntry). IsHome p e.home) (map copied_of triples)
   pub in_chains : LeadIntoChains (map copied_of triples) (life_ghosts opening ghosts events).log
   pub below : LieBelow x.end.0 (map copied_of triples)
-  pub apart : AreApart (map copied_of triples)
+  pub apart : AreApart triples
   pub begun : List Event
   pub later : List Event
   pub split : events ≡ later ++ begun
