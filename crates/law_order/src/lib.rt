@@ -34,7 +34,7 @@ pub use looks::law_looks_true;
 pub use new_lives::law_life_exists;
 pub use one_history::law_order;
 pub use ordered::{law_rules_kept, law_world_ordered};
-pub use prefix::{law_finished_is_told, law_join, law_lives, law_replays_kept};
+pub use prefix::{law_finished_is_told, law_join, law_lives, law_replays_kept, law_slots_open};
 pub use reads::law_world_reads;
 pub use rest::{law_life_rests, law_log_rests, law_rest_said};
 pub use rows::{law_requests_asked, law_rows_at_rest, law_rows_go_on};
