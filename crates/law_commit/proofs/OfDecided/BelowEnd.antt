@@ -5,9 +5,9 @@ use Rattle.std.specs.Prelude.{Some, slice_get}
 use Rattle.std.proofs.lemmas.List.{append-nil}
 use Rattle.fkv_base.specs.declared.numbers.Version.{Version}
 use Rattle.fkv_commit.specs.declared.seeking.Seeking.{Seeking}
-use Rattle.fkv_commit.specs.declared.seeking.Seeking.TheVariants as seek
+use Rattle.fkv_commit.specs.declared.seeking.Seeking.TheVariants as seeking
 use Rattle.fkv_commit.specs.declared.starting.Starting.{Starting}
-use Rattle.fkv_commit.specs.declared.starting.Starting.TheVariants as start
+use Rattle.fkv_commit.specs.declared.starting.Starting.TheVariants as starting
 use Rattle.fkv_keeper.specs.declared.keepers.Keeping.{Keeping}
 use Rattle.fkv_keeper.specs.declared.keepers.Keeping.TheVariants.{Seeks, Starts}
 use Rattle.fkv_keeper.specs.Keeping.{KeeperState}
@@ -41,20 +41,20 @@ record FlushesIt (opening : World) (x : Span) (moment : List Event) : Type 0 whe
   rank : flush_rank x.number.0 ≤ rank_now opening moment
   version : phase_version (run opening moment).now.words ≤ x.number.0 + 1
 
-at_end : (number : Version) (stage : Stage) (s : KeeperState) → s.step ≡ Seeks → s.seek.step ≡ seek.LoadsTail → StepAt number stage s s.step → stage ≡ Flushes
+at_end : (number : Version) (stage : Stage) (s : KeeperState) → s.step ≡ Seeks → s.seek.step ≡ seeking.LoadsTail → StepAt number stage s s.step → stage ≡ Flushes
 at_end number stage s seeks loads at =
     let here : StepAt number stage s Seeks = subst (λ (k : Keeping). StepAt number stage s k) seeks at in
-    let there : SeekAt number stage s.seek seek.LoadsTail = subst (λ (k : Seeking). SeekAt number stage s.seek k) loads here.1 in
+    let there : SeekAt number stage s.seek seeking.LoadsTail = subst (λ (k : Seeking). SeekAt number stage s.seek k) loads here.1 in
     there.0
 
 record PreparesIt (its number : Version) (stage : Stage) : Type 0 where
   same : its ≡ number
   prepares : stage ≡ Prepares
 
-at_first : (number its : Version) (stage : Stage) (s : KeeperState) → s.step ≡ Starts → s.start.step ≡ start.LoadsTail its → StepAt number stage s s.step → PreparesIt its number stage
+at_first : (number its : Version) (stage : Stage) (s : KeeperState) → s.step ≡ Starts → s.start.step ≡ starting.LoadsTail its → StepAt number stage s s.step → PreparesIt its number stage
 at_first number its stage s starts loads at =
     let here : StepAt number stage s Starts = subst (λ (k : Keeping). StepAt number stage s k) starts at in
-    let there : StartAt number stage s.start (start.LoadsTail its) = subst (λ (k : Starting). StartAt number stage s.start k) loads here in
+    let there : StartAt number stage s.start (starting.LoadsTail its) = subst (λ (k : Starting). StartAt number stage s.start k) loads here in
     record { same = there.0.same; prepares = there.1 }
 
 flushed_version : (number : Version) → (stage_version number Flushes).0 ≤ number.0 + 1
@@ -86,7 +86,7 @@ module _ (opening : World) (start : ℕ) (ghosts : Ghosts) (opens : OpensWhole o
       let next = ap (λ (s : Stage). (stage_version lived.number s).0) flushes in
       record { rank = omega (arith, hand, same, said, stage); version = omega (arith, hand, same, version, upto, next) }
 
-  prepares_version : (number : Version) (moment : List Event) → (run opening moment).now.keeper.step ≡ Starts → (run opening moment).now.keeper.start.step ≡ start.LoadsTail number → phase_version (run opening moment).now.words ≡ number.0
+  prepares_version : (number : Version) (moment : List Event) → (run opening moment).now.keeper.step ≡ Starts → (run opening moment).now.keeper.start.step ≡ starting.LoadsTail number → phase_version (run opening moment).now.words ≡ number.0
   prepares_version number moment starts loads =
       let quiet = opens.quiet in
       let n : Now = (run opening moment).now in

@@ -13,8 +13,8 @@ use Rattle.fkv_plane.specs.Asked.{reply_to}
 use Rattle.fkv_plane.specs.Passing.{passed}
 use Rattle.fkv_plane.specs.Places.{shared_place}
 use Rattle.fkv_commit.specs.declared.commits.Commit.{Commit}
-use Rattle.fkv_commit.specs.declared.seeking.Seeking.TheVariants as seek
-use Rattle.fkv_commit.specs.declared.starting.Starting.TheVariants as start
+use Rattle.fkv_commit.specs.declared.seeking.Seeking.TheVariants as seeking
+use Rattle.fkv_commit.specs.declared.starting.Starting.TheVariants as starting
 use Rattle.fkv_commit.specs.Seeking.{seeking_ask}
 use Rattle.fkv_commit.specs.Starting.{starting_ask}
 use Rattle.fkv_keeper.specs.declared.answers.KeeperTold.{KeeperTold}
@@ -51,11 +51,11 @@ had_since P opening events later moment split its = record {
 }
 
 -- ---- what the keeper loads
-asks_end : (shape : Shape) (p : Places) (s : KeeperState) → s.step ≡ Seeks → s.seek.step ≡ seek.LoadsTail → keeper_ask shape p s ≡ Load (shared_place one.Tail)
+asks_end : (shape : Shape) (p : Places) (s : KeeperState) → s.step ≡ Seeks → s.seek.step ≡ seeking.LoadsTail → keeper_ask shape p s ≡ Load (shared_place one.Tail)
 unfolding keeping_ask seeking_ask passed
 asks_end shape p s at loads = rw (at, loads) refl
 
-asks_first : (shape : Shape) (p : Places) (s : KeeperState) (number : Version) → s.step ≡ Starts → s.start.step ≡ start.LoadsTail number → keeper_ask shape p s ≡ Load (shared_place one.Tail)
+asks_first : (shape : Shape) (p : Places) (s : KeeperState) (number : Version) → s.step ≡ Starts → s.start.step ≡ starting.LoadsTail number → keeper_ask shape p s ≡ Load (shared_place one.Tail)
 unfolding keeping_ask starting_ask passed
 asks_first shape p s number at loads = rw (at, loads) refl
 
@@ -94,11 +94,11 @@ module _ (opening : World) (start : ℕ) (opens : OpensQuiet opening start) wher
     is_tail : keeper_ask n.shape n.places n.keeper ≡ Load (shared_place one.Tail) → reply ≡ tail_at n
     is_tail asks = ap (λ (ask : Ask KeeperTold). reply_to n.words ask) asks
 
-    first_then : (number : Version) → n.keeper.step ≡ Starts → n.keeper.start.step ≡ start.LoadsTail number → First (event ∷ before) number (record { 0 = reply })
+    first_then : (number : Version) → n.keeper.step ≡ Starts → n.keeper.start.step ≡ starting.LoadsTail number → First (event ∷ before) number (record { 0 = reply })
     first_then number at loads =
         had_then (LoadsFirst number (record { 0 = reply })) opening before event (record { starts = at; loads = loads; tail = is_tail (asks_first n.shape n.places n.keeper number at loads) })
 
-    end_then : n.keeper.step ≡ Seeks → SeeksSo (First (event ∷ before)) (End (event ∷ before)) n.keeper n.keeper.seek.step → n.keeper.seek.step ≡ seek.LoadsTail
+    end_then : n.keeper.step ≡ Seeks → SeeksSo (First (event ∷ before)) (End (event ∷ before)) n.keeper n.keeper.seek.step → n.keeper.seek.step ≡ seeking.LoadsTail
         → EndsAt (First (event ∷ before)) (End (event ∷ before)) n.keeper.commit n.keeper.copy (record { 0 = reply })
     end_then at so loads c is =
         had_then (LoadsEnd (span_in c (record { 0 = reply }) (triples_written c.kind n.keeper.copy))) opening before event

@@ -100,7 +100,7 @@ module _ (F : Version → Addr → Type 0) (E : Span → Type 0) where
     pub none_yet : s.has_points ≡ false
     pub first : HandFirst s.commit
     pub copied : IsCopied s.commit
-    pub step : SeekEnds s.commit s.copy step
+    pub ends : SeekEnds s.commit s.copy step
 
   -- as it is written its triples are those that are being written
   pub record WritesSo (s : KeeperState) : Type 0 where
@@ -246,7 +246,7 @@ module _ (F : Version → Addr → Type 0) (E : Span → Type 0) where
     none_yet = refl;
     first = hand.first;
     copied = λ d is. subst (λ (x : Commit). x.is_copied ≡ true) (some_same (sym in_hand ∙ is)) is_copied;
-    step = owing_ends s.commit s.copy (record s.seek { number = c.number; points = [] }) 0;
+    ends = owing_ends s.commit s.copy (record s.seek { number = c.number; points = [] }) 0;
   }
 
   part_ends : (p : Places) (s : KeeperState) (c : Commit) (said : PhaseSaid) (granted : Bool) → s.commit ≡ Some c → s.is_broken ≡ false → Hand s → KeeperEnds (part_begun p s c said granted)
@@ -405,7 +405,7 @@ module _ (F : Version → Addr → Type 0) (E : Span → Type 0) where
 
   -- ---- each event
   seeks_on : (s : KeeperState) (reply : ℕ) → SeeksSo s s.seek.step → (s.seek.step ≡ seek.LoadsTail → EndsAt s.commit s.copy (record { 0 = reply })) → SeeksSo (record s { seek = seek_next s.seek reply }) (seek_next s.seek reply).step
-  seeks_on s reply its tail = record { works = its.works; none_yet = its.none_yet; first = its.first; copied = its.copied; step = seek_ends s.commit s.copy s.seek s.seek.step reply refl its.step tail }
+  seeks_on s reply its tail = record { works = its.works; none_yet = its.none_yet; first = its.first; copied = its.copied; ends = seek_ends s.commit s.copy s.seek s.seek.step reply refl its.ends tail }
 
   pub replied_ends : (shape : Shape) (p : Places) (s : KeeperState) (step : Keeping) (reply : ℕ) (granted : Bool) → s.step ≡ step → KeepingEnds s step
       → ((number : Version) → step ≡ Starts → s.start.step ≡ start.LoadsTail number → F number (record { 0 = reply }))
@@ -423,7 +423,7 @@ module _ (F : Version → Addr → Type 0) (E : Span → Type 0) where
   replied_ends shape p s Seeks reply granted at its first end =
       let after : SeekState = seek_next s.seek reply in
       let ends = seeks_on s reply its (λ loads. end refl its loads) in
-      sought_ends (record s { seek = after }) (seek_ask after) at ends (seek_tells s.commit s.copy after after.step ends.step)
+      sought_ends (record s { seek = after }) (seek_ask after) at ends (seek_tells s.commit s.copy after after.step ends.ends)
   replied_ends shape p s Waits reply granted at its first end = waited_ends shape (record s { wait = wait_next s.wait reply }) (wait_ask (wait_next s.wait reply)) at its
   replied_ends shape p s Writes reply granted at its first end = stays s Writes at its
   replied_ends shape p s Finishes reply granted at its first end = finish_ends (record s { finish = finish_next s.finish reply }) (finish_ask s.seek.points (finish_next s.finish reply)) at
@@ -513,7 +513,7 @@ module _ (F G : Version → Addr → Type 0) (E H : Span → Type 0) (firsts : (
   keeping_map s Maintains its = (its.0, hand_map s its.1)
   keeping_map s LoadsPhase its = (its.0, hand_map s its.1)
   keeping_map s Copies its = (first_map s.commit its.0, its.1)
-  keeping_map s Seeks its = record { works = its.works; none_yet = its.none_yet; first = first_map s.commit its.first; copied = its.copied; step = seek_map s.commit s.copy s.seek.step its.step }
+  keeping_map s Seeks its = record { works = its.works; none_yet = its.none_yet; first = first_map s.commit its.first; copied = its.copied; ends = seek_map s.commit s.copy s.seek.step its.ends }
   keeping_map s Waits its = (its.0, hand_map s its.1)
   keeping_map s Writes its = record { first = first_map s.commit its.first; end = λ c is. ends (span_in c c.end s.writes.triples) (its.end c is) }
   keeping_map s Finishes its = tt
