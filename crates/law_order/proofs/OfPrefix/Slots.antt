@@ -50,13 +50,15 @@ same_tag word tag e = grind (arith, nat_tests, e)
 found_from : (g : ℕ → ℕ → ℕ) (bucket tag first count : ℕ) → (entry_in tag (slots_from g bucket first count) ≡ 0 → ⊥) → HasTag g bucket tag first count (place_in tag (slots_from g bucket first count))
 unfolding slots_from entry_in place_in
 found_from g bucket tag first zero some = absurd (some refl)
-found_from g bucket tag first (suc count) some = by_test (not (g bucket first == 0) && entry_tag (g bucket first) == tag) refl some
+found_from g bucket tag first (suc count) some =
+    by_test (not (g bucket first == 0) && entry_tag (g bucket first) == tag) refl some (found_from g bucket tag (first + 1) count)
   where
     rest : List ℕ
     rest = slots_from g bucket (first + 1) count
 
-    by_test : (c : Bool) → (not (g bucket first == 0) && entry_tag (g bucket first) == tag) ≡ c → ((if c then g bucket first else entry_in tag rest) ≡ 0 → ⊥) → HasTag g bucket tag first (suc count) (if c then 0 else suc (place_in tag rest))
-    by_test true e found =
+    by_test : (c : Bool) → (not (g bucket first == 0) && entry_tag (g bucket first) == tag) ≡ c → ((if c then g bucket first else entry_in tag rest) ≡ 0 → ⊥) → ((entry_in tag rest ≡ 0 → ⊥) → HasTag g bucket tag (first + 1) count (place_in tag rest))
+        → HasTag g bucket tag first (suc count) (if c then 0 else suc (place_in tag rest))
+    by_test true e found more =
         let both = one_or (not (g bucket first == 0)) (entry_tag (g bucket first) == tag) e in
         let here : first + 0 ≡ first = omega arith in
         record {
@@ -64,8 +66,8 @@ found_from g bucket tag first (suc count) some = by_test (not (g bucket first ==
           some = λ none. not_none (g bucket first) both.0 (subst (λ (i : ℕ). g bucket i ≡ 0) here none);
           tagged = subst (λ (i : ℕ). entry_tag (g bucket i) ≡ tag) (sym here) (same_tag (g bucket first) tag both.1);
         }
-    by_test false e found =
-        let its = found_from g bucket tag (first + 1) count found in
+    by_test false e found more =
+        let its = more found in
         let low = its.low in
         let next : (first + 1) + place_in tag rest ≡ first + suc (place_in tag rest) = omega arith in
         record {
@@ -78,11 +80,12 @@ found_from g bucket tag first (suc count) some = by_test (not (g bucket first ==
 entry_behind : (tag : ℕ) (words more : List ℕ) → entry_in tag words ≡ 0 → entry_in tag (words ++ more) ≡ entry_in tag more
 unfolding entry_in
 entry_behind tag [] more none = refl
-entry_behind tag (word ∷ rest) more none = by_test (not (word == 0) && entry_tag word == tag) refl none
+entry_behind tag (word ∷ rest) more none = by_test (not (word == 0) && entry_tag word == tag) refl none (entry_behind tag rest more)
   where
-    by_test : (c : Bool) → (not (word == 0) && entry_tag word == tag) ≡ c → (if c then word else entry_in tag rest) ≡ 0 → (if c then word else entry_in tag (rest ++ more)) ≡ entry_in tag more
-    by_test true e is = absurd (not_none word (one_or (not (word == 0)) (entry_tag word == tag) e).0 is)
-    by_test false e is = entry_behind tag rest more is
+    by_test : (c : Bool) → (not (word == 0) && entry_tag word == tag) ≡ c → (if c then word else entry_in tag rest) ≡ 0 → (entry_in tag rest ≡ 0 → entry_in tag (rest ++ more) ≡ entry_in tag more)
+        → (if c then word else entry_in tag (rest ++ more)) ≡ entry_in tag more
+    by_test true e is behind = absurd (not_none word (one_or (not (word == 0)) (entry_tag word == tag) e).0 is)
+    by_test false e is behind = behind is
 
 slot_in : ℕ → (ℕ → ℕ → ℕ) → ℕ → ℕ → ℕ → List ℕ → Slot
 slot_in buckets g tag part bucket [] = record { part = part; place = place_in tag (slots_from g bucket 0 bucket_slots) }
@@ -124,15 +127,16 @@ is_some entry e none = let clash : (entry == 0) ≡ true = grind (arith, nat_tes
 found_in : (buckets : ℕ) (g : ℕ → ℕ → ℕ) (tag part bucket : ℕ) (list : List ℕ) → (entry_in tag (order_of buckets g bucket list) ≡ 0 → ⊥) → IsFoundAt buckets g tag part bucket list (slot_in buckets g tag part bucket list)
 unfolding order_of slot_in
 found_in buckets g tag part bucket [] some = here_found buckets g tag part bucket [] some
-found_in buckets g tag part bucket (number ∷ rest) some = by_test (entry_in tag (slots_from g bucket 0 bucket_slots) == 0) refl
+found_in buckets g tag part bucket (number ∷ rest) some = by_test (entry_in tag (slots_from g bucket 0 bucket_slots) == 0) refl (found_in buckets g tag number (overflow_bucket buckets number) rest)
   where
     by_test : (c : Bool) → (entry_in tag (slots_from g bucket 0 bucket_slots) == 0) ≡ c
+        → ((entry_in tag (order_of buckets g (overflow_bucket buckets number) rest) ≡ 0 → ⊥) → IsFoundAt buckets g tag number (overflow_bucket buckets number) rest (slot_in buckets g tag number (overflow_bucket buckets number) rest))
         → IsFoundAt buckets g tag part bucket (number ∷ rest) (if c then slot_in buckets g tag number (overflow_bucket buckets number) rest else record { part = part; place = place_in tag (slots_from g bucket 0 bucket_slots) })
-    by_test true e =
+    by_test true e more =
         let none = is_none (entry_in tag (slots_from g bucket 0 bucket_slots)) true e refl in
         more_found buckets g tag part bucket number rest (slot_in buckets g tag number (overflow_bucket buckets number) rest)
-        (found_in buckets g tag number (overflow_bucket buckets number) rest (λ is. some (entry_behind tag (slots_from g bucket 0 bucket_slots) (order_of buckets g (overflow_bucket buckets number) rest) none ∙ is)))
-    by_test false e = here_found buckets g tag part bucket (number ∷ rest) (is_some (entry_in tag (slots_from g bucket 0 bucket_slots)) e)
+        (more (λ is. some (entry_behind tag (slots_from g bucket 0 bucket_slots) (order_of buckets g (overflow_bucket buckets number) rest) none ∙ is)))
+    by_test false e more = here_found buckets g tag part bucket (number ∷ rest) (is_some (entry_in tag (slots_from g bucket 0 bucket_slots)) e)
 
 -- ---- an index in order
 listed_bucket : Owner → ℕ
@@ -199,7 +203,7 @@ module _ (n : Now) (lists : ℕ → List ℕ) (spares : ℕ → ℕ) (log : Log)
       (subst (λ (b : ℕ). entry_in (h % 2 ^ 15) (order_of p.buckets g b (lists b)) ≡ 0) home.bucket none))))
 
   is_slot : (overflow h a : ℕ) → p.overflow ≡ overflow → IsIn a (log.chains h) → IsSlotOf follows overflow h (slot_at h)
-  unfolding IsPartOf follows
+  unfolding IsPartOf follows listed_bucket
   is_slot overflow h a same is_in = by_part found.among
     where
       found : IsFoundAt p.buckets g (h % 2 ^ 15) 0 (h / 2 ^ 15) (lists (h / 2 ^ 15)) (slot_at h)
