@@ -1,7 +1,6 @@
 -- From a commit's end on each record is of a later version; below it none is of a version past the next one, and all is settled. Below its first address none
 -- is of a later version.
-use Rattle.std.proofs.Common.{◌≡◌, ◌⊎◌, inl, inr, ℕ, ◌+◌, ◌*◌, ◌<◌, ◌≤◌, ◌∙◌, List, [], ◌∷◌, ◌++◌, refl, arith, ap, sym, subst}
-use Rattle.std.specs.Prelude.{Some, slice_get}
+use Rattle.std.proofs.Common.{◌≡◌, inl, inr, ℕ, ◌+◌, ◌≤◌, ◌∙◌, List, [], ◌∷◌, ◌++◌, refl, arith, ap, sym, subst}
 use Rattle.std.proofs.lemmas.List.{append-nil}
 use Rattle.fkv_base.specs.declared.numbers.Version.{Version}
 use Rattle.fkv_commit.specs.declared.seeking.Seeking.{Seeking}
@@ -11,7 +10,6 @@ use Rattle.fkv_commit.specs.declared.starting.Starting.TheVariants as starting
 use Rattle.fkv_keeper.specs.declared.keepers.Keeping.{Keeping}
 use Rattle.fkv_keeper.specs.declared.keepers.Keeping.TheVariants.{Seeks, Starts}
 use Rattle.fkv_keeper.specs.Keeping.{KeeperState}
-use Rattle.fkv_session.specs.Sessions.{SessionState}
 use Rattle.fkv_world.specs.Runs.{World, run}
 use Rattle.fkv_world.specs.World.{Event, Now}
 use Rattle.law_log.specs.Ghosts.{Ghosts, Log}
@@ -19,16 +17,15 @@ use Rattle.law_refine.specs.Events.GhostEvents.{life_ghosts}
 use Rattle.law_refine.specs.Events.Reserved.{tail_at}
 use Rattle.law_refine.proofs.OfSeen.There.{was_there}
 use Rattle.law_commit.specs.Decided.Below.{ButOpenings, CellsBelow, IsLaterFromEnd, IsOldBelowFirst, IsSettledBelowEnd, IsYoungBelowEnd, OfEachBegun, OpensWhole}
-use Rattle.law_commit.specs.Decided.Cells.{DecidedBelow, SettledFrom}
+use Rattle.law_commit.specs.Decided.Cells.{DecidedBelow}
 use Rattle.law_commit.specs.Decided.Ended.{HadMoment, HasEnded, IsWrittenNow, LoadsEnd, LoadsFirst, Span, span_of, span_opened}
 use Rattle.law_commit.specs.Decided.Later.{AttemptLater, AttemptedLater}
 use Rattle.law_commit.specs.Decided.Laws.{OpensDecided}
 use Rattle.law_commit.specs.Floor.Stands.{FloorAlwaysStands, IsWritten, stage_number}
 use Rattle.law_commit.specs.PhaseVersions.{phase_version, version_said}
-use Rattle.law_commit.specs.Phases.Staged.{Flushes, IsStaged, Prepares, SeekAt, Stage, StartAt, StepAt, stage_version}
-use Rattle.law_commit.specs.Quiet.{NoneIsLeft, OpensQuiet, flush_rank, rank_now}
-use Rattle.law_commit.specs.Versions.Cells.{CellsFrom, made_in}
-use Rattle.law_commit.specs.Versions.Laws.{OpensWithLog, first_version}
+use Rattle.law_commit.specs.Phases.Staged.{Flushes, Prepares, SeekAt, Stage, StartAt, StepAt, stage_version}
+use Rattle.law_commit.specs.Quiet.{NoneIsLeft, flush_rank, rank_now}
+use Rattle.law_commit.specs.Versions.Laws.{OpensWithLog}
 use Rattle.law_commit.proofs.OfDecided.Ended.{had_since, have_ended, written_so}
 use Rattle.law_commit.proofs.OfDecided.Later.{makes_later}
 use Rattle.law_commit.proofs.OfDecided.Lives.{below_end, settles, stays_decided, tails_rise}

@@ -1,5 +1,5 @@
 -- Each commit that has begun in a life has come through its moments: its first address was the tail as it started, and its end before it was written.
-use Rattle.std.proofs.Common.{◌≡◌, ◌⊎◌, inl, inr, ℕ, ◌∙◌, List, [], ◌∷◌, ◌++◌, append_assoc, refl, ap, sym, subst, false}
+use Rattle.std.proofs.Common.{◌≡◌, ◌⊎◌, inl, inr, ℕ, ◌∙◌, List, [], ◌∷◌, ◌++◌, append_assoc, refl, ap, sym, subst}
 use Rattle.std.specs.Prelude.{Option, Some, None}
 use Rattle.fkv_base.specs.declared.numbers.Addr.{Addr}
 use Rattle.fkv_base.specs.declared.numbers.Version.{Version}
@@ -18,12 +18,11 @@ use Rattle.fkv_commit.specs.declared.starting.Starting.TheVariants as starting
 use Rattle.fkv_commit.specs.Seeking.{seeking_ask}
 use Rattle.fkv_commit.specs.Starting.{starting_ask}
 use Rattle.fkv_keeper.specs.declared.answers.KeeperTold.{KeeperTold}
-use Rattle.fkv_keeper.specs.declared.keepers.Keeping.{Keeping}
 use Rattle.fkv_keeper.specs.declared.keepers.Keeping.TheVariants.{Seeks, Starts, Writes}
-use Rattle.fkv_keeper.specs.Keeping.{KeeperState, commit_asked, keeper_ask, keeping_ask, triples_written, turn_asked}
+use Rattle.fkv_keeper.specs.Keeping.{KeeperState, keeper_ask, keeping_ask, triples_written}
 use Rattle.fkv_world.specs.Moves.{keeper_gets}
 use Rattle.fkv_world.specs.Runs.{World, run}
-use Rattle.fkv_world.specs.World.{Event, Now, keeper_asked}
+use Rattle.fkv_world.specs.World.{Event, Now}
 use Rattle.law_refine.specs.Events.Reserved.{tail_at}
 use Rattle.law_commit.specs.BegunCommits.{life_begun}
 use Rattle.law_commit.specs.Decided.Ended.{CommitsHaveEnded, HadMoment, HasEnded, IsWrittenNow, LoadsEnd, LoadsFirst, Span, span_in, span_of, span_opened}

@@ -1,11 +1,11 @@
 -- The triples of a full commit lead into the chains below its end, and cover what the chains have below its first address.
 use Rattle.std.proofs.Common.{◌≡◌, ◌⊎◌, inl, inr, ℕ, ◌<◌, ◌≤◌, ◌∙◌, List, [], ◌∷◌, ◌++◌, append_assoc, refl, arith, ap, sym, subst, map}
 use Rattle.std.specs.List.{AllByRecursion}
-use Rattle.std.specs.Prelude.{Option, Some}
+use Rattle.std.specs.Prelude.{Option}
 use Rattle.fkv_base.specs.declared.commits.CommitKind.{CommitKind}
 use Rattle.fkv_base.specs.declared.commits.CommitKind.TheVariants.{Full}
 use Rattle.fkv_base.specs.declared.numbers.Addr.{Addr}
-use Rattle.fkv_checkpoint.specs.Copied.{CopiesTriples, copied_after}
+use Rattle.fkv_checkpoint.specs.Copied.{CopiesTriples}
 use Rattle.fkv_checkpoint.specs.Copying.{Copier}
 use Rattle.fkv_checkpoint.specs.CopyWorld.{CopyWorld}
 use Rattle.fkv_checkpoint.specs.Fuzzy.{AreApart}
@@ -20,7 +20,7 @@ use Rattle.fkv_plane.specs.declared.places.Places.{Places}
 use Rattle.fkv_words.specs.PhaseWords.{phase_said}
 use Rattle.fkv_world.specs.OwnEvents.{keeper_events}
 use Rattle.fkv_world.specs.Runs.{World, run}
-use Rattle.fkv_world.specs.World.{Event, Now}
+use Rattle.fkv_world.specs.World.{Event}
 use Rattle.fkv_world.proofs.Shown.{places_stay}
 use Rattle.law_log.specs.Chains.{Cell, Logged, Unborn, Reserved, Published, Dropped}
 use Rattle.law_log.specs.Ghosts.{Log, Ghosts, GhostEvent, Tells, FindsEntry, TakesValue, Reserves, Publishes, Drops, Changes, Fixes, changed, dropped, ghost_run, ghosts_after, log_after, published}
@@ -38,7 +38,7 @@ use Rattle.law_commit.specs.Copied.Covers.{CoverHeads, HasStoodSince, LeadIntoCh
 use Rattle.law_commit.specs.Copied.Runs.{HasInHand, copy_events, opening_copy, seen_by_copy}
 use Rattle.law_commit.specs.Decided.Below.{FullCommitsSpellChains, OpensWhole, SpellsChains}
 use Rattle.law_commit.specs.Decided.Cells.{ChainsTaken, DecidedBelow}
-use Rattle.law_commit.specs.Decided.Ended.{HadMoment, HasEnded, LoadsEnd, Span, span_of}
+use Rattle.law_commit.specs.Decided.Ended.{HadMoment, LoadsEnd, Span, span_of}
 use Rattle.law_commit.specs.Decided.Laws.{LieBelow}
 use Rattle.law_commit.specs.Floor.Stands.{FloorAlwaysStands, PaperIsSound}
 use Rattle.law_commit.specs.PhaseStores.{phase_at}

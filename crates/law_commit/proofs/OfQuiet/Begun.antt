@@ -1,5 +1,5 @@
 -- Each commit that has begun in a life has come to wait-flush. So each session's point of its number stays and splits the session's effects, for ever.
-use Rattle.std.proofs.Common.{◌≡◌, ℕ, ◌≤◌, List, [], ◌∷◌, refl, arith, ap}
+use Rattle.std.proofs.Common.{◌≡◌, ℕ, ◌≤◌, List, [], ◌∷◌, arith, ap}
 use Rattle.std.specs.Prelude.{Some}
 use Rattle.fkv_base.specs.declared.numbers.Version.{Version}
 use Rattle.fkv_commit.specs.declared.commits.Commit.{Commit}

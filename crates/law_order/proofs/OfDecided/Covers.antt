@@ -15,7 +15,7 @@ use Rattle.fkv_scan.specs.Log.{HasTriple}
 use Rattle.fkv_world.specs.World.{Event, Now}
 use Rattle.law_changes.specs.Linked.{ChainsFall, IsFalling}
 use Rattle.law_log.specs.Chains.{head_of}
-use Rattle.law_log.specs.Ghosts.{Ghosts, Log}
+use Rattle.law_log.specs.Ghosts.{Log}
 use Rattle.law_log.specs.Trace.{IsIn}
 use Rattle.law_opening.specs.Log.OpeningLog.{opening_ghosts}
 use Rattle.law_paper.specs.Paper.Stands.{CoversChains}

@@ -1,21 +1,21 @@
 -- How a commit that a life has begun cuts the log beside it.
-use Rattle.std.proofs.Common.{◌≡◌, inl, inr, ℕ, ◌+◌, ◌<◌, ◌≤◌, ◌∙◌, List, refl, arith, ap, sym}
-use Rattle.std.specs.Prelude.{nat_lt, Some}
+use Rattle.std.proofs.Common.{◌≡◌, inl, inr, ℕ, ◌+◌, ◌<◌, ◌≤◌, List, refl, arith, ap}
+use Rattle.std.specs.Prelude.{Some}
 use Rattle.std.proofs.lemmas.Bool.{cases_lt}
-use Rattle.fkv_core.specs.Openings.{IsOpeningWorld, beginning}
+use Rattle.fkv_core.specs.Openings.{IsOpeningWorld}
 use Rattle.fkv_opening.specs.declared.opened_store.Opened.{Opened}
 use Rattle.fkv_plane.specs.declared.places.SharedWord.TheVariants as one
 use Rattle.fkv_plane.specs.Asked.{word_at}
 use Rattle.fkv_plane.specs.Places.{shared_place}
 use Rattle.fkv_scan.specs.Log as scan
-use Rattle.fkv_world.specs.World.{Event, Now}
+use Rattle.fkv_world.specs.World.{Now}
 use Rattle.law_log.specs.Chains.{Cell, Logged, Unborn, Reserved, Published, Dropped}
 use Rattle.law_log.specs.Ghosts.{Log}
 use Rattle.law_refine.specs.Events.Reserved.{tail_at}
 use Rattle.law_paper.specs.Paper.Images.{IsCut, IsDecided}
 use Rattle.law_commit.specs.BegunCommits.{BegunCommit}
 use Rattle.law_commit.specs.Decided.Below.{CellsBelow}
-use Rattle.law_commit.specs.Decided.Cells.{IsSettled, SettledFrom}
+use Rattle.law_commit.specs.Decided.Cells.{IsSettled}
 use Rattle.law_commit.specs.Versions.Cells.{CellsFrom, made_in}
 use Rattle.law_order.specs.Decided.Cut.{NamesEnd, StartsAt}
 

@@ -1,10 +1,10 @@
 -- Each home whose chain isn't empty has the slot of its entry: the first in the order of its bucket's slots that has its tag.
-use Rattle.std.proofs.Common.{◌≡◌, ◌⊎◌, inl, inr, ℕ, zero, suc, ◌+◌, ◌*◌, ◌/◌, ◌%◌, ◌^◌, ◌<◌, ◌≤◌, ◌∙◌, List, [], ◌∷◌, ◌++◌, refl, arith, ap, subst, sym, Bool, true, false}
+use Rattle.std.proofs.Common.{◌≡◌, ◌⊎◌, inl, inr, ℕ, zero, suc, ◌+◌, ◌*◌, ◌/◌, ◌%◌, ◌^◌, ◌<◌, ◌∙◌, List, [], ◌∷◌, ◌++◌, refl, arith, ap, subst, sym, Bool, true, false}
 use Rattle.std.specs.Prelude.{◌==◌, ◌&&◌, not, if◌then◌else◌}
 use Rattle.std.proofs.lemmas.Bool.Decides.{nat_tests}
 use Rattle.fkv_index.specs.declared.homes.Home.{Home}
 use Rattle.fkv_index.specs.Buckets.{IsMember, bucket_words, overflow_bucket}
-use Rattle.fkv_index.specs.Entries.{entry_at, entry_in, order_of, slots_from}
+use Rattle.fkv_index.specs.Entries.{entry_in, order_of, slots_from}
 use Rattle.fkv_index.specs.OneEntry.{IsHome, IsIndex, ListedAt, Nobody, Owner, SpareOf}
 use Rattle.fkv_index.specs.Slots.{bucket_slots, entry_addr, entry_tag, home_of}
 use Rattle.fkv_index.proofs.Shown.{homes_are_there, listed_taken}

@@ -1,5 +1,5 @@
 -- By the entries of the index, which lead to where chains begin.
-use Rattle.std.proofs.Common.{◌≡◌, ◌^◌, ◌∙◌, ℕ, ap, sym, subst}
+use Rattle.std.proofs.Common.{◌∙◌, ap, sym}
 use Rattle.fkv_base.specs.declared.shapes.Shape.{Shape}
 use Rattle.fkv_core.specs.Openings.{beginning}
 use Rattle.fkv_filling.specs.OpeningIndex.{opening_lists}
