@@ -1,6 +1,7 @@
 mod Attempting
 pub mod BelowEnd
 pub mod Chained
+pub mod ChainsGrow
 pub mod Ended
 pub mod Ends
 mod KeeperEnds

@@ -53,9 +53,10 @@ pub fn law_commits_settled()
 }
 
 /// In every life of a store that was opened, if each address that stood in a chain was taken then, each that stands in a chain lies below the tail. So does
-/// where the triples lead of the copy that began last.
+/// where the triples lead of the copy that began last. Below the tail with which the life began each chain has just what it had then.
 pub fn law_chains_below()
     ensures chains { decided.ChainsLieBelowTail }
+    ensures old { decided.ChainsKeepTheOld }
     ensures triples { decided.TriplesLieBelowTail }
 {}
 

@@ -109,12 +109,12 @@ module _ (opening : World) (start : ℕ) (ghosts : Ghosts) (opens : OpensWhole o
   attempted_later left version [] before high = tt
   attempted_later left version (event ∷ later) before high = (attempts_later left version (later ++ before) (rank_stays version later before high), attempted_later left version later before high)
 
-  later_from : NoneIsLeft → (events : List Event) (x : Span) → HadMoment (LoadsEnd x) opening events → IsLaterFromEnd opening events x (log_at events)
+  later_from : NoneIsLeft → (events : List Event) (x : Span) → HadMoment (LoadsEnd x) opening events → IsLaterFromEnd opening x (log_at events)
   later_from left events x had =
       let quiet = opens.quiet in
       let its = had.was in
       let tail = its.tail in
-      subst (λ (e : List Event). IsLaterFromEnd opening e x (log_at e)) (sym had.split)
+      subst (λ (e : List Event). IsLaterFromEnd opening x (log_at e)) (sym had.split)
       (makes_later opening start ghosts had.later had.moment x.end.0 x.number.0 quiet.guarded opens.unborn (omega (arith, tail)) (attempted_later left x.number.0 had.later had.moment (flushes_it x had.moment its).rank))
 
   -- ---- below an address that was the tail
@@ -125,16 +125,16 @@ module _ (opening : World) (start : ℕ) (ghosts : Ghosts) (opens : OpensWhole o
       let most = cells_upto opening start ghosts moment with_log a version was in
       omega (arith, most, upto)
 
-  young_below : (events : List Event) (x : Span) → HadMoment (LoadsEnd x) opening events → IsYoungBelowEnd opening events x (log_at events)
+  young_below : (events : List Event) (x : Span) → HadMoment (LoadsEnd x) opening events → IsYoungBelowEnd opening x (log_at events)
   young_below events x had =
       let its = had.was in
-      subst (λ (e : List Event). IsYoungBelowEnd opening e x (log_at e)) (sym had.split) (below_tail had.later had.moment x.end.0 (x.number.0 + 1) its.tail (flushes_it x had.moment its).version)
+      subst (λ (e : List Event). IsYoungBelowEnd opening x (log_at e)) (sym had.split) (below_tail had.later had.moment x.end.0 (x.number.0 + 1) its.tail (flushes_it x had.moment its).version)
 
-  old_below : (events : List Event) (x : Span) → HadMoment (LoadsFirst x.number x.first) opening events → IsOldBelowFirst opening events x (log_at events)
+  old_below : (events : List Event) (x : Span) → HadMoment (LoadsFirst x.number x.first) opening events → IsOldBelowFirst opening x (log_at events)
   old_below events x had =
       let its = had.was in
       let same = prepares_version x.number had.moment its.starts its.loads in
-      subst (λ (e : List Event). IsOldBelowFirst opening e x (log_at e)) (sym had.split) (below_tail had.later had.moment x.first.0 x.number.0 its.tail (omega (arith, same)))
+      subst (λ (e : List Event). IsOldBelowFirst opening x (log_at e)) (sym had.split) (below_tail had.later had.moment x.first.0 x.number.0 its.tail (omega (arith, same)))
 
   -- ---- all is settled there
   not_above : (events : List Event) (x : Span) → HadMoment (LoadsEnd x) opening events → x.end.0 ≤ tail_at (run opening events).now
@@ -152,7 +152,7 @@ module _ (opening : World) (start : ℕ) (ghosts : Ghosts) (opens : OpensWhole o
       let decided = below_end floor opening start ghosts moment its.commit with_decided quiet.seen its.in_hand (inr written) in
       λ a entry cell low e. decided a entry cell (omega (arith, low, same)) e
 
-  settled_below : FloorAlwaysStands → (events : List Event) (x : Span) → HadMoment (IsWrittenNow x) opening events → IsSettledBelowEnd opening events x (log_at events)
+  settled_below : FloorAlwaysStands → (events : List Event) (x : Span) → HadMoment (IsWrittenNow x) opening events → IsSettledBelowEnd opening x (log_at events)
   settled_below floor events x had =
       let quiet = opens.quiet in
       let ended = (written_so opening start quiet x had.moment had.was).end in
@@ -161,31 +161,31 @@ module _ (opening : World) (start : ℕ) (ghosts : Ghosts) (opens : OpensWhole o
       settles opening start ghosts events x.end.0 quiet.guarded high (subst (λ (e : List Event). DecidedBelow x.end.0 (log_at e)) (sym had.split) decided)
 
   -- ---- the commit with which the store was opened
-  opened_later : (events : List Event) → IsLaterFromEnd opening events (span_opened opening) (log_at events)
+  opened_later : (events : List Event) → IsLaterFromEnd opening (span_opened opening) (log_at events)
   opened_later events a version high made =
       let quiet = opens.quiet in
       let low = cells_from opening start ghosts events with_log a version high made in
       let said = ap version_said quiet.seen.rests.says in
       omega (arith, low, said)
 
-  opened_young : (events : List Event) → IsYoungBelowEnd opening events (span_opened opening) (log_at events)
+  opened_young : (events : List Event) → IsYoungBelowEnd opening (span_opened opening) (log_at events)
   unfolding run
   opened_young events =
       let quiet = opens.quiet in
       let said = ap version_said quiet.seen.rests.says in
-      subst (λ (e : List Event). IsYoungBelowEnd opening e (span_opened opening) (log_at e)) (append-nil events)
+      subst (λ (e : List Event). IsYoungBelowEnd opening (span_opened opening) (log_at e)) (append-nil events)
       (below_tail events [] (tail_at opening.now) (opening.now.keeper.last.number.0 + 1) refl (omega (arith, said)))
 
-  opened_settled : (events : List Event) → IsSettledBelowEnd opening events (span_opened opening) (log_at events)
+  opened_settled : (events : List Event) → IsSettledBelowEnd opening (span_opened opening) (log_at events)
   opened_settled events a from low = absurd (omega (arith, from, low))
 
 -- ---- each that has begun
-module _ (P : World → List Event → Span → Log → Type 0) where
-  of_each : ((opening : World) (start : ℕ) (ghosts : Ghosts) (events : List Event) (x : Span) → OpensWhole opening start ghosts → HasEnded opening events x → P opening events x (life_ghosts opening ghosts events).log)
-      → ((opening : World) (start : ℕ) (ghosts : Ghosts) (events : List Event) → OpensWhole opening start ghosts → P opening events (span_opened opening) (life_ghosts opening ghosts events).log) → OfEachBegun P
+module _ (P : World → Span → Log → Type 0) where
+  of_each : ((opening : World) (start : ℕ) (ghosts : Ghosts) (events : List Event) (x : Span) → OpensWhole opening start ghosts → HasEnded opening events x → P opening x (life_ghosts opening ghosts events).log)
+      → ((opening : World) (start : ℕ) (ghosts : Ghosts) (events : List Event) → OpensWhole opening start ghosts → P opening (span_opened opening) (life_ghosts opening ghosts events).log) → OfEachBegun P
   of_each ended first opening start ghosts events c opens there = elim (have_ended opening start events c opens.quiet there) [
     | inl its ↦ ended opening start ghosts events (span_of c) opens its
-    | inr same ↦ subst (λ (x : Span). P opening events x (life_ghosts opening ghosts events).log) (sym same) (first opening start ghosts events opens)
+    | inr same ↦ subst (λ (x : Span). P opening x (life_ghosts opening ghosts events).log) (sym same) (first opening start ghosts events opens)
   ]
 
 pub each_later : NoneIsLeft → OfEachBegun IsLaterFromEnd

@@ -38,30 +38,30 @@ pub record OpensWhole (opening : World) (start : ℕ) (ghosts : Ghosts) : Type 0
   pub upto : CellsUpto (first_version opening) ghosts.log
 
 -- so it is of each commit that has begun in its lives, with the opening's
-abbrev pub OfEachBegun : (World → List Event → Span → Log → Type 0) → Type 0
+abbrev pub OfEachBegun : (World → Span → Log → Type 0) → Type 0
 OfEachBegun P =
     (opening : World) (start : ℕ) (ghosts : Ghosts) (events : List Event) (c : BegunCommit) → OpensWhole opening start ghosts → IsIn c (life_begun opening events)
-    → P opening events (span_of c) (life_ghosts opening ghosts events).log
+    → P opening (span_of c) (life_ghosts opening ghosts events).log
 
 -- or of each but the opening's
-abbrev pub ButOpenings : (World → List Event → Span → Log → Type 0) → World → List Event → Span → Log → Type 0
-ButOpenings P opening events x log = P opening events x log ⊎ (x ≡ span_opened opening)
+abbrev pub ButOpenings : (World → Span → Log → Type 0) → World → Span → Log → Type 0
+ButOpenings P opening x log = P opening x log ⊎ (x ≡ span_opened opening)
 
 -- from its end on each record is of a later version
-abbrev pub IsLaterFromEnd : World → List Event → Span → Log → Type 0
-IsLaterFromEnd opening events x log = CellsFrom x.end.0 (x.number.0 + 1) log
+abbrev pub IsLaterFromEnd : World → Span → Log → Type 0
+IsLaterFromEnd opening x log = CellsFrom x.end.0 (x.number.0 + 1) log
 
 -- below its end none is of a version past the next one
-abbrev pub IsYoungBelowEnd : World → List Event → Span → Log → Type 0
-IsYoungBelowEnd opening events x log = CellsBelow x.end.0 (x.number.0 + 1) log
+abbrev pub IsYoungBelowEnd : World → Span → Log → Type 0
+IsYoungBelowEnd opening x log = CellsBelow x.end.0 (x.number.0 + 1) log
 
 -- from the first tail up to its end each record stands or was given up
-abbrev pub IsSettledBelowEnd : World → List Event → Span → Log → Type 0
-IsSettledBelowEnd opening events x log = SettledFrom (tail_at opening.now) x.end.0 log
+abbrev pub IsSettledBelowEnd : World → Span → Log → Type 0
+IsSettledBelowEnd opening x log = SettledFrom (tail_at opening.now) x.end.0 log
 
 -- below its first address none is of a later version
-abbrev pub IsOldBelowFirst : World → List Event → Span → Log → Type 0
-IsOldBelowFirst opening events x log = CellsBelow x.first.0 x.number.0 log
+abbrev pub IsOldBelowFirst : World → Span → Log → Type 0
+IsOldBelowFirst opening x log = CellsBelow x.first.0 x.number.0 log
 
 -- ---- the triples of a full commit
 -- These triples stand one after another in what the commit writes. Each is of a bucket of the index and leads into its home's chain, below the commit's end, and
