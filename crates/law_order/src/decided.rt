@@ -1,14 +1,16 @@
 //! Which addresses of the log are decided in each life of a store that was opened.
 ghost use Rattle.law_order.specs.Decided.Cut as cut;
 ghost use Rattle.law_order.specs.Decided.Laws as decided;
+ghost use Rattle.law_order.specs.Decided.Old as old;
 
 use crate::in_turn::{law_ends_open, law_versions_open};
 use crate::rules::law_life_begins;
 use law_changes::law_lives_change_published;
 use law_commit::{
     law_addresses_taken, law_chains_below, law_commits_cut, law_commits_decided,
-    law_commits_settled,
+    law_commits_settled, law_versions_bounded,
 };
+use law_opening::law_log_counted;
 
 /// In each life of an opened store, with commits, crashes and failing calls of the device, each address from the first tail up to the tail is taken. All is
 /// decided below what each session that is awake has seen as tail. So it is below the first address of the commit in hand, from in-progress on and as its copy
@@ -51,5 +53,20 @@ pub fn law_cut_opens()
     law_ends_open();
     law_versions_open();
     law_commits_cut();
+    law_lives_change_published();
+}
+
+/// In each such life the log has below the opened end what counted as the store was opened, of the opening's version, and no more. What is published from there
+/// on is of later versions. So lost ranges that lose just what the opening has left out do so at each moment.
+pub fn law_old_opens()
+    ensures before { old.OfEachLife old.KeepsWhatCounted }
+    ensures later { old.OfEachLife old.IsLaterAbove }
+    ensures loses { old.OfEachLife old.LosesAsBefore }
+{
+    law_life_begins();
+    law_versions_open();
+    law_log_counted();
+    law_chains_below();
+    law_versions_bounded();
     law_lives_change_published();
 }

@@ -23,7 +23,7 @@ mod told;
 mod truth;
 
 pub use asked::law_world_asked;
-pub use decided::{law_chains_open, law_cut_opens, law_decided_opens};
+pub use decided::{law_chains_open, law_cut_opens, law_decided_opens, law_old_opens};
 pub use enabled::law_world_enabled;
 pub use fits::law_opening_fits;
 pub use in_turn::{
