@@ -4,6 +4,7 @@ pub mod Chained
 pub mod ChainsGrow
 pub mod Ended
 pub mod Ends
+pub mod EndsRise
 mod KeeperEnds
 pub mod Later
 pub mod Lives

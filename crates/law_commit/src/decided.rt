@@ -69,13 +69,14 @@ pub fn law_commits_ended()
 
 /// So the commit cuts the log at its version, from then on and for good. Each record from its end on is of a later version: by then no update of its version was
 /// left. Below its end none is of a version past the next one, and each from the first tail on stands or was given up. Below its first address none is of a
-/// later version than its own. What a full commit writes are triples, no two of one home, each of a bucket of the index. Each leads into its home's chain, below
+/// later version than its own. A newer commit ends no lower. What a full commit writes are triples, no two of one home, each of a bucket of the index. Each leads into its home's chain, below
 /// the commit's end. They cover the chains as these were when the copy began, and since then the chains have got nothing below the commit's first address.
 pub fn law_commits_cut()
     ensures later { below.OfEachBegun below.IsLaterFromEnd }
     ensures young { below.OfEachBegun below.IsYoungBelowEnd }
     ensures settled { below.OfEachBegun below.IsSettledBelowEnd }
     ensures old { below.OfEachBegun (below.ButOpenings below.IsOldBelowFirst) }
+    ensures ends { below.EndsRise }
     ensures triples { below.FullCommitsSpellChains }
 {
     law_copied();

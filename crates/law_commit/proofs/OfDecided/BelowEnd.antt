@@ -24,7 +24,7 @@ use Rattle.law_commit.specs.Decided.Laws.{OpensDecided}
 use Rattle.law_commit.specs.Floor.Stands.{FloorAlwaysStands, IsWritten, stage_number}
 use Rattle.law_commit.specs.PhaseVersions.{phase_version, version_said}
 use Rattle.law_commit.specs.Phases.Staged.{Flushes, Prepares, SeekAt, Stage, StartAt, StepAt, stage_version}
-use Rattle.law_commit.specs.Quiet.{NoneIsLeft, flush_rank, rank_now}
+use Rattle.law_commit.specs.Quiet.{NoneIsLeft, OpensQuiet, flush_rank, rank_now}
 use Rattle.law_commit.specs.Versions.Laws.{OpensWithLog}
 use Rattle.law_commit.proofs.OfDecided.Ended.{had_since, have_ended, written_so}
 use Rattle.law_commit.proofs.OfDecided.Later.{makes_later}
@@ -57,6 +57,18 @@ at_first number its stage s starts loads at =
 flushed_version : (number : Version) → (stage_version number Flushes).0 ≤ number.0 + 1
 flushed_version number = omega arith
 
+-- as the end is loaded the phase word says wait-flush of the commit
+pub ending_rank : (opening : World) (start : ℕ) (opens : OpensQuiet opening start) (x : Span) (moment : List Event) → LoadsEnd x (run opening moment).now → rank_now opening moment ≡ flush_rank x.number.0
+ending_rank opening start opens x moment its =
+    let n : Now = (run opening moment).now in
+    let lived = life_staged opening start moment opens.guarded opens.opened opens.seen.rests in
+    let flushes = at_end lived.number lived.stage n.keeper its.seeks its.loads lived.staged.keeper.step in
+    let hand = ap (λ (v : Version). v.0) (lived.staged.keeper.has.hand its.commit its.in_hand).0 in
+    let same = ap (λ (y : Span). y.number.0) its.its in
+    let said = staged_rank n lived.number lived.stage lived.staged in
+    let stage = ap stage_number flushes in
+    omega (arith, hand, same, said, stage)
+
 -- ---- a life
 module _ (opening : World) (start : ℕ) (ghosts : Ghosts) (opens : OpensWhole opening start ghosts) where
   abbrev log_at : List Event → Log
@@ -76,12 +88,11 @@ module _ (opening : World) (start : ℕ) (ghosts : Ghosts) (opens : OpensWhole o
       let flushes = at_end lived.number lived.stage n.keeper its.seeks its.loads lived.staged.keeper.step in
       let hand = ap (λ (v : Version). v.0) (lived.staged.keeper.has.hand its.commit its.in_hand).0 in
       let same = ap (λ (y : Span). y.number.0) its.its in
-      let said = staged_rank n lived.number lived.stage lived.staged in
-      let stage = ap stage_number flushes in
       let version = version_now n lived.number lived.stage lived.staged in
       let upto = flushed_version lived.number in
       let next = ap (λ (s : Stage). (stage_version lived.number s).0) flushes in
-      record { rank = omega (arith, hand, same, said, stage); version = omega (arith, hand, same, version, upto, next) }
+      let rank = ending_rank opening start quiet x moment its in
+      record { rank = omega (arith, rank); version = omega (arith, hand, same, version, upto, next) }
 
   prepares_version : (number : Version) (moment : List Event) → (run opening moment).now.keeper.step ≡ Starts → (run opening moment).now.keeper.start.step ≡ starting.LoadsTail number → phase_version (run opening moment).now.words ≡ number.0
   prepares_version number moment starts loads =

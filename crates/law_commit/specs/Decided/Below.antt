@@ -63,6 +63,12 @@ IsSettledBelowEnd opening x log = SettledFrom (tail_at opening.now) x.end.0 log
 abbrev pub IsOldBelowFirst : World → Span → Log → Type 0
 IsOldBelowFirst opening x log = CellsBelow x.first.0 x.number.0 log
 
+-- a newer one ends no lower
+abbrev pub EndsRise : Type 0
+EndsRise =
+    (opening : World) (start : ℕ) (events : List Event) (older newer : BegunCommit) → OpensQuiet opening start → IsIn older (life_begun opening events) → IsIn newer (life_begun opening events) → older.number.0 < newer.number.0
+    → older.end.0 ≤ newer.end.0
+
 -- ---- the triples of a full commit
 -- These triples stand one after another in what the commit writes. Each is of a bucket of the index and leads into its home's chain, below the commit's end, and
 -- no two are of one home. They cover the chains as these were when its copy began. Below its first address the chains have no more now than they had then.

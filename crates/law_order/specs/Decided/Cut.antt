@@ -43,6 +43,12 @@ CutsItsLog o n bytes events c = (image : scan.Log) → NamesEnd image c → IsCu
 abbrev pub DecidesItsLog : Opened → Now → List ℕ → List Event → BegunCommit → Type 0
 DecidesItsLog o n bytes events c = (image : scan.Log) → NamesEnd image c → (a : ℕ) → o.tail.0 ≤ a → a < image.tail → IsDecided ((let log = log_beside o n bytes events in log.cells) a)
 
+-- a newer commit ends no lower
+abbrev pub EndsRise : Type 0
+EndsRise =
+    (bytes : List ℕ) (o : Opened) (n : Now) (events : List Event) (older newer : BegunCommit) → IsStoreOf bytes o → IsOpeningWorld o n → IsIn older (life_begun (beginning n bytes) events) → IsIn newer (life_begun (beginning n bytes) events)
+    → older.number.0 < newer.number.0 → older.end.0 ≤ newer.end.0
+
 -- ---- a checkpoint of this life
 -- The scan starts at the commit's first address, and the image is of its version or a later one.
 pub record StartsAt (image : scan.Log) (c : BegunCommit) : Type 0 where

@@ -24,6 +24,9 @@ returns-clause-decided c = λ bytes o n events d store its begun image names a f
     let first = opened_tail o n its in
     decided_so _ (settled a (omega (arith, from, first)) (omega (arith, low, tail)))
 
+pub returns-clause-ends : goal.returns-clause-ends
+returns-clause-ends c = λ bytes o n events older newer store its. c.law_commits_cut.ensures.ends (beginning n bytes) o.tail.0 events older newer (c.law_ends_open.ensures bytes o n store its)
+
 pub returns-clause-old : goal.returns-clause-old
 returns-clause-old c = λ bytes o n events d store its begun.
     let opens = opens_whole c.law_life_begins.ensures c.law_ends_open.ensures c.law_versions_open.ensures bytes o n store its in
