@@ -1,12 +1,12 @@
 -- A newer commit ends no lower: its end was the tail at a later moment.
-use Rattle.std.proofs.Common.{◌≡◌, ◌⊎◌, inl, inr, ℕ, ◌+◌, ◌*◌, ◌<◌, ◌≤◌, ◌∙◌, List, [], ◌∷◌, ◌++◌, refl, arith, ap, sym, subst}
+use Rattle.std.proofs.Common.{◌≡◌, ◌⊎◌, inl, inr, ℕ, ◌<◌, ◌≤◌, ◌∙◌, List, [], ◌∷◌, ◌++◌, arith, ap, sym, subst}
 use Rattle.std.proofs.lemmas.List.{append-nil}
 use Rattle.fkv_world.specs.Runs.{World, run}
 use Rattle.fkv_world.specs.World.{Event}
 use Rattle.law_refine.specs.Events.Reserved.{tail_at}
 use Rattle.law_commit.specs.Decided.Below.{EndsRise}
 use Rattle.law_commit.specs.Decided.Ended.{HadMoment, HasEnded, LoadsEnd, Span, span_of, span_opened}
-use Rattle.law_commit.specs.Quiet.{OpensQuiet, flush_rank, rank_now, rank_said}
+use Rattle.law_commit.specs.Quiet.{OpensQuiet, rank_now, rank_said}
 use Rattle.law_commit.proofs.OfDecided.BelowEnd.{ending_rank}
 use Rattle.law_commit.proofs.OfDecided.Ended.{have_ended}
 use Rattle.law_commit.proofs.OfDecided.Lives.{tails_rise}

@@ -1,5 +1,5 @@
 -- The triples of a full commit lead into the chains below its end, and cover what the chains have below its first address.
-use Rattle.std.proofs.Common.{◌≡◌, ◌⊎◌, inl, inr, ℕ, ◌<◌, ◌≤◌, ◌∙◌, List, [], ◌∷◌, ◌++◌, append_assoc, refl, arith, ap, sym, subst, map}
+use Rattle.std.proofs.Common.{◌≡◌, inl, inr, ℕ, ◌<◌, ◌≤◌, ◌∙◌, List, ◌++◌, append_assoc, arith, ap, sym, subst, map}
 use Rattle.std.specs.List.{AllByRecursion}
 use Rattle.std.specs.Prelude.{Option}
 use Rattle.fkv_base.specs.declared.commits.CommitKind.{CommitKind}
@@ -15,24 +15,21 @@ use Rattle.fkv_commit.specs.declared.commits.Commit.{Commit}
 use Rattle.fkv_index.specs.OneEntry.{IsHome}
 use Rattle.fkv_keeper.specs.CheckpointLaws.{IsBeforeWrites}
 use Rattle.fkv_keeper.specs.Keeping.{bytes_copied, triples_written}
-use Rattle.fkv_map.specs.declared.history.HistoryEntry.{HistoryEntry}
 use Rattle.fkv_plane.specs.declared.places.Places.{Places}
 use Rattle.fkv_words.specs.PhaseWords.{phase_said}
 use Rattle.fkv_world.specs.OwnEvents.{keeper_events}
 use Rattle.fkv_world.specs.Runs.{World, run}
 use Rattle.fkv_world.specs.World.{Event}
 use Rattle.fkv_world.proofs.Shown.{places_stay}
-use Rattle.law_log.specs.Chains.{Cell, Logged, Unborn, Reserved, Published, Dropped}
-use Rattle.law_log.specs.Ghosts.{Log, Ghosts, GhostEvent, Tells, FindsEntry, TakesValue, Reserves, Publishes, Drops, Changes, Fixes, changed, dropped, ghost_run, ghosts_after, log_after, published}
+use Rattle.law_log.specs.Ghosts.{Ghosts}
 use Rattle.law_log.specs.Trace.{IsIn}
 use Rattle.law_guard.specs.Guarded.Shows as guard
 use Rattle.law_parts.specs.Index.Shows as index
 use Rattle.law_parts.proofs.OfIndex.Permitted.{are_permitted}
 use Rattle.law_parts.proofs.OfIndex.Worlds.{life_shows}
-use Rattle.law_refine.specs.Events.GhostEvents.{ghost_events, home_in, home_number, life_ghosts, mapped, serials_in}
+use Rattle.law_refine.specs.Events.GhostEvents.{home_number, life_ghosts}
 use Rattle.law_refine.specs.Events.Reserved.{tail_at}
 use Rattle.law_refine.specs.Heads.Heads.{LeadToHeads}
-use Rattle.law_refine.proofs.OfEvents.Below.{AreAbove, event_above}
 use Rattle.law_world.specs.Keeper.Lives.{replies_copied}
 use Rattle.law_commit.specs.Copied.Covers.{CoverHeads, HasStoodSince, LeadIntoChains, MayBeCopied, before_copy}
 use Rattle.law_commit.specs.Copied.Runs.{HasInHand, copy_events, opening_copy, seen_by_copy}
@@ -54,8 +51,7 @@ use Rattle.law_commit.proofs.OfDecided.Chained.{triples_below}
 use Rattle.law_commit.proofs.OfDecided.ChainsGrow.{life_chained}
 use Rattle.law_commit.proofs.OfDecided.Ended.{have_ended}
 use Rattle.law_commit.proofs.OfDecided.Ends.{settled_first}
-use Rattle.law_commit.proofs.OfDecided.Lives.{before_copies, copy_from, stays_decided, tails_rise}
-use Rattle.law_commit.proofs.OfDecided.Undecided.{was_reserved}
+use Rattle.law_commit.proofs.OfDecided.Lives.{before_copies, copy_from}
 
 -- ---- the copy that is written
 module _ (opening : World) (start : ℕ) (lists : ℕ → List ℕ) (ghosts : Ghosts) (opens : OpensWhole opening start ghosts) (in_order : index.IsOpened opening lists) (heads : LeadToHeads opening.now lists ghosts.log) (taken : ChainsTaken ghosts.log) where
