@@ -1,9 +1,9 @@
 -- What a life leaves of the records with which the store was opened.
 use Rattle.std.proofs.Common.{◌≡◌, ℕ, ◌+◌, ◌<◌, ◌≤◌, ◌∙◌, List, arith, ap, sym}
-use Rattle.std.specs.Prelude.{◌↔◌, Some}
+use Rattle.std.specs.Prelude.{◌↔◌}
 use Rattle.fkv_record.specs.declared.lost_ranges.LostRange.{LostRange}
 use Rattle.fkv_scan.specs.Log as scan
-use Rattle.law_log.specs.Chains.{Cell, Logged, Published}
+use Rattle.law_log.specs.Chains.{Cell, Published}
 use Rattle.law_log.specs.Ghosts.{Log}
 use Rattle.law_log.specs.Trace.{IsIn}
 use Rattle.law_opening.specs.Log.Records.{HasWhatCounts}

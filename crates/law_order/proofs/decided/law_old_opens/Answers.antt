@@ -1,5 +1,5 @@
 -- By what stays of the opened log, and by the versions of what is new.
-use Rattle.std.proofs.Common.{arith, ap, subst, ℕ, ◌≡◌, ◌∙◌, sym}
+use Rattle.std.proofs.Common.{arith, ap}
 use Rattle.fkv_base.specs.declared.numbers.Addr.{Addr}
 use Rattle.fkv_core.specs.Openings.{beginning}
 use Rattle.fkv_pairs.specs.Pairs.{log_of_store}
