@@ -1,5 +1,6 @@
 mod AttemptRows
 mod Events
+mod Falls
 mod Life
 mod LifeEvents
 mod LifeLogs

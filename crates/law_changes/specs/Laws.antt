@@ -6,7 +6,7 @@ use Rattle.fkv_world.specs.Runs.{World}
 use Rattle.fkv_world.specs.World.{Event}
 use Rattle.law_changes.specs.Fits.{CallsFit, CellsFit}
 use Rattle.law_changes.specs.Images.{IsInImage}
-use Rattle.law_changes.specs.Linked.{IsLinkedLog}
+use Rattle.law_changes.specs.Linked.{ChainsFall, IsLinkedLog}
 use Rattle.law_guard.specs.Guarded.GuardEvents as guarded
 use Rattle.law_guard.specs.Guarded.OpenedStore.{IsOpenedStore}
 use Rattle.law_guard.specs.Guarded.Shows as guard
@@ -14,8 +14,8 @@ use Rattle.law_guard.specs.Guarded.Shows.{guard_opening}
 use Rattle.law_log.specs.Chains.{Cell, Published}
 use Rattle.law_log.specs.Ghosts.{Ghosts}
 use Rattle.law_parts.specs.Index.Shows as index
+use Rattle.law_refine.specs.Events.GhostEvents.{home_in, life_ghosts}
 use Rattle.law_parts.specs.Mail.Shows as mail
-use Rattle.law_refine.specs.Events.GhostEvents.{life_ghosts}
 use Rattle.law_refine.specs.Events.Reserved.{IsUnbornFrom, ReservesNothing, tail_at}
 use Rattle.law_refine.specs.Heads.Heads.{LeadToHeads}
 use Rattle.law_refine.specs.Records.Changes.{AreChangesPublished}
@@ -50,6 +50,12 @@ ChangesArePublished =
 abbrev pub LogStaysLinked : Type 0
 LogStaysLinked =
     (opening : World) (start : ℕ) (lists : ℕ → List ℕ) (ghosts : Ghosts) (events : List Event) → BeginsLinked opening start lists ghosts → IsLinkedLog (life_ghosts opening ghosts events).log
+
+-- addresses fall down each chain, if they did as the life began
+abbrev pub ChainsAlwaysFall : Type 0
+ChainsAlwaysFall =
+    (opening : World) (start : ℕ) (lists : ℕ → List ℕ) (ghosts : Ghosts) (events : List Event) → BeginsLinked opening start lists ghosts → ChainsFall (home_in opening.now.shape.bucket_bits) ghosts.log
+    → ChainsFall (home_in opening.now.shape.bucket_bits) (life_ghosts opening ghosts events).log
 
 -- the header of a decided record says what became of it
 abbrev pub HeadersAlwaysShow : Type 0

@@ -8,10 +8,12 @@ use Rattle.fkv_opening.specs.declared.opened_store.Opened.{Opened}
 use Rattle.fkv_world.specs.World.{Event, Now}
 use Rattle.law_changes.specs.Fits.{CallsFit, CellsFit}
 use Rattle.law_changes.specs.Laws.{BeginsFitting, BeginsLinked}
+use Rattle.law_changes.specs.Linked.{ChainsFall}
 use Rattle.law_guard.specs.Guarded.GuardEvents as guarded
 use Rattle.law_guard.specs.Guarded.Shows.{guard_opening}
 use Rattle.law_opening.specs.Log.Lives.{ghosts_beside}
 use Rattle.law_opening.specs.Log.OpeningLog.{opening_ghosts}
+use Rattle.law_refine.specs.Events.GhostEvents.{home_in}
 use Rattle.law_refine.specs.Records.Changes.{AreChangesPublished}
 use Rattle.law_refine.specs.Records.Headers.{HeadersShowLog}
 
@@ -24,6 +26,11 @@ LivesBeginLinked =
 abbrev pub LivesChangePublished : Type 0
 LivesChangePublished =
     (o : Opened) (n : Now) (bytes : List ℕ) (events : List Event) → IsStoreOf bytes o → IsOpeningWorld o n → AreChangesPublished (beginning n bytes) (opening_ghosts bytes o) events
+
+-- addresses fall down each chain
+abbrev pub LivesHaveFallingChains : Type 0
+LivesHaveFallingChains =
+    (o : Opened) (n : Now) (bytes : List ℕ) (events : List Event) → IsStoreOf bytes o → IsOpeningWorld o n → (let beside = ghosts_beside o n bytes events in ChainsFall (home_in n.shape.bucket_bits) beside.log)
 
 -- the header of a decided record says what became of it
 abbrev pub LivesShowHeaders : Type 0

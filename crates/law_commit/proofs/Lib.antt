@@ -1,3 +1,4 @@
+mod AllBegun
 mod BegunStands
 mod Catches
 mod Counted

@@ -1,8 +1,12 @@
 //! Which addresses of a life's log are taken and decided.
+ghost use Rattle.law_commit.specs.Decided.Below as below;
+ghost use Rattle.law_commit.specs.Decided.Ended.{CommitsHaveEnded};
 ghost use Rattle.law_commit.specs.Decided.Later as later;
 ghost use Rattle.law_commit.specs.Decided.Laws as decided;
 
 use crate::floor::law_floor_stands;
+use crate::quiet::law_versions_end;
+use fkv_checkpoint::law_copied;
 use law_paper::law_phases_are_seen;
 
 /// In every life of a store that was opened each address from the tail with which it began up to the tail is taken: its record is being made, stands, or was
@@ -49,8 +53,34 @@ pub fn law_commits_settled()
 }
 
 /// In every life of a store that was opened, if each address that stood in a chain was taken then, each that stands in a chain lies below the tail. So does
-/// where the triples lead of the copy that began last.
+/// where the triples lead of the copy that began last. Below the tail with which the life began each chain has just what it had then.
 pub fn law_chains_below()
     ensures chains { decided.ChainsLieBelowTail }
+    ensures old { decided.ChainsKeepTheOld }
     ensures triples { decided.TriplesLieBelowTail }
 {}
+
+/// Each commit that has begun in a life of a store that opened at rest, but the opening's, has come through three moments. Its first address was the tail as the
+/// keeper loaded that in prepare. Its end was the tail as the keeper loaded that in wait-flush: then it was copied, and a full one had the copy in hand whose
+/// triples it writes. And it was in hand as it was written, with this number, kind, first address and end, and these triples.
+pub fn law_commits_ended()
+    ensures { CommitsHaveEnded }
+{}
+
+/// So the commit cuts the log at its version, from then on and for good. Each record from its end on is of a later version: by then no update of its version was
+/// left. Below its end none is of a version past the next one, and each from the first tail on stands or was given up. Below its first address none is of a
+/// later version than its own. A newer commit ends no lower. What a full commit writes are triples, no two of one home, each of a bucket of the index. Each leads into its home's chain, below
+/// the commit's end. They cover the chains as these were when the copy began, and since then the chains have got nothing below the commit's first address.
+pub fn law_commits_cut()
+    ensures later { below.OfEachBegun below.IsLaterFromEnd }
+    ensures young { below.OfEachBegun below.IsYoungBelowEnd }
+    ensures settled { below.OfEachBegun below.IsSettledBelowEnd }
+    ensures old { below.OfEachBegun (below.ButOpenings below.IsOldBelowFirst) }
+    ensures ends { below.EndsRise }
+    ensures triples { below.FullCommitsSpellChains }
+{
+    law_copied();
+    law_phases_are_seen();
+    law_floor_stands();
+    law_versions_end();
+}

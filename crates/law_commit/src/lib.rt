@@ -17,8 +17,8 @@ mod versions;
 pub use copied::{law_copies_cover, law_world_copied};
 pub use cuts::{law_cuts_stand, law_durable_stands, law_marks_stand};
 pub use decided::{
-    law_addresses_taken, law_chains_below, law_commits_decided, law_commits_settled,
-    law_later_above,
+    law_addresses_taken, law_chains_below, law_commits_cut, law_commits_decided, law_commits_ended,
+    law_commits_settled, law_later_above,
 };
 pub use durable::{law_told_are_sealed, law_told_never_falls};
 pub use floor::{law_floor_stands, law_lives_are_phases};

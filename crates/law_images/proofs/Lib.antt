@@ -7,7 +7,6 @@ mod CopiedLength
 mod CopyInIndex
 mod CopyWritten
 mod EndsFlushed
-mod HomesApart
 mod Kept
 mod LifeFits
 mod LifeNamed

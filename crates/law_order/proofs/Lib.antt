@@ -1,4 +1,5 @@
 mod OfAsked
+mod OfDecided
 mod OfKnown
 mod OfLooks
 mod OfOneHistory

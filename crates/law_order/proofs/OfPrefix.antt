@@ -1,2 +1,3 @@
 pub mod Join
 pub mod Lives
+pub mod Slots

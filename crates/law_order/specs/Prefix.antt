@@ -1,3 +1,4 @@
 pub mod Durable
 pub mod Law
+pub mod Slots
 pub mod Stores

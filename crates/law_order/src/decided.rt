@@ -1,8 +1,16 @@
 //! Which addresses of the log are decided in each life of a store that was opened.
+ghost use Rattle.law_order.specs.Decided.Cut as cut;
 ghost use Rattle.law_order.specs.Decided.Laws as decided;
+ghost use Rattle.law_order.specs.Decided.Old as old;
 
+use crate::in_turn::{law_ends_open, law_versions_open};
 use crate::rules::law_life_begins;
-use law_commit::{law_addresses_taken, law_chains_below, law_commits_decided, law_commits_settled};
+use law_changes::law_lives_change_published;
+use law_commit::{
+    law_addresses_taken, law_chains_below, law_commits_cut, law_commits_decided,
+    law_commits_settled, law_versions_bounded,
+};
+use law_opening::law_log_counted;
 
 /// In each life of an opened store, with commits, crashes and failing calls of the device, each address from the first tail up to the tail is taken. All is
 /// decided below what each session that is awake has seen as tail. So it is below the first address of the commit in hand, from in-progress on and as its copy
@@ -29,4 +37,37 @@ pub fn law_chains_open()
 {
     law_life_begins();
     law_chains_below();
+}
+
+/// Each commit that has begun in such a life cuts the log beside it, from then on and for good, as an image wants that names the commit: what is published of
+/// versions up to its own lies below its end, and below that nothing is of a version past the next one. From the opened tail on each record below its end is
+/// published or was given up. A newer commit ends no lower. If the commit is a full one of this life, what is published below its first address is of no later version than its own. It has
+/// written triples that an image can read back, and in an image that has them these cover the chains.
+pub fn law_cut_opens()
+    ensures cut { cut.OfEachBegun cut.CutsItsLog }
+    ensures decided { cut.OfEachBegun cut.DecidesItsLog }
+    ensures ends { cut.EndsRise }
+    ensures old { cut.OfEachBegun cut.IsOldBelow }
+    ensures covers { cut.OfEachBegun cut.CoversItsChains }
+{
+    law_life_begins();
+    law_ends_open();
+    law_versions_open();
+    law_commits_cut();
+    law_lives_change_published();
+}
+
+/// In each such life the log has below the opened end what counted as the store was opened, of the opening's version, and no more. What is published from there
+/// on is of later versions. So lost ranges that lose just what the opening has left out do so at each moment.
+pub fn law_old_opens()
+    ensures before { old.OfEachLife old.KeepsWhatCounted }
+    ensures later { old.OfEachLife old.IsLaterAbove }
+    ensures loses { old.OfEachLife old.LosesAsBefore }
+{
+    law_life_begins();
+    law_versions_open();
+    law_log_counted();
+    law_chains_below();
+    law_versions_bounded();
+    law_lives_change_published();
 }

@@ -24,7 +24,7 @@ mod told;
 mod truth;
 
 pub use asked::law_world_asked;
-pub use decided::{law_chains_open, law_decided_opens};
+pub use decided::{law_chains_open, law_cut_opens, law_decided_opens, law_old_opens};
 pub use enabled::law_world_enabled;
 pub use fits::law_opening_fits;
 pub use in_turn::{
@@ -41,7 +41,7 @@ pub use opened::{
 pub use ordered::{law_rules_kept, law_world_ordered};
 pub use prefix::{
     law_commits_in_turn, law_durable_is_sealed, law_durable_never_falls, law_finished_is_told,
-    law_join, law_lives, law_points_are_fair, law_replays_kept,
+    law_join, law_lives, law_points_are_fair, law_replays_kept, law_slots_open,
 };
 pub use reads::law_world_reads;
 pub use rest::{law_life_rests, law_log_rests, law_rest_said};

@@ -2,15 +2,19 @@
 ghost use Rattle.law_order.specs.OneHistory.EachLife.{InEachLife};
 ghost use Rattle.law_order.specs.Prefix.Durable.{ToldNeverFalls};
 ghost use Rattle.law_order.specs.Prefix.Law as said;
+ghost use Rattle.law_order.specs.Prefix.Slots.{HomesHaveSlots};
 ghost use Rattle.law_order.specs.Prefix.Stores as stores;
 
 use crate::in_turn::{law_phases_open, law_points_open};
 use crate::rules::{law_cuts_open, law_life_begins};
+use law_changes::law_lives_change_published;
 use law_commit::{
     law_begun, law_points_between, law_points_taken, law_told_are_sealed, law_told_never_falls,
 };
 use law_opening::{law_guard_opens, law_log_begins, law_log_beside, law_log_opened};
 use law_paper::law_kept;
+use law_parts::law_world_one_entry;
+use law_refine::law_heads;
 
 /// In each life the commits that are finished are the opening's and those that the keeper has told as finished, in their order. Each has the number and the
 /// points that were told.
@@ -85,4 +89,16 @@ pub fn law_replays_kept()
     law_log_beside();
     law_kept();
     law_join();
+}
+
+/// In each life, with commits, crashes and failing calls of the device, each home of the log beside it has a slot of the live index, and no two homes of a bucket
+/// have the same. For each chain begins where the entry of its home leads, and a home has one entry at most. So recovery's index has room, in each image of the
+/// store's shape.
+pub fn law_slots_open()
+    ensures { HomesHaveSlots }
+{
+    law_life_begins();
+    law_lives_change_published();
+    law_world_one_entry();
+    law_heads();
 }

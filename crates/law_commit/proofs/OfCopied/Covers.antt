@@ -61,7 +61,7 @@ unfolding ghost_run
 run_grown home g [] b h is_in = is_in
 run_grown home g (event ∷ before) b h is_in = event_grown home (ghost_run home g before) event b h (run_grown home g before b h is_in)
 
-life_grown : (opening : World) (ghosts : Ghosts) (later moment : List Event) (b h : ℕ) → IsIn b ((life_ghosts opening ghosts moment).log.chains h) → IsIn b ((life_ghosts opening ghosts (later ++ moment)).log.chains h)
+pub life_grown : (opening : World) (ghosts : Ghosts) (later moment : List Event) (b h : ℕ) → IsIn b ((life_ghosts opening ghosts moment).log.chains h) → IsIn b ((life_ghosts opening ghosts (later ++ moment)).log.chains h)
 unfolding mapped
 life_grown opening ghosts [] moment b h is_in = is_in
 life_grown opening ghosts (event ∷ later) moment b h is_in =

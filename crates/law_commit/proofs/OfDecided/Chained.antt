@@ -32,7 +32,7 @@ use Rattle.law_commit.proofs.OfDecided.Taken.{stays_taken}
 reserved_is : (logged : Logged) (entry : HistoryEntry) (cell : Cell) → logged ≡ Reserved entry cell → IsTaken logged
 reserved_is logged entry cell its none = let clash = sym (ap made_in its) ∙ none in cc
 
-was_in : (chains : ℕ → List ℕ) (h b : ℕ) (more : List ℕ) (i a : ℕ) → more ≡ b ∷ chains h → IsIn a (set_at chains h more i) → (a ≡ b) ⊎ IsIn a (chains i)
+pub was_in : (chains : ℕ → List ℕ) (h b : ℕ) (more : List ℕ) (i a : ℕ) → more ≡ b ∷ chains h → IsIn a (set_at chains h more i) → (a ≡ b) ⊎ IsIn a (chains i)
 was_in chains h b more i a its is_in = elim (at_one chains h more i) [
   | inl here ↦ first_or (subst (IsIn a) (here.1 ∙ its) is_in) here.0
   | inr there ↦ inr (subst (IsIn a) there.1 is_in)

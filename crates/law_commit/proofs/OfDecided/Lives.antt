@@ -84,7 +84,7 @@ tail_rises opening start before event opened = (life_rises opening start before 
 higher : (low tail more : ℕ) → low ≤ tail → tail ≤ more → low ≤ more
 higher low tail more one other = omega (arith, one, other)
 
-tails_rise : (opening : World) (start : ℕ) (later before : List Event) → guard.IsOpened opening.now start → tail_at (run opening before).now ≤ tail_at (run opening (later ++ before)).now
+pub tails_rise : (opening : World) (start : ℕ) (later before : List Event) → guard.IsOpened opening.now start → tail_at (run opening before).now ≤ tail_at (run opening (later ++ before)).now
 tails_rise opening start [] before opened = omega arith
 tails_rise opening start (event ∷ later) before opened = higher (tail_at (run opening before).now) (tail_at (run opening (later ++ before)).now) _ (tails_rise opening start later before opened) (tail_rises opening start (later ++ before) event opened)
 
@@ -132,7 +132,7 @@ module _ (floor : FloorAlwaysStands) (opening : World) (start : ℕ) (ghosts : G
   below_end (inl safe) = below_views opening start ghosts events c.end.0 opens (λ session first its became awake. ((stands.commit session first its c became awake in_hand).ending safe.0 safe.1).tail)
   below_end (inr written) = below_views opening start ghosts events c.end.0 opens (λ session first its became awake. ((stands.commit session first its c became awake in_hand).written written).tail)
 
-copy_from : (said : PhaseSaid) → IsCopyPhase said → IsFromProgress said
+pub copy_from : (said : PhaseSaid) → IsCopyPhase said → IsFromProgress said
 copy_from (Says phases.InProgress version) its = tt
 copy_from (Says phases.WaitPending version) its = tt
 copy_from (Says phases.WaitFlush version) its = tt

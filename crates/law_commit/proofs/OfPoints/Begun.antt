@@ -4,22 +4,21 @@ use Rattle.std.specs.Prelude.{Option, Some, None, slice_get}
 use Rattle.fkv_base.specs.declared.numbers.Serial.{Serial}
 use Rattle.fkv_commit.specs.declared.commits.Commit.{Commit}
 use Rattle.fkv_keeper.specs.declared.keepers.Keeping.TheVariants.{Writes}
-use Rattle.fkv_keeper.specs.Keeping.{KeeperState}
-use Rattle.fkv_keeper.specs.KeeperRun.{KeeperEvent}
 use Rattle.fkv_session.specs.Sessions.{SessionState}
 use Rattle.fkv_session.specs.Versions.{versions_taken}
-use Rattle.fkv_world.specs.OwnEvents.{keeper_events, session_events}
+use Rattle.fkv_world.specs.OwnEvents.{session_events}
 use Rattle.fkv_world.specs.Runs.{World, run}
 use Rattle.fkv_world.specs.World.{Event}
 use Rattle.fkv_world.proofs.Shown.{session_runs}
-use Rattle.law_world.proofs.OfKeeper.OwnRun.{to_keeper}
 use Rattle.law_commit.specs.Accepted.{point, serial_at}
-use Rattle.law_commit.specs.BegunCommits.{BegunCommit, commit_opened, commits_begun, life_begun}
+use Rattle.law_commit.specs.BegunCommits.{life_begun}
+use Rattle.law_commit.specs.Decided.Ended.{Span}
 use Rattle.law_commit.specs.Floor.Stands.{PaperIsSound}
 use Rattle.law_commit.specs.Points.{ArePointsOf, BegunHavePoints, OpensPointed}
 use Rattle.law_commit.specs.Quiet.{CutsShowPoints, LiveAreLater, pending_rank, rank_now, rank_said}
 use Rattle.law_commit.proofs.OfPoints.Taken.{takes_points, writes_taken}
-use Rattle.law_commit.proofs.OfQuiet.Begun.{AllBegun, by_event, call_all, one_of, others_all, weaker, written}
+use Rattle.law_commit.proofs.AllBegun.{AllBegun, event_begun, one_of, opened_begun, weaker}
+use Rattle.law_commit.proofs.OfQuiet.Begun.{written}
 use Rattle.law_commit.proofs.OfQuiet.Points.{points_stay}
 use Rattle.law_commit.proofs.OfQuiet.Ranks.{ranks_rise}
 
@@ -59,22 +58,20 @@ module _ (live : LiveAreLater) (paper_sound : PaperIsSound) (cuts_show : CutsSho
       let has_them = writes_taken live paper_sound cuts_show opening start opens.quiet opens.cuts events writes in
       (omega (arith, flushed), takes_points live paper_sound cuts_show opening start events c opens in_hand has_them)
 
-  all_pointed : (events : List Event) → AllBegun (Pointed events) (life_begun opening events)
-  unfolding keeper_events commits_begun run
+  -- so has each that has begun
+  abbrev PointedSpan : List Event → Span → List Serial → Type 0
+  PointedSpan events x points = Pointed events x.number.0 points
+
+  all_pointed : (events : List Event) → AllBegun (PointedSpan events) (life_begun opening events)
+  unfolding run
   all_pointed [] =
       let said = ap rank_said opens.quiet.seen.rests.says in
-      ((omega (arith, said), λ session. opens.points session ∙ sym (point_opens opening session opening.now.keeper.last.number.0)), tt)
+      opened_begun (PointedSpan []) opening (omega (arith, said), λ session. opens.points session ∙ sym (point_opens opening session opening.now.keeper.last.number.0))
   all_pointed (event ∷ before) =
-      let P : ℕ → List Serial → Type 0 = Pointed (event ∷ before) in
-      let first : List BegunCommit = commit_opened opening.now opening.past.opened ∷ [] in
-      let own : List KeeperEvent = keeper_events opening before in
-      let all = weaker (Pointed before) P (life_begun opening before) (pointed_on event before) (all_pointed before) in
-      let now = to_keeper (λ (s : KeeperState). s.step ≡ Writes → (c : Commit) → s.commit ≡ Some c → P c.number.0 s.seek.points) opening before
-      (λ writes c is. pointed_on event before c.number.0 (run opening before).now.keeper.seek.points (writes_pointed before writes c is)) in
-      by_event P (λ (part : List KeeperEvent). AllBegun P (commits_begun opening.now.shape opening.now.places opening.now.keeper first (part ++ own))) (run opening before) event
-      (λ done bytes. call_all P opening.now.shape opening.now.places opening.now.keeper first done bytes own now all)
-      (λ part none. others_all P opening.now.shape opening.now.places opening.now.keeper first part own none all)
+      event_begun (PointedSpan (event ∷ before)) opening before event
+      (λ writes c is. pointed_on event before c.number.0 (run opening before).now.keeper.seek.points (writes_pointed before writes c is))
+      (weaker (PointedSpan before) (PointedSpan (event ∷ before)) (life_begun opening before) (λ x points. pointed_on event before x.number.0 points) (all_pointed before))
 
 pub begun_have_points : LiveAreLater → PaperIsSound → CutsShowPoints → BegunHavePoints
 begun_have_points live paper_sound cuts_show opening start events c opens there =
-    (one_of (Pointed live paper_sound cuts_show opening start opens events) c (life_begun opening events) there (all_pointed live paper_sound cuts_show opening start opens events)).1
+    (one_of (PointedSpan live paper_sound cuts_show opening start opens events) c (life_begun opening events) there (all_pointed live paper_sound cuts_show opening start opens events)).1

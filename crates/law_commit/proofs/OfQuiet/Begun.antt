@@ -1,164 +1,22 @@
 -- Each commit that has begun in a life has come to wait-flush. So each session's point of its number stays and splits the session's effects, for ever.
-use Rattle.std.proofs.Common.{◌≡◌, inl, inr, ℕ, ◌≤◌, List, [], ◌∷◌, ◌++◌, refl, arith, ap, subst, Bool, true, false}
-use Rattle.std.specs.Prelude.{⊤, if◌then◌else◌, Option, Some, None}
+use Rattle.std.proofs.Common.{◌≡◌, ℕ, ◌≤◌, List, [], ◌∷◌, arith, ap}
+use Rattle.std.specs.Prelude.{Some}
 use Rattle.fkv_base.specs.declared.numbers.Serial.{Serial}
 use Rattle.fkv_base.specs.declared.numbers.Version.{Version}
-use Rattle.fkv_base.specs.declared.shapes.Shape.{Shape}
-use Rattle.fkv_plane.specs.declared.actions.Action.{Action}
-use Rattle.fkv_plane.specs.declared.asks.Ask.{Ask}
-use Rattle.fkv_plane.specs.declared.asks.Ask.TheVariants.{Load, Store, Swap, Cas, Add, Max, Put, Take, Done}
-use Rattle.fkv_plane.specs.declared.places.Places.{Places}
-use Rattle.fkv_plane.specs.Asked.{reply_to}
-use Rattle.fkv_plane.specs.Plane.{action_at}
 use Rattle.fkv_commit.specs.declared.commits.Commit.{Commit}
-use Rattle.fkv_manifest.specs.declared.commits.Committing.{Committing}
-use Rattle.fkv_manifest.specs.declared.commits.Committing.TheVariants.{PutsSlot}
-use Rattle.fkv_manifest.specs.declared.gates.Gating.{Gating}
-use Rattle.fkv_manifest.specs.declared.gates.Gating.TheVariants.{Opens, SyncsOpen}
-use Rattle.fkv_keeper.specs.declared.answers.KeeperTold.{KeeperTold}
-use Rattle.fkv_keeper.specs.declared.answers.KeeperTold.TheVariants.{Device, Turned}
 use Rattle.fkv_keeper.specs.declared.keepers.Keeping.{Keeping}
-use Rattle.fkv_keeper.specs.declared.keepers.Keeping.TheVariants.{Ended, Writes, Finishes}
-use Rattle.fkv_keeper.specs.Keeping.{KeeperState, keeper_ask, keeper_next}
-use Rattle.fkv_keeper.specs.KeeperRun.{BeginsCommit, BeginsTurn, Calls, KeeperEvent, Replies, keeper_run}
-use Rattle.fkv_world.specs.Moves.{Near}
-use Rattle.fkv_world.specs.OwnEvents.{keeper_events, keeper_got, keeper_part, keeper_part_of, keeper_slots, keeper_steps}
-use Rattle.fkv_world.specs.Runs.{World, read_by_keeper, run}
-use Rattle.fkv_world.specs.World as world
-use Rattle.fkv_world.specs.World.{Event, Commits, Crashes, KeeperMoves, Moves, Now, Turns, near}
-use Rattle.law_log.specs.Trace.{IsIn}
-use Rattle.law_world.proofs.OfKeeper.OwnRun.{to_keeper}
-use Rattle.law_commit.specs.BegunCommits.{BegunCommit, begun_at_end, begun_at_gate, begun_at_writes, begun_by, commit_opened, commits_begun, life_begun, with_finished, with_opening, with_sealed}
+use Rattle.fkv_keeper.specs.declared.keepers.Keeping.TheVariants.{Writes}
+use Rattle.fkv_keeper.specs.Keeping.{KeeperState}
+use Rattle.fkv_world.specs.Runs.{World, run}
+use Rattle.fkv_world.specs.World.{Event, Now}
+use Rattle.law_commit.specs.BegunCommits.{life_begun}
+use Rattle.law_commit.specs.Decided.Ended.{Span}
 use Rattle.law_commit.specs.Floor.Stands.{stage_number}
 use Rattle.law_commit.specs.Phases.Staged.{Flushes, Stage, StepAt}
 use Rattle.law_commit.specs.Quiet.{BegunHaveFlushed, OpensQuiet, flush_rank, rank_now, rank_said}
+use Rattle.law_commit.proofs.AllBegun.{AllBegun, event_begun, one_of, opened_begun, weaker}
 use Rattle.law_commit.proofs.OfPhases.LifeStages.{life_staged}
 use Rattle.law_commit.proofs.OfQuiet.Ranks.{ranks_rise, staged_rank}
-
--- ---- the numbers and the points of those that have begun
-abbrev pub AllBegun : (ℕ → List Serial → Type 0) → List BegunCommit → Type 0
-AllBegun P [] = ⊤
-AllBegun P (c ∷ before) = P c.number.0 c.points × AllBegun P before
-
-pub weaker : (P Q : ℕ → List Serial → Type 0) (begun : List BegunCommit) → ((number : ℕ) (points : List Serial) → P number points → Q number points) → AllBegun P begun → AllBegun Q begun
-weaker P Q [] on all = tt
-weaker P Q (c ∷ before) on all = (on c.number.0 c.points all.0, weaker P Q before on all.1)
-
-pub one_of : (P : ℕ → List Serial → Type 0) (c : BegunCommit) (begun : List BegunCommit) → IsIn c begun → AllBegun P begun → P c.number.0 c.points
-one_of P c [] there all = absurd there
-one_of P c (x ∷ before) (inl same) all = subst (λ (y : BegunCommit). P y.number.0 y.points) same all.0
-one_of P c (x ∷ before) (inr there) all = one_of P c before there all.1
-
-module _ (P : ℕ → List Serial → Type 0) where
-  sealed_all : (begun : List BegunCommit) → AllBegun P begun → AllBegun P (with_sealed begun)
-  sealed_all [] all = tt
-  sealed_all (c ∷ before) all = all
-
-  finished_all : (begun : List BegunCommit) → AllBegun P begun → AllBegun P (with_finished begun)
-  finished_all [] all = tt
-  finished_all (c ∷ before) all = all
-
-  opening_all : (s : KeeperState) (found : Option Commit) (before : List BegunCommit) → ((c : Commit) → found ≡ Some c → P c.number.0 s.seek.points) → AllBegun P before → AllBegun P (with_opening s found before)
-  opening_all s None before new all = all
-  opening_all s (Some c) before new all = (new c refl, all)
-
-  gate_all : (s : KeeperState) (step : Gating) (done : Bool) (before : List BegunCommit) → ((c : Commit) → s.commit ≡ Some c → P c.number.0 s.seek.points) → AllBegun P before → AllBegun P (begun_at_gate s step done before)
-  gate_all s Opens done before new all = opening_all s s.commit before new all
-  gate_all s SyncsOpen true before new all = sealed_all before all
-  gate_all s step done before new all = all
-
-  writes_all : (s : KeeperState) (step : Committing) (done : Bool) (before : List BegunCommit) → ((c : Commit) → s.commit ≡ Some c → P c.number.0 s.seek.points) → AllBegun P before → AllBegun P (begun_at_writes s step done before)
-  writes_all s PutsSlot done before new all = gate_all s s.writes.gate.step done before new all
-  writes_all s step done before new all = all
-
-  end_all : (after : Keeping) (before : List BegunCommit) → AllBegun P before → AllBegun P (begun_at_end after before)
-  end_all (Ended (Turned true full)) before all = finished_all before all
-  end_all after before all = all
-
-  called_all : (s : KeeperState) (step : Keeping) (done : Bool) (bytes : List ℕ) (after : Keeping) (before : List BegunCommit) → (step ≡ Writes → (c : Commit) → s.commit ≡ Some c → P c.number.0 s.seek.points) → AllBegun P before
-      → AllBegun P (begun_by s step (Calls done bytes) after before)
-  called_all s Writes done bytes after before new all = writes_all s s.writes.step done before (new refl) all
-  called_all s Finishes done bytes after before new all = end_all after before all
-  called_all s step done bytes after before new all = all
-
-  -- another event begins none
-  abbrev pub IsNoCall : KeeperEvent → Type 0
-  IsNoCall (Calls done bytes) = ⊥
-  IsNoCall event = ⊤
-
-  other_all : (s : KeeperState) (step : Keeping) (event : KeeperEvent) (after : Keeping) (before : List BegunCommit) → IsNoCall event → AllBegun P before → AllBegun P (begun_by s step event after before)
-  other_all s Finishes event after before none all = end_all after before all
-  other_all s Writes (Calls done bytes) after before none all = absurd none
-  other_all s step event after before none all = all
-
-  abbrev pub HasNoCall : List KeeperEvent → Type 0
-  HasNoCall [] = ⊤
-  HasNoCall (event ∷ before) = IsNoCall event × HasNoCall before
-
-  module _ (shape : Shape) (p : Places) (opening : KeeperState) (first : List BegunCommit) where
-    pub others_all : (later own : List KeeperEvent) → HasNoCall later → AllBegun P (commits_begun shape p opening first own) → AllBegun P (commits_begun shape p opening first (later ++ own))
-    unfolding commits_begun
-    others_all [] own none all = all
-    others_all (event ∷ later) own none all =
-        other_all (keeper_run shape p opening (later ++ own)) (keeper_run shape p opening (later ++ own)).step event (keeper_run shape p opening (event ∷ later ++ own)).step (commits_begun shape p opening first (later ++ own)) none.0
-        (others_all later own none.1 all)
-
-    pub call_all : (done : Bool) (bytes : List ℕ) (own : List KeeperEvent) → ((keeper_run shape p opening own).step ≡ Writes → (c : Commit) → (keeper_run shape p opening own).commit ≡ Some c → P c.number.0 (keeper_run shape p opening own).seek.points) → AllBegun P (commits_begun shape p opening first own)
-        → AllBegun P (commits_begun shape p opening first (Calls done bytes ∷ own))
-    unfolding commits_begun
-    call_all done bytes own new all =
-        called_all (keeper_run shape p opening own) (keeper_run shape p opening own).step done bytes (keeper_run shape p opening (Calls done bytes ∷ own)).step (commits_begun shape p opening first own) new all
-
-  -- ---- the keeper's part in an event is a call of the device, or has none
-  got_none : (found : Option Action) → HasNoCall (keeper_got found)
-  got_none None = tt
-  got_none (Some action) = (tt, tt)
-
-  slots_none : (actions : List (Option Action)) (granted : Bool) (ask : Ask KeeperTold) → HasNoCall (keeper_slots actions granted ask)
-  unfolding keeper_slots
-  slots_none actions granted (Put slot action) = (tt, tt)
-  slots_none actions granted (Take slot) = got_none (action_at actions slot)
-  slots_none actions granted ask = tt
-
-  behind_none : (later : List KeeperEvent) (reply : ℕ) (granted : Bool) → HasNoCall later → HasNoCall (later ++ Replies reply granted ∷ [])
-  behind_none [] reply granted none = (tt, tt)
-  behind_none (event ∷ later) reply granted none = (none.0, behind_none later reply granted none.1)
-
-  module _ (G : List KeeperEvent → Type 0) (shape : Shape) (p : Places) (granted done : Bool) (read : List ℕ) (n : Near KeeperState) (called : G (Calls done read ∷ [])) (other : (part : List KeeperEvent) → HasNoCall part → G part) where
-    word_steps : (ask : Ask KeeperTold) → G (keeper_slots n.actions granted (keeper_ask shape p (keeper_next shape p n.machine (reply_to n.words ask) granted)) ++ Replies (reply_to n.words ask) granted ∷ [])
-    word_steps ask =
-        let asks = keeper_ask shape p (keeper_next shape p n.machine (reply_to n.words ask) granted) in
-        other (keeper_slots n.actions granted asks ++ Replies (reply_to n.words ask) granted ∷ []) (behind_none (keeper_slots n.actions granted asks) (reply_to n.words ask) granted (slots_none n.actions granted asks))
-
-    by_steps : (ask : Ask KeeperTold) → G (keeper_steps shape p granted done read n ask)
-    unfolding keeper_steps
-    by_steps (Done Device) = called
-    by_steps (Done its) = other [] tt
-    by_steps (Put slot action) = other (keeper_slots n.actions granted (Put slot action)) (slots_none n.actions granted (Put slot action))
-    by_steps (Take slot) = other (keeper_slots n.actions granted (Take slot)) (slots_none n.actions granted (Take slot))
-    by_steps (Load place) = word_steps (Load place)
-    by_steps (Store place new) = word_steps (Store place new)
-    by_steps (Swap place new) = word_steps (Swap place new)
-    by_steps (Cas place old new) = word_steps (Cas place old new)
-    by_steps (Add place count) = word_steps (Add place count)
-    by_steps (Max place count) = word_steps (Max place count)
-
-  by_part : (G : List KeeperEvent → Type 0) (shape : Shape) (p : Places) (read : List ℕ) (n : Near KeeperState) (event : Event) → ((done : Bool) (bytes : List ℕ) → G (Calls done bytes ∷ [])) → ((part : List KeeperEvent) → HasNoCall part → G part)
-      → G (keeper_part shape p read n event)
-  unfolding keeper_part
-  by_part G shape p read n (Commits kind) called other = other (BeginsCommit kind ∷ []) (tt, tt)
-  by_part G shape p read n Turns called other = other (BeginsTurn ∷ []) (tt, tt)
-  by_part G shape p read n (KeeperMoves granted done) called other = by_steps G shape p granted done read n (called done read) other (keeper_ask shape p n.machine)
-  by_part G shape p read n (world.Calls number call) called other = other [] tt
-  by_part G shape p read n (Moves number) called other = other [] tt
-  by_part G shape p read n Crashes called other = other [] tt
-
-  pub by_event : (G : List KeeperEvent → Type 0) (w : World) (event : Event) → ((done : Bool) (bytes : List ℕ) → G (Calls done bytes ∷ [])) → ((part : List KeeperEvent) → HasNoCall part → G part) → G (keeper_part_of w event)
-  by_event G w event called other = by_crash w.now.crashed
-    where
-      by_crash : (c : Bool) → G (if c then [] else keeper_part w.now.shape w.now.places (read_by_keeper w) (near w.now w.now.keeper) event)
-      by_crash true = other [] tt
-      by_crash false = by_part G w.now.shape w.now.places (read_by_keeper w) (near w.now w.now.keeper) event called other
 
 -- ---- a life
 higher : (number low high : ℕ) → low ≤ high → flush_rank number ≤ low → flush_rank number ≤ high
@@ -169,11 +27,11 @@ writes_flush number stage s Writes at is = is
 writes_flush number stage s step at is = cc
 
 module _ (opening : World) (start : ℕ) (opens : OpensQuiet opening start) where
-  abbrev HasFlushed : List Event → ℕ → List Serial → Type 0
-  HasFlushed events number points = flush_rank number ≤ rank_now opening events
+  abbrev HasFlushed : List Event → ℕ → Type 0
+  HasFlushed events number = flush_rank number ≤ rank_now opening events
 
   -- the commit that is written
-  pub written : (events : List Event) → (run opening events).now.keeper.step ≡ Writes → (c : Commit) → (run opening events).now.keeper.commit ≡ Some c → HasFlushed events c.number.0 (run opening events).now.keeper.seek.points
+  pub written : (events : List Event) → (run opening events).now.keeper.step ≡ Writes → (c : Commit) → (run opening events).now.keeper.commit ≡ Some c → HasFlushed events c.number.0
   written events writes c is =
       let n : Now = (run opening events).now in
       let lived = life_staged opening start events opens.guarded opens.opened opens.seen.rests in
@@ -182,19 +40,17 @@ module _ (opening : World) (start : ℕ) (opens : OpensQuiet opening start) wher
       let same = ap (λ (v : Version). v.0) (lived.staged.keeper.has.hand c is).0 in
       omega (arith, said, flushes, same)
 
-  all_flushed : (events : List Event) → AllBegun (HasFlushed events) (life_begun opening events)
-  unfolding keeper_events commits_begun run
-  all_flushed [] = let said = ap rank_said opens.seen.rests.says in (omega (arith, said), tt)
+  -- so has each that has begun
+  abbrev Flushed : List Event → Span → List Serial → Type 0
+  Flushed events x points = HasFlushed events x.number.0
+
+  all_flushed : (events : List Event) → AllBegun (Flushed events) (life_begun opening events)
+  unfolding run
+  all_flushed [] = opened_begun (Flushed []) opening (let said = ap rank_said opens.seen.rests.says in omega (arith, said))
   all_flushed (event ∷ before) =
-      let P : ℕ → List Serial → Type 0 = HasFlushed (event ∷ before) in
       let up = ranks_rise opening start before event opens in
-      let first : List BegunCommit = commit_opened opening.now opening.past.opened ∷ [] in
-      let own : List KeeperEvent = keeper_events opening before in
-      let all = weaker (HasFlushed before) P (life_begun opening before) (λ number points. higher number (rank_now opening before) (rank_now opening (event ∷ before)) up) (all_flushed before) in
-      let now = to_keeper (λ (s : KeeperState). s.step ≡ Writes → (c : Commit) → s.commit ≡ Some c → P c.number.0 s.seek.points) opening before (λ writes c is. higher c.number.0 (rank_now opening before) (rank_now opening (event ∷ before)) up (written before writes c is)) in
-      by_event P (λ (part : List KeeperEvent). AllBegun P (commits_begun opening.now.shape opening.now.places opening.now.keeper first (part ++ own))) (run opening before) event
-      (λ done bytes. call_all P opening.now.shape opening.now.places opening.now.keeper first done bytes own now all)
-      (λ part none. others_all P opening.now.shape opening.now.places opening.now.keeper first part own none all)
+      let all = weaker (Flushed before) (Flushed (event ∷ before)) (life_begun opening before) (λ x points. higher x.number.0 (rank_now opening before) (rank_now opening (event ∷ before)) up) (all_flushed before) in
+      event_begun (Flushed (event ∷ before)) opening before event (λ writes c is. higher c.number.0 (rank_now opening before) (rank_now opening (event ∷ before)) up (written before writes c is)) all
 
 pub begun_have_flushed : BegunHaveFlushed
-begun_have_flushed opening start events c opens there = one_of (HasFlushed opening start opens events) c (life_begun opening events) there (all_flushed opening start opens events)
+begun_have_flushed opening start events c opens there = one_of (Flushed opening start opens events) c (life_begun opening events) there (all_flushed opening start opens events)

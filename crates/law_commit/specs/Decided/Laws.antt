@@ -1,6 +1,6 @@
 -- What the law of decided addresses says.
 use Rattle.std.specs.List.{AllByRecursion}
-use Rattle.std.specs.Prelude.{◌≡◌, ◌⊎◌, ◌<◌, ◌≤◌, ⊤, ℕ, true, List, ◌++◌, Some}
+use Rattle.std.specs.Prelude.{◌≡◌, ◌⊎◌, ◌↔◌, ◌<◌, ◌≤◌, ⊤, ℕ, true, List, ◌++◌, Some}
 use Rattle.fkv_base.specs.declared.commits.CommitKind.TheVariants.{Full}
 use Rattle.fkv_base.specs.declared.phases.Phase.TheVariants.{InProgress, WaitFlush, WaitPending}
 use Rattle.fkv_map.specs.declared.history.HistoryEntry.{HistoryEntry}
@@ -124,6 +124,12 @@ abbrev pub ChainsLieBelowTail : Type 0
 ChainsLieBelowTail =
     (opening : World) (start : ℕ) (ghosts : Ghosts) (events : List Event) (h a : ℕ) → guard.IsOpened opening.now start → IsUnbornFrom (tail_at opening.now) ghosts → ChainsTaken ghosts.log
     → IsIn a ((life_ghosts opening ghosts events).log.chains h) → a < tail_at (run opening events).now
+
+-- below the tail with which the life began each chain has just what it had then
+abbrev pub ChainsKeepTheOld : Type 0
+ChainsKeepTheOld =
+    (opening : World) (start : ℕ) (ghosts : Ghosts) (events : List Event) (h a : ℕ) → guard.IsOpened opening.now start → ReservesNothing ghosts → a < tail_at opening.now
+    → IsIn a ((life_ghosts opening ghosts events).log.chains h) ↔ IsIn a (ghosts.log.chains h)
 
 -- so does where each triple of the copy that began last leads
 abbrev pub LieBelow : ℕ → List CopiedEntry → Type 0

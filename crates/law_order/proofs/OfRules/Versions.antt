@@ -19,9 +19,15 @@ logged_made : (bytes : List ℕ) (o : Opened) (a version : ℕ) → made_in (log
 unfolding logged_at cell_at
 logged_made bytes o a version made = either_made _ (cell_at bytes o a) version made
 
+-- it rests in the version behind that
+pub opened_version : (o : Opened) (n : Now) → IsOpeningWorld o n → OpensAtRest n → phase_version n.words ≡ o.number.0 + 1
+opened_version o n its rests =
+    let same : n.keeper.last.number.0 ≡ o.number.0 = ap (λ (last : Finality). last.number.0) its.its_keeper.newest in
+    let said : phase_version n.words ≡ n.keeper.last.number.0 + 1 = ap version_said rests.says in
+    omega (arith, same, said)
+
 pub opens_upto : (bytes : List ℕ) (o : Opened) (n : Now) → IsOpeningWorld o n → OpensAtRest n → CellsUpto (phase_version n.words) (opening_log bytes o)
 opens_upto bytes o n its rests a version made =
     let is = logged_made bytes o a version made in
-    let same : n.keeper.last.number.0 ≡ o.number.0 = ap (λ (last : Finality). last.number.0) its.its_keeper.newest in
-    let said : phase_version n.words ≡ n.keeper.last.number.0 + 1 = ap version_said rests.says in
-    omega (arith, is, same, said)
+    let said = opened_version o n its rests in
+    omega (arith, is, said)

@@ -1,8 +1,11 @@
 -- The laws, by what an opened store begins with.
-use Rattle.std.proofs.Common.{◌∙◌, refl, sym}
+use Rattle.std.proofs.Common.{◌∙◌, ap, refl, subst, sym, ℕ}
+use Rattle.fkv_base.specs.declared.shapes.Shape.{Shape}
 use Rattle.fkv_core.specs.Openings.{beginning}
 use Rattle.fkv_filling.specs.OpeningIndex.{opening_lists}
 use Rattle.law_opening.specs.Log.OpeningLog.{opening_ghosts}
+use Rattle.law_changes.specs.Linked.{ChainsFall}
+use Rattle.law_changes.proofs.Falls.{opened_falls}
 use Rattle.law_changes.proofs.Openings.{linked_log}
 use Rattle.law_refine.specs.Events.GhostEvents.{home_in}
 use Rattle.law_changes.proofs.lives.law_lives_change_published.Goals as goal
@@ -33,6 +36,12 @@ returns-clause-begins c = λ o n bytes store world.
 
 pub returns-clause-published : goal.returns-clause-published
 returns-clause-published c = λ o n bytes events store world. c.law_changes_published.ensures.published (beginning n bytes) o.tail.0 (opening_lists o.entries.items) (opening_ghosts bytes o) events (returns-clause-begins c o n bytes store world)
+
+pub returns-clause-falls : goal.returns-clause-falls
+returns-clause-falls c = λ o n bytes events store world.
+    let log = c.law_log_opened.ensures.opened bytes o store in
+    c.law_changes_published.ensures.falls (beginning n bytes) o.tail.0 (opening_lists o.entries.items) (opening_ghosts bytes o) events (returns-clause-begins c o n bytes store world)
+    (subst (λ (bits : ℕ). ChainsFall (home_in bits) (let ghosts = opening_ghosts bytes o in ghosts.log)) (sym (ap (λ (s : Shape). s.bucket_bits) world.its_shape)) (opened_falls (home_in o.shape.bucket_bits) (let ghosts = opening_ghosts bytes o in ghosts.log) log.chains))
 
 pub returns-clause-headers : goal.returns-clause-headers
 returns-clause-headers c = λ o n bytes events store world. c.law_changes_published.ensures.headers (beginning n bytes) o.tail.0 (opening_lists o.entries.items) (opening_ghosts bytes o) events (returns-clause-begins c o n bytes store world)

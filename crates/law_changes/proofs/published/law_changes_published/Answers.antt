@@ -1,4 +1,5 @@
 -- The law, by what each session goes by.
+use Rattle.law_changes.proofs.Falls.{life_chains_fall}
 use Rattle.law_changes.proofs.Life.{life_holds}
 use Rattle.law_changes.proofs.LifeEvents.{life_headers, life_low}
 use Rattle.law_changes.proofs.LifeLogs.{life_linked}
@@ -9,6 +10,9 @@ returns-clause-published c = λ opening start lists ghosts events begins. (life_
 
 pub returns-clause-linked : goal.returns-clause-linked
 returns-clause-linked c = λ opening start lists ghosts events begins. life_linked opening start lists ghosts events begins
+
+pub returns-clause-falls : goal.returns-clause-falls
+returns-clause-falls c = λ opening start lists ghosts events begins falls. life_chains_fall opening start lists ghosts events begins falls
 
 pub returns-clause-headers : goal.returns-clause-headers
 returns-clause-headers c = λ opening start lists ghosts events begins. life_headers opening start lists ghosts begins events

@@ -11,11 +11,11 @@ use Rattle.fkv_world.specs.OwnEvents.{keeper_events}
 use Rattle.fkv_world.specs.Runs.{World}
 use Rattle.fkv_world.specs.World.{Event}
 use Rattle.law_commit.specs.Copied.Covers.{HasStoodSince}
+use Rattle.law_commit.proofs.OfCopied.HomesApart.{one_of, triples_apart}
 use Rattle.law_guard.specs.Guarded.OpenedStore.{IsOpenedStore}
 use Rattle.law_images.proofs.AtRest.{opens_at_rest, world_opens}
 use Rattle.law_images.proofs.CopyWritten.{CopiesIfFull, all_copied}
 use Rattle.law_images.proofs.CopyInIndex.{stood_in_index}
-use Rattle.law_images.proofs.HomesApart.{one_of, triples_apart}
 use Rattle.law_images.proofs.LifeNamed.{life_known}
 use Rattle.law_opening.specs.Lives.OpenedFrom.{IsOpenedFrom}
 use Rattle.law_world.specs.Keeper.Lives.{IsLifeTold, replies_copied}

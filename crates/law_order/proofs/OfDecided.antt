@@ -1,0 +1,4 @@
+pub mod Covers
+pub mod Cut
+pub mod Old
+pub mod Opens
