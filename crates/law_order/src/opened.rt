@@ -11,7 +11,7 @@ use law_commit::{
     law_versions_counted, law_world_copied,
 };
 
-/// Each life of an opened store, with commits, crashes and failing calls of the device, is a run of the phases on paper, by events that are enabled there. At
+/// Each life of an opened store, with commits, crashes and failing calls of the device, is a run of the phases on paper. Its events are enabled there. At
 /// each moment the store is at one stage of the commit that is next. The version of the phase word never falls, and the word says rest only of the version
 /// behind the newest finished commit's number. The stamps of each session's views are the guard's loads of the phase. So they are above each safe epoch.
 pub fn law_stages_open()
@@ -30,7 +30,8 @@ pub fn law_stages_open()
 }
 
 /// In each such life the serial of a session is the one with which the life began, and one more for each update whose version is counted. The versions of its
-/// updates never fall, nor does its own, which is below none of them and not above the phase word's. Its serial is its point of each version from its own on.
+/// updates never fall, and none is above its own. Nor does its own fall, and it is never above the phase word's. Its serial is its point of each version from
+/// its own on.
 pub fn law_serials_open()
     ensures counted { opened.OfItsSessions opened.CountsItsUpdates }
     ensures risen { opened.OfItsSessions opened.UpdatesInOrder }
@@ -43,8 +44,8 @@ pub fn law_serials_open()
     law_versions_counted();
 }
 
-/// In each life of an opened store, with commits, crashes and failing calls of the device, both cut words of a session and its owing word are what it has stored
-/// there last. Its durable word is what the keeper has: a point of the newest finished commit, or of the one whose words are stored. The cut word of the version
+/// In each life of an opened store, with commits, crashes and failing calls, both cut words of a session and its owing word are what it stored there
+/// last. Its durable word is what the keeper has: a point of the newest finished commit, or of the one whose words are stored. The cut word of the version
 /// that the session has left shows its point of that version, but for what it is about to store. A sleeper's shows its serial.
 pub fn law_marks_open()
     ensures marks { opened.OfItsSessions opened.HasItsMarks }
