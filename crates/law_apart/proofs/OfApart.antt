@@ -1,0 +1,7 @@
+pub mod Attempts
+pub mod Raises
+pub mod Sessions
+mod Tests
+pub mod Stays
+pub mod Tries
+pub mod Walks

@@ -1,0 +1,28 @@
+-- What the law of tries apart says.
+use Rattle.std.specs.Prelude.{◌≡◌, ℕ, Bool, true}
+use Rattle.fkv_plane.specs.declared.places.Places.{Places}
+use Rattle.law_log.specs.Chains.{VersionsFall}
+use Rattle.law_log.specs.Ghosts.{Log}
+use Rattle.fkv_ops.specs.declared.requests.Occasion.{Occasion}
+use Rattle.fkv_ops.specs.declared.requests.Request.{Request}
+use Rattle.fkv_ops.specs.declared.requests.Seen.{Seen}
+use Rattle.fkv_ops.specs.Trying.{TryState, is_prepare, try_begun, try_next}
+use Rattle.law_local.specs.Tries.OnWay.{IsOrderly}
+use Rattle.law_local.specs.Tries.Replies.{IsTrueReply}
+use Rattle.law_local.specs.Tries.TryRows.{NoneIsLater, NoneLaterPast, TryKnows, key_in}
+use Rattle.law_apart.specs.Apart.Rows.{TellsApart, TryApart}
+
+-- a try begins so, if its request does
+abbrev pub TriesBeginApart : Type 0
+TriesBeginApart = (home : ℕ → ℕ) (log : Log) (p : Places) (bits : ℕ) (request : Request) (seen : Seen) (occasion : Occasion) (spare : ℕ) → (request.has_latch ≡ true → NoneIsLater home log request)
+    → TryApart home log (try_begun p bits request seen occasion spare)
+
+-- each true reply leads it on
+abbrev pub TriesLeadApart : Type 0
+TriesLeadApart = (home : ℕ → ℕ) (log : Log) (p : Places) (room : ℕ) (t : TryState) (reply : ℕ) → IsOrderly home log → VersionsFall log.cells (log.chains (home (key_in t.request))) → (is_prepare t.seen.phase ≡ true → TellsApart home log p t reply)
+    → TryKnows home log t → IsTrueReply home log p t t.step reply → TryApart home log t → TryApart home log (try_next p room t reply)
+
+-- so one that shares its latch leads on past its walk: its home has no later version
+abbrev pub SharersPass : Type 0
+SharersPass = (home : ℕ → ℕ) (log : Log) (p : Places) (t : TryState) (reply : ℕ) → IsOrderly home log → VersionsFall log.cells (log.chains (home (key_in t.request))) → (is_prepare t.seen.phase ≡ true → TellsApart home log p t reply)
+    → TryKnows home log t → IsTrueReply home log p t t.step reply → TryApart home log t → t.has_shared ≡ true → NoneLaterPast home log p t reply
