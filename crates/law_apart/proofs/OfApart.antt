@@ -1,4 +1,5 @@
 pub mod Attempts
+pub mod Links
 pub mod Raises
 pub mod Sessions
 mod Tests

@@ -36,7 +36,7 @@ use Rattle.law_local.specs.Tries.OnWay.{IsOrderly}
 use Rattle.law_local.specs.Tries.TryRows.{NoneIsLater, TryKnows, key_in}
 use Rattle.law_local.proofs.OfTries.TrialKept.{KeepsRequest, try_kept}
 use Rattle.law_local.proofs.OfTries.TrySteps.{try_leads}
-use Rattle.law_apart.specs.Apart.Rows.{AttemptApart, PendingApart, TellsApart, TryApart}
+use Rattle.law_apart.specs.Apart.Rows.{AttemptApart, PendingApart, TellsSharer, TryApart}
 use Rattle.law_apart.proofs.OfApart.Tries.{begun_asks, none_at_end, try_apart, try_begins_apart}
 
 module _ (home : ℕ → ℕ) (p : Places) (log : Log) where
@@ -139,7 +139,7 @@ module _ (home : ℕ → ℕ) (p : Places) (log : Log) where
 
   -- ---- each reply
   row_apart : (bits room session : ℕ) (a : AttemptState) (step : Attempting) (reply : ℕ) → IsOrderly home log → VersionsFall log.cells (log.chains (home (key_in a.trial.request)))
-      → (a.step ≡ Tries → is_prepare a.trial.seen.phase ≡ true → TellsApart home log p a.trial reply) → (a.step ≡ Tries → TryKnows home log (try_next p room a.trial reply)) → a.step ≡ step → AttemptRow home log a step → IsTrueOfAttempt home log p a step reply
+      → (a.step ≡ Tries → TellsSharer home log p a.trial reply) → (a.step ≡ Tries → TryKnows home log (try_next p room a.trial reply)) → a.step ≡ step → AttemptRow home log a step → IsTrueOfAttempt home log p a step reply
       → AttemptApart home p log a step → Apart (attempting_next p bits room session (record a { effect = None }) step reply)
   unfolding attempting_next
   row_apart bits room session a (Ended its) reply orderly falls tells leads at row says apart = subst (AttemptApart home p log (record a { effect = None })) (sym at) apart
@@ -154,7 +154,7 @@ module _ (home : ℕ → ℕ) (p : Places) (log : Log) where
   row_apart bits room session a Puts reply orderly falls tells leads at row says apart = put_apart (record a { effect = None; mailing = mail_next a.mailing reply }) (mail_ask session (mail_next a.mailing reply)) at apart
 
   pub attempt_apart : (bits room session : ℕ) (a : AttemptState) (reply : ℕ) → IsOrderly home log → VersionsFall log.cells (log.chains (home (key_in a.trial.request)))
-      → (a.step ≡ Tries → is_prepare a.trial.seen.phase ≡ true → TellsApart home log p a.trial reply) → (a.step ≡ Tries → TryKnows home log (try_next p room a.trial reply)) → AttemptKnows home log a → IsTrueOfAttempt home log p a a.step reply
+      → (a.step ≡ Tries → TellsSharer home log p a.trial reply) → (a.step ≡ Tries → TryKnows home log (try_next p room a.trial reply)) → AttemptKnows home log a → IsTrueOfAttempt home log p a a.step reply
       → AttemptApart home p log a a.step → Apart (attempt_next p bits room session a reply)
   attempt_apart bits room session a reply orderly falls tells leads knows says apart = row_apart bits room session a a.step reply orderly falls tells leads refl knows.row says apart
 

@@ -33,7 +33,7 @@ use Rattle.law_local.specs.Tries.OnWay.{IsOrderly}
 use Rattle.law_local.specs.Tries.TryRows.{NoneIsLater, TryKnows, key_in}
 use Rattle.law_local.proofs.OfSessions.Known.{begun_known, next_known, stays_known}
 use Rattle.law_local.proofs.OfSessions.Moves.{next_requests}
-use Rattle.law_apart.specs.Apart.Rows.{AttemptApart, PendingApart, SessionApart, TellsApart}
+use Rattle.law_apart.specs.Apart.Rows.{AttemptApart, PendingApart, SessionApart, TellsSharer}
 use Rattle.law_apart.proofs.OfApart.Attempts.{attempt_apart, attempt_begins_apart, latch_apart}
 
 never : {X : Type 0} → false ≡ true → X
@@ -86,7 +86,7 @@ module _ (home : ℕ → ℕ) (k : Seat) where
       pub falls : (h : ℕ) → VersionsFall log.cells (log.chains h)
       pub attempt : is_attempting s.step ≡ true → AttemptKnows home log s.attempt
       pub says : is_attempting s.step ≡ true → IsTrueOfAttempt home log k.places s.attempt s.attempt.step reply
-      pub tells : is_attempting s.step ≡ true → s.attempt.step ≡ Tries → is_prepare s.attempt.trial.seen.phase ≡ true → TellsApart home log k.places s.attempt.trial reply
+      pub tells : is_attempting s.step ≡ true → s.attempt.step ≡ Tries → TellsSharer home log k.places s.attempt.trial reply
       pub leads : is_attempting s.step ≡ true → s.attempt.step ≡ Tries → TryKnows home log (try_next k.places (room_of k) s.attempt.trial reply)
       -- what is known stays
       pub waiting : (index : ℕ) (pending : PendingRequest) → slice_get s.requests index ≡ Some pending → s.step ≢ Polls index → Waits log pending → Waits log' pending

@@ -60,7 +60,7 @@ use Rattle.law_local.specs.Tries.Replies.{IsTrueReply}
 use Rattle.law_local.specs.Tries.TryRows.{IsUpdate, IsWalkFor, NoneIsLater, NoneLaterPast, StandsAt, TryKnows, TryRow, head_in, key_in}
 use Rattle.law_local.specs.Tries.WalkRows.{LoadKnows, LoadsFrom, WalkKnows, WalkRow, begin_of}
 use Rattle.law_local.proofs.OfTries.WalkRows.{loads_same, same_on, walk_leads}
-use Rattle.law_apart.specs.Apart.Rows.{CopiesApart, CopiesRow, EndApart, HasComeTo, HasMet, HasMetFirst, HasOwn, IsDropping, IsUnderWay, LatchRow, MovesOn, SharesRow, ShowsLater, TellsApart, TryApart, WalkApart, is_linking}
+use Rattle.law_apart.specs.Apart.Rows.{CopiesApart, CopiesRow, EndApart, HasComeTo, HasMet, HasMetFirst, HasOwn, IsDropping, IsUnderWay, LatchRow, MovesOn, SharesRow, ShowsLater, TellsSharer, TryApart, WalkApart, is_linking}
 use Rattle.law_apart.proofs.OfApart.Tests.{both_true, eq_true, le_false, lt_false, lt_true, not_both, test_true, waits_so}
 use Rattle.law_apart.proofs.OfApart.Walks.{walk_apart}
 
@@ -425,7 +425,7 @@ module _ (home : ℕ → ℕ) (log : Log) (p : Places) where
           (λ own. own_there t addr version stands (let low : addr.0 < safe = le_false safe addr.0 e in omega (arith, low, is_fixed)) (eq_true version.0 t.request.version.0 own))
 
   -- ---- each reply
-  row_apart : (room : ℕ) (t : TryState) (step : Trying) (reply : ℕ) → IsOrderly home log → VersionsFall log.cells (log.chains (home (key_in t.request))) → (is_prepare t.seen.phase ≡ true → TellsApart home log p t reply) → t.step ≡ step → TryRow home log t step
+  row_apart : (room : ℕ) (t : TryState) (step : Trying) (reply : ℕ) → IsOrderly home log → VersionsFall log.cells (log.chains (home (key_in t.request))) → TellsSharer home log p t reply → t.step ≡ step → TryRow home log t step
       → IsTrueReply home log p t step reply → LatchRow t step → (t.has_shared ≡ true → SharesRow home log t step) → CopiesRow home log t step → Apart (trying_next p room (record t { effect = None }) step reply)
   unfolding trying_next
   row_apart room t (Ended its) reply orderly falls tells at row says takes shares copies =
@@ -438,7 +438,7 @@ module _ (home : ℕ → ℕ) (log : Log) (p : Places) where
       walk_row has = elim (shares has) [
         | inl none ↦ inl none
         | inr apart ↦
-            let its = tells apart.0 in
+            let its = tells at has apart.0 in
             elim (walk_apart home log t.request t.seen p orderly its.above its.in_ring falls t.walk reply row.0 row.1 says its.search apart.2) [
               | inl none ↦ inl none
               | inr on ↦ inr (apart.0, on)
@@ -457,12 +457,12 @@ module _ (home : ℕ → ℕ) (log : Log) (p : Places) where
   row_apart room t (DropsExclusive its) reply orderly falls tells at row says takes shares copies = dropped_apart (record t { effect = None; latching = latch_next t.latching reply }) its t.latching reply takes (λ wait has. shares has wait)
   row_apart room t (DropsShared its) reply orderly falls tells at row says takes shares copies = unshared_apart (record t { effect = None; latching = latch_next t.latching reply }) its (latch_next_ask t.latching reply) at shares
 
-pub try_apart : (home : ℕ → ℕ) (log : Log) (p : Places) (room : ℕ) (t : TryState) (reply : ℕ) → IsOrderly home log → VersionsFall log.cells (log.chains (home (key_in t.request))) → (is_prepare t.seen.phase ≡ true → TellsApart home log p t reply)
+pub try_apart : (home : ℕ → ℕ) (log : Log) (p : Places) (room : ℕ) (t : TryState) (reply : ℕ) → IsOrderly home log → VersionsFall log.cells (log.chains (home (key_in t.request))) → TellsSharer home log p t reply
     → TryKnows home log t → IsTrueReply home log p t t.step reply → TryApart home log t → TryApart home log (try_next p room t reply)
 try_apart home log p room t reply orderly falls tells knows says apart = row_apart home log p room t t.step reply orderly falls tells refl knows.row says apart.latch apart.shares apart.copies
 
 -- so one that shares its latch leads on past its walk
-pub sharers_pass : (home : ℕ → ℕ) (log : Log) (p : Places) (t : TryState) (reply : ℕ) → IsOrderly home log → VersionsFall log.cells (log.chains (home (key_in t.request))) → (is_prepare t.seen.phase ≡ true → TellsApart home log p t reply)
+pub sharers_pass : (home : ℕ → ℕ) (log : Log) (p : Places) (t : TryState) (reply : ℕ) → IsOrderly home log → VersionsFall log.cells (log.chains (home (key_in t.request))) → TellsSharer home log p t reply
     → TryKnows home log t → IsTrueReply home log p t t.step reply → TryApart home log t → t.has_shared ≡ true → NoneLaterPast home log p t reply
 sharers_pass home log p t reply orderly falls tells knows says apart has at addr version ends passes =
     let row : TryRow home log t Walks = subst (TryRow home log t) at knows.row in
@@ -471,7 +471,7 @@ sharers_pass home log p t reply orderly falls tells knows says apart has at addr
     elim shares [
       | inl none ↦ none
       | inr walks ↦
-          let its = tells walks.0 in
+          let its = tells at has walks.0 in
           elim (walk_apart home log t.request t.seen p orderly its.above its.in_ring falls t.walk reply row.0 row.1 told its.search walks.2) [
             | inl none ↦ none
             | inr on ↦

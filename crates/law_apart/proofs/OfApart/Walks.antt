@@ -43,6 +43,7 @@ use Rattle.law_local.specs.Tries.TryRows.{IsWalkFor, NoneIsLater, head_in, key_i
 use Rattle.law_local.specs.Tries.WalkRows.{IsHeaderOf, LoadKnows, WalkKnows, WalkRow, begin_of}
 use Rattle.law_local.proofs.OfTries.OnWay.{from_start, goes_on, in_chain}
 use Rattle.law_apart.specs.Apart.Rows.{EndApart, HasComeTo, HasMet, HasMetFirst, IsLater, SearchTells, ShowsLater, WalkApart, is_link_step, is_linking, is_lost}
+use Rattle.law_apart.proofs.OfApart.Links.{links_so}
 use Rattle.law_apart.proofs.OfApart.Tests.{eq_true, lt_false, lt_true, not_both, some_where}
 
 -- ---- chains
@@ -165,7 +166,7 @@ module _ (home : ℕ → ℕ) (log : Log) (request : Request) (seen : Seen) (p :
       → find_next_ask p w.finding reply ≡ ask → SearchTells log (home (key_in request)) p w.finding reply → EndsAtHead (head_of C) ask → Goes (find_ledto p (record w { finding = find_next p w.finding reply }) ask)
   unfolding find_ledto
   find_apart falls w reply (Done its) at head none first busy links e tells ends =
-      inr (slot_apart falls (record w { finding = find_next p w.finding reply; spare = its.spare }) its.found head none first ends (λ lost. not_both (is_linking w.finding) (tells.lost its e lost) links))
+      inr (slot_apart falls (record w { finding = find_next p w.finding reply; spare = its.spare }) its.found head none first ends (λ lost. not_both (is_linking w.finding) (tells.lost its busy e lost) links))
   find_apart falls w reply ask at head none first busy links e tells ends = by_links (is_linking (find_next p w.finding reply)) refl
     where
       going : is_done (find_next_ask p w.finding reply) ≡ false
@@ -175,7 +176,7 @@ module _ (home : ℕ → ℕ) (log : Log) (request : Request) (seen : Seen) (p :
       next = record w { finding = find_next p w.finding reply }
 
       by_links : (b : Bool) → is_linking (find_next p w.finding reply) ≡ b → Goes next
-      by_links true is = elim (tells.links going is) [ inl was ↦ not_both (is_linking w.finding) was links | inr empty ↦ inl (none_by_empty empty) ]
+      by_links true is = elim (links_so p w.finding reply is) [ inl was ↦ not_both (is_linking w.finding) was links | inr none ↦ inl (none_by_empty (tells.empty none.0 none.1)) ]
       by_links false is = inr (subst (λ (s : Walking). WalkApart home log request seen next s) (sym at) (first, goes_busy w.finding reply going, is))
 
   -- ---- a record that is met

@@ -6,11 +6,11 @@ use Rattle.law_log.specs.Ghosts.{Log}
 use Rattle.fkv_ops.specs.declared.requests.Occasion.{Occasion}
 use Rattle.fkv_ops.specs.declared.requests.Request.{Request}
 use Rattle.fkv_ops.specs.declared.requests.Seen.{Seen}
-use Rattle.fkv_ops.specs.Trying.{TryState, is_prepare, try_begun, try_next}
+use Rattle.fkv_ops.specs.Trying.{TryState, try_begun, try_next}
 use Rattle.law_local.specs.Tries.OnWay.{IsOrderly}
 use Rattle.law_local.specs.Tries.Replies.{IsTrueReply}
 use Rattle.law_local.specs.Tries.TryRows.{NoneIsLater, NoneLaterPast, TryKnows, key_in}
-use Rattle.law_apart.specs.Apart.Rows.{TellsApart, TryApart}
+use Rattle.law_apart.specs.Apart.Rows.{TellsSharer, TryApart}
 
 -- a try begins so, if its request does
 abbrev pub TriesBeginApart : Type 0
@@ -19,10 +19,10 @@ TriesBeginApart = (home : ℕ → ℕ) (log : Log) (p : Places) (bits : ℕ) (re
 
 -- each true reply leads it on
 abbrev pub TriesLeadApart : Type 0
-TriesLeadApart = (home : ℕ → ℕ) (log : Log) (p : Places) (room : ℕ) (t : TryState) (reply : ℕ) → IsOrderly home log → VersionsFall log.cells (log.chains (home (key_in t.request))) → (is_prepare t.seen.phase ≡ true → TellsApart home log p t reply)
+TriesLeadApart = (home : ℕ → ℕ) (log : Log) (p : Places) (room : ℕ) (t : TryState) (reply : ℕ) → IsOrderly home log → VersionsFall log.cells (log.chains (home (key_in t.request))) → TellsSharer home log p t reply
     → TryKnows home log t → IsTrueReply home log p t t.step reply → TryApart home log t → TryApart home log (try_next p room t reply)
 
 -- so one that shares its latch leads on past its walk: its home has no later version
 abbrev pub SharersPass : Type 0
-SharersPass = (home : ℕ → ℕ) (log : Log) (p : Places) (t : TryState) (reply : ℕ) → IsOrderly home log → VersionsFall log.cells (log.chains (home (key_in t.request))) → (is_prepare t.seen.phase ≡ true → TellsApart home log p t reply)
+SharersPass = (home : ℕ → ℕ) (log : Log) (p : Places) (t : TryState) (reply : ℕ) → IsOrderly home log → VersionsFall log.cells (log.chains (home (key_in t.request))) → TellsSharer home log p t reply
     → TryKnows home log t → IsTrueReply home log p t t.step reply → TryApart home log t → t.has_shared ≡ true → NoneLaterPast home log p t reply

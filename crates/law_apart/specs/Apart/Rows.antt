@@ -8,13 +8,14 @@ use Rattle.fkv_latch.specs.declared.latching.Latching.{Latching}
 use Rattle.fkv_latch.specs.declared.latching.Latching.TheVariants as latching
 use Rattle.fkv_index.specs.declared.finding.FindAnswer.{FindAnswer}
 use Rattle.fkv_index.specs.declared.finding.FindStep.{FindStep}
-use Rattle.fkv_index.specs.declared.finding.FindStep.TheVariants.{AtRest, LinksBucket, LoadsTaken, TakesBucket}
+use Rattle.fkv_index.specs.declared.finding.FindStep.TheVariants.{AtRest, LinksBucket, LoadsLink, LoadsTaken, TakesBucket}
 use Rattle.fkv_index.specs.declared.finding.Finding.{Finding}
 use Rattle.fkv_index.specs.declared.finding.Found.{Found}
 use Rattle.fkv_index.specs.declared.finding.Found.TheVariants.{Contended, Full}
 use Rattle.fkv_index.specs.declared.finding.Linking.{Linking}
 use Rattle.fkv_index.specs.declared.finding.Linking.TheVariants.{Made}
-use Rattle.fkv_index.specs.Finding.{find_next, find_next_ask}
+use Rattle.fkv_index.specs.Finding.{find_next_ask}
+use Rattle.fkv_index.specs.Slots.{link_of}
 use Rattle.law_log.specs.Chains.{Cell, Published, head_of, version_at}
 use Rattle.law_log.specs.Ghosts.{Log}
 use Rattle.law_log.specs.Enabled.{IsFixed}
@@ -171,10 +172,10 @@ shares_now a Tries = a.trial.has_shared
 shares_now a step = a.pending.request.has_latch
 
 -- ---- what is given
--- What a search is told. It is lost only if it links. It comes to link only from an empty home.
+-- What a search is told. It is lost only if it links. At the load of an eighth word that leads nowhere its home is empty.
 pub record SearchTells (log : Log) (h : ℕ) (p : Places) (f : Finding) (reply : ℕ) : Type 0 where
-  pub lost : (its : FindAnswer) → find_next_ask p f reply ≡ Done its → is_lost its.found ≡ true → is_linking f ≡ true
-  pub links : is_done (find_next_ask p f reply) ≡ false → is_linking (find_next p f reply) ≡ true → (is_linking f ≡ true) ⊎ (head_of (log.chains h) ≡ 0)
+  pub lost : (its : FindAnswer) → (f.step ≡ AtRest → ⊥) → find_next_ask p f reply ≡ Done its → is_lost its.found ≡ true → is_linking f ≡ true
+  pub empty : f.step ≡ LoadsLink → link_of reply ≡ 0 → head_of (log.chains h) ≡ 0
 
 -- What the log and the words tell a try in prepare. What is of a later version lies at or above the head that its session has seen. All of its home lies
 -- within a ring from there.
@@ -182,6 +183,10 @@ pub record TellsApart (home : ℕ → ℕ) (log : Log) (p : Places) (t : TryStat
   pub above : (a : ℕ) → IsLater home log t.request a → head_in t.seen ≤ a
   pub in_ring : (a : ℕ) → IsIn a (log.chains (home (key_in t.request))) → a < head_in t.seen + p.ring
   pub search : t.walk.step ≡ Finds → SearchTells log (home (key_in t.request)) p t.walk.finding reply
+
+-- so it is of one that walks and shares its latch
+abbrev pub TellsSharer : (ℕ → ℕ) → Log → Places → TryState → ℕ → Type 0
+TellsSharer home log p t reply = t.step ≡ Walks → t.has_shared ≡ true → is_prepare t.seen.phase ≡ true → TellsApart home log p t reply
 
 -- ---- what others leave
 -- a chain that has no record of a later version than this gets none
