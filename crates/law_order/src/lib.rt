@@ -1,6 +1,7 @@
 //! The order law: the induction over events, and each life's one legal history; and the law of prefixes, as it is stated.
 #![tactic(auto)]
 
+mod apart;
 mod asked;
 mod decided;
 mod enabled;
@@ -22,6 +23,7 @@ mod tickets;
 mod told;
 mod truth;
 
+pub use apart::law_versions_apart;
 pub use asked::law_world_asked;
 pub use decided::{law_chains_open, law_decided_opens};
 pub use enabled::law_world_enabled;
