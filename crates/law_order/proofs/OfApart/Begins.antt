@@ -1,5 +1,5 @@
 -- As a life begins no session has a request.
-use Rattle.std.proofs.Common.{◌≡◌, ℕ, Some}
+use Rattle.std.proofs.Common.{◌≡◌, ℕ, [], Some}
 use Rattle.std.specs.Prelude.{slice_get}
 use Rattle.fkv_session.specs.Sessions.{SessionState}
 use Rattle.fkv_world.specs.Runs.{run}

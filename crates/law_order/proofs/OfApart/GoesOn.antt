@@ -209,7 +209,7 @@ module _ (given : Given) (life : BegunLife) (apart : OpensApart life) (before : 
           let clash : false ≡ true = sym (ap is_attempting at) ∙ making.attempts in
           cc)
 
-      reply : ℕ
+      abbrev reply : ℕ
       reply = reply_in N session s
 
       says_so : is_attempting s.step ≡ true → s.attempt.step ≡ Tries → IsTrueReply H L N.places s.attempt.trial s.attempt.trial.step reply

@@ -190,6 +190,9 @@ module _ (given : Given) (life : BegunLife) (apart : OpensApart life) (before : 
       moves_so true w v e = (refl, eqb-true w v e)
       moves_so false w v e = cc
 
+      trial_apart : AttemptApart H N.places L s.attempt s.attempt.step → TryApart H L t
+      trial_apart at = (subst (AttemptApart H N.places L s.attempt) making.tries at).0
+
       pub stands_so : (h w : ℕ) (sharer : Sharer h w) → H (key_in request) ≡ h → w < request.version.0 → StandsAlready L h w
       stands_so h w sharer here older = by_phase (is_moving_on s.seen.phase && request.version.0 == s.seen.version.0) refl
         where
@@ -211,9 +214,6 @@ module _ (given : Given) (life : BegunLife) (apart : OpensApart life) (before : 
                     let in_chain : IsIn own.at (L.chains h) = subst (λ (x : ℕ). IsIn own.at (L.chains x)) (ap H own.found.its_key ∙ ap (λ (r : Request). H (key_in r)) row.its_request ∙ here) (chains.its_chain own.at own.found.cell own.found.its) in
                     (own.at, in_chain, omega (arith, version, older))
               ]
-
-          trial_apart : AttemptApart H N.places L s.attempt s.attempt.step → TryApart H L t
-          trial_apart at = (subst (AttemptApart H N.places L s.attempt) making.tries at).0
 
       -- the record is of its request's key and version
       words_so : IsAppendOf request t.append

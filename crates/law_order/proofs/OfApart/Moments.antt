@@ -178,17 +178,17 @@ attempts_awake s (Polls index) attempts awake = awake
 attempts_awake s step attempts awake = cc
 
 module _ (floors : FloorAlwaysStands) (left : NoneIsLeft) (opening : World) (start : ℕ) (events : List Event) (quiet : OpensQuiet opening start) where
-  stands : FloorStands opening events
+  abbrev pub stands : FloorStands opening events
   stands = floors opening start events quiet.guarded quiet.opened quiet.seen
 
-  number : ℕ
+  abbrev pub number : ℕ
   number = stands.number.0
 
   some : 0 < number
   some = stands.staged.fits.some
 
   -- the last version of which no update is left at this moment, and the version of the phase word
-  pub gone : ℕ
+  abbrev pub gone : ℕ
   gone = gone_by number stands.stage
 
   pub said : phase_version (run opening events).now.words ≡ said_by number stands.stage
@@ -209,7 +209,7 @@ module _ (floors : FloorAlwaysStands) (left : NoneIsLeft) (opening : World) (sta
     pub awake : its.is_awake ≡ true
     awake = attempts_awake its its.step attempts (life_so opening events session first its became)
 
-    view : View
+    abbrev pub view : View
     view = (sight_of opening events session).view
 
     floor : HasFloor stands.number stands.stage view

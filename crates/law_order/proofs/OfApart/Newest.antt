@@ -249,19 +249,12 @@ module _ (given : Given) (life : BegunLife) (apart : OpensApart life) (before : 
         lost : (told : FindAnswer) → (t.walk.finding.step ≡ find.AtRest → ⊥) → find_next_ask N.places t.walk.finding (reply_in N session s) ≡ Done told → is_lost told.found ≡ true → is_linking t.walk.finding ≡ true
         lost told busy e is_so = by_found told.found refl is_so
           where
-            shows = shows_then life.opening life.start life.lists life.ghosts before has_heads
-
             sound : IsSound w
             sound = life_sound life.opening life.lists before life.begins.index
 
-            by_found : (its_found : Found) → told.found ≡ its_found → is_lost its_found ≡ true → is_linking t.walk.finding ≡ true
-            by_found (found.Slot place word) is so = cc
-            by_found found.NoSlot is so = cc
-            by_found found.Full is so = full_links N.places t.walk.finding (reply_in N session s) told e is
-            by_found found.Contended is so = contended is
-
             contended : told.found ≡ found.Contended → is_linking t.walk.finding ≡ true
             contended is =
+                let shows = shows_then life.opening life.start life.lists life.ghosts before has_heads in
                 let actor = shows.actors session s is_there in
                 let work : IsWork (Searches its) actor.actor = subst (λ (x : SessionWork). IsWork x actor.actor) searches actor.its.work in
                 let asks = (life_asks life.opening life.lists before life.begins.index (are_permitted life.opening life.lists before life.begins.index) session s is_there).searches its searches in
@@ -270,6 +263,12 @@ module _ (given : Given) (life : BegunLife) (apart : OpensApart life) (before : 
                 let has = sound_lost w sound session actor.actor told actor.got work.0 ends is in
                 let here : HasLost w.now.words t.walk.finding t.walk.finding.step = subst (λ (f : Finding). HasLost w.now.words f f.step) work.1 has in
                 lost_links w.now.words t.walk.finding t.walk.finding.step refl busy here
+
+            by_found : (its_found : Found) → told.found ≡ its_found → is_lost its_found ≡ true → is_linking t.walk.finding ≡ true
+            by_found (found.Slot place word) is so = cc
+            by_found found.NoSlot is so = cc
+            by_found found.Full is so = full_links N.places t.walk.finding (reply_in N session s) told e is
+            by_found found.Contended is so = contended is
 
         empty : t.walk.finding.step ≡ find.LoadsLink → link_of (reply_in N session s) ≡ 0 → head_of (L.chains (H (key_in t.request))) ≡ 0
         empty at nowhere =
