@@ -1,5 +1,5 @@
 -- No update takes effect at a home at which one of an older version shares its latch, unless a later version stands there already.
-use Rattle.std.proofs.Common.{◌≡◌, ◌≢◌, ◌⊎◌, inl, inr, ℕ, ◌+◌, ◌*◌, ◌^◌, ◌<◌, ◌≤◌, refl, sym, ap, ◌∙◌, subst, arith, eqb-true, Bool, true, false, List, Option, Some, None}
+use Rattle.std.proofs.Common.{◌≡◌, inl, inr, ℕ, ◌^◌, ◌<◌, refl, sym, ap, ◌∙◌, subst, arith, eqb-true, Bool, true, false, List, Some}
 use Rattle.std.specs.Prelude.{◌==◌, ◌&&◌, slice_get}
 use Rattle.std.proofs.lemmas.Bool.Decides.{nat_tests}
 use Rattle.fkv_base.specs.declared.numbers.Key.{Key}
@@ -23,7 +23,6 @@ use Rattle.fkv_ops.specs.Requests.{is_read}
 use Rattle.fkv_ops.specs.Trying.{TryState, is_moving_on}
 use Rattle.fkv_pending.specs.declared.attempting.Attempting.{Attempting}
 use Rattle.fkv_pending.specs.declared.attempting.Attempting.TheVariants.{Tries}
-use Rattle.fkv_pending.specs.declared.pending_requests.PendingRequest.{PendingRequest}
 use Rattle.fkv_pending.specs.Attempting.{AttemptState}
 use Rattle.fkv_plane.specs.Places.{bucket_place}
 use Rattle.fkv_session.specs.declared.sessions.Sitting.{Sitting}
@@ -31,19 +30,18 @@ use Rattle.fkv_session.specs.declared.sessions.Sitting.TheVariants.{Attempts, Po
 use Rattle.fkv_session.specs.Sessions.{Seat, SessionState, bits_of}
 use Rattle.fkv_session.specs.Shares.{latch_of}
 use Rattle.fkv_world.specs.Opened.{HasBecome}
-use Rattle.fkv_world.specs.Runs.{World, run}
-use Rattle.fkv_world.specs.World.{Calls, Commits, Crashes, Event, KeeperMoves, Moves, Now, Turns, seat_at}
-use Rattle.fkv_world.proofs.Shown.{places_stay, same_seat, shape_stays}
+use Rattle.fkv_world.specs.Runs.{run}
+use Rattle.fkv_world.specs.World.{Event, Now, seat_at}
+use Rattle.fkv_world.proofs.Shown.{places_stay, shape_stays}
 use Rattle.fkv_epoch.proofs.Shown.{none_some, some_same}
 use Rattle.law_apart.specs.Apart.Rows.{AttemptApart, CopiesApart, CopiesRow, MovesOn, SessionApart, TryApart}
 use Rattle.law_apart.proofs.OfApart.Raises.{StandsAlready}
 use Rattle.law_changes.proofs.OfSessions.Attempting.{life_attempts}
-use Rattle.law_local.specs.Sessions.Inputs.{AttemptsBy, AttemptsSo, IsTryFor, TriesFor}
+use Rattle.law_local.specs.Sessions.Inputs.{AttemptsBy, IsTryFor, TriesFor}
 use Rattle.law_local.specs.Sessions.Known.{is_attempting}
 use Rattle.law_local.specs.Tries.AttemptRows.{AttemptKnows, AttemptRow}
 use Rattle.law_local.specs.Tries.AttemptRows as local
 use Rattle.law_local.specs.Tries.TryRows.{TryRow, cell_of, key_in}
-use Rattle.law_local.specs.Tries.WalkRows.{begin_of}
 use Rattle.law_log.specs.Chains.{Cell, Reserved, version_at}
 use Rattle.law_log.specs.Ghosts.{Log}
 use Rattle.law_log.specs.Enabled.{AreChains}
@@ -57,12 +55,12 @@ use Rattle.law_order.proofs.OfApart.Moments.{attempt_settled, gone}
 use Rattle.law_order.proofs.OfApart.Sharers.{makes_alone, same_latch}
 use Rattle.law_parts.specs.Latches.InTries.{session_held}
 use Rattle.law_parts.specs.Latches.Latchers.{its_latch}
-use Rattle.law_refine.specs.Events.Effects.{PublishesIt, Stepped, mover_step, no_step, step_at}
+use Rattle.law_refine.specs.Events.Effects.{PublishesIt, mover_step}
 use Rattle.law_refine.specs.Events.GhostEvents.{home_in, life_ghosts}
 use Rattle.law_refine.specs.Events.Reservations.{Reservation, append_reserves, attempt_reserves, invalidate_reserves, try_reserves}
 use Rattle.law_refine.specs.Events.Reserved.{reserved_by, sitting_reserves}
 use Rattle.law_refine.specs.Events.Appends.{entry_made}
-use Rattle.law_refine.proofs.OfEvents.RequestNames.{IsAttemptSo, IsTryOf, StepIsSo, TriesAt, life_so}
+use Rattle.law_refine.proofs.OfEvents.RequestNames.{IsAttemptSo, StepIsSo, TriesAt, life_so}
 use Rattle.law_refine.proofs.OfEvents.ReservedLife.{life_reserved}
 use Rattle.law_refine.proofs.OfEvents.TryAppends.{IsAppendOf, KnowsAt}
 use Rattle.law_refine.proofs.OfSeen.There.{was_there}
@@ -79,15 +77,18 @@ made_by a entry appending.Invalidates its e = by_step a.invalidating e
     by_step invalidating.AtRest e = none_some its e
     by_step (invalidating.StoresHeader addr header) e = ap (λ (r : Reservation). r.cell) (sym (some_same _ its e))
 
-pub record Making (s : SessionState) (its : Reservation) : Type 0 where
+pub record Makes (s : SessionState) : Type 0 where
   pub attempts : is_attempting s.step ≡ true
   pub tries : s.attempt.step ≡ Tries
   pub reply : Reply
   pub appends : s.attempt.trial.step ≡ Appends reply
+
+pub record Making (s : SessionState) (its : Reservation) : Type 0 where
+  pub makes : Makes s
   pub its_cell : its.cell ≡ cell_of s.attempt.trial.append.its_words
 
 try_making : (number : ℕ) (s : SessionState) (step : Trying) (its : Reservation) → is_attempting s.step ≡ true → s.attempt.step ≡ Tries → s.attempt.trial.step ≡ step → try_reserves number s.attempt.pending s.attempt.trial step ≡ Some its → Making s its
-try_making number s (Appends reply) its attempts tries at e = record { attempts = attempts; tries = tries; reply = reply; appends = at; its_cell = made_by s.attempt.trial.append (entry_made number s.attempt.pending reply) s.attempt.trial.append.step its e }
+try_making number s (Appends reply) its attempts tries at e = record { makes = record { attempts = attempts; tries = tries; reply = reply; appends = at }; its_cell = made_by s.attempt.trial.append (entry_made number s.attempt.pending reply) s.attempt.trial.append.step its e }
 try_making number s step its attempts tries at e = none_some its e
 
 attempt_making : (number : ℕ) (s : SessionState) (step : Attempting) (its : Reservation) → is_attempting s.step ≡ true → s.attempt.step ≡ step → attempt_reserves number s.attempt step ≡ Some its → Making s its
@@ -148,11 +149,8 @@ module _ (given : Given) (life : BegunLife) (apart : OpensApart life) (before : 
     pub held : 0 < session_held (seat_at N session) (latch_of N.places N.shape.bucket_bits op) state state.step
 
   module _ (number : ℕ) (s : SessionState) (found : slice_get N.sessions number ≡ Some s) (known : SessionKnows H L s) (is_apart : SessionApart H N.places L s) (chains : AreChains H L) where
-    -- what it has reserved an address for
-    module _ (its : Reservation) (reserved : reserved_by number s ≡ Some its) where
-      making : Making s its
-      making = making_of number s its reserved
-
+    -- the record that it makes
+    module _ (making : Makes s) where
       abbrev t : TryState
       t = s.attempt.trial
 
@@ -221,11 +219,22 @@ module _ (given : Given) (life : BegunLife) (apart : OpensApart life) (before : 
           let so : TriesAt s.attempt.pending t Tries = subst (TriesAt s.attempt.pending t) making.tries (attempts_so s.attempt s.step making.attempts (life_so life.opening life.start before number s life.begins.store.now found).sits).tries_so in
           subst (KnowsAt request t) making.appends so.of_request.knows
 
-      pub key_so : H its.cell.key ≡ H (key_in request)
-      key_so = ap (λ (c : Cell). H c.key) (making.its_cell) ∙ ap (λ (k : Key). H k.0) words_so.same.its_key
+      pub makes_key : (cell_of t.append.its_words).key ≡ key_in request
+      makes_key = ap (λ (k : Key). k.0) words_so.same.its_key
 
-      pub version_so : its.cell.version ≡ request.version.0
-      version_so = ap (λ (c : Cell). c.version) (making.its_cell) ∙ ap (λ (v : Version). v.0) words_so.same.its_version
+      pub makes_version : (cell_of t.append.its_words).version ≡ request.version.0
+      makes_version = ap (λ (v : Version). v.0) words_so.same.its_version
+
+    -- what it has reserved an address for
+    module _ (its : Reservation) (reserved : reserved_by number s ≡ Some its) where
+      making : Making s its
+      making = making_of number s its reserved
+
+      pub key_so : H its.cell.key ≡ H (key_in s.attempt.pending.request)
+      key_so = ap (λ (c : Cell). H c.key) making.its_cell ∙ ap H (makes_key making.makes)
+
+      pub version_so : its.cell.version ≡ s.attempt.pending.request.version.0
+      version_so = ap (λ (c : Cell). c.version) making.its_cell ∙ makes_version making.makes
 
     -- what it publishes is what it has reserved an address for
     cell_so : (its : Reservation) (entry : HistoryEntry) (cell : Cell) → PublishesIt (mover_step N number (Some s)) its → L.cells its.addr ≡ Reserved entry cell → cell ≡ its.cell
@@ -239,7 +248,7 @@ module _ (given : Given) (life : BegunLife) (apart : OpensApart life) (before : 
         let same = cell_so its entry cell publishes there in
         let key = ap (λ (c : Cell). H c.key) same ∙ key_so its publishes.reserved in
         let version = ap (λ (c : Cell). c.version) same ∙ version_so its publishes.reserved in
-        stands_so its publishes.reserved h w sharer (sym key ∙ here) (omega (arith, older, version))
+        stands_so (making_of number s its publishes.reserved).makes h w sharer (sym key ∙ here) (omega (arith, older, version))
 
     -- it comes behind none of its own version
     pub publishes_own : (h : ℕ) → PublishesApart H (mover_step N number (Some s)) L h s.attempt.pending.request.version.0
