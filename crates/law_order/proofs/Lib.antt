@@ -1,3 +1,4 @@
+pub mod OfApart
 mod OfAsked
 mod OfDecided
 mod OfKnown

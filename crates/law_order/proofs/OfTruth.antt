@@ -1,5 +1,5 @@
 pub mod Attempts
-mod Frames
+pub mod Frames
 mod Searches
 pub mod Truth
 mod Words

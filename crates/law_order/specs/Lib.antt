@@ -1,3 +1,4 @@
+pub mod Apart
 pub mod Asked
 pub mod Decided
 pub mod InTurn

@@ -1,7 +1,7 @@
-//! In every life without commits what a session's requests have asked for in the mailbox is what the mailbox's notes say.
+//! In every life what a session's requests have asked for in the mailbox is what the mailbox's notes say.
 ghost use Rattle.law_order.specs.Asked.Laws.{AsksForWhatIsSought, LooksForWhatIsAsked, SeeksWhatIsAsked};
 
-/// In every life without commits of a store that rests in a version: an attempt that looks into its session's mailbox looks for the record that was
+/// In every life of a store that was opened: an attempt that looks into its session's mailbox looks for the record that was
 /// asked for there last, and one that is about to say that it asks has put the address there of the record that it seeks. And each request that has asked
 /// seeks a record, the one that is asked for: of those that wait (but what the list has of the request that is polled is out of date), and of the one
 /// that is attempted.

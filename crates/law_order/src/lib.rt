@@ -1,6 +1,7 @@
 //! The order law: the induction over events, and each life's one legal history; and the law of prefixes, as it is stated.
 #![tactic(auto)]
 
+mod apart;
 mod asked;
 mod decided;
 mod enabled;
@@ -23,6 +24,7 @@ mod tickets;
 mod told;
 mod truth;
 
+pub use apart::law_versions_apart;
 pub use asked::law_world_asked;
 pub use decided::{law_chains_open, law_cut_opens, law_decided_opens, law_old_opens};
 pub use enabled::law_world_enabled;

@@ -15,7 +15,7 @@ use Rattle.fkv_ops.specs.declared.header_words.HeaderSaid.TheVariants.{Says, Spo
 use Rattle.fkv_ops.specs.declared.requests.Occasion.{Occasion}
 use Rattle.fkv_ops.specs.declared.requests.Seen.{Seen}
 use Rattle.fkv_ops.specs.HeaderWords.{header_said}
-use Rattle.fkv_ops.specs.Trying.{is_prepare, told_value, try_ask}
+use Rattle.fkv_ops.specs.Trying.{told_value, try_ask}
 use Rattle.fkv_ops.specs.Values.{value_of}
 use Rattle.fkv_pending.specs.declared.attempting.Attempting.{Attempting}
 use Rattle.fkv_pending.specs.declared.attempting.Attempting.TheVariants.{Ended, Looks, Tries, Puts}
@@ -40,9 +40,10 @@ abbrev pub EndsSo : Occasion → TryAnswer → Type 0
 EndsSo occasion (answer.AwaitsDisk sought) = ⊥
 EndsSo occasion its = TryEndsSo occasion its
 
--- while it is under way its request has asked where that says so, and at its end only one that goes on waiting
+-- while it is under way its request has asked where that says so, and at its end only one that goes on waiting, or that is tried again
 abbrev pub asks_on : AttemptState → Attempting → Bool
 asks_on a (Ended (answer.Wait why)) = a.pending.has_asked
+asks_on a (Ended answer.Shift) = a.pending.has_asked
 asks_on a (Ended its) = false
 asks_on a step = a.pending.has_asked
 
@@ -65,11 +66,6 @@ abbrev pub AttemptTold : Option Addr → Option MailTask → AttemptState → At
 AttemptTold asked told a Looks reply asked' = MailTold asked told a.mailing reply asked'
 AttemptTold asked told a Puts reply asked' = MailTold asked told a.mailing reply asked'
 AttemptTold asked told a step reply asked' = asked' ≡ asked
-
--- it goes by what was seen outside prepare while it tries
-abbrev pub SeesRest : AttemptState → Attempting → Type 0
-SeesRest a Tries = is_prepare a.seen.phase ≡ false
-SeesRest a step = ⊤
 
 module _ (p : Places) (bits room : ℕ) (buckets : p.buckets ≡ 2 ^ bits) where
   abbrev pub AttemptAt : Option MailTask → AttemptState → Attempting → Type 0
@@ -220,7 +216,7 @@ module _ (p : Places) (bits room : ℕ) (buckets : p.buckets ≡ 2 ^ bits) where
     tried_goes a (answer.Done reply) ends base = leaves_on a (answer.Done reply) tt refl base
     tried_goes a (answer.Found value) ends base = leaves_on a (answer.Found value) tt refl base
     tried_goes a answer.Absent ends base = leaves_on a answer.Absent tt refl base
-    tried_goes a answer.Shift ends base = absurd ends
+    tried_goes a answer.Shift ends base = record { same = base.same; sought = base.sought; few = base.few; at = tt }
     tried_goes a answer.IndexFull ends base = leaves_on a answer.IndexFull ends refl base
     tried_goes a answer.LogFull ends base = leaves_on a answer.LogFull ends refl base
 
@@ -285,20 +281,20 @@ module _ (p : Places) (bits room : ℕ) (buckets : p.buckets ≡ 2 ^ bits) where
     put_goes n a next it at same base seeks task goes tells = puts_still a next it at same (moved a tells base) seeks (goes refl)
 
     row_goes : (n : ℕ) (a : AttemptState) (step : Attempting) (reply : ℕ) → a.step ≡ step → a.occasion ≡ occasion → HasAskedSought asked a.pending → others + (asker (asks_on a step) + asker a.is_orphaned) ≤ asked_count asked → AttemptAt told a step
-        → SeesRest a step → AttemptTold asked told a step reply asked' → Then (attempting_next p bits room n (record a { effect = None }) step reply)
+        → AttemptTold asked told a step reply asked' → Then (attempting_next p bits room n (record a { effect = None }) step reply)
     unfolding attempting_next
-    row_goes n a (Ended its) reply at same sought few is sees tells =
+    row_goes n a (Ended its) reply at same sought few is tells =
         subst (λ (x : Option Addr). AttemptAsks x told others occasion (record a { effect = None })) (sym tells) (still asked told others occasion (record a { effect = None }) (Ended its) at same sought few is)
-    row_goes n a Looks reply at same sought few is sees tells =
+    row_goes n a Looks reply at same sought few is tells =
         look_goes n (mail_moved (record a { effect = None }) reply) (mail_next a.mailing reply) at refl (record { same = same; sought = sought; few = few }) is.0 (tells.task Take is.1) (tells.goes Take is.1) tells.tells
-    row_goes n a Tries reply at same sought few is sees tells =
+    row_goes n a Tries reply at same sought few is tells =
         let after : AttemptState = try_moved p room (record a { effect = None }) reply in
         let run : IsTryRun p bits room buckets a.seen a.occasion after.trial = next_run p bits room buckets a.seen a.occasion a.trial reply is in
         try_goes asked' told others occasion after (try_ask p after.trial) at (moved after tells (record { same = same; sought = sought; few = few })) run
-        (λ its e. subst (λ (x : Occasion). TryEndsSo x its) same (run_ends p bits room buckets a.seen a.occasion after.trial its run sees e))
-    row_goes n a Puts reply at same sought few is sees tells =
+        (λ its e. subst (λ (x : Occasion). TryEndsSo x its) same (run_ends p bits room buckets a.seen a.occasion after.trial its run e))
+    row_goes n a Puts reply at same sought few is tells =
         let its = put_sought told a.pending.sought a.mailing is in
         put_goes n (mail_moved (record a { effect = None }) reply) (mail_next a.mailing reply) its.0 at refl (record { same = same; sought = sought; few = few }) its.1 (tells.task (Put its.0.addr) its.2) (tells.goes (Put its.0.addr) its.2) tells.tells
 
-    pub attempt_asks : (n : ℕ) (a : AttemptState) (reply : ℕ) → AttemptAsks asked told others occasion a → SeesRest a a.step → AttemptTold asked told a a.step reply asked' → AttemptAsks asked' told others occasion (attempt_next p bits room n a reply)
-    attempt_asks n a reply its sees tells = row_goes n a a.step reply refl its.same its.sought its.few its.at sees tells
+    pub attempt_asks : (n : ℕ) (a : AttemptState) (reply : ℕ) → AttemptAsks asked told others occasion a → AttemptTold asked told a a.step reply asked' → AttemptAsks asked' told others occasion (attempt_next p bits room n a reply)
+    attempt_asks n a reply its tells = row_goes n a a.step reply refl its.same its.sought its.few its.at tells

@@ -1,26 +1,19 @@
--- In every life without commits what a session's requests have asked for is what its mailbox's notes say.
+-- In every life what a session's requests have asked for is what its mailbox's notes say.
 use Rattle.std.proofs.Common.{◌≡◌, ℕ, ◌∙◌, refl, sym, ap, subst, arith, Bool, true, false, List, [], ◌∷◌, ◌++◌, append_assoc}
 use Rattle.std.specs.Prelude.{◌==◌, if◌then◌else◌, Option, Some, None, slice_get}
 use Rattle.std.proofs.lemmas.Bool.Decides.{nat_tests}
 use Rattle.fkv_base.specs.declared.numbers.Addr.{Addr}
-use Rattle.fkv_base.specs.declared.numbers.Version.{Version}
 use Rattle.fkv_epoch.proofs.Shown.{none_some, some_same}
 use Rattle.fkv_map.specs.declared.operations.Call.{Call}
 use Rattle.fkv_plane.specs.declared.asks.Ask.{Ask}
 use Rattle.fkv_plane.specs.Asked.{reply_to}
-use Rattle.fkv_ops.specs.Trying.{is_prepare}
-use Rattle.fkv_pending.specs.declared.attempting.Attempting.{Attempting}
-use Rattle.fkv_pending.specs.declared.attempting.Attempting.TheVariants as attempting
 use Rattle.fkv_pending.specs.declared.mailing.MailTask.{MailTask}
 use Rattle.fkv_pending.specs.declared.mailing.Mailing.{Mailing}
-use Rattle.fkv_pending.specs.Attempting.{AttemptState}
 use Rattle.fkv_pending.specs.Mailing.{mail_ask}
 use Rattle.fkv_pending.specs.MailWorld.{mailbox_of, MailWorld, MailEvent, Moves as MailMoves, is_at_end, mail_happens, mail_run}
 use Rattle.fkv_pending.specs.Mailbox.{MailNote, MailPast, asked_then, past_of}
 use Rattle.fkv_pending.proofs.Shown.{mail_done}
 use Rattle.fkv_session.specs.declared.answers.Told.{Told as Answer}
-use Rattle.fkv_session.specs.declared.sessions.Sitting.{Sitting}
-use Rattle.fkv_session.specs.declared.sessions.Sitting.TheVariants.{Attempts, Polls}
 use Rattle.fkv_session.specs.Sessions as session_of
 use Rattle.fkv_session.specs.Sessions.{SessionState, Seat, is_busy, session_ask, session_begun}
 use Rattle.law_local.specs.Sessions.Known.{is_attempting}
@@ -36,30 +29,15 @@ use Rattle.law_parts.specs.Mail.Mailers.{session_mailing, IsAsFar}
 use Rattle.law_parts.specs.Mail.Reads.{mail_notes, mail_past}
 use Rattle.law_parts.specs.Mail.Shows.{IsOpened, mail_opening, seen_by_mailbox}
 use Rattle.law_parts.proofs.OfMail.Lives.{life_shows, life_sound}
-use Rattle.law_order.specs.Rest.Machines.{AttemptGoesByRest}
-use Rattle.law_order.specs.Rest.Resting.{HasNoCommit, RestsIn}
-use Rattle.law_order.specs.Rest.Sessions.{SitsAtRest}
-use Rattle.law_order.proofs.OfRest.Worlds.{life_rests}
 use Rattle.law_order.specs.Asked.Asked.{AsksForSought, HaveAskedSought, LooksForAsked, outstanding}
 use Rattle.law_order.proofs.OfAsked.Askers.{asker, askers, AllSought}
-use Rattle.law_order.proofs.OfAsked.Attempts.{SeesRest}
 use Rattle.law_order.proofs.OfAsked.Facts.{asks_looks, asks_puts, asks_sought}
 use Rattle.law_order.proofs.OfAsked.Moved.{is_first, moved_asks, own_reply, task_asks}
 use Rattle.law_order.proofs.OfAsked.Past.{IsSamePast, begins_none, begins_notes, changed_quiet, event_quiet, moved_task, quiet_past}
-use Rattle.law_order.proofs.OfAsked.Sitting.{SitsResting, SessionAsks, call_begun_asks, idle_session}
+use Rattle.law_order.proofs.OfAsked.Sitting.{SessionAsks, call_begun_asks, idle_session}
 use Rattle.law_order.proofs.OfAsked.Told.{MailTold, Told, moves_told}
 
--- at rest a session has seen no prepare
-attempt_sees : (version : Version) (a : AttemptState) (step : Attempting) → AttemptGoesByRest version a → SeesRest a step
-attempt_sees version a attempting.Tries goes = ap is_prepare goes.0.phase
-attempt_sees version a step goes = tt
-
-sitting_sees : (version : Version) (s : SessionState) (step : Sitting) → SitsAtRest version s step → SitsResting s step
-sitting_sees version s (Attempts has_shifted) rests = attempt_sees version s.attempt s.attempt.step rests.goes
-sitting_sees version s (Polls index) rests = attempt_sees version s.attempt s.attempt.step rests.goes
-sitting_sees version s step rests = tt
-
-module _ (opening : World) (start : ℕ) (version : Version) (session : ℕ) (opened : IsOpened opening.now session) (store : guard.IsOpened opening.now start) (rests : RestsIn version opening.now) where
+module _ (opening : World) (start : ℕ) (session : ℕ) (opened : IsOpened opening.now session) (store : guard.IsOpened opening.now start) where
   abbrev k : Seat
   k = seat_at opening.now session
 
@@ -91,7 +69,7 @@ module _ (opening : World) (start : ℕ) (version : Version) (session : ℕ) (op
   begins_later : (s : SessionState) (m : Mailing) (events : List MailEvent) → session_mailing s ≡ Some m → is_first m ≡ false → begins (session_mailing s) ++ events ≡ events
   begins_later s m events at later = ap (λ (xs : List MailEvent). xs ++ events) (ap begins at ∙ begins_none m later)
 
-  module _ (before : List Event) (alive : (run opening before).now.crashed ≡ false) (none : HasNoCommit before) (known : AllAsk before) where
+  module _ (before : List Event) (alive : (run opening before).now.crashed ≡ false) (known : AllAsk before) where
     abbrev v : World
     v = run opening before
 
@@ -199,11 +177,10 @@ module _ (opening : World) (start : ℕ) (version : Version) (session : ℕ) (op
         → AsksBehind (mail_past opening session (Moves number ∷ before)) (after_of s)
     moved_behind number s own got there =
         let asked' : Option Addr = outstanding (past_of first (asked_events s (session_mailing s))).notes in
-        let sees : SitsResting s s.step = sitting_sees version s s.step ((life_rests opening start version before store rests none).sessions session s got).sits in
         let tells : Told (outstanding past.notes) past.task (session_mailing s) (reply_to n.words (session_ask k s)) asked' =
         subst (λ (x : Seat). Told (outstanding past.notes) past.task (session_mailing s) (reply_to n.words (session_ask x s)) asked') seat (moved_told s (session_mailing s) got refl) in
         let asks : Asks asked' past.task (after_of s) =
-        subst (λ (x : Seat). Asks asked' past.task (session_moved x (near n s)).machine) (sym seat) (moved_asks k store.buckets (outstanding past.notes) past.task asked' (near n s) (session_ask k s) refl (known s got) sees tells) in
+        subst (λ (x : Seat). Asks asked' past.task (session_moved x (near n s)).machine) (sym seat) (moved_asks k store.buckets (outstanding past.notes) past.task asked' (near n s) (session_ask k s) refl (known s got) tells) in
         subst (λ (es : List MailEvent). AsksBehind (past_of first es) (after_of s)) (sym (moved_events_so number s own got)) (begin_asks (asked_events s (session_mailing s)) past.task (after_of s) asks (later_same number s own got there))
 
     -- ---- each event
@@ -238,9 +215,9 @@ module _ (opening : World) (start : ℕ) (version : Version) (session : ℕ) (op
       subst (λ (c : Bool). AsksBehind (past_of first ((if c then [] else life_events (run opening before).now (read_by_keeper (run opening before)) session event) ++ mapped opening session before)) s) (sym over)
       (known s (ap (λ (x : World). slice_get x.now.sessions session) (sym (is_over (run opening before) event over)) ∙ there))
 
-  event_asks : (before : List Event) (event : Event) (crashed : Bool) → (run opening before).now.crashed ≡ crashed → HasNoCommit before → AllAsk before → AllAsk (event ∷ before)
-  event_asks before event true e none known = over_asks before event e known
-  event_asks before event false e none known = alive_asks before e none known event (is_of_session session event) refl
+  event_asks : (before : List Event) (event : Event) (crashed : Bool) → (run opening before).now.crashed ≡ crashed → AllAsk before → AllAsk (event ∷ before)
+  event_asks before event true e known = over_asks before event e known
+  event_asks before event false e known = alive_asks before e known event (is_of_session session event) refl
 
   opened_asks : AllAsk []
   unfolding run mapped past_of outstanding
@@ -250,14 +227,14 @@ module _ (opening : World) (start : ℕ) (version : Version) (session : ℕ) (op
       let no_orphan : asker s.is_orphaned ≡ 0 = ap asker its.no_orphan in
       idle_session k store.buckets None None s its.none_in_hand (record { all = subst (AllSought None) (sym its.none_wait) tt; few = omega (arith, none_wait, no_orphan) })
 
-  life_stands : (events : List Event) → HasNoCommit events → AllAsk events
-  life_stands [] none = opened_asks
-  life_stands (event ∷ before) none = event_asks before event (run opening before).now.crashed refl none.1 (life_stands before none.1)
+  life_stands : (events : List Event) → AllAsk events
+  life_stands [] = opened_asks
+  life_stands (event ∷ before) = event_asks before event (run opening before).now.crashed refl (life_stands before)
 
-module _ (opening : World) (start : ℕ) (version : Version) (session : ℕ) (events : List Event) (s : SessionState) (opened : IsOpened opening.now session) (store : guard.IsOpened opening.now start) (rests : RestsIn version opening.now)
-    (none : HasNoCommit events) (there : slice_get (run opening events).now.sessions session ≡ Some s) where
+module _ (opening : World) (start : ℕ) (session : ℕ) (events : List Event) (s : SessionState) (opened : IsOpened opening.now session) (store : guard.IsOpened opening.now start)
+    (there : slice_get (run opening events).now.sessions session ≡ Some s) where
   stands : SessionAsks (seat_at opening.now session) store.buckets (outstanding (mail_notes opening session events)) (mail_past opening session events).task s
-  stands = life_stands opening start version session opened store rests events none s there
+  stands = life_stands opening start session opened store events s there
 
   pub life_looks : is_attempting s.step ≡ true → LooksForAsked (mail_notes opening session events) s.attempt s.attempt.step
   life_looks attempting = asks_looks (seat_at opening.now session) store.buckets (mail_notes opening session events) (mail_past opening session events).task s stands attempting

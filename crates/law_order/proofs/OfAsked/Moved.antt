@@ -30,7 +30,7 @@ use Rattle.fkv_session.specs.Shares.{HasItsBuckets}
 use Rattle.fkv_world.specs.Moves.{Near, session_gets, session_settled, session_replied, session_asks}
 use Rattle.law_parts.specs.Mail.Mailers.{attempt_mailing, sitting_mailing, session_mailing}
 use Rattle.law_order.proofs.OfAsked.Attempts.{PutsSought, AttemptAt}
-use Rattle.law_order.proofs.OfAsked.Sitting.{SitsResting, IsAttempt, SitsAsking, SessionAsks, given_asks, next_asks}
+use Rattle.law_order.proofs.OfAsked.Sitting.{IsAttempt, SitsAsking, SessionAsks, given_asks, next_asks}
 use Rattle.law_order.proofs.OfAsked.Told.{IsAt, Told, under_way}
 use Rattle.law_order.proofs.OfAsked.Tries.{is_slot, mail_slot, passed_slot, run_slot}
 
@@ -86,17 +86,13 @@ module _ (k : Seat) (buckets : HasItsBuckets k) where
   attempt_slot its a Tries at = passed_slot (try_ask k.places a.trial) _ ∙ run_slot k.places (bits_of k) (room_of k) buckets a.seen a.occasion a.trial at
   attempt_slot its a Puts at = passed_slot (mail_ask k.number a.mailing) _ ∙ mail_slot k.number a.mailing
 
-  -- what a session knows that asks for a slot
-  record IsApart (s : SessionState) (step : Sitting) : Type 0 where
-    rests : SitsResting s step
-    none : sitting_mailing s step ≡ None
-
-  sitting_slot : (asked : Option Addr) (its : Option MailTask) (s : SessionState) (step : Sitting) → SitsAsking k buckets asked its s step → is_slot (sitting_ask k s step) ≡ true → IsApart s step
+  -- a session that asks for a slot has no mail machine under way
+  sitting_slot : (asked : Option Addr) (its : Option MailTask) (s : SessionState) (step : Sitting) → SitsAsking k buckets asked its s step → is_slot (sitting_ask k s step) ≡ true → sitting_mailing s step ≡ None
   unfolding sitting_ask
   sitting_slot asked its s (Attempts has_shifted) sits slot = clash _ slot (passed_slot (attempt_ask k.places k.number s.attempt) _ ∙ attempt_slot its s.attempt s.attempt.step sits.asks.at)
   sitting_slot asked its s (Polls index) sits slot = clash _ slot (passed_slot (attempt_ask k.places k.number s.attempt) _ ∙ attempt_slot its s.attempt s.attempt.step sits.asks.at)
   sitting_slot asked its s ClearsMail sits slot = clash _ slot (passed_slot (mail_ask k.number s.mailing) _ ∙ mail_slot k.number s.mailing)
-  sitting_slot asked its s step sits slot = record { rests = tt; none = refl }
+  sitting_slot asked its s step sits slot = refl
 
   attempt_end : (asked : Option Addr) (its : Option MailTask) (others : List PendingRequest) (occasion : Occasion) (a : AttemptState) → IsAttempt k buckets asked its others occasion a → is_done (attempt_ask k.places k.number a) ≡ true → attempt_mailing a a.step ≡ None
   attempt_end asked its others occasion a is done = end_mailing a a.step (sym (attempt_done k.places k.number a is.rests) ∙ done)
@@ -117,24 +113,22 @@ module _ (k : Seat) (buckets : HasItsBuckets k) where
   settled_asks : (asked : Option Addr) (its : Option MailTask) (n : Near SessionState) (ask : Ask Answer) → session_ask k n.machine ≡ ask → SessionAsks k buckets asked its n.machine → SessionAsks k buckets asked its (session_settled k n ask).machine
   unfolding session_settled
   settled_asks asked its n (Put slot action) e sits =
-      let apart : IsApart n.machine n.machine.step = sitting_slot asked its n.machine n.machine.step sits (ap is_slot e) in
-      next_asks k buckets asked its asked n.machine 0 sits apart.rests (none_told asked its (session_mailing n.machine) 0 apart.none)
+      next_asks k buckets asked its asked n.machine 0 sits (none_told asked its (session_mailing n.machine) 0 (sitting_slot asked its n.machine n.machine.step sits (ap is_slot e)))
   settled_asks asked its n (Take slot) e sits = gets_asks asked its n.machine (action_at n.actions slot) sits
   settled_asks asked its n ask e sits = sits
 
-  pub moved_asks : (asked : Option Addr) (its : Option MailTask) (asked' : Option Addr) (n : Near SessionState) (ask : Ask Answer) → session_ask k n.machine ≡ ask → SessionAsks k buckets asked its n.machine → SitsResting n.machine n.machine.step
+  pub moved_asks : (asked : Option Addr) (its : Option MailTask) (asked' : Option Addr) (n : Near SessionState) (ask : Ask Answer) → session_ask k n.machine ≡ ask → SessionAsks k buckets asked its n.machine
       → Told asked its (session_mailing n.machine) (reply_to n.words ask) asked' → SessionAsks k buckets asked' its (session_asks k n ask).machine
   unfolding session_asks session_settled
-  moved_asks asked its asked' n (Done answer) e sits rests tells =
+  moved_asks asked its asked' n (Done answer) e sits tells =
       let same : asked' ≡ asked = told_same asked its (session_mailing n.machine) 0 asked' (sitting_done asked its n.machine n.machine.step sits (ap is_done e)) tells in
       subst (λ (x : Option Addr). SessionAsks k buckets x its n.machine) (sym same) sits
-  moved_asks asked its asked' n (Put slot action) e sits rests tells = next_asks k buckets asked its asked' n.machine 0 sits rests tells
-  moved_asks asked its asked' n (Take slot) e sits rests tells =
-      let apart : IsApart n.machine n.machine.step = sitting_slot asked its n.machine n.machine.step sits (ap is_slot e) in
-      let same : asked' ≡ asked = told_same asked its (session_mailing n.machine) 0 asked' apart.none tells in
+  moved_asks asked its asked' n (Put slot action) e sits tells = next_asks k buckets asked its asked' n.machine 0 sits tells
+  moved_asks asked its asked' n (Take slot) e sits tells =
+      let same : asked' ≡ asked = told_same asked its (session_mailing n.machine) 0 asked' (sitting_slot asked its n.machine n.machine.step sits (ap is_slot e)) tells in
       subst (λ (x : Option Addr). SessionAsks k buckets x its (session_gets k n.machine (action_at n.actions slot))) (sym same) (gets_asks asked its n.machine (action_at n.actions slot) sits)
-  moved_asks asked its asked' n ask e sits rests tells =
-      settled_asks asked' its (session_replied k n ask) (session_ask k (session_replied k n ask).machine) refl (next_asks k buckets asked its asked' n.machine (reply_to n.words ask) sits rests tells)
+  moved_asks asked its asked' n ask e sits tells =
+      settled_asks asked' its (session_replied k n ask) (session_ask k (session_replied k n ask).machine) refl (next_asks k buckets asked its asked' n.machine (reply_to n.words ask) sits tells)
 
   -- ---- the task that is told to be under way counts behind a machine's first step alone
   at_task : (its its' : Option MailTask) (of : MailTask) (step : Mailing) → (is_first step ≡ false → its' ≡ its) → IsAt its of step → IsAt its' of step

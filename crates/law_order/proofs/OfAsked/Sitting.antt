@@ -1,6 +1,6 @@
 -- What a session's requests have asked for, over each reply, each call that begins and each action that is given.
 use Rattle.std.proofs.Common.{◌≡◌, ℕ, ◌+◌, ◌≤◌, ◌∙◌, refl, sym, ap, subst, arith, Bool, true, false, List, [], ◌∷◌, ◌++◌, length}
-use Rattle.std.specs.Prelude.{⊤, ◌==◌, ◌||◌, not, if◌then◌else◌, Option, Some, None, slice_get, slice_set}
+use Rattle.std.specs.Prelude.{◌==◌, ◌||◌, not, if◌then◌else◌, Option, Some, None, slice_get, slice_set}
 use Rattle.std.specs.List.{remove}
 use Rattle.fkv_base.specs.declared.faults.Fault.{Fault}
 use Rattle.fkv_base.specs.declared.faults.Fault.TheVariants as fault
@@ -18,6 +18,7 @@ use Rattle.fkv_latch.specs.declared.latching.LatchAnswer.{LatchAnswer}
 use Rattle.fkv_latch.specs.declared.latching.LatchAnswer.TheVariants.{Taken as LatchTaken}
 use Rattle.fkv_latch.specs.Latching.{latch_next_ask}
 use Rattle.fkv_ops.specs.declared.answers.Reason.{Reason}
+use Rattle.fkv_ops.specs.declared.answers.Reason.TheVariants as reason
 use Rattle.fkv_ops.specs.declared.answers.TryAnswer.{TryAnswer}
 use Rattle.fkv_ops.specs.declared.answers.TryAnswer.TheVariants as tried
 use Rattle.fkv_ops.specs.declared.requests.Occasion.{Occasion}
@@ -45,19 +46,13 @@ use Rattle.fkv_session.specs.declared.sessions.Sitting.{Sitting}
 use Rattle.fkv_session.specs.declared.sessions.Sitting.TheVariants.{Idle, Attempts, CatchesUp, ClearsMail, Polls, StoresOwing, Turns, StoresCut, Leaves, LoadsDurable}
 use Rattle.fkv_session.specs.CatchingUp.{CatchState, refresh_begun, wake_begun, latched, latch_marked, catching_requests}
 use Rattle.fkv_session.specs.OwnTurns.{own_turn_ask, own_turn_begun, own_turn_given}
-use Rattle.fkv_session.specs.Sessions.{SessionState, Seat, bits_of, room_of, is_busy, answers, answers_after_turn, request_in_hand, attempts, polls_request, polls_at, refuses, refusal_of, op_begun, refresh_call, poll_begun, poll_call, sleep_call, wake_call, call_begun, session_begun, session_ask, session_next, session_given, attempt_left, serial_taken, update_done, ticket_after, is_no_room, with_request, accepts, attempted, attempt_ledto, caught_up, catch_ledto, clear_ledto, is_owed, request_finished, finishes_request, lacks_room, keeps_request, poll_ledto, turn_ledto, leave_ledto, attempt_moved, caught, own_turn_moved, sitting_next, sitting_given, asks_after, is_word_ask}
+use Rattle.fkv_session.specs.Sessions.{SessionState, Seat, bits_of, room_of, is_busy, answers, answers_after_turn, request_in_hand, attempts, polls_request, polls_at, refuses, refusal_of, op_begun, refresh_call, poll_begun, poll_call, sleep_call, wake_call, call_begun, session_begun, session_ask, session_next, session_given, attempt_left, serial_taken, update_done, shifts, ticket_after, is_no_room, with_request, accepts, attempted, attempt_ledto, caught_up, catch_ledto, clear_ledto, is_owed, request_finished, finishes_request, lacks_room, keeps_request, poll_ledto, turn_ledto, leave_ledto, attempt_moved, caught, own_turn_moved, sitting_next, sitting_given, asks_after, is_word_ask}
 use Rattle.fkv_session.specs.Shares.{HasItsBuckets}
 use Rattle.law_parts.specs.Mail.Mailers.{attempt_mailing, sitting_mailing, session_mailing}
 use Rattle.law_order.specs.Asked.Asked.{HasAskedSought}
 use Rattle.law_order.proofs.OfAsked.Askers.{asker, askers, asked_count, asked_most, AllSought, Await, askers_behind, askers_set, askers_left, none_asked, none_sought, all_behind, all_set, all_left, one_of, latched_await, all_then}
-use Rattle.law_order.proofs.OfAsked.Attempts.{EndsSo, asks_on, AttemptTold, SeesRest, AttemptAt, AttemptAsks, begun_asks, attempt_asks}
+use Rattle.law_order.proofs.OfAsked.Attempts.{EndsSo, asks_on, AttemptTold, AttemptAt, AttemptAsks, begun_asks, attempt_asks}
 use Rattle.law_order.proofs.OfAsked.Told.{IsAt, Tells, Told, told_change}
-
--- while it tries it goes by what was seen outside prepare
-abbrev pub SitsResting : SessionState → Sitting → Type 0
-SitsResting s (Attempts has_shifted) = SeesRest s.attempt s.attempt.step
-SitsResting s (Polls index) = SeesRest s.attempt s.attempt.step
-SitsResting s step = ⊤
 
 attempt_told : (asked : Option Addr) (task : Option MailTask) (a : AttemptState) (step : Attempting) (reply : ℕ) (asked' : Option Addr) → Told asked task (attempt_mailing a step) reply asked' → AttemptTold asked task a step reply asked'
 attempt_told asked task a (attempting.Ended its) reply asked' tells = tells
@@ -162,6 +157,11 @@ module _ (k : Seat) (buckets : HasItsBuckets k) where
         either_asks (is_read s.op) (answers (with_request (record s { ticket = ticket_after s.ticket })) (told.PendingRead (record { 0 = ticket_after s.ticket })))
         (answers_after_turn update (told.Pending (record { 0 = s.serial + 1 }) why)) more (turn_asks update (told.Pending (record { 0 = s.serial + 1 }) why) more)
 
+    shifts_asks : (s : SessionState) (has_shifted : Bool) → AllSought asked s.requests → HasAskedSought asked s.attempt.pending → askers s.requests + (asker s.attempt.pending.has_asked + asker s.is_orphaned) ≤ asked_count asked → Asks (shifts s has_shifted)
+    unfolding shifts
+    shifts_asks s false all sought few = record { all = all; few = omega (arith, few) }
+    shifts_asks s true all sought few = accepts_asks s reason.Contended all sought few
+
     attempted_asks : (s : SessionState) (has_shifted : Bool) (its : TryAnswer) → HasEnded s.requests AtCall s.attempt its → Asks (attempted (attempt_left s) has_shifted its)
     attempted_asks s has_shifted (tried.Done reply) is =
         let waits : Await asked s.requests s.attempt.is_orphaned = dropped s.requests s.attempt.is_orphaned is.all is.few in
@@ -170,7 +170,7 @@ module _ (k : Seat) (buckets : HasItsBuckets k) where
     attempted_asks s has_shifted tried.Absent is = dropped s.requests s.attempt.is_orphaned is.all is.few
     attempted_asks s has_shifted (tried.Wait why) is = accepts_asks (attempt_left s) why is.all is.sought is.few
     attempted_asks s has_shifted (tried.AwaitsDisk sought) is = absurd is.ends
-    attempted_asks s has_shifted tried.Shift is = absurd is.ends
+    attempted_asks s has_shifted tried.Shift is = shifts_asks (attempt_left s) has_shifted is.all is.sought is.few
     attempted_asks s has_shifted tried.IndexFull is = dropped s.requests s.attempt.is_orphaned is.all is.few
     attempted_asks s has_shifted tried.LogFull is = dropped s.requests s.attempt.is_orphaned is.all is.few
 
@@ -187,6 +187,13 @@ module _ (k : Seat) (buckets : HasItsBuckets k) where
     unfolding keeps_request
     keeps_asks s index its waits = polls_asks (record s { requests = slice_set s.requests index s.attempt.pending; wants_turn = s.wants_turn || lacks_room its }) (index + 1) waits
 
+    -- the one that has ended is kept
+    kept_asks : (s : SessionState) (index : ℕ) (its : TryAnswer) → AllSought asked (remove s.requests index) → HasAskedSought asked s.attempt.pending
+        → askers (remove s.requests index) + (asker s.attempt.pending.has_asked + asker s.is_orphaned) ≤ asked_count asked → Asks (keeps_request k s index its)
+    kept_asks s index its all sought few =
+        let set : askers (slice_set s.requests index s.attempt.pending) ≤ askers (remove s.requests index) + asker s.attempt.pending.has_asked = askers_set s.requests index s.attempt.pending in
+        keeps_asks s index its (record { all = all_set asked s.requests index s.attempt.pending all sought; few = omega (arith, set, few) })
+
     no_call : {A : Type 0} → AtPoll ≡ AtCall → A
     no_call e = cc
 
@@ -195,12 +202,9 @@ module _ (k : Seat) (buckets : HasItsBuckets k) where
     polled_asks s index (tried.Done reply) is = finishes_asks (attempt_left s) index (tried.Done reply) (dropped (remove s.requests index) s.attempt.is_orphaned is.all is.few)
     polled_asks s index (tried.Found value) is = finishes_asks (attempt_left s) index (tried.Found value) (dropped (remove s.requests index) s.attempt.is_orphaned is.all is.few)
     polled_asks s index tried.Absent is = finishes_asks (attempt_left s) index tried.Absent (dropped (remove s.requests index) s.attempt.is_orphaned is.all is.few)
-    polled_asks s index (tried.Wait why) is =
-        let set : askers (slice_set s.requests index s.attempt.pending) ≤ askers (remove s.requests index) + asker s.attempt.pending.has_asked = askers_set s.requests index s.attempt.pending in
-        let few : askers (remove s.requests index) + (asker s.attempt.pending.has_asked + asker s.attempt.is_orphaned) ≤ asked_count asked = is.few in
-        keeps_asks (attempt_left s) index (tried.Wait why) (record { all = all_set asked s.requests index s.attempt.pending is.all is.sought; few = omega (arith, set, few) })
+    polled_asks s index (tried.Wait why) is = kept_asks (attempt_left s) index (tried.Wait why) is.all is.sought is.few
     polled_asks s index (tried.AwaitsDisk sought) is = absurd is.ends
-    polled_asks s index tried.Shift is = absurd is.ends
+    polled_asks s index tried.Shift is = kept_asks (attempt_left s) index tried.Shift is.all is.sought is.few
     polled_asks s index tried.IndexFull is = no_call is.ends
     polled_asks s index tried.LogFull is = no_call is.ends
 
@@ -295,12 +299,12 @@ module _ (k : Seat) (buckets : HasItsBuckets k) where
 
   -- ---- each reply
   module _ (asked : Option Addr) (task : Option MailTask) (asked' : Option Addr) where
-    moved_attempt : (others : List PendingRequest) (occasion : Occasion) (a : AttemptState) (reply : ℕ) → IsAttempt asked task others occasion a → SeesRest a a.step → Told asked task (attempt_mailing a a.step) reply asked'
+    moved_attempt : (others : List PendingRequest) (occasion : Occasion) (a : AttemptState) (reply : ℕ) → IsAttempt asked task others occasion a → Told asked task (attempt_mailing a a.step) reply asked'
         → IsAttempt asked' task others occasion (attempt_next k.places (bits_of k) (room_of k) k.number a reply)
-    moved_attempt others occasion a reply is sees tells =
+    moved_attempt others occasion a reply is tells =
         let after : AttemptState = attempt_next k.places (bits_of k) (room_of k) k.number a reply in
         let asks : AttemptAsks k.places (bits_of k) (room_of k) buckets asked' task (askers others) occasion after =
-        attempt_asks k.places (bits_of k) (room_of k) buckets asked task asked' (askers others) occasion k.number a reply is.asks sees (attempt_told asked task a a.step reply asked' tells) in
+        attempt_asks k.places (bits_of k) (room_of k) buckets asked task asked' (askers others) occasion k.number a reply is.asks (attempt_told asked task a a.step reply asked' tells) in
         let few : askers others + (asker (asks_on a a.step) + asker a.is_orphaned) ≤ asked_count asked = is.asks.few in
         let few_then : askers others + (asker (asks_on after after.step) + asker after.is_orphaned) ≤ asked_count asked' = asks.few in
         record {
@@ -329,25 +333,25 @@ module _ (k : Seat) (buckets : HasItsBuckets k) where
     clear_asks s (mailing.Ended mail.Occupied) at same waits orphan clears goes tells = polls_asks asked' task s 0 (then_await s.requests s.is_orphaned tells waits)
     clear_asks s next at same waits orphan clears goes tells = clears_still s next at same (then_await s.requests s.is_orphaned tells waits) orphan (goes refl)
 
-    row_asks : (s : SessionState) (asks : ℕ) (step : Sitting) (reply : ℕ) → s.step ≡ step → SitsAsking asked task s step → SitsResting s step → Told asked task (sitting_mailing s step) reply asked'
+    row_asks : (s : SessionState) (asks : ℕ) (step : Sitting) (reply : ℕ) → s.step ≡ step → SitsAsking asked task s step → Told asked task (sitting_mailing s step) reply asked'
         → SessionAsks asked' task (sitting_next k (record s { asks = asks; effect = None }) step reply)
     unfolding sitting_next
-    row_asks s asks (Idle its) reply at waits rests tells = still asked' task (record s { asks = asks; effect = None }) (Idle its) at (then_await s.requests s.is_orphaned tells waits)
-    row_asks s asks (Attempts has_shifted) reply at is rests tells =
-        called_asks asked' task (attempt_moved k (record s { asks = asks; effect = None }) reply) has_shifted _ at (moved_attempt s.requests AtCall s.attempt reply is rests tells) refl
-    row_asks s asks (CatchesUp cause) reply at waits rests tells =
+    row_asks s asks (Idle its) reply at waits tells = still asked' task (record s { asks = asks; effect = None }) (Idle its) at (then_await s.requests s.is_orphaned tells waits)
+    row_asks s asks (Attempts has_shifted) reply at is tells =
+        called_asks asked' task (attempt_moved k (record s { asks = asks; effect = None }) reply) has_shifted _ at (moved_attempt s.requests AtCall s.attempt reply is tells) refl
+    row_asks s asks (CatchesUp cause) reply at waits tells =
         catch_asks asked' task (caught k (record s { asks = asks; effect = None }) reply) cause _ at (caught_await asked' task s.catching s.requests s.is_orphaned s.catching.step reply (then_await s.requests s.is_orphaned tells waits))
-    row_asks s asks ClearsMail reply at sits rests tells =
+    row_asks s asks ClearsMail reply at sits tells =
         clear_asks (record s { asks = asks; effect = None; mailing = mail_next s.mailing reply }) (mail_next s.mailing reply) at refl sits.0 sits.1 (tells.task Clear sits.2) (tells.goes Clear sits.2) tells.tells
-    row_asks s asks (Polls index) reply at is rests tells =
-        poll_asks asked' task (attempt_moved k (record s { asks = asks; effect = None }) reply) index _ at (moved_attempt (remove s.requests index) AtPoll s.attempt reply is rests tells) refl
-    row_asks s asks (StoresOwing index) reply at waits rests tells = polls_asks asked' task (record s { asks = asks; effect = None }) index (then_await s.requests s.is_orphaned tells waits)
-    row_asks s asks (Turns its) reply at waits rests tells =
+    row_asks s asks (Polls index) reply at is tells =
+        poll_asks asked' task (attempt_moved k (record s { asks = asks; effect = None }) reply) index _ at (moved_attempt (remove s.requests index) AtPoll s.attempt reply is tells) refl
+    row_asks s asks (StoresOwing index) reply at waits tells = polls_asks asked' task (record s { asks = asks; effect = None }) index (then_await s.requests s.is_orphaned tells waits)
+    row_asks s asks (Turns its) reply at waits tells =
         turned_asks asked' task (own_turn_moved k (record s { asks = asks; effect = None }) reply) its _ at (then_await s.requests s.is_orphaned tells waits)
-    row_asks s asks StoresCut reply at waits rests tells = then_await s.requests s.is_orphaned tells waits
-    row_asks s asks Leaves reply at waits rests tells =
+    row_asks s asks StoresCut reply at waits tells = then_await s.requests s.is_orphaned tells waits
+    row_asks s asks Leaves reply at waits tells =
         left_asks asked' task (record s { asks = asks; effect = None; leaving = leave_next s.leaving }) (leave_ask k.number (leave_next s.leaving)) at (then_await s.requests s.is_orphaned tells waits)
-    row_asks s asks LoadsDurable reply at waits rests tells = then_await s.requests s.is_orphaned tells waits
+    row_asks s asks LoadsDurable reply at waits tells = then_await s.requests s.is_orphaned tells waits
 
-    pub next_asks : (s : SessionState) (reply : ℕ) → SessionAsks asked task s → SitsResting s s.step → Told asked task (session_mailing s) reply asked' → SessionAsks asked' task (session_next k s reply)
-    next_asks s reply sits rests tells = row_asks s (asks_after s.asks (is_word_ask (session_ask k s))) s.step reply refl sits rests tells
+    pub next_asks : (s : SessionState) (reply : ℕ) → SessionAsks asked task s → Told asked task (session_mailing s) reply asked' → SessionAsks asked' task (session_next k s reply)
+    next_asks s reply sits tells = row_asks s (asks_after s.asks (is_word_ask (session_ask k s))) s.step reply refl sits tells

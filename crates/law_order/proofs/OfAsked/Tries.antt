@@ -1,5 +1,5 @@
--- How a try ends that is for what a session has seen outside prepare, and that none asks for a slot.
-use Rattle.std.proofs.Common.{◌≡◌, ℕ, ◌^◌, ◌∙◌, refl, sym, ap, Bool, true, false, List, ◌∷◌}
+-- How a try ends, and that none asks for a slot.
+use Rattle.std.proofs.Common.{◌≡◌, ℕ, ◌^◌, ◌∙◌, sym, ap, refl, Bool, true, false, List, ◌∷◌}
 use Rattle.std.specs.Prelude.{⊤}
 use Rattle.fkv_plane.specs.declared.asks.Ask.{Ask}
 use Rattle.fkv_plane.specs.declared.asks.Ask.TheVariants.{Put, Take, Done}
@@ -13,7 +13,7 @@ use Rattle.fkv_ops.specs.declared.requests.Request.{Request}
 use Rattle.fkv_ops.specs.declared.requests.Seen.{Seen}
 use Rattle.fkv_ops.specs.EachAsk.{AskIsSo}
 use Rattle.fkv_ops.specs.Reasons.{IsTrue}
-use Rattle.fkv_ops.specs.Trying.{TryState, is_prepare, try_ask, try_next}
+use Rattle.fkv_ops.specs.Trying.{TryState, try_ask, try_next}
 use Rattle.fkv_ops.specs.TryRun.{Trial, Told, told_by, trial_begun, try_run}
 use Rattle.fkv_ops.proofs.Shown.{each_ask, each_is_true}
 use Rattle.fkv_pending.specs.declared.mailing.Mailing.{Mailing}
@@ -43,19 +43,14 @@ ask_slot c told ask reply effect so = refl
 
 -- how it may end
 abbrev pub TryEndsSo : Occasion → TryAnswer → Type 0
-TryEndsSo occasion answer.Shift = ⊥
 TryEndsSo occasion answer.IndexFull = occasion ≡ Call
 TryEndsSo occasion answer.LogFull = occasion ≡ Call
 TryEndsSo occasion its = ⊤
 
-not_prepare : {A : Type 0} (c : Bool) → c ≡ true → c ≡ false → A
-not_prepare c one other = cc
-
-true_ends : (c : Trial) (told : Told) (its : TryAnswer) → is_prepare c.seen.phase ≡ false → IsTrue c told its → TryEndsSo c.occasion its
-true_ends c told answer.Shift none so = not_prepare (is_prepare c.seen.phase) so.in_prepare none
-true_ends c told answer.IndexFull none so = so.0
-true_ends c told answer.LogFull none so = so.0
-true_ends c told its none so = tt
+true_ends : (c : Trial) (told : Told) (its : TryAnswer) → IsTrue c told its → TryEndsSo c.occasion its
+true_ends c told answer.IndexFull so = so.0
+true_ends c told answer.LogFull so = so.0
+true_ends c told its so = tt
 
 module _ (p : Places) (bits room : ℕ) (buckets : p.buckets ≡ 2 ^ bits) where
   abbrev pub trial_of : Request → Seen → Occasion → Trial
@@ -71,10 +66,10 @@ module _ (p : Places) (bits room : ℕ) (buckets : p.buckets ≡ 2 ^ bits) where
   pub next_run : (seen : Seen) (occasion : Occasion) (t : TryState) (reply : ℕ) → IsTryRun seen occasion t → IsTryRun seen occasion (try_next p room t reply)
   next_run seen occasion t reply its = record { request = its.request; spare = its.spare; replies = reply ∷ its.replies; run = ap (λ (x : TryState). try_next p room x reply) its.run }
 
-  pub run_ends : (seen : Seen) (occasion : Occasion) (t : TryState) (its : TryAnswer) → IsTryRun seen occasion t → is_prepare seen.phase ≡ false → try_ask p t ≡ Done its → TryEndsSo occasion its
-  run_ends seen occasion t its is none ends =
+  pub run_ends : (seen : Seen) (occasion : Occasion) (t : TryState) (its : TryAnswer) → IsTryRun seen occasion t → try_ask p t ≡ Done its → TryEndsSo occasion its
+  run_ends seen occasion t its is ends =
       let c : Trial = trial_of is.request seen occasion in
-      true_ends c (told_by c (trial_begun c is.spare) is.replies) its none (each_is_true c is.spare is.replies its (ap (try_ask p) (sym is.run) ∙ ends))
+      true_ends c (told_by c (trial_begun c is.spare) is.replies) its (each_is_true c is.spare is.replies its (ap (try_ask p) (sym is.run) ∙ ends))
 
   pub run_slot : (seen : Seen) (occasion : Occasion) (t : TryState) → IsTryRun seen occasion t → is_slot (try_ask p t) ≡ false
   run_slot seen occasion t is =

@@ -34,7 +34,6 @@ use Rattle.law_order.specs.Known.Told.{LookTruly, reply_in}
 use Rattle.law_parts.specs.Mail.Reads.{ReadSince, mail_notes}
 use Rattle.law_parts.specs.Mail.Shows as mail
 use Rattle.law_refine.specs.Events.GhostEvents.{life_ghosts, mapped}
-use Rattle.law_order.specs.Rest.Resting.{HasNoCommit}
 use Rattle.law_order.specs.Served.Served.{ServedShow}
 use Rattle.law_order.proofs.OfServed.Later.{life_enabled_before}
 use Rattle.law_changes.proofs.OfSessions.Attempting.{attempt_reply}
@@ -78,10 +77,6 @@ unfolding AreKnown
 known_before opening ghosts [] earlier known = known
 known_before opening ghosts (event ∷ later) earlier known = known_before opening ghosts later earlier known.0
 
-none_before : (later earlier : List Event) → HasNoCommit (later ++ earlier) → HasNoCommit earlier
-none_before [] earlier none = none
-none_before (event ∷ later) earlier none = none_before later earlier none.1
-
 -- attempts look for what was asked for
 abbrev pub LooksLaw : World → List Event → Type 0
 LooksLaw opening events =
@@ -89,7 +84,7 @@ LooksLaw opening events =
 
 -- in a life of a store that was opened
 module _ (life : BegunLife) (events : List Event)
-    (none : HasNoCommit events) (enabled : AreEnabled (home_of_world life.opening) life.ghosts (mapped life.opening events)) (known : AreKnown life.opening life.ghosts events) (served : ServedShow life.opening life.ghosts events)
+    (enabled : AreEnabled (home_of_world life.opening) life.ghosts (mapped life.opening events)) (known : AreKnown life.opening life.ghosts events) (served : ServedShow life.opening life.ghosts events)
     (looks_for : LooksLaw life.opening events) (law : AsksLaw life.opening) where
   abbrev n : Now
   n = (run life.opening events).now
@@ -105,8 +100,7 @@ module _ (life : BegunLife) (events : List Event)
       let cut : events ≡ later ++ read.earlier = read.cut ∙ sym (append_assoc read.later (read.event ∷ []) read.earlier) in
       let enabled_then = life_enabled_before life.opening life.ghosts later read.earlier (subst (λ (es : List Event). AreEnabled (home_of_world life.opening) life.ghosts (mapped life.opening es)) cut enabled) in
       let known_then = known_before life.opening life.ghosts later read.earlier (subst (AreKnown life.opening life.ghosts) cut known) in
-      let none_then = none_before later read.earlier (subst HasNoCommit cut none) in
-      let there : IsThere life.opening life.ghosts read.earlier addr.0 = asked_there life law read.earlier session addr opened none_then enabled_then known_then (asked_last read.since) in
+      let there : IsThere life.opening life.ghosts read.earlier addr.0 = asked_there life law read.earlier session addr opened enabled_then known_then (asked_last read.since) in
       served session addr its read.earlier later there.cell cut read.gives there.published there.flushed
 
   -- what is loaded for the record that is sought is that one

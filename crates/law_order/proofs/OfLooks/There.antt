@@ -32,7 +32,6 @@ use Rattle.law_parts.specs.Mail.Reads.{mail_notes, mail_past}
 use Rattle.law_parts.specs.Mail.Shows as mail_shows
 use Rattle.law_refine.specs.Events.GhostEvents.{life_ghosts, mapped}
 use Rattle.law_refine.proofs.OfEvents.Fixed.{life_rises}
-use Rattle.law_order.specs.Rest.Resting.{HasNoCommit}
 use Rattle.law_order.proofs.OfServed.Device.{flushed_fixed}
 use Rattle.law_order.proofs.OfServed.Later.{life_enabled_before, life_stays}
 use Rattle.law_changes.proofs.OfSessions.Attempting.{attempting_is}
@@ -69,7 +68,7 @@ same_put one other same = cc
 -- where a session is about to say that it asks, its task is to put the address of the record that it seeks
 abbrev pub AsksLaw : World → Type 0
 AsksLaw opening =
-    (events : List Event) → HasNoCommit events → (session : ℕ) (s : SessionState) → slice_get (run opening events).now.sessions session ≡ Some s → is_attempting s.step ≡ true
+    (events : List Event) → (session : ℕ) (s : SessionState) → slice_get (run opening events).now.sessions session ≡ Some s → is_attempting s.step ≡ true
     → AsksForSought (mail_past opening session events).task s.attempt s.attempt.step
 
 -- in a life of a store that was opened
@@ -108,27 +107,27 @@ module _ (life : BegunLife) where
       record { cell = its.0; published = its.1; flushed = lower it.addr.0 s.seen.offsets.head.0 _ below head }
 
   -- so is what a session is about to ask for
-  about_there : AsksLaw life.opening → (before : List Event) (session : ℕ) (addr : Addr) → HasNoCommit before → Enabled before
+  about_there : AsksLaw life.opening → (before : List Event) (session : ℕ) (addr : Addr) → Enabled before
       → AreKnown life.opening life.ghosts before → IsAboutToAsk life.opening session before addr → IsThere life.opening life.ghosts before addr.0
-  about_there law before session addr none enabled known about =
+  about_there law before session addr enabled known about =
       let s : SessionState = about.asker in
       let task : Option MailTask = (mail_past life.opening session before).task in
       let puts = asks_by_put s (life_mails life.opening life.start before session s life.begins.world life.begins.store.now about.there) about.under_way in
       let knows : AttemptKnows (home_of_world life.opening) (log_behind before) s.attempt = (known_now life.opening life.ghosts before known session s about.there).attempted puts.attempts in
       let row : PutsSought s.attempt.pending.sought s.attempt.mailing = subst (AttemptRow (home_of_world life.opening) (log_behind before) s.attempt) puts.puts knows.row in
       let seeks = sought_of s.attempt.pending.sought s.attempt.mailing row in
-      let its_task : AsksForSought task s.attempt Puts = subst (AsksForSought task s.attempt) puts.puts (law before none session s about.there puts.attempts) in
+      let its_task : AsksForSought task s.attempt Puts = subst (AsksForSought task s.attempt) puts.puts (law before session s about.there puts.attempts) in
       let same : Put seeks.0.addr ≡ Put addr = some_same (Put seeks.0.addr) (Put addr) (sym (its_task puts.stores seeks.0 seeks.1) ∙ about.its_task) in
       subst (λ (at : Addr). IsThere life.opening life.ghosts before at.0) (same_put seeks.0.addr addr same) (sought_there before session s seeks.0 enabled known about.there puts.attempts seeks.1)
 
   -- and what is asked for
-  pub asked_there : AsksLaw life.opening → (events : List Event) (session : ℕ) (addr : Addr) → mail_shows.IsOpened life.opening.now session → HasNoCommit events → Enabled events → AreKnown life.opening life.ghosts events
+  pub asked_there : AsksLaw life.opening → (events : List Event) (session : ℕ) (addr : Addr) → mail_shows.IsOpened life.opening.now session → Enabled events → AreKnown life.opening life.ghosts events
       → outstanding (mail_notes life.opening session events) ≡ Some addr → IsThere life.opening life.ghosts events addr.0
   unfolding AreKnown mail.mapped past_of outstanding
-  asked_there law [] session addr opened none enabled known e = none_some addr e
-  asked_there law (event ∷ before) session addr opened none enabled known e =
+  asked_there law [] session addr opened enabled known e = none_some addr e
+  asked_there law (event ∷ before) session addr opened enabled known e =
       let enabled_before : Enabled before = life_enabled_before life.opening life.ghosts (event ∷ []) before enabled in
       elim (was_or_comes life.opening session opened event before addr e) [
-        | inl was ↦ there_stays event before addr.0 enabled (asked_there law before session addr opened none.1 enabled_before known.0 was)
-        | inr about ↦ there_stays event before addr.0 enabled (about_there law before session addr none.1 enabled_before known.0 about)
+        | inl was ↦ there_stays event before addr.0 enabled (asked_there law before session addr opened enabled_before known.0 was)
+        | inr about ↦ there_stays event before addr.0 enabled (about_there law before session addr enabled_before known.0 about)
       ]

@@ -52,11 +52,11 @@ module _ (calls : CallsLaw) (words : WordsLaw) (life : BegunLife) (cells : Cells
   H = home_of_world life.opening
 
   -- What the words of the store tell sessions is true: so is what they load from their mailboxes, which the device has given as the log has it.
-  told_truly : (before : List Event) → HasNoCommit before → CallsFit before → KeepsOrder life.opening life.ghosts before → AreToldTruly H (life_ghosts life.opening life.ghosts before).log (run life.opening before).now
-  told_truly before none fits its =
+  told_truly : (before : List Event) → CallsFit before → KeepsOrder life.opening life.ghosts before → AreToldTruly H (life_ghosts life.opening life.ghosts before).log (run life.opening before).now
+  told_truly before fits its =
       let served : ServedShow life.opening life.ghosts before = served_show calls words life before cells fits its.enabled its.published in
       words_true life before its.enabled its.published its.known
-      (looks_true life before none its.enabled its.published its.known served)
+      (looks_true life before its.enabled its.published its.known served)
 
   -- All that the event is to the log is enabled: what its session does there, and the lines that it tells. After a crash it is nothing.
   event_enabled : (before : List Event) (event : Event) → HasNoCommit (event ∷ before) → TicketsAreApart life.opening (event ∷ before) → KeepsOrder life.opening life.ghosts before
@@ -77,7 +77,7 @@ module _ (calls : CallsLaw) (words : WordsLaw) (life : BegunLife) (cells : Cells
   pub goes_on : (before : List Event) (event : Event) → HasNoCommit (event ∷ before) → CallsFit (event ∷ before) → TicketsAreApart life.opening (event ∷ before) → KeepsOrder life.opening life.ghosts before
       → KeepsOrder life.opening life.ghosts (event ∷ before)
   goes_on before event none fits apart its =
-      let truly : AreToldTruly H (life_ghosts life.opening life.ghosts before).log (run life.opening before).now = told_truly before none.1 fits.1 its in
+      let truly : AreToldTruly H (life_ghosts life.opening life.ghosts before).log (run life.opening before).now = told_truly before fits.1 its in
       let published : AreChangesPublished life.opening life.ghosts (event ∷ before) = (changes_published life before event its.known, its.published) in
       let enabled : AreEnabled H life.ghosts (mapped life.opening (event ∷ before)) = event_enabled before event none apart its truly published in
       record {

@@ -1,6 +1,5 @@
--- What is shown of the mailboxes of a life that rests in a version.
+-- What is shown of the mailboxes of a life.
 use Rattle.std.specs.Prelude.{◌≡◌, ℕ, List, Some, slice_get, true}
-use Rattle.fkv_base.specs.declared.numbers.Version.{Version}
 use Rattle.fkv_session.specs.Sessions.{SessionState}
 use Rattle.law_local.specs.Sessions.Known.{is_attempting}
 use Rattle.fkv_world.specs.Runs.{World, run}
@@ -9,28 +8,27 @@ use Rattle.law_order.specs.Asked.Asked.{AsksForSought, HaveAskedSought, LooksFor
 use Rattle.law_guard.specs.Guarded.Shows as guard
 use Rattle.law_parts.specs.Mail.Reads.{mail_notes, mail_past}
 use Rattle.law_parts.specs.Mail.Shows.{IsOpened}
-use Rattle.law_order.specs.Rest.Resting.{HasNoCommit, RestsIn}
 
 -- an attempt that looks into the mailbox looks for what was asked for there last
 abbrev pub LooksForWhatIsAsked : Type 0
 LooksForWhatIsAsked =
-    (opening : World) (start : ℕ) (version : Version) (session : ℕ) (events : List Event) (s : SessionState)
-    → IsOpened opening.now session → guard.IsOpened opening.now start → RestsIn version opening.now → HasNoCommit events
+    (opening : World) (start : ℕ) (session : ℕ) (events : List Event) (s : SessionState)
+    → IsOpened opening.now session → guard.IsOpened opening.now start
     → slice_get (run opening events).now.sessions session ≡ Some s → is_attempting s.step ≡ true
     → LooksForAsked (mail_notes opening session events) s.attempt s.attempt.step
 
 -- one that is about to say that it asks has put the address there that it seeks
 abbrev pub AsksForWhatIsSought : Type 0
 AsksForWhatIsSought =
-    (opening : World) (start : ℕ) (version : Version) (session : ℕ) (events : List Event) (s : SessionState)
-    → IsOpened opening.now session → guard.IsOpened opening.now start → RestsIn version opening.now → HasNoCommit events
+    (opening : World) (start : ℕ) (session : ℕ) (events : List Event) (s : SessionState)
+    → IsOpened opening.now session → guard.IsOpened opening.now start
     → slice_get (run opening events).now.sessions session ≡ Some s → is_attempting s.step ≡ true
     → AsksForSought (mail_past opening session events).task s.attempt s.attempt.step
 
 -- each request that has asked seeks the record that is asked for
 abbrev pub SeeksWhatIsAsked : Type 0
 SeeksWhatIsAsked =
-    (opening : World) (start : ℕ) (version : Version) (session : ℕ) (events : List Event) (s : SessionState)
-    → IsOpened opening.now session → guard.IsOpened opening.now start → RestsIn version opening.now → HasNoCommit events
+    (opening : World) (start : ℕ) (session : ℕ) (events : List Event) (s : SessionState)
+    → IsOpened opening.now session → guard.IsOpened opening.now start
     → slice_get (run opening events).now.sessions session ≡ Some s
     → HaveAskedSought (mail_notes opening session events) s

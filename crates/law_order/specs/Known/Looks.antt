@@ -8,12 +8,11 @@ use Rattle.law_order.specs.Known.Knows.{AreKnown}
 use Rattle.law_order.specs.Known.Told.{LookTruly}
 use Rattle.law_refine.specs.Events.GhostEvents.{life_ghosts, mapped}
 use Rattle.law_refine.specs.Records.Changes.{AreChangesPublished}
-use Rattle.law_order.specs.Rest.Resting.{HasNoCommit}
 use Rattle.law_order.specs.Served.Served.{ServedShow}
 
 -- what an attempt loads from its mailbox is true of the log
 abbrev pub LooksAreTrue : Type 0
 LooksAreTrue =
-    (life : BegunLife) (before : List Event) → HasNoCommit before → AreEnabled (home_of_world life.opening) life.ghosts (mapped life.opening before)
+    (life : BegunLife) (before : List Event) → AreEnabled (home_of_world life.opening) life.ghosts (mapped life.opening before)
     → AreChangesPublished life.opening life.ghosts before → AreKnown life.opening life.ghosts before → ServedShow life.opening life.ghosts before
     → LookTruly (life_ghosts life.opening life.ghosts before).log (run life.opening before).now

@@ -1,0 +1,8 @@
+pub mod Attempts
+pub mod Links
+pub mod Raises
+pub mod Sessions
+mod Tests
+pub mod Stays
+pub mod Tries
+pub mod Walks

@@ -1,0 +1,26 @@
+-- What the sessions of a life know of versions.
+use Rattle.std.specs.Prelude.{◌≡◌, ℕ, List, Some, slice_get}
+use Rattle.fkv_session.specs.Sessions.{SessionState}
+use Rattle.fkv_world.specs.Runs.{World, run}
+use Rattle.fkv_world.specs.World.{Event}
+use Rattle.law_apart.specs.Apart.Rows.{SessionApart}
+use Rattle.law_commit.specs.PhaseVersions.{phase_version}
+use Rattle.law_commit.specs.Quiet.{OpensQuiet}
+use Rattle.law_commit.specs.Versions.Cells.{CellsUpto}
+use Rattle.law_log.specs.Ghosts.{Ghosts}
+use Rattle.law_order.specs.Known.Begins.{BegunLife, home_of_world}
+use Rattle.law_parts.specs.Latches.Shows as latches
+use Rattle.law_refine.specs.Events.GhostEvents.{life_ghosts}
+
+-- each session keeps its updates apart from those of other versions
+abbrev pub AllApartBehind : World → Ghosts → List Event → Type 0
+AllApartBehind opening ghosts events =
+    (session : ℕ) (s : SessionState) → slice_get (run opening events).now.sessions session ≡ Some s
+    → SessionApart (home_of_world opening) (run opening events).now.places (life_ghosts opening ghosts events).log s
+
+-- What a life begins with besides: its sessions have seen that it rests, no latch is held, and no record of its log is of a later version than its phase
+-- word's.
+pub record OpensApart (life : BegunLife) : Type 0 where
+  pub quiet : OpensQuiet life.opening life.start
+  pub latches : latches.IsOpened life.opening.now
+  pub upto : CellsUpto (phase_version life.opening.now.words) life.ghosts.log
