@@ -101,13 +101,13 @@ fn claims_of(alloc: Global, lines: &[Line]) -> Result<BTreeMap<Key, Claim>, Faul
     let mut claims = BTreeMap::new(alloc);
     for line in lines {
         if let Line::Call(session, Call::Op(op)) = *line {
-            claim(&mut claims, session, op)?;
+            add_claim(&mut claims, session, op)?;
         }
     }
     Ok(claims)
 }
 
-fn claim(claims: &mut BTreeMap<Key, Claim>, session: u64, op: Op) -> Result<(), Fault> {
+fn add_claim(claims: &mut BTreeMap<Key, Claim>, session: u64, op: Op) -> Result<(), Fault> {
     let added = match op {
         Op::Read(_) => return Ok(()),
         Op::Add(_, n) => Some(n),
