@@ -3,7 +3,7 @@ use fkv_base::{Fault, Key, Serial, Value, Version};
 use fkv_keeper::Finished;
 use fkv_map::{Op, PlainMap};
 use fkv_opening::Opened;
-use fkv_threading::Log;
+use fkv_thread_scripts::Log;
 use std::alloc::Global;
 use thiserror::Error;
 

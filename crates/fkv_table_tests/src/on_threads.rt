@@ -1,5 +1,6 @@
 //! Scripts whose sessions run on threads of their own.
-use fkv_threading::{Gate, Open, run_threads, threads_script_of};
+use fkv_thread_scripts::threads_script_of;
+use fkv_threading::{Gate, run_threads};
 use std::alloc::Global;
 use std::io::Cursor;
 use std::rt::Clock;

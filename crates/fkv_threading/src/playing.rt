@@ -5,7 +5,7 @@ ghost use Rattle.fkv_opening.specs.Opened.{IsStoreOf};
 use crate::gates::Gate;
 use crate::keepers::{KeeperEnd, play_keeper};
 use crate::keeping::Keeping;
-use crate::logs::Log;
+use fkv_thread_scripts::Log;
 use crate::progress::Progress;
 use crate::sessions::play_session;
 use crate::sitting::Sitting;

@@ -1,7 +1,7 @@
 //! A script on threads, from the line that makes its store to its report.
 use crate::gates::Gate;
 use crate::playing::{Played, play};
-use crate::reports::{Report, report_of, write_threads_report};
+use fkv_thread_scripts::{Report, report_of, write_threads_report};
 use fkv_base::{Fault, Shape};
 use fkv_creating::create_opened;
 use fkv_disk::{Fuse, MemDisk};

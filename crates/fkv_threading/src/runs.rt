@@ -1,8 +1,8 @@
 //! Runs of the program whose words ask for threads.
 use crate::gates::Open;
-use crate::options::Asked;
+use fkv_thread_scripts::Asked;
 use crate::programs::run_threads;
-use crate::scripts::threads_script_of;
+use fkv_thread_scripts::threads_script_of;
 use fkv_base::{Fault, ScriptFault};
 use fkv_runs::write_text;
 use std::alloc::Global;

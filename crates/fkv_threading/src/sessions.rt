@@ -1,6 +1,6 @@
 //! A session's thread.
 use crate::gates::Gate;
-use crate::logs::Log;
+use fkv_thread_scripts::Log;
 use crate::progress::Progress;
 use crate::sitting::Sitting;
 use fkv_base::{Fault, Serial};

@@ -18,7 +18,7 @@ pub struct Log {
 }
 
 impl Log {
-    pub(crate) fn new(alloc: Global, point: Serial) -> Log {
+    pub fn new(alloc: Global, point: Serial) -> Log {
         Log {
             first: point.0,
             accepted: Vec::new(alloc),
@@ -28,7 +28,7 @@ impl Log {
     }
 
     /// Notes the answer to a call. `Memory` where memory was refused.
-    pub(crate) fn note(&mut self, call: Call, answer: &Answer) -> Result<(), Fault> {
+    pub fn note(&mut self, call: Call, answer: &Answer) -> Result<(), Fault> {
         match answer {
             Answer::Done(serial, _) => {
                 self.accept(call)?;
