@@ -32,7 +32,9 @@ impl Report {
     /// Whether nothing differs.
     pub fn agrees(&self) -> bool {
         let Report {
-            points_agree, keys, ..
+            points_agree,
+            keys,
+            ..
         } = self;
         match *keys {
             Keys::Agree(_) => *points_agree,

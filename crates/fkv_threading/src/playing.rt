@@ -1,11 +1,13 @@
 //! A store that threads share, from its opening until they have all ended.
 ghost use Rattle.fkv_disk.specs.Device.{LeavesOnly};
 ghost use Rattle.fkv_opening.specs.Opened.{IsStoreOf};
+ghost use Rattle.fkv_table.specs.Planes.{opening_of};
+ghost use Rattle.fkv_table.specs.Starts.{EachAt};
+ghost use Rattle.fkv_threads.specs.Begun.{HasBegun};
 
 use crate::gates::Gate;
 use crate::keepers::{KeeperEnd, play_keeper};
 use crate::keeping::Keeping;
-use fkv_thread_scripts::Log;
 use crate::progress::Progress;
 use crate::sessions::play_session;
 use crate::sitting::Sitting;
@@ -14,6 +16,7 @@ use fkv_disk::Device;
 use fkv_lines::Line;
 use fkv_opening::Opened;
 use fkv_table::{OpenTable, Pass, Session, Table};
+use fkv_thread_scripts::Log;
 use fkv_threads::{close, open};
 use std::alloc::Global;
 use std::sync::Wait;
@@ -52,26 +55,19 @@ pub fn play<D: Device + Drop + Send, G: Gate + Sync, R: Threads + Wait + Sync>(
         pass,
         device,
     } = open(alloc, opened, device)?;
-    let played = over_table(
-        rt,
-        alloc,
-        &table,
-        sessions,
-        Keeping {
-            table: &table,
-            keeper,
-            pass,
-            device,
-        },
-        points.as_slice(),
-        lines,
-        gate,
-    );
+    let keeping = Keeping {
+        table: &table,
+        keeper,
+        pass,
+        device,
+    };
+    let played = play_over(rt, alloc, &table, sessions, keeping, &points, lines, gate);
     close(table);
     played
 }
 
-fn over_table<'t, D: Device + Drop + Send, G: Gate + Sync, R: Threads + Wait + Sync>(
+/// The same over a table.
+fn play_over<'t, D: Device + Drop + Send, G: Gate + Sync, R: Threads + Wait + Sync>(
     rt: &R,
     alloc: Global,
     table: &'t Table<D>,
@@ -80,26 +76,52 @@ fn over_table<'t, D: Device + Drop + Send, G: Gate + Sync, R: Threads + Wait + S
     points: &[Serial],
     lines: &[Line],
     gate: &G,
+) -> Result<Played<D>, Fault>
+    requires ready { EachAt sessions.items (λ i x. HasBegun (opening_of D.seen) table.now.table.shared.key table.now.table.shared.table_id i x.0.machine x.0.desk x.1.seat.table_id x.1.seat.me) }
+{
+    let seats = seated(alloc, table, sessions)?;
+    play_seats(rt, alloc, seats, keeping, points, lines, gate)
+}
+
+/// Each session with its pass, at the table.
+fn seated<'t, D: Device>(
+    alloc: Global,
+    table: &'t Table<D>,
+    sessions: Vec<(Session, Pass<D>)>,
+) -> Result<Vec<Sitting<'t, D>>, Fault>
+    requires ready { EachAt sessions.items (λ i x. HasBegun (opening_of D.seen) table.now.table.shared.key table.now.table.shared.table_id i x.0.machine x.0.desk x.1.seat.table_id x.1.seat.me) }
+{
+    let mut seats = Vec::new(alloc);
+    for (session, pass) in sessions {
+        seats.push(Sitting {
+            table,
+            session,
+            pass,
+        })?;
+    }
+    Ok(seats)
+}
+
+/// Plays lines by these sessions and the keeper, from their points on.
+fn play_seats<'t, D: Device + Drop + Send, G: Gate + Sync, R: Threads + Wait + Sync>(
+    rt: &R,
+    alloc: Global,
+    seats: Vec<Sitting<'t, D>>,
+    keeping: Keeping<'t, D>,
+    points: &[Serial],
+    lines: &[Line],
+    gate: &G,
 ) -> Result<Played<D>, Fault> {
-    let count = sessions.len() as u64;
+    let count = seats.len() as u64;
     let progress = Progress::new();
     let shared = &progress;
     thread::scope(thread::scope_env(), rt, |scope| {
         let mut handles: Vec<JoinHandle<Result<Log, Fault>>> = Vec::new(alloc);
-        let mut number = 0;
-        for (session, pass) in sessions {
-            let seat = Sitting {
-                table,
-                session,
-                pass,
-            };
-            let its = number;
-            let point = match points.get(its) {
-                Some(point) => *point,
-                None => Serial(0),
-            };
+        for seat in seats {
+            let number = handles.len();
+            let point = point_of(points, number);
             let spawned = scope.spawn(move || {
-                play_session(rt, alloc, shared, gate, lines, its, point, seat)
+                play_session(rt, alloc, shared, gate, lines, number, point, seat)
             });
             let Ok(handle) = spawned else {
                 shared.stop();
@@ -109,7 +131,6 @@ fn over_table<'t, D: Device + Drop + Send, G: Gate + Sync, R: Threads + Wait + S
                 shared.stop();
                 return Err(Fault::Memory);
             }
-            number += 1;
         }
         let keeper = play_keeper(rt, shared, lines, count, keeping);
         let mut logs = Vec::new(alloc);
@@ -118,4 +139,12 @@ fn over_table<'t, D: Device + Drop + Send, G: Gate + Sync, R: Threads + Wait + S
         }
         Ok(Played { logs, keeper })
     })
+}
+
+/// The point of the session of this number.
+fn point_of(points: &[Serial], number: usize) -> Serial {
+    match points.get(number) {
+        Some(point) => *point,
+        None => Serial(0),
+    }
 }

@@ -1,7 +1,6 @@
 //! A script on threads, from the line that makes its store to its report.
 use crate::gates::Gate;
 use crate::playing::{Played, play};
-use fkv_thread_scripts::{Report, report_of, write_threads_report};
 use fkv_base::{Fault, Shape};
 use fkv_creating::create_opened;
 use fkv_disk::{Fuse, MemDisk};
@@ -10,6 +9,7 @@ use fkv_opening::recover;
 use fkv_pairs::content;
 use fkv_runs::write_text;
 use fkv_texts::write_refusal;
+use fkv_thread_scripts::{Report, report_of, write_threads_report};
 use std::alloc::Global;
 use std::io::{self, Write};
 use std::sync::Wait;

@@ -1,10 +1,9 @@
 //! Runs of the program whose words ask for threads.
 use crate::gates::Open;
-use fkv_thread_scripts::Asked;
 use crate::programs::run_threads;
-use fkv_thread_scripts::threads_script_of;
 use fkv_base::{Fault, ScriptFault};
 use fkv_runs::write_text;
+use fkv_thread_scripts::{Asked, threads_script_of};
 use std::alloc::Global;
 use std::fmt;
 use std::io::{self, Cursor, Read, Write};
@@ -74,7 +73,11 @@ fn run_bytes<R: Threads + Wait + Sync, I: Read + Drop, W: Write, E: Write>(
     let mut bytes = Vec::new(alloc);
     if let Err(error) = input.take(SCRIPT_LIMIT).read_to_end(&mut bytes) {
         complain(complaints, &"standard input could not be read");
-        return if error.kind() == io::ErrorKind::OutOfMemory { Err(error) } else { Ok(4) };
+        return if error.kind() == io::ErrorKind::OutOfMemory {
+            Err(error)
+        } else {
+            Ok(4)
+        };
     }
     match threads_script_of(alloc, &bytes) {
         Ok(script) => {
@@ -125,10 +128,7 @@ fn complain_of_status<E: Write>(complaints: &mut E, status: u8) {
             &"a point or a key differs from what the threads were told",
         ),
         2 => complain(complaints, &"a size is outside its limits"),
-        3 => complain(
-            complaints,
-            &"a store or a turn of the keeper was refused",
-        ),
+        3 => complain(complaints, &"a store or a turn of the keeper was refused"),
         _ => {}
     }
 }

@@ -1,6 +1,5 @@
 //! A session's thread.
 use crate::gates::Gate;
-use fkv_thread_scripts::Log;
 use crate::progress::Progress;
 use crate::sitting::Sitting;
 use fkv_base::{Fault, Serial};
@@ -8,6 +7,7 @@ use fkv_disk::Device;
 use fkv_lines::Line;
 use fkv_map::Call;
 use fkv_session::Answer;
+use fkv_thread_scripts::Log;
 use std::alloc::Global;
 use std::sync::Wait;
 use std::thread::yield_now;
