@@ -1,4 +1,8 @@
 //! What is told of a script that ran on threads, behind the crash that ends it.
+ghost use Rattle.std.specs.Prelude.{◌≡◌, OnOk};
+ghost use Rattle.std.specs.Io.KnownBytes.{Appends};
+ghost use Rattle.fkv_thread_scripts.specs.Reports.{agrees, keys_text, points_text, threads_report_text};
+
 use crate::logs::Log;
 use fkv_base::{Fault, Key, Serial, Value, Version};
 use fkv_keeper::Finished;
@@ -10,7 +14,7 @@ use std::collections::BTreeMap;
 use std::io::{self, Write};
 
 /// How the keys of a script compare with what is recovered.
-#[derive(Clone, Copy, Debug, PartialEq, Eq)]
+#[derive(Clone, Copy)]
 pub enum Keys {
     /// So many keys are compared, and each holds what its sessions' updates up to their points give.
     Agree(u64),
@@ -19,7 +23,7 @@ pub enum Keys {
 }
 
 /// What is told of a script that ran on threads. It is the same whatever the schedule was.
-#[derive(Clone, Copy, Debug, PartialEq, Eq)]
+#[derive(Clone, Copy)]
 pub struct Report {
     /// The number of the recovered commit.
     pub number: Version,
@@ -178,15 +182,31 @@ fn found(pairs: &[(Key, Value)], key: Key) -> Option<Value> {
 }
 
 /// Writes a report: `commit 3`, `points agree` and `keys agree 4`; or `points differ`, or `key 7 differs`.
-pub fn write_threads_report<W: Write>(output: &mut W, report: Report) -> io::Result<()> {
+///
+/// An error is the output's own; it may have taken some of the lines then, and a part of one.
+pub fn write_threads_report<W: Write>(output: &mut W, report: Report) -> io::Result<()>
+    ensures { OnOk result (Appends (W.contents output.old) (W.contents output.new) (threads_report_text report)) }
+{
     let number = report.number.0;
     writeln!(output, "commit {number}")?;
-    if report.points_agree {
-        writeln!(output, "points agree")?;
+    write_points(output, report.points_agree)?;
+    write_keys(output, report.keys)
+}
+
+fn write_points<W: Write>(output: &mut W, agree: bool) -> io::Result<()>
+    ensures { OnOk result (Appends (W.contents output.old) (W.contents output.new) (points_text agree)) }
+{
+    if agree {
+        writeln!(output, "points agree")
     } else {
-        writeln!(output, "points differ")?;
+        writeln!(output, "points differ")
     }
-    match report.keys {
+}
+
+fn write_keys<W: Write>(output: &mut W, keys: Keys) -> io::Result<()>
+    ensures { OnOk result (Appends (W.contents output.old) (W.contents output.new) (keys_text keys)) }
+{
+    match keys {
         Keys::Agree(count) => writeln!(output, "keys agree {count}"),
         Keys::Differs(key) => {
             let key = key.0;
