@@ -22,24 +22,23 @@ fn main(rt: HostRuntime) -> ExitCode {
     }
 }
 
-/// `fkv_hammer SEED LIVES`: so many lives of a store of each shape, from this seed. Whether nothing was wrong.
+/// `fkv_hammer SEED LIVES SHAPES`: so many lives over each of the first so many shapes, from this seed. Whether nothing was wrong.
 fn answered<H: Threads + Wait + Sync>(rt: &HostRuntime, hands: &H) -> io::Result<bool> {
-    let mut numbers = [1, 1];
+    let mut numbers = [1, 1, shapes::COUNT];
     for (at, word) in env::args(rt)?.skip(1).enumerate() {
         if let (Some(number), Ok(given)) = (numbers.get_mut(at), word.as_str().parse::<u64>()) {
             *number = given;
         }
     }
-    let [seed, lives] = numbers;
+    let [seed, lives, count] = numbers;
     let mut draws = Draws::new(seed);
     let mut out = io::writer(rt);
-    for number in 0..shapes::COUNT {
+    for number in 0..count {
         if let Err(wrong) = hammer(hands, rt.alloc(), &mut draws, number, lives) {
             writeln!(out, "seed {seed}, shape {number}: {wrong}")?;
             return Ok(false);
         }
     }
-    let count = shapes::COUNT;
     writeln!(out, "{count} shapes, {lives} lives each: nothing is wrong")?;
     Ok(true)
 }

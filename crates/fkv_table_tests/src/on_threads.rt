@@ -79,10 +79,10 @@ fn two_sessions_at_once(rt: HostRuntime) -> Result<(), Fail> {
         is_late: AtomicBool::new(false),
     };
     let script =
-        b"shape 4 16 4 2 2 0 64\n0 add 1 1\n0 add 1 1\n0 add 1 1\n1 add 1 2\n1 add 1 2\n1 add 1 2\nk commit\nk finish\n";
+        b"shape 4 16 4 2 2 0 64\n0 add 1 1\n0 add 1 1\n0 add 1 1\n1 add 1 2\n1 add 1 2\n1 add 1 2\n";
     let mut into = [0; 100];
     let told = report(&rt, rt.alloc(), script, &gate, &mut into);
     assert!(rt; !gate.is_late.load(Ordering::SeqCst));
-    assert!(rt; told == b"commit 1\npoints agree\nkeys agree 1\n".as_slice());
+    assert!(rt; told == b"commit 0\npoints agree\nkeys agree 1\n".as_slice());
     Ok(())
 }

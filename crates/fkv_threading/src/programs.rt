@@ -7,7 +7,6 @@ use fkv_disk::{Fuse, MemDisk};
 use fkv_lines::{Class, Line, Opening, Script, Sizes};
 use fkv_opening::recover;
 use fkv_pairs::content;
-use fkv_runs::write_text;
 use fkv_texts::write_refusal;
 use fkv_thread_scripts::{Report, report_of, write_threads_report};
 use std::alloc::Global;
@@ -45,7 +44,7 @@ pub fn run_threads<G: Gate + Sync, W: Write, R: Threads + Wait + Sync>(
             if fault == Fault::BadShape { 2 } else { 3 }
         }
     };
-    write_text(output, text.as_slice())?;
+    output.write_all(text.as_slice())?;
     Ok(status)
 }
 

@@ -2,7 +2,6 @@
 use crate::gates::Open;
 use crate::programs::run_threads;
 use fkv_base::{Fault, ScriptFault};
-use fkv_runs::write_text;
 use fkv_thread_scripts::{Asked, threads_script_of};
 use std::alloc::Global;
 use std::fmt;
@@ -57,7 +56,7 @@ fn refuse<W: Write, E: Write>(
     line: &str,
     why: &str,
 ) -> io::Result<u8> {
-    write_text(output, line.as_bytes())?;
+    output.write_all(line.as_bytes())?;
     complain(complaints, &why);
     Ok(2)
 }
@@ -104,7 +103,7 @@ fn write_line_fault<W: Write>(
     let name = kind.name();
     let mut text = Vec::new(alloc);
     writeln!(text, "script line {line} {name}")?;
-    write_text(output, text.as_slice())
+    output.write_all(text.as_slice())
 }
 
 /// A line and what is wrong with it, in words.
