@@ -65,6 +65,7 @@ large: fkv
 bench: fkv
 	cd crates/fkv_opening_tests && rt test > /dev/null
 	tools/bench/run build/fkv
+	tools/bench/threads build/fkv
 	tools/bench/recovery
 
 hammer: toolchain

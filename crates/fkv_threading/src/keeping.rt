@@ -16,7 +16,6 @@ pub(crate) struct Keeping<'t, D: Device + Drop> {
 }
 
 impl<'t, D: Device + Drop> Model for Keeping<'t, D> {
-    ghost use Rattle.std.specs.Prelude.{◌×◌};
     ghost use Rattle.fkv_table.specs.Keeps.{IsAfterSeen, IsKeeperReady};
     ghost use Rattle.fkv_table.specs.Planes.{opening_of};
 
