@@ -1,6 +1,4 @@
 //! A session with its pass at a table.
-ghost use Rattle.std.specs.Prelude.{◌≡◌};
-
 use fkv_disk::Device;
 use fkv_map::Call;
 use fkv_session::Answer;
@@ -30,9 +28,7 @@ impl<'t, D: Device> Model for Sitting<'t, D> {
 
 impl<'t, D: Device> Sitting<'t, D> {
     /// Runs a call to its end.
-    pub(crate) fn call(self, call: Call) -> (Sitting<'t, D>, Answer)
-        ensures number { result.0 ≡ self }
-    {
+    pub(crate) fn call(self, call: Call) -> (Sitting<'t, D>, Answer) {
         let Sitting {
             table,
             mut session,
