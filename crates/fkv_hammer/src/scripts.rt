@@ -10,7 +10,7 @@ pub(crate) const SESSIONS: u64 = 4;
 /// Lines of one life, which are drawn: calls of sessions, and commits of both kinds, each with its finish.
 pub(crate) fn lines_of(alloc: Global, draws: &mut Draws) -> Result<Vec<Line>, Fault> {
     let mut lines = Vec::new(alloc);
-    let count = 40 + draws.below(400);
+    let count = draws.below(400).saturating_add(40);
     for _ in 0..count {
         if draws.below(60) == 0 {
             let kind = if draws.below(2) == 0 {
@@ -39,13 +39,18 @@ fn call_of(draws: &mut Draws, session: u64) -> Call {
 
 /// An operation on a key of the session's own; or a sum that is added to one that all share.
 fn op_of(draws: &mut Draws, session: u64) -> Op {
-    let own = Key(draws.below(12) * SESSIONS + session);
+    let own = Key(
+        draws
+            .below(12)
+            .saturating_mul(SESSIONS)
+            .saturating_add(session),
+    );
     match draws.below(7) {
         0 => Op::Read(own),
         1 => Op::Delete(own),
         2 => Op::Upsert(own, Value(draws.below(1000))),
         3 => Op::Max(own, draws.below(1000)),
         4 => Op::Add(own, draws.below(1000)),
-        _ => Op::Add(Key(1000 + draws.below(4)), draws.below(1000)),
+        _ => Op::Add(Key(draws.below(4).saturating_add(1000)), draws.below(1000)),
     }
 }

@@ -18,7 +18,15 @@ pub(crate) fn shape_of(number: u64) -> Result<Shape, Fault> {
     if number < SMALL {
         Shape::new(bits, page, frames, mutable, 4, 256, 65536)
     } else {
-        Shape::large(bits, page, frames, mutable, 4, 1100, 65537 + number)
+        Shape::large(
+            bits,
+            page,
+            frames,
+            mutable,
+            4,
+            1100,
+            number.saturating_add(65537),
+        )
     }
 }
 
