@@ -7,6 +7,7 @@
 # make memory  runs stored scripts, a store's creation and its opening, a commit's copy and the options' words, with each request for memory refused in turn
 # make large   plays scripts of 2^20 keys over a large store, in a file and in memory, and compares with a plain map
 # make bench   times the proved program on scripts of up to 65,536 lines, and recovery of images of up to 1,000,000 records
+# make hammer  runs lives of stores that four threads share, each ended by a crash, for a minute or SECONDS
 # make gate    runs the gate, and writes the processor time of each crate into docs/GATE.md
 # make audit   tries the wrong bodies that the gate leaves out, those of crates/*/audit, or of the crates in CRATES
 # make docs    writes docs/CRATES.md and docs/LAWS.md anew, from crates.txt and the comments of crates and laws
@@ -17,10 +18,12 @@
 SCRIPT ?= crates/fkv/stdin
 # The words behind the program's name, as WORDS="--check --torn 165".
 WORDS ?=
+# How long `make hammer` runs.
+SECONDS ?= 60
 # The crates whose wrong bodies `make audit` tries, as CRATES="fkv_log fkv_ops"; all where nothing is said.
 CRATES ?=
 
-.PHONY: run test fkv rows memory large bench gate audit docs toolchain
+.PHONY: run test fkv rows memory large bench hammer gate audit docs toolchain
 
 run: toolchain
 	@tools/script/run "$(SCRIPT)" $(WORDS)
@@ -63,7 +66,11 @@ large: fkv
 bench: fkv
 	cd crates/fkv_opening_tests && rt test > /dev/null
 	tools/bench/run build/fkv
+	tools/bench/threads build/fkv
 	tools/bench/recovery
+
+hammer: toolchain
+	tools/hammer/run $(SECONDS)
 
 gate: toolchain
 	tools/gate/measure
@@ -73,6 +80,7 @@ docs:
 
 audit: toolchain
 	tools/audit/run $(CRATES)
+	tools/audit/serial
 
 toolchain:
 	@command -v rt > /dev/null || { echo "the Rattle toolchain is missing: there is no command rt (README.md, Try it)" >&2; exit 1; }

@@ -10,7 +10,6 @@ MOST = 2**64 - 1
 
 OPTIONS = [
     (("x",), 'the word "x" is unknown'),
-    (("--threads",), 'the word "--threads" is unknown'),
     (("--", "--check"), 'the word "--check" is unknown'),
     (("y" * 99,), f'the word "{"y" * 40}.." is unknown'),
     (("a\n",), 'the word "a\\n" is unknown'),

@@ -153,8 +153,6 @@ WORDS = [
     ("--file", "a", "--file", "b"),
     ("--fil", "a"),
     ("-c",),
-    ("--threads",),
-    ("--seed", "1", "--threads"),
     ("--help",),
     ("-h",),
     ("--version",),

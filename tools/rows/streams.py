@@ -111,7 +111,7 @@ def streams(program):
         expect("the same of a faulty line's", complaint(program, (), "0 up 1", stdout=full).splitlines(keepends=True)[-1:], [full_output])
         expect("an empty script's to /dev/full", ended(program, (), "", stdout=full), 0)
         expect("a faulty line's to /dev/full", ended(program, (), "0 up 1", stdout=full), 4)
-        expect("options to /dev/full", ended(program, ("--threads",), script, stdout=full), 4)
+        expect("options to /dev/full", ended(program, ("--help",), script, stdout=full), 4)
     expect("answers to a stream that is closed", ended(program, (), script, preexec_fn=lambda: os.close(1)), 4)
     expect("the same beside a store in a file", beside_store(program), (4, False))
     expect("answers to a pipe that nobody reads", to_nobody(program, script), 4)

@@ -2,4 +2,6 @@
 #![tactic(auto)]
 
 #[cfg(test)]
+mod on_threads;
+#[cfg(test)]
 mod one_thread;

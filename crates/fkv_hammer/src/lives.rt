@@ -1,0 +1,104 @@
+//! Lives of one store.
+use crate::draws::Draws;
+use crate::scripts::lines_of;
+use crate::shapes::shape_of;
+use crate::verdicts::{Told, Wrong, judge};
+use fkv_base::{Fault, Key, Value, Version};
+use fkv_creating::create;
+use fkv_disk::{Device, Fuse, MemDisk};
+use fkv_lines::Line;
+use fkv_opening::{Opened, recover};
+use fkv_pairs::content;
+use fkv_threading::{Open, Played, play};
+use std::alloc::Global;
+use std::sync::Wait;
+use std::thread::Threads;
+
+/// So many lives of a store of this shape, one behind the other.
+pub(crate) fn hammer<R: Threads + Wait + Sync>(
+    rt: &R,
+    alloc: Global,
+    draws: &mut Draws,
+    number: u64,
+    lives: u64,
+) -> Result<(), Wrong> {
+    let mut disk = MemDisk::new(alloc);
+    create(&mut disk, shape_of(number)?)?;
+    let mut found = found_on(alloc, disk)?;
+    for _ in 0..lives {
+        found = live(rt, alloc, draws, found)?;
+    }
+    Ok(())
+}
+
+/// A store as it lies on a device.
+#[derive(Drop)]
+struct Found {
+    disk: MemDisk,
+    opened: Opened,
+    pairs: Vec<(Key, Value)>,
+}
+
+fn found_on(alloc: Global, disk: MemDisk) -> Result<Found, Fault> {
+    let mut disk = disk;
+    let opened = recover(alloc, &mut disk)?;
+    let pairs = content(alloc, &opened, &mut disk)?;
+    Ok(Found {
+        disk,
+        opened,
+        pairs,
+    })
+}
+
+/// One life, which ends at some call of the device or behind its lines, and what a crash then leaves.
+fn live<R: Threads + Wait + Sync>(
+    rt: &R,
+    alloc: Global,
+    draws: &mut Draws,
+    found: Found,
+) -> Result<Found, Wrong> {
+    let Found {
+        disk,
+        opened,
+        pairs,
+    } = found;
+    let number = opened.number;
+    let lines = lines_of(alloc, draws)?;
+    let calls = draws.below(120);
+    let Played { logs, keeper } = played(rt, alloc, disk, calls, &lines)?;
+    if let Some(fault) = keeper.fault {
+        if fault != Fault::Device {
+            return Err(Wrong::Refused(fault));
+        }
+    }
+    let torn = match draws.below(3) {
+        0 => 0,
+        1 => 165,
+        _ => 255,
+    };
+    let after = found_on(alloc, keeper.device.crash(torn)?)?;
+    let told = Told {
+        number,
+        begun: keeper.begun,
+        finished: &keeper.finished,
+        logs: &logs,
+        before: &pairs,
+    };
+    judge(alloc, &told, &after.opened, &after.pairs)?;
+    Ok(after)
+}
+
+/// Plays lines over the store that this device holds, of whose calls so many pass.
+fn played<R: Threads + Wait + Sync>(
+    rt: &R,
+    alloc: Global,
+    disk: MemDisk,
+    calls: u64,
+    lines: &[Line],
+) -> Result<Played<Fuse<MemDisk>>, Fault> {
+    let mut disk = disk;
+    let opened = recover(alloc, &mut disk)?;
+    let mut device = Fuse::new(disk);
+    device.arm(calls);
+    play(rt, alloc, opened, device, lines, &Open)
+}

@@ -1,0 +1,40 @@
+//! Shapes of stores for four sessions.
+use fkv_base::{Fault, Shape};
+
+/// How many shapes there are.
+pub(crate) const COUNT: u64 = 32;
+
+/// How many of them are of small stores.
+const SMALL: u64 = 20;
+
+/// The shape of this number: few buckets or more, small pages, and two frames or more. The last dozen are of large stores.
+pub(crate) fn shape_of(number: u64) -> Result<Shape, Fault> {
+    let (bits, page, frames) = (
+        number % 5,
+        power(2 + number % 3),
+        power(1 + (number / 3) % 3),
+    );
+    let mutable = if frames == 2 { 1 } else { 1 + number % 3 };
+    if number < SMALL {
+        Shape::new(bits, page, frames, mutable, 4, 256, 65536)
+    } else {
+        Shape::large(
+            bits,
+            page,
+            frames,
+            mutable,
+            4,
+            1100,
+            number.saturating_add(65537),
+        )
+    }
+}
+
+fn power(exponent: u64) -> u64 {
+    match exponent {
+        1 => 2,
+        2 => 4,
+        3 => 8,
+        _ => 16,
+    }
+}

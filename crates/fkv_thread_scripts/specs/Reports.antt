@@ -1,0 +1,30 @@
+-- What is told of a script that ran on threads.
+use Rattle.std.specs.Prelude.{ℕ, List, [], ◌∷◌, ◌++◌, Bool, true, false, codes, if◌then◌else◌}
+use Rattle.std.specs.Fmt.{decimal}
+use Rattle.fkv_thread_scripts.specs.declared.reports.Keys.{Keys}
+use Rattle.fkv_thread_scripts.specs.declared.reports.Keys.TheVariants.{Agree, Differs}
+use Rattle.fkv_thread_scripts.specs.declared.reports.Report.{Report}
+
+-- whether nothing differs
+abbrev pub keys_agree : Keys → Bool
+keys_agree (Agree count) = true
+keys_agree (Differs key) = false
+
+abbrev pub agrees : Report → Bool
+agrees report = if keys_agree report.keys then report.points_agree else false
+
+-- a text as a line, with its end
+abbrev pub ended : List ℕ → List ℕ
+ended text = text ++ 10 ∷ []
+
+abbrev pub points_text : Bool → List ℕ
+points_text true = ended (codes "points agree")
+points_text false = ended (codes "points differ")
+
+abbrev pub keys_text : Keys → List ℕ
+keys_text (Agree count) = ended (codes "keys agree " ++ decimal count)
+keys_text (Differs key) = ended (codes "key " ++ (decimal key.0 ++ codes " differs"))
+
+-- `commit 3`, `points agree`, `keys agree 4`
+abbrev pub threads_report_text : Report → List ℕ
+threads_report_text report = ended (codes "commit " ++ decimal report.number.0) ++ (points_text report.points_agree ++ keys_text report.keys)

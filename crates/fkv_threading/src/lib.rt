@@ -1,0 +1,18 @@
+//! Scripts on threads: each session's lines on a thread of its own, and the keeper's on another.
+#![tactic(auto)]
+
+mod gates;
+mod keepers;
+mod keeping;
+mod playing;
+mod programs;
+mod progress;
+mod runs;
+mod sessions;
+mod sitting;
+
+pub use gates::{Gate, Open};
+pub use keepers::KeeperEnd;
+pub use playing::{Played, play};
+pub use programs::run_threads;
+pub use runs::run;

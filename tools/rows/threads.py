@@ -1,0 +1,70 @@
+"""Scripts whose sessions and keeper run on threads. What they write is the same for every schedule."""
+from rows import Row, whole
+
+SMALL, THREE, TIGHT = "shape 4 16 4 2 2 0 64", "shape 1 4 2 1 3 6 256", "shape 0 4 2 1 1 6 256"
+
+
+def agree(number, keys):
+    return whole([f"commit {number}", "points agree", f"keys agree {keys}"])
+
+
+def mixed():
+    """Three sessions: keys of their own, sums that all add to, and one that none is compared of."""
+    lines = []
+    for n in range(40):
+        for session in range(3):
+            own = 10 * session + n % 10
+            lines.append(f"{session} {('up', 'add', 'max')[n % 3]} {100 + own} {n + session}")
+            lines.append(f"{session} add {n % 4} {n}")
+            lines.append(f"{session} {'get' if n % 2 else 'add'} {100 + own}{'' if n % 2 else ' 1'}")
+        if n % 10 == 9:
+            lines += ["k commit log" if n % 20 == 9 else "k commit", "k finish"]
+        if n == 20:
+            lines += ["0 up 9 1", "1 del 9", "2 max 9 7", "1 poll", "2 refresh"]
+    return lines
+
+
+def full():
+    """One session, which meets 64 pending requests, and more lines than the ring holds."""
+    return [f"0 add {n % 7} {n}" for n in range(300)] + ["k commit", "k finish", "k finish"]
+
+
+RUNS = [
+    ("a sum of two sessions", [SMALL, *["0 add 1 1"] * 3, *["1 add 1 2"] * 2, "k commit", "k finish"], agree(1, 1)),
+    ("no commit keeps nothing", [SMALL, "0 add 1 1", "1 up 2 5"], agree(0, 2)),
+    ("three sessions, and commits of both kinds", [THREE, *mixed()], agree(4, 34)),
+    ("more pending requests than fit", [TIGHT, *full()], agree(1, 7)),
+    ("sums past the most are not compared", [SMALL, "0 add 1 18446744073709551614", "1 add 1 1", "k commit log", "k finish"], agree(1, 0)),
+    ("a session that the shape hasn't", [SMALL, "9 up 1 1", "0 up 2 2", "k commit", "k finish"], agree(1, 2)),
+    ("a large store", ["large 11 16 4 2 2 0 64", "0 up 1 1", "1 up 2 2", "k commit", "k finish"], agree(1, 2)),
+]
+
+FAULTS = [
+    ([SMALL, "0 sleep"], "2 Mode"),
+    ([SMALL, "0 up 1 1", "k turn"], "3 Mode"),
+    ([SMALL, "crash"], "2 Mode"),
+    ([SMALL, "fail 1"], "2 Mode"),
+    (["open"], "1 Mode"),
+    ([SMALL, "# a comment", "", "k commit", "0 get 1", "k commit"], "4 Mode"),
+    ([SMALL, "k commit", "0 get 1"], "2 Mode"),
+    ([SMALL, "k commit", "0 get"], "3 Count"),
+    ([SMALL, "k commit", "k commit", "0 get"], "2 Mode"),
+    ([SMALL, "crash 0"], "2 Number"),
+]
+
+WORDS = [
+    (("--threads", "--seed", "1"), "options seed and threads\n"),
+    (("--seed=1", "--threads", "--check"), "options seed and threads\n"),
+    (("--threads", "--threads"), "options\n"),
+    (("--threads=1",), "options\n"),
+    (("--threads", "x"), "options\n"),
+]
+
+
+def threads():
+    rows = [Row(name, whole(lines), wanted, words=("--threads",)) for name, lines, wanted in RUNS]
+    rows += [Row(f"{name}, with words that change nothing", whole(lines), wanted, words=("--torn", "9", "--threads", "--check")) for name, lines, wanted in RUNS[:1]]
+    rows += [Row(f"threads, line {wanted}", whole(lines), f"script line {wanted}\n", 2, ("--threads",)) for lines, wanted in FAULTS]
+    rows += [Row("threads, an empty script", "", "", words=("--threads",))]
+    rows += [Row("threads, sizes of no shape", "shape 4 6 4 2 1 0 64\n", "refused 1 BadShape\n", 2, ("--threads",))]
+    return rows + [Row(f"threads, {' '.join(words)}", whole([SMALL]), wanted, 2, words) for words, wanted in WORDS]
