@@ -40,8 +40,11 @@ module _ (opening : World) (events : List Event) (opened : IsOpened opening.now.
         later = later;
         moment = moment;
         split = split;
-        in_hand = written.copy.in_hand;
-        finished = written.copy.finished;
+        waits = waits;
+        hand = its.commit;
+        in_hand = its.in_hand;
+        its = record { number = ap (λ (x : Commit). x.number) (sym same); kind = ap (λ (x : Commit). x.kind) (sym same); first = ap (λ (x : Commit). x.first) (sym same); end = ap (λ (x : Commit). x.end) (sym same) };
+        copied = written.copy;
         triples = written.triples;
       }
 

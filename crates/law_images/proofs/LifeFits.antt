@@ -1,5 +1,5 @@
 -- Each commit whose writes begin in a life fits it.
-use Rattle.std.proofs.Common.{◌≡◌, inl, inr, ℕ, ◌≤◌, ◌∙◌, arith, refl, sym, ap, subst, Bool, List, [], ◌∷◌, length}
+use Rattle.std.proofs.Common.{◌≡◌, inl, inr, ℕ, ◌<◌, ◌≤◌, arith, refl, sym, ap, subst, Bool, List, [], ◌∷◌, length}
 use Rattle.std.specs.Prelude.{Option, Some, None}
 use Rattle.fkv_base.specs.declared.commits.CommitKind.{CommitKind}
 use Rattle.fkv_base.specs.declared.commits.CommitKind.TheVariants.{Full, Log}
@@ -12,12 +12,14 @@ use Rattle.fkv_keeper.specs.Keeping.{Finality, KeeperState, lost_left}
 use Rattle.fkv_keeper.specs.KeeperRun.{IsOpened, KeeperEvent, keeper_run}
 use Rattle.fkv_keeper.specs.SlotLaws.{CommitHasRoom}
 use Rattle.fkv_keeper.specs.declared.keepers.Keeping.{Keeping}
-use Rattle.fkv_keeper.specs.declared.keepers.Keeping.TheVariants.{Waits, Writes}
+use Rattle.fkv_keeper.specs.declared.keepers.Keeping.TheVariants.{Waits, Writes, Finishes}
 use Rattle.fkv_opening.specs.declared.opened_store.Opened.{Opened}
+use Rattle.fkv_keeper.specs.declared.last_commits.Checkpoint.{Checkpoint}
 use Rattle.fkv_plane.specs.declared.places.Places.{Places}
 use Rattle.fkv_plane.specs.declared.places.SharedWord.TheVariants as one
 use Rattle.fkv_plane.specs.Asked.{word_at}
 use Rattle.fkv_plane.specs.Places.{shared_place}
+use Rattle.fkv_record.specs.declared.lost_ranges.LostRange.{LostRange}
 use Rattle.fkv_record.specs.Lost.{max_lost}
 use Rattle.fkv_record.specs.Places.{most_triples}
 use Rattle.fkv_world.specs.OwnEvents.{keeper_events}
@@ -26,15 +28,15 @@ use Rattle.fkv_world.specs.World.{Event, Now}
 use Rattle.law_commit.specs.BegunCommits.{BegunCommit, commit_opening}
 use Rattle.law_images.specs.Ends.{CommitEndsBy}
 use Rattle.law_images.specs.Left.{flushed_so_far}
-use Rattle.law_images.specs.Fits.{FitsLife, NamesItsLost}
+use Rattle.law_images.specs.Fits.{FitsLife, NamesItsLost, NamesLost}
 use Rattle.law_images.proofs.Begun.{plain}
 use Rattle.law_images.proofs.EndsFlushed.{Ends, EndsAt}
 use Rattle.law_images.proofs.AreaFits.{begun_fits}
 use Rattle.law_images.proofs.LifeNamed.{AllOfLife}
 use Rattle.law_images.proofs.LifeTails.{IsBelow, IsBelowNow, life_always, life_tails, tail_of}
-use Rattle.law_images.proofs.LostHeld.{HoldsLost, run_held, run_uses}
+use Rattle.law_images.proofs.LostHeld.{HandIsNewer, HoldsLost, left_held, run_held, run_uses}
 use Rattle.law_images.proofs.NamedNow.{AllGood}
-use Rattle.law_images.proofs.WordsRead.{Always}
+use Rattle.law_images.proofs.WordsRead.{Always, always_map}
 use Rattle.law_images.proofs.Tails.{AtTail, Below, Bounds, LastBelow, TakenAbove, UsedBelow}
 use Rattle.law_world.specs.Keeper.Lives.{IsLifeTold}
 
@@ -50,26 +52,42 @@ of_plain o n flushed c is = record {
   is_flushed = is.is_flushed;
   room = is.room;
   lost = elim is.lost [
-    | inl none ↦ inl none
+    | inl none ↦ inl (record { none = none.none; newer = none.newer })
     | inr names ↦ inr (record { lost = names.lost; checkpoint = names.checkpoint; few = names.few })
   ];
+  as_opened = is.as_opened;
 }
 
-lost_named : (n : Now) (a : KeeperState) (c : Commit) (kind : CommitKind) → c.kind ≡ kind → HoldsLost n.keeper.lost n.keeper.last.checkpoint a.lost a.last.checkpoint → (c.kind ≡ Log → a.used ≡ a.last.checkpoint) → (c.kind ≡ Log → length a.lost ≤ max_lost)
-    → NamesItsLost n (commit_opening a c)
-lost_named n a c Full e held uses few = inl (ap (λ (k : CommitKind). lost_left k a.lost) e)
-lost_named n a c Log e (inl none) uses few = inl (ap (λ (k : CommitKind). lost_left k a.lost) e ∙ none)
-lost_named n a c Log e (inr its) uses few = inr (record {
-  lost = ap (λ (k : CommitKind). lost_left k a.lost) e ∙ its.0;
-  checkpoint = uses e ∙ its.1;
-  few = subst (λ (k : CommitKind). length (lost_left k a.lost) ≤ max_lost) (sym e) (few e);
-})
+few_left : (kind : CommitKind) (lost : List LostRange) → (kind ≡ Log → length lost ≤ max_lost) → length (lost_left kind lost) ≤ max_lost
+few_left Full lost few = omega arith
+few_left Log lost few = few refl
+
+lost_named : (o : Opened) (n : Now) (a : KeeperState) (c : Commit) → length (lost_left c.kind a.lost) ≤ max_lost → HoldsLost o.number.0 n.keeper.lost n.keeper.last.checkpoint (lost_left c.kind a.lost) a.used → NamesItsLost o n (commit_opening a c)
+lost_named o n a c few (inl none) = inl (record { none = none.0; newer = none.1 })
+lost_named o n a c few (inr its) = inr (record { lost = its.0; checkpoint = its.1; few = few })
+
+-- one that uses the checkpoint with which the store was opened doesn't use a newer one
+pub lost_as_opened : (o : Opened) (n : Now) (c : BegunCommit) → n.keeper.last.checkpoint.number.0 ≤ o.number.0 → NamesItsLost o n c → c.checkpoint ≡ n.keeper.last.checkpoint → NamesLost n c
+lost_as_opened o n c older (inr names) used = names
+lost_as_opened o n c older (inl none) used =
+    let same : c.checkpoint.number.0 ≡ n.keeper.last.checkpoint.number.0 = ap (λ (x : Checkpoint). x.number.0) used in
+    let newer = none.newer in
+    absurd (omega (arith, same, newer, older))
+
+-- each commit that is being written is newer than the one with which the store was opened
+used_newer : (t : Bounds) (s : KeeperState) (step : Keeping) (c : Commit) → AtTail t s step → IsBehindWait step → s.commit ≡ Some c → t.least < c.number.0
+used_newer t s Writes c at behind found = (let used : UsedBelow t s.used (Some c) = subst (λ (x : Option Commit). UsedBelow t s.used x) found at.1 in used.5)
+used_newer t s Finishes c at behind found = (let used : UsedBelow t s.used (Some c) = subst (λ (x : Option Commit). UsedBelow t s.used x) found at.1 in used.5)
+used_newer t s step c at behind found = absurd behind
+
+hand_newer : (base least : ℕ) (s : KeeperState) → IsBelow base least s → HandIsNewer least s
+hand_newer base least s below = λ c found behind. (let newer = used_newer below.bounds s s.step c below.is behind found in let same = below.its_least in omega (arith, newer, same))
 
 -- of the commit that is being written, by the tails that were loaded for it
 module _ (o : Opened) (n : Now) (flushed : ℕ) (shape : Shape) (p : Places) where
-  fits_so : (a : KeeperState) (c : Commit) → a.step ≡ Writes → a.commit ≡ Some c → IsBelow o.tail.0 o.number.0 a → Ends flushed a → CommitHasRoom a → (c.kind ≡ Full → a.used.triples ≤ most_triples n.shape) → NamesItsLost n (commit_opening a c)
-      → FitsLife o n flushed (commit_opening a c)
-  fits_so a c writes found below ends room area lost =
+  fits_so : (a : KeeperState) (c : Commit) → a.step ≡ Writes → a.commit ≡ Some c → IsBelow o.tail.0 o.number.0 a → Ends flushed a → CommitHasRoom a → (c.kind ≡ Full → a.used.triples ≤ most_triples n.shape) → n.keeper.last.checkpoint.number.0 ≤ o.number.0
+      → NamesItsLost o n (commit_opening a c) → FitsLife o n flushed (commit_opening a c)
+  fits_so a c writes found below ends room area older lost =
       let t : Bounds = below.bounds in
       let at : Below t a.has_points a.last a.commit × UsedBelow t a.used a.commit = subst (λ (k : Keeping). AtTail t a k) writes below.is in
       let used : UsedBelow t a.used (Some c) = subst (λ (x : Option Commit). UsedBelow t a.used x) found at.1 in
@@ -89,23 +107,28 @@ module _ (o : Opened) (n : Now) (flushed : ℕ) (shape : Shape) (p : Places) whe
         is_flushed = by c found;
         room = area;
         lost = lost;
+        as_opened = λ used. (let names = lost_as_opened o n (commit_opening a c) older lost used in names.lost);
       }
 
-  pub all_fit : (opening : KeeperState) → opening ≡ n.keeper → IsOpened opening → ((events : List KeeperEvent) → CommitHasRoom (keeper_run shape p opening events))
+  pub all_fit : (opening : KeeperState) → opening ≡ n.keeper → n.keeper.last.checkpoint.number.0 ≤ o.number.0 → IsOpened opening → ((events : List KeeperEvent) → CommitHasRoom (keeper_run shape p opening events))
       → ((event : KeeperEvent) (before : List KeeperEvent) (c : Commit) → (keeper_run shape p opening before).step ≡ Waits → (keeper_run shape p opening (event ∷ before)).step ≡ Writes → (keeper_run shape p opening (event ∷ before)).commit ≡ Some c
       → c.kind ≡ Full → (keeper_run shape p opening (event ∷ before)).used.triples ≤ most_triples n.shape)
       → (events : List KeeperEvent) → Always (λ (s : KeeperState). IsBelow o.tail.0 o.number.0 s) shape p opening events → Always (λ (s : KeeperState). Ends flushed s) shape p opening events
       → AllGood shape p opening (FitsLife o n flushed) events
   unfolding Always
-  all_fit opening same opened room area [] below ends = tt
-  all_fit opening same opened room area (event ∷ before) below ends = (
+  all_fit opening same older opened room area [] below ends = tt
+  all_fit opening same older opened room area (event ∷ before) below ends = (
     λ c waits writes found.
         (let a : KeeperState = keeper_run shape p opening (event ∷ before) in
         let behind : IsBehindWait a.step = subst IsBehindWait (sym writes) tt in
-        let held : HoldsLost n.keeper.lost n.keeper.last.checkpoint a.lost a.last.checkpoint = subst (λ (x : KeeperState). HoldsLost x.lost x.last.checkpoint a.lost a.last.checkpoint) same (run_held shape p opening (event ∷ before) opened) in
+        let newer : Always (HandIsNewer o.number.0) shape p opening (event ∷ before) =
+        always_map (λ (x : KeeperState). IsBelow o.tail.0 o.number.0 x) (HandIsNewer o.number.0) shape p opening (event ∷ before) (λ x at. hand_newer o.tail.0 o.number.0 x at) below in
+        let held : HoldsLost o.number.0 n.keeper.lost n.keeper.last.checkpoint a.lost a.last.checkpoint =
+        subst (λ (x : KeeperState). HoldsLost o.number.0 x.lost x.last.checkpoint a.lost a.last.checkpoint) same (run_held shape p o.number.0 opening (event ∷ before) opened newer) in
+        let left = left_held o.number.0 n.keeper.lost n.keeper.last.checkpoint c.kind a c held (run_uses shape p opening (event ∷ before) c opened behind found) (hand_newer o.tail.0 o.number.0 a below.0 c found behind) in
         let has = room (event ∷ before) c found in
-        fits_so a c writes found below.0 ends.0 (room (event ∷ before)) (area event before c waits writes found) (lost_named n a c c.kind refl held (run_uses shape p opening (event ∷ before) c opened behind found) has.lost)),
-    all_fit opening same opened room area before below.1 ends.1,
+        fits_so a c writes found below.0 ends.0 (room (event ∷ before)) (area event before c waits writes found) older (lost_named o n a c (few_left c.kind a.lost has.lost) left)),
+    all_fit opening same older opened room area before below.1 ends.1,
   )
 
 -- ---- in a life
@@ -129,6 +152,9 @@ opens_below o n bytes its =
       its_tail = refl;
     }
 
+pub opened_older : (o : Opened) (n : Now) → IsOpeningWorld o n → n.keeper.last.checkpoint.number.0 ≤ o.number.0
+opened_older o n its = subst (λ (last : Finality). last.checkpoint.number.0 ≤ o.number.0) (sym its.its_keeper.newest) o.no_newer
+
 pub life_fits : (o : Opened) (n : Now) (bytes : List ℕ) (events : List Event) → IsOpeningWorld o n → IsLifeTold (beginning n bytes) events
     → ((shape : Shape) (p : Places) (opening : KeeperState) (past : List KeeperEvent) → IsOpened opening → CommitHasRoom (keeper_run shape p opening past))
     → ((before : List Event) (event : Event) → Rises (levels_of (run (beginning n bytes) before).now.words) (levels_of (happens (run (beginning n bytes) before) event).now.words))
@@ -138,6 +164,6 @@ life_fits o n bytes events its life room rises =
     let told = life.told in
     let opened : IsOpened n.keeper = told.is_opened in
     let tails = life_tails opening o.tail.0 o.number.0 events (opens_below o n bytes its) (λ before event. (rises before event).tail) life.in_turn in
-    all_fit o n (flushed_so_far n bytes events) n.shape n.places n.keeper refl opened (λ past. room n.shape n.places n.keeper past opened)
+    all_fit o n (flushed_so_far n bytes events) n.shape n.places n.keeper refl (opened_older o n its) opened (λ past. room n.shape n.places n.keeper past opened)
     (λ event before c waits writes found. begun_fits n.shape n.places n.keeper event before c opened told.buckets told.overflow waits writes found)
     (keeper_events opening events) tails.always (life_always opening events opened (λ before event. (rises before event).flushed))

@@ -121,9 +121,9 @@ module _ (o : Opened) (n : Now) (flushed : ℕ) (c : BegunCommit) (fits : FitsLi
       let newer = fits.newer in
       record { some = omega (arith, first, a); in_log = omega (arith, b, later); after_checkpoint = omega (arith, number, d); no_newer = omega (arith, e, newer) }
 
-  lost_so : AreLostOpened o o.lost.items → NamesItsLost n c → HasLost slot_read
+  lost_so : AreLostOpened o o.lost.items → NamesItsLost o n c → HasLost slot_read
   lost_so opened (inl none) =
-      let same : take 8 c.lost ≡ [] = ap (λ (x : List LostRange). take 8 x) none in
+      let same : take 8 c.lost ≡ [] = ap (λ (x : List LostRange). take 8 x) none.none in
       record {
         each = subst (λ (x : List LostRange). All (IsLostIn slot_read) x) (sym same) (All-nil (IsLostIn slot_read));
         rising = subst (λ (x : List LostRange). AllPairs Follows x) (sym same) (λ i j d less low. absurd (omega (arith, low)));

@@ -1,11 +1,11 @@
 -- What a full commit of a life has written as its checkpoint.
 use Rattle.std.specs.Prelude.{◌≡◌, ◌<◌, ◌^◌, ℕ, List, ◌++◌, Some, slice_get}
 use Rattle.std.specs.List.{flat_map}
-use Rattle.fkv_checkpoint.specs.Copied.{copied_after, copying_after}
-use Rattle.fkv_checkpoint.specs.Copying.{copy_ask}
+use Rattle.fkv_checkpoint.specs.Copied.{copied_after}
 use Rattle.fkv_checkpoint.specs.Triples.{all_bytes}
-use Rattle.fkv_keeper.specs.CheckpointLaws.{copy_by}
-use Rattle.fkv_plane.specs.declared.asks.Ask.TheVariants.{Done}
+use Rattle.fkv_commit.specs.declared.commits.Commit.{Commit}
+use Rattle.fkv_keeper.specs.CheckpointLaws.{HasCopied}
+use Rattle.fkv_keeper.specs.declared.keepers.Keeping.TheVariants.{Waits}
 use Rattle.fkv_record.specs.Layout.{triple_bytes}
 use Rattle.fkv_record.specs.declared.triples.Triple.{Triple}
 use Rattle.fkv_scan.specs.Log.{AreApart}
@@ -15,13 +15,23 @@ use Rattle.fkv_world.specs.World.{Event}
 use Rattle.law_commit.specs.BegunCommits.{BegunCommit}
 use Rattle.law_world.specs.Keeper.Lives.{keeper_after, replies_copied}
 
--- Its triples are those of the copy that the keeper had finished at a moment of the life, as the writes of the commit were about to begin.
+-- This is the commit as the keeper has it in hand.
+pub record IsOfCommit (hand : Commit) (c : BegunCommit) : Type 0 where
+  pub number : c.number ≡ hand.number
+  pub kind : c.kind ≡ hand.kind
+  pub first : c.first ≡ hand.first
+  pub end : c.end ≡ hand.end
+
+-- At a moment of the life the keeper had this commit in hand and waited, before its writes. The commit's triples are those of the copy that was finished then.
 pub record WritesItsCopy (opening : World) (events : List Event) (c : BegunCommit) : Type 0 where
   pub later : List Event
   pub moment : List Event
   pub split : events ≡ later ++ moment
-  pub in_hand : (let own = keeper_events opening moment in (keeper_after opening own).copy ≡ Some (copy_by opening.now.places (replies_copied opening own)))
-  pub finished : (let own = keeper_events opening moment in copy_ask (copying_after opening.now.places (replies_copied opening own)) ≡ Done tt)
+  pub waits : (keeper_after opening (keeper_events opening moment)).step ≡ Waits
+  pub hand : Commit
+  pub in_hand : (keeper_after opening (keeper_events opening moment)).commit ≡ Some hand
+  pub its : IsOfCommit hand c
+  pub copied : (let own = keeper_events opening moment in HasCopied opening.now.places (replies_copied opening own) (keeper_after opening own).copy)
   pub triples : (let own = keeper_events opening moment in c.triples ≡ all_bytes (copied_after opening.now.places (replies_copied opening own)))
 
 -- These triples stand one after another in what a commit has written. Each is of a bucket of the index, which has 2^bits, and no two are of one home.

@@ -19,12 +19,18 @@ pub record NamesLost (n : Now) (c : BegunCommit) : Type 0 where
   pub checkpoint : c.checkpoint ≡ n.keeper.last.checkpoint
   pub few : length c.lost ≤ max_lost
 
--- It names those, or none.
-abbrev pub NamesItsLost : Now → BegunCommit → Type 0
-NamesItsLost n c = (c.lost ≡ []) ⊎ NamesLost n c
+-- It names no lost range, and uses a checkpoint that is newer than the opening's commit.
+pub record NamesNone (o : Opened) (c : BegunCommit) : Type 0 where
+  pub none : c.lost ≡ []
+  pub newer : o.number.0 < c.checkpoint.number.0
+
+-- It uses the checkpoint of then and names all those, or a newer one and names none.
+abbrev pub NamesItsLost : Opened → Now → BegunCommit → Type 0
+NamesItsLost o n c = NamesNone o c ⊎ NamesLost n c
 
 -- A commit of a life is newer than the opening's, and not of the last version. Its checkpoint is its own or an older one. Its log ends at or above the opened
--- tail and the address where the scan begins, and at or below the address up to which the log is flushed. A checkpoint that it has made has room.
+-- tail and the address where the scan begins, and at or below the address up to which the log is flushed. A checkpoint that it has made has room. If it uses
+-- the checkpoint with which the store was opened, it names the lost ranges of then.
 pub record FitsLife (o : Opened) (n : Now) (flushed : ℕ) (c : BegunCommit) : Type 0 where
   pub few : c.number.0 < last_version
   pub newer : o.number.0 < c.number.0
@@ -34,7 +40,8 @@ pub record FitsLife (o : Opened) (n : Now) (flushed : ℕ) (c : BegunCommit) : T
   pub later : o.tail.0 ≤ c.end.0
   pub is_flushed : c.end.0 ≤ flushed
   pub room : c.kind ≡ Full → c.checkpoint.triples ≤ most_triples n.shape
-  pub lost : NamesItsLost n c
+  pub lost : NamesItsLost o n c
+  pub as_opened : c.checkpoint ≡ n.keeper.last.checkpoint → c.lost ≡ n.keeper.lost
 
 -- so does each that has begun, but the opening's
 abbrev pub AllFit : Opened → Now → List ℕ → List Event → Type 0

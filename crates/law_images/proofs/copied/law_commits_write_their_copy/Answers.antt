@@ -29,7 +29,17 @@ returns-clause-copied c = λ o n bytes events it store begins long is full.
     let from : IsOpenedFrom bytes o n = record { store = store; world = begins; long = c.law_long_opens.ensures bytes long.newest o long.its long.long store } in
     let life : IsLifeTold opening events = record { opened = world; told = c.law_told_opens.ensures bytes o n from; in_turn = c.law_begun.ensures.numbers opening o.tail.0 events world opened.now (opens_at_rest o n begins) } in
     elim (life_known opening (CopiesIfFull opening events) events life (all_copied opening events opened.now.keeper) it is) [
-      | inl copied ↦ (let own = copied full in inl (record { later = own.later; moment = own.moment; split = own.split; in_hand = own.in_hand; finished = own.finished; triples = own.triples }))
+      | inl copied ↦ (let own = copied full in let its = own.its in inl (record {
+        later = own.later;
+        moment = own.moment;
+        split = own.split;
+        waits = own.waits;
+        hand = own.hand;
+        in_hand = own.in_hand;
+        its = record { number = its.number; kind = its.kind; first = its.first; end = its.end };
+        copied = own.copied;
+        triples = own.triples;
+      }))
       | inr first ↦ inr first
     ]
 

@@ -14,8 +14,9 @@ use Rattle.fkv_pairs.specs.Pairs.{log_of_store}
 use Rattle.fkv_scan.specs.Records.{is_in, losses}
 use Rattle.fkv_world.specs.World.{Now}
 use Rattle.law_commit.specs.BegunCommits.{BegunCommit}
-use Rattle.law_images.specs.Fits.{NamesItsLost}
+use Rattle.law_images.specs.Fits.{NamesItsLost, NamesLost}
 use Rattle.law_images.specs.Lost.{LosesAsOpened, LosesNoneFrom}
+use Rattle.law_images.proofs.LifeFits.{lost_as_opened, opened_older}
 use Rattle.law_images.proofs.LostOpened.{IsLostOpened, opened_lost}
 use Rattle.law_opening.specs.Log.OpeningLog.{opening_log}
 use Rattle.law_paper.specs.Paper.Old.{LosesTheRest}
@@ -37,17 +38,25 @@ none_lost a x (r ∷ ranges) low =
     let both = sum_by-cons (λ (s : LostRange). one_if (is_in a x s)) r ranges in
     omega (arith, both, here, rest)
 
-by_lost : (o : Opened) (n : Now) (bytes : List ℕ) (store : IsStoreOf bytes o) (c : BegunCommit) → IsOpeningWorld o n → LosesTheRest o.lost.items (log_of_store bytes o store) (opening_log bytes o) → NamesItsLost n c → LosesAsOpened o n bytes store c
+all_lost : (o : Opened) (n : Now) (c : BegunCommit) → IsOpeningWorld o n → NamesLost n c → lost_written c.lost ≡ o.lost.items
+all_lost o n c begins names = take_all 8 c.lost names.few ∙ (names.lost ∙ begins.its_keeper.in_hand)
+
+by_lost : (o : Opened) (n : Now) (bytes : List ℕ) (store : IsStoreOf bytes o) (c : BegunCommit) → IsOpeningWorld o n → LosesTheRest o.lost.items (log_of_store bytes o store) (opening_log bytes o) → NamesItsLost o n c → LosesAsOpened o n bytes store c
 by_lost o n bytes store c begins rest (inl none) =
-    let same : lost_written c.lost ≡ [] = ap (λ (x : List LostRange). take 8 x) none in
-    record { none = subst (λ (x : List LostRange). LosesNoneFrom o.tail.0 x) (sym same) (λ a x from. none_lost a x [] (λ k d low. absurd (omega (arith, low)))); rest = inl same }
+    let same : lost_written c.lost ≡ [] = ap (λ (x : List LostRange). take 8 x) none.none in
+    record {
+      none = subst (λ (x : List LostRange). LosesNoneFrom o.tail.0 x) (sym same) (λ a x from. none_lost a x [] (λ k d low. absurd (omega (arith, low))));
+      rest = λ used. subst (λ (x : List LostRange). LosesTheRest x (log_of_store bytes o store) (opening_log bytes o)) (sym (all_lost o n c begins (lost_as_opened o n c (opened_older o n begins) (inl none) used))) rest;
+      uses = inr none;
+    }
 by_lost o n bytes store c begins rest (inr names) =
-    let same : lost_written c.lost ≡ o.lost.items = take_all 8 c.lost names.few ∙ (names.lost ∙ begins.its_keeper.in_hand) in
+    let same : lost_written c.lost ≡ o.lost.items = all_lost o n c begins names in
     let opened = opened_lost bytes o store in
     record {
       none = subst (λ (x : List LostRange). LosesNoneFrom o.tail.0 x) (sym same) (λ a x from. none_lost a x o.lost.items
           (All-weaker (λ (r : LostRange). IsLostOpened o r) (λ (r : LostRange). r.to.0 ≤ a) (λ r is. (let low = is.in_log in omega (arith, low, from))) o.lost.items opened.each));
-      rest = inr (subst (λ (x : List LostRange). LosesTheRest x (log_of_store bytes o store) (opening_log bytes o)) (sym same) rest, names.checkpoint);
+      rest = λ used. subst (λ (x : List LostRange). LosesTheRest x (log_of_store bytes o store) (opening_log bytes o)) (sym same) rest;
+      uses = inl names.checkpoint;
     }
 
 pub returns : goal.returns
