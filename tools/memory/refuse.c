@@ -35,3 +35,12 @@ void *realloc(void *old, size_t size) {
     if (!next) next = (void *(*)(void *, size_t))dlsym(RTLD_NEXT, "realloc");
     return ++count == refused ? NULL : next(old, size);
 }
+
+/* A program with threads ends by this call, which runs no destructor. */
+void _exit(int status) {
+    static void (*next)(int);
+    if (!next) next = (void (*)(int))dlsym(RTLD_NEXT, "_exit");
+    end();
+    next(status);
+    abort();
+}
