@@ -205,7 +205,7 @@ module _ (given : Given) (life : BegunLife) (apart : OpensApart life) (before : 
       caught_none : (cause : CatchCause) → s.step ≡ CatchesUp cause → (h w : ℕ) → PublishesApart H (step_at N event) L h w
       caught_none cause at h w = publishes_by (λ x. PublishesApart H x L h w) (none_published h w)
           (λ its entry cell publishes there here older.
-          let making = making_of session s its publishes.reserved in
+          let making = (making_of session s its publishes.reserved).makes in
           let clash : false ≡ true = sym (ap is_attempting at) ∙ making.attempts in
           cc)
 

@@ -79,15 +79,18 @@ made_by a entry appending.Invalidates its e = by_step a.invalidating e
     by_step invalidating.AtRest e = none_some its e
     by_step (invalidating.StoresHeader addr header) e = ap (λ (r : Reservation). r.cell) (sym (some_same _ its e))
 
-pub record Making (s : SessionState) (its : Reservation) : Type 0 where
+pub record Makes (s : SessionState) : Type 0 where
   pub attempts : is_attempting s.step ≡ true
   pub tries : s.attempt.step ≡ Tries
   pub reply : Reply
   pub appends : s.attempt.trial.step ≡ Appends reply
+
+pub record Making (s : SessionState) (its : Reservation) : Type 0 where
+  pub makes : Makes s
   pub its_cell : its.cell ≡ cell_of s.attempt.trial.append.its_words
 
 try_making : (number : ℕ) (s : SessionState) (step : Trying) (its : Reservation) → is_attempting s.step ≡ true → s.attempt.step ≡ Tries → s.attempt.trial.step ≡ step → try_reserves number s.attempt.pending s.attempt.trial step ≡ Some its → Making s its
-try_making number s (Appends reply) its attempts tries at e = record { attempts = attempts; tries = tries; reply = reply; appends = at; its_cell = made_by s.attempt.trial.append (entry_made number s.attempt.pending reply) s.attempt.trial.append.step its e }
+try_making number s (Appends reply) its attempts tries at e = record { makes = record { attempts = attempts; tries = tries; reply = reply; appends = at }; its_cell = made_by s.attempt.trial.append (entry_made number s.attempt.pending reply) s.attempt.trial.append.step its e }
 try_making number s step its attempts tries at e = none_some its e
 
 attempt_making : (number : ℕ) (s : SessionState) (step : Attempting) (its : Reservation) → is_attempting s.step ≡ true → s.attempt.step ≡ step → attempt_reserves number s.attempt step ≡ Some its → Making s its
@@ -148,11 +151,8 @@ module _ (given : Given) (life : BegunLife) (apart : OpensApart life) (before : 
     pub held : 0 < session_held (seat_at N session) (latch_of N.places N.shape.bucket_bits op) state state.step
 
   module _ (number : ℕ) (s : SessionState) (found : slice_get N.sessions number ≡ Some s) (known : SessionKnows H L s) (is_apart : SessionApart H N.places L s) (chains : AreChains H L) where
-    -- what it has reserved an address for
-    module _ (its : Reservation) (reserved : reserved_by number s ≡ Some its) where
-      making : Making s its
-      making = making_of number s its reserved
-
+    -- the record that it makes
+    module _ (making : Makes s) where
       abbrev t : TryState
       t = s.attempt.trial
 
@@ -221,11 +221,22 @@ module _ (given : Given) (life : BegunLife) (apart : OpensApart life) (before : 
           let so : TriesAt s.attempt.pending t Tries = subst (TriesAt s.attempt.pending t) making.tries (attempts_so s.attempt s.step making.attempts (life_so life.opening life.start before number s life.begins.store.now found).sits).tries_so in
           subst (KnowsAt request t) making.appends so.of_request.knows
 
-      pub key_so : H its.cell.key ≡ H (key_in request)
-      key_so = ap (λ (c : Cell). H c.key) (making.its_cell) ∙ ap (λ (k : Key). H k.0) words_so.same.its_key
+      pub makes_key : (cell_of t.append.its_words).key ≡ key_in request
+      makes_key = ap (λ (k : Key). k.0) words_so.same.its_key
 
-      pub version_so : its.cell.version ≡ request.version.0
-      version_so = ap (λ (c : Cell). c.version) (making.its_cell) ∙ ap (λ (v : Version). v.0) words_so.same.its_version
+      pub makes_version : (cell_of t.append.its_words).version ≡ request.version.0
+      makes_version = ap (λ (v : Version). v.0) words_so.same.its_version
+
+    -- what it has reserved an address for
+    module _ (its : Reservation) (reserved : reserved_by number s ≡ Some its) where
+      making : Making s its
+      making = making_of number s its reserved
+
+      pub key_so : H its.cell.key ≡ H (key_in s.attempt.pending.request)
+      key_so = ap (λ (c : Cell). H c.key) making.its_cell ∙ ap H (makes_key making.makes)
+
+      pub version_so : its.cell.version ≡ s.attempt.pending.request.version.0
+      version_so = ap (λ (c : Cell). c.version) making.its_cell ∙ makes_version making.makes
 
     -- what it publishes is what it has reserved an address for
     cell_so : (its : Reservation) (entry : HistoryEntry) (cell : Cell) → PublishesIt (mover_step N number (Some s)) its → L.cells its.addr ≡ Reserved entry cell → cell ≡ its.cell
@@ -239,7 +250,7 @@ module _ (given : Given) (life : BegunLife) (apart : OpensApart life) (before : 
         let same = cell_so its entry cell publishes there in
         let key = ap (λ (c : Cell). H c.key) same ∙ key_so its publishes.reserved in
         let version = ap (λ (c : Cell). c.version) same ∙ version_so its publishes.reserved in
-        stands_so its publishes.reserved h w sharer (sym key ∙ here) (omega (arith, older, version))
+        stands_so (making_of number s its publishes.reserved).makes h w sharer (sym key ∙ here) (omega (arith, older, version))
 
     -- it comes behind none of its own version
     pub publishes_own : (h : ℕ) → PublishesApart H (mover_step N number (Some s)) L h s.attempt.pending.request.version.0

@@ -11,6 +11,7 @@ use Rattle.fkv_world.specs.Opened.{HasBecome}
 use Rattle.fkv_world.specs.Runs.{World, run}
 use Rattle.fkv_world.specs.World.{Event}
 use Rattle.law_commit.specs.Floor.Stands.{FloorAlwaysStands, PaperHasFloor, PaperIsSound}
+use Rattle.law_commit.specs.Laws.Pasts.{ItsVersionIsNotAhead}
 use Rattle.law_commit.specs.PhaseVersions.{phase_version}
 use Rattle.law_commit.specs.Quiet.{NoneIsLeft, OpensQuiet}
 use Rattle.law_commit.specs.Views.{sight_of}
@@ -43,6 +44,7 @@ pub record Given : Type 0 where
   pub floor : PaperHasFloor
   pub floors : FloorAlwaysStands
   pub left : NoneIsLeft
+  pub ahead : ItsVersionIsNotAhead
   pub beside : StandsBesideNone
   pub safe : SafeIsBelowViews
   pub older : OlderShare
