@@ -7,7 +7,10 @@ use crate::fits::law_opening_fits;
 use crate::in_turn::{law_ends_open, law_versions_open};
 use crate::ordered::law_world_ordered;
 use crate::rules::{law_life_begins, law_order_of_rules};
+use law_commit::{law_floor_stands, law_versions_counted, law_versions_end};
 use law_opening::law_latches_open;
+use law_paper::law_phases_are_seen;
+use law_parts::law_latched_in_tries;
 
 /// In each life what has taken effect so far is one history, legal from the store's map on, with the replies given. Sessions turn pages, sleep,
 /// wake, stall in the middle of calls, meet the disk and fill overflow buckets. Calls of the device fail, any actor moves at any step, and a crash comes
@@ -17,11 +20,11 @@ use law_opening::law_latches_open;
 /// of sessions begin. With commits or without, each action is run once at most. Each protected session then goes by what it loaded since the action's epoch
 /// was raised.
 pub fn law_order()
-    ensures legal { lives.InEachLife (lives.WhereGiven laws.HasLegalHistory) }
-    ensures ordered { lives.InEachLife (lives.WhereGiven laws.OrdersItsCalls) }
-    ensures fresh { lives.InEachLife (lives.WhereGiven laws.ReadsFreshly) }
-    ensures in_time { lives.InEachLife (lives.WhereGiven ReadsInTime) }
-    ensures guarded { lives.InEachLife (lives.WhereGiven laws.IsGuarded) }
+    ensures legal { lives.InEachLife (lives.WhereOwed laws.HasLegalHistory) }
+    ensures ordered { lives.InEachLife (lives.WhereOwed laws.OrdersItsCalls) }
+    ensures fresh { lives.InEachLife (lives.WhereOwed laws.ReadsFreshly) }
+    ensures in_time { lives.InEachLife (lives.WhereOwed ReadsInTime) }
+    ensures guarded { lives.InEachLife (lives.WhereOwed laws.IsGuarded) }
     ensures once { lives.InEachLife laws.RunsActionsOnce }
 {
     law_life_begins();
@@ -31,4 +34,9 @@ pub fn law_order()
     law_ends_open();
     law_versions_open();
     law_latches_open();
+    law_phases_are_seen();
+    law_floor_stands();
+    law_versions_end();
+    law_versions_counted();
+    law_latched_in_tries();
 }

@@ -1,5 +1,5 @@
 -- What stays as a home gets no later version stays along the events of the log that a step is.
-use Rattle.std.proofs.Common.{◌≡◌, ℕ, ◌<◌, ◌∙◌, refl, ap, List, [], ◌∷◌, ◌++◌}
+use Rattle.std.proofs.Common.{◌≡◌, ℕ, ◌<◌, ◌∙◌, ap, List, [], ◌∷◌, ◌++◌}
 use Rattle.fkv_map.specs.declared.history.HistoryEntry.{HistoryEntry}
 use Rattle.fkv_map.specs.Map.{Map}
 use Rattle.std.specs.Prelude.{Option}
@@ -10,7 +10,7 @@ use Rattle.law_log.specs.Enabled.{AreEnabled}
 use Rattle.law_log.specs.Enabled as order
 use Rattle.law_log.specs.Ghosts.{Changes, Drops, FindsEntry, Fixes, GhostEvent, Ghosts, Log, Publishes, Reserves, TakesValue, Tells, ghost_run, ghosts_after, log_after}
 use Rattle.law_log.proofs.Shown.{Grows, Held, log_steps, run_held}
-use Rattle.law_refine.specs.Events.Effects.{AreQuiet, Behind, ByRecord, ChangesAt, InPlace, PublishesIt, Quietly, Stepped, TakesEffect, is_quiet}
+use Rattle.law_refine.specs.Events.Effects.{AreQuiet, Behind, ByRecord, InPlace, PublishesIt, Quietly, Stepped, TakesEffect, is_quiet}
 use Rattle.law_refine.specs.Events.Reservations.{Reservation}
 
 -- what a step publishes at this home is of no later version than this, or its home has one already

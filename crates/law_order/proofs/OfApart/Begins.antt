@@ -1,11 +1,8 @@
 -- As a life begins no session has a request.
-use Rattle.std.proofs.Common.{◌≡◌, ℕ, [], Some}
-use Rattle.std.specs.Prelude.{slice_get}
-use Rattle.fkv_session.specs.Sessions.{SessionState}
+use Rattle.std.proofs.Common.{[]}
 use Rattle.fkv_world.specs.Runs.{run}
 use Rattle.law_apart.specs.Apart.Rows.{AttemptApart, PendingApart}
 use Rattle.law_local.proofs.OfSessions.Known.{opened_known}
-use Rattle.law_log.specs.Ghosts.{Log}
 use Rattle.law_order.specs.Apart.Laws.{BeginsApart}
 use Rattle.law_order.specs.Known.Begins.{home_of_world}
 use Rattle.law_refine.specs.Events.GhostEvents.{life_ghosts}

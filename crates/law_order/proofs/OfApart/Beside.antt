@@ -1,11 +1,8 @@
 -- What takes effect has no later version at its home, and no change meets a copy of its record.
-use Rattle.std.proofs.Common.{◌≡◌, ◌≢◌, ◌⊎◌, inl, inr, ℕ, ◌+◌, ◌<◌, ◌≤◌, refl, sym, ap, ◌∙◌, subst, arith, Bool, true, false, List, Option, Some, None}
+use Rattle.std.proofs.Common.{◌≡◌, inl, inr, ℕ, ◌<◌, refl, sym, ap, ◌∙◌, subst, arith, Bool, true, false, List, Some}
 use Rattle.std.specs.Prelude.{⊤, slice_get}
 use Rattle.std.proofs.lemmas.Bool.Decides.{nat_tests}
-use Rattle.fkv_base.specs.declared.numbers.Version.{Version}
-use Rattle.fkv_map.specs.declared.history.HistoryEntry.{HistoryEntry}
 use Rattle.fkv_epoch.proofs.Shown.{none_some, some_same}
-use Rattle.fkv_map.specs.Keys.{key_of}
 use Rattle.fkv_ops.specs.declared.requests.Request.{Request}
 use Rattle.fkv_ops.specs.declared.trying.Trying.{Trying}
 use Rattle.fkv_ops.specs.declared.trying.Trying.TheVariants.{Appends, ChangesValue, SwapsValue}
@@ -13,13 +10,10 @@ use Rattle.fkv_ops.specs.Requests.{is_read}
 use Rattle.fkv_ops.specs.Trying.{TryState}
 use Rattle.fkv_pending.specs.declared.attempting.Attempting.{Attempting}
 use Rattle.fkv_pending.specs.declared.attempting.Attempting.TheVariants.{Tries}
-use Rattle.fkv_pending.specs.Attempting.{AttemptState}
 use Rattle.fkv_session.specs.Sessions.{SessionState}
-use Rattle.fkv_world.specs.Opened.{HasBecome}
-use Rattle.fkv_world.specs.Runs.{World, run}
+use Rattle.fkv_world.specs.Runs.{run}
 use Rattle.fkv_world.specs.World.{Event, Now, seat_at}
 use Rattle.law_apart.specs.Apart.Rows.{SharesRow, shares_now}
-use Rattle.law_commit.specs.PhaseVersions.{phase_version}
 use Rattle.law_commit.specs.Shares.Tries.{SharesSo, SharesTrying}
 use Rattle.law_guard.specs.Sessions.InPlace.{try_changes}
 use Rattle.law_local.specs.Sessions.Known.{is_attempting}
@@ -29,10 +23,9 @@ use Rattle.law_local.specs.Tries.OnWay.{IsFoundAt}
 use Rattle.law_local.specs.Tries.Kept.{source_of}
 use Rattle.law_local.specs.Tries.TryRows.{NoneIsLater, TryRow, cell_of, key_in}
 use Rattle.law_local.specs.Tries.WalkRows.{begin_of}
-use Rattle.law_log.specs.Chains.{Cell, Logged, Published, Reserved, chain_from, has_key, version_at}
+use Rattle.law_log.specs.Chains.{Cell, Logged, Published, chain_from, has_key, version_at}
 use Rattle.law_log.specs.Enabled.{AreEnabled, NoneAbove, NoneCopies}
 use Rattle.law_log.specs.Ghosts.{Log, first_from}
-use Rattle.law_log.specs.Trace.{IsIn}
 use Rattle.law_log.proofs.Shown.{IsFirst, first_is, not_unborn}
 use Rattle.law_order.specs.Apart.Given.{Given}
 use Rattle.law_order.specs.Apart.Lives.{AllApartBehind, OpensApart}
@@ -40,12 +33,12 @@ use Rattle.law_order.specs.Known.Begins.{BegunLife, home_of_world}
 use Rattle.law_order.specs.Known.Knows.{AllKnowBehind}
 use Rattle.law_order.proofs.OfApart.Heart.{Makes, Sharer, became, gone_now, key_so, makes_key, makes_version, making_of, stands_so, version_so}
 use Rattle.law_order.proofs.OfApart.Moments.{attempt_left, attempt_upto}
-use Rattle.law_order.proofs.OfApart.Newest.{held, opens_log, shares, trial_apart, unshared_none, unshared_said}
+use Rattle.law_order.proofs.OfApart.Newest.{held, shares, trial_apart, unshared_none, unshared_said}
 use Rattle.law_order.proofs.OfApart.Sharers.{attempts_held}
 use Rattle.law_refine.specs.Events.Effects.{PublishesIt, mover_step}
 use Rattle.law_refine.specs.Events.GhostEvents.{life_ghosts, mapped}
 use Rattle.law_refine.specs.Events.Reservations.{Reservation}
-use Rattle.law_refine.specs.Events.Reserved.{IsOfSession, reserved_by}
+use Rattle.law_refine.specs.Events.Reserved.{IsOfSession}
 use Rattle.law_refine.proofs.OfEvents.ReservedLife.{life_sessions}
 
 -- a try is about to take effect

@@ -1,23 +1,19 @@
 -- What the sessions of a life know of versions goes on by each event.
-use Rattle.std.proofs.Common.{◌≡◌, ◌≢◌, ◌⊎◌, inl, inr, ℕ, ◌+◌, ◌<◌, ◌≤◌, refl, sym, ap, ◌∙◌, subst, arith, eqb-true, Bool, true, false, List, ◌∷◌, ◌++◌, Option, Some, None}
-use Rattle.std.specs.Prelude.{◌==◌, slice_get}
-use Rattle.std.proofs.lemmas.Bool.Decides.{nat_tests}
+use Rattle.std.proofs.Common.{◌≡◌, ◌≢◌, ℕ, refl, sym, ap, ◌∙◌, subst, eqb-true, Bool, true, false, List, ◌∷◌, Option, Some, None}
+use Rattle.std.specs.Prelude.{slice_get}
 use Rattle.fkv_base.specs.declared.numbers.Version.{Version}
 use Rattle.fkv_plane.specs.declared.places.Places.{Places}
 use Rattle.fkv_epoch.proofs.Shown.{none_some, some_same}
-use Rattle.fkv_map.specs.declared.history.HistoryEntry.{HistoryEntry}
 use Rattle.fkv_ops.specs.declared.requests.Request.{Request}
 use Rattle.fkv_ops.specs.Requests.{is_read}
-use Rattle.fkv_ops.specs.Trying.{try_next}
 use Rattle.fkv_pending.specs.declared.attempting.Attempting.{Attempting}
 use Rattle.fkv_pending.specs.declared.attempting.Attempting.TheVariants.{Ended, Looks, Puts, Tries}
 use Rattle.fkv_pending.specs.declared.pending_requests.PendingRequest.{PendingRequest}
 use Rattle.fkv_pending.specs.Attempting.{AttemptState}
 use Rattle.fkv_session.specs.declared.catching_up.Catching.TheVariants.{Latches}
 use Rattle.fkv_session.specs.declared.sessions.CatchCause.{CatchCause}
-use Rattle.fkv_session.specs.declared.sessions.Sitting.{Sitting}
 use Rattle.fkv_session.specs.declared.sessions.Sitting.TheVariants.{CatchesUp, Polls}
-use Rattle.fkv_session.specs.Sessions.{Seat, SessionState, bits_of, room_of, session_begun, session_next}
+use Rattle.fkv_session.specs.Sessions.{Seat, SessionState, bits_of, room_of, session_next}
 use Rattle.fkv_session.proofs.Shown.{attempt_keeps}
 use Rattle.fkv_world.specs.Moves.{Near, session_moved}
 use Rattle.fkv_world.specs.Opened.{HasBecome}
@@ -35,13 +31,11 @@ use Rattle.law_local.specs.Tries.AttemptRows.{AttemptRow, IsTrueOfAttempt, Pendi
 use Rattle.law_local.specs.Tries.AttemptRows as local
 use Rattle.law_local.specs.Tries.Replies.{IsTrueReply}
 use Rattle.law_local.specs.Tries.TryRows.{NoneIsLater, NoneLaterPast, key_in}
-use Rattle.law_local.proofs.OfSessions.Known.{stays_known}
 use Rattle.law_local.proofs.OfTries.AttemptSteps.{attempt_leads}
 use Rattle.law_local.proofs.OfTries.OnWay.{orderly}
 use Rattle.law_local.proofs.OfTries.TrySteps.{try_leads}
-use Rattle.law_log.specs.Chains.{Cell, Reserved}
 use Rattle.law_log.specs.Enabled.{AreEnabled}
-use Rattle.law_log.specs.Ghosts.{GhostEvent, Log}
+use Rattle.law_log.specs.Ghosts.{Log}
 use Rattle.law_log.proofs.Shown.{Grows, Held, enabled_before}
 use Rattle.law_order.specs.Apart.Given.{Given}
 use Rattle.law_order.specs.Apart.Lives.{AllApartBehind, OpensApart}
@@ -49,13 +43,12 @@ use Rattle.law_order.specs.Known.Begins.{BegunLife, home_of_world}
 use Rattle.law_order.specs.Known.Knows.{AllKnowBehind}
 use Rattle.law_order.specs.Known.Told.{AreToldTruly, reply_in}
 use Rattle.law_order.proofs.OfApart.Along.{PublishesApart, takes_along}
-use Rattle.law_order.proofs.OfApart.Heart.{Sharer, became, gone_now, making_of, publishes_apart, publishes_own}
+use Rattle.law_order.proofs.OfApart.Heart.{Sharer, became, making_of, publishes_apart, publishes_own}
 use Rattle.law_order.proofs.OfApart.Moments.{attempt_left, waiting_left}
 use Rattle.law_order.proofs.OfApart.Newest.{held, none_said, passes, tells}
 use Rattle.law_order.proofs.OfApart.Sharers.{attempts_held, waits_held}
-use Rattle.law_refine.specs.Events.Effects.{PublishesIt, Stepped, mover_step, no_step, step_at}
+use Rattle.law_refine.specs.Events.Effects.{Stepped, mover_step, no_step, step_at}
 use Rattle.law_refine.specs.Events.GhostEvents.{ghost_events, life_ghosts, mapped, serials_in}
-use Rattle.law_refine.specs.Events.Reservations.{Reservation}
 use Rattle.law_refine.proofs.OfEvents.EventEffects.{life_makes}
 use Rattle.law_refine.proofs.OfSeen.Alone.{moves_alone}
 use Rattle.law_refine.proofs.OfSeen.There.{there_before}
@@ -249,7 +242,7 @@ module _ (given : Given) (life : BegunLife) (apart : OpensApart life) (before : 
           latched cause i at takes index pending got update =
               along (λ log. NoneIsLater H log pending.request) (Unit {0}) (H (key_in pending.request)) pending.request.version.0 (λ log log' is grows raises so. stays.none_stays H life.map log log' is grows pending.request (raises tt) so)
               (λ unit. caught_none cause at (H (key_in pending.request)) pending.request.version.0)
-              (λ updates. none_said given life apart before enabled_so (H (key_in pending.request)) pending.request.version.0 (given.enters life.opening life.start before session became_so.0 s cause i index pending apart.quiet became_so.1 at takes got updates)) update
+              (λ updates. none_said given life apart before enabled_so (H (key_in pending.request)) pending.request.version.0 (given.owed.enters life.opening life.start before session became_so.0 s cause i index pending apart.quiet became_so.1 at takes got updates)) update
 
       replied : (after : SessionState) → after ≡ session_next K s reply → Knows L' after
       replied after is = subst (Knows L') (sym is) (step_apart H K L L' s reply facts (all_apart session s was))

@@ -1,5 +1,5 @@
 -- No update takes effect at a home at which one of an older version shares its latch, unless a later version stands there already.
-use Rattle.std.proofs.Common.{◌≡◌, ◌≢◌, ◌⊎◌, inl, inr, ℕ, ◌+◌, ◌*◌, ◌^◌, ◌<◌, ◌≤◌, refl, sym, ap, ◌∙◌, subst, arith, eqb-true, Bool, true, false, List, Option, Some, None}
+use Rattle.std.proofs.Common.{◌≡◌, inl, inr, ℕ, ◌^◌, ◌<◌, refl, sym, ap, ◌∙◌, subst, arith, eqb-true, Bool, true, false, List, Some}
 use Rattle.std.specs.Prelude.{◌==◌, ◌&&◌, slice_get}
 use Rattle.std.proofs.lemmas.Bool.Decides.{nat_tests}
 use Rattle.fkv_base.specs.declared.numbers.Key.{Key}
@@ -23,7 +23,6 @@ use Rattle.fkv_ops.specs.Requests.{is_read}
 use Rattle.fkv_ops.specs.Trying.{TryState, is_moving_on}
 use Rattle.fkv_pending.specs.declared.attempting.Attempting.{Attempting}
 use Rattle.fkv_pending.specs.declared.attempting.Attempting.TheVariants.{Tries}
-use Rattle.fkv_pending.specs.declared.pending_requests.PendingRequest.{PendingRequest}
 use Rattle.fkv_pending.specs.Attempting.{AttemptState}
 use Rattle.fkv_plane.specs.Places.{bucket_place}
 use Rattle.fkv_session.specs.declared.sessions.Sitting.{Sitting}
@@ -31,19 +30,18 @@ use Rattle.fkv_session.specs.declared.sessions.Sitting.TheVariants.{Attempts, Po
 use Rattle.fkv_session.specs.Sessions.{Seat, SessionState, bits_of}
 use Rattle.fkv_session.specs.Shares.{latch_of}
 use Rattle.fkv_world.specs.Opened.{HasBecome}
-use Rattle.fkv_world.specs.Runs.{World, run}
-use Rattle.fkv_world.specs.World.{Calls, Commits, Crashes, Event, KeeperMoves, Moves, Now, Turns, seat_at}
-use Rattle.fkv_world.proofs.Shown.{places_stay, same_seat, shape_stays}
+use Rattle.fkv_world.specs.Runs.{run}
+use Rattle.fkv_world.specs.World.{Event, Now, seat_at}
+use Rattle.fkv_world.proofs.Shown.{places_stay, shape_stays}
 use Rattle.fkv_epoch.proofs.Shown.{none_some, some_same}
 use Rattle.law_apart.specs.Apart.Rows.{AttemptApart, CopiesApart, CopiesRow, MovesOn, SessionApart, TryApart}
 use Rattle.law_apart.proofs.OfApart.Raises.{StandsAlready}
 use Rattle.law_changes.proofs.OfSessions.Attempting.{life_attempts}
-use Rattle.law_local.specs.Sessions.Inputs.{AttemptsBy, AttemptsSo, IsTryFor, TriesFor}
+use Rattle.law_local.specs.Sessions.Inputs.{AttemptsBy, IsTryFor, TriesFor}
 use Rattle.law_local.specs.Sessions.Known.{is_attempting}
 use Rattle.law_local.specs.Tries.AttemptRows.{AttemptKnows, AttemptRow}
 use Rattle.law_local.specs.Tries.AttemptRows as local
 use Rattle.law_local.specs.Tries.TryRows.{TryRow, cell_of, key_in}
-use Rattle.law_local.specs.Tries.WalkRows.{begin_of}
 use Rattle.law_log.specs.Chains.{Cell, Reserved, version_at}
 use Rattle.law_log.specs.Ghosts.{Log}
 use Rattle.law_log.specs.Enabled.{AreChains}
@@ -57,12 +55,12 @@ use Rattle.law_order.proofs.OfApart.Moments.{attempt_settled, gone}
 use Rattle.law_order.proofs.OfApart.Sharers.{makes_alone, same_latch}
 use Rattle.law_parts.specs.Latches.InTries.{session_held}
 use Rattle.law_parts.specs.Latches.Latchers.{its_latch}
-use Rattle.law_refine.specs.Events.Effects.{PublishesIt, Stepped, mover_step, no_step, step_at}
+use Rattle.law_refine.specs.Events.Effects.{PublishesIt, mover_step}
 use Rattle.law_refine.specs.Events.GhostEvents.{home_in, life_ghosts}
 use Rattle.law_refine.specs.Events.Reservations.{Reservation, append_reserves, attempt_reserves, invalidate_reserves, try_reserves}
 use Rattle.law_refine.specs.Events.Reserved.{reserved_by, sitting_reserves}
 use Rattle.law_refine.specs.Events.Appends.{entry_made}
-use Rattle.law_refine.proofs.OfEvents.RequestNames.{IsAttemptSo, IsTryOf, StepIsSo, TriesAt, life_so}
+use Rattle.law_refine.proofs.OfEvents.RequestNames.{IsAttemptSo, StepIsSo, TriesAt, life_so}
 use Rattle.law_refine.proofs.OfEvents.ReservedLife.{life_reserved}
 use Rattle.law_refine.proofs.OfEvents.TryAppends.{IsAppendOf, KnowsAt}
 use Rattle.law_refine.proofs.OfSeen.There.{was_there}

@@ -1,11 +1,10 @@
 -- How the versions of a session's updates lie at a moment of a life, by what its session has seen of the phase.
-use Rattle.std.proofs.Common.{◌≡◌, inl, inr, ℕ, ◌+◌, ◌*◌, ◌-◌, ◌<◌, ◌≤◌, refl, sym, ap, ◌∙◌, subst, arith, Bool, true, false, List}
+use Rattle.std.proofs.Common.{◌≡◌, ℕ, ◌+◌, ◌*◌, ◌-◌, ◌<◌, ◌≤◌, refl, sym, ap, ◌∙◌, subst, arith, Bool, true, false, List}
 use Rattle.std.specs.Prelude.{Some, nat_le, nat_lt, slice_get}
 use Rattle.std.proofs.lemmas.Bool.Decides.{nat_tests}
 use Rattle.fkv_base.specs.declared.numbers.Version.{Version}
 use Rattle.fkv_base.specs.declared.phases.Phase.{Phase}
 use Rattle.fkv_base.specs.declared.phases.Phase.TheVariants.{InProgress, Prepare, Rest, WaitFlush, WaitPending}
-use Rattle.fkv_commit.specs.Commits.{version_after}
 use Rattle.fkv_ops.specs.Requests.{is_read}
 use Rattle.fkv_ops.specs.Trying.{is_moving_on, is_prepare}
 use Rattle.fkv_pending.specs.declared.pending_requests.PendingRequest.{PendingRequest}
@@ -17,8 +16,8 @@ use Rattle.fkv_world.specs.Runs.{World, run}
 use Rattle.fkv_world.specs.World.{Event}
 use Rattle.law_commit.specs.Floor.Stands.{FloorAlwaysStands, FloorStands, HasFloor, stage_number}
 use Rattle.law_commit.specs.PhaseVersions.{phase_version, version_said}
-use Rattle.law_commit.specs.Phases.Staged.{DefersPending, DefersProgress, FitsVersion, Flushes, IsStaged, Pends, Prepares, Progresses, Rests, Stage, stage_version}
-use Rattle.law_commit.specs.Quiet.{HasNoneUpto, IsLater, NoneIsLeft, OpensQuiet, flush_rank, rank_now}
+use Rattle.law_commit.specs.Phases.Staged.{DefersPending, DefersProgress, FitsVersion, Flushes, Pends, Prepares, Progresses, Rests, Stage, stage_version}
+use Rattle.law_commit.specs.Quiet.{HasNoneUpto, IsLater, NoneIsLeft, OpensQuiet, flush_rank}
 use Rattle.law_commit.specs.Ranks.{rank}
 use Rattle.law_commit.specs.Versions.Cells.{IsFromUpto}
 use Rattle.law_commit.specs.Versions.Requests.{AttemptsSo, IsUpdateSo, RequestsFrom}

@@ -1,8 +1,7 @@
 -- What the log and the words tell a session's try: so none that has passed its walk has a later version at its home.
-use Rattle.std.proofs.Common.{◌≡◌, ◌≢◌, ◌⊎◌, inl, inr, ℕ, ◌+◌, ◌<◌, ◌≤◌, refl, sym, ap, ◌∙◌, subst, arith, eqb-true, Bool, true, false, List, Option, Some, None}
-use Rattle.std.specs.Prelude.{◌==◌, ◌&&◌, nat_le, nat_lt, slice_get}
+use Rattle.std.proofs.Common.{◌≡◌, ℕ, ◌+◌, ◌<◌, ◌≤◌, refl, sym, ap, ◌∙◌, subst, arith, eqb-true, Bool, true, false, List, Some}
+use Rattle.std.specs.Prelude.{◌==◌, nat_le, nat_lt, slice_get}
 use Rattle.std.proofs.lemmas.Bool.Decides.{nat_tests}
-use Rattle.fkv_base.specs.declared.numbers.Key.{Key}
 use Rattle.fkv_base.specs.declared.numbers.Version.{Version}
 use Rattle.fkv_index.specs.declared.finding.FindAnswer.{FindAnswer}
 use Rattle.fkv_index.specs.declared.finding.FindStep.{FindStep}
@@ -12,34 +11,30 @@ use Rattle.fkv_index.specs.declared.finding.Found.{Found}
 use Rattle.fkv_index.specs.declared.finding.Found.TheVariants as found
 use Rattle.fkv_index.specs.declared.homes.Home.{Home}
 use Rattle.fkv_index.specs.Finding.{find_ask, find_next_ask}
-use Rattle.fkv_index.specs.IndexWorld.{IndexActor, IndexWorld, Seeks}
+use Rattle.fkv_index.specs.IndexWorld.{IndexWorld}
 use Rattle.fkv_index.specs.OneEntry.{HasLost}
 use Rattle.fkv_index.specs.Slots.{home_of, link_of}
 use Rattle.fkv_index.proofs.Shown.{IsSound, sound_lost}
 use Rattle.fkv_map.specs.Keys.{key_of}
 use Rattle.fkv_ops.specs.declared.requests.Request.{Request}
 use Rattle.fkv_ops.specs.declared.requests.Seen.{Seen}
-use Rattle.fkv_ops.specs.declared.trying.Trying.{Trying}
 use Rattle.fkv_ops.specs.declared.trying.Trying.TheVariants.{Walks}
-use Rattle.fkv_ops.specs.declared.walking.Walking.{Walking}
 use Rattle.fkv_ops.specs.declared.walking.Walking.TheVariants.{Finds}
 use Rattle.fkv_ops.specs.Requests.{is_read, purpose_of}
 use Rattle.fkv_ops.specs.Trying.{TryState, is_moving_on, is_prepare}
-use Rattle.fkv_pending.specs.declared.attempting.Attempting.{Attempting}
 use Rattle.fkv_pending.specs.declared.attempting.Attempting.TheVariants.{Tries}
-use Rattle.fkv_pending.specs.Attempting.{AttemptState}
 use Rattle.fkv_plane.specs.Asked.{reply_to}
 use Rattle.fkv_plane.proofs.Shown.{passed_reply}
 use Rattle.fkv_session.specs.declared.answers.Told.TheVariants.{Slept}
 use Rattle.fkv_plane.specs.declared.asks.Ask.TheVariants.{Done}
 use Rattle.fkv_session.specs.declared.sessions.Sitting.{Sitting}
 use Rattle.fkv_session.specs.declared.sessions.Sitting.TheVariants.{Attempts, Polls}
-use Rattle.fkv_session.specs.Sessions.{SessionState, session_ask}
+use Rattle.fkv_session.specs.Sessions.{SessionState}
 use Rattle.fkv_world.specs.Opened.{HasBecome}
-use Rattle.fkv_world.specs.Runs.{World, run}
-use Rattle.fkv_world.specs.World.{Event, Now, seat_at}
+use Rattle.fkv_world.specs.Runs.{run}
+use Rattle.fkv_world.specs.World.{Event, Now}
 use Rattle.fkv_world.proofs.Shown.{shape_stays}
-use Rattle.law_apart.specs.Apart.Rows.{AttemptApart, IsLater, SearchTells, SessionApart, SharesRow, TellsApart, TellsSharer, TryApart, is_linking, is_lost}
+use Rattle.law_apart.specs.Apart.Rows.{AttemptApart, IsLater, SearchTells, SessionApart, TellsApart, TellsSharer, TryApart, is_linking, is_lost}
 use Rattle.law_apart.proofs.OfApart.Links.{full_links}
 use Rattle.law_apart.proofs.OfApart.Tries.{sharers_pass}
 use Rattle.law_changes.proofs.OfSessions.Attempting.{attempting_is}
@@ -54,7 +49,6 @@ use Rattle.law_commit.proofs.OfLinked.Lives.{life_meets}
 use Rattle.law_commit.proofs.OfShares.Alone.{tries_share}
 use Rattle.law_commit.proofs.OfVersions.Life.{cells_upto, sees_older}
 use Rattle.law_commit.proofs.Shown.{view_seen}
-use Rattle.fkv_flush.specs.GuardLevels.{levels_of}
 use Rattle.law_guard.proofs.OfGuarded.OfLives.{life_in_order}
 use Rattle.law_guard.proofs.OfGuarded.Worlds.{life_shows}
 use Rattle.law_guard.specs.Guarded.Shows.{seen_by_guard}
@@ -62,9 +56,9 @@ use Rattle.law_local.specs.Sessions.Known.{is_attempting}
 use Rattle.law_local.specs.Tries.AttemptRows.{AttemptRow, IsTrueOfAttempt}
 use Rattle.law_local.specs.Tries.AttemptRows as local
 use Rattle.law_local.specs.Tries.Replies.{IsTrueReply}
-use Rattle.law_local.specs.Tries.TryRows.{NoneIsLater, NoneLaterPast, TryRow, head_in, key_in}
+use Rattle.law_local.specs.Tries.TryRows.{NoneIsLater, NoneLaterPast, head_in, key_in}
 use Rattle.law_local.proofs.OfTries.OnWay.{orderly}
-use Rattle.law_log.specs.Chains.{Cell, Dropped, Logged, Published, Reserved, Unborn, head_of, version_at}
+use Rattle.law_log.specs.Chains.{Dropped, Logged, Published, Reserved, Unborn, head_of, version_at}
 use Rattle.law_log.specs.Enabled.{AreEnabled, NoneAbove}
 use Rattle.law_log.specs.Ghosts.{Log}
 use Rattle.law_log.specs.Trace.{IsIn}
@@ -74,17 +68,16 @@ use Rattle.law_order.specs.Apart.Lives.{OpensApart}
 use Rattle.law_order.specs.Known.Begins.{BegunLife, home_of_world}
 use Rattle.law_order.specs.Known.Knows.{SessionKnows}
 use Rattle.law_order.specs.Known.Told.{reply_in}
-use Rattle.law_order.proofs.OfApart.Heart.{became, gone_now, seen_in, try_in}
-use Rattle.law_order.proofs.OfApart.Moments.{attempt_left, attempt_newest, attempt_prepared, attempt_upto, awake}
+use Rattle.law_order.proofs.OfApart.Heart.{became, seen_in}
+use Rattle.law_order.proofs.OfApart.Moments.{attempt_newest, attempt_prepared, attempt_upto, awake}
 use Rattle.law_order.proofs.OfTruth.Frames.{published_below}
 use Rattle.law_parts.specs.Index.Finders.{Search, Searches, SessionWork, session_part}
 use Rattle.law_parts.specs.Index.Finders as finders
 use Rattle.law_parts.specs.Index.Shows.{IsWork, seen_by_index}
 use Rattle.law_parts.proofs.OfIndex.LifeFacts.{life_asks, life_sound}
 use Rattle.law_parts.proofs.OfIndex.Permitted.{are_permitted}
-use Rattle.law_refine.specs.Events.GhostEvents.{home_number, life_ghosts, mapped, safe_at}
+use Rattle.law_refine.specs.Events.GhostEvents.{home_number, life_ghosts, mapped}
 use Rattle.law_refine.specs.Events.Reserved.{tail_at}
-use Rattle.law_refine.specs.Heads.Heads.{head_at}
 use Rattle.law_refine.specs.Heads.Searches.{IsWorkAt, home_attempted}
 use Rattle.law_refine.proofs.OfEvents.Fixed.{ghost_fixed}
 use Rattle.law_refine.proofs.OfHeads.AtHome.{life_at_home}
@@ -185,7 +178,7 @@ module _ (given : Given) (life : BegunLife) (apart : OpensApart life) (before : 
             by_version false e =
                 let upto = attempt_upto given.floors given.left life.opening life.start before apart.quiet session became_so.0 s became_so.1 attempts updates in
                 let older : s.attempt.pending.request.version.0 < s.seen.version.0 = grind (arith, nat_tests, e, upto) in
-                clash (so.kept (given.older life.opening life.start before session became_so.0 s apart.quiet apart.latches became_so.1 attempts updates older tries))
+                clash (so.kept (given.owed.older life.opening life.start before session became_so.0 s apart.quiet apart.latches became_so.1 attempts updates older tries))
 
     pub unshared_none : SharesSo s.seen t → t.has_shared ≡ false → NoneIsLater H L t.request
     unshared_none so unshared update =
@@ -202,7 +195,7 @@ module _ (given : Given) (life : BegunLife) (apart : OpensApart life) (before : 
             let head : head_in t.seen ≤ L.fixed = subst (λ (x : Seen). head_in x ≤ L.fixed) (sym same_seen) (life_head_fixed life.opening life.start life.ghosts before session s life.begins.store.now life.begins.fixed is_there) in
             let fixed = ghost_fixed life.opening life.start life.ghosts before life.begins.store.now life.begins.fixed in
             let live = awake given.floors given.left life.opening life.start before apart.quiet session became_so.0 s became_so.1 attempts in
-            let safe = given.safe life.opening life.start before session became_so.0 s apart.quiet became_so.1 live in
+            let safe = given.owed.safe life.opening life.start before session became_so.0 s apart.quiet became_so.1 live in
             let seen : IsOlder (sight_of life.opening before session).view L = (sees_older life.opening life.start life.ghosts before session became_so.0 s opens_log became_so.1).view in
             let cell = held.chains.in_chain (H (key_in t.request)) a later.0 in
             let older = seen a cell.cell.version (omega (arith, low, head, fixed, safe)) (ap made_in cell.its) in

@@ -1,5 +1,5 @@
 -- Who shares a latch is counted by it: so nobody else holds that latch alone.
-use Rattle.std.proofs.Common.{◌≡◌, ◌≢◌, ℕ, zero, suc, ◌+◌, ◌*◌, ◌^◌, ◌<◌, ◌≤◌, refl, sym, ap, ◌∙◌, subst, arith, Bool, true, false, List, [], ◌∷◌, Some, None}
+use Rattle.std.proofs.Common.{◌≡◌, ◌≢◌, ℕ, zero, suc, ◌^◌, ◌<◌, refl, sym, ap, ◌∙◌, subst, arith, Bool, true, false, List, [], ◌∷◌, Some}
 use Rattle.std.specs.Prelude.{◌==◌, ◌&&◌, slice_get, if◌then◌else◌}
 use Rattle.std.specs.List.{remove}
 use Rattle.std.proofs.lemmas.Bool.Decides.{nat_tests}
@@ -10,7 +10,6 @@ use Rattle.fkv_latch.specs.LatchWorld.{times}
 use Rattle.fkv_map.specs.declared.operations.Op.{Op}
 use Rattle.fkv_map.specs.declared.operations.Reply.{Reply}
 use Rattle.fkv_map.specs.Keys.{key_of}
-use Rattle.fkv_ops.specs.Trying.{TryState}
 use Rattle.fkv_ops.specs.declared.trying.Trying.{Trying}
 use Rattle.fkv_ops.specs.declared.trying.Trying.TheVariants.{Appends}
 use Rattle.fkv_pending.specs.declared.attempting.Attempting.{Attempting}
@@ -27,10 +26,9 @@ use Rattle.fkv_session.specs.Sessions.{Seat, SessionState, bits_of}
 use Rattle.fkv_session.specs.Shares.{is_sharing, latch_of, sharing}
 use Rattle.law_apart.specs.Apart.Rows.{shares_now}
 use Rattle.law_local.specs.Sessions.Known.{is_attempting}
-use Rattle.law_local.specs.Tries.TryRows.{key_in}
 use Rattle.law_parts.specs.Latches.InTries.{attempt_held, own_held, session_held}
 use Rattle.law_parts.specs.Latches.Latchers.{attempt_alone, its_latch, session_alone, sitting_alone, try_alone}
-use Rattle.law_refine.specs.Events.GhostEvents.{home_in, home_number}
+use Rattle.law_refine.specs.Events.GhostEvents.{home_in}
 use Rattle.law_refine.proofs.OfHeads.Entries.{same_home}
 
 -- ---- lists

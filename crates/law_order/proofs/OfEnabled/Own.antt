@@ -4,7 +4,7 @@ use Rattle.std.specs.Prelude.{map, ◌==◌, if◌then◌else◌, Option, Some, 
 use Rattle.fkv_epoch.proofs.Shown.{none_some}
 use Rattle.fkv_ops.specs.declared.requests.Request.{Request}
 use Rattle.fkv_ops.specs.declared.requests.Seen.{Seen}
-use Rattle.law_log.specs.Ghosts.{Log, Ghosts, GhostEvent, Fixes, Tells}
+use Rattle.law_log.specs.Ghosts.{Ghosts, GhostEvent, Fixes, Tells}
 use Rattle.law_log.specs.Enabled.{AreEnabled, NoneAbove, NoneCopies}
 use Rattle.law_log.specs.Trace.{TraceLine}
 use Rattle.fkv_plane.specs.declared.asks.Ask.{Ask}

@@ -2,7 +2,7 @@
 use Rattle.std.proofs.Common.{◌≡◌, ℕ, List, [], ◌∷◌, ◌++◌, refl, sym, subst}
 use Rattle.std.specs.Prelude.{⊤, Option, Some}
 use Rattle.fkv_map.specs.declared.history.HistoryEntry.{HistoryEntry}
-use Rattle.law_log.specs.Chains.{Cell, Unborn, Reserved as HoldsReserved}
+use Rattle.law_log.specs.Chains.{Unborn, Reserved as HoldsReserved}
 use Rattle.law_log.specs.Ghosts.{Log, Ghosts, GhostEvent, Reserves, Publishes, Changes, ghost_run}
 use Rattle.law_log.specs.Enabled.{IsInHand, NoneAbove, IsPublishEnabled}
 use Rattle.law_log.proofs.Shown.{run_on}

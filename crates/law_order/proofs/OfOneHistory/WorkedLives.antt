@@ -10,9 +10,9 @@ use Rattle.fkv_session.specs.Sessions.{SessionState}
 use Rattle.fkv_world.specs.World.{Now}
 use Rattle.law_commit.specs.WorkedRuns.{resting_keeper}
 use Rattle.law_refine.specs.Events.Worked.{adds_5, gives_70, worked_events}
-use Rattle.law_order.specs.OneHistory.EachLife.{InEachLife, IsLife, Life, WhereGiven}
+use Rattle.law_order.specs.OneHistory.EachLife.{InEachLife, IsLife, Life, WhereOwed}
 use Rattle.law_order.specs.OneHistory.NewLives.{BeginsAsWorked, IsOrderedLife, WorkedLife}
-use Rattle.law_order.specs.Apart.Given.{Given}
+use Rattle.law_order.specs.Apart.Given.{Owed}
 use Rattle.law_order.specs.Rules.InTime.{ReadsInTime}
 use Rattle.law_order.specs.Rules.Ordered.{HasLegalHistory, IsGuarded, OrdersItsCalls, ReadsFreshly, RunsActionsOnce}
 use Rattle.law_order.specs.Served.Fits.{CallsFit}
@@ -23,20 +23,20 @@ use Rattle.law_order.proofs.OfOneHistory.WorkedWorld.{places, shape, world_opens
 
 -- what the order law says of each life
 pub record OrderLaw : Type 0 where
-  pub legal : InEachLife (WhereGiven HasLegalHistory)
-  pub ordered : InEachLife (WhereGiven OrdersItsCalls)
-  pub fresh : InEachLife (WhereGiven ReadsFreshly)
-  pub in_time : InEachLife (WhereGiven ReadsInTime)
-  pub guarded : InEachLife (WhereGiven IsGuarded)
+  pub legal : InEachLife (WhereOwed HasLegalHistory)
+  pub ordered : InEachLife (WhereOwed OrdersItsCalls)
+  pub fresh : InEachLife (WhereOwed ReadsFreshly)
+  pub in_time : InEachLife (WhereOwed ReadsInTime)
+  pub guarded : InEachLife (WhereOwed IsGuarded)
   pub once : InEachLife RunsActionsOnce
 
-ordered_life : OrderLaw → (its : Life) → IsLife its → Given → IsOrderedLife its
-ordered_life law its is given = record {
-  legal = law.legal its is given;
-  ordered = law.ordered its is given;
-  fresh = law.fresh its is given;
-  in_time = law.in_time its is given;
-  guarded = law.guarded its is given;
+ordered_life : OrderLaw → (its : Life) → IsLife its → Owed → IsOrderedLife its
+ordered_life law its is owed = record {
+  legal = law.legal its is owed;
+  ordered = law.ordered its is owed;
+  fresh = law.fresh its is owed;
+  in_time = law.in_time its is owed;
+  guarded = law.guarded its is owed;
   once = law.once its is;
 }
 
@@ -94,5 +94,5 @@ worked_life worlds created opened holds law =
       begins = as_worked its life made new n.keeper s refl;
       events = refl;
       effects = worked_effects keeper s s bytes;
-      ordered = λ given. ordered_life law its life given;
+      ordered = λ owed. ordered_life law its life owed;
     }

@@ -1,5 +1,5 @@
 -- What a request that waits and an attempt know stays along the log's events of one event of a life.
-use Rattle.std.proofs.Common.{◌≡◌, ℕ, List, [], ◌∷◌, ◌++◌}
+use Rattle.std.proofs.Common.{ℕ, List, [], ◌∷◌, ◌++◌}
 use Rattle.std.specs.Prelude.{Option}
 use Rattle.fkv_map.specs.declared.history.HistoryEntry.{HistoryEntry}
 use Rattle.fkv_map.specs.Map.{Map}
@@ -14,7 +14,7 @@ use Rattle.law_local.specs.Tries.AttemptRows.{AttemptKnows, KeepsForAttempt, Pen
 use Rattle.law_local.proofs.OfTries.AttemptGrows.{attempt_grows, pending_grows}
 use Rattle.law_order.proofs.OfRows.Changed.{AllChange}
 use Rattle.law_order.proofs.OfRows.Kept.{IsNoChange, quiet_no_change, still_keeps}
-use Rattle.law_refine.specs.Events.Effects.{AreQuiet, Behind, ByRecord, InPlace, Quietly, Stepped, TakesEffect, is_quiet}
+use Rattle.law_refine.specs.Events.Effects.{AreQuiet, Behind, ByRecord, InPlace, Quietly, Stepped, TakesEffect}
 
 -- what is enabled after a list is enabled before it
 module _ (home : ℕ → ℕ) (m : Map) (number : ℕ) (g : Ghosts) (opened : order.IsOpened home m number g) where

@@ -1,7 +1,6 @@
 -- What a step changes in place is what its session is about to change.
 use Rattle.std.proofs.Common.{◌≡◌, ℕ, refl, Bool, true, false, List, [], ◌∷◌, ◌++◌}
 use Rattle.std.specs.Prelude.{⊤, map, ◌==◌, if◌then◌else◌, Option, Some, None, slice_get}
-use Rattle.fkv_base.specs.declared.numbers.Addr.{Addr}
 use Rattle.fkv_map.specs.declared.history.HistoryEntry.{HistoryEntry}
 use Rattle.fkv_map.specs.declared.operations.Op.{Op}
 use Rattle.fkv_map.specs.declared.operations.Op.TheVariants.{Read}
@@ -43,7 +42,7 @@ use Rattle.fkv_session.specs.declared.sessions.Sitting.TheVariants.{Attempts, Po
 use Rattle.fkv_session.specs.Sessions.{SessionState, Seat, bits_of, room_of, session_ask}
 use Rattle.fkv_world.specs.Past.{Traced}
 use Rattle.fkv_world.specs.Runs.{World, happens}
-use Rattle.fkv_world.specs.World.{Event, Calls, Moves, Commits, Turns, KeeperMoves, Crashes, seat_at}
+use Rattle.fkv_world.specs.World.{Event, Moves, seat_at}
 use Rattle.law_guard.specs.Sessions.InPlace.{attempt_changes, sitting_changes, try_changes}
 use Rattle.law_guard.specs.Sessions.Tries.{is_for_entry}
 use Rattle.law_local.specs.Tries.TryRows.{cell_of}

@@ -1,5 +1,5 @@
 -- What a try copies keeps its value where the event of the log changes another record in place, or none.
-use Rattle.std.proofs.Common.{◌≡◌, ◌≢◌, inl, inr, ℕ, ◌<◌, refl, sym, ap, ◌∙◌, subst}
+use Rattle.std.proofs.Common.{◌≡◌, ◌≢◌, inl, inr, ℕ, refl, sym, ap, ◌∙◌, subst}
 use Rattle.std.specs.Prelude.{⊤}
 use Rattle.fkv_map.specs.declared.history.HistoryEntry.{HistoryEntry}
 use Rattle.fkv_map.specs.declared.operations.Reply.{Reply}
@@ -12,9 +12,9 @@ use Rattle.fkv_ops.specs.Trying.{TryState}
 use Rattle.fkv_pending.specs.declared.attempting.Attempting.{Attempting}
 use Rattle.fkv_pending.specs.declared.attempting.Attempting.TheVariants.{Tries}
 use Rattle.fkv_pending.specs.Attempting.{AttemptState}
-use Rattle.law_local.specs.Tries.AttemptRows.{AttemptKnows, AttemptRow, KeepsForAttempt, TriesFor}
+use Rattle.law_local.specs.Tries.AttemptRows.{KeepsForAttempt}
 use Rattle.law_local.specs.Tries.Kept.{KeepsForAppend, KeepsForTry, KeepsSource, source_of}
-use Rattle.law_local.specs.Tries.TryRows.{AppendKnows, IsMadeFor, TryRow, cell_of}
+use Rattle.law_local.specs.Tries.TryRows.{IsMadeFor, cell_of}
 use Rattle.law_log.specs.Chains.{Cell, IsWithin, Logged, Published, Reserved, chain_from, has_key, value_at}
 use Rattle.law_log.specs.Enabled.{IsEnabled}
 use Rattle.law_log.specs.Ghosts.{Changes, Drops, GhostEvent, Ghosts, Log, Publishes, Reserves, changed, changed_by, dropped, log_after, published}

@@ -1,5 +1,5 @@
 -- At every moment of a life a session's reads which have asked seek a record, and none of its reads shares a latch.
-use Rattle.std.proofs.Common.{◌≡◌, ℕ, zero, suc, List, [], ◌∷◌, ap, sym, subst, true, false, ◌∙◌}
+use Rattle.std.proofs.Common.{◌≡◌, ℕ, zero, suc, List, [], ◌∷◌, sym, subst, true, false}
 use Rattle.std.specs.Prelude.{Some, slice_get}
 use Rattle.fkv_session.specs.Sessions.{SessionState}
 use Rattle.fkv_world.specs.Opened.{IsOpenedWorld}

@@ -1,5 +1,5 @@
 -- What requests and attempts know stays along the log's events of the next event of a life.
-use Rattle.std.proofs.Common.{◌≡◌, ℕ, List, ◌∷◌}
+use Rattle.std.proofs.Common.{ℕ, List, ◌∷◌}
 use Rattle.fkv_map.specs.declared.history.HistoryEntry.{HistoryEntry}
 use Rattle.law_log.specs.Ghosts.{Changes, Ghosts, GhostEvent, log_after}
 use Rattle.law_log.specs.Enabled.{AreEnabled}

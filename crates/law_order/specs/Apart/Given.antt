@@ -38,6 +38,12 @@ EntersNoLater =
     (opening : World) (start : ℕ) (events : List Event) (session : ℕ) (first its : SessionState) (cause : CatchCause) (i index : ℕ) (pending : PendingRequest) → OpensQuiet opening start → HasBecome opening events session first its
     → its.step ≡ CatchesUp cause → its.catching.step ≡ Latches i → slice_get its.requests index ≡ Some pending → is_read pending.request.op ≡ false → phase_version (run opening events).now.words ≤ pending.request.version.0
 
+-- What is owed of these laws.
+pub record Owed : Type 0 where
+  pub safe : SafeIsBelowViews
+  pub older : OlderShare
+  pub enters : EntersNoLater
+
 -- What the laws of phases, latches and ends of versions say.
 pub record Given : Type 0 where
   pub sound : PaperIsSound
@@ -46,6 +52,4 @@ pub record Given : Type 0 where
   pub left : NoneIsLeft
   pub ahead : ItsVersionIsNotAhead
   pub beside : StandsBesideNone
-  pub safe : SafeIsBelowViews
-  pub older : OlderShare
-  pub enters : EntersNoLater
+  pub owed : Owed
