@@ -1,5 +1,5 @@
 -- What the sessions of a life know of versions goes on by each event.
-use Rattle.std.proofs.Common.{◌≡◌, ◌≢◌, ℕ, refl, sym, ap, ◌∙◌, subst, eqb-true, Bool, true, false, List, ◌∷◌, Option, Some, None}
+use Rattle.std.proofs.Common.{arith, ◌≡◌, ◌≢◌, ℕ, refl, sym, ap, ◌∙◌, subst, eqb-true, Bool, true, false, List, ◌∷◌, Option, Some, None}
 use Rattle.std.specs.Prelude.{slice_get}
 use Rattle.fkv_base.specs.declared.numbers.Version.{Version}
 use Rattle.fkv_plane.specs.declared.places.Places.{Places}
@@ -26,6 +26,8 @@ use Rattle.law_apart.proofs.OfApart.Sessions.{ApartFacts, call_apart, step_apart
 use Rattle.law_apart.proofs.OfApart.Stays as stays
 use Rattle.law_changes.proofs.OfSessions.Calm.{calm_known, is_calm, not_calm}
 use Rattle.law_changes.proofs.OfSessions.Comes.{Begins, SessionComes, Stays, Steps, session_comes}
+use Rattle.law_commit.specs.PhaseVersions.{phase_version}
+use Rattle.law_commit.proofs.OfVersions.Requests.{update_at}
 use Rattle.law_local.specs.Sessions.Known.{attempt_after, is_attempting}
 use Rattle.law_local.specs.Tries.AttemptRows.{AttemptRow, IsTrueOfAttempt, PendingKnows}
 use Rattle.law_local.specs.Tries.AttemptRows as local
@@ -242,7 +244,7 @@ module _ (given : Given) (life : BegunLife) (apart : OpensApart life) (before : 
           latched cause i at takes index pending got update =
               along (λ log. NoneIsLater H log pending.request) (Unit {0}) (H (key_in pending.request)) pending.request.version.0 (λ log log' is grows raises so. stays.none_stays H life.map log log' is grows pending.request (raises tt) so)
               (λ unit. caught_none cause at (H (key_in pending.request)) pending.request.version.0)
-              (λ updates. none_said given life apart before enabled_so (H (key_in pending.request)) pending.request.version.0 (given.owed.enters life.opening life.start before session became_so.0 s cause i index pending apart.quiet became_so.1 at takes got updates)) update
+              (λ updates. none_said given life apart before enabled_so (H (key_in pending.request)) pending.request.version.0 (let is : pending.request.version.0 ≡ phase_version N.words = update_at (λ (v : ℕ). v ≡ phase_version N.words) s.requests index pending got (given.owed.latches life.opening life.start before session became_so.0 s cause i apart.quiet became_so.1 at takes) updates in omega (arith, is))) update
 
       replied : (after : SessionState) → after ≡ session_next K s reply → Knows L' after
       replied after is = subst (Knows L') (sym is) (step_apart H K L L' s reply facts (all_apart session s was))
