@@ -1,4 +1,4 @@
--- What a life without commits begins with, beside the log of the order law.
+-- What a life begins with, beside the log of the order law.
 use Rattle.std.specs.Prelude.{◌≡◌, ℕ, ◌<◌, List, [], ◌∷◌}
 use Rattle.fkv_base.specs.declared.numbers.Version.{Version}
 use Rattle.fkv_base.specs.declared.shapes.Shape.{Shape}
