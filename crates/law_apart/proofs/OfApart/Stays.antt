@@ -7,7 +7,7 @@ use Rattle.fkv_plane.specs.declared.places.Places.{Places}
 use Rattle.law_log.specs.Chains.{Cell, Dropped, Logged, Published, Reserved, Unborn, version_at}
 use Rattle.law_log.specs.Ghosts.{Log}
 use Rattle.law_log.specs.Trace.{IsIn}
-use Rattle.law_log.proofs.Shown.{Grows, Held}
+use Rattle.law_log.proofs.Shown.{Grows, Held, not_unborn}
 use Rattle.fkv_ops.specs.declared.requests.Request.{Request}
 use Rattle.fkv_ops.specs.declared.requests.Seen.{Seen}
 use Rattle.fkv_ops.specs.declared.trying.Trying.{Trying}
@@ -25,7 +25,7 @@ use Rattle.fkv_pending.specs.Attempting.{AttemptState}
 use Rattle.law_local.specs.Tries.TryRows.{NoneIsLater, head_in, key_in}
 use Rattle.law_local.specs.Tries.WalkRows.{begin_of}
 use Rattle.law_local.proofs.OfTries.OnWay.{fixed_grows, found_grows}
-use Rattle.law_apart.specs.Apart.Rows.{AttemptApart, CopiesApart, CopiesRow, EndApart, HasComeTo, HasMet, HasMetFirst, HasOwn, PendingApart, RaisesNone, SharesRow, ShowsLater, TryApart, WalkApart, shares_now}
+use Rattle.law_apart.specs.Apart.Rows.{AttemptApart, CopiesApart, CopiesRow, EndApart, HasComeTo, HasMet, HasMetFirst, HasOwn, PendingApart, RaisesNone, SharesRow, ShowsLater, TryApart, WalkApart, shares_now, MetIn}
 use Rattle.law_apart.proofs.OfApart.Tests.{lt_false, lt_true}
 
 module _ (home : ℕ → ℕ) (m : Map) (log log' : Log) (held : Held home m log) (grows : Grows home m log log') where
@@ -51,6 +51,17 @@ module _ (home : ℕ → ℕ) (m : Map) (log log' : Log) (held : Held home m log
   first_stays : (from : ℕ) (first : Option Version) → HasMetFirst log from first → HasMetFirst log' from first
   first_stays from None met = absurd met
   first_stays from (Some version) met = met_stays from version met
+
+  -- what is in a chain stays there
+  in_stays : (h : ℕ) (first : Option Version) → MetIn log (log.chains h) first → MetIn log' (log'.chains h) first
+  in_stays h None met = met
+  in_stays h (Some version) met = record { at = met.at; is_in = chain_stays h met.at met.is_in; met = met_stays met.at version met.met }
+    where
+      chain_stays : (h a : ℕ) → IsIn a (log.chains h) → IsIn a (log'.chains h)
+      chain_stays h a is_in = elim (grows.chains h a (inr is_in)).1 [
+        | inl zero ↦ absurd (not_unborn (log.cells a) (held.chains.in_chain h a is_in).cell (held.chains.in_chain h a is_in).its (ap log.cells zero ∙ held.none))
+        | inr there ↦ there
+      ]
 
   own_stays : (request : Request) (from : ℕ) → HasOwn home log request from → HasOwn home log' request from
   own_stays request from own = record {
@@ -108,7 +119,7 @@ module _ (home : ℕ → ℕ) (m : Map) (log log' : Log) (held : Held home m log
 
     shares_stays : (step : Trying) → t.has_shared ≡ true → SharesRow home log t step → SharesRow home log' t step
     shares_stays try.TakesShared has row = tt
-    shares_stays try.Walks has row = elim row [ inl none ↦ inl (none_on has none) | inr apart ↦ inr (apart.0, apart.1, walk_stays t.request t.seen (raises has) t.walk t.walk.step apart.2) ]
+    shares_stays try.Walks has row = elim row [ inl none ↦ inl (none_on has none.0, in_stays (home (key_in t.request)) t.walk.first none.1) | inr apart ↦ inr (apart.0, apart.1, walk_stays t.request t.seen (raises has) t.walk t.walk.step apart.2, apart.3) ]
     shares_stays (try.DropsExclusive its) has row = λ wait. none_on has (row wait)
     shares_stays (try.Ended its) has row = none_on has row
     shares_stays (try.LoadsSafe addr version) has row = none_on has row

@@ -1,5 +1,6 @@
 -- Each true reply leads a try on to what it has to know of versions.
 use Rattle.std.proofs.Common.{◌≡◌, ◌⊎◌, inl, inr, ℕ, ◌<◌, ◌≤◌, refl, sym, ap, ◌∙◌, subst, arith, Bool, true, false, Option, Some, None}
+use Rattle.std.proofs.lemmas.Bool.Decides.{nat_tests}
 use Rattle.std.specs.Prelude.{◌==◌, ◌&&◌, not, nat_lt, nat_le, if◌then◌else◌}
 use Rattle.fkv_base.specs.declared.numbers.Addr.{Addr}
 use Rattle.fkv_base.specs.declared.numbers.Version.{Version}
@@ -60,9 +61,9 @@ use Rattle.law_local.specs.Tries.Replies.{IsTrueReply}
 use Rattle.law_local.specs.Tries.TryRows.{IsUpdate, IsWalkFor, NoneIsLater, NoneLaterPast, StandsAt, TryKnows, TryRow, head_in, key_in}
 use Rattle.law_local.specs.Tries.WalkRows.{LoadKnows, LoadsFrom, WalkKnows, WalkRow, begin_of}
 use Rattle.law_local.proofs.OfTries.WalkRows.{loads_same, same_on, walk_leads}
-use Rattle.law_apart.specs.Apart.Rows.{CopiesApart, CopiesRow, EndApart, HasComeTo, HasMet, HasMetFirst, HasOwn, IsDropping, IsUnderWay, LatchRow, MovesOn, SharesRow, ShowsLater, TellsSharer, TryApart, WalkApart, is_linking}
+use Rattle.law_apart.specs.Apart.Rows.{CopiesApart, CopiesRow, EndApart, HasComeTo, HasMet, HasMetFirst, HasOwn, IsDropping, IsUnderWay, LatchRow, MovesOn, SharesRow, ShowsLater, TellsSharer, TryApart, WalkApart, is_linking, KnowsNone, MetIn}
 use Rattle.law_apart.proofs.OfApart.Tests.{both_true, eq_true, le_false, lt_false, lt_true, not_both, test_true, waits_so}
-use Rattle.law_apart.proofs.OfApart.Walks.{walk_apart}
+use Rattle.law_apart.proofs.OfApart.Walks.{walk_apart, walk_met}
 
 -- ---- what a walk's end says
 -- no record is later than what the first one shows
@@ -284,7 +285,7 @@ module _ (home : ℕ → ℕ) (log : Log) (p : Places) where
 
   -- ---- behind the walk
   abbrev Row : TryState → Type 0
-  Row t = t.has_shared ≡ true → NoneIsLater home log t.request ⊎ ((is_prepare t.seen.phase ≡ true) × WalkApart home log t.request t.seen t.walk t.walk.step)
+  Row t = t.has_shared ≡ true → KnowsNone home log t ⊎ ((is_prepare t.seen.phase ≡ true) × WalkApart home log t.request t.seen t.walk t.walk.step × (t.request.has_latch ≡ false))
 
   -- what still asks is under way
   going : (request : Request) (seen : Seen) (w : WalkState) (step : Walking) → is_done (walking_ask p w step) ≡ false → WalkApart home log request seen w step → IsUnderWay step
@@ -298,12 +299,12 @@ module _ (home : ℕ → ℕ) (log : Log) (p : Places) where
   row_on : (t : TryState) → is_done (walk_ask p t.walk) ≡ false → t.step ≡ Walks → Row t → t.has_shared ≡ true → SharesRow home log t t.step
   row_on t asks at row has = subst (SharesRow home log t) (sym at) (elim (row has) [
     | inl none ↦ inl none
-    | inr apart ↦ inr (apart.0, going t.request t.seen t.walk t.walk.step asks apart.1, apart.1)
+    | inr apart ↦ inr (apart.0, going t.request t.seen t.walk t.walk.step asks apart.1, apart.1, apart.2)
   ])
 
   past_none : (t : TryState) (its : WalkAnswer) → IsOrderly home log → WalkKnows home log t.walk → walk_ask p t.walk ≡ Done its → Row t → (has_walked its && must_shift t) ≡ false → SharesNone t
   past_none t its orderly knows asks row passes has = elim (row has) [
-    | inl none ↦ none
+    | inl none ↦ none.0
     | inr apart ↦ none_past home log t its orderly apart.0 (end_apart home log p t.request t.seen t.walk t.walk.step its knows apart.1 asks) passes
   ]
 
@@ -324,10 +325,10 @@ module _ (home : ℕ → ℕ) (log : Log) (p : Places) where
   rested_step : find.LoadsSlot 0 ≡ find.AtRest → ⊥
   rested_step e = cc
 
-  walks_apart : (t : TryState) → (t.has_shared ≡ true → NoneIsLater home log t.request ⊎ (is_prepare t.seen.phase ≡ true)) → Apart (walks p t)
+  walks_apart : (t : TryState) → (t.has_shared ≡ true → NoneIsLater home log t.request ⊎ ((is_prepare t.seen.phase ≡ true) × (t.request.has_latch ≡ false))) → Apart (walks p t)
   walks_apart t row = record {
     latch = tt;
-    shares = λ has. elim (row has) [ inl none ↦ inl none | inr prepare ↦ inr (prepare, tt, begins) ];
+    shares = λ has. elim (row has) [ inl none ↦ inl (none, tt) | inr prepare ↦ inr (prepare.0, tt, begins, prepare.1) ];
     copies = tt;
   }
     where
@@ -344,9 +345,9 @@ module _ (home : ℕ → ℕ) (log : Log) (p : Places) where
       begins : (w.first ≡ None) × (w.finding.step ≡ find.AtRest → ⊥) × (is_linking w.finding ≡ false)
       begins = (refl, rested_step, unlinked)
 
-  shared_apart : (t : TryState) (ask : Ask LatchAnswer) → t.step ≡ TakesShared → (is_prepare t.seen.phase ≡ true) × (t.has_shared ≡ false) → Apart (shared_ledto p t ask)
+  shared_apart : (t : TryState) (ask : Ask LatchAnswer) → t.step ≡ TakesShared → (is_prepare t.seen.phase ≡ true) × (t.has_shared ≡ false) × (t.request.has_latch ≡ false) → Apart (shared_ledto p t ask)
   unfolding shared_ledto
-  shared_apart t (Done latch.Taken) at takes = walks_apart (record t { has_shared = true }) (λ has. inr takes.0)
+  shared_apart t (Done latch.Taken) at takes = walks_apart (record t { has_shared = true }) (λ has. inr (takes.0, takes.2))
   shared_apart t (Done its) at takes = ends_apart t answer.Shift (λ (wait : false ≡ true). cc)
   shared_apart t ask at takes = record {
     latch = subst (LatchRow t) (sym at) takes;
@@ -436,12 +437,12 @@ module _ (home : ℕ → ℕ) (log : Log) (p : Places) where
     where
       walk_row : Row (record t { effect = None; walk = walk_next p t.walk reply })
       walk_row has = elim (shares has) [
-        | inl none ↦ inl none
+        | inl none ↦ inl (none.0, walk_met home log t.request t.seen p t.walk reply row.0 row.1 none.1)
         | inr apart ↦
             let its = tells at has apart.0 in
             elim (walk_apart home log t.request t.seen p orderly its.above its.in_ring falls t.walk reply row.0 row.1 says its.search apart.2) [
               | inl none ↦ inl none
-              | inr on ↦ inr (apart.0, on)
+              | inr on ↦ inr (apart.0, on, apart.3)
             ]
       ]
   row_apart room t (LoadsSafe addr version) reply orderly falls tells at row says takes shares copies = safe_apart (record t { effect = None }) addr version reply shares row.1 says
@@ -469,16 +470,46 @@ sharers_pass home log p t reply orderly falls tells knows says apart has at addr
     let told : IsTrueReply home log p t Walks reply = subst (λ (s : Trying). IsTrueReply home log p t s reply) at says in
     let shares : SharesRow home log t Walks = subst (SharesRow home log t) at (apart.shares has) in
     elim shares [
-      | inl none ↦ none
+      | inl none ↦ none.0
       | inr walks ↦
           let its = tells at has walks.0 in
           elim (walk_apart home log t.request t.seen p orderly its.above its.in_ring falls t.walk reply row.0 row.1 told its.search walks.2) [
-            | inl none ↦ none
+            | inl none ↦ none.0
             | inr on ↦
                 none_past home log (record t { walk = walk_next p t.walk reply }) (walk.Found addr version) orderly walks.0
                 (end_apart home log p t.request t.seen (walk_next p t.walk reply) (walk_next p t.walk reply).step (walk.Found addr version) (walk_leads home log p t.walk reply orderly.chains row.1 told) on ends) passes
           ]
     ]
+
+-- ---- one whose request came with its share
+-- has met nothing that is later, so it doesn't shift
+pub came_stays : (home : ℕ → ℕ) (log : Log) (p : Places) (t : TryState) (reply : ℕ) → TryKnows home log t → TryApart home log t → t.step ≡ Walks → t.has_shared ≡ true → t.request.has_latch ≡ true
+    → must_shift (record t { walk = walk_next p t.walk reply }) ≡ false
+came_stays home log p t reply knows apart at has came =
+    let row : TryRow home log t Walks = subst (TryRow home log t) at knows.row in
+    let shares : SharesRow home log t Walks = subst (SharesRow home log t) at (apart.shares has) in
+    elim shares [
+      | inl none ↦ by_read none.0 (walk_met home log t.request t.seen p t.walk reply row.0 row.1 none.1)
+      | inr walks ↦ not_both t.request.has_latch came walks.3
+    ]
+  where
+    both_false : (a b c : Bool) → (b ≡ false → c ≡ false) → (a && not b && c) ≡ false
+    both_false true false true so = let clash = so refl in cc
+    both_false true false false so = refl
+    both_false true true c so = refl
+    both_false false b c so = refl
+
+    low : NoneIsLater home log t.request → is_read t.request.op ≡ false → (found : Option Version) → MetIn log (log.chains (home (key_in t.request))) found → is_above found t.request.version ≡ false
+    low none update None met = refl
+    low none update (Some its) met =
+        let high = none update met.at met.is_in in
+        let is = ap version_at met.met.its in
+        let same = met.met.its_version in
+        let under : its.0 ≤ t.request.version.0 = omega (arith, high, is, same) in
+        grind (arith, nat_tests, under)
+
+    by_read : NoneIsLater home log t.request → MetIn log (log.chains (home (key_in t.request))) (walk_next p t.walk reply).first → must_shift (record t { walk = walk_next p t.walk reply }) ≡ false
+    by_read none met = both_false (is_prepare t.seen.phase) (is_read t.request.op) (is_above (walk_next p t.walk reply).first t.request.version) (λ update. low none update (walk_next p t.walk reply).first met)
 
 -- ---- where a try has come to its end
 -- one that has, and shares its latch, has none later
@@ -497,7 +528,7 @@ none_at_end home log p t its knows apart asks has = by_step t.step asks knows.ro
 
     by_step : (step : Trying) → trying_ask p t step ≡ Done its → TryRow home log t step → LatchRow t step → SharesRow home log t step → NoneIsLater home log t.request
     by_step TakesShared e row takes shares = not_both t.has_shared has takes.1
-    by_step Walks e row takes shares = elim shares [ inl none ↦ none | inr walks ↦ by_walk t.walk.step row.1 walks.1 walks.2 e ]
+    by_step Walks e row takes shares = elim shares [ inl none ↦ none.0 | inr walks ↦ by_walk t.walk.step row.1 walks.1 walks.2 e ]
     by_step (DropsExclusive told) e row takes shares = by_latch t.latching told takes e
     by_step (Ended told) e row takes shares = shares
     by_step (LoadsSafe addr version) e row takes shares = shares
@@ -527,7 +558,7 @@ try_begins_apart home log p bits request seen occasion spare none = by_test (wan
     by_test : (b : Bool) → wants_shared its ≡ b → TryApart home log (if b then with_latch p its TakeShared TakesShared else walks p its)
     by_test true e =
         let so = wants_so (is_prepare seen.phase) (is_read request.op) request.has_latch e in
-        record { latch = so; shares = λ has. tt; copies = tt }
+        record { latch = (so.0, so.1, so.1); shares = λ has. tt; copies = tt }
     by_test false e = walks_apart home log p its (λ has. inl (none has))
 
 -- and asks for something

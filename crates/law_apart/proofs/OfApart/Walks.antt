@@ -11,6 +11,8 @@ use Rattle.fkv_plane.specs.declared.places.Places.{Places}
 use Rattle.fkv_plane.specs.Passing.{is_done, passed}
 use Rattle.fkv_log.specs.declared.loading.Loading.{Loading}
 use Rattle.fkv_log.specs.declared.loading.Loading.TheVariants as load
+use Rattle.fkv_log.specs.declared.loading.LoadAnswer.{LoadAnswer}
+use Rattle.fkv_log.specs.declared.loading.LoadAnswer.TheVariants as loaded
 use Rattle.fkv_log.specs.Loading.{load_ask, load_next, load_next_ask}
 use Rattle.fkv_index.specs.declared.finding.FindAnswer.{FindAnswer}
 use Rattle.fkv_index.specs.declared.finding.FindStep.{FindStep}
@@ -36,13 +38,13 @@ use Rattle.fkv_ops.specs.declared.walking.WalkAnswer.TheVariants as walk
 use Rattle.fkv_ops.specs.declared.walking.Walking.{Walking}
 use Rattle.fkv_ops.specs.declared.walking.Walking.TheVariants.{Ended, Finds, HasFound, LoadsValue, Meets}
 use Rattle.fkv_ops.specs.HeaderWords.{header_said}
-use Rattle.fkv_ops.specs.Walking.{WalkState, find_ledto, first_met, load_ledto, reached, record_met, slot_found, walk_ask, walk_next, walking_ask, walking_next}
+use Rattle.fkv_ops.specs.Walking.{WalkState, find_ledto, first_met, load_ledto, reached, record_met, slot_found, value_ledto, walk_ask, walk_next, walking_ask, walking_next}
 use Rattle.law_local.specs.Tries.OnWay.{IsOnWay, IsOrderly}
 use Rattle.law_local.specs.Tries.Replies.{EndsAtHead, IsTrueOfLoad, IsTrueOfWalk, LeadsToHead}
 use Rattle.law_local.specs.Tries.TryRows.{IsWalkFor, NoneIsLater, head_in, key_in}
 use Rattle.law_local.specs.Tries.WalkRows.{IsHeaderOf, LoadKnows, WalkKnows, WalkRow, begin_of}
 use Rattle.law_local.proofs.OfTries.OnWay.{from_start, goes_on, in_chain}
-use Rattle.law_apart.specs.Apart.Rows.{EndApart, HasComeTo, HasMet, HasMetFirst, IsLater, SearchTells, ShowsLater, WalkApart, is_link_step, is_linking, is_lost}
+use Rattle.law_apart.specs.Apart.Rows.{EndApart, HasComeTo, HasMet, HasMetFirst, IsLater, MetIn, SearchTells, ShowsLater, WalkApart, is_link_step, is_linking, is_lost}
 use Rattle.law_apart.proofs.OfApart.Links.{links_so}
 use Rattle.law_apart.proofs.OfApart.Tests.{eq_true, lt_false, lt_true, not_both, some_where}
 
@@ -132,7 +134,7 @@ module _ (home : ℕ → ℕ) (log : Log) (request : Request) (seen : Seen) (p :
 
   -- ---- the search
   abbrev Goes : WalkState → Type 0
-  Goes w = NoneIsLater home log request ⊎ Apart w
+  Goes w = (NoneIsLater home log request × MetIn log C w.first) ⊎ Apart w
 
   none_by_empty : head_of C ≡ 0 → NoneIsLater home log request
   none_by_empty none update a is_in = empty_none C a _ some_in none is_in
@@ -176,7 +178,7 @@ module _ (home : ℕ → ℕ) (log : Log) (request : Request) (seen : Seen) (p :
       next = record w { finding = find_next p w.finding reply }
 
       by_links : (b : Bool) → is_linking (find_next p w.finding reply) ≡ b → Goes next
-      by_links true is = elim (links_so p w.finding reply is) [ inl was ↦ not_both (is_linking w.finding) was links | inr none ↦ inl (none_by_empty (tells.empty none.0 none.1)) ]
+      by_links true is = elim (links_so p w.finding reply is) [ inl was ↦ not_both (is_linking w.finding) was links | inr none ↦ inl (none_by_empty (tells.empty none.0 none.1), subst (MetIn log C) (sym first) tt) ]
       by_links false is = inr (subst (λ (s : Walking). WalkApart home log request seen next s) (sym at) (first, goes_busy w.finding reply going, is))
 
   -- ---- a record that is met
@@ -239,3 +241,74 @@ module _ (home : ℕ → ℕ) (log : Log) (request : Request) (seen : Seen) (p :
   pub walk_apart : VersionsFall log.cells C → (w : WalkState) (reply : ℕ) → IsWalkFor request seen w → WalkKnows home log w → IsTrueOfWalk home log p w w.step reply
       → (w.step ≡ Finds → SearchTells log (home (key_in request)) p w.finding reply) → Apart w → Goes (walk_next p w reply)
   walk_apart falls w reply for knows says search apart = row_apart falls w w.step reply refl for knows says search apart
+
+-- ---- what a walk has met first
+module _ (home : ℕ → ℕ) (log : Log) (request : Request) (seen : Seen) (p : Places) where
+  abbrev Its : List ℕ
+  Its = log.chains (home (key_in request))
+
+  abbrev Met : WalkState → Type 0
+  Met w = MetIn log Its w.first
+
+  either_met : (b : Bool) (one other : WalkState) → Met one → Met other → Met (if b then one else other)
+  either_met true one other first second = first
+  either_met false one other first second = second
+
+  reached_met : (w : WalkState) (addr : ℕ) → Met w → Met (reached p w addr)
+  reached_met w addr met =
+      let meets : WalkState = record w { loading = load.LoadsHeader (record { 0 = addr }); step = Meets (record { 0 = addr }) } in
+      let near : WalkState = if nat_lt (addr - w.head.0) p.ring then meets else record w { step = Ended walk.Contended } in
+      let on : WalkState = if nat_lt addr w.head.0 then record w { step = Ended (walk.OnDisk (record { 0 = addr })) } else near in
+      either_met (addr == 0) (record w { step = Ended walk.Nowhere }) on met
+      (either_met (nat_lt addr w.head.0) (record w { step = Ended (walk.OnDisk (record { 0 = addr })) }) near met
+      (either_met (nat_lt (addr - w.head.0) p.ring) meets (record w { step = Ended walk.Contended }) met met))
+
+  slot_met : (w : WalkState) (its : Found) → Met w → Met (slot_found p w its)
+  slot_met w (found.Slot place word) met = reached_met (record w { place = place; entry = word }) (entry_addr word) met
+  slot_met w found.NoSlot met = met
+  slot_met w found.Full met = met
+  slot_met w found.Contended met = met
+
+  find_met : (w : WalkState) (ask : Ask FindAnswer) → Met w → Met (find_ledto p w ask)
+  unfolding find_ledto
+  find_met w (Done its) met = slot_met (record w { spare = its.spare }) its.found met
+  find_met w ask met = met
+
+  first_in : (first : Option Version) (version : Version) (cell : Cell) (at : ℕ) → IsIn at Its → log.cells at ≡ Published cell → cell.version ≡ version.0 → MetIn log Its first → MetIn log Its (first_met first version)
+  first_in None version cell at is_in its is met = record { at = at; is_in = is_in; met = record { cell = cell; its = its; its_version = is } }
+  first_in (Some was) version cell at is_in its is met = met
+
+  met_met : (w : WalkState) (addr : Addr) (header key : ℕ) → IsIn addr.0 Its → (has : IsHeaderOf (log.cells addr.0) header) → Met w → Met (record_met p w addr (record { 0 = key }) (header_said header))
+  met_met w addr header key is_in has met =
+      let version : Version = record { 0 = has.cell.version } in
+      let first : MetIn log Its (first_met w.first version) = first_in w.first version has.cell addr.0 is_in has.its refl met in
+      let found : WalkState = record w { first = first_met w.first version; step = HasFound addr version } in
+      let on : WalkState = reached p (record w { first = first_met w.first version }) has.cell.previous in
+      subst (λ said. Met (record_met p w addr (record { 0 = key }) said)) (sym has.says)
+      (either_met (nat_lt has.cell.previous addr.0) (if key == w.key.0 then found else on) (record w { step = Ended walk.Contended })
+      (either_met (key == w.key.0) found on first (reached_met (record w { first = first_met w.first version }) has.cell.previous first)) met)
+
+  load_met : (w : WalkState) (addr : Addr) (loading : Loading) (reply : ℕ) → IsIn addr.0 Its → LoadKnows log addr loading → Met w → Met (load_ledto p w addr (load_next_ask p loading reply))
+  unfolding load_ledto load_ask load_next load_next_ask
+  load_met w addr (load.LoadsHeader its) reply is_in knows met = met
+  load_met w addr (load.LoadsKey its header) reply is_in knows met = met_met w addr header reply is_in knows.1 met
+  load_met w addr loading reply is_in knows met = absurd knows
+
+  value_met : (w : WalkState) (ask : Ask LoadAnswer) → Met w → Met (value_ledto w ask)
+  unfolding value_ledto
+  value_met w (Done (loaded.Whole header key value)) met = met
+  value_met w (Done other) met = met
+  value_met w ask met = met
+
+  step_met : (w : WalkState) (step : Walking) (reply : ℕ) → IsWalkFor request seen w → WalkRow home log w step → Met w → Met (walking_next p w step reply)
+  unfolding walking_next
+  step_met w Finds reply for row met = find_met (record w { finding = find_next p w.finding reply }) (find_next_ask p w.finding reply) met
+  step_met w (Meets addr) reply for row met =
+      load_met (record w { loading = load_next w.loading reply }) addr w.loading reply
+      (subst (λ (k : ℕ). IsIn addr.0 (log.chains (home k))) (ap (λ (k : Key). k.0) for.its_key) (in_chain addr.0 (log.chains (home w.key.0)) row.way.within row.some)) row.its_load met
+  step_met w (HasFound addr version) reply for row met = met
+  step_met w (Ended its) reply for row met = met
+  step_met w LoadsValue reply for row met = value_met (record w { loading = load_next w.loading reply }) (load_next_ask p w.loading reply) met
+
+  pub walk_met : (w : WalkState) (reply : ℕ) → IsWalkFor request seen w → WalkKnows home log w → Met w → Met (walk_next p w reply)
+  walk_met w reply for knows met = step_met w w.step reply for knows met

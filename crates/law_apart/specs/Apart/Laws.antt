@@ -1,12 +1,14 @@
 -- What the law of tries apart says.
-use Rattle.std.specs.Prelude.{◌≡◌, ℕ, Bool, true}
+use Rattle.std.specs.Prelude.{◌≡◌, ℕ, Bool, true, false}
 use Rattle.fkv_plane.specs.declared.places.Places.{Places}
 use Rattle.law_log.specs.Chains.{VersionsFall}
 use Rattle.law_log.specs.Ghosts.{Log}
 use Rattle.fkv_ops.specs.declared.requests.Occasion.{Occasion}
 use Rattle.fkv_ops.specs.declared.requests.Request.{Request}
 use Rattle.fkv_ops.specs.declared.requests.Seen.{Seen}
-use Rattle.fkv_ops.specs.Trying.{TryState, try_begun, try_next}
+use Rattle.fkv_ops.specs.declared.trying.Trying.TheVariants.{Walks}
+use Rattle.fkv_ops.specs.Trying.{TryState, must_shift, try_begun, try_next}
+use Rattle.fkv_ops.specs.Walking.{walk_next}
 use Rattle.law_local.specs.Tries.OnWay.{IsOrderly}
 use Rattle.law_local.specs.Tries.Replies.{IsTrueReply}
 use Rattle.law_local.specs.Tries.TryRows.{NoneIsLater, NoneLaterPast, TryKnows, key_in}
@@ -21,6 +23,11 @@ TriesBeginApart = (home : ℕ → ℕ) (log : Log) (p : Places) (bits : ℕ) (re
 abbrev pub TriesLeadApart : Type 0
 TriesLeadApart = (home : ℕ → ℕ) (log : Log) (p : Places) (room : ℕ) (t : TryState) (reply : ℕ) → IsOrderly home log → VersionsFall log.cells (log.chains (home (key_in t.request))) → TellsSharer home log p t reply
     → TryKnows home log t → IsTrueReply home log p t t.step reply → TryApart home log t → TryApart home log (try_next p room t reply)
+
+-- one whose request came with its share doesn't shift where its walk ends
+abbrev pub CameStays : Type 0
+CameStays = (home : ℕ → ℕ) (log : Log) (p : Places) (t : TryState) (reply : ℕ) → TryKnows home log t → TryApart home log t → t.step ≡ Walks → t.has_shared ≡ true → t.request.has_latch ≡ true
+    → must_shift (record t { walk = walk_next p t.walk reply }) ≡ false
 
 -- so one that shares its latch leads on past its walk: its home has no later version
 abbrev pub SharersPass : Type 0

@@ -1,5 +1,5 @@
 -- What updates know of the versions at their homes, by control state: those that share a latch, and those that make a new record.
-use Rattle.std.specs.Prelude.{◌≡◌, ◌⊎◌, ◌+◌, ◌<◌, ◌≤◌, ◌||◌, ⊤, ℕ, Bool, true, false, Option, Some, None}
+use Rattle.std.specs.Prelude.{◌≡◌, ◌⊎◌, ◌+◌, ◌<◌, ◌≤◌, ◌||◌, ⊤, ℕ, Bool, true, false, List, Option, Some, None}
 use Rattle.fkv_base.specs.declared.numbers.Version.{Version}
 use Rattle.fkv_plane.specs.declared.asks.Ask.TheVariants.{Done}
 use Rattle.fkv_plane.specs.declared.places.Places.{Places}
@@ -65,6 +65,16 @@ abbrev pub HasMetFirst : Log → ℕ → Option Version → Type 0
 HasMetFirst log from None = ⊥
 HasMetFirst log from (Some version) = HasMet log from version
 
+-- what it has met first is some record of the chain
+pub record MetAt (log : Log) (chain : List ℕ) (version : Version) : Type 0 where
+  pub at : ℕ
+  pub is_in : IsIn at chain
+  pub met : HasMet log at version
+
+abbrev pub MetIn : Log → List ℕ → Option Version → Type 0
+MetIn log chain None = ⊤
+MetIn log chain (Some version) = MetAt log chain version
+
 -- ---- a search that links an overflow bucket
 abbrev pub is_link_step : FindStep → Bool
 is_link_step (LoadsTaken word) = true
@@ -110,11 +120,15 @@ IsUnderWay (Meets addr) = ⊤
 IsUnderWay step = ⊥
 
 -- ---- tries
+-- its home has no later version, so it has met none
+abbrev pub KnowsNone : (ℕ → ℕ) → Log → TryState → Type 0
+KnowsNone home log t = NoneIsLater home log t.request × MetIn log (log.chains (home (key_in t.request))) t.walk.first
+
 -- Of one that shares its latch: no record of its home is of a later version than its request, from where its walk has ended. One whose request came with
 -- its share knows it from the start. One that searches in prepare, and has to link, knows it because its home was empty.
 abbrev pub SharesRow : (ℕ → ℕ) → Log → TryState → Trying → Type 0
 SharesRow home log t TakesShared = ⊤
-SharesRow home log t Walks = NoneIsLater home log t.request ⊎ ((is_prepare t.seen.phase ≡ true) × IsUnderWay t.walk.step × WalkApart home log t.request t.seen t.walk t.walk.step)
+SharesRow home log t Walks = KnowsNone home log t ⊎ ((is_prepare t.seen.phase ≡ true) × IsUnderWay t.walk.step × WalkApart home log t.request t.seen t.walk t.walk.step × (t.request.has_latch ≡ false))
 SharesRow home log t (DropsExclusive its) = is_wait its ≡ true → NoneIsLater home log t.request
 SharesRow home log t step = NoneIsLater home log t.request
 
@@ -137,13 +151,13 @@ CopiesRow home log t LoadsOld = CopiesApart home log t
 CopiesRow home log t (Appends its) = CopiesApart home log t
 CopiesRow home log t step = ⊤
 
--- it takes its share in prepare, and has begun to drop what it has held alone
+-- it takes its share in prepare, where its request came without, and has begun to drop what it has held alone
 abbrev pub IsDropping : Latching → Type 0
 IsDropping (latching.DropsExclusive place) = ⊤
 IsDropping step = ⊥
 
 abbrev pub LatchRow : TryState → Trying → Type 0
-LatchRow t TakesShared = (is_prepare t.seen.phase ≡ true) × (t.has_shared ≡ false)
+LatchRow t TakesShared = (is_prepare t.seen.phase ≡ true) × (t.has_shared ≡ false) × (t.request.has_latch ≡ false)
 LatchRow t (DropsExclusive its) = IsDropping t.latching
 LatchRow t step = ⊤
 
