@@ -4,6 +4,7 @@ mod Counted
 mod Goes
 mod InTurn
 mod LifeBegun
+mod Measured
 mod NewestWritten
 mod NextNumbers
 pub mod OfCopied
@@ -22,6 +23,7 @@ mod Rising
 pub mod Shown
 mod Sights
 mod Stamps
+mod Telling
 mod ToldFinished
 mod WorkedPast
 mod WorkedRuns

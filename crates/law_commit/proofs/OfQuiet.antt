@@ -1,7 +1,9 @@
+pub mod Before
 pub mod Begun
 pub mod Coming
 pub mod Cuts
 pub mod Keeper
+pub mod Latching
 pub mod Left
 pub mod Life
 pub mod Live

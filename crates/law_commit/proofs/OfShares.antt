@@ -1,9 +1,16 @@
 pub mod Alone
 mod AttemptsMove
-mod Enters
+mod AttemptsSince
+mod CatchesSince
+pub mod Enters
+mod Fits
 mod Holders
+pub mod Just
 pub mod Leaving
+pub mod Onward
 pub mod Prepared
-mod SessionsMove
+pub mod SessionsMove
+mod SessionsSince
+pub mod Since
 mod TriesMove
 mod Waiting

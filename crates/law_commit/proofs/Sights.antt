@@ -33,7 +33,7 @@ abbrev pub Sees : Sight → SessionState → Type 0
 Sees its s = SeesAt its s s.step
 
 -- where it doesn't catch up, nothing comes
-abbrev IsPlain : Sitting → Type 0
+abbrev pub IsPlain : Sitting → Type 0
 IsPlain (CatchesUp cause) = ⊥
 IsPlain step = Unit {0}
 
@@ -124,7 +124,7 @@ given_sees its k s StoresCut action e sees = still_sees its s _ (given_on k s St
 given_sees its k s Leaves action e sees = still_sees its s _ (given_on k s Leaves action e) sees
 given_sees its k s LoadsDurable action e sees = still_sees its s _ (given_on k s LoadsDurable action e) sees
 
-idle_plain : (step : Sitting) → is_busy step ≡ false → IsPlain step
+pub idle_plain : (step : Sitting) → is_busy step ≡ false → IsPlain step
 idle_plain (Idle told) idle = tt
 idle_plain step idle = cc
 

@@ -1,10 +1,15 @@
 -- That no update of a version is left, nor comes any more.
 use Rattle.std.specs.Prelude.{◌≡◌, ◌⊎◌, ◌+◌, ◌-◌, ◌*◌, ◌<◌, ◌≤◌, nat_le, ℕ, true, List, ◌∷◌, ◌++◌}
+use Rattle.fkv_base.specs.declared.numbers.Version.{Version}
+use Rattle.fkv_base.specs.declared.phases.Phase.TheVariants.{InProgress, WaitPending}
 use Rattle.fkv_words.specs.declared.phase_words.PhaseSaid.{PhaseSaid}
 use Rattle.fkv_words.specs.declared.phase_words.PhaseSaid.TheVariants.{Says, Spoiled}
 use Rattle.fkv_words.specs.PhaseWords.{phase_said}
 use Rattle.fkv_plane.specs.Places.{session_place}
 use Rattle.fkv_commit.specs.Cuts.{cut_of, other_cut_of}
+use Rattle.fkv_session.specs.declared.catching_up.Catching.TheVariants.{Latches}
+use Rattle.fkv_session.specs.declared.sessions.CatchCause.{CatchCause}
+use Rattle.fkv_session.specs.declared.sessions.Sitting.TheVariants.{CatchesUp}
 use Rattle.fkv_session.specs.CatchingUp.{cut_at}
 use Rattle.fkv_session.specs.InOrder.{owing_place}
 use Rattle.fkv_session.specs.Sessions.{SessionState}
@@ -19,6 +24,7 @@ use Rattle.law_commit.specs.BegunCommits.{BegunCommit, life_begun}
 use Rattle.law_commit.specs.Cuts.{ShowCuts, word_now}
 use Rattle.law_commit.specs.Floor.Stands.{OpensSeen}
 use Rattle.law_commit.specs.PhaseStores.{phase_at}
+use Rattle.law_commit.specs.PhaseVersions.{phase_version}
 use Rattle.law_commit.specs.Ranks.{rank}
 use Rattle.law_commit.specs.Versions.Requests.{AreUpdatesSo, AttemptsSo}
 
@@ -48,6 +54,19 @@ IsLater version its = version < its
 pub record HasNoneUpto (version : ℕ) (s : SessionState) : Type 0 where
   pub waiting : AreUpdatesSo (IsLater version) s.requests
   pub attempted : AttemptsSo (IsLater version) s s.step
+
+-- The phase word says in-progress or wait-pending of this version.
+abbrev pub SaysMovingTo : PhaseSaid → Version → Type 0
+SaysMovingTo said version = (said ≡ Says InProgress version) ⊎ (said ≡ Says WaitPending version)
+
+-- an update is of this version; or of the one before, as long as the phase word says so
+abbrev pub IsOwnOrBefore : PhaseSaid → Version → ℕ → Type 0
+IsOwnOrBefore said own its = (its ≡ own.0) ⊎ ((its + 1 ≡ own.0) × SaysMovingTo said own)
+
+-- Each update that waits or is attempted is of the session's version; or of the one before, as long as the phase word says so.
+pub record HasOwnOrBefore (said : PhaseSaid) (s : SessionState) : Type 0 where
+  pub waiting : AreUpdatesSo (IsOwnOrBefore said s.seen.version) s.requests
+  pub attempted : AttemptsSo (IsOwnOrBefore said s.seen.version) s s.step
 
 -- while it is awake the session goes by a later version
 abbrev pub IsLiveLater : ℕ → SessionState → Type 0
@@ -88,6 +107,18 @@ abbrev pub NoneIsLeft : Type 0
 NoneIsLeft =
     (opening : World) (start : ℕ) (events : List Event) (version session : ℕ) (first its : SessionState) → OpensQuiet opening start → HasBecome opening events session first its
     → flush_rank version ≤ rank_now opening events → HasNoneUpto version its
+
+-- so an update that waits is of its session's version, or of the one before
+abbrev pub WaitsFromBefore : Type 0
+WaitsFromBefore =
+    (opening : World) (start : ℕ) (events : List Event) (session : ℕ) (first its : SessionState) → OpensQuiet opening start → HasBecome opening events session first its
+    → HasOwnOrBefore (phase_said (phase_at (run opening events).now)) its
+
+-- and as a session takes shares for what waits, each update that waits is of the version that the phase word says
+abbrev pub LatchesAtItsVersion : Type 0
+LatchesAtItsVersion =
+    (opening : World) (start : ℕ) (events : List Event) (session : ℕ) (first its : SessionState) (cause : CatchCause) (i : ℕ) → OpensQuiet opening start → HasBecome opening events session first its
+    → its.step ≡ CatchesUp cause → its.catching.step ≡ Latches i → AreUpdatesSo (λ version. version ≡ phase_version (run opening events).now.words) its.requests
 
 -- ---- so of its points
 -- a session's point of this version splits its effects: just those have a serial up to it that are of this version or an earlier one

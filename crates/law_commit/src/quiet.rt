@@ -1,5 +1,5 @@
 //! That no update of a version is left once its commit has come to wait-flush.
-ghost use Rattle.law_commit.specs.Quiet.{BegunHaveFlushed, CutsShowPoints, LiveAreLater, NoneComesBack, NoneIsLeft, OwesNone, PointsAlwaysSplit, PointsStay, RanksRise};
+ghost use Rattle.law_commit.specs.Quiet.{BegunHaveFlushed, CutsShowPoints, LatchesAtItsVersion, LiveAreLater, NoneComesBack, NoneIsLeft, OwesNone, PointsAlwaysSplit, PointsStay, RanksRise, WaitsFromBefore};
 
 use crate::cuts::law_cuts_stand;
 use crate::floor::law_floor_stands;
@@ -8,8 +8,10 @@ use law_paper::law_phases_are_seen;
 /// In each life of a store that opened at rest the rank of the phase word never falls. From wait-pending of a commit on each live session goes by a later
 /// version than the commit's number. So a session that has no update up to that number gets none any more. While the phase is wait-pending, a session whose
 /// owing word reads 0 has none. The keeper stores wait-flush once it has read each owing word as 0, at whatever moments. So from then on no session has an
-/// update up to the commit's number, for good. From wait-pending on a session's point of that number stays, whether it sleeps or not. It splits the session's
-/// effects at each later moment: just those have a serial up to it that are of that version or an earlier one. Each commit that has begun has come to
+/// update up to the commit's number, for good. So an update that waits or is attempted is of its session's version; or of the one before, as long as the phase
+/// word says in-progress or wait-pending of the session's. As a session takes shares for what waits, each update that waits is of the version that the phase word
+/// says. From wait-pending on a session's point of that number stays, whether it sleeps or not. It splits the
+/// session's effects at each later moment: just those have a serial up to it that are of that version or an earlier one. Each commit that has begun has come to
 /// wait-flush, with the opening's. So all of this holds of its number, for ever.
 pub fn law_versions_end()
     ensures ranks { RanksRise }
@@ -17,6 +19,8 @@ pub fn law_versions_end()
     ensures gone { NoneComesBack }
     ensures owes { OwesNone }
     ensures left { NoneIsLeft }
+    ensures before { WaitsFromBefore }
+    ensures latches { LatchesAtItsVersion }
     ensures points { PointsStay }
     ensures splits { PointsAlwaysSplit }
     ensures begun { BegunHaveFlushed }

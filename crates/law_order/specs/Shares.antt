@@ -5,7 +5,9 @@ use Rattle.fkv_latch.specs.Latching.{is_exclusive}
 use Rattle.fkv_latch.specs.LatchWorld.{times}
 use Rattle.fkv_opening.specs.Opened.{IsStoreOf}
 use Rattle.fkv_opening.specs.declared.opened_store.Opened.{Opened}
+use Rattle.fkv_ops.specs.Requests.{is_read}
 use Rattle.fkv_ops.specs.Trying.{is_moving_on, is_prepare}
+use Rattle.fkv_pending.specs.declared.attempting.Attempting.TheVariants.{Tries}
 use Rattle.fkv_plane.specs.declared.asks.Ask.TheVariants.{Add}
 use Rattle.fkv_plane.specs.Asked.{word_at}
 use Rattle.fkv_session.specs.declared.sessions.CatchCause.{CatchCause}
@@ -15,8 +17,10 @@ use Rattle.fkv_world.specs.Opened.{HasBecome}
 use Rattle.fkv_world.specs.OwnEvents.{session_events}
 use Rattle.fkv_world.specs.Runs.{run}
 use Rattle.fkv_world.specs.World.{Event, Now, seat_at}
+use Rattle.law_local.specs.Sessions.Known.{is_attempting}
 use Rattle.law_parts.specs.Latches.Latchers.{session_alone}
 use Rattle.law_commit.specs.Shares.Leaving.{HasLoaded}
+use Rattle.law_commit.specs.Shares.Since.{AllShareSo, SharesJust, SharesOnly, SharesSince, seen_by}
 use Rattle.law_commit.specs.Shares.Tries.{SharesInHand}
 use Rattle.law_commit.specs.Shares.Waiting.{ShareSitting, has_shifted}
 
@@ -49,3 +53,28 @@ abbrev pub LeavesFromPrepareInItsLife : Type 0
 LeavesFromPrepareInItsLife =
     (bytes : List ℕ) (o : Opened) (n : Now) (events : List Event) (session : ℕ) (first its : SessionState) (cause : CatchCause) → IsStoreOf bytes o → IsOpeningWorld o n → HasBecome (beginning n bytes) events session first its
     → its.is_awake ≡ true → its.step ≡ CatchesUp cause → HasLoaded its.catching.step → (its.catching.seen.version.0 ≡ its.seen.version.0) ⊎ (is_prepare its.seen.phase ≡ true)
+
+-- No update shares its latch before its session has come to prepare of the update's version.
+abbrev pub ShareOnlySinceInItsLife : Type 0
+ShareOnlySinceInItsLife =
+    (bytes : List ℕ) (o : Opened) (n : Now) (events : List Event) (session : ℕ) (first its : SessionState) → IsStoreOf bytes o → IsOpeningWorld o n → HasBecome (beginning n bytes) events session first its
+    → AllShareSo (SharesOnly (seen_by its its.step)) its
+
+-- From there on each does, if none of the session's attempts has ended as a shift and isn't made again.
+abbrev pub AllShareSinceInItsLife : Type 0
+AllShareSinceInItsLife =
+    (bytes : List ℕ) (o : Opened) (n : Now) (events : List Event) (session : ℕ) (first its : SessionState) → IsStoreOf bytes o → IsOpeningWorld o n → HasBecome (beginning n bytes) events session first its
+    → has_shifted (seat_at n session) first (session_events (beginning n bytes) session events) ≡ false → AllShareSo (SharesSince its.seen) its
+
+-- So an update that is tried and is of an earlier version than its session's has come with its share.
+abbrev pub OlderComeSharingInItsLife : Type 0
+OlderComeSharingInItsLife =
+    (bytes : List ℕ) (o : Opened) (n : Now) (events : List Event) (session : ℕ) (first its : SessionState) → IsStoreOf bytes o → IsOpeningWorld o n → HasBecome (beginning n bytes) events session first its
+    → has_shifted (seat_at n session) first (session_events (beginning n bytes) session events) ≡ false → is_attempting its.step ≡ true → its.attempt.step ≡ Tries → is_read its.attempt.pending.request.op ≡ false
+    → its.attempt.pending.request.version.0 < its.seen.version.0 → its.attempt.trial.request.has_latch ≡ true
+
+-- And each shares its latch just if its session has come to prepare of its version, as long as the session takes up no other phase.
+abbrev pub AllShareJustInItsLife : Type 0
+AllShareJustInItsLife =
+    (bytes : List ℕ) (o : Opened) (n : Now) (events : List Event) (session : ℕ) (first its : SessionState) → IsStoreOf bytes o → IsOpeningWorld o n → HasBecome (beginning n bytes) events session first its
+    → has_shifted (seat_at n session) first (session_events (beginning n bytes) session events) ≡ false → seen_by its its.step ≡ its.seen → AllShareSo (SharesJust its.seen) its

@@ -35,7 +35,7 @@ use Rattle.law_refine.proofs.OfSeen.Alone.{moves_alone}
 use Rattle.law_commit.specs.Versions.Seen.{AreViewsSo}
 use Rattle.law_commit.specs.Views.{Sight, View, sight_in, sight_moved, sight_through, view_said}
 use Rattle.law_commit.proofs.OfVersions.Sights.{LoadsSo, through_so, views_weaker}
-use Rattle.law_commit.proofs.Rising.{found_all}
+use Rattle.law_commit.proofs.Telling.{found_all}
 
 -- ---- a session stands at no slot between two events
 stands_off : (opening : World) (start : ℕ) (events : List Event) (session : ℕ) (s : SessionState) → guard.IsOpened opening.now start → slice_get (run opening events).now.sessions session ≡ Some s

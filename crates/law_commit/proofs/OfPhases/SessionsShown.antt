@@ -39,7 +39,7 @@ use Rattle.law_commit.specs.Views.{Sight, sight_by, sight_found, sight_in, sight
 use Rattle.law_commit.proofs.OfPhases.Awake.{SitsSo, happens_so, run_so}
 use Rattle.law_commit.proofs.OfPhases.RepliesShown.{none_shown, replies_shown}
 use Rattle.law_commit.proofs.OfPhases.SessionStamps.{begins_stamped, given_stamped, next_stamped, sitting_driven}
-use Rattle.law_commit.proofs.Rising.{TellAll, Tells, TellsBy, found_all}
+use Rattle.law_commit.proofs.Telling.{TellAll, Tells, TellsBy, found_all}
 
 -- ---- a call that begins and an action leave it awake, or asleep
 either_same : (c awake : Bool) (a b : SessionState) → a.is_awake ≡ awake → b.is_awake ≡ awake → (if c then a else b).is_awake ≡ awake

@@ -1,5 +1,5 @@
 -- In a life a session that has no update up to a version, from wait-pending of the commit of this number on, gets none any more.
-use Rattle.std.proofs.Common.{◌≡◌, ℕ, zero, suc, ◌<◌, ◌≤◌, ◌∙◌, List, [], ◌∷◌, ◌++◌, refl, arith, ap, sym, subst, Bool, true, false}
+use Rattle.std.proofs.Common.{◌≡◌, ℕ, ◌<◌, ◌≤◌, ◌∙◌, List, [], ◌∷◌, ◌++◌, refl, arith, ap, sym, subst, Bool, true, false}
 use Rattle.std.specs.Prelude.{◌==◌, Option, Some, None, slice_get, if◌then◌else◌}
 use Rattle.std.proofs.lemmas.Bool.Decides.{nat_tests}
 use Rattle.fkv_base.specs.declared.numbers.Version.{Version}
@@ -30,11 +30,11 @@ use Rattle.law_local.specs.Sessions.Known.{is_attempting}
 use Rattle.law_world.proofs.OfSessions.OwnRun.{of_run, opened_so, to_run}
 use Rattle.law_commit.specs.Accepted.{HasRisingVersion}
 use Rattle.law_commit.specs.Quiet.{HasNoneUpto, IsLater, IsLiveLater, LiveAreLater, NoneComesBack, OpensQuiet, pending_rank, rank_now}
-use Rattle.law_commit.specs.Versions.Requests.{AreUpdatesSo, AttemptsSo}
+use Rattle.law_commit.specs.Versions.Requests.{AttemptsSo}
 use Rattle.law_commit.proofs.OfPhases.LifeStages.{first_version, rising_version}
 use Rattle.law_commit.proofs.OfQuiet.Ranks.{ranks_rise}
 use Rattle.law_commit.proofs.OfQuiet.Sessions.{HasNoCall, KnowsLater, Still, TriesLater, WaitsLater, no_calls, one_call}
-use Rattle.law_commit.proofs.OfVersions.Requests.{update_at}
+use Rattle.law_commit.proofs.OfVersions.Requests.{all_so, update_at}
 
 -- ---- a session's part in an event is a call, or has none
 got_none : (found : Option Action) → HasNoCall (session_got found)
@@ -107,10 +107,6 @@ module _ (version : ℕ) where
     attempted = λ attempting. attempted_so s s.step attempting none.attempted;
   }
 
-  all_of : (requests : List PendingRequest) → ((index : ℕ) (pending : PendingRequest) → slice_get requests index ≡ Some pending → WaitsLater version pending) → AreUpdatesSo (IsLater version) requests
-  all_of [] each = tt
-  all_of (pending ∷ rest) each = (each zero pending refl, all_of rest (λ index its got. each (suc index) its got))
-
   tries_so : (s : SessionState) (step : Sitting) → (is_attempting step ≡ true → TriesLater version s.attempt) → AttemptsSo (IsLater version) s step
   tries_so s (Attempts has_shifted) tries = tries refl
   tries_so s (Polls index) tries = tries refl
@@ -135,7 +131,7 @@ module _ (version : ℕ) where
   waits_so s step at polls knows index pending got = knows.waiting index pending got (λ is. let clash : step ≡ Polls index = sym at ∙ is in cc)
 
   pub from_known : (s : SessionState) → ((i : ℕ) → s.step ≡ Polls i → IsAttemptOfRequest s.requests i s.attempt.pending) → KnowsLater version s → HasNoneUpto version s
-  from_known s polls knows = record { waiting = all_of s.requests (waits_so s s.step refl polls knows); attempted = tries_so s s.step (λ attempting. knows.attempted attempting) }
+  from_known s polls knows = record { waiting = all_so (IsLater version) s.requests (waits_so s s.step refl polls knows); attempted = tries_so s s.step (λ attempting. knows.attempted attempting) }
 
 -- ---- a life
 module _ (live : LiveAreLater) (opening : World) (start : ℕ) (opens : OpensQuiet opening start) (version session : ℕ) (first : SessionState) (was : slice_get opening.now.sessions session ≡ Some first) where

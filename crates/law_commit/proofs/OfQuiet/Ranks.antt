@@ -20,10 +20,12 @@ use Rattle.fkv_commit.specs.Starting.{StartState}
 use Rattle.fkv_keeper.specs.declared.keepers.Keeping.{Keeping}
 use Rattle.fkv_keeper.specs.declared.keepers.Keeping.TheVariants.{Starts, Maintains, Enters, Seeks, Finishes}
 use Rattle.fkv_keeper.specs.Keeping.{KeeperState}
+use Rattle.fkv_world.specs.Opened.{IsOpenedWorld}
 use Rattle.fkv_world.specs.Runs.{World, run}
 use Rattle.fkv_world.specs.World.{Event, Now}
+use Rattle.law_guard.specs.Guarded.Shows.{IsOpened}
 use Rattle.law_commit.specs.Floor.Stands.{stage_number}
-use Rattle.law_commit.specs.Phases.Staged.{DefersAt, DefersPending, DefersProgress, EnterAt, FinishAt, FitsVersion, Flushes, IsStaged, Pends, Prepares, Progresses, Rests, Stage, StartAt, StepAt, defer_moves, enter_moves, finish_moves, finish_number, is_resting, keeping_moves, keeping_number, seek_moves, stage_phase, stage_run, stage_version, start_moves}
+use Rattle.law_commit.specs.Phases.Staged.{DefersAt, DefersPending, DefersProgress, EnterAt, FinishAt, FitsVersion, Flushes, IsStaged, OpensAtRest, Pends, Prepares, Progresses, Rests, Stage, StartAt, StepAt, defer_moves, enter_moves, finish_moves, finish_number, is_resting, keeping_moves, keeping_number, seek_moves, stage_phase, stage_run, stage_version, start_moves}
 use Rattle.law_commit.specs.Quiet.{OpensQuiet, RanksRise, rank_now, rank_said, word_rank}
 use Rattle.law_commit.specs.Ranks.{rank}
 use Rattle.law_commit.proofs.OfFloor.KeeperPuts.{KeeperPuts, is_put, keeper_puts}
@@ -135,16 +137,19 @@ module _ (n after : Now) (number : Version) (stage : Stage) (its : IsStaged n nu
   how_up next there (inr (inr led)) = led_up next there led
 
 -- ---- a life
-pub ranks_rise : RanksRise
-ranks_rise opening start events event opens =
+pub rank_up : (opening : World) (start : ℕ) (events : List Event) (event : Event) → IsOpened opening.now start → IsOpenedWorld opening → OpensAtRest opening.now → rank_now opening events ≤ rank_now opening (event ∷ events)
+rank_up opening start events event guarded opened rests =
     let n : Now = (run opening events).now in
     let after : Now = (run opening (event ∷ events)).now in
-    let past = life_staged opening start events opens.guarded opens.opened opens.seen.rests in
-    let there = event_on opening start opens.guarded opens.opened events event past.number past.stage past.staged in
+    let past = life_staged opening start events guarded opened rests in
+    let there = event_on opening start guarded opened events event past.number past.stage past.staged in
     let up = how_up n after past.number past.stage past.staged there.on.its_number there.on.its_stage there.how in
     let was = staged_rank n past.number past.stage past.staged in
     let is = staged_rank after there.on.its_number there.on.its_stage there.on.staged in
     omega (arith, up, was, is)
+
+pub ranks_rise : RanksRise
+ranks_rise opening start events event opens = rank_up opening start events event opens.guarded opens.opened opens.seen.rests
 
 -- it is the lowest as the life begins
 not_below : (low mid high : ℕ) → low ≤ mid → mid ≤ high → low ≤ high

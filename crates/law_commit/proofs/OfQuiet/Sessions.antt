@@ -42,12 +42,12 @@ unfolding sitting_next
 shift_seen k s asks (CatchesUp Shifts) reply its at done = shift_led k (caught k (record s { asks = asks; effect = None }) reply) (catch_comes_to k s reply) its done
 shift_seen k s asks step reply its at done = cc
 
-shifted_seen : (k : Seat) (s : SessionState) (reply : ℕ) (its : Unit {0}) → s.step ≡ CatchesUp Shifts → catch_comes_to k s reply ≡ Done its → (session_next k s reply).seen ≡ (catch_after k s reply).seen
+pub shifted_seen : (k : Seat) (s : SessionState) (reply : ℕ) (its : Unit {0}) → s.step ≡ CatchesUp Shifts → catch_comes_to k s reply ≡ Done its → (session_next k s reply).seen ≡ (catch_after k s reply).seen
 shifted_seen k s reply its at done = shift_seen k s (asks_after s.asks (is_word_ask (session_ask k s))) s.step reply its at done
 
 -- ---- where it sleeps it attempts nothing
 -- it has no call in hand, or it sleeps
-abbrev IsAway : SessionState → Sitting → Type 0
+abbrev pub IsAway : SessionState → Sitting → Type 0
 IsAway s step = (is_busy step ≡ false) ⊎ (s.is_awake ≡ false)
 
 wakes_led : (k : Seat) (t : SessionState) (ask : Ask (Unit {0})) → t.step ≡ CatchesUp Wakes → t.is_awake ≡ false → IsAway (catch_ledto k t Wakes ask) (catch_ledto k t Wakes ask).step
@@ -55,7 +55,7 @@ unfolding catch_ledto
 wakes_led k t (Done its) at asleep = inl refl
 wakes_led k t ask at asleep = inr asleep
 
-asleep_next : (k : Seat) (s : SessionState) (asks : ℕ) (step : Sitting) (reply : ℕ) → s.step ≡ step → s.is_awake ≡ false → IsStepAsleep step
+pub asleep_next : (k : Seat) (s : SessionState) (asks : ℕ) (step : Sitting) (reply : ℕ) → s.step ≡ step → s.is_awake ≡ false → IsStepAsleep step
     → IsAway (sitting_next k (record s { asks = asks; effect = None }) step reply) (sitting_next k (record s { asks = asks; effect = None }) step reply).step
 unfolding sitting_next
 asleep_next k s asks (Idle its) reply at asleep away = inr asleep
@@ -65,23 +65,31 @@ asleep_next k s asks (CatchesUp Refreshes) reply at asleep away = absurd away
 asleep_next k s asks (CatchesUp Shifts) reply at asleep away = absurd away
 asleep_next k s asks step reply at asleep away = absurd away
 
-idle_next : (k : Seat) (s : SessionState) (asks : ℕ) (step : Sitting) (reply : ℕ) → s.step ≡ step → is_busy step ≡ false
+pub idle_next : (k : Seat) (s : SessionState) (asks : ℕ) (step : Sitting) (reply : ℕ) → s.step ≡ step → is_busy step ≡ false
     → IsAway (sitting_next k (record s { asks = asks; effect = None }) step reply) (sitting_next k (record s { asks = asks; effect = None }) step reply).step
 unfolding sitting_next
 idle_next k s asks (Idle its) reply at idle = inl (ap is_busy at)
 idle_next k s asks step reply at idle = cc
 
-asleep_given : (k : Seat) (s : SessionState) (step : Sitting) (action : _) → s.step ≡ step → s.is_awake ≡ false → IsStepAsleep step → IsAway (sitting_given k s step action) (sitting_given k s step action).step
+pub asleep_given : (k : Seat) (s : SessionState) (step : Sitting) (action : _) → s.step ≡ step → s.is_awake ≡ false → IsStepAsleep step → IsAway (sitting_given k s step action) (sitting_given k s step action).step
 unfolding sitting_given
 asleep_given k s (Idle its) action at asleep away = inr asleep
 asleep_given k s LoadsDurable action at asleep away = inr asleep
 asleep_given k s (CatchesUp cause) action at asleep away = inr asleep
 asleep_given k s step action at asleep away = absurd away
 
-idle_given : (k : Seat) (s : SessionState) (step : Sitting) (action : _) → s.step ≡ step → is_busy step ≡ false → IsAway (sitting_given k s step action) (sitting_given k s step action).step
+pub idle_given : (k : Seat) (s : SessionState) (step : Sitting) (action : _) → s.step ≡ step → is_busy step ≡ false → IsAway (sitting_given k s step action) (sitting_given k s step action).step
 unfolding sitting_given
 idle_given k s (Idle its) action at idle = inl (ap is_busy at)
 idle_given k s step action at idle = cc
+
+pub here_or_away : (s : SessionState) → ((is_busy s.step ≡ true) × (s.is_awake ≡ true)) ⊎ IsAway s s.step
+here_or_away s = by_both (is_busy s.step) s.is_awake refl refl
+  where
+    by_both : (b c : Bool) → is_busy s.step ≡ b → s.is_awake ≡ c → ((is_busy s.step ≡ true) × (s.is_awake ≡ true)) ⊎ IsAway s s.step
+    by_both true true busy awake = inl (busy, awake)
+    by_both true false busy asleep = inr (inr asleep)
+    by_both false c idle is = inr (inl idle)
 
 -- ---- events but calls
 abbrev pub HasNoCall : List SessionEvent → Type 0
@@ -90,7 +98,7 @@ HasNoCall (Begins call ∷ before) = ⊥
 HasNoCall (Replies reply ∷ before) = HasNoCall before
 HasNoCall (Gets action ∷ before) = HasNoCall before
 
-not_both : {X : Type 0} (c : Bool) → c ≡ true → c ≡ false → X
+pub not_both : {X : Type 0} (c : Bool) → c ≡ true → c ≡ false → X
 not_both true is not_so = cc
 not_both false is not_so = cc
 
@@ -164,14 +172,6 @@ module _ (version : ℕ) where
   away_busy : (s : SessionState) → IsAway s s.step → IsBusyLater s
   away_busy s (inl idle) busy awake = not_both (is_busy s.step) busy idle
   away_busy s (inr asleep) busy awake = not_both s.is_awake awake asleep
-
-  here_or_away : (s : SessionState) → ((is_busy s.step ≡ true) × (s.is_awake ≡ true)) ⊎ IsAway s s.step
-  here_or_away s = by_both (is_busy s.step) s.is_awake refl refl
-    where
-      by_both : (b c : Bool) → is_busy s.step ≡ b → s.is_awake ≡ c → ((is_busy s.step ≡ true) × (s.is_awake ≡ true)) ⊎ IsAway s s.step
-      by_both true true busy awake = inl (busy, awake)
-      by_both true false busy asleep = inr (inr asleep)
-      by_both false c idle is = inr (inl idle)
 
   higher : (low high : ℕ) → low ≤ high → version < low → version < high
   higher low high up below = omega (arith, up, below)

@@ -1,5 +1,5 @@
 -- No session that takes up prepare meets a latch that is held alone.
-use Rattle.std.proofs.Common.{◌≡◌, inl, inr, ℕ, ◌+◌, ◌*◌, ◌<◌, ◌≤◌, ◌∙◌, refl, sym, ap, subst, arith, List, [], Bool, true, false}
+use Rattle.std.proofs.Common.{◌≡◌, ◌⊎◌, inl, inr, ℕ, ◌+◌, ◌*◌, ◌<◌, ◌≤◌, ◌∙◌, refl, sym, ap, subst, arith, List, [], Bool, true, false}
 use Rattle.std.specs.Prelude.{Option, Some, None, ◌==◌, ◌&&◌, not}
 use Rattle.std.proofs.lemmas.Bool.Decides.{nat_tests}
 use Rattle.fkv_base.specs.declared.numbers.Version.{Version}
@@ -63,7 +63,8 @@ use Rattle.law_commit.specs.Ranks.{rank}
 use Rattle.law_commit.specs.Shares.Alone.{HoldsAloneBetween, HoldsAloneByRank, MeetsNoneAlone}
 use Rattle.law_commit.specs.Shares.Tries.{SharesAttempting, SharesInHand, SharesInTries, SharesSo, SharesTrying}
 use Rattle.law_commit.specs.Views.{IsComing, IsTakenFrom, Sight, TakesUp, View, rank_of, sight_found, sight_in, sight_of}
-use Rattle.law_commit.proofs.Rising.{ComesBetween, life_rise}
+use Rattle.law_commit.proofs.Measured.{ComesBetween}
+use Rattle.law_commit.proofs.Rising.{life_rise, of_version}
 use Rattle.law_commit.proofs.Sights.{coming_seen, view_seen}
 use Rattle.law_commit.proofs.OfFloor.Stands.{few_stages, has_floor, life_floored}
 use Rattle.law_commit.proofs.OfPhases.LifeStages.{life_staged, none_ahead}
@@ -126,7 +127,12 @@ module _ (k : Seat) (homes : (pending : PendingRequest) → (home_of (bits_of k)
 
 -- ---- what its tries share
 so : (seen : Seen) (t : TryState) → t.seen ≡ seen → (t.has_exclusive ≡ true → MovesOn seen t) → HasShare t → SharesSo seen t
-so seen t same alone shares = record { prepares = λ prepare. shares.0 (subst (λ (x : Seen). is_prepare x.phase ≡ true) (sym same) prepare); kept = shares.1; alone = alone }
+so seen t same alone shares = record {
+  prepares = λ prepare. shares.0 (subst (λ (x : Seen). is_prepare x.phase ≡ true) (sym same) prepare);
+  kept = shares.1;
+  came = λ has. subst (λ (x : Seen). (is_prepare x.phase ≡ true) ⊎ (t.request.has_latch ≡ true)) same (shares.2 has);
+  alone = alone;
+}
 
 try_shares : (seen : Seen) (t : TryState) (step : Trying) → t.seen ≡ seen → (t.has_exclusive ≡ true → MovesOn seen t) → SharesBy t step → SharesTrying seen t step
 try_shares seen t Walks same alone shares = so seen t same alone shares
@@ -216,7 +222,7 @@ gone_on number stage Prepare version some low rest e = cc
 gone_on number stage WaitFlush version some low rest e = cc
 
 -- so nobody enters prepare then
-never_enters : (number : Version) (stage : Stage) (phase : Phase) (version coming : ℕ) → 2 ≤ stage_number stage → 5 * number.0 + 1 ≤ rank phase version → rank Prepare coming ≤ 5 * number.0 + stage_number stage → version ≤ coming
+pub never_enters : (number : Version) (stage : Stage) (phase : Phase) (version coming : ℕ) → 2 ≤ stage_number stage → 5 * number.0 + 1 ≤ rank phase version → rank Prepare coming ≤ 5 * number.0 + stage_number stage → version ≤ coming
     → (is_prepare phase ≡ true → version ≡ coming → ⊥) → ⊥
 never_enters number stage Rest version coming far low high rises other = let few = few_stages stage in omega (arith, few, low, high, rises)
 never_enters number stage Prepare version coming far low high rises other = let few = few_stages stage in other refl (omega (arith, few, low, high, rises))
@@ -224,7 +230,7 @@ never_enters number stage InProgress version coming far low high rises other = l
 never_enters number stage WaitPending version coming far low high rises other = let few = few_stages stage in omega (arith, few, low, high, rises)
 never_enters number stage WaitFlush version coming far low high rises other = let few = few_stages stage in omega (arith, few, low, high, rises)
 
-prepare_is : (phase : Phase) → is_prepare phase ≡ true → phase ≡ Prepare
+pub prepare_is : (phase : Phase) → is_prepare phase ≡ true → phase ≡ Prepare
 prepare_is Prepare e = refl
 prepare_is Rest e = cc
 prepare_is InProgress e = cc
@@ -232,10 +238,10 @@ prepare_is WaitPending e = cc
 prepare_is WaitFlush e = cc
 
 -- ---- in a life
-homes_so : (k : Seat) → HasItsBuckets k → (pending : PendingRequest) → (home_of (bits_of k) (key_of pending.request.op)).bucket < k.places.buckets
+pub homes_so : (k : Seat) → HasItsBuckets k → (pending : PendingRequest) → (home_of (bits_of k) (key_of pending.request.op)).bucket < k.places.buckets
 homes_so k its pending = (homes_are_there k.places (bits_of k) (key_of pending.request.op) its).few
 
-moving_at : (opening : World) (events : List Event) (session : ℕ) (first its : SessionState) (buckets : HasItsBuckets (seat_at opening.now session)) → HasBecome opening events session first its
+pub moving_at : (opening : World) (events : List Event) (session : ℕ) (first its : SessionState) (buckets : HasItsBuckets (seat_at opening.now session)) → HasBecome opening events session first its
     → IsSessionMoving (seat_at opening.now session) (homes_so (seat_at opening.now session) buckets) its
 moving_at opening events session first its buckets became =
     let k : Seat = seat_at opening.now session in
@@ -246,12 +252,12 @@ awake_by : (its : SessionState) (awake : Bool) → its.is_awake ≡ awake → (i
 awake_by its true e asleep none = e
 awake_by its false e asleep none = absurd (none (asleep e))
 
-asleep_at : (opening : World) (events : List Event) (session : ℕ) (first its : SessionState) → HasBecome opening events session first its → its.is_awake ≡ false → IsAsleep its.requests its.step
+pub asleep_at : (opening : World) (events : List Event) (session : ℕ) (first its : SessionState) → HasBecome opening events session first its → its.is_awake ≡ false → IsAsleep its.requests its.step
 asleep_at opening events session first its became =
     of_run (λ s. s.is_awake ≡ false → IsAsleep s.requests s.step) opening events session first its became
     (run_asleep (seat_at opening.now session) first (session_events opening session events) (opened_so opening events session first its became))
 
-awake_at : (opening : World) (events : List Event) (session : ℕ) (first its : SessionState) → HasBecome opening events session first its → (IsAsleep its.requests its.step → ⊥) → its.is_awake ≡ true
+pub awake_at : (opening : World) (events : List Event) (session : ℕ) (first its : SessionState) → HasBecome opening events session first its → (IsAsleep its.requests its.step → ⊥) → its.is_awake ≡ true
 awake_at opening events session first its became none = awake_by its its.is_awake refl (asleep_at opening events session first its became) none
 
 pub alone_between : HoldsAloneBetween
@@ -271,7 +277,7 @@ drops_between opening start events session place first its guarded became drops 
     (moves.0, awake_at opening events session first its became (λ asleep. moves.1 asleep.accepts_none))
 
 -- ---- one session is between two versions, and another takes up prepare
-enters_so : (before after : Seen) → enters_prepare before after ≡ true → (is_prepare after.phase ≡ true) × (is_prepare before.phase ≡ true → before.version.0 ≡ after.version.0 → ⊥)
+pub enters_so : (before after : Seen) → enters_prepare before after ≡ true → (is_prepare after.phase ≡ true) × (is_prepare before.phase ≡ true → before.version.0 ≡ after.version.0 → ⊥)
 enters_so before after e =
     let both = both_are (is_prepare after.phase) (not (is_prepare before.phase && before.version.0 == after.version.0)) e in
     (both.0, λ prepares same. by_test (is_prepare before.phase) (before.version.0 == after.version.0) prepares (let it : (before.version.0 == after.version.0) ≡ true = grind (arith, nat_tests, same) in it) (is_false _ both.1))
@@ -281,8 +287,8 @@ enters_so before after e =
     by_test true false one other none = cc
     by_test false b one other none = cc
 
-between_so : (low top : ℕ) (found : Option View) (view : View) → found ≡ Some view → ComesBetween low top found → low ≤ view.version.0
-between_so low top found view e between = let here : ComesBetween low top (Some view) = subst (λ (x : Option View). ComesBetween low top x) e between in here.0
+between_so : (low top : ℕ) (found : Option View) (view : View) → found ≡ Some view → ComesBetween of_version low top found → low ≤ view.version.0
+between_so low top found view e between = let here : ComesBetween of_version low top (Some view) = subst (λ (x : Option View). ComesBetween of_version low top x) e between in here.0
 
 module _ (paper_sound : PaperIsSound) (paper_floor : PaperHasFloor) (opening : World) (start : ℕ) (events : List Event) (guarded : guard.IsOpened opening.now start) (opens : OpensSeen opening.now) where
   moving_far : (number : Version) (stage : Stage) (session : ℕ) (was other : SessionState) → 0 < number.0 → HasBecome opening events session was other → HasFloor number stage (sight_of opening events session).view → is_moving_on other.seen.phase ≡ true → 2 ≤ stage_number stage
@@ -296,7 +302,7 @@ module _ (paper_sound : PaperIsSound) (paper_floor : PaperHasFloor) (opening : W
       let opened = opened_so opening events session first its became in
       let risen = life_rise opening session first events became.was opened (none_ahead opening.now opens.rests session first became.was) (life_staged opening start events guarded became.opened opens.rests).rises in
       let same : sight_of opening events session ≡ sight_in opening session first events = ap (sight_found opening events session) became.was in
-      let between = subst (λ (x : Sight). ComesBetween x.view.version.0 (phase_version (run opening events).now.words) x.coming) (sym same) risen.below.coming in
+      let between = subst (λ (x : Sight). ComesBetween of_version x.view.version.0 (phase_version (run opening events).now.words) x.coming) (sym same) risen.below.coming in
       between_so _ _ (sight_of opening events session).coming view e between
 
   conflict : (session other : ℕ) (first its was holder : SessionState) (place : ℕ) → HasBecome opening events session first its → HasBecome opening events other was holder

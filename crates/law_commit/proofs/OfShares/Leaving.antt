@@ -81,11 +81,16 @@ split zero = inl (omega arith)
 split (suc zero) = inl (omega arith)
 split (suc (suc n)) = inr (omega arith)
 
-leaves_so : (number : Version) (stage : Stage) (its : View) (next : Phase) (coming : ℕ) → 0 < number.0 → HasFloor number stage its → rank next coming ≤ 5 * number.0 + stage_number stage → its.version.0 ≤ coming
-    → (coming ≡ its.version.0) ⊎ (is_prepare its.phase ≡ true)
-leaves_so number stage its next coming some floor high rises = elim (split (stage_number stage)) [
-  | inl few ↦ early number.0 (stage_number stage) its.phase next its.version.0 coming some few floor.rest high rises floor.low
-  | inr far ↦ late number.0 (stage_number stage) its.phase next its.version.0 coming some (few_stages stage) (floor.in_progress far) high rises floor.low
+-- a rank that a live view may have
+pub record IsFloored (number : Version) (stage : Stage) (its : ℕ) : Type 0 where
+  pub rest : 5 * number.0 ≤ its + 1
+  pub in_progress : 2 ≤ stage_number stage → 5 * number.0 + 1 ≤ its
+
+pub leaves_so : (number : Version) (stage : Stage) (phase next : Phase) (version coming : ℕ) → 0 < number.0 → IsFloored number stage (rank phase version) → rank phase version ≤ 5 * number.0 + stage_number stage
+    → rank next coming ≤ 5 * number.0 + stage_number stage → version ≤ coming → (coming ≡ version) ⊎ (is_prepare phase ≡ true)
+leaves_so number stage phase next version coming some floor low high rises = elim (split (stage_number stage)) [
+  | inl few ↦ early number.0 (stage_number stage) phase next version coming some few floor.rest high rises low
+  | inr far ↦ late number.0 (stage_number stage) phase next version coming some (few_stages stage) (floor.in_progress far) high rises low
 ]
 
 -- ---- in a life
@@ -114,7 +119,8 @@ leaves_from_prepare paper_sound paper_floor opening start events session first i
         let counts = sound.coming session (comes ∙ ap is_coming e) in
         let high = (subst (λ (v : paper.View). paper.Sees p v) (coming view e) counts).low in
         let saw = view_seen opening events session first its became in
-        let either = leaves_so number stage (sight_of opening events session).view view.phase view.version.0 some floor (omega (arith, high, base, at_stage)) (rising paper_sound paper_floor opening start events guarded opens session first its view became e) in
+        let its_view : View = (sight_of opening events session).view in
+        let either = leaves_so number stage its_view.phase view.phase its_view.version.0 view.version.0 some (record { rest = floor.rest; in_progress = floor.in_progress }) floor.low (omega (arith, high, base, at_stage)) (rising paper_sound paper_floor opening start events guarded opens session first its view became e) in
         elim either [
           | inl same ↦ inl (ap (λ (v : Version). v.0) takes.version ∙ same ∙ sym (ap (λ (v : Version). v.0) saw.version))
           | inr prepares ↦ inr (subst (λ (phase : Phase). is_prepare phase ≡ true) (sym saw.phase) prepares)

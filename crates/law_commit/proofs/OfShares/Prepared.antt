@@ -23,7 +23,7 @@ use Rattle.law_commit.specs.Shares.Waiting.{ShareCatching, ShareSitting, SharesI
 use Rattle.law_commit.proofs.OfShares.Alone.{CountsLatches, ShowsLatches, meets_none}
 use Rattle.law_commit.proofs.OfShares.Waiting.{life_latched}
 
-opened_latched : (k : Seat) (its : HasItsBuckets k) (s : SessionState) (step : Sitting) → is_busy step ≡ false → s.seen.phase ≡ Rest → StepLatched k its s step
+pub opened_latched : (k : Seat) (its : HasItsBuckets k) (s : SessionState) (step : Sitting) → is_busy step ≡ false → s.seen.phase ≡ Rest → StepLatched k its s step
 opened_latched k its s (Idle told) idle rest = λ prepare. let clash : is_prepare Rest ≡ true = subst (λ (phase : Phase). is_prepare phase ≡ true) rest prepare in cc
 opened_latched k its s step idle rest = cc
 

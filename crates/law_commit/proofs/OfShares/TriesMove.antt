@@ -1,5 +1,5 @@
 -- A try holds a latch alone only where its session is between two versions.
-use Rattle.std.proofs.Common.{◌≡◌, ℕ, refl, sym, subst, Bool, true, false, ◌∙◌, arith}
+use Rattle.std.proofs.Common.{◌≡◌, ◌⊎◌, inl, inr, ℕ, refl, sym, subst, Bool, true, false, ◌∙◌, arith}
 use Rattle.std.proofs.lemmas.Bool.Decides.{nat_tests}
 use Rattle.std.specs.Prelude.{if◌then◌else◌, ◌==◌, ◌&&◌, not, nat_le, ⊤, Option, Some, None}
 use Rattle.fkv_base.specs.declared.numbers.Addr.{Addr}
@@ -56,13 +56,15 @@ abbrev pub TakesMoving : Seen → TryState → Trying → Type 0
 TakesMoving seen t (TakesExclusive old) = MovesOn seen t
 TakesMoving seen t step = ⊤
 
--- in prepare an update shares its latch, and so does one whose request has come with it
+-- in prepare an update shares its latch, so does one whose request has come with it, and no other does
 abbrev pub HasShare : TryState → Type 0
-HasShare t = (is_prepare t.seen.phase ≡ true → is_read t.request.op ≡ false → t.has_shared ≡ true) × (t.request.has_latch ≡ true → t.has_shared ≡ true)
+HasShare t =
+    (is_prepare t.seen.phase ≡ true → is_read t.request.op ≡ false → t.has_shared ≡ true) × (t.request.has_latch ≡ true → t.has_shared ≡ true)
+    × (t.has_shared ≡ true → (is_prepare t.seen.phase ≡ true) ⊎ (t.request.has_latch ≡ true))
 
--- so it is once the share is taken, and as long as it isn't dropped; at the end if the request has to wait
+-- so it is once the share is taken, which is so in prepare alone, and as long as it isn't dropped; at the end if the request has to wait
 abbrev pub SharesBy : TryState → Trying → Type 0
-SharesBy t TakesShared = ⊤
+SharesBy t TakesShared = is_prepare t.seen.phase ≡ true
 SharesBy t (DropsShared its) = is_wait its ≡ false
 SharesBy t (DropsExclusive its) = is_wait its ≡ true → HasShare t
 SharesBy t (Ended its) = is_wait its ≡ true → HasShare t
@@ -224,11 +226,11 @@ answer_moving p seen t (Done (walk.Value value)) at keeps = ends_moving p seen t
 answer_moving p seen t (Done its) at keeps = ends_moving p seen t _ keeps
 answer_moving p seen t ask at keeps = stays_moving seen t LoadsAnswer at (keeps.0, keeps.1, keeps.2) tt keeps.3
 
-shared_moving : (p : Places) (seen : Seen) (t : TryState) (ask : Ask LatchAnswer) → t.step ≡ TakesShared → KeepsMoving seen t → IsTryMoving seen (shared_ledto p t ask)
+shared_moving : (p : Places) (seen : Seen) (t : TryState) (ask : Ask LatchAnswer) → t.step ≡ TakesShared → KeepsMoving seen t → is_prepare t.seen.phase ≡ true → IsTryMoving seen (shared_ledto p t ask)
 unfolding shared_ledto
-shared_moving p seen t (Done Taken) at keeps = walks_moving p seen (record t { has_shared = true }) (keeps.0, keeps.1, keeps.2, (λ prepare update. refl, λ has. refl))
-shared_moving p seen t (Done its) at keeps = ends_with p seen t answer.Shift keeps (λ wait. no_drop wait)
-shared_moving p seen t ask at keeps = stays_moving seen t TakesShared at keeps tt tt
+shared_moving p seen t (Done Taken) at keeps prepares = walks_moving p seen (record t { has_shared = true }) (keeps.0, keeps.1, keeps.2, (λ prepare update. refl, λ has. refl, λ has. inl prepares))
+shared_moving p seen t (Done its) at keeps prepares = ends_with p seen t answer.Shift keeps (λ wait. no_drop wait)
+shared_moving p seen t ask at keeps prepares = stays_moving seen t TakesShared at keeps tt prepares
 
 exclusive_moving : (p : Places) (seen : Seen) (t : TryState) (old : OldValue) (ask : Ask LatchAnswer) → t.step ≡ TakesExclusive old → Inner seen t → MovesOn seen t → IsTryMoving seen (exclusive_ledto p t old ask)
 unfolding exclusive_ledto
@@ -271,7 +273,7 @@ latch_keeps seen t reply keeps = (keeps.0, keeps.1, λ e. no_drop (sym (next_dro
 next_moving : (p : Places) (room : ℕ) (seen : Seen) (t : TryState) (step : Trying) (reply : ℕ) → t.step ≡ step → KeepsMoving seen t → TakesMoving seen t step → SharesBy t step → IsTryMoving seen (trying_next p room t step reply)
 unfolding trying_next
 next_moving p room seen t (Ended its) reply at keeps takes shares = stays_moving seen t (Ended its) at keeps tt shares
-next_moving p room seen t TakesShared reply at keeps takes shares = shared_moving p seen (latch_moved t reply) (latch_next_ask t.latching reply) at (latch_keeps seen t reply keeps)
+next_moving p room seen t TakesShared reply at keeps takes shares = shared_moving p seen (latch_moved t reply) (latch_next_ask t.latching reply) at (latch_keeps seen t reply keeps) shares
 next_moving p room seen t Walks reply at keeps takes shares = walk_ledto_moving p seen (record t { walk = walk_next p t.walk reply }) (walk_ask p (walk_next p t.walk reply)) at (keeps.0, keeps.1, keeps.2, shares)
 next_moving p room seen t (LoadsSafe addr version) reply at keeps takes shares = safe_moving p seen t addr version reply (keeps.0, keeps.1, keeps.2, shares)
 next_moving p room seen t (SwapsValue addr) reply at keeps takes shares = ends_moving p seen (record t { effect = Some (reply_from None t.request.op) }) _ (keeps.0, keeps.1, keeps.2, shares)
@@ -286,7 +288,7 @@ next_moving p room seen t (DropsShared its) reply at keeps takes shares = unshar
 
 effect_shares : (t : TryState) (step : Trying) → SharesBy t step → SharesBy (record t { effect = None }) step
 effect_shares t (Ended its) shares = shares
-effect_shares t TakesShared shares = tt
+effect_shares t TakesShared shares = shares
 effect_shares t Walks shares = shares
 effect_shares t (LoadsSafe addr version) shares = shares
 effect_shares t (SwapsValue addr) shares = shares
@@ -316,6 +318,10 @@ try_begun_moving p bits request seen occasion spare = by_want (wants_shared its)
     unwanted true true has e f g = cc
     unwanted false read has e f g = cc
 
+    first_one : (a b c : Bool) → (a && b && c) ≡ true → a ≡ true
+    first_one true b c e = refl
+    first_one false b c e = cc
+
     by_want : (b : Bool) → wants_shared its ≡ b → IsTryMoving seen (if b then with_latch p its TakeShared TakesShared else walks p its)
-    by_want true e = record { keeps = (refl, λ x. no_drop x, λ x. no_drop x); takes = tt; shares = tt }
-    by_want false e = walks_moving p seen its (refl, λ x. no_drop x, λ x. no_drop x, (λ prepare update. unwanted (is_prepare seen.phase) (is_read request.op) request.has_latch e prepare update, λ has. has))
+    by_want true e = record { keeps = (refl, λ x. no_drop x, λ x. no_drop x); takes = tt; shares = first_one (is_prepare seen.phase) (not (is_read request.op)) (not request.has_latch) e }
+    by_want false e = walks_moving p seen its (refl, λ x. no_drop x, λ x. no_drop x, (λ prepare update. unwanted (is_prepare seen.phase) (is_read request.op) request.has_latch e prepare update, λ has. has, λ has. inr has))

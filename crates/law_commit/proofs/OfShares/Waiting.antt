@@ -26,20 +26,20 @@ use Rattle.fkv_world.proofs.Shown.{same_seat, session_runs, session_runs_on}
 use Rattle.law_commit.specs.Shares.Waiting.{has_shifted, is_shifted, shifts_at, shifts_by}
 
 -- ---- no share that is taken with a phase meets bit 63
-abbrev MeetsNot : Seat → SessionState → Sitting → ℕ → Type 0
+abbrev pub MeetsNot : Seat → SessionState → Sitting → ℕ → Type 0
 MeetsNot k s (CatchesUp cause) reply = meets_exclusive (session_ask k s) reply ≡ false
 MeetsNot k s step reply = ⊤
 
-abbrev MeetsNotBy : Seat → SessionState → SessionEvent → Type 0
+abbrev pub MeetsNotBy : Seat → SessionState → SessionEvent → Type 0
 MeetsNotBy k s (Replies reply) = MeetsNot k s s.step reply
 MeetsNotBy k s event = ⊤
 
-unfoldable MeetNone : Seat → SessionState → List SessionEvent → Type 0
+unfoldable pub MeetNone : Seat → SessionState → List SessionEvent → Type 0
 MeetNone k s [] = ⊤
 MeetNone k s (event ∷ before) = MeetsNotBy k (session_run k s before) event × MeetNone k s before
 
 -- so it is where a session makes its step
-abbrev NoneIsMet : List ℕ → Seat → SessionState → Type 0
+abbrev pub NoneIsMet : List ℕ → Seat → SessionState → Type 0
 NoneIsMet words k s = (cause : _) (place number : ℕ) → s.step ≡ CatchesUp cause → session_ask k s ≡ Add place number → is_exclusive (word_at words place) ≡ false
 
 meets_by : (words : List ℕ) (ask : Ask Told) → ((place number : ℕ) → ask ≡ Add place number → is_exclusive (word_at words place) ≡ false) → meets_exclusive ask (reply_to words ask) ≡ false
@@ -127,14 +127,14 @@ either_all : (c : Bool) (k : Seat) (s : SessionState) (a b : List SessionEvent) 
 either_all true k s a b one other = one
 either_all false k s a b one other = other
 
-found_all : (n : Now) (k : Seat) (s : SessionState) (session : ℕ) (event : Event) (found : Option SessionState) → found ≡ Some s → seat_at n session ≡ k → NoneIsMet n.words k s
+pub found_all : (n : Now) (k : Seat) (s : SessionState) (session : ℕ) (event : Event) (found : Option SessionState) → found ≡ Some s → seat_at n session ≡ k → NoneIsMet n.words k s
     → MeetNone k s (if n.crashed then [] else session_part_found n session event found)
 found_all n k s session event found e seat none =
     rw (e, seat) (either_all n.crashed k s [] (if is_of_session session event then session_part k (near n s) event else []) (nothing_met k s)
     (either_all (is_of_session session event) k s (session_part k (near n s) event) [] (part_all (near n s) k event none) (nothing_met k s)))
 
 -- ---- one event
-abbrev Latched : (k : Seat) → HasItsBuckets k → SessionState → Type 0
+abbrev pub Latched : (k : Seat) → HasItsBuckets k → SessionState → Type 0
 Latched k its s = StepLatched k its s s.step
 
 -- a call that is refused at its second attempt leaves what waits as it was
@@ -188,18 +188,18 @@ event_so k its s (Gets action) meets none holds = single k its s (Gets action) r
 event_so k its s (Replies reply) meets none holds = replies_so k its s s.step reply refl meets none holds
 
 -- ---- over a life
-both_none : (a b : Bool) → (a || b) ≡ false → (a ≡ false) × (b ≡ false)
+pub both_none : (a b : Bool) → (a || b) ≡ false → (a ≡ false) × (b ≡ false)
 both_none true b e = cc
 both_none false b e = (refl, e)
 
-through_so : (k : Seat) (its : HasItsBuckets k) (s : SessionState) (events : List SessionEvent) → MeetNone k s events → has_shifted k s events ≡ false → Latched k its s → Latched k its (session_run k s events)
+pub through_so : (k : Seat) (its : HasItsBuckets k) (s : SessionState) (events : List SessionEvent) → MeetNone k s events → has_shifted k s events ≡ false → Latched k its s → Latched k its (session_run k s events)
 unfolding session_run has_shifted MeetNone
 through_so k its s [] meets none holds = holds
 through_so k its s (event ∷ before) meets none holds =
     let both = both_none (shifts_by k (session_run k s before) event) (has_shifted k s before) none in
     event_so k its (session_run k s before) event meets.0 both.0 (through_so k its s before meets.1 both.1 holds)
 
-shifted_apart : (k : Seat) (first : SessionState) (later before : List SessionEvent) → has_shifted k first (later ++ before) ≡ false → (has_shifted k (session_run k first before) later ≡ false) × (has_shifted k first before ≡ false)
+pub shifted_apart : (k : Seat) (first : SessionState) (later before : List SessionEvent) → has_shifted k first (later ++ before) ≡ false → (has_shifted k (session_run k first before) later ≡ false) × (has_shifted k first before ≡ false)
 unfolding has_shifted
 shifted_apart k first [] before none = (refl, none)
 shifted_apart k first (event ∷ later) before none =

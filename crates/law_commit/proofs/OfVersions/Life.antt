@@ -32,7 +32,8 @@ use Rattle.law_commit.specs.Versions.Laws.{OpensWithLog, first_version, version_
 use Rattle.law_commit.specs.Versions.Requests.{AttemptsSo, IsUpdateSo}
 use Rattle.law_commit.specs.Versions.Seen.{AreViewsSo, HasSeenOlder, IsOlder}
 use Rattle.law_commit.specs.Views.{Sight, View, sight_found, sight_in, sight_of, sight_opened, view_said}
-use Rattle.law_commit.proofs.Rising.{found_all, version_below}
+use Rattle.law_commit.proofs.Rising.{version_below}
+use Rattle.law_commit.proofs.Telling.{found_all}
 use Rattle.law_commit.proofs.OfPhases.LifeStages.{life_staged, none_ahead}
 use Rattle.law_commit.proofs.OfVersions.Cells.{kept_made, made_so}
 use Rattle.law_commit.proofs.OfVersions.Requests.{first_said, life_requests}

@@ -100,8 +100,12 @@ update_at P [] i pending got all = cc
 update_at P (o ∷ rest) zero pending got all = let same : o ≡ pending = cc in subst (IsUpdateSo P) same all.0
 update_at P (o ∷ rest) (suc i) pending got all = update_at P rest i pending got all.1
 
+pub all_so : (P : ℕ → Type 0) (requests : List PendingRequest) → ((i : ℕ) (pending : PendingRequest) → slice_get requests i ≡ Some pending → IsUpdateSo P pending) → AreUpdatesSo P requests
+all_so P [] each = tt
+all_so P (pending ∷ rest) each = (each zero pending refl, all_so P rest (λ i its got. each (suc i) its got))
+
 -- ---- and of the one that is attempted
-same_version : (v w : Version) → v.0 ≡ w.0 → v ≡ w
+pub same_version : (v w : Version) → v.0 ≡ w.0 → v ≡ w
 same_version v w e = let make : ℕ → Version = λ n. record { 0 = n } in ap make e
 
 pub polled_so : (P : ℕ → Type 0) (requests : List PendingRequest) (i : ℕ) (pending : PendingRequest) → AreUpdatesSo P requests → IsAttemptOfRequest requests i pending → IsUpdateSo P pending

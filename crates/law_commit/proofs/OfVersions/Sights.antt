@@ -11,7 +11,7 @@ use Rattle.fkv_session.specs.Sessions.{SessionState, Seat}
 use Rattle.fkv_session.specs.SessionRun.{SessionEvent, Begins, Replies, Gets, session_happens, session_run}
 use Rattle.law_commit.specs.Versions.Seen.{AreViewsSo, ComesSo}
 use Rattle.law_commit.specs.Views.{Sight, View, completed, loads_phase, sight_by, sight_left, sight_moved, sight_through, view_said, with_loaded}
-use Rattle.law_commit.proofs.Rising.{TellAll, Tells, TellsBy}
+use Rattle.law_commit.proofs.Telling.{TellAll, Tells, TellsBy}
 
 -- a view that loads the phase word is so, if it was so before
 abbrev pub LoadsSo : (View → Type 0) → List ℕ → Type 0

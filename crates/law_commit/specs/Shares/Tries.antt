@@ -1,5 +1,5 @@
 -- What a try shares of the latch of its bucket, and when it has that latch alone.
-use Rattle.std.specs.Prelude.{◌≡◌, ⊤, ℕ, true, false, List}
+use Rattle.std.specs.Prelude.{◌≡◌, ◌⊎◌, ⊤, ℕ, true, false, List}
 use Rattle.fkv_ops.specs.declared.requests.Seen.{Seen}
 use Rattle.fkv_ops.specs.declared.trying.Trying.{Trying}
 use Rattle.fkv_ops.specs.declared.trying.Trying.TheVariants.{DropsExclusive, DropsShared, Ended, TakesShared}
@@ -16,11 +16,12 @@ use Rattle.fkv_world.specs.Runs.{World}
 use Rattle.fkv_world.specs.World.{Event}
 use Rattle.law_guard.specs.Guarded.Shows as guard
 
--- In prepare an update shares its latch. One whose request has come with its latch does in each phase. And a try has the latch alone only while its session goes by
--- in-progress or wait-pending, if the request is of the session's version.
+-- In prepare an update shares its latch. One whose request has come with its latch does in each phase. No other does. And a try has the latch alone only while its
+-- session goes by in-progress or wait-pending, if the request is of the session's version.
 pub record SharesSo (seen : Seen) (t : TryState) : Type 0 where
   pub prepares : is_prepare seen.phase ≡ true → is_read t.request.op ≡ false → t.has_shared ≡ true
   pub kept : t.request.has_latch ≡ true → t.has_shared ≡ true
+  pub came : t.has_shared ≡ true → (is_prepare seen.phase ≡ true) ⊎ (t.request.has_latch ≡ true)
   pub alone : t.has_exclusive ≡ true → (is_moving_on seen.phase ≡ true) × (t.request.version.0 ≡ seen.version.0)
 
 -- from where its share is taken to where it may be dropped

@@ -1,5 +1,7 @@
 -- By the floor of live sessions.
+use Rattle.law_commit.proofs.OfQuiet.Before.{waits_from_before}
 use Rattle.law_commit.proofs.OfQuiet.Begun.{begun_have_flushed}
+use Rattle.law_commit.proofs.OfQuiet.Latching.{latches_at_its_version}
 use Rattle.law_commit.proofs.OfQuiet.Left.{none_is_left, owes_none}
 use Rattle.law_commit.proofs.OfQuiet.Life.{none_comes_back}
 use Rattle.law_commit.proofs.OfQuiet.Live.{live_later}
@@ -21,6 +23,12 @@ returns-clause-owes c = owes_none (live_later c.law_floor_stands.ensures.floor)
 
 pub returns-clause-left : goal.returns-clause-left
 returns-clause-left c = none_is_left (live_later c.law_floor_stands.ensures.floor)
+
+pub returns-clause-before : goal.returns-clause-before
+returns-clause-before c = waits_from_before (none_is_left (live_later c.law_floor_stands.ensures.floor))
+
+pub returns-clause-latches : goal.returns-clause-latches
+returns-clause-latches c = latches_at_its_version c.law_floor_stands.ensures.floor (waits_from_before (none_is_left (live_later c.law_floor_stands.ensures.floor)))
 
 pub returns-clause-points : goal.returns-clause-points
 returns-clause-points c = points_stay (live_later c.law_floor_stands.ensures.floor)

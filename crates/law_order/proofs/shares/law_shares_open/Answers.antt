@@ -28,3 +28,27 @@ returns-clause-leaves c = λ bytes o n events session first its cause store open
     let begins = c.law_life_begins.ensures bytes o n store opens in
     c.law_shares_not_missed.ensures.leaves (beginning n bytes) o.tail.0 events session first its cause begins.store.now
     (record { rests = opens_at_rest o n opens begins.rests; seen = λ other was found. (begins.rests.seen other was found).phase })
+
+pub returns-clause-only : goal.returns-clause-only
+returns-clause-only c = λ bytes o n events session first its store opens.
+    let begins = c.law_life_begins.ensures bytes o n store opens in
+    c.law_shares_not_missed.ensures.only (beginning n bytes) o.tail.0 events session first its begins.store.now
+    (record { rests = opens_at_rest o n opens begins.rests; seen = λ other was found. (begins.rests.seen other was found).phase })
+
+pub returns-clause-since : goal.returns-clause-since
+returns-clause-since c = λ bytes o n events session first its store opens.
+    let begins = c.law_life_begins.ensures bytes o n store opens in
+    c.law_shares_not_missed.ensures.since (beginning n bytes) o.tail.0 events session first its begins.store.now (c.law_latches_open.ensures o n opens)
+    (record { rests = opens_at_rest o n opens begins.rests; seen = λ other was found. (begins.rests.seen other was found).phase })
+
+pub returns-clause-just : goal.returns-clause-just
+returns-clause-just c = λ bytes o n events session first its store opens.
+    let begins = c.law_life_begins.ensures bytes o n store opens in
+    c.law_shares_not_missed.ensures.just (beginning n bytes) o.tail.0 events session first its begins.store.now (c.law_latches_open.ensures o n opens)
+    (record { rests = opens_at_rest o n opens begins.rests; seen = λ other was found. (begins.rests.seen other was found).phase })
+
+pub returns-clause-older : goal.returns-clause-older
+returns-clause-older c = λ bytes o n events session first its store opens.
+    let begins = c.law_life_begins.ensures bytes o n store opens in
+    c.law_shares_not_missed.ensures.older (beginning n bytes) o.tail.0 events session first its begins.store.now (c.law_latches_open.ensures o n opens)
+    (record { rests = opens_at_rest o n opens begins.rests; seen = λ other was found. (begins.rests.seen other was found).phase })
