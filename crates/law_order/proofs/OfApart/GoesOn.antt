@@ -244,7 +244,7 @@ module _ (given : Given) (life : BegunLife) (apart : OpensApart life) (before : 
           latched cause i at takes index pending got update =
               along (λ log. NoneIsLater H log pending.request) (Unit {0}) (H (key_in pending.request)) pending.request.version.0 (λ log log' is grows raises so. stays.none_stays H life.map log log' is grows pending.request (raises tt) so)
               (λ unit. caught_none cause at (H (key_in pending.request)) pending.request.version.0)
-              (λ updates. none_said given life apart before enabled_so (H (key_in pending.request)) pending.request.version.0 (let is : pending.request.version.0 ≡ phase_version N.words = update_at (λ (v : ℕ). v ≡ phase_version N.words) s.requests index pending got (given.owed.latches life.opening life.start before session became_so.0 s cause i apart.quiet became_so.1 at takes) updates in omega (arith, is))) update
+              (λ updates. none_said given life apart before enabled_so (H (key_in pending.request)) pending.request.version.0 (let is : pending.request.version.0 ≡ phase_version N.words = update_at (λ (v : ℕ). v ≡ phase_version N.words) s.requests index pending got (given.latches life.opening life.start before session became_so.0 s cause i apart.quiet became_so.1 at takes) updates in omega (arith, is))) update
 
       replied : (after : SessionState) → after ≡ session_next K s reply → Knows L' after
       replied after is = subst (Knows L') (sym is) (step_apart H K L L' s reply facts (all_apart session s was))

@@ -178,7 +178,7 @@ module _ (given : Given) (life : BegunLife) (apart : OpensApart life) (before : 
             by_version false e =
                 let upto = attempt_upto given.floors given.left life.opening life.start before apart.quiet session became_so.0 s became_so.1 attempts updates in
                 let older : s.attempt.pending.request.version.0 < s.seen.version.0 = grind (arith, nat_tests, e, upto) in
-                clash (so.kept (given.owed.older life.opening life.start before session became_so.0 s apart.quiet.guarded apart.latches apart.quiet.seen became_so.1 (given.owed.shifts life before session became_so.0 apart became_so.1.was) attempts tries updates older))
+                clash (so.kept (given.older life.opening life.start before session became_so.0 s apart.quiet.guarded apart.latches apart.quiet.seen became_so.1 (given.owed.shifts life before session became_so.0 apart became_so.1.was) attempts tries updates older))
 
     pub unshared_none : SharesSo s.seen t → t.has_shared ≡ false → NoneIsLater H L t.request
     unshared_none so unshared update =
