@@ -14,7 +14,9 @@ use Rattle.law_order.specs.Ordered.Keeps.{KeepsOrder}
 use Rattle.law_commit.specs.Floor.Stands.{FloorAlwaysStands, PaperHasFloor, PaperIsSound}
 use Rattle.law_commit.specs.Laws.Pasts.{ItsVersionIsNotAhead}
 use Rattle.law_commit.specs.Quiet.{LatchesAtItsVersion, NoneIsLeft}
+use Rattle.law_commit.specs.Shares.Alone.{BitIsPastPrepare}
 use Rattle.law_commit.specs.Shares.Since.{OlderComeSharing}
+use Rattle.law_commit.specs.Shares.Waiting.{SharesInPrepare}
 use Rattle.law_order.specs.Apart.Given.{Given, Owed}
 use Rattle.law_parts.specs.Latches.InTries.{StandsBesideNone}
 use Rattle.law_order.specs.Apart.Lives.{OpensApart}
@@ -50,13 +52,15 @@ pub record Landed : Type 0 where
   pub floor : PaperHasFloor
   pub floors : FloorAlwaysStands
   pub left : NoneIsLeft
+  pub prepare : SharesInPrepare
+  pub bit : BitIsPastPrepare
   pub older : OlderComeSharing
   pub latches : LatchesAtItsVersion
   pub ahead : ItsVersionIsNotAhead
   pub beside : StandsBesideNone
 
 given_by : Landed → Owed → Given
-given_by landed owed = record { sound = landed.sound; floor = landed.floor; floors = landed.floors; left = landed.left; older = landed.older; latches = landed.latches; ahead = landed.ahead; beside = landed.beside; owed = owed }
+given_by landed owed = record { sound = landed.sound; floor = landed.floor; floors = landed.floors; left = landed.left; prepare = landed.prepare; bit = landed.bit; older = landed.older; latches = landed.latches; ahead = landed.ahead; beside = landed.beside; owed = owed }
 
 pub of_each_life : (P : Opened → Now → List ℕ → List Event → Type 0) → LivesBegin → OpensSo → Landed → OpeningsFit → LivesKeepOrder → OfEachKept P → InEachLife (WhereOwed P)
 of_each_life P lives opens landed fit keep kept = λ its is owed.

@@ -17,11 +17,13 @@ use Rattle.law_order.proofs.OfEnabled.Own.{own_enabled}
 use Rattle.law_order.proofs.OfReads.LifeReads.{answers_enabled, reads_begin_so, reads_go_on}
 use Rattle.law_refine.specs.Records.Changes.{AreChangesPublished}
 use Rattle.law_order.specs.Apart.Given.{Given}
-use Rattle.law_order.specs.Apart.Lives.{OpensApart}
+use Rattle.law_order.specs.Apart.Lives.{NoneHasShifted, OpensApart}
 use Rattle.law_order.proofs.OfApart.Begins.{begins_apart}
 use Rattle.law_order.proofs.OfApart.GoesOn.{apart_goes_on}
 use Rattle.law_order.proofs.OfKnown.Newest.{known_now}
 use Rattle.law_order.proofs.OfRows.Rows.{rows_go_on}
+use Rattle.law_order.proofs.OfShifts.First.{none_first}
+use Rattle.law_order.proofs.OfShifts.Life.{AllShiftSo, none_then, shifts_first, shifts_then}
 use Rattle.law_order.specs.Served.Fits.{CallsFit, CellsFit}
 use Rattle.law_order.specs.Served.Served.{ServedShow}
 use Rattle.law_order.proofs.OfServed.Device.{CallsLaw}
@@ -79,9 +81,15 @@ module _ (calls : CallsLaw) (words : WordsLaw) (given : Given) (life : BegunLife
           (own_enabled life before event given opens its.apart its.enabled its.published its.known truly alive)
           answered
 
-  pub goes_on : (before : List Event) (event : Event) → CallsFit (event ∷ before) → TicketsAreApart life.opening (event ∷ before) → KeepsOrder life.opening life.ghosts before
+  -- and no attempt has shifted for good
+  record Going (events : List Event) : Type 0 where
+    order : KeepsOrder life.opening life.ghosts events
+    shifts : AllShiftSo life.opening events
+    none : NoneHasShifted life.opening events
+
+  ordered_on : (before : List Event) (event : Event) → CallsFit (event ∷ before) → TicketsAreApart life.opening (event ∷ before) → NoneHasShifted life.opening (event ∷ before) → KeepsOrder life.opening life.ghosts before
       → KeepsOrder life.opening life.ghosts (event ∷ before)
-  goes_on before event fits apart its =
+  ordered_on before event fits apart none its =
       let truly : AreToldTruly H (life_ghosts life.opening life.ghosts before).log (run life.opening before).now = told_truly before fits.1 its in
       let published : AreChangesPublished life.opening life.ghosts (event ∷ before) = (changes_published life before event its.known, its.published) in
       let enabled : AreEnabled H life.ghosts (mapped life.opening (event ∷ before)) = event_enabled before event apart its truly published in
@@ -90,9 +98,24 @@ module _ (calls : CallsLaw) (words : WordsLaw) (given : Given) (life : BegunLife
         published = published;
         known = known_on life.opening life.ghosts before event its.known (rows_go_on life before event given opens its.apart enabled its.known truly);
         reads = reads_go_on life before event its.enabled its.known apart truly its.reads enabled;
-        apart = apart_goes_on given life opens before event enabled (λ session s found. known_now life.opening life.ghosts before its.known session s found) truly its.apart;
+        apart = apart_goes_on given life opens before event enabled (λ session s found. known_now life.opening life.ghosts before its.known session s found) truly none its.apart;
       }
 
+  goes_on : (before : List Event) (event : Event) → CallsFit (event ∷ before) → TicketsAreApart life.opening (event ∷ before) → Going before → Going (event ∷ before)
+  goes_on before event fits apart its =
+      let order : KeepsOrder life.opening life.ghosts before = its.order in
+      let truly : AreToldTruly H (life_ghosts life.opening life.ghosts before).log (run life.opening before).now = told_truly before fits.1 order in
+      let known : AllKnowBehind life.opening life.ghosts before = (λ session s found. known_now life.opening life.ghosts before order.known session s found) in
+      let none : NoneHasShifted life.opening (event ∷ before) = none_then given life opens before event order.enabled known truly order.apart its.shifts its.none in
+      record {
+        order = ordered_on before event fits apart none order;
+        shifts = shifts_then given life opens before event order.enabled known truly order.apart its.shifts its.none;
+        none = none;
+      }
+
+  through : (events : List Event) → CallsFit events → TicketsAreApart life.opening events → Going events
+  through [] fits apart = record { order = begins_ordered life; shifts = shifts_first life; none = none_first life.opening }
+  through (event ∷ before) fits apart = goes_on before event fits apart (through before fits.1 (apart_before life.opening before event apart))
+
   pub life_goes : (events : List Event) → CallsFit events → TicketsAreApart life.opening events → KeepsOrder life.opening life.ghosts events
-  life_goes [] fits apart = begins_ordered life
-  life_goes (event ∷ before) fits apart = goes_on before event fits apart (life_goes before fits.1 (apart_before life.opening before event apart))
+  life_goes events fits apart = (through events fits apart).order

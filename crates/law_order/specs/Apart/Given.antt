@@ -1,18 +1,16 @@
 -- What other laws give of a life's sessions.
-use Rattle.std.specs.Prelude.{◌≡◌, ◌≤◌, ℕ, true, false, List, Some, slice_get}
+use Rattle.std.specs.Prelude.{◌≡◌, ◌≤◌, ℕ, true, List}
 use Rattle.fkv_session.specs.Sessions.{SessionState}
 use Rattle.fkv_world.specs.Opened.{HasBecome}
-use Rattle.fkv_world.specs.OwnEvents.{session_events}
 use Rattle.fkv_world.specs.Runs.{World, run}
-use Rattle.fkv_world.specs.World.{Event, seat_at}
+use Rattle.fkv_world.specs.World.{Event}
 use Rattle.law_commit.specs.Floor.Stands.{FloorAlwaysStands, OpensSeen, PaperHasFloor, PaperIsSound}
 use Rattle.law_commit.specs.Laws.Pasts.{ItsVersionIsNotAhead}
 use Rattle.law_commit.specs.Quiet.{LatchesAtItsVersion, NoneIsLeft, OpensQuiet}
+use Rattle.law_commit.specs.Shares.Alone.{BitIsPastPrepare}
 use Rattle.law_commit.specs.Shares.Since.{OlderComeSharing}
-use Rattle.law_commit.specs.Shares.Waiting.{has_shifted}
+use Rattle.law_commit.specs.Shares.Waiting.{SharesInPrepare}
 use Rattle.law_commit.specs.Views.{sight_of}
-use Rattle.law_order.specs.Apart.Lives.{OpensApart}
-use Rattle.law_order.specs.Known.Begins.{BegunLife}
 use Rattle.law_parts.specs.Latches.InTries.{StandsBesideNone}
 use Rattle.law_refine.specs.Events.GhostEvents.{safe_at}
 
@@ -22,16 +20,9 @@ SafeIsBelowViews =
     (opening : World) (start : ℕ) (events : List Event) (session : ℕ) (first its : SessionState) → OpensQuiet opening start → HasBecome opening events session first its → its.is_awake ≡ true
     → safe_at (run opening events).now ≤ (sight_of opening events session).view.tail
 
--- no attempt of a life ends as a shift and isn't made again
-abbrev pub NoneShifts : Type 0
-NoneShifts =
-    (life : BegunLife) (events : List Event) (session : ℕ) (first : SessionState) → OpensApart life → slice_get life.opening.now.sessions session ≡ Some first
-    → has_shifted (seat_at life.opening.now session) first (session_events life.opening session events) ≡ false
-
 -- What is owed of these laws.
 pub record Owed : Type 0 where
   pub safe : SafeIsBelowViews
-  pub shifts : NoneShifts
 
 -- What the laws of phases, latches and ends of versions say.
 pub record Given : Type 0 where
@@ -39,6 +30,8 @@ pub record Given : Type 0 where
   pub floor : PaperHasFloor
   pub floors : FloorAlwaysStands
   pub left : NoneIsLeft
+  pub prepare : SharesInPrepare
+  pub bit : BitIsPastPrepare
   pub older : OlderComeSharing
   pub latches : LatchesAtItsVersion
   pub ahead : ItsVersionIsNotAhead
