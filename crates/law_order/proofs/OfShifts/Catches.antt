@@ -99,9 +99,9 @@ module _ (top : ℕ) (seen : Seen) where
   refreshed_row : (p : Places) (bits n : ℕ) (c : CatchState) (requests : List PendingRequest) (step : Refreshing) (reply : ℕ) → c.step ≡ Refreshes → HasPassed top seen → RefreshRow step → (loads_next step → SaysElse (phase_said reply))
       → Row (refresh_ledto p bits (record c { refreshing = refresh_next step reply }) requests (refresh_ask n (refresh_next step reply)))
   unfolding refresh_ledto refresh_next refresh_ask
-  refreshed_row p bits n c requests refresh.LoadsEpoch reply at passes row loads = still (record c { refreshing = _ }) Refreshes at (passes, tt)
-  refreshed_row p bits n c requests (refresh.LoadsPhase epoch) reply at passes row loads = still (record c { refreshing = _ }) Refreshes at (passes, loads tt)
-  refreshed_row p bits n c requests (refresh.LoadsReadOnly epoch phase) reply at passes row loads = still (record c { refreshing = _ }) Refreshes at (passes, row)
+  refreshed_row p bits n c requests refresh.LoadsEpoch reply at passes row loads = still (record c { refreshing = refresh.LoadsPhase reply }) Refreshes at (passes, tt)
+  refreshed_row p bits n c requests (refresh.LoadsPhase epoch) reply at passes row loads = still (record c { refreshing = refresh.LoadsReadOnly epoch reply }) Refreshes at (passes, loads tt)
+  refreshed_row p bits n c requests (refresh.LoadsReadOnly epoch phase) reply at passes row loads = still (record c { refreshing = refresh.LoadsHead epoch phase reply }) Refreshes at (passes, row)
   refreshed_row p bits n c requests (refresh.LoadsHead epoch phase read_only) reply at passes row loads = takes_row p bits (record c { refreshing = _ }) requests _ row
   refreshed_row p bits n c requests refresh.AtRest reply at passes row loads = absurd row
   refreshed_row p bits n c requests (refresh.HasLoaded epoch values) reply at passes row loads = absurd row

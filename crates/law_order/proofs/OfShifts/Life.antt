@@ -232,7 +232,7 @@ all_come (p ∷ rest) (suc i) pending got all update = all_come rest i pending g
 
 polls_come : (s : SessionState) (step : Sitting) (i index : ℕ) (pending : PendingRequest) → step ≡ Polls i → ShareSitting s step → slice_get s.requests index ≡ Some pending → Come s.seen pending
 polls_come s (Polls j) i index pending at shares got prepares update = all_come s.requests index pending got (shares prepares) update
-polls_come s step i index pending at shares got = cc
+polls_come s step i index pending at shares got prepares update = cc
 
 -- ---- as a life begins
 idle_row : (top : ℕ) (k : Seat) (s : SessionState) (step : Sitting) → is_busy step ≡ false → SitsRow top k s step
