@@ -32,16 +32,22 @@ ComingIsAboveSafe =
     → (sight_of opening events session).coming ≡ Some view → epoch ≤ safe_of (run opening events).now.words → epoch < view.stamp
 
 -- the safe read-only offset is at or below the tail that each live session has seen with its phase
+abbrev pub IsSafeBelowViews : World → List Event → Type 0
+IsSafeBelowViews opening events =
+    (session : ℕ) (first its : SessionState) → HasBecome opening events session first its → its.is_awake ≡ true → safe_at (run opening events).now ≤ (sight_of opening events session).view.tail
+
 abbrev pub SafeIsBelowViews : Type 0
 SafeIsBelowViews =
-    (opening : World) (start : ℕ) (events : List Event) (session : ℕ) (first its : SessionState) → IsOpened opening.now start → HasBecome opening events session first its → its.is_awake ≡ true
-    → safe_at (run opening events).now ≤ (sight_of opening events session).view.tail
+    (opening : World) (start : ℕ) (events : List Event) → IsOpened opening.now start → IsSafeBelowViews opening events
 
 -- and the tail of the view that is coming to a session, awake or not
+abbrev pub IsSafeBelowComing : World → List Event → Type 0
+IsSafeBelowComing opening events =
+    (session : ℕ) (first its : SessionState) (view : View) → HasBecome opening events session first its → (sight_of opening events session).coming ≡ Some view → safe_at (run opening events).now ≤ view.tail
+
 abbrev pub SafeIsBelowComing : Type 0
 SafeIsBelowComing =
-    (opening : World) (start : ℕ) (events : List Event) (session : ℕ) (first its : SessionState) (view : View) → IsOpened opening.now start → HasBecome opening events session first its
-    → (sight_of opening events session).coming ≡ Some view → safe_at (run opening events).now ≤ view.tail
+    (opening : World) (start : ℕ) (events : List Event) → IsOpened opening.now start → IsSafeBelowComing opening events
 
 -- a session is live where it is awake
 abbrev pub LiveIsAwake : Type 0
