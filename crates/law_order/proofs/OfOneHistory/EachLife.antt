@@ -13,6 +13,7 @@ use Rattle.law_order.specs.Known.Told.{TicketsAreApart}
 use Rattle.law_order.specs.Ordered.Keeps.{KeepsOrder}
 use Rattle.law_commit.specs.Floor.Stands.{FloorAlwaysStands, PaperHasFloor, PaperIsSound}
 use Rattle.law_commit.specs.Laws.Pasts.{ItsVersionIsNotAhead}
+use Rattle.law_commit.specs.Laws.Phases.{SafeIsBelowViews}
 use Rattle.law_commit.specs.Quiet.{NoneIsLeft}
 use Rattle.law_order.specs.Apart.Given.{Given, Owed}
 use Rattle.law_parts.specs.Latches.InTries.{StandsBesideNone}
@@ -51,9 +52,10 @@ pub record Landed : Type 0 where
   pub left : NoneIsLeft
   pub ahead : ItsVersionIsNotAhead
   pub beside : StandsBesideNone
+  pub safe : SafeIsBelowViews
 
 given_by : Landed → Owed → Given
-given_by landed owed = record { sound = landed.sound; floor = landed.floor; floors = landed.floors; left = landed.left; ahead = landed.ahead; beside = landed.beside; owed = owed }
+given_by landed owed = record { sound = landed.sound; floor = landed.floor; floors = landed.floors; left = landed.left; ahead = landed.ahead; beside = landed.beside; safe = landed.safe; owed = owed }
 
 pub of_each_life : (P : Opened → Now → List ℕ → List Event → Type 0) → LivesBegin → OpensSo → Landed → OpeningsFit → LivesKeepOrder → OfEachKept P → InEachLife (WhereOwed P)
 of_each_life P lives opens landed fit keep kept = λ its is owed.

@@ -1,5 +1,5 @@
 -- What other laws give of a life's sessions.
-use Rattle.std.specs.Prelude.{◌≡◌, ◌<◌, ◌≤◌, ℕ, true, false, List, Some, slice_get}
+use Rattle.std.specs.Prelude.{◌≡◌, ◌<◌, ℕ, true, false, List, Some, slice_get}
 use Rattle.fkv_ops.specs.Requests.{is_read}
 use Rattle.fkv_pending.specs.declared.attempting.Attempting.TheVariants.{Tries}
 use Rattle.fkv_session.specs.declared.catching_up.Catching.TheVariants.{Latches}
@@ -12,24 +12,17 @@ use Rattle.fkv_world.specs.Runs.{World, run}
 use Rattle.fkv_world.specs.World.{Event, seat_at}
 use Rattle.law_commit.specs.Floor.Stands.{FloorAlwaysStands, OpensSeen, PaperHasFloor, PaperIsSound}
 use Rattle.law_commit.specs.Laws.Pasts.{ItsVersionIsNotAhead}
+use Rattle.law_commit.specs.Laws.Phases.{SafeIsBelowViews}
 use Rattle.law_commit.specs.PhaseVersions.{phase_version}
 use Rattle.law_commit.specs.Quiet.{NoneIsLeft, OpensQuiet}
 use Rattle.law_commit.specs.Shares.Waiting.{has_shifted}
 use Rattle.law_commit.specs.Versions.Requests.{AreUpdatesSo}
-use Rattle.law_commit.specs.Views.{sight_of}
 use Rattle.law_guard.specs.Guarded.Shows as guard
 use Rattle.law_local.specs.Sessions.Known.{is_attempting}
 use Rattle.law_order.specs.Apart.Lives.{OpensApart}
 use Rattle.law_order.specs.Known.Begins.{BegunLife}
 use Rattle.law_parts.specs.Latches.InTries.{StandsBesideNone}
 use Rattle.law_parts.specs.Latches.Shows as latches
-use Rattle.law_refine.specs.Events.GhostEvents.{safe_at}
-
--- the safe read-only offset is at or below the tail that each live session has seen with its phase
-abbrev pub SafeIsBelowViews : Type 0
-SafeIsBelowViews =
-    (opening : World) (start : ℕ) (events : List Event) (session : ℕ) (first its : SessionState) → OpensQuiet opening start → HasBecome opening events session first its → its.is_awake ≡ true
-    → safe_at (run opening events).now ≤ (sight_of opening events session).view.tail
 
 -- an update that is tried and is of an earlier version than its session's has come with its share, if none of the session's attempts has ended as a shift and
 -- isn't made again
@@ -53,7 +46,6 @@ NoneShifts =
 
 -- What is owed of these laws.
 pub record Owed : Type 0 where
-  pub safe : SafeIsBelowViews
   pub older : OlderComesSharing
   pub latches : LatchesItsVersion
   pub shifts : NoneShifts
@@ -66,4 +58,5 @@ pub record Given : Type 0 where
   pub left : NoneIsLeft
   pub ahead : ItsVersionIsNotAhead
   pub beside : StandsBesideNone
+  pub safe : SafeIsBelowViews
   pub owed : Owed
