@@ -7,7 +7,7 @@ use crate::fits::law_opening_fits;
 use crate::in_turn::{law_ends_open, law_versions_open};
 use crate::ordered::law_world_ordered;
 use crate::rules::{law_life_begins, law_order_of_rules};
-use law_commit::{law_floor_stands, law_shares_not_missed, law_versions_counted, law_versions_end};
+use law_commit::{law_floor_stands, law_shares_not_missed, law_versions_counted, law_versions_end, law_views_see_tails};
 use law_opening::law_latches_open;
 use law_paper::law_phases_are_seen;
 use law_parts::law_latched_in_tries;
@@ -20,11 +20,11 @@ use law_parts::law_latched_in_tries;
 /// of sessions begin. With commits or without, each action is run once at most. Each protected session then goes by what it loaded since the action's epoch
 /// was raised.
 pub fn law_order()
-    ensures legal { lives.InEachLife (lives.WhereOwed laws.HasLegalHistory) }
-    ensures ordered { lives.InEachLife (lives.WhereOwed laws.OrdersItsCalls) }
-    ensures fresh { lives.InEachLife (lives.WhereOwed laws.ReadsFreshly) }
-    ensures in_time { lives.InEachLife (lives.WhereOwed ReadsInTime) }
-    ensures guarded { lives.InEachLife (lives.WhereOwed laws.IsGuarded) }
+    ensures legal { lives.InEachLife laws.HasLegalHistory }
+    ensures ordered { lives.InEachLife laws.OrdersItsCalls }
+    ensures fresh { lives.InEachLife laws.ReadsFreshly }
+    ensures in_time { lives.InEachLife ReadsInTime }
+    ensures guarded { lives.InEachLife laws.IsGuarded }
     ensures once { lives.InEachLife laws.RunsActionsOnce }
 {
     law_life_begins();
@@ -40,4 +40,5 @@ pub fn law_order()
     law_shares_not_missed();
     law_versions_counted();
     law_latched_in_tries();
+    law_views_see_tails();
 }

@@ -195,7 +195,7 @@ module _ (given : Given) (life : BegunLife) (apart : OpensApart life) (before : 
             let head : head_in t.seen ≤ L.fixed = subst (λ (x : Seen). head_in x ≤ L.fixed) (sym same_seen) (life_head_fixed life.opening life.start life.ghosts before session s life.begins.store.now life.begins.fixed is_there) in
             let fixed = ghost_fixed life.opening life.start life.ghosts before life.begins.store.now life.begins.fixed in
             let live = awake given.floors given.left life.opening life.start before apart.quiet session became_so.0 s became_so.1 attempts in
-            let safe = given.owed.safe life.opening life.start before session became_so.0 s apart.quiet became_so.1 live in
+            let safe = given.safe life.opening life.start before apart.quiet.guarded session became_so.0 s became_so.1 live in
             let seen : IsOlder (sight_of life.opening before session).view L = (sees_older life.opening life.start life.ghosts before session became_so.0 s opens_log became_so.1).view in
             let cell = held.chains.in_chain (H (key_in t.request)) a later.0 in
             let older = seen a cell.cell.version (omega (arith, low, head, fixed, safe)) (ap made_in cell.its) in

@@ -11,20 +11,13 @@ use Rattle.fkv_world.specs.World.{Event, Now}
 use Rattle.law_order.specs.Known.Begins.{BeginsLife, BegunLife}
 use Rattle.law_order.specs.Known.Told.{TicketsAreApart}
 use Rattle.law_order.specs.Ordered.Keeps.{KeepsOrder}
-use Rattle.law_commit.specs.Floor.Stands.{FloorAlwaysStands, PaperHasFloor, PaperIsSound}
-use Rattle.law_commit.specs.Laws.Pasts.{ItsVersionIsNotAhead}
-use Rattle.law_commit.specs.Quiet.{LatchesAtItsVersion, NoneIsLeft}
-use Rattle.law_commit.specs.Shares.Alone.{BitIsPastPrepare}
-use Rattle.law_commit.specs.Shares.Since.{OlderComeSharing}
-use Rattle.law_commit.specs.Shares.Waiting.{SharesInPrepare}
-use Rattle.law_order.specs.Apart.Given.{Given, Owed}
-use Rattle.law_parts.specs.Latches.InTries.{StandsBesideNone}
+use Rattle.law_order.specs.Apart.Given.{Given}
 use Rattle.law_order.specs.Apart.Lives.{OpensApart}
 use Rattle.law_order.specs.Rules.Openings.{OpensItsEnds, OpensItsVersions}
 use Rattle.law_parts.specs.Latches.Shows as latches
 use Rattle.law_order.specs.Served.Fits.{CallsFit, CellsFit}
 use Rattle.law_order.proofs.OfTickets.Life.{tickets_apart}
-use Rattle.law_order.specs.OneHistory.EachLife.{InEachLife, WhereOwed}
+use Rattle.law_order.specs.OneHistory.EachLife.{InEachLife}
 
 -- what a life begins with
 abbrev pub LivesBegin : Type 0
@@ -46,24 +39,8 @@ pub record OpensSo : Type 0 where
   pub versions : OpensItsVersions
   pub latches : (o : Opened) (n : Now) → IsOpeningWorld o n → latches.IsOpened n
 
--- what is given of each life
-pub record Landed : Type 0 where
-  pub sound : PaperIsSound
-  pub floor : PaperHasFloor
-  pub floors : FloorAlwaysStands
-  pub left : NoneIsLeft
-  pub prepare : SharesInPrepare
-  pub bit : BitIsPastPrepare
-  pub older : OlderComeSharing
-  pub latches : LatchesAtItsVersion
-  pub ahead : ItsVersionIsNotAhead
-  pub beside : StandsBesideNone
-
-given_by : Landed → Owed → Given
-given_by landed owed = record { sound = landed.sound; floor = landed.floor; floors = landed.floors; left = landed.left; prepare = landed.prepare; bit = landed.bit; older = landed.older; latches = landed.latches; ahead = landed.ahead; beside = landed.beside; owed = owed }
-
-pub of_each_life : (P : Opened → Now → List ℕ → List Event → Type 0) → LivesBegin → OpensSo → Landed → OpeningsFit → LivesKeepOrder → OfEachKept P → InEachLife (WhereOwed P)
-of_each_life P lives opens landed fit keep kept = λ its is owed.
+pub of_each_life : (P : Opened → Now → List ℕ → List Event → Type 0) → LivesBegin → OpensSo → Given → OpeningsFit → LivesKeepOrder → OfEachKept P → InEachLife P
+of_each_life P lives opens given fit keep kept = λ its is.
     let n : Now = its.world in
     let bytes : List ℕ = its.bytes in
     let o : Opened = its.opened in
@@ -79,5 +56,5 @@ of_each_life P lives opens landed fit keep kept = λ its is owed.
     } in
     let apart : OpensApart life = record { quiet = opens.ends bytes o n is.store is.begins; latches = opens.latches o n is.begins; upto = (opens.versions bytes o n is.store is.begins).upto } in
     let keeps : KeepsOrder (beginning n bytes) (opening_ghosts bytes o) its.events =
-    keep life its.events (given_by landed owed) apart (fit bytes o is.store) is.fits (tickets_apart (beginning n bytes) its.events life.begins.world is.few) in
+    keep life its.events given apart (fit bytes o is.store) is.fits (tickets_apart (beginning n bytes) its.events life.begins.world is.few) in
     kept bytes o n its.events is.store is.begins keeps.enabled keeps.published

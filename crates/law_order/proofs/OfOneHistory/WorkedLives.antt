@@ -10,9 +10,8 @@ use Rattle.fkv_session.specs.Sessions.{SessionState}
 use Rattle.fkv_world.specs.World.{Now}
 use Rattle.law_commit.specs.WorkedRuns.{resting_keeper}
 use Rattle.law_refine.specs.Events.Worked.{adds_5, gives_70, worked_events}
-use Rattle.law_order.specs.OneHistory.EachLife.{InEachLife, IsLife, Life, WhereOwed}
+use Rattle.law_order.specs.OneHistory.EachLife.{InEachLife, IsLife, Life}
 use Rattle.law_order.specs.OneHistory.NewLives.{BeginsAsWorked, IsOrderedLife, WorkedLife}
-use Rattle.law_order.specs.Apart.Given.{Owed}
 use Rattle.law_order.specs.Rules.InTime.{ReadsInTime}
 use Rattle.law_order.specs.Rules.Ordered.{HasLegalHistory, IsGuarded, OrdersItsCalls, ReadsFreshly, RunsActionsOnce}
 use Rattle.law_order.specs.Served.Fits.{CallsFit}
@@ -23,20 +22,20 @@ use Rattle.law_order.proofs.OfOneHistory.WorkedWorld.{places, shape, world_opens
 
 -- what the order law says of each life
 pub record OrderLaw : Type 0 where
-  pub legal : InEachLife (WhereOwed HasLegalHistory)
-  pub ordered : InEachLife (WhereOwed OrdersItsCalls)
-  pub fresh : InEachLife (WhereOwed ReadsFreshly)
-  pub in_time : InEachLife (WhereOwed ReadsInTime)
-  pub guarded : InEachLife (WhereOwed IsGuarded)
+  pub legal : InEachLife HasLegalHistory
+  pub ordered : InEachLife OrdersItsCalls
+  pub fresh : InEachLife ReadsFreshly
+  pub in_time : InEachLife ReadsInTime
+  pub guarded : InEachLife IsGuarded
   pub once : InEachLife RunsActionsOnce
 
-ordered_life : OrderLaw → (its : Life) → IsLife its → Owed → IsOrderedLife its
-ordered_life law its is owed = record {
-  legal = law.legal its is owed;
-  ordered = law.ordered its is owed;
-  fresh = law.fresh its is owed;
-  in_time = law.in_time its is owed;
-  guarded = law.guarded its is owed;
+ordered_life : OrderLaw → (its : Life) → IsLife its → IsOrderedLife its
+ordered_life law its is = record {
+  legal = law.legal its is;
+  ordered = law.ordered its is;
+  fresh = law.fresh its is;
+  in_time = law.in_time its is;
+  guarded = law.guarded its is;
   once = law.once its is;
 }
 
@@ -94,5 +93,5 @@ worked_life worlds created opened holds law =
       begins = as_worked its life made new n.keeper s refl;
       events = refl;
       effects = worked_effects keeper s s bytes;
-      ordered = λ owed. ordered_life law its life owed;
+      ordered = ordered_life law its life;
     }

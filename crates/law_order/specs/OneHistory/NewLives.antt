@@ -11,7 +11,6 @@ use Rattle.fkv_world.specs.World.{Event, Now}
 use Rattle.law_commit.specs.WorkedRuns.{worked_world}
 use Rattle.law_refine.specs.Events.Worked.{first_world, worked_events, worked_history}
 use Rattle.law_order.specs.OneHistory.EachLife.{IsLife, Life}
-use Rattle.law_order.specs.Apart.Given.{Owed}
 use Rattle.law_order.specs.Rules.InTime.{ReadsInTime}
 use Rattle.law_order.specs.Rules.Ordered.{HasLegalHistory, IsGuarded, OrdersItsCalls, ReadsFreshly, RunsActionsOnce, effects_so_far}
 use Rattle.law_order.specs.Served.Fits.{CallsFit}
@@ -69,4 +68,4 @@ pub record WorkedLife : Type 0 where
   pub begins : BeginsAsWorked its
   pub events : (let life = its in life.events ≡ worked_events)
   pub effects : (let life = its in effects_so_far life.world life.bytes life.events ≡ worked_history)
-  pub ordered : Owed → IsOrderedLife its
+  pub ordered : IsOrderedLife its
