@@ -2,10 +2,10 @@
 #![tactic(auto)]
 
 ghost use Rattle.fkv_world.specs.Runs.{World};
-ghost use Rattle.law_order.specs.Prefix.Law.{PrefixLaw, TellsDurable};
+ghost use Rattle.law_order.specs.Prefix.Law.{TellsDurable};
 ghost use Rattle.law_threads.specs.Calls.{OfEachRun};
 ghost use Rattle.law_threads.specs.Durable.{RecoversItsDurable, RecoversLater, TellsItsDurable};
-ghost use Rattle.law_threads.specs.Laws.{IsOrdered, IsThreadLaw, IsWithin, IsWithoutCommits, SharesOneHistory};
+ghost use Rattle.law_threads.specs.Laws.{IsOrdered, IsThreadLaw, IsWithin, SharesOneHistory};
 
 use law_order::law_order;
 use law_world::{law_world_requests, law_world_sessions};
@@ -14,13 +14,12 @@ use law_world::{law_world_requests, law_world_sessions};
 /// events that the session's pass has seen behind the call, more is known. A done update has taken effect by what the pass has seen, with its serial and reply,
 /// and so has one that a poll says is finished. A read gives its key's value after some beginning of the history that holds what the pass had seen at the call.
 /// So does one that a poll answers, if few calls begin (`polled`). The calls stand once in one legal history. It begins with the history of what the pass had seen
-/// before. So it is in lives without commits, and in all lives if the law of prefixes holds (`by_prefix`). A point that is told as durable is a sealed commit's
+/// before. So it is in all lives, with commits too (`in_lives`). A point that is told as durable is a sealed commit's
 /// (`durable`). Each image that is left then or later recovers a point at or above it (`recovered`). These two rest on clauses of the law of prefixes. Of two passes
 /// at one moment one has seen a beginning of what the other has, and so are their histories.
 pub fn law_threads<K>()
     ensures by_order { (at : K → World) → IsThreadLaw at IsOrdered }
-    ensures without_commits { (at : K → World) → IsThreadLaw at IsWithoutCommits }
-    ensures by_prefix { (at : K → World) → PrefixLaw → IsThreadLaw at IsWithin }
+    ensures in_lives { (at : K → World) → IsThreadLaw at IsWithin }
     ensures durable { (at : K → World) → OfEachRun at TellsDurable TellsItsDurable }
     ensures recovered { (at : K → World) → OfEachRun at RecoversLater RecoversItsDurable }
     ensures views { (at : K → World) → SharesOneHistory at }
