@@ -7,7 +7,10 @@ use crate::fits::law_opening_fits;
 use crate::in_turn::{law_ends_open, law_versions_open};
 use crate::ordered::law_world_ordered;
 use crate::rules::{law_life_begins, law_order_of_rules};
-use law_commit::{law_floor_stands, law_shares_not_missed, law_versions_counted, law_versions_end, law_views_see_tails};
+use law_commit::{
+    law_floor_stands, law_shares_not_missed, law_versions_counted, law_versions_end,
+    law_views_see_tails,
+};
 use law_opening::law_latches_open;
 use law_paper::law_phases_are_seen;
 use law_parts::law_latched_in_tries;

@@ -13,5 +13,5 @@ unfolding run
 begins_apart life session s found = record {
   none = none_first life.opening;
   rows = opened_known (PendingApart (home_of_world life.opening) (life_ghosts life.opening life.ghosts []).log) (λ a. AttemptApart (home_of_world life.opening) life.opening.now.places (life_ghosts life.opening life.ghosts []).log a a.step) s
-    (life.begins.world.sessions session s found);
+      (life.begins.world.sessions session s found);
 }

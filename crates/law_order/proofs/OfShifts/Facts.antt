@@ -273,8 +273,7 @@ module _ (given : Given) (life : BegunLife) (apart : OpensApart life) (before : 
 
     latch_passes : t.step ≡ TakesShared → t.latching ≡ AddsShare (bucket_place N.places t.home.bucket 7) → is_exclusive reply ≡ true → HasPassed top s.seen
     latch_passes at adds bit =
-        let prepares = prepares_so (takes_row at).0 in
-        (
+        let prepares = prepares_so (takes_row at).0 in (
           prepares,
           given.bit life.opening life.start before session (bucket_place N.places t.home.bucket 7) became_so.0 s apart.quiet.guarded apart.latches apart.quiet.seen became_so.1
               (awake given.floors given.left life.opening life.start before apart.quiet session became_so.0 s became_so.1 attempts) prepares has_place
