@@ -35,6 +35,6 @@ abbrev pub PrintsMapOfFileScript : List (List ℕ) → Option (List ℕ) → Lis
 PrintsMapOfFileScript words known text = NameFileWithoutSeed words → (bytes : List ℕ) (sizes : Sizes) (ops : List SessionOp) → known ≡ Some bytes → IsScriptOf mode.File bytes sizes ops → IsPlayOfMap empty ops text
 
 -- By these steps of the engine each line of an operation is replied as the map of the history so far does, in every script whose lines aren't interleaved, where a life
--- without commits shows the world before it and no session has a call in hand; and such a life goes on by each line of a session.
+-- shows the world before it and no session has a call in hand; and such a life goes on by each line of a session.
 abbrev pub ReplyLineByLine : {D : Type 0} → (Event → WorldModel D → WorldModel D → Option Told → Bool → Type 0) → Type 0
 ReplyLineByLine engine = LinesReplyAsMap engine × LinesGoOn engine

@@ -20,7 +20,7 @@ use std::rt::Files;
 /// Runs the program, as `fkv_cli::run` does. With status 0, a script of operations alone for a new store, in memory (`replies`) or in a
 /// file (`file_replies`), of which none is interleaved with another, prints what the plain map says: each reply is the map's on the
 /// operations so far, and each read gives its key's value. An operation that has to wait, or is refused, says so and leaves the map. Each
-/// line of an operation is answered so in every other script without a seed, by the map of the history so far, in a life without commits
+/// line of an operation is answered so in every other script without a seed, by the map of the history so far, in a life
 /// that shows the world (`lines`, `file_lines`). The life of a new store is such a one as it begins (`law_new_files`).
 pub fn run<H: Files, R: Read + Drop, W: Write, E: Write>(
     rt: &H,

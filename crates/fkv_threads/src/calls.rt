@@ -3,9 +3,9 @@ ghost use Rattle.std.specs.Prelude.{◌≡◌};
 ghost use Rattle.fkv_table.specs.Calls.{IsReady};
 ghost use Rattle.fkv_table.specs.Planes.{opening_of};
 ghost use Rattle.fkv_threads.specs.Runs.{IsLawful, IsRun, OfThisRun, run_of};
-ghost use Rattle.law_order.specs.Prefix.Law.{PrefixLaw, TellsDurable};
+ghost use Rattle.law_order.specs.Prefix.Law.{TellsDurable};
 ghost use Rattle.law_threads.specs.Durable.{RecoversItsDurable, RecoversLater, TellsItsDurable};
-ghost use Rattle.law_threads.specs.Laws.{IsOrdered, IsWithin, IsWithoutCommits};
+ghost use Rattle.law_threads.specs.Laws.{IsOrdered, IsWithin};
 
 use fkv_core::World;
 use fkv_disk::Device;
@@ -18,7 +18,7 @@ use std::snapshot::Snapshot;
 /// Runs a call of a session to its end, in any thread, and waits for no other one. Pass and session belong together, between two calls. It has
 /// no error of its own: a refusal is one of the answers. A done update has taken effect by what the pass then has seen. A read gives its key's
 /// value after some beginning of the history that holds what the pass had seen. The calls stand in one legal history. This is so of the
-/// table of each opened store, in lives without commits, and in all lives if the law of prefixes holds.
+/// table of each opened store, in all lives, with commits too.
 pub fn run<D: Device>(
     session: &mut Session,
     table: &Table<D>,
@@ -30,8 +30,7 @@ pub fn run<D: Device>(
     ensures number { session.new.machine.seat.number ≡ session.old.machine.seat.number }
     ensures called { IsRun (opening_of D.seen) table.now.table.shared.key (run_of session.old.machine.seat.number call result.1 pass.seat.me.0.seen result.0.seat.me.0.seen) }
     ensures by_order { IsLawful (opening_of D.seen) table.now.table.shared.key (run_of session.old.machine.seat.number call result.1 pass.seat.me.0.seen result.0.seat.me.0.seen) IsOrdered }
-    ensures without_commits { IsLawful (opening_of D.seen) table.now.table.shared.key (run_of session.old.machine.seat.number call result.1 pass.seat.me.0.seen result.0.seat.me.0.seen) IsWithoutCommits }
-    ensures by_prefix { PrefixLaw → IsLawful (opening_of D.seen) table.now.table.shared.key (run_of session.old.machine.seat.number call result.1 pass.seat.me.0.seen result.0.seat.me.0.seen) IsWithin }
+    ensures in_lives { IsLawful (opening_of D.seen) table.now.table.shared.key (run_of session.old.machine.seat.number call result.1 pass.seat.me.0.seen result.0.seat.me.0.seen) IsWithin }
     ensures durable { OfThisRun (opening_of D.seen) table.now.table.shared.key (run_of session.old.machine.seat.number call result.1 pass.seat.me.0.seen result.0.seat.me.0.seen) TellsDurable TellsItsDurable }
     ensures recovered { OfThisRun (opening_of D.seen) table.now.table.shared.key (run_of session.old.machine.seat.number call result.1 pass.seat.me.0.seen result.0.seat.me.0.seen) RecoversLater RecoversItsDurable }
 {

@@ -22,3 +22,4 @@ pub mod SessionsShown
 pub mod StageMoves
 pub mod StageWords
 pub mod StagesRun
+pub mod ViewTails

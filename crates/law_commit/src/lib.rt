@@ -29,7 +29,7 @@ pub use laws::{
 pub use linked::law_links_meet_empty;
 pub use phases::{
     law_phases_in_turn, law_quiet_events_are_phases, law_replies_keep_stamps, law_runs_are_safe,
-    law_sessions_are_phases, law_stamps_are_loads,
+    law_sessions_are_phases, law_stamps_are_loads, law_views_see_tails,
 };
 pub use points::{law_points_between, law_points_taken};
 pub use quiet::{law_cuts_show_points, law_versions_end};

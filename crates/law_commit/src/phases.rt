@@ -4,6 +4,8 @@ ghost use Rattle.law_commit.specs.Phases.Running.{KeeperRunsSafely, SessionsRunS
 ghost use Rattle.law_commit.specs.Phases.Stamped.{RepliesKeepStamps};
 ghost use Rattle.law_commit.specs.Laws.Phases as phases;
 
+use fkv_flush::law_seen;
+
 /// While a session catches up, by a refresh or a wake, its views' stamps are the epochs that the guard has for its loads of the phase. Each reply keeps it
 /// so: the view by which the session goes has the epoch of the load in force, and the one that is coming has that of the last load.
 pub fn law_replies_keep_stamps()
@@ -17,6 +19,15 @@ pub fn law_stamps_are_loads()
     ensures view { phases.ViewsAreAboveSafe }
     ensures coming { phases.ComingIsAboveSafe }
 {}
+
+/// In each life of a store that was opened, whatever its calls, commits and the order of its steps, the safe read-only offset is at or below the tail that each
+/// live session has seen with its phase. It is at or below the tail of a view that is coming, too.
+pub fn law_views_see_tails()
+    ensures view { phases.SafeIsBelowViews }
+    ensures coming { phases.SafeIsBelowComing }
+{
+    law_seen();
+}
 
 /// In each life of a store that was opened a session is live where it is awake. Each of its replies is a list of enabled events of the phases on paper: it
 /// loads the phase word, goes by the view that was coming, or leaves. As long as what is on paper shows the words and a session, it shows the session that

@@ -12,6 +12,7 @@ mod OfRest
 mod OfRows
 pub mod OfRules
 mod OfServed
+mod OfShifts
 pub mod OfTickets
 mod OfTold
 mod OfTruth

@@ -1,8 +1,9 @@
 mod Along
 pub mod Asks
-pub mod AtRest
-pub mod Fixed
+mod Changed
+mod Kept
 mod Lives
 mod Replies
 pub mod Rows
 mod Seeks
+pub mod Stays

@@ -5,7 +5,7 @@ ghost use Rattle.law_order.specs.Rules.Openings.{OpensItsEnds, OpensItsPoints, O
 use crate::rest::law_rest_said;
 use crate::rules::{law_cuts_open, law_life_begins};
 use fkv_disk::Device;
-use law_commit::{law_begun, law_floor_stands};
+use law_commit::{law_begun, law_floor_stands, law_views_see_tails};
 use law_opening::{law_opened_commit_stands, law_told_opens};
 
 /// An opened store opens at rest: its phase word says rest of the version behind its newest commit's number, and each session has seen that. So the laws of
@@ -24,13 +24,17 @@ pub fn law_phases_open()
 
 /// In each life of an opened store, with commits, crashes and failing calls of the device, the view of each live session has its floor. So what a live session
 /// has seen of the phases stays near the phase word. From in-progress on it has seen a tail at or above the first address of the commit in hand. As the
-/// commit is written it has seen one at or above its end. So no two live sessions go by phases that exclude each other.
+/// commit is written it has seen one at or above its end. So no two live sessions go by phases that exclude each other. The safe read-only offset is at or
+/// below the tail that each live session has seen with its phase. It is at or below the tail of a view that is coming, too.
 pub fn law_floor_opens()
     ensures floor { commits.HasFloorInItsLife }
     ensures near { commits.KeepsItsViewsNear }
+    ensures safe { commits.KeepsSafeBelowItsViews }
+    ensures coming { commits.KeepsSafeBelowItsComing }
 {
     law_life_begins();
     law_floor_stands();
+    law_views_see_tails();
 }
 
 /// The log of an opened store's image has no record of a later version than its phase word's, and none from its tail up. So the laws of versions hold of each

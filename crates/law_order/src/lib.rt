@@ -47,7 +47,7 @@ pub use prefix::{
 };
 pub use reads::law_world_reads;
 pub use rest::{law_life_rests, law_log_rests, law_rest_said};
-pub use rows::{law_requests_asked, law_rows_at_rest, law_rows_go_on};
+pub use rows::{law_requests_asked, law_rows_go_on, law_waits_stay};
 pub use rules::{law_cuts_open, law_life_begins, law_order_of_rules};
 pub use served::law_world_served;
 pub use shares::law_shares_open;

@@ -1,13 +1,21 @@
-//! The order law of the engine, in every life without commits, and what is known already of those with commits.
+//! The order law of the engine, in every life.
 ghost use Rattle.law_order.specs.OneHistory.EachLife as lives;
 ghost use Rattle.law_order.specs.Rules.InTime.{ReadsInTime};
 ghost use Rattle.law_order.specs.Rules.Ordered as laws;
 
 use crate::fits::law_opening_fits;
+use crate::in_turn::{law_ends_open, law_versions_open};
 use crate::ordered::law_world_ordered;
 use crate::rules::{law_life_begins, law_order_of_rules};
+use law_commit::{
+    law_floor_stands, law_shares_not_missed, law_versions_counted, law_versions_end,
+    law_views_see_tails,
+};
+use law_opening::law_latches_open;
+use law_paper::law_phases_are_seen;
+use law_parts::law_latched_in_tries;
 
-/// In each life without commits what has taken effect so far is one history, legal from the store's map on, with the replies given. Sessions turn pages, sleep,
+/// In each life what has taken effect so far is one history, legal from the store's map on, with the replies given. Sessions turn pages, sleep,
 /// wake, stall in the middle of calls, meet the disk and fill overflow buckets. Calls of the device fail, any actor moves at any step, and a crash comes
 /// anywhere. The history orders the calls. Each update whose result was given took effect once, with that reply, and none took effect but those that were
 /// called. One whose result was given before another was called took effect before it. Each read is answered by its key's value at some moment between its
@@ -15,15 +23,25 @@ use crate::rules::{law_life_begins, law_order_of_rules};
 /// of sessions begin. With commits or without, each action is run once at most. Each protected session then goes by what it loaded since the action's epoch
 /// was raised.
 pub fn law_order()
-    ensures legal { lives.InEachLife (lives.WithoutCommits laws.HasLegalHistory) }
-    ensures ordered { lives.InEachLife (lives.WithoutCommits laws.OrdersItsCalls) }
-    ensures fresh { lives.InEachLife (lives.WithoutCommits laws.ReadsFreshly) }
-    ensures in_time { lives.InEachLife (lives.WithoutCommits ReadsInTime) }
-    ensures guarded { lives.InEachLife (lives.WithoutCommits laws.IsGuarded) }
+    ensures legal { lives.InEachLife laws.HasLegalHistory }
+    ensures ordered { lives.InEachLife laws.OrdersItsCalls }
+    ensures fresh { lives.InEachLife laws.ReadsFreshly }
+    ensures in_time { lives.InEachLife ReadsInTime }
+    ensures guarded { lives.InEachLife laws.IsGuarded }
     ensures once { lives.InEachLife laws.RunsActionsOnce }
 {
     law_life_begins();
     law_order_of_rules();
     law_opening_fits();
     law_world_ordered();
+    law_ends_open();
+    law_versions_open();
+    law_latches_open();
+    law_phases_are_seen();
+    law_floor_stands();
+    law_versions_end();
+    law_shares_not_missed();
+    law_versions_counted();
+    law_latched_in_tries();
+    law_views_see_tails();
 }

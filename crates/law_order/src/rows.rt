@@ -7,17 +7,13 @@ pub fn law_requests_asked()
     ensures { rows.SeekWhatIsAsked }
 {}
 
-/// In every life without commits all records of versions older than the life's are fixed, at each moment, also between the events of the log that one event of the life is.
-/// So what a request that waits knows of the log stays along those of the next event, whatever happens by it, and so does what an attempt knows whose request is of the life's
-/// version, as long as each event of the log was enabled.
-pub fn law_rows_at_rest()
-    ensures older { rows.HasOlderFixed }
-    ensures waits { rows.KeepsWhatWaitsKnow }
-    ensures attempts { rows.KeepsWhatAttemptsKnow }
+/// What a request that waits knows of the log stays along the log's events of the next event, whatever happens by it, as long as each event of the log was enabled.
+pub fn law_waits_stay()
+    ensures { rows.KeepsWhatWaitsKnow }
 {}
 
-/// In every life without commits what sessions know of the log goes on by each event: where all events of the log until then, and those of the event too, were enabled, and each
-/// session knew what it has to at each moment and was told truly before the event, each knows it behind the event.
+/// In every life of a store that was opened what sessions know of the log goes on by each event: where all events of the log until then, and those of the event too, were enabled, and each
+/// session knew what it has to at each moment and was told truly before the event, each knows it behind the event. Of sessions this needs that their updates keep apart from those of other versions.
 pub fn law_rows_go_on()
     ensures { rows.GoesOnToKnow }
 {}

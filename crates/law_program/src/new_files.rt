@@ -8,7 +8,7 @@ use fkv_playing::Breaks;
 use fkv_runs::Crashes;
 use law_opening::law_log_opened;
 
-/// The life of a new store begins quietly, whatever holds it: without commits, over bytes as `create` leaves them, and with no call in hand. So
+/// The life of a new store begins quietly, whatever holds it: over bytes as `create` leaves them, and with no call in hand. So
 /// `law_played_calls` speaks of each line that is played over a new store in a file, though nobody can tell what a file holds. And a script of operations
 /// alone, of which none is interleaved with another, prints what a map says that begins empty.
 pub fn law_new_files<M: Crashes, F: Breaks>()

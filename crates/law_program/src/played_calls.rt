@@ -10,7 +10,7 @@ use fkv_runs::Crashes;
 use law_opening::law_log_opened;
 use law_order::law_order;
 
-/// In a life without commits of an opened store, in which no session has a call in hand, an operation that is played alone prints an answer that is the
+/// In a life of an opened store, with commits too, in which no session has a call in hand, an operation that is played alone prints an answer that is the
 /// map's: each reply is the map's on the history so far, and each read gives its key's value in its content. The life goes on with it, and again no session
 /// has a call in hand; and so it goes on by each other line of a session. So it is of the engine's steps over any device, whatever is supposed of its honesty.
 pub fn law_played_calls<D: Breaks>()

@@ -7,14 +7,13 @@ use Rattle.fkv_seats.specs.Kept.{SeesInOrder}
 use Rattle.fkv_seats.specs.Rule.{IsSeenBy}
 use Rattle.fkv_world.specs.Runs.{World}
 use Rattle.fkv_world.specs.World.{Event, Now}
-use Rattle.law_order.specs.OneHistory.EachLife.{InEachLife, IsLife, Life, WithoutCommits}
-use Rattle.law_order.specs.Prefix.Law.{PrefixLaw}
+use Rattle.law_order.specs.OneHistory.EachLife.{InEachLife, IsLife, Life}
 use Rattle.law_order.specs.Rules.InTime.{ReadsInTime}
 use Rattle.law_order.specs.Rules.Ordered.{HasLegalHistory, OrdersItsCalls}
 use Rattle.fkv_table.specs.declared.happenings.Happening.{Happening}
 use Rattle.fkv_table.specs.Planes.{plane}
 use Rattle.law_threads.specs.Calls.{events_of}
-use Rattle.law_threads.specs.Laws.{IsOrdered, IsSeenIn, IsThreadLaw, IsWithin, IsWithoutCommits, SharesOneHistory}
+use Rattle.law_threads.specs.Laws.{IsOrdered, IsSeenIn, IsThreadLaw, IsWithin, SharesOneHistory}
 use Rattle.law_threads.specs.Threads.{IsBeginning, history_seen}
 use Rattle.law_threads.proofs.Histories.{begins_with}
 use Rattle.law_threads.proofs.OfDone.{GivesSerialsInTurn, done_so}
@@ -51,20 +50,12 @@ life o n bytes events = record { bytes = bytes; opened = o; world = n; events = 
 is_life : (o : Opened) (n : Now) (bytes : List ℕ) (events : List Event) → IsStoreOf bytes o → IsOpeningWorld o n → IsWithin o n bytes events → IsLife (record { bytes = bytes; opened = o; world = n; events = events })
 is_life o n bytes events store begins within = record { store = store; begins = begins; fits = within.fits; few = within.few }
 
-pub without_commits : {K : Type 0} (at : K → World) → InEachLife (WithoutCommits HasLegalHistory) → InEachLife (WithoutCommits OrdersItsCalls) → InEachLife (WithoutCommits ReadsInTime) → IsThreadLaw at IsOrdered → IsThreadLaw at IsWithoutCommits
-without_commits at legal ordered in_time law = weaker at IsWithoutCommits IsOrdered
-    (λ o n bytes events store begins it.
-    let its : Life = record { bytes = bytes; opened = o; world = n; events = events } in
-    let is : IsLife its = is_life o n bytes events store begins it.within in
-    record { legal = legal its is it.rests; ordered = ordered its is it.rests; in_time = in_time its is it.rests })
-    law
-
-pub by_prefix : {K : Type 0} (at : K → World) → PrefixLaw → IsThreadLaw at IsOrdered → IsThreadLaw at IsWithin
-by_prefix at prefix law = weaker at IsWithin IsOrdered
+pub in_lives : {K : Type 0} (at : K → World) → InEachLife HasLegalHistory → InEachLife OrdersItsCalls → InEachLife ReadsInTime → IsThreadLaw at IsOrdered → IsThreadLaw at IsWithin
+in_lives at legal ordered in_time law = weaker at IsWithin IsOrdered
     (λ o n bytes events store begins it.
     let its : Life = record { bytes = bytes; opened = o; world = n; events = events } in
     let is : IsLife its = is_life o n bytes events store begins it in
-    record { legal = prefix.legal its is; ordered = prefix.ordered its is; in_time = prefix.in_time its is })
+    record { legal = legal its is; ordered = ordered its is; in_time = in_time its is })
     law
 
 seen_in : {K : Type 0} (at : K → World) (n : Now) (bytes : List ℕ) (less more : List Happening) → IsSeenBy (plane at) less more → IsSeenIn at n bytes less more

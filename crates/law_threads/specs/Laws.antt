@@ -7,7 +7,6 @@ use Rattle.fkv_opening.specs.declared.opened_store.Opened.{Opened}
 use Rattle.fkv_seats.specs.Rule.{IsSeenBy, Ruled}
 use Rattle.fkv_world.specs.Runs.{World}
 use Rattle.fkv_world.specs.World.{Event, Now}
-use Rattle.law_order.specs.Rest.Resting.{HasNoCommit}
 use Rattle.law_order.specs.Rules.InTime.{ReadsInTime}
 use Rattle.law_order.specs.Rules.Ordered.{HasLegalHistory, OrdersItsCalls}
 use Rattle.law_order.specs.Served.Fits.{CallsFit}
@@ -29,11 +28,6 @@ pub record IsOrdered (o : Opened) (n : Now) (bytes : List ℕ) (events : List Ev
 pub record IsWithin (o : Opened) (n : Now) (bytes : List ℕ) (events : List Event) : Type 0 where
   pub fits : CallsFit events
   pub few : HasFewCalls events
-
--- and for now that no commit begins
-pub record IsWithoutCommits (o : Opened) (n : Now) (bytes : List ℕ) (events : List Event) : Type 0 where
-  pub within : IsWithin o n bytes events
-  pub rests : HasNoCommit events
 
 -- The thread law, of lives of which this is so.
 pub record IsThreadLaw {K : Type 0} (at : K → World) (If : Opened → Now → List ℕ → List Event → Type 0) : Type 0 where

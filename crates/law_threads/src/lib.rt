@@ -8,7 +8,7 @@ ghost use Rattle.law_order.specs.Prefix.Law.{PrefixLaw, TellsDurable};
 ghost use Rattle.law_threads.specs.Calls.{OfEachRun, events_of};
 ghost use Rattle.law_threads.specs.Durable.{RecoversItsDurable, RecoversLater, TellsItsDurable};
 ghost use Rattle.law_threads.specs.Images.{RecoversWithin};
-ghost use Rattle.law_threads.specs.Laws.{IsOrdered, IsThreadLaw, IsWithin, IsWithoutCommits, SharesOneHistory};
+ghost use Rattle.law_threads.specs.Laws.{IsOrdered, IsThreadLaw, IsWithin, SharesOneHistory};
 
 use law_order::law_order;
 use law_world::{law_world_requests, law_world_sessions};
@@ -17,14 +17,13 @@ use law_world::{law_world_requests, law_world_sessions};
 /// events that the session's pass has seen behind the call, more is known. A done update has taken effect by what the pass has seen, with its serial and reply,
 /// and so has one that a poll says is finished. A read gives its key's value after some beginning of the history that holds what the pass had seen at the call.
 /// So does one that a poll answers, if few calls begin (`polled`). The calls stand once in one legal history. It begins with the history of what the pass had seen
-/// before. So it is in lives without commits, and in all lives if the law of prefixes holds (`by_prefix`). A point that is told as durable is a sealed commit's
-/// (`durable`). Each image that is left then or later recovers a point at or above it (`recovered`). These two rest on clauses of the law of prefixes. So does this:
-/// each image that a crash may leave in the middle of a turn holds a prefix of the life as it was at some moment of the turn (`turns`, `turns_by_prefix`). Of two
-/// passes at one moment one has seen a beginning of what the other has, and so are their histories.
+/// before. So it is in all lives, with commits too (`in_lives`). A point that is told as durable is a sealed commit's (`durable`). Each image that is left then
+/// or later recovers a point at or above it (`recovered`). These two rest on clauses of the law of prefixes. So does this: each image that a crash may leave in
+/// the middle of a turn holds a prefix of the life as it was at some moment of the turn (`turns`, `turns_by_prefix`). Of two passes at one moment one has seen
+/// a beginning of what the other has, and so are their histories.
 pub fn law_threads<K>()
     ensures by_order { (at : K → World) → IsThreadLaw at IsOrdered }
-    ensures without_commits { (at : K → World) → IsThreadLaw at IsWithoutCommits }
-    ensures by_prefix { (at : K → World) → PrefixLaw → IsThreadLaw at IsWithin }
+    ensures in_lives { (at : K → World) → IsThreadLaw at IsWithin }
     ensures durable { (at : K → World) → OfEachRun at TellsDurable TellsItsDurable }
     ensures recovered { (at : K → World) → OfEachRun at RecoversLater RecoversItsDurable }
     ensures turns { (at : K → World) (key : K) (seen seen' : List Happening) → RecoversWithin at (λ o n bytes. RecoversLater o n bytes (events_of seen)) key seen seen' }

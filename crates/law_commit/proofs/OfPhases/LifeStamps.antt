@@ -172,10 +172,10 @@ one_reply : (words : List ℕ) (its : Sight) (l f : Loads) (k : Seat) (s : Sessi
 unfolding sight_through session_run
 one_reply words its l f k s reply stamped = replied words its l f k s reply stamped
 
--- a step of the session whose ask is no end
-module _ (words : List ℕ) (actions : List (Option Action)) (its : Sight) (l f : Loads) (k : Seat) (s : SessionState) (stamped : SessionStamped its l f s) where
+-- a step of the session whose ask is no end; what it sees is stamped by these first words
+module _ (seen words : List ℕ) (actions : List (Option Action)) (its : Sight) (l f : Loads) (k : Seat) (s : SessionState) (stamped : SessionStamped its l f s) where
   abbrev Here : List SessionEvent → Type 0
-  Here events = Through words its (loads_by l (sitting_driven s s.step) (epoch_of words)) (force_by l f (sitting_driven s s.step) (epoch_of words)) k s events
+  Here events = Through seen its (loads_by l (sitting_driven s s.step) (epoch_of seen)) (force_by l f (sitting_driven s s.step) (epoch_of seen)) k s events
 
   abbrev now : Near SessionState
   now = record { machine = s; words = words; actions = actions }
@@ -183,23 +183,23 @@ module _ (words : List ℕ) (actions : List (Option Action)) (its : Sight) (l f 
   word_stamped : (ask : Ask Told) → Here (session_slots actions (session_ask k (session_next k s (reply_to words ask))) ++ Replies (reply_to words ask) ∷ [])
   unfolding session_run session_happens
   word_stamped ask =
-      slots_stamped words its (loads_by l (sitting_driven s s.step) (epoch_of words)) (force_by l f (sitting_driven s s.step) (epoch_of words)) actions k s (session_ask k (session_next k s (reply_to words ask))) (Replies (reply_to words ask) ∷ []) refl (one_reply words its l f k s (reply_to words ask) stamped)
+      slots_stamped seen its (loads_by l (sitting_driven s s.step) (epoch_of seen)) (force_by l f (sitting_driven s s.step) (epoch_of seen)) actions k s (session_ask k (session_next k s (reply_to words ask))) (Replies (reply_to words ask) ∷ []) refl (one_reply seen its l f k s (reply_to words ask) stamped)
 
   slot_only : (ask : Ask Told) → session_ask k s ≡ ask → (AsksNoSlot ask → ⊥) → Here (session_slots actions ask ++ [])
   unfolding session_run
   slot_only ask e slot =
       let driven = plain_driven s s.step (slot_plain k s s.step (λ none. slot (subst AsksNoSlot e none))) in
-      subst (λ (m : Option EpochMachine). Through words its (loads_by l m (epoch_of words)) (force_by l f m (epoch_of words)) k s (session_slots actions ask ++ [])) (sym driven)
-      (slots_stamped words its l f actions k s ask [] e (no_events words its l f k s stamped))
+      subst (λ (m : Option EpochMachine). Through seen its (loads_by l m (epoch_of seen)) (force_by l f m (epoch_of seen)) k s (session_slots actions ask ++ [])) (sym driven)
+      (slots_stamped seen its l f actions k s ask [] e (no_events seen its l f k s stamped))
 
   took_only : (slot : ℕ) → session_ask k s ≡ Take slot → Here (session_got (action_at actions slot))
   unfolding sight_through session_run session_happens
   took_only slot e =
       let driven = plain_driven s s.step (slot_plain k s s.step (λ none. subst AsksNoSlot e none)) in
-      subst (λ (m : Option EpochMachine). Through words its (loads_by l m (epoch_of words)) (force_by l f m (epoch_of words)) k s (session_got (action_at actions slot))) (sym driven)
+      subst (λ (m : Option EpochMachine). Through seen its (loads_by l m (epoch_of seen)) (force_by l f m (epoch_of seen)) k s (session_got (action_at actions slot))) (sym driven)
       (by_found (action_at actions slot))
     where
-      by_found : (found : Option Action) → Through words its l f k s (session_got found)
+      by_found : (found : Option Action) → Through seen its l f k s (session_got found)
       by_found None = stamped
       by_found (Some action) = given_stamped l f its k s s.step action refl stamped
 
@@ -215,36 +215,32 @@ module _ (words : List ℕ) (actions : List (Option Action)) (its : Sight) (l f 
   steps_stamped (Add place n) e asks = word_stamped (Add place n)
   steps_stamped (Max place n) e asks = word_stamped (Max place n)
 
-  done_stamped : (ask : Ask Told) → is_done ask ≡ true → Through words its l f k s (session_steps k now ask)
+  done_stamped : (ask : Ask Told) → is_done ask ≡ true → Through seen its l f k s (session_steps k now ask)
   unfolding session_steps
-  done_stamped (Done told) ends = no_events words its l f k s stamped
+  done_stamped (Done told) ends = no_events seen its l f k s stamped
   done_stamped ask ends = cc
 
-  begun_stamped : (call : Call) → Through words its l f k s (Begins call ∷ [])
+  begun_stamped : (call : Call) → Through seen its l f k s (Begins call ∷ [])
   unfolding sight_through session_run session_happens
   begun_stamped call = begins_stamped l f its k s call (is_busy s.step) refl stamped
 
 -- ---- one event of a life
-module _ (n : Now) (w : GuardWorld) (its : Sight) (session : ℕ) (s : SessionState) (shows : Shows n w) (found : slice_get n.sessions session ≡ Some s) (stamped : SessionStamped its (w.past.loads session) (w.past.in_force session) s) where
+-- These events of the guard are an ask of this machine to the session's loads, and its own events move the stamps with them, by whatever words they are stamped.
+pub record IsStamping (w : GuardWorld) (events : List GuardEvent) (session : ℕ) (k : Seat) (s : SessionState) (own : List SessionEvent) : Type 0 where
+  pub machine : Option EpochMachine
+  pub loads : LoadsBy w events session machine
+  pub through : (seen : List ℕ) (its : Sight) (l f : Loads) → SessionStamped its l f s → Through seen its (loads_by l machine (epoch_of seen)) (force_by l f machine (epoch_of seen)) k s own
+
+module _ (n : Now) (w : GuardWorld) (session : ℕ) (s : SessionState) (shows : Shows n w) (found : slice_get n.sessions session ≡ Some s) where
   abbrev k : Seat
   k = seat_at n session
 
-  abbrev l : Loads
-  l = w.past.loads session
-
-  abbrev f : Loads
-  f = w.past.in_force session
-
   -- where the guard's events are these, and the session's own are those
   abbrev Behind : List GuardEvent → List SessionEvent → Type 0
-  Behind events own = SessionStamped (sight_through n.words k s own its) ((guard_run w events).past.loads session) ((guard_run w events).past.in_force session) (session_run k s own)
-
-  by_loads : (events : List GuardEvent) (own : List SessionEvent) (machine : Option EpochMachine) → LoadsBy w (guard_run w events) session machine
-      → Through n.words its (loads_by l machine (epoch_of n.words)) (force_by l f machine (epoch_of n.words)) k s own → Behind events own
-  by_loads events own machine loads through = rw (loads.loads, loads.in_force, shows.words) through
+  Behind events own = IsStamping w events session k s own
 
   others_behind : (events : List GuardEvent) → AreOther events session → Behind events []
-  others_behind events others = by_loads events [] None (others_stay w events session others) (no_events n.words its l f k s stamped)
+  others_behind events others = record { machine = None; loads = others_stay w events session others; through = λ seen its l f stamped. no_events seen its l f k s stamped }
 
   none_behind : Behind [] []
   none_behind = others_behind [] tt
@@ -261,11 +257,10 @@ module _ (n : Now) (w : GuardWorld) (its : Sight) (session : ℕ) (s : SessionSt
   moved_others j None other = tt
   moved_others j (Some t) other = session_other (seat_at n j) n.words t (session_moved (seat_at n j) (near n t)).machine session other
 
-  called_mine : (call : Call) → LoadsBy w (guard_run w (called_events n session call (Some s))) session None
-  unfolding guard_run
+  called_mine : (call : Call) → LoadsBy w (called_events n session call (Some s)) session None
   called_mine call = by_busy (is_busy s.step)
     where
-      by_busy : (busy : Bool) → LoadsBy w (guard_run w (if busy then [] else called_guard_events k (session_begun k s call))) session None
+      by_busy : (busy : Bool) → LoadsBy w (if busy then [] else called_guard_events k (session_begun k s call)) session None
       by_busy true = stay w session
       by_busy false = called_loads w k (session_begun k s call) session
 
@@ -276,10 +271,18 @@ module _ (n : Now) (w : GuardWorld) (its : Sight) (session : ℕ) (s : SessionSt
       after = (session_moved k (near n s)).machine
 
       by_done : (done : Bool) → is_done (session_ask k s) ≡ done → Behind (moved_events n session (Some s)) (session_steps k (near n s) (session_ask k s))
-      by_done true e = by_loads (moved_events n session (Some s)) _ None (rw e (others_stay w [] session tt)) (done_stamped n.words n.actions its l f k s stamped (session_ask k s) e)
+      by_done true e = record {
+        machine = None;
+        loads = rw e (others_stay w [] session tt);
+        through = λ seen its l f stamped. done_stamped seen n.words n.actions its l f k s stamped (session_ask k s) e;
+      }
       by_done false e =
           let seat = shows.sessions session s found in
-          by_loads (moved_events n session (Some s)) _ (sitting_driven s s.step) (session_loads w k n.words seat.actor s after seat.sits.got seat.sits.fits e) (steps_stamped n.words n.actions its l f k s stamped (session_ask k s) refl e)
+          record {
+            machine = sitting_driven s s.step;
+            loads = session_loads w k n.words seat.actor s after seat.sits.got seat.sits.fits e;
+            through = λ seen its l f stamped. steps_stamped seen n.words n.actions its l f k s stamped (session_ask k s) refl e;
+          }
 
   not_keeper : keeper_number n ≢ session
   not_keeper e =
@@ -297,7 +300,7 @@ module _ (n : Now) (w : GuardWorld) (its : Sight) (session : ℕ) (s : SessionSt
   calls_behind j call true e =
       subst (λ (i : ℕ). Behind (called_events n i call (slice_get n.sessions i)) (Begins call ∷ [])) (sym (same_number j e))
       (subst (λ (there : Option SessionState). Behind (called_events n session call there) (Begins call ∷ [])) (sym found)
-      (by_loads (called_events n session call (Some s)) (Begins call ∷ []) None (called_mine call) (begun_stamped n.words n.actions its l f k s stamped call)))
+      (record { machine = None; loads = called_mine call; through = λ seen its l f stamped. begun_stamped seen n.words n.actions its l f k s stamped call }))
   calls_behind j call false e = others_behind _ (called_others j call (slice_get n.sessions j) (other_number j e))
 
   moves_behind : (j : ℕ) (mine : Bool) → (j == session) ≡ mine → Behind (moved_events n j (slice_get n.sessions j)) (if mine then session_part k (near n s) (Moves j) else [])
@@ -324,6 +327,11 @@ module _ (n : Now) (w : GuardWorld) (its : Sight) (session : ℕ) (s : SessionSt
       by_crash false = goes_behind read event
 
 -- ---- and a life
+stamped_by : (n : Now) (w : GuardWorld) (its : Sight) (session : ℕ) (s : SessionState) → w.now.words ≡ n.words → (own : List SessionEvent) (events : List GuardEvent) → IsStamping w events session (seat_at n session) s own
+    → SessionStamped its (w.past.loads session) (w.past.in_force session) s
+    → SessionStamped (sight_through n.words (seat_at n session) s own its) ((guard_run w events).past.loads session) ((guard_run w events).past.in_force session) (session_run (seat_at n session) s own)
+stamped_by n w its session s words own events one stamped = rw (one.loads.loads, one.loads.in_force, words) (one.through n.words its (w.past.loads session) (w.past.in_force session) stamped)
+
 opened_stamped : (opening : World) (start session : ℕ) (first : SessionState) (step : Sitting) → guard.IsOpened opening.now start → is_busy step ≡ false
     → SittingStamped (sight_opened opening.now first) ((guard_opening opening.now start).past.loads session) ((guard_opening opening.now start).past.in_force session) first step
 opened_stamped opening start session first (Idle told) opened idle = (opened.words.epochs.first_epoch, refl)
@@ -342,7 +350,8 @@ life_stamped opening start session first (event ∷ before) opened found =
     let part : List SessionEvent = session_part_of now session event in
     let its : Sight = sight_in opening session first before in
     let past = life_stamped opening start session first before opened found in
-    let one = event_behind now w its session s (life_shows opening start before opened) (session_runs opening session first before found) past read event in
+    let event_of = event_behind now w session s (life_shows opening start before opened) (session_runs opening session first before found) read event in
+    let one = stamped_by now w its session s (life_shows opening start before opened).words part (guard_events now read event) event_of past in
     let seated = subst (λ (k : Seat). SessionStamped (sight_through now.words k s part its) ((guard_run w (guard_events now read event)).past.loads session) ((guard_run w (guard_events now read event)).past.in_force session) (session_run k s part))
     (same_seat opening before session) one in
     let world : _ = sym (runs_on (guard_opening opening.now start) (guard_events now read event) (mapped opening before)) in

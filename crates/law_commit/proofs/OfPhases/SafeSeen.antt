@@ -1,5 +1,5 @@
 -- Each view that a session goes by, or that is coming, was loaded behind the raise of each safe epoch.
-use Rattle.std.proofs.Common.{◌≡◌, ℕ, ◌<◌, ◌≤◌, ◌∙◌, List, refl, arith, ap, subst, Bool, true, false}
+use Rattle.std.proofs.Common.{◌≡◌, ℕ, ◌<◌, ◌≤◌, ◌∙◌, ◌⊎◌, inl, inr, List, refl, arith, ap, subst, Bool, true, false}
 use Rattle.std.specs.Prelude.{Option, Some, None, if◌then◌else◌, slice_get}
 use Rattle.fkv_epoch.specs.declared.protecting.Protecting.{Protecting}
 use Rattle.fkv_epoch.specs.declared.protecting.Protecting.TheVariants as protect
@@ -7,10 +7,11 @@ use Rattle.fkv_epoch.specs.declared.refreshing.Refreshing.{Refreshing}
 use Rattle.fkv_epoch.specs.declared.refreshing.Refreshing.TheVariants as refresh
 use Rattle.fkv_epoch.specs.EpochWorld as epochs
 use Rattle.fkv_epoch.specs.EpochWorld.{EpochMachine, Loads, OfPhase, own_epoch, safe_of}
-use Rattle.fkv_epoch.specs.Once.{Counts, InForceSinceRaise, SeenSinceRaise, goes_by}
+use Rattle.fkv_epoch.specs.Once.{InForceSinceRaise, SeenSinceRaise, goes_by}
 use Rattle.fkv_epoch.proofs.Shown.{is_protected}
 use Rattle.fkv_epoch.specs.Protected.{is_protecting}
-use Rattle.fkv_flush.specs.GuardWorld.{Actor, GuardWorld, epoch_now, epoch_world}
+use Rattle.fkv_flush.specs.GuardWorld.{Actor, GuardWorld, epoch_world}
+use Rattle.fkv_flush.specs.Guarded.{GoesBy}
 use Rattle.fkv_flush.proofs.Shown.{Fits, FitsMachine, IsSound, machine_at}
 use Rattle.fkv_session.specs.declared.catching_up.Catching.{Catching}
 use Rattle.fkv_session.specs.declared.catching_up.Catching.TheVariants as catching
@@ -56,27 +57,19 @@ held_goes : (c : CatchState) (is_refresh : Bool) (machine : EpochMachine) → c.
 held_goes c true machine e fits = refresh_goes c.refreshing machine (subst (λ (b : Bool). FitsMachine (if b then refresh_machine c.refreshing else None) machine) e fits)
 held_goes c false machine e fits = blind_goes machine (rest_blind machine (subst (λ (b : Bool). FitsMachine (if b then refresh_machine c.refreshing else None) machine) e fits))
 
--- an epoch below what a view's stamp is
-below_stamp : (epoch stamp phase : ℕ) → stamp ≡ phase → epoch < phase → epoch < stamp
-below_stamp epoch stamp phase e low = omega (arith, e, low)
+-- A stamp is that of this load of the phase, and the session goes by its phase.
+pub record IsLoaded (w : GuardWorld) (session stamp phase : ℕ) : Type 0 where
+  pub loaded : stamp ≡ phase
+  pub goes : GoesBy w.now session OfPhase
 
-module _ (w : GuardWorld) (session epoch : ℕ) (x : Actor) (sound : IsSound w) (got : slice_get w.now.actors session ≡ Some x) (below : session < w.now.places.sessions) (since : HaveLoadedSince w epoch) where
-  abbrev l : Loads
-  l = w.past.loads session
+-- it is that of its last load, or of the one in force
+abbrev pub EitherLoaded : GuardWorld → ℕ → ℕ → Loads → Loads → Type 0
+EitherLoaded w session stamp l f = IsLoaded w session stamp l.phase ⊎ IsLoaded w session stamp f.phase
 
-  abbrev f : Loads
-  f = w.past.in_force session
-
-  counts : 0 < own_epoch w.now.words session → goes_by OfPhase x.machine ≡ true → Counts (epoch_now w.now) session OfPhase
+-- by whatever values its sight is stamped
+module _ (w : GuardWorld) (session : ℕ) (x : Actor) (sound : IsSound w) (got : slice_get w.now.actors session ≡ Some x) (below : session < w.now.places.sessions) (l f : Loads) where
+  counts : 0 < own_epoch w.now.words session → goes_by OfPhase x.machine ≡ true → GoesBy w.now session OfPhase
   counts some goes = record { is_session = below; is_protected = some; machine = x.machine; its_machine = machine_at w.now.actors session x got; has_loaded = goes }
-
-  force_above : 0 < own_epoch w.now.words session → goes_by OfPhase x.machine ≡ true → epoch < f.phase
-  unfolding InForceSinceRaise
-  force_above some goes = since.1 session OfPhase (counts some goes)
-
-  loads_above : 0 < own_epoch w.now.words session → goes_by OfPhase x.machine ≡ true → epoch < l.phase
-  unfolding SeenSinceRaise
-  loads_above some goes = since.0 session OfPhase (counts some goes)
 
   -- ---- the view by which it goes
   refresh_view : (its : Sight) (step : Refreshing) → RefreshStamped its l f step → its.view.stamp ≡ f.phase
@@ -115,40 +108,46 @@ module _ (w : GuardWorld) (session epoch : ℕ) (x : Actor) (sound : IsSound w) 
   catch_protected c step its refreshes stamped = refl
 
   caught_view : (its : Sight) (c : CatchState) → c.is_refresh ≡ true → FitsMachine (catch_machine c c.step) x.machine → (is_protected_catching c.step ≡ true → 0 < own_epoch w.now.words session)
-      → CatchStamped its l f c c.step × IsUnderWay c.step → epoch < its.view.stamp
-  caught_view its c refreshes fits protects stamped =
-      below_stamp epoch its.view.stamp f.phase (catch_view its c c.step refreshes stamped.0 stamped.1)
-      (force_above (protects (catch_protected c c.step its refreshes stamped.0)) (catch_goes c c.step refreshes its stamped.0 stamped.1 fits))
+      → CatchStamped its l f c c.step × IsUnderWay c.step → IsLoaded w session its.view.stamp f.phase
+  caught_view its c refreshes fits protects stamped = record {
+    loaded = catch_view its c c.step refreshes stamped.0 stamped.1;
+    goes = counts (protects (catch_protected c c.step its refreshes stamped.0)) (catch_goes c c.step refreshes its stamped.0 stamped.1 fits);
+  }
 
-  plain_view : (its : Sight) (s : SessionState) (step : Sitting) → IsPlain step → Fits (sitting_likeness s step) x → 0 < own_epoch w.now.words session → its.view.stamp ≡ f.phase → epoch < its.view.stamp
-  plain_view its s step plain fits some stamp =
-      below_stamp epoch its.view.stamp f.phase stamp (force_above some (blind_goes x.machine (fits_blind (sitting_likeness s step).machine x.machine fits.machine (sitting_blind s step plain))))
+  plain_view : (its : Sight) (s : SessionState) (step : Sitting) → IsPlain step → Fits (sitting_likeness s step) x → 0 < own_epoch w.now.words session → its.view.stamp ≡ f.phase → IsLoaded w session its.view.stamp f.phase
+  plain_view its s step plain fits some stamp = record { loaded = stamp; goes = counts some (blind_goes x.machine (fits_blind (sitting_likeness s step).machine x.machine fits.machine (sitting_blind s step plain))) }
 
-  pub view_above : (its : Sight) (s : SessionState) (step : Sitting) → Fits (sitting_likeness s step) x → (is_protected_at s step ≡ true → 0 < own_epoch w.now.words session) → SittingStamped its l f s step → is_live_at s step ≡ true
-      → epoch < its.view.stamp
-  view_above its s (CatchesUp cause) fits protects stamped live = caught_view its s.catching live fits.machine protects stamped
-  view_above its s (Idle told) fits protects stamped live = plain_view its s (Idle told) tt fits (protects live) stamped.0
-  view_above its s LoadsDurable fits protects stamped live = plain_view its s LoadsDurable tt fits (protects live) stamped.0
-  view_above its s (Attempts has_shifted) fits protects stamped live = plain_view its s (Attempts has_shifted) tt fits (protects refl) stamped.0
-  view_above its s ClearsMail fits protects stamped live = plain_view its s ClearsMail tt fits (protects refl) stamped.0
-  view_above its s (Polls i) fits protects stamped live = plain_view its s (Polls i) tt fits (protects refl) stamped.0
-  view_above its s (StoresOwing i) fits protects stamped live = plain_view its s (StoresOwing i) tt fits (protects refl) stamped.0
-  view_above its s (Turns told) fits protects stamped live = plain_view its s (Turns told) tt fits (protects refl) stamped.0
-  view_above its s StoresCut fits protects stamped live = plain_view its s StoresCut tt fits (protects refl) stamped.0
-  view_above its s Leaves fits protects stamped live = plain_view its s Leaves tt fits (protects refl) stamped.0
+  pub view_loaded : (its : Sight) (s : SessionState) (step : Sitting) → Fits (sitting_likeness s step) x → (is_protected_at s step ≡ true → 0 < own_epoch w.now.words session) → SittingStamped its l f s step → is_live_at s step ≡ true
+      → IsLoaded w session its.view.stamp f.phase
+  view_loaded its s (CatchesUp cause) fits protects stamped live = caught_view its s.catching live fits.machine protects stamped
+  view_loaded its s (Idle told) fits protects stamped live = plain_view its s (Idle told) tt fits (protects live) stamped.0
+  view_loaded its s LoadsDurable fits protects stamped live = plain_view its s LoadsDurable tt fits (protects live) stamped.0
+  view_loaded its s (Attempts has_shifted) fits protects stamped live = plain_view its s (Attempts has_shifted) tt fits (protects refl) stamped.0
+  view_loaded its s ClearsMail fits protects stamped live = plain_view its s ClearsMail tt fits (protects refl) stamped.0
+  view_loaded its s (Polls i) fits protects stamped live = plain_view its s (Polls i) tt fits (protects refl) stamped.0
+  view_loaded its s (StoresOwing i) fits protects stamped live = plain_view its s (StoresOwing i) tt fits (protects refl) stamped.0
+  view_loaded its s (Turns told) fits protects stamped live = plain_view its s (Turns told) tt fits (protects refl) stamped.0
+  view_loaded its s StoresCut fits protects stamped live = plain_view its s StoresCut tt fits (protects refl) stamped.0
+  view_loaded its s Leaves fits protects stamped live = plain_view its s Leaves tt fits (protects refl) stamped.0
 
   -- ---- the view that is coming
-  coming_of : (its : Sight) (view : View) (phase : ℕ) → its.coming ≡ Some view → IsOf its.coming phase → epoch < phase → epoch < view.stamp
-  coming_of its view phase comes of low = let stamp : view.stamp ≡ phase = subst (λ (v : Option View). IsOf v phase) comes of in below_stamp epoch view.stamp phase stamp low
+  abbrev Loaded : View → Type 0
+  Loaded view = EitherLoaded w session view.stamp l f
 
-  none_comes : (its : Sight) (view : View) → its.coming ≡ Some view → its.coming ≡ None → epoch < view.stamp
+  coming_last : (its : Sight) (view : View) → its.coming ≡ Some view → IsOf its.coming l.phase → 0 < own_epoch w.now.words session → goes_by OfPhase x.machine ≡ true → Loaded view
+  coming_last its view comes of some goes = inl (record { loaded = subst (λ (v : Option View). IsOf v l.phase) comes of; goes = counts some goes })
+
+  coming_in_force : (its : Sight) (view : View) → its.coming ≡ Some view → IsOf its.coming f.phase → 0 < own_epoch w.now.words session → goes_by OfPhase x.machine ≡ true → Loaded view
+  coming_in_force its view comes of some goes = inr (record { loaded = subst (λ (v : Option View). IsOf v f.phase) comes of; goes = counts some goes })
+
+  none_comes : (its : Sight) (view : View) → its.coming ≡ Some view → its.coming ≡ None → Loaded view
   none_comes its view comes none = cc
 
-  refresh_coming : (its : Sight) (view : View) (step : Refreshing) → its.coming ≡ Some view → 0 < own_epoch w.now.words session → FitsMachine (refresh_machine step) x.machine → RefreshStamped its l f step → epoch < view.stamp
+  refresh_coming : (its : Sight) (view : View) (step : Refreshing) → its.coming ≡ Some view → 0 < own_epoch w.now.words session → FitsMachine (refresh_machine step) x.machine → RefreshStamped its l f step → Loaded view
   refresh_coming its view refresh.LoadsEpoch comes some fits stamped = none_comes its view comes stamped.1
   refresh_coming its view (refresh.LoadsPhase loaded) comes some fits stamped = none_comes its view comes stamped.1
-  refresh_coming its view (refresh.LoadsReadOnly loaded phase) comes some fits stamped = coming_of its view l.phase comes stamped.0 (loads_above some (refresh_goes (refresh.LoadsReadOnly loaded phase) x.machine fits))
-  refresh_coming its view (refresh.LoadsHead loaded phase read_only) comes some fits stamped = coming_of its view l.phase comes stamped.0 (loads_above some (refresh_goes (refresh.LoadsHead loaded phase read_only) x.machine fits))
+  refresh_coming its view (refresh.LoadsReadOnly loaded phase) comes some fits stamped = coming_last its view comes stamped.0 some (refresh_goes (refresh.LoadsReadOnly loaded phase) x.machine fits)
+  refresh_coming its view (refresh.LoadsHead loaded phase read_only) comes some fits stamped = coming_last its view comes stamped.0 some (refresh_goes (refresh.LoadsHead loaded phase read_only) x.machine fits)
   refresh_coming its view refresh.AtRest comes some fits stamped = absurd stamped
   refresh_coming its view (refresh.HasLoaded loaded values) comes some fits stamped = absurd stamped
   refresh_coming its view (refresh.StoresEpoch stored) comes some fits stamped = absurd stamped
@@ -156,45 +155,58 @@ module _ (w : GuardWorld) (session epoch : ℕ) (x : Actor) (sound : IsSound w) 
   protected_at : (step : Protecting) → x.machine ≡ epochs.Protects step → is_protecting (epochs.Protects step) ≡ true → 0 < own_epoch w.now.words session
   protected_at step same its = is_protected (epoch_world w) sound.epochs session (epochs.Protects step) below (machine_at w.now.actors session x got ∙ ap Some same) its
 
-  protect_coming : (its : Sight) (view : View) (step : Protecting) → its.coming ≡ Some view → FitsMachine (protect_machine step) x.machine → ProtectStamped its l f step → epoch < view.stamp
+  protect_coming : (its : Sight) (view : View) (step : Protecting) → its.coming ≡ Some view → FitsMachine (protect_machine step) x.machine → ProtectStamped its l f step → Loaded view
   protect_coming its view protect.LoadsEpoch comes fits stamped = none_comes its view comes stamped
   protect_coming its view (protect.StoresEpoch stored) comes fits stamped = none_comes its view comes stamped
   protect_coming its view protect.LoadsPhase comes fits stamped = none_comes its view comes stamped
   protect_coming its view (protect.LoadsReadOnly phase) comes fits stamped =
-      coming_of its view f.phase comes stamped.1 (force_above (protected_at (protect.LoadsReadOnly phase) fits refl) (ap (goes_by OfPhase) fits))
+      coming_in_force its view comes stamped.1 (protected_at (protect.LoadsReadOnly phase) fits refl) (ap (goes_by OfPhase) fits)
   protect_coming its view (protect.LoadsHead phase read_only) comes fits stamped =
-      coming_of its view f.phase comes stamped.1 (force_above (protected_at (protect.LoadsHead phase read_only) fits refl) (ap (goes_by OfPhase) fits))
+      coming_in_force its view comes stamped.1 (protected_at (protect.LoadsHead phase read_only) fits refl) (ap (goes_by OfPhase) fits)
   protect_coming its view protect.AtRest comes fits stamped = absurd stamped
 
-  held_coming : (its : Sight) (view : View) (c : CatchState) (is_refresh : Bool) → c.is_refresh ≡ is_refresh → its.coming ≡ Some view → 0 < own_epoch w.now.words session → FitsMachine (held_machine c) x.machine → HeldStamped its l f c is_refresh → epoch < view.stamp
-  held_coming its view c true e comes some fits stamped = coming_of its view l.phase comes stamped.1 (loads_above some (held_goes c true x.machine e fits))
-  held_coming its view c false e comes some fits stamped = coming_of its view f.phase comes stamped (force_above some (held_goes c false x.machine e fits))
+  held_coming : (its : Sight) (view : View) (c : CatchState) (is_refresh : Bool) → c.is_refresh ≡ is_refresh → its.coming ≡ Some view → 0 < own_epoch w.now.words session → FitsMachine (held_machine c) x.machine → HeldStamped its l f c is_refresh → Loaded view
+  held_coming its view c true e comes some fits stamped = coming_last its view comes stamped.1 some (held_goes c true x.machine e fits)
+  held_coming its view c false e comes some fits stamped = coming_in_force its view comes stamped some (held_goes c false x.machine e fits)
 
   catch_coming : (its : Sight) (view : View) (c : CatchState) (step : Catching) → its.coming ≡ Some view → FitsMachine (catch_machine c step) x.machine → (is_protected_catching step ≡ true → 0 < own_epoch w.now.words session)
-      → CatchStamped its l f c step → IsUnderWay step → epoch < view.stamp
+      → CatchStamped its l f c step → IsUnderWay step → Loaded view
   catch_coming its view c catching.Refreshes comes fits protects stamped under = refresh_coming its view c.refreshing comes (protects refl) fits stamped.1
   catch_coming its view c catching.Protects comes fits protects stamped under = protect_coming its view c.protecting comes fits stamped.1
   catch_coming its view c catching.StoresCut comes fits protects stamped under = held_coming its view c c.is_refresh refl comes (protects refl) fits stamped
   catch_coming its view c catching.StoresOwing comes fits protects stamped under = held_coming its view c c.is_refresh refl comes (protects refl) fits stamped
   catch_coming its view c (catching.Latches index) comes fits protects stamped under = held_coming its view c c.is_refresh refl comes (protects refl) fits stamped.0
-  catch_coming its view c catching.Finishes comes fits protects stamped under = coming_of its view l.phase comes stamped.1 (loads_above (protects refl) (refresh_goes c.refreshing x.machine fits))
+  catch_coming its view c catching.Finishes comes fits protects stamped under = coming_last its view comes stamped.1 (protects refl) (refresh_goes c.refreshing x.machine fits)
   catch_coming its view c catching.Ended comes fits protects stamped under = absurd under
 
-  pub coming_above : (its : Sight) (view : View) (s : SessionState) (step : Sitting) → its.coming ≡ Some view → Fits (sitting_likeness s step) x → (is_protected_at s step ≡ true → 0 < own_epoch w.now.words session)
-      → SittingStamped its l f s step → epoch < view.stamp
-  coming_above its view s (CatchesUp cause) comes fits protects stamped = catch_coming its view s.catching s.catching.step comes fits.machine protects stamped.0 stamped.1
-  coming_above its view s (Idle told) comes fits protects stamped = none_comes its view comes stamped.1
-  coming_above its view s (Attempts has_shifted) comes fits protects stamped = none_comes its view comes stamped.1
-  coming_above its view s ClearsMail comes fits protects stamped = none_comes its view comes stamped.1
-  coming_above its view s (Polls i) comes fits protects stamped = none_comes its view comes stamped.1
-  coming_above its view s (StoresOwing i) comes fits protects stamped = none_comes its view comes stamped.1
-  coming_above its view s (Turns told) comes fits protects stamped = none_comes its view comes stamped.1
-  coming_above its view s StoresCut comes fits protects stamped = none_comes its view comes stamped.1
-  coming_above its view s Leaves comes fits protects stamped = none_comes its view comes stamped.1
-  coming_above its view s LoadsDurable comes fits protects stamped = none_comes its view comes stamped.1
+  pub coming_loaded : (its : Sight) (view : View) (s : SessionState) (step : Sitting) → its.coming ≡ Some view → Fits (sitting_likeness s step) x → (is_protected_at s step ≡ true → 0 < own_epoch w.now.words session)
+      → SittingStamped its l f s step → Loaded view
+  coming_loaded its view s (CatchesUp cause) comes fits protects stamped = catch_coming its view s.catching s.catching.step comes fits.machine protects stamped.0 stamped.1
+  coming_loaded its view s (Idle told) comes fits protects stamped = none_comes its view comes stamped.1
+  coming_loaded its view s (Attempts has_shifted) comes fits protects stamped = none_comes its view comes stamped.1
+  coming_loaded its view s ClearsMail comes fits protects stamped = none_comes its view comes stamped.1
+  coming_loaded its view s (Polls i) comes fits protects stamped = none_comes its view comes stamped.1
+  coming_loaded its view s (StoresOwing i) comes fits protects stamped = none_comes its view comes stamped.1
+  coming_loaded its view s (Turns told) comes fits protects stamped = none_comes its view comes stamped.1
+  coming_loaded its view s StoresCut comes fits protects stamped = none_comes its view comes stamped.1
+  coming_loaded its view s Leaves comes fits protects stamped = none_comes its view comes stamped.1
+  coming_loaded its view s LoadsDurable comes fits protects stamped = none_comes its view comes stamped.1
 
 -- ---- over a life
-found_so : (opening : World) (events : List Event) (session : ℕ) (first : SessionState) → slice_get opening.now.sessions session ≡ Some first → sight_of opening events session ≡ sight_in opening session first events
+-- each stamp of a load since the raise of an epoch is above it
+force_above : (w : GuardWorld) (session epoch stamp : ℕ) → HaveLoadedSince w epoch → IsLoaded w session stamp (w.past.in_force session).phase → epoch < stamp
+unfolding InForceSinceRaise
+force_above w session epoch stamp since is = let high : epoch < (w.past.in_force session).phase = since.1 session OfPhase is.goes in let same = is.loaded in omega (arith, high, same)
+
+last_above : (w : GuardWorld) (session epoch stamp : ℕ) → HaveLoadedSince w epoch → IsLoaded w session stamp (w.past.loads session).phase → epoch < stamp
+unfolding SeenSinceRaise
+last_above w session epoch stamp since is = let high : epoch < (w.past.loads session).phase = since.0 session OfPhase is.goes in let same = is.loaded in omega (arith, high, same)
+
+either_above : (w : GuardWorld) (session epoch stamp : ℕ) → HaveLoadedSince w epoch → EitherLoaded w session stamp (w.past.loads session) (w.past.in_force session) → epoch < stamp
+either_above w session epoch stamp since (inl is) = last_above w session epoch stamp since is
+either_above w session epoch stamp since (inr is) = force_above w session epoch stamp since is
+
+pub found_so : (opening : World) (events : List Event) (session : ℕ) (first : SessionState) → slice_get opening.now.sessions session ≡ Some first → sight_of opening events session ≡ sight_in opening session first events
 found_so opening events session first found = ap (sight_found opening events session) found
 
 pub session_stamped : (opening : World) (start : ℕ) (events : List Event) (session : ℕ) (first its : SessionState) → guard.IsOpened opening.now start → HasBecome opening events session first its
@@ -209,13 +221,15 @@ pub safe_view : (opening : World) (start : ℕ) (events : List Event) (session :
 safe_view opening start events session first its epoch opened became live safe =
     let w : GuardWorld = seen_by_guard opening start events in
     let seat = (life_shows opening start events opened).sessions session its became.is_now in
-    view_above w session epoch seat.actor seat.sits.sound seat.sits.got seat.sits.below (life_safe_loaded opening start events epoch opened safe) (sight_of opening events session) its its.step seat.sits.fits seat.sits.protected
-    (session_stamped opening start events session first its opened became) live
+    force_above w session epoch _ (life_safe_loaded opening start events epoch opened safe)
+    (view_loaded w session seat.actor seat.sits.sound seat.sits.got seat.sits.below (w.past.loads session) (w.past.in_force session) (sight_of opening events session) its its.step seat.sits.fits seat.sits.protected
+    (session_stamped opening start events session first its opened became) live)
 
 pub safe_coming : (opening : World) (start : ℕ) (events : List Event) (session : ℕ) (first its : SessionState) (epoch : ℕ) (view : View) → guard.IsOpened opening.now start → HasBecome opening events session first its
     → (sight_of opening events session).coming ≡ Some view → epoch ≤ safe_of (run opening events).now.words → epoch < view.stamp
 safe_coming opening start events session first its epoch view opened became comes safe =
     let w : GuardWorld = seen_by_guard opening start events in
     let seat = (life_shows opening start events opened).sessions session its became.is_now in
-    coming_above w session epoch seat.actor seat.sits.sound seat.sits.got seat.sits.below (life_safe_loaded opening start events epoch opened safe) (sight_of opening events session) view its its.step comes seat.sits.fits seat.sits.protected
-    (session_stamped opening start events session first its opened became)
+    either_above w session epoch _ (life_safe_loaded opening start events epoch opened safe)
+    (coming_loaded w session seat.actor seat.sits.sound seat.sits.got seat.sits.below (w.past.loads session) (w.past.in_force session) (sight_of opening events session) view its its.step comes seat.sits.fits seat.sits.protected
+    (session_stamped opening start events session first its opened became))

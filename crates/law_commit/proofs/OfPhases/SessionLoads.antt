@@ -63,7 +63,7 @@ use Rattle.law_guard.specs.Sessions.Sessions.{leave_machine, session_guard_event
 use Rattle.law_guard.specs.Sessions.Steps.{GoesOn, Onward, Starts, Stays, changed_at, onward_events, outer_events}
 use Rattle.law_guard.specs.Sessions.Tries.{append_events, is_for_entry, publish_events, reserved_events, try_events, try_likeness_at}
 use Rattle.law_commit.specs.Phases.Stamped.{driven}
-use Rattle.law_commit.proofs.OfPhases.GuardLoads.{IsBlind, LoadsBy, blind_moved, idle_drives, own_moved, rest_blind, stay}
+use Rattle.law_commit.proofs.OfPhases.GuardLoads.{IsBlind, LoadsBy, blind_moved, idle_drives, own_moved, rest_blind, stay, tails_through}
 use Rattle.law_commit.proofs.OfPhases.SessionStamps.{IsPlain, sitting_driven}
 
 -- ---- they are none of another session
@@ -136,20 +136,20 @@ pub called_other : (k : Seat) (after : SessionState) (b : ℕ) → Some k.number
 called_other k after b other = only_onward k.number b other (sitting_onward after after.step)
 
 -- ---- what a session begins or lets go on changes no loads
-pub onward_loads : (w : GuardWorld) (a b : ℕ) (its : Onward) (events : List GuardEvent) (machine : Option EpochMachine) → LoadsBy w (guard_run w events) b machine → LoadsBy w (guard_run w (onward_events a its ++ events)) b machine
-unfolding guard_run guard_happens
+pub onward_loads : (w : GuardWorld) (a b : ℕ) (its : Onward) (events : List GuardEvent) (machine : Option EpochMachine) → LoadsBy w events b machine → LoadsBy w (onward_events a its ++ events) b machine
+unfolding guard_run guard_happens tails_through
 onward_loads w a b Stays events machine loads = loads
-onward_loads w a b (Starts task) events machine loads = record { loads = loads.loads; in_force = loads.in_force }
-onward_loads w a b GoesOn events machine loads = record { loads = loads.loads; in_force = loads.in_force }
+onward_loads w a b (Starts task) events machine loads = record { loads = loads.loads; in_force = loads.in_force; last_tail = loads.last_tail; tail_in_force = loads.tail_in_force }
+onward_loads w a b GoesOn events machine loads = record { loads = loads.loads; in_force = loads.in_force; last_tail = loads.last_tail; tail_in_force = loads.tail_in_force }
 
-pub called_loads : (w : GuardWorld) (k : Seat) (after : SessionState) (b : ℕ) → LoadsBy w (guard_run w (called_guard_events k after)) b None
-unfolding guard_run guard_happens
+pub called_loads : (w : GuardWorld) (k : Seat) (after : SessionState) (b : ℕ) → LoadsBy w (called_guard_events k after) b None
+unfolding guard_run guard_happens tails_through
 called_loads w k after b = by_onward (sitting_onward after after.step)
   where
-    by_onward : (its : Onward) → LoadsBy w (guard_run w (onward_events k.number its)) b None
+    by_onward : (its : Onward) → LoadsBy w (onward_events k.number its) b None
     by_onward Stays = stay w b
-    by_onward (Starts task) = record { loads = refl; in_force = refl }
-    by_onward GoesOn = record { loads = refl; in_force = refl }
+    by_onward (Starts task) = record { loads = refl; in_force = refl; last_tail = λ t. refl; tail_in_force = λ t. refl }
+    by_onward GoesOn = record { loads = refl; in_force = refl; last_tail = λ t. refl; tail_in_force = λ t. refl }
 
 -- ---- where it doesn't catch up, its machine loads none of them
 abbrev pub BlindOf : Option EpochMachine → Type 0
@@ -208,12 +208,12 @@ sitting_blind s step plain = tt
 
 module _ (w : GuardWorld) (a : ℕ) (x : Actor) (got : slice_get w.now.actors a ≡ Some x) where
   abbrev Stay : List GuardEvent → Type 0
-  Stay events = LoadsBy w (guard_run w events) a None
+  Stay events = LoadsBy w events a None
 
   changed_stay : (words : List ℕ) (at : Option ℕ) (f : ℕ → ℕ) → Stay (changed_at a words at f)
-  unfolding guard_run guard_happens
+  unfolding guard_run guard_happens tails_through
   changed_stay words None f = stay w a
-  changed_stay words (Some place) f = record { loads = refl; in_force = refl }
+  changed_stay words (Some place) f = record { loads = refl; in_force = refl; last_tail = λ t. refl; tail_in_force = λ t. refl }
 
   outer_stay : {A : Type 0} (words : List ℕ) (ask : Ask A) → Stay (outer_events a words ask)
   outer_stay words ask = changed_stay words (writes ask) (asked ask)
@@ -223,15 +223,14 @@ module _ (w : GuardWorld) (a : ℕ) (x : Actor) (got : slice_get w.now.actors a 
   either_stay false xs ys one two = two
 
   published_too : (events : List GuardEvent) → Stay events → Stay (guard.Publishes a ∷ events)
-  unfolding guard_run guard_happens
-  published_too events its = record { loads = its.loads; in_force = its.in_force }
+  unfolding guard_run guard_happens tails_through
+  published_too events its = record { loads = its.loads; in_force = its.in_force; last_tail = its.last_tail; tail_in_force = its.tail_in_force }
 
   updated_stay : (addr word : ℕ) → Stay (guard.Updates a addr word ∷ [])
-  unfolding guard_run guard_happens
-  updated_stay addr word = record { loads = refl; in_force = refl }
+  unfolding guard_run guard_happens tails_through
+  updated_stay addr word = record { loads = refl; in_force = refl; last_tail = λ t. refl; tail_in_force = λ t. refl }
 
   none_stay : Stay []
-  unfolding guard_run
   none_stay = stay w a
 
   module _ (blind : IsBlind x.machine) where
@@ -264,28 +263,28 @@ module _ (w : GuardWorld) (a : ℕ) (x : Actor) (got : slice_get w.now.actors a 
     attempted_stay room words p s step ask = outer_stay words ask
 
   -- ---- and where it catches up, it is that of the refresh or the wake
-  resting_stay : is_at_rest x.machine ≡ true → LoadsBy w (guard_run w (Moves a ∷ [])) a None
+  resting_stay : is_at_rest x.machine ≡ true → LoadsBy w (Moves a ∷ []) a None
   resting_stay rests = blind_moved w a x got (rest_blind x.machine rests)
 
-  driven_by : (machine : EpochMachine) → is_idle x.work ≡ true → x.machine ≡ machine → LoadsBy w (guard_run w (Moves a ∷ [])) a (Some machine)
-  driven_by machine idle same = subst (λ (m : EpochMachine). LoadsBy w (guard_run w (Moves a ∷ [])) a (Some m)) same (own_moved w a x got (idle_drives x.work idle))
+  driven_by : (machine : EpochMachine) → is_idle x.work ≡ true → x.machine ≡ machine → LoadsBy w (Moves a ∷ []) a (Some machine)
+  driven_by machine idle same = subst (λ (m : EpochMachine). LoadsBy w (Moves a ∷ []) a (Some m)) same (own_moved w a x got (idle_drives x.work idle))
 
-  refresh_loads : (step : Refreshing) → is_idle x.work ≡ true → FitsMachine (refresh_machine step) x.machine → LoadsBy w (guard_run w (Moves a ∷ [])) a (Some (epochs.Refreshes step))
-  refresh_loads refresh.AtRest idle fits = let its = resting_stay fits in record { loads = its.loads; in_force = its.in_force }
+  refresh_loads : (step : Refreshing) → is_idle x.work ≡ true → FitsMachine (refresh_machine step) x.machine → LoadsBy w (Moves a ∷ []) a (Some (epochs.Refreshes step))
+  refresh_loads refresh.AtRest idle fits = let its = resting_stay fits in record { loads = its.loads; in_force = its.in_force; last_tail = its.last_tail; tail_in_force = its.tail_in_force }
   refresh_loads step idle fits = driven_by (epochs.Refreshes step) idle fits
 
-  protect_loads : (step : Protecting) → is_idle x.work ≡ true → FitsMachine (protect_machine step) x.machine → LoadsBy w (guard_run w (Moves a ∷ [])) a (Some (epochs.Protects step))
-  protect_loads protect.AtRest idle fits = let its = resting_stay fits in record { loads = its.loads; in_force = its.in_force }
+  protect_loads : (step : Protecting) → is_idle x.work ≡ true → FitsMachine (protect_machine step) x.machine → LoadsBy w (Moves a ∷ []) a (Some (epochs.Protects step))
+  protect_loads protect.AtRest idle fits = let its = resting_stay fits in record { loads = its.loads; in_force = its.in_force; last_tail = its.last_tail; tail_in_force = its.tail_in_force }
   protect_loads step idle fits = driven_by (epochs.Protects step) idle fits
 
-  catch_loads : {A : Type 0} (words : List ℕ) (c : CatchState) (step : Catching) (ask : Ask A) → is_idle x.work ≡ true → FitsMachine (catch_machine c step) x.machine → LoadsBy w (guard_run w (catch_events a words step ask)) a (driven c step)
+  catch_loads : {A : Type 0} (words : List ℕ) (c : CatchState) (step : Catching) (ask : Ask A) → is_idle x.work ≡ true → FitsMachine (catch_machine c step) x.machine → LoadsBy w (catch_events a words step ask) a (driven c step)
   catch_loads words c catching.Refreshes ask idle fits = refresh_loads c.refreshing idle fits
   catch_loads words c catching.Protects ask idle fits = protect_loads c.protecting idle fits
   catch_loads words c catching.Finishes ask idle fits = refresh_loads c.refreshing idle fits
   catch_loads words c step ask idle fits = outer_stay words ask
 
 sat_loads : {A : Type 0} (w : GuardWorld) (k : Seat) (words : List ℕ) (x : Actor) (s : SessionState) (step : Sitting) (ask : Ask A) → slice_get w.now.actors k.number ≡ Some x → Fits (sitting_likeness s step) x
-    → LoadsBy w (guard_run w (sitting_events k words s step ask)) k.number (sitting_driven s step)
+    → LoadsBy w (sitting_events k words s step ask) k.number (sitting_driven s step)
 sat_loads w k words x s (Attempts has_shifted) ask got fits =
     attempted_stay w k.number x got (fits_blind _ x.machine fits.machine (sitting_blind s (Attempts has_shifted) tt)) (room_of k) words k.places s.attempt s.attempt.step ask
 sat_loads w k words x s (Polls index) ask got fits =
@@ -297,6 +296,6 @@ sat_loads w k words x s step ask got fits = outer_stay w k.number x got words as
 
 -- a session's own step
 pub session_loads : (w : GuardWorld) (k : Seat) (words : List ℕ) (x : Actor) (s after : SessionState) → slice_get w.now.actors k.number ≡ Some x → Fits (session_likeness s) x → is_done (session_ask k s) ≡ false
-    → LoadsBy w (guard_run w (session_guard_events k words s after)) k.number (sitting_driven s s.step)
+    → LoadsBy w (session_guard_events k words s after) k.number (sitting_driven s s.step)
 session_loads w k words x s after got fits asks =
     rw asks (onward_loads w k.number k.number (sitting_onward after after.step) (sitting_events k words s s.step (session_ask k s)) (sitting_driven s s.step) (sat_loads w k words x s s.step (session_ask k s) got fits))

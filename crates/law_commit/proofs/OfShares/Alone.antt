@@ -1,6 +1,6 @@
 -- No session that takes up prepare meets a latch that is held alone.
 use Rattle.std.proofs.Common.{◌≡◌, ◌⊎◌, inl, inr, ℕ, ◌+◌, ◌*◌, ◌<◌, ◌≤◌, ◌∙◌, refl, sym, ap, subst, arith, List, [], Bool, true, false}
-use Rattle.std.specs.Prelude.{Option, Some, None, ◌==◌, ◌&&◌, not}
+use Rattle.std.specs.Prelude.{Option, Some, None, ◌==◌, ◌&&◌, nat_lt, not}
 use Rattle.std.proofs.lemmas.Bool.Decides.{nat_tests}
 use Rattle.fkv_base.specs.declared.numbers.Version.{Version}
 use Rattle.fkv_base.specs.declared.phases.Phase.{Phase}
@@ -59,15 +59,18 @@ use Rattle.law_commit.specs.Floor.Stands.{HasFloor, OpensSeen, PaperHasFloor, Pa
 use Rattle.law_commit.specs.PhaseVersions.{NoneIsAhead, phase_version}
 use Rattle.law_commit.specs.Phases.Projected.{is_coming, paper_view}
 use Rattle.law_commit.specs.Phases.Staged.{Stage}
+use Rattle.law_commit.specs.Quiet.{rank_now}
 use Rattle.law_commit.specs.Ranks.{rank}
-use Rattle.law_commit.specs.Shares.Alone.{HoldsAloneBetween, HoldsAloneByRank, MeetsNoneAlone}
+use Rattle.law_commit.specs.Shares.Alone.{BitIsPastPrepare, HoldsAloneBetween, HoldsAloneByRank, MeetsNoneAlone}
 use Rattle.law_commit.specs.Shares.Tries.{SharesAttempting, SharesInHand, SharesInTries, SharesSo, SharesTrying}
 use Rattle.law_commit.specs.Views.{IsComing, IsTakenFrom, Sight, TakesUp, View, rank_of, sight_found, sight_in, sight_of}
 use Rattle.law_commit.proofs.Measured.{ComesBetween}
 use Rattle.law_commit.proofs.Rising.{life_rise, of_version}
 use Rattle.law_commit.proofs.Sights.{coming_seen, view_seen}
+use Rattle.law_commit.proofs.OfFloor.LifeFloor.{LifeFloored}
 use Rattle.law_commit.proofs.OfFloor.Stands.{few_stages, has_floor, life_floored}
 use Rattle.law_commit.proofs.OfPhases.LifeStages.{life_staged, none_ahead}
+use Rattle.law_commit.proofs.OfQuiet.Ranks.{staged_rank}
 use Rattle.law_commit.proofs.OfShares.AttemptsMove.{AttemptMoving}
 use Rattle.law_commit.proofs.OfShares.Enters.{CatchEnters, IsSharing, SomeWait}
 use Rattle.law_commit.proofs.OfShares.Holders.{no_bit}
@@ -373,3 +376,52 @@ alone_by_rank paper_sound paper_floor opening start events session place first i
     let view : View = (sight_of opening events session).view in
     subst (λ (v : Version). IsBetween (rank_of view) v.0) (sym saw.version)
     (rank_between lived.number.0 view.phase view.version.0 lived.its.staged.fits.some floor.rest (subst (λ (phase : Phase). is_moving_on phase ≡ true) saw.phase holds.0))
+
+-- ---- where a latch has bit 63
+never_between : (number : Version) (stage : Stage) (phase : Phase) (version own : ℕ) → 0 < number.0 → 5 * own + 1 ≤ 5 * number.0 + stage_number stage → 5 * number.0 + stage_number stage ≤ 5 * own + 1 → 5 * number.0 ≤ 5 * own + 2
+    → rank phase version ≤ 5 * number.0 + stage_number stage → 5 * number.0 ≤ rank phase version + 1 → is_moving_on phase ≡ true → ⊥
+never_between number stage InProgress version own some up down near low rest e = let few = few_stages stage in omega (arith, few, some, up, down, near, low, rest)
+never_between number stage WaitPending version own some up down near low rest e = let few = few_stages stage in omega (arith, few, some, up, down, near, low, rest)
+never_between number stage Rest version own some up down near low rest e = cc
+never_between number stage Prepare version own some up down near low rest e = cc
+never_between number stage WaitFlush version own some up down near low rest e = cc
+
+pub bit_past_prepare : PaperIsSound → PaperHasFloor → ShowsLatches → CountsLatches → BitIsPastPrepare
+bit_past_prepare paper_sound paper_floor shows counted opening start events session place first its guarded held opens became awake prepares has bit = by_test (nat_lt (5 * its.seen.version.0 + 1) (rank_now opening events)) refl
+  where
+    lived : LifeFloored opening start events
+    lived = life_floored opening start events guarded became.opened opens paper_sound
+
+    top : rank_now opening events ≡ 5 * lived.number.0 + stage_number lived.stage
+    top = staged_rank (run opening events).now lived.number lived.stage lived.its.staged
+
+    own : HasFloor lived.number lived.stage (sight_of opening events session).view
+    own = has_floor opening start events lived.number lived.stage lived.p lived.its paper_floor session first its became awake
+
+    own_rank : rank_of (sight_of opening events session).view ≡ 5 * its.seen.version.0 + 1
+    own_rank =
+        let saw = view_seen opening events session first its became in
+        let phase : (sight_of opening events session).view.phase ≡ Prepare = sym saw.phase ∙ prepare_is its.seen.phase prepares in
+        ap (λ (x : Phase). rank x (sight_of opening events session).view.version.0) phase ∙ ap (λ (v : Version). 5 * v.0 + 1) (sym saw.version)
+
+    none : rank_now opening events ≤ 5 * its.seen.version.0 + 1 → (other : ℕ) (was holder : SessionState) → HasBecome opening events other was holder → is_moving_on holder.seen.phase ≡ true → holder.is_awake ≡ true → ⊥
+    none near other was holder here moves up =
+        let floor = has_floor opening start events lived.number lived.stage lived.p lived.its paper_floor other was holder here up in
+        let saw = view_seen opening events other was holder here in
+        let view : View = (sight_of opening events other).view in
+        let low = own.low in
+        let rest = own.rest in
+        never_between lived.number lived.stage view.phase view.version.0 its.seen.version.0 lived.its.staged.fits.some (omega (arith, low, own_rank)) (omega (arith, near, top)) (omega (arith, rest, own_rank)) floor.low floor.rest
+        (subst (λ (phase : Phase). is_moving_on phase ≡ true) saw.phase moves)
+
+    by_test : (b : Bool) → nat_lt (5 * its.seen.version.0 + 1) (rank_now opening events) ≡ b → 5 * its.seen.version.0 + 1 < rank_now opening events
+    by_test true e = grind (arith, nat_tests, e)
+    by_test false e =
+        let near : rank_now opening events ≤ 5 * its.seen.version.0 + 1 = grind (arith, nat_tests, e) in
+        let clear = no_bit opening events place became.opened (shows opening events held) (counted opening events held) has
+        (λ other was holder here. (
+          λ alone. let holds = alone_between opening start events other place was holder guarded here alone in none near other was holder here holds.0 holds.1,
+          λ drops. let holds = drops_between opening start events other place was holder guarded here drops in none near other was holder here holds.0 holds.1,
+        )) in
+        let clash : true ≡ false = sym bit ∙ clear in
+        cc

@@ -59,7 +59,7 @@ still_enters : (p : Places) (seen : Seen) (requests : List PendingRequest) (c : 
 still_enters p seen requests c step s knows = subst (λ (x : Catching). CatchEnters p seen requests c x) (sym s) knows
 
 -- a bucket of the index has a latch
-bucket_latch : (p : Places) (bucket : ℕ) → bucket < p.buckets → has_latch p (bucket_place p bucket 7) ≡ true
+pub bucket_latch : (p : Places) (bucket : ℕ) → bucket < p.buckets → has_latch p (bucket_place p bucket 7) ≡ true
 bucket_latch p bucket low = let within : (bucket_place p bucket 7 - bucket_place p 0 0) % 8 ≡ 7 = omega arith in grind (arith, nat_tests, low, within)
 
 some_wait : (requests : List PendingRequest) (i : ℕ) (pending : PendingRequest) → slice_get requests i ≡ Some pending → SomeWait requests

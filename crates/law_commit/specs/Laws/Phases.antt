@@ -6,6 +6,7 @@ use Rattle.fkv_world.specs.Opened.{HasBecome, IsOpenedWorld}
 use Rattle.fkv_world.specs.Runs.{World, run}
 use Rattle.fkv_world.specs.World.{Event}
 use Rattle.law_guard.specs.Guarded.Shows.{IsOpened, seen_by_guard}
+use Rattle.law_refine.specs.Events.GhostEvents.{safe_at}
 use Rattle.law_commit.specs.Phases.Projected.{ShowsSessions, sessions_opened}
 use Rattle.law_commit.specs.PhaseVersions.{HasRisingPhase, RestsAreNext}
 use Rattle.law_commit.specs.Phases.Staged.{HasStage, OpensAtRest}
@@ -29,6 +30,24 @@ abbrev pub ComingIsAboveSafe : Type 0
 ComingIsAboveSafe =
     (opening : World) (start : ℕ) (events : List Event) (session : ℕ) (first its : SessionState) (epoch : ℕ) (view : View) → IsOpened opening.now start → HasBecome opening events session first its
     → (sight_of opening events session).coming ≡ Some view → epoch ≤ safe_of (run opening events).now.words → epoch < view.stamp
+
+-- the safe read-only offset is at or below the tail that each live session has seen with its phase
+abbrev pub IsSafeBelowViews : World → List Event → Type 0
+IsSafeBelowViews opening events =
+    (session : ℕ) (first its : SessionState) → HasBecome opening events session first its → its.is_awake ≡ true → safe_at (run opening events).now ≤ (sight_of opening events session).view.tail
+
+abbrev pub SafeIsBelowViews : Type 0
+SafeIsBelowViews =
+    (opening : World) (start : ℕ) (events : List Event) → IsOpened opening.now start → IsSafeBelowViews opening events
+
+-- and the tail of the view that is coming to a session, awake or not
+abbrev pub IsSafeBelowComing : World → List Event → Type 0
+IsSafeBelowComing opening events =
+    (session : ℕ) (first its : SessionState) (view : View) → HasBecome opening events session first its → (sight_of opening events session).coming ≡ Some view → safe_at (run opening events).now ≤ view.tail
+
+abbrev pub SafeIsBelowComing : Type 0
+SafeIsBelowComing =
+    (opening : World) (start : ℕ) (events : List Event) → IsOpened opening.now start → IsSafeBelowComing opening events
 
 -- a session is live where it is awake
 abbrev pub LiveIsAwake : Type 0

@@ -1,8 +1,9 @@
 -- When a session may hold a latch alone, and what a session never meets that takes up prepare.
 use Rattle.std.specs.Prelude.{◌≡◌, ◌<◌, ℕ, true, false, List}
+use Rattle.fkv_base.specs.declared.phases.Phase.TheVariants.{Prepare}
 use Rattle.fkv_latch.specs.Latching.{is_exclusive}
-use Rattle.fkv_latch.specs.LatchWorld.{times}
-use Rattle.fkv_ops.specs.Trying.{is_moving_on}
+use Rattle.fkv_latch.specs.LatchWorld.{has_latch, times}
+use Rattle.fkv_ops.specs.Trying.{is_moving_on, is_prepare}
 use Rattle.fkv_plane.specs.declared.asks.Ask.TheVariants.{Add}
 use Rattle.fkv_plane.specs.Asked.{word_at}
 use Rattle.fkv_session.specs.declared.sessions.CatchCause.{CatchCause}
@@ -16,6 +17,8 @@ use Rattle.law_paper.specs.Apart.{IsBetween}
 use Rattle.law_parts.specs.Latches.Latchers.{session_alone}
 use Rattle.law_parts.specs.Latches.Shows as latches
 use Rattle.law_commit.specs.Floor.Stands.{OpensSeen}
+use Rattle.law_commit.specs.Quiet.{rank_now}
+use Rattle.law_commit.specs.Ranks.{rank}
 use Rattle.law_commit.specs.Views.{rank_of, sight_of}
 
 -- A session that holds a latch alone is awake, and goes by in-progress or wait-pending.
@@ -36,3 +39,10 @@ MeetsNoneAlone =
     (opening : World) (start : ℕ) (events : List Event) (session place number : ℕ) (first its : SessionState) (cause : CatchCause) → guard.IsOpened opening.now start → latches.IsOpened opening.now → OpensSeen opening.now
     → HasBecome opening events session first its → its.step ≡ CatchesUp cause → session_ask (seat_at (run opening events).now session) its ≡ Add place number
     → is_exclusive (word_at (run opening events).now.words place) ≡ false
+
+-- Where the word of a latch has bit 63, the phase word has come further than the prepare by which a live session goes.
+abbrev pub BitIsPastPrepare : Type 0
+BitIsPastPrepare =
+    (opening : World) (start : ℕ) (events : List Event) (session place : ℕ) (first its : SessionState) → guard.IsOpened opening.now start → latches.IsOpened opening.now → OpensSeen opening.now → HasBecome opening events session first its
+    → its.is_awake ≡ true → is_prepare its.seen.phase ≡ true → has_latch (run opening events).now.places place ≡ true → is_exclusive (word_at (run opening events).now.words place) ≡ true
+    → rank Prepare its.seen.version.0 < rank_now opening events

@@ -4,11 +4,14 @@ use Rattle.fkv_world.specs.Runs.{run}
 use Rattle.law_apart.specs.Apart.Rows.{AttemptApart, PendingApart}
 use Rattle.law_local.proofs.OfSessions.Known.{opened_known}
 use Rattle.law_order.specs.Apart.Laws.{BeginsApart}
+use Rattle.law_order.proofs.OfShifts.First.{none_first}
 use Rattle.law_order.specs.Known.Begins.{home_of_world}
 use Rattle.law_refine.specs.Events.GhostEvents.{life_ghosts}
 
 pub begins_apart : BeginsApart
 unfolding run
-begins_apart life session s found =
-    opened_known (PendingApart (home_of_world life.opening) (life_ghosts life.opening life.ghosts []).log) (λ a. AttemptApart (home_of_world life.opening) life.opening.now.places (life_ghosts life.opening life.ghosts []).log a a.step) s
-    (life.begins.world.sessions session s found)
+begins_apart life session s found = record {
+  none = none_first life.opening;
+  rows = opened_known (PendingApart (home_of_world life.opening) (life_ghosts life.opening life.ghosts []).log) (λ a. AttemptApart (home_of_world life.opening) life.opening.now.places (life_ghosts life.opening life.ghosts []).log a a.step) s
+      (life.begins.world.sessions session s found);
+}

@@ -40,7 +40,7 @@ use Rattle.law_log.specs.Enabled.{AreEnabled}
 use Rattle.law_log.specs.Ghosts.{Log}
 use Rattle.law_log.proofs.Shown.{Grows, Held, enabled_before}
 use Rattle.law_order.specs.Apart.Given.{Given}
-use Rattle.law_order.specs.Apart.Lives.{AllApartBehind, OpensApart}
+use Rattle.law_order.specs.Apart.Lives.{AllApartBehind, NoneHasShifted, OpensApart}
 use Rattle.law_order.specs.Known.Begins.{BegunLife, home_of_world}
 use Rattle.law_order.specs.Known.Knows.{AllKnowBehind}
 use Rattle.law_order.specs.Known.Told.{AreToldTruly, reply_in}
@@ -57,7 +57,7 @@ use Rattle.law_refine.proofs.OfSeen.There.{there_before}
 
 module _ (given : Given) (life : BegunLife) (apart : OpensApart life) (before : List Event) (event : Event)
     (enabled : AreEnabled (home_of_world life.opening) life.ghosts (mapped life.opening (event ∷ before))) (known : AllKnowBehind life.opening life.ghosts before)
-    (told : AreToldTruly (home_of_world life.opening) (life_ghosts life.opening life.ghosts before).log (run life.opening before).now) (all_apart : AllApartBehind life.opening life.ghosts before) where
+    (told : AreToldTruly (home_of_world life.opening) (life_ghosts life.opening life.ghosts before).log (run life.opening before).now) (none : NoneHasShifted life.opening (event ∷ before)) (all_apart : AllApartBehind life.opening life.ghosts before) where
   abbrev W : World
   W = run life.opening before
 
@@ -171,8 +171,8 @@ module _ (given : Given) (life : BegunLife) (apart : OpensApart life) (before : 
     -- where it makes no step
     stays_apart : Knows L' s
     stays_apart = record {
-      waiting = λ index pending got other. waiting_on index pending got other ((all_apart session s was).waiting index pending got other);
-      attempted = λ attempts. attempting_on attempts ((all_apart session s was).attempted attempts);
+      waiting = λ index pending got other. waiting_on index pending got other ((all_apart session s was).rows.waiting index pending got other);
+      attempted = λ attempts. attempting_on attempts ((all_apart session s was).rows.attempted attempts);
     }
 
     -- ---- by an event of its own
@@ -244,10 +244,10 @@ module _ (given : Given) (life : BegunLife) (apart : OpensApart life) (before : 
           latched cause i at takes index pending got update =
               along (λ log. NoneIsLater H log pending.request) (Unit {0}) (H (key_in pending.request)) pending.request.version.0 (λ log log' is grows raises so. stays.none_stays H life.map log log' is grows pending.request (raises tt) so)
               (λ unit. caught_none cause at (H (key_in pending.request)) pending.request.version.0)
-              (λ updates. none_said given life apart before enabled_so (H (key_in pending.request)) pending.request.version.0 (let is : pending.request.version.0 ≡ phase_version N.words = update_at (λ (v : ℕ). v ≡ phase_version N.words) s.requests index pending got (given.owed.latches life.opening life.start before session became_so.0 s cause i apart.quiet became_so.1 at takes) updates in omega (arith, is))) update
+              (λ updates. none_said given life apart before enabled_so (H (key_in pending.request)) pending.request.version.0 (let is : pending.request.version.0 ≡ phase_version N.words = update_at (λ (v : ℕ). v ≡ phase_version N.words) s.requests index pending got (given.latches life.opening life.start before session became_so.0 s cause i apart.quiet became_so.1 at takes) updates in omega (arith, is))) update
 
       replied : (after : SessionState) → after ≡ session_next K s reply → Knows L' after
-      replied after is = subst (Knows L') (sym is) (step_apart H K L L' s reply facts (all_apart session s was))
+      replied after is = subst (Knows L') (sym is) (step_apart H K L L' s reply facts (all_apart session s was).rows)
 
       moved : (after : SessionState) → after ≡ (session_moved K (near N s)).machine → (calm : Bool) → is_calm s.step ≡ calm → Knows L' after
       moved after is true e = subst (Knows L') (sym is) (calm_known (PendingApart H L') (λ a. AttemptApart H N.places L' a a.step) K (near N s) e stays_apart)
@@ -270,4 +270,4 @@ module _ (given : Given) (life : BegunLife) (apart : OpensApart life) (before : 
   unfolding run
   apart_goes_on session after is_now =
       let s = there_before W event session after is_now in
-      subst (λ (p : Places). SessionApart H p L' after) (places_stay life.opening before ∙ sym (places_stay life.opening (event ∷ before))) (goes session s.0 s.1 after is_now)
+      record { none = none; rows = subst (λ (p : Places). SessionApart H p L' after) (places_stay life.opening before ∙ sym (places_stay life.opening (event ∷ before))) (goes session s.0 s.1 after is_now) }

@@ -34,7 +34,7 @@ use Rattle.fkv_world.specs.Runs.{run}
 use Rattle.fkv_world.specs.World.{Event, Now, seat_at}
 use Rattle.fkv_world.proofs.Shown.{places_stay, shape_stays}
 use Rattle.fkv_epoch.proofs.Shown.{none_some, some_same}
-use Rattle.law_apart.specs.Apart.Rows.{AttemptApart, CopiesApart, CopiesRow, MovesOn, SessionApart, TryApart}
+use Rattle.law_apart.specs.Apart.Rows.{AttemptApart, CopiesApart, CopiesRow, MovesOn, TryApart}
 use Rattle.law_apart.proofs.OfApart.Raises.{StandsAlready}
 use Rattle.law_changes.proofs.OfSessions.Attempting.{life_attempts}
 use Rattle.law_local.specs.Sessions.Inputs.{AttemptsBy, IsTryFor, TriesFor}
@@ -47,7 +47,7 @@ use Rattle.law_log.specs.Ghosts.{Log}
 use Rattle.law_log.specs.Enabled.{AreChains}
 use Rattle.law_log.specs.Trace.{IsIn}
 use Rattle.law_order.specs.Apart.Given.{Given}
-use Rattle.law_order.specs.Apart.Lives.{OpensApart}
+use Rattle.law_order.specs.Apart.Lives.{KeepsApart, OpensApart}
 use Rattle.law_order.specs.Known.Begins.{BegunLife, home_of_world}
 use Rattle.law_order.specs.Known.Knows.{SessionKnows}
 use Rattle.law_order.proofs.OfApart.Along.{PublishesApart}
@@ -148,7 +148,7 @@ module _ (given : Given) (life : BegunLife) (apart : OpensApart life) (before : 
     pub left : gone_now < w
     pub held : 0 < session_held (seat_at N session) (latch_of N.places N.shape.bucket_bits op) state state.step
 
-  module _ (number : ℕ) (s : SessionState) (found : slice_get N.sessions number ≡ Some s) (known : SessionKnows H L s) (is_apart : SessionApart H N.places L s) (chains : AreChains H L) where
+  module _ (number : ℕ) (s : SessionState) (found : slice_get N.sessions number ≡ Some s) (known : SessionKnows H L s) (is_apart : KeepsApart life.opening life.ghosts before s) (chains : AreChains H L) where
     -- the record that it makes
     module _ (making : Makes s) where
       abbrev t : TryState
@@ -203,7 +203,7 @@ module _ (given : Given) (life : BegunLife) (apart : OpensApart life) (before : 
           by_phase true e =
               let so = moves_so (is_moving_on s.seen.phase) request.version.0 s.seen.version.0 e in
               let moves : MovesOn t = (subst (λ (x : Seen). is_moving_on x.phase ≡ true) (sym same_seen) so.0, ap (λ (r : Request). r.version.0) row.its_request ∙ so.1 ∙ sym (ap (λ (x : Seen). x.version.0) same_seen)) in
-              let attempted = is_apart.attempted making.attempts in
+              let attempted = is_apart.rows.attempted making.attempts in
               let copies : CopiesApart H L t = subst (CopiesRow H L t) making.appends (trial_apart attempted).copies in
               elim (copies moves) [
                 | inl alone ↦ absurd (never_alone sharer.op sharer.session sharer.state sharer.got (here ∙ sharer.its_home) alone sharer.held)

@@ -34,7 +34,7 @@ use Rattle.fkv_world.specs.Opened.{HasBecome}
 use Rattle.fkv_world.specs.Runs.{run}
 use Rattle.fkv_world.specs.World.{Event, Now}
 use Rattle.fkv_world.proofs.Shown.{shape_stays}
-use Rattle.law_apart.specs.Apart.Rows.{AttemptApart, IsLater, SearchTells, SessionApart, TellsApart, TellsSharer, TryApart, is_linking, is_lost}
+use Rattle.law_apart.specs.Apart.Rows.{AttemptApart, IsLater, SearchTells, TellsApart, TellsSharer, TryApart, is_linking, is_lost}
 use Rattle.law_apart.proofs.OfApart.Links.{full_links}
 use Rattle.law_apart.proofs.OfApart.Tries.{sharers_pass}
 use Rattle.law_changes.proofs.OfSessions.Attempting.{attempting_is}
@@ -64,7 +64,7 @@ use Rattle.law_log.specs.Ghosts.{Log}
 use Rattle.law_log.specs.Trace.{IsIn}
 use Rattle.law_log.proofs.Shown.{Held, run_held}
 use Rattle.law_order.specs.Apart.Given.{Given}
-use Rattle.law_order.specs.Apart.Lives.{OpensApart}
+use Rattle.law_order.specs.Apart.Lives.{KeepsApart, OpensApart}
 use Rattle.law_order.specs.Known.Begins.{BegunLife, home_of_world}
 use Rattle.law_order.specs.Known.Knows.{SessionKnows}
 use Rattle.law_order.specs.Known.Told.{reply_in}
@@ -122,7 +122,7 @@ module _ (given : Given) (life : BegunLife) (apart : OpensApart life) (before : 
   opens_log = record { guarded = life.begins.store.now; opened = life.begins.world; rests = apart.quiet.seen.rests; unborn = life.begins.unborn; upto = apart.upto }
 
   -- no record is of a later version than the phase word's
-  version_low : (a : ℕ) → version_at (L.cells a) ≤ phase_version N.words
+  pub version_low : (a : ℕ) → version_at (L.cells a) ≤ phase_version N.words
   version_low a = by_cell (L.cells a) refl
     where
       by_cell : (logged : Logged) → L.cells a ≡ logged → version_at logged ≤ phase_version N.words
@@ -134,7 +134,7 @@ module _ (given : Given) (life : BegunLife) (apart : OpensApart life) (before : 
   pub none_said : (h w : ℕ) → phase_version N.words ≤ w → NoneAbove L h w
   none_said h w high a is_in = let low = version_low a in omega (arith, low, high)
 
-  module _ (session : ℕ) (s : SessionState) (is_there : slice_get N.sessions session ≡ Some s) (attempts : is_attempting s.step ≡ true) (tries : s.attempt.step ≡ Tries) (known : SessionKnows H L s) (is_apart : SessionApart H N.places L s) where
+  module _ (session : ℕ) (s : SessionState) (is_there : slice_get N.sessions session ≡ Some s) (attempts : is_attempting s.step ≡ true) (tries : s.attempt.step ≡ Tries) (known : SessionKnows H L s) (is_apart : KeepsApart life.opening life.ghosts before s) where
     abbrev t : TryState
     t = s.attempt.trial
 
@@ -142,7 +142,7 @@ module _ (given : Given) (life : BegunLife) (apart : OpensApart life) (before : 
     row = subst (AttemptRow H L s.attempt) tries (known.attempted attempts).row
 
     pub trial_apart : TryApart H L t
-    trial_apart = (subst (AttemptApart H N.places L s.attempt) tries (is_apart.attempted attempts)).0
+    trial_apart = (subst (AttemptApart H N.places L s.attempt) tries (is_apart.rows.attempted attempts)).0
 
     became_so : (first : SessionState) × HasBecome life.opening before session first s
     became_so = became given life apart before session s is_there
@@ -178,7 +178,7 @@ module _ (given : Given) (life : BegunLife) (apart : OpensApart life) (before : 
             by_version false e =
                 let upto = attempt_upto given.floors given.left life.opening life.start before apart.quiet session became_so.0 s became_so.1 attempts updates in
                 let older : s.attempt.pending.request.version.0 < s.seen.version.0 = grind (arith, nat_tests, e, upto) in
-                clash (so.kept (given.owed.older life.opening life.start before session became_so.0 s apart.quiet.guarded apart.latches apart.quiet.seen became_so.1 (given.owed.shifts life before session became_so.0 apart became_so.1.was) attempts tries updates older))
+                clash (so.kept (given.older life.opening life.start before session became_so.0 s apart.quiet.guarded apart.latches apart.quiet.seen became_so.1 (is_apart.none session became_so.0 became_so.1.was) attempts tries updates older))
 
     pub unshared_none : SharesSo s.seen t → t.has_shared ≡ false → NoneIsLater H L t.request
     unshared_none so unshared update =
@@ -195,7 +195,7 @@ module _ (given : Given) (life : BegunLife) (apart : OpensApart life) (before : 
             let head : head_in t.seen ≤ L.fixed = subst (λ (x : Seen). head_in x ≤ L.fixed) (sym same_seen) (life_head_fixed life.opening life.start life.ghosts before session s life.begins.store.now life.begins.fixed is_there) in
             let fixed = ghost_fixed life.opening life.start life.ghosts before life.begins.store.now life.begins.fixed in
             let live = awake given.floors given.left life.opening life.start before apart.quiet session became_so.0 s became_so.1 attempts in
-            let safe = given.owed.safe life.opening life.start before session became_so.0 s apart.quiet became_so.1 live in
+            let safe = given.safe life.opening life.start before apart.quiet.guarded session became_so.0 s became_so.1 live in
             let seen : IsOlder (sight_of life.opening before session).view L = (sees_older life.opening life.start life.ghosts before session became_so.0 s opens_log became_so.1).view in
             let cell = held.chains.in_chain (H (key_in t.request)) a later.0 in
             let older = seen a cell.cell.version (omega (arith, low, head, fixed, safe)) (ap made_in cell.its) in

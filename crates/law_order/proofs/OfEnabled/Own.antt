@@ -1,23 +1,26 @@
--- That a session's own events in the log are enabled, beside a life without commits.
+-- That a session's own events in the log are enabled.
 use Rattle.std.proofs.Common.{◌≡◌, ℕ, ◌≤◌, ◌∙◌, List, [], ◌∷◌, ◌++◌, refl, arith, ap, sym, subst, Bool, true, false}
 use Rattle.std.specs.Prelude.{map, ◌==◌, if◌then◌else◌, Option, Some, None, slice_get}
-use Rattle.fkv_base.specs.declared.numbers.Version.{Version}
 use Rattle.fkv_epoch.proofs.Shown.{none_some}
 use Rattle.fkv_ops.specs.declared.requests.Request.{Request}
 use Rattle.fkv_ops.specs.declared.requests.Seen.{Seen}
-use Rattle.law_log.specs.Ghosts.{Log, Ghosts, GhostEvent, Fixes, Tells}
+use Rattle.law_log.specs.Ghosts.{Ghosts, GhostEvent, Fixes, Tells}
 use Rattle.law_log.specs.Enabled.{AreEnabled, NoneAbove, NoneCopies}
 use Rattle.law_log.specs.Trace.{TraceLine}
 use Rattle.fkv_plane.specs.declared.asks.Ask.{Ask}
 use Rattle.fkv_plane.specs.declared.asks.Ask.TheVariants.{Put, Take, Done}
 use Rattle.fkv_plane.specs.Asked.{asked, asked_place, reply_to, word_found}
+use Rattle.fkv_pending.specs.declared.attempting.Attempting.{Attempting}
+use Rattle.fkv_pending.specs.declared.attempting.Attempting.TheVariants.{Tries}
+use Rattle.fkv_pending.specs.Attempting.{AttemptState}
 use Rattle.fkv_session.specs.declared.answers.Told.{Told}
 use Rattle.fkv_session.specs.declared.sessions.Sitting.{Sitting}
 use Rattle.fkv_session.specs.declared.sessions.Sitting.TheVariants.{Attempts, Polls}
 use Rattle.fkv_session.specs.Sessions.{SessionState, Seat, session_ask, session_next}
+use Rattle.law_guard.specs.Sessions.InPlace.{attempt_changes, sitting_changes, try_changes}
 use Rattle.law_local.specs.Sessions.Inputs.{AttemptsBy}
 use Rattle.law_local.specs.Sessions.Known.{is_attempting}
-use Rattle.law_local.specs.Tries.AttemptRows.{IsTrueOfAttempt}
+use Rattle.law_local.specs.Tries.AttemptRows.{AttemptRow, IsTrueOfAttempt, TriesFor}
 use Rattle.law_local.specs.Tries.Changes.{IsAlone}
 use Rattle.law_local.specs.Tries.TryRows.{key_in}
 use Rattle.fkv_world.specs.Runs.{World, happens, run}
@@ -25,9 +28,9 @@ use Rattle.fkv_world.specs.World.{Event, Calls, Moves, Commits, Turns, KeeperMov
 use Rattle.law_refine.specs.Heads.Heads.{AllMeetHeads}
 use Rattle.law_refine.proofs.OfHeads.LifeHeads.{life_meets}
 use Rattle.law_order.specs.Known.Begins.{BegunLife, home_of_world}
-use Rattle.law_order.specs.Known.Knows.{AreKnown}
+use Rattle.law_order.specs.Known.Knows.{AllKnowBehind, AreKnown}
 use Rattle.law_order.specs.Known.Told.{AreToldTruly}
-use Rattle.law_refine.specs.Events.Effects.{mover_step, step_at}
+use Rattle.law_refine.specs.Events.Effects.{PublishesIt, Stepped, mover_step, step_at}
 use Rattle.law_refine.specs.Events.GhostEvents.{fixed_ghosts, ghost_events, life_ghosts, mapped, moved_ghosts, own_ghosts, safe_at, serials_in, traced_by}
 use Rattle.law_refine.specs.Events.Lines.{lines_added}
 use Rattle.law_refine.specs.Events.Reservations.{Reservation}
@@ -41,12 +44,9 @@ use Rattle.law_refine.proofs.OfEvents.ReservedLife.{life_reserved}
 use Rattle.law_refine.specs.Records.Changes.{AreChangesPublished}
 use Rattle.law_refine.specs.Records.Frames.{IsAttempting}
 use Rattle.law_refine.proofs.OfRecords.FrameOwners.{sees_safely}
-use Rattle.law_order.specs.Rest.Logs.{CellsRest}
-use Rattle.law_order.specs.Rest.Resting.{HasNoCommit}
-use Rattle.law_order.specs.Rest.Sessions.{SitsAtRest}
-use Rattle.law_order.proofs.OfRest.Lives.{life_cells}
-use Rattle.law_order.proofs.OfRest.Worlds.{life_rests}
-use Rattle.law_order.proofs.OfRest.Cells.{none_above, none_above_reserved, none_copies}
+use Rattle.law_order.specs.Apart.Given.{Given}
+use Rattle.law_order.specs.Apart.Lives.{AllApartBehind, OpensApart}
+use Rattle.law_order.proofs.OfApart.Beside.{changes_none, publishes_none}
 use Rattle.law_changes.proofs.OfSessions.Attempting.{life_attempts}
 use Rattle.law_order.proofs.OfKnown.Newest.{known_now}
 use Rattle.law_order.proofs.OfEnabled.InHand.{made_in_hand}
@@ -59,23 +59,25 @@ seen_at k s (Attempts has_shifted) so e = so.goes.its_seen
 seen_at k s (Polls index) so e = so.goes.its_seen
 seen_at k s step so e = cc
 
-pub version_at : (version : Version) (s : SessionState) (step : Sitting) → SitsAtRest version s step → is_attempting step ≡ true → s.attempt.pending.request.version ≡ version
-version_at version s (Attempts has_shifted) sits e = sits.goes.1.0
-version_at version s (Polls index) sits e = sits.goes.1.0
-version_at version s step sits e = cc
+-- what changes a record in place is a try
+attempt_tries : (a : AttemptState) (step : Attempting) (at : ℕ) → a.step ≡ step → attempt_changes a step ≡ Some at → (a.step ≡ Tries) × (try_changes a.trial.step ≡ Some at)
+attempt_tries a Tries at is e = (is, e)
+attempt_tries a step at is e = none_some at e
+
+pub sitting_tries : (s : SessionState) (step : Sitting) (at : ℕ) → sitting_changes s step ≡ Some at → (s.attempt.step ≡ Tries) × (try_changes s.attempt.trial.step ≡ Some at)
+sitting_tries s (Attempts has_shifted) at e = attempt_tries s.attempt s.attempt.step at refl e
+sitting_tries s (Polls index) at e = attempt_tries s.attempt s.attempt.step at refl e
+sitting_tries s step at e = none_some at e
+
+pub sitting_attempts : (s : SessionState) (step : Sitting) (at : ℕ) → sitting_changes s step ≡ Some at → is_attempting step ≡ true
+sitting_attempts s (Attempts has_shifted) at e = refl
+sitting_attempts s (Polls index) at e = refl
+sitting_attempts s step at e = none_some at e
 
 attempting : (step : Sitting) → is_attempting step ≡ true → IsAttempting step
 attempting (Attempts has_shifted) e = tt
 attempting (Polls index) e = tt
 attempting step e = cc
-
--- ---- no copy overlaps a change in place, where the request is of the version that all that is made is of
-none_overlap : (home : ℕ → ℕ) (log : Log) (request : Request) (seen : Seen) (version : Version) (at : ℕ) → log.fixed ≤ seen.offsets.read_only.0 → request.version ≡ version → CellsRest version.0 log.cells → IsAlone home log request seen at
-none_overlap home log request seen version at low same rests = record {
-  not_fixed = low;
-  newest = subst (λ (v : Version). NoneAbove log (home (key_in request)) v.0) (sym same) (none_above version.0 log (home (key_in request)) rests);
-  no_copies = subst (λ (v : Version). NoneCopies home log at v.0) (sym same) (none_copies version.0 home log at rests);
-}
 
 -- ---- lists of the log's events
 no_fix_enabled : (home : ℕ → ℕ) (g : Ghosts) (before safe : ℕ) (events : List GhostEvent) → AreEnabled home g events → AreEnabled home g (fixed_ghosts before safe ++ events)
@@ -104,7 +106,8 @@ step_reserves n (KeeperMoves granted done) its reserved = none_some its reserved
 step_reserves n Crashes its reserved = none_some its reserved
 
 module _ (life : BegunLife) (before : List Event)
-    (none : HasNoCommit before) (published : AreChangesPublished life.opening life.ghosts before) (known : AreKnown life.opening life.ghosts before)
+    (given : Given) (opens : OpensApart life) (enabled : AreEnabled (home_of_world life.opening) life.ghosts (mapped life.opening before)) (all_apart : AllApartBehind life.opening life.ghosts before)
+    (published : AreChangesPublished life.opening life.ghosts before) (known : AreKnown life.opening life.ghosts before)
     (told : AreToldTruly (home_of_world life.opening) (life_ghosts life.opening life.ghosts before).log (run life.opening before).now) where
   abbrev W : World
   W = run life.opening before
@@ -118,8 +121,24 @@ module _ (life : BegunLife) (before : List Event)
   abbrev H : ℕ → ℕ
   H = home_of_world life.opening
 
-  cells_rest : CellsRest life.version.0 G.log.cells
-  cells_rest = life_cells life.opening life.start life.version life.ghosts before life.begins.store.now life.begins.rests none life.begins.cells
+  all_know : AllKnowBehind life.opening life.ghosts before
+  all_know session s found = known_now life.opening life.ghosts before known session s found
+
+  -- ---- a record that is published stands above all others of its home
+  abbrev AboveAll : Stepped → Type 0
+  AboveAll its_step = (its : Reservation) → PublishesIt its_step its → NoneAbove G.log (H its.cell.key) its.cell.version
+
+  mover_above : (session : ℕ) (found : Option SessionState) → slice_get N.sessions session ≡ found → AboveAll (mover_step N session found)
+  mover_above session None e = λ its publishes. none_some its publishes.reserved
+  mover_above session (Some s) e = λ its publishes. publishes_none given life opens before enabled all_know all_apart session s e its publishes
+
+  step_above : (event : Event) → AboveAll (step_at N event)
+  step_above (Moves session) = mover_above session (slice_get N.sessions session) refl
+  step_above (Calls session call) = λ its publishes. none_some its publishes.reserved
+  step_above (Commits kind) = λ its publishes. none_some its publishes.reserved
+  step_above Turns = λ its publishes. none_some its publishes.reserved
+  step_above (KeeperMoves granted done) = λ its publishes. none_some its publishes.reserved
+  step_above Crashes = λ its publishes. none_some its publishes.reserved
 
   -- ---- what takes effect by an event
   event_takes : (event : Event) → AreTakesEnabled H G (ghost_events (serials_in life.opening.now) W event)
@@ -130,7 +149,7 @@ module _ (life : BegunLife) (before : List Event)
       let meets : AllMeetHeads H life.ghosts (events ++ mapped life.opening before) = life_meets life.opening life.start life.lists life.ghosts (event ∷ before) life.begins.store.now life.begins.index life.begins.unborn life.begins.reserves life.begins.heads in
       takes_enabled H G (step_at N event) events makes.made makes.takes (meets_then H life.ghosts events (mapped life.opening before) meets)
       (λ its reserved. life_reserved life.opening life.start life.ghosts before life.begins.store.now life.begins.unborn life.begins.reserves (step_reserves N event its reserved).0 its (step_reserves N event its reserved).1)
-      (λ a entry cell there. none_above_reserved life.version.0 G.log (H cell.key) a entry cell cells_rest there)
+      (step_above event)
       (λ entry is. made_in_hand life before event makes.made (step_at N event).version entry published makes.history is)
 
   own_takes : (event : Event) → N.crashed ≡ false → AreTakesEnabled H G (own_ghosts W event)
@@ -155,14 +174,20 @@ module _ (life : BegunLife) (before : List Event)
       ghost_unborn life.opening life.start life.ghosts before life.begins.store.now life.begins.unborn a (omega (arith, same)))
 
   -- ---- a session's step
-  none_beside : (session : ℕ) (s : SessionState) → slice_get N.sessions session ≡ Some s → is_attempting s.step ≡ true → (at : ℕ) → IsAlone H G.log s.attempt.pending.request s.attempt.seen at
-  none_beside session s found attempts at =
+  none_beside : (session : ℕ) (s : SessionState) → slice_get N.sessions session ≡ Some s → is_attempting s.step ≡ true → (at : ℕ) → sitting_changes s s.step ≡ Some at → IsAlone H G.log s.attempt.pending.request s.attempt.seen at
+  none_beside session s found attempts at changes =
       let fixed : G.log.fixed ≡ safe_at N = ghost_fixed life.opening life.start life.ghosts before life.begins.store.now life.begins.fixed in
       let safe : safe_at N ≤ s.seen.offsets.read_only.0 = (sees_safely life.opening life.start before session s life.begins.store.now found (attempting s.step attempts)).read_only in
       let seen : s.attempt.seen ≡ s.seen = seen_at (seat_at life.opening.now session) s s.step (life_attempts life.opening before session s life.begins.world found) attempts in
       let low : G.log.fixed ≤ s.seen.offsets.read_only.0 = omega (arith, fixed, safe) in
-      none_overlap H G.log s.attempt.pending.request s.attempt.seen life.version at (subst (λ (x : Seen). G.log.fixed ≤ x.offsets.read_only.0) (sym seen) low)
-      (version_at life.version s s.step ((life_rests life.opening life.start life.version before life.begins.store.now life.begins.rests none).sessions session s found).sits attempts) cells_rest
+      let tries = sitting_tries s s.step at changes in
+      let row : TriesFor H G.log s.attempt.pending s.attempt.seen s.attempt.trial = subst (AttemptRow H G.log s.attempt) tries.0 ((all_know session s found).attempted attempts).row in
+      let none = changes_none given life opens before enabled all_know all_apart session s found attempts tries.0 at tries.1 in
+      record {
+        not_fixed = subst (λ (x : Seen). G.log.fixed ≤ x.offsets.read_only.0) (sym seen) low;
+        newest = subst (λ (r : Request). NoneAbove G.log (H (key_in r)) r.version.0) row.its_request none.0;
+        no_copies = subst (λ (r : Request). NoneCopies H G.log at r.version.0) row.its_request none.1;
+      }
 
   step_enabled : (session : ℕ) (s : SessionState) → slice_get N.sessions session ≡ Some s → (ask : Ask Told) → session_ask (seat_at N session) s ≡ ask
       → AreTakesEnabled H G (step_ghosts (seat_at N session) W.past.trace s N.words ask) → AreEnabled H G (step_ghosts (seat_at N session) W.past.trace s N.words ask)
@@ -191,10 +216,10 @@ module _ (life : BegunLife) (before : List Event)
   events_enabled event alive = event_enabled event (own_takes event alive)
 
 pub own_enabled : (life : BegunLife) (before : List Event) (event : Event)
-    → HasNoCommit (event ∷ before) → AreEnabled (home_of_world life.opening) life.ghosts (mapped life.opening before)
+    → Given → OpensApart life → AllApartBehind life.opening life.ghosts before → AreEnabled (home_of_world life.opening) life.ghosts (mapped life.opening before)
     → AreChangesPublished life.opening life.ghosts before → AreKnown life.opening life.ghosts before → AreToldTruly (home_of_world life.opening) (life_ghosts life.opening life.ghosts before).log (run life.opening before).now
     → (run life.opening before).now.crashed ≡ false
     → AreEnabled (home_of_world life.opening) (life_ghosts life.opening life.ghosts before) (fixed_ghosts (safe_at (run life.opening before).now) (safe_at (run life.opening (event ∷ before)).now) ++ own_ghosts (run life.opening before) event)
-own_enabled life before event none enabled published known told alive =
+own_enabled life before event given opens all_apart enabled published known told alive =
     no_fix_enabled (home_of_world life.opening) (life_ghosts life.opening life.ghosts before) (safe_at (run life.opening before).now) (safe_at (run life.opening (event ∷ before)).now) (own_ghosts (run life.opening before) event)
-    (events_enabled life before none.1 published known told event alive)
+    (events_enabled life before given opens enabled all_apart published known told event alive)

@@ -2,12 +2,12 @@
 use Rattle.std.proofs.Common.{◌≡◌, ℕ, List, [], ◌∷◌, ◌++◌, refl, sym, subst}
 use Rattle.std.specs.Prelude.{⊤, Option, Some}
 use Rattle.fkv_map.specs.declared.history.HistoryEntry.{HistoryEntry}
-use Rattle.law_log.specs.Chains.{Cell, Unborn, Reserved as HoldsReserved}
+use Rattle.law_log.specs.Chains.{Unborn, Reserved as HoldsReserved}
 use Rattle.law_log.specs.Ghosts.{Log, Ghosts, GhostEvent, Reserves, Publishes, Changes, ghost_run}
 use Rattle.law_log.specs.Enabled.{IsInHand, NoneAbove, IsPublishEnabled}
 use Rattle.law_log.proofs.Shown.{run_on}
 use Rattle.law_refine.specs.Heads.Heads.{AllMeetHeads, IsAtHead, meets_head}
-use Rattle.law_refine.specs.Events.Effects.{AreQuiet, Behind, ByRecord, InPlace, Quietly, Stepped, TakesEffect, is_quiet}
+use Rattle.law_refine.specs.Events.Effects.{AreQuiet, Behind, ByRecord, InPlace, PublishesIt, Quietly, Stepped, TakesEffect, is_quiet}
 use Rattle.law_refine.specs.Events.Reservations as moved
 use Rattle.law_refine.specs.Events.Reservations.{AreStill, DropsOne, Keeps, LosesOne, MovesOn, PublishesOne, Reservation, TakesOne, TakesTail, is_still}
 
@@ -37,7 +37,7 @@ published_enabled home g its meets there above in_hand = subst (IsPublishEnabled
 
 pub takes_enabled : (home : ℕ → ℕ) (g : Ghosts) (its_step : Stepped) (events : List GhostEvent) (made : Option HistoryEntry) → TakesEffect its_step events made → AllMeetHeads home g events
     → ((its : Reservation) → its_step.reserved ≡ Some its → g.log.cells its.addr ≡ HoldsReserved its.entry its.cell)
-    → ((a : ℕ) (entry : HistoryEntry) (cell : Cell) → g.log.cells a ≡ HoldsReserved entry cell → NoneAbove g.log (home cell.key) cell.version)
+    → ((its : Reservation) → PublishesIt its_step its → NoneAbove g.log (home its.cell.key) its.cell.version)
     → ((entry : HistoryEntry) → made ≡ Some entry → IsInHand g entry) → AreTakesEnabled home g events
 unfolding AllMeetHeads ghost_run
 takes_enabled home g its_step events made (Quietly its quiet) meets reserved above in_hand = all_quiet_enabled home g its quiet
@@ -45,7 +45,7 @@ takes_enabled home g its_step events made (Behind event quiet rest) meets reserv
 takes_enabled home g its_step events made (InPlace a entry changes) meets reserved above in_hand = (in_hand entry refl, tt)
 takes_enabled home g its_step events made (ByRecord its publishes) meets reserved above in_hand =
     let there : g.log.cells its.addr ≡ HoldsReserved its.entry its.cell = reserved its publishes.reserved in
-    (published_enabled home g its meets.0 there (above its.addr its.entry its.cell there) (in_hand its.entry refl), tt)
+    (published_enabled home g its meets.0 there (above its publishes) (in_hand its.entry refl), tt)
 
 pub behind_enabled : (home : ℕ → ℕ) (g : Ghosts) (later before : List GhostEvent) → AreTakesEnabled home g (later ++ before) → AreTakesEnabled home g before
 behind_enabled home g [] before enabled = enabled

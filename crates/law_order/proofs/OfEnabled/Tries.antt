@@ -1,6 +1,6 @@
 -- That the log's events of a session's step are enabled, by what its attempt knows and is told.
 use Rattle.std.proofs.Common.{◌≡◌, ℕ, List, [], ◌∷◌, ◌++◌, ◌<◌, refl, ap, sym, subst, Bool, true, false, eqb-true}
-use Rattle.std.specs.Prelude.{◌==◌, if◌then◌else◌, None}
+use Rattle.std.specs.Prelude.{◌==◌, if◌then◌else◌, Some, None}
 use Rattle.fkv_base.specs.declared.numbers.Addr.{Addr}
 use Rattle.fkv_map.specs.declared.history.HistoryEntry.{HistoryEntry}
 use Rattle.fkv_map.specs.declared.operations.Op.{Op}
@@ -53,6 +53,7 @@ use Rattle.law_local.specs.Tries.TryRows.{IsEntryOf, TryKnows, cell_of}
 use Rattle.law_local.proofs.OfTries.Changes.{cas_enabled, reserve_enabled, swap_enabled}
 use Rattle.fkv_world.specs.Past.{Traced}
 use Rattle.law_refine.specs.Events.Appends.{append_ghosts, entry_made, invalidate_ghosts, publish_ghosts, reserved_ghosts}
+use Rattle.law_guard.specs.Sessions.InPlace.{attempt_changes, sitting_changes, try_changes}
 use Rattle.law_guard.specs.Sessions.Tries.{is_for_entry}
 use Rattle.law_refine.specs.Events.Lines.{read_in_hand, read_waiting}
 use Rattle.law_refine.specs.Events.Sessions.{attempt_ghosts, sitting_ghosts, ticket_of, tried_ghosts, value_ghosts}
@@ -121,7 +122,7 @@ change_enabled : (home : ℕ → ℕ) (g : Ghosts) (a word : ℕ) (entry : Histo
 change_enabled home g a word entry enabled in_hand = subst (IsChangeEnabled home g a entry) (sym enabled.its) (enabled.change, in_hand)
 
 module _ (home : ℕ → ℕ) (g : Ghosts) (p : Places) (room session reader : ℕ) (pending : PendingRequest) (t : TryState) (knows : TryKnows home g.log t) (same : t.request ≡ pending.request)
-    (alone : (at : ℕ) → IsAlone home g.log t.request t.seen at) where
+    (alone : (at : ℕ) → try_changes t.step ≡ Some at → IsAlone home g.log t.request t.seen at) where
   its_entry : (its : Reply) → IsEntryOf t.request.op its (entry_made session pending its)
   its_entry its = (ap (λ (r : Request). r.op) (sym same), refl)
 
@@ -131,7 +132,7 @@ module _ (home : ℕ → ℕ) (g : Ghosts) (p : Places) (room session reader : �
   try_enabled (SwapsValue addr) reply says at ready = (
     tt,
     change_enabled home g addr.0 _ (entry_made session pending (reply_from None t.request.op))
-        (swap_enabled home g.log t addr (entry_made session pending (reply_from None t.request.op)) knows at (its_entry (reply_from None t.request.op)) (alone addr.0)) ready.takes.0,
+        (swap_enabled home g.log t addr (entry_made session pending (reply_from None t.request.op)) knows at (its_entry (reply_from None t.request.op)) (alone addr.0 (ap try_changes at))) ready.takes.0,
   )
   try_enabled (ChangesValue addr old) reply says at ready = by_test (reply == old) refl ready
     where
@@ -140,7 +141,7 @@ module _ (home : ℕ → ℕ) (g : Ghosts) (p : Places) (room session reader : �
       by_test true won its = (
         tt,
         change_enabled home g addr.0 _ (entry_made session pending (reply_from (value_of old) t.request.op))
-            (cas_enabled home g.log p t addr old reply (entry_made session pending (reply_from (value_of old) t.request.op)) knows says at (eqb-true reply old won) (its_entry (reply_from (value_of old) t.request.op)) (alone addr.0)) its.takes.0,
+            (cas_enabled home g.log p t addr old reply (entry_made session pending (reply_from (value_of old) t.request.op)) knows says at (eqb-true reply old won) (its_entry (reply_from (value_of old) t.request.op)) (alone addr.0 (ap try_changes at))) its.takes.0,
       )
       by_test false won its = tt
   try_enabled (Appends its) reply says at ready = append_enabled home g p room t its (entry_made session pending its) t.append.step reply knows says at (its_entry its) refl ready
@@ -154,16 +155,16 @@ value_behind home g (Read key) reader (Done answer.Absent) rest enabled = (enabl
 value_behind home g op reader ask rest enabled = enabled
 
 tried_enabled : (home : ℕ → ℕ) (g : Ghosts) (k : Seat) (reader : ℕ) (a : AttemptState) (step : Attempting) (reply : ℕ) → AttemptRow home g.log a step → IsTrueOfAttempt home g.log k.places a step reply
-    → ((at : ℕ) → IsAlone home g.log a.pending.request a.seen at) → IsReady home g (tried_ghosts k reader a step reply) → AreEnabled home g (tried_ghosts k reader a step reply)
+    → ((at : ℕ) → attempt_changes a step ≡ Some at → IsAlone home g.log a.pending.request a.seen at) → IsReady home g (tried_ghosts k reader a step reply) → AreEnabled home g (tried_ghosts k reader a step reply)
 unfolding AreEnabled
 tried_enabled home g k reader a Tries reply row says alone ready =
     try_enabled home g k.places (room_of k) k.number reader a.pending a.trial row.knows row.its_request
-    (λ at. subst (λ (request : Request). IsAlone home g.log request a.trial.seen at) (sym row.its_request) (subst (λ (seen : Seen). IsAlone home g.log a.pending.request seen at) (sym row.its_seen) (alone at)))
+    (λ at changes. subst (λ (request : Request). IsAlone home g.log request a.trial.seen at) (sym row.its_request) (subst (λ (seen : Seen). IsAlone home g.log a.pending.request seen at) (sym row.its_seen) (alone at changes)))
     a.trial.step reply says refl ready
 tried_enabled home g k reader a step reply row says alone ready = tt
 
 attempt_enabled : (home : ℕ → ℕ) (g : Ghosts) (k : Seat) (reader : ℕ) (a : AttemptState) (reply : ℕ) → AttemptKnows home g.log a → IsTrueOfAttempt home g.log k.places a a.step reply
-    → ((at : ℕ) → IsAlone home g.log a.pending.request a.seen at) → IsReady home g (attempt_ghosts k reader a reply) → AreEnabled home g (attempt_ghosts k reader a reply)
+    → ((at : ℕ) → attempt_changes a a.step ≡ Some at → IsAlone home g.log a.pending.request a.seen at) → IsReady home g (attempt_ghosts k reader a reply) → AreEnabled home g (attempt_ghosts k reader a reply)
 attempt_enabled home g k reader a reply knows says alone ready =
     let ask : Ask TryAnswer = attempt_ask k.places k.number (attempt_next k.places (bits_of k) (room_of k) k.number a reply) in
     value_behind home g a.pending.request.op reader ask (tried_ghosts k reader a a.step reply)
@@ -171,7 +172,7 @@ attempt_enabled home g k reader a reply knows says alone ready =
 
 -- ---- a session
 pub sitting_enabled : (home : ℕ → ℕ) (g : Ghosts) (k : Seat) (trace : List Traced) (s : SessionState) (step : Sitting) (reply : ℕ) → (is_attempting step ≡ true → AttemptKnows home g.log s.attempt)
-    → (is_attempting step ≡ true → IsTrueOfAttempt home g.log k.places s.attempt s.attempt.step reply) → (is_attempting step ≡ true → (at : ℕ) → IsAlone home g.log s.attempt.pending.request s.attempt.seen at)
+    → (is_attempting step ≡ true → IsTrueOfAttempt home g.log k.places s.attempt s.attempt.step reply) → (is_attempting step ≡ true → (at : ℕ) → sitting_changes s step ≡ Some at → IsAlone home g.log s.attempt.pending.request s.attempt.seen at)
     → IsReady home g (sitting_ghosts k trace s step reply) → AreEnabled home g (sitting_ghosts k trace s step reply)
 unfolding AreEnabled
 sitting_enabled home g k trace s (Attempts has_shifted) reply knows says alone ready = attempt_enabled home g k (read_in_hand k.number trace) s.attempt reply (knows refl) (says refl) (alone refl) ready

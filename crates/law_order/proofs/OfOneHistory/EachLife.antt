@@ -11,10 +11,13 @@ use Rattle.fkv_world.specs.World.{Event, Now}
 use Rattle.law_order.specs.Known.Begins.{BeginsLife, BegunLife}
 use Rattle.law_order.specs.Known.Told.{TicketsAreApart}
 use Rattle.law_order.specs.Ordered.Keeps.{KeepsOrder}
-use Rattle.law_order.specs.Rest.Resting.{HasNoCommit}
+use Rattle.law_order.specs.Apart.Given.{Given}
+use Rattle.law_order.specs.Apart.Lives.{OpensApart}
+use Rattle.law_order.specs.Rules.Openings.{OpensItsEnds, OpensItsVersions}
+use Rattle.law_parts.specs.Latches.Shows as latches
 use Rattle.law_order.specs.Served.Fits.{CallsFit, CellsFit}
 use Rattle.law_order.proofs.OfTickets.Life.{tickets_apart}
-use Rattle.law_order.specs.OneHistory.EachLife.{InEachLife, WithoutCommits}
+use Rattle.law_order.specs.OneHistory.EachLife.{InEachLife}
 
 -- what a life begins with
 abbrev pub LivesBegin : Type 0
@@ -27,11 +30,17 @@ OpeningsFit = (bytes : List ℕ) (o : Opened) → IsStoreOf bytes o → CellsFit
 
 -- and that it keeps to its rules
 abbrev pub LivesKeepOrder : Type 0
-LivesKeepOrder = (life : BegunLife) (events : List Event) → CellsFit life.ghosts.log → HasNoCommit events → CallsFit events → TicketsAreApart life.opening events
+LivesKeepOrder = (life : BegunLife) (events : List Event) → Given → OpensApart life → CellsFit life.ghosts.log → CallsFit events → TicketsAreApart life.opening events
     → KeepsOrder life.opening life.ghosts events
 
-pub of_each_life : (P : Opened → Now → List ℕ → List Event → Type 0) → LivesBegin → OpeningsFit → LivesKeepOrder → OfEachKept P → InEachLife (WithoutCommits P)
-of_each_life P lives fit keep kept = λ its is none.
+-- what it begins with besides
+pub record OpensSo : Type 0 where
+  pub ends : OpensItsEnds
+  pub versions : OpensItsVersions
+  pub latches : (o : Opened) (n : Now) → IsOpeningWorld o n → latches.IsOpened n
+
+pub of_each_life : (P : Opened → Now → List ℕ → List Event → Type 0) → LivesBegin → OpensSo → Given → OpeningsFit → LivesKeepOrder → OfEachKept P → InEachLife P
+of_each_life P lives opens given fit keep kept = λ its is.
     let n : Now = its.world in
     let bytes : List ℕ = its.bytes in
     let o : Opened = its.opened in
@@ -45,6 +54,7 @@ of_each_life P lives fit keep kept = λ its is none.
       ghosts = opening_ghosts bytes o;
       begins = lives bytes o n is.store is.begins;
     } in
+    let apart : OpensApart life = record { quiet = opens.ends bytes o n is.store is.begins; latches = opens.latches o n is.begins; upto = (opens.versions bytes o n is.store is.begins).upto } in
     let keeps : KeepsOrder (beginning n bytes) (opening_ghosts bytes o) its.events =
-    keep life its.events (fit bytes o is.store) none is.fits (tickets_apart (beginning n bytes) its.events life.begins.world is.few) in
+    keep life its.events given apart (fit bytes o is.store) is.fits (tickets_apart (beginning n bytes) its.events life.begins.world is.few) in
     kept bytes o n its.events is.store is.begins keeps.enabled keeps.published

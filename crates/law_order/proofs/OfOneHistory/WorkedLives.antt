@@ -10,9 +10,8 @@ use Rattle.fkv_session.specs.Sessions.{SessionState}
 use Rattle.fkv_world.specs.World.{Now}
 use Rattle.law_commit.specs.WorkedRuns.{resting_keeper}
 use Rattle.law_refine.specs.Events.Worked.{adds_5, gives_70, worked_events}
-use Rattle.law_order.specs.OneHistory.EachLife.{InEachLife, IsLife, Life, WithoutCommits}
+use Rattle.law_order.specs.OneHistory.EachLife.{InEachLife, IsLife, Life}
 use Rattle.law_order.specs.OneHistory.NewLives.{BeginsAsWorked, IsOrderedLife, WorkedLife}
-use Rattle.law_order.specs.Rest.Resting.{HasNoCommit}
 use Rattle.law_order.specs.Rules.InTime.{ReadsInTime}
 use Rattle.law_order.specs.Rules.Ordered.{HasLegalHistory, IsGuarded, OrdersItsCalls, ReadsFreshly, RunsActionsOnce}
 use Rattle.law_order.specs.Served.Fits.{CallsFit}
@@ -23,20 +22,20 @@ use Rattle.law_order.proofs.OfOneHistory.WorkedWorld.{places, shape, world_opens
 
 -- what the order law says of each life
 pub record OrderLaw : Type 0 where
-  pub legal : InEachLife (WithoutCommits HasLegalHistory)
-  pub ordered : InEachLife (WithoutCommits OrdersItsCalls)
-  pub fresh : InEachLife (WithoutCommits ReadsFreshly)
-  pub in_time : InEachLife (WithoutCommits ReadsInTime)
-  pub guarded : InEachLife (WithoutCommits IsGuarded)
+  pub legal : InEachLife HasLegalHistory
+  pub ordered : InEachLife OrdersItsCalls
+  pub fresh : InEachLife ReadsFreshly
+  pub in_time : InEachLife ReadsInTime
+  pub guarded : InEachLife IsGuarded
   pub once : InEachLife RunsActionsOnce
 
-ordered_life : OrderLaw → (its : Life) → IsLife its → HasNoCommit its.events → IsOrderedLife its
-ordered_life law its is rests = record {
-  legal = law.legal its is rests;
-  ordered = law.ordered its is rests;
-  fresh = law.fresh its is rests;
-  in_time = law.in_time its is rests;
-  guarded = law.guarded its is rests;
+ordered_life : OrderLaw → (its : Life) → IsLife its → IsOrderedLife its
+ordered_life law its is = record {
+  legal = law.legal its is;
+  ordered = law.ordered its is;
+  fresh = law.fresh its is;
+  in_time = law.in_time its is;
+  guarded = law.guarded its is;
   once = law.once its is;
 }
 
@@ -52,9 +51,6 @@ gives_fit = (omega arith, omega arith)
 
 fits : CallsFit worked_events
 fits = (tt, (tt, (tt, (tt, (tt, (tt, (reads_fit, (tt, (tt, (tt, (adds_fit, (tt, (tt, (tt, (tt, (tt, (tt, (tt, (tt, (gives_fit, tt))))))))))))))))))))
-
-rests : HasNoCommit worked_events
-rests = (refl, (refl, (refl, (refl, (refl, (refl, (refl, (refl, (refl, (refl, (refl, (refl, (refl, (refl, (refl, (refl, (refl, (refl, (refl, (refl, tt))))))))))))))))))))
 
 few : HasFewCalls worked_events
 few = omega arith
@@ -96,7 +92,6 @@ worked_life worlds created opened holds law =
       its = its;
       begins = as_worked its life made new n.keeper s refl;
       events = refl;
-      rests = rests;
       effects = worked_effects keeper s s bytes;
-      ordered = ordered_life law its life rests;
+      ordered = ordered_life law its life;
     }

@@ -1,4 +1,4 @@
--- Every life without commits keeps order, by one induction over its events.
+-- Every life keeps order, by one induction over its events.
 use Rattle.std.proofs.Common.{◌≡◌, ℕ, refl, sym, subst, Bool, true, false, List, [], ◌∷◌}
 use Rattle.law_log.specs.Ghosts.{Ghosts}
 use Rattle.law_log.specs.Enabled.{AreEnabled}
@@ -16,8 +16,14 @@ use Rattle.law_order.proofs.OfEnabled.Changes.{changes_published}
 use Rattle.law_order.proofs.OfEnabled.Own.{own_enabled}
 use Rattle.law_order.proofs.OfReads.LifeReads.{answers_enabled, reads_begin_so, reads_go_on}
 use Rattle.law_refine.specs.Records.Changes.{AreChangesPublished}
-use Rattle.law_order.specs.Rest.Resting.{HasNoCommit}
+use Rattle.law_order.specs.Apart.Given.{Given}
+use Rattle.law_order.specs.Apart.Lives.{NoneHasShifted, OpensApart}
+use Rattle.law_order.proofs.OfApart.Begins.{begins_apart}
+use Rattle.law_order.proofs.OfApart.GoesOn.{apart_goes_on}
+use Rattle.law_order.proofs.OfKnown.Newest.{known_now}
 use Rattle.law_order.proofs.OfRows.Rows.{rows_go_on}
+use Rattle.law_order.proofs.OfShifts.First.{none_first}
+use Rattle.law_order.proofs.OfShifts.Life.{AllShiftSo, none_then, shifts_first, shifts_then}
 use Rattle.law_order.specs.Served.Fits.{CallsFit, CellsFit}
 use Rattle.law_order.specs.Served.Served.{ServedShow}
 use Rattle.law_changes.proofs.OfDevice.There.{CallsLaw}
@@ -35,6 +41,7 @@ begins_ordered life = record {
   published = tt;
   known = begun_known life;
   reads = reads_begin_so life;
+  apart = begins_apart life;
 }
 
 -- ---- what is known at each moment so far, and at the next one
@@ -47,7 +54,7 @@ unfolding TicketsAreApart
 apart_before opening before event apart = apart.0
 
 -- ---- by the next event
-module _ (calls : CallsLaw) (words : WordsLaw) (life : BegunLife) (cells : CellsFit life.ghosts.log) where
+module _ (calls : CallsLaw) (words : WordsLaw) (given : Given) (life : BegunLife) (opens : OpensApart life) (cells : CellsFit life.ghosts.log) where
   abbrev H : ℕ → ℕ
   H = home_of_world life.opening
 
@@ -59,10 +66,10 @@ module _ (calls : CallsLaw) (words : WordsLaw) (life : BegunLife) (cells : Cells
       (looks_true life before its.enabled its.published its.known served)
 
   -- All that the event is to the log is enabled: what its session does there, and the lines that it tells. After a crash it is nothing.
-  event_enabled : (before : List Event) (event : Event) → HasNoCommit (event ∷ before) → TicketsAreApart life.opening (event ∷ before) → KeepsOrder life.opening life.ghosts before
+  event_enabled : (before : List Event) (event : Event) → TicketsAreApart life.opening (event ∷ before) → KeepsOrder life.opening life.ghosts before
       → AreToldTruly H (life_ghosts life.opening life.ghosts before).log (run life.opening before).now
       → AreChangesPublished life.opening life.ghosts (event ∷ before) → AreEnabled H life.ghosts (mapped life.opening (event ∷ before))
-  event_enabled before event none apart its truly published = by_crash (run life.opening before).now.crashed refl
+  event_enabled before event apart its truly published = by_crash (run life.opening before).now.crashed refl
     where
       answered : EachAnswered H (acted_ghosts life.opening life.ghosts before event) (event_adds life.opening before event)
       answered = answers_enabled life before event its.enabled its.known apart truly its.reads
@@ -71,22 +78,44 @@ module _ (calls : CallsLaw) (words : WordsLaw) (life : BegunLife) (cells : Cells
       by_crash true over = subst (AreEnabled H life.ghosts) (sym (mapped_crashed life.opening before event over)) its.enabled
       by_crash false alive =
           lines_enabled life before event its.enabled published
-          (own_enabled life before event none its.enabled its.published its.known truly alive)
+          (own_enabled life before event given opens its.apart its.enabled its.published its.known truly alive)
           answered
 
-  pub goes_on : (before : List Event) (event : Event) → HasNoCommit (event ∷ before) → CallsFit (event ∷ before) → TicketsAreApart life.opening (event ∷ before) → KeepsOrder life.opening life.ghosts before
+  -- and no attempt has shifted for good
+  record Going (events : List Event) : Type 0 where
+    order : KeepsOrder life.opening life.ghosts events
+    shifts : AllShiftSo life.opening events
+    none : NoneHasShifted life.opening events
+
+  ordered_on : (before : List Event) (event : Event) → CallsFit (event ∷ before) → TicketsAreApart life.opening (event ∷ before) → NoneHasShifted life.opening (event ∷ before) → KeepsOrder life.opening life.ghosts before
       → KeepsOrder life.opening life.ghosts (event ∷ before)
-  goes_on before event none fits apart its =
+  ordered_on before event fits apart none its =
       let truly : AreToldTruly H (life_ghosts life.opening life.ghosts before).log (run life.opening before).now = told_truly before fits.1 its in
       let published : AreChangesPublished life.opening life.ghosts (event ∷ before) = (changes_published life before event its.known, its.published) in
-      let enabled : AreEnabled H life.ghosts (mapped life.opening (event ∷ before)) = event_enabled before event none apart its truly published in
+      let enabled : AreEnabled H life.ghosts (mapped life.opening (event ∷ before)) = event_enabled before event apart its truly published in
       record {
         enabled = enabled;
         published = published;
-        known = known_on life.opening life.ghosts before event its.known (rows_go_on life before event none enabled its.known truly);
+        known = known_on life.opening life.ghosts before event its.known (rows_go_on life before event given opens its.apart enabled its.known truly);
         reads = reads_go_on life before event its.enabled its.known apart truly its.reads enabled;
+        apart = apart_goes_on given life opens before event enabled (λ session s found. known_now life.opening life.ghosts before its.known session s found) truly none its.apart;
       }
 
-  pub life_goes : (events : List Event) → HasNoCommit events → CallsFit events → TicketsAreApart life.opening events → KeepsOrder life.opening life.ghosts events
-  life_goes [] none fits apart = begins_ordered life
-  life_goes (event ∷ before) none fits apart = goes_on before event none fits apart (life_goes before none.1 fits.1 (apart_before life.opening before event apart))
+  goes_on : (before : List Event) (event : Event) → CallsFit (event ∷ before) → TicketsAreApart life.opening (event ∷ before) → Going before → Going (event ∷ before)
+  goes_on before event fits apart its =
+      let order : KeepsOrder life.opening life.ghosts before = its.order in
+      let truly : AreToldTruly H (life_ghosts life.opening life.ghosts before).log (run life.opening before).now = told_truly before fits.1 order in
+      let known : AllKnowBehind life.opening life.ghosts before = (λ session s found. known_now life.opening life.ghosts before order.known session s found) in
+      let none : NoneHasShifted life.opening (event ∷ before) = none_then given life opens before event order.enabled known truly order.apart its.shifts its.none in
+      record {
+        order = ordered_on before event fits apart none order;
+        shifts = shifts_then given life opens before event order.enabled known truly order.apart its.shifts its.none;
+        none = none;
+      }
+
+  through : (events : List Event) → CallsFit events → TicketsAreApart life.opening events → Going events
+  through [] fits apart = record { order = begins_ordered life; shifts = shifts_first life; none = none_first life.opening }
+  through (event ∷ before) fits apart = goes_on before event fits apart (through before fits.1 (apart_before life.opening before event apart))
+
+  pub life_goes : (events : List Event) → CallsFit events → TicketsAreApart life.opening events → KeepsOrder life.opening life.ghosts events
+  life_goes events fits apart = (through events fits apart).order

@@ -1,4 +1,4 @@
--- Over each life without commits the reads of sessions stand in the log as their control states say, and each answer of a read is enabled.
+-- Over each life the reads of sessions stand in the log as their control states say, and each answer of a read is enabled.
 use Rattle.std.proofs.Common.{◌≡◌, ℕ, ◌<◌, ◌∙◌, refl, sym, ap, subst, arith, inl, Bool, true, false, List, [], ◌∷◌, ◌++◌, length}
 use Rattle.std.specs.Prelude.{◌==◌, if◌then◌else◌, map, slice_get, Some}
 use Rattle.std.proofs.lemmas.Bool.Decides.{nat_tests}

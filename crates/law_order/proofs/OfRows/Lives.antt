@@ -1,5 +1,5 @@
--- Reads of a session which have asked seek a record at every moment of a life.
-use Rattle.std.proofs.Common.{◌≡◌, ℕ, List, sym, subst}
+-- At every moment of a life a session's reads which have asked seek a record, and none of its reads shares a latch.
+use Rattle.std.proofs.Common.{◌≡◌, ℕ, zero, suc, List, [], ◌∷◌, sym, subst, true, false}
 use Rattle.std.specs.Prelude.{Some, slice_get}
 use Rattle.fkv_session.specs.Sessions.{SessionState}
 use Rattle.fkv_world.specs.Opened.{IsOpenedWorld}
@@ -9,8 +9,26 @@ use Rattle.fkv_world.specs.World.{Event, seat_at}
 use Rattle.law_refine.proofs.OfSeen.There.{was_there}
 use Rattle.law_order.specs.Rows.Asked.{AllSeek}
 use Rattle.law_order.proofs.OfRows.Asks.{run_seeks}
+use Rattle.fkv_pending.specs.declared.pending_requests.PendingRequest.{PendingRequest}
+use Rattle.fkv_ops.specs.Requests.{is_read}
+use Rattle.fkv_session.specs.Shares.{HasItsBuckets, OnlyUpdatesShare}
+use Rattle.fkv_session.proofs.Shown.{run_updates}
 
 pub life_seeks : (opening : World) (events : List Event) (session : ℕ) (s : SessionState) → IsOpenedWorld opening → slice_get (run opening events).now.sessions session ≡ Some s → AllSeek s
 life_seeks opening events session s opened found =
     let its = was_there opening events session s found in
     subst AllSeek (sym its.became) (run_seeks (seat_at opening.now session) its.first (session_events opening session events) (opened.sessions session its.first its.was))
+
+only_at : (requests : List PendingRequest) (index : ℕ) (pending : PendingRequest) → slice_get requests index ≡ Some pending → OnlyUpdatesShare requests → is_read pending.request.op ≡ true → pending.request.has_latch ≡ false
+only_at [] index pending got only read = cc
+only_at (o ∷ rest) zero pending got only read =
+    let same : o ≡ pending = cc in
+    subst (λ (p : PendingRequest). is_read p.request.op ≡ true → p.request.has_latch ≡ false) same only.0 read
+only_at (o ∷ rest) (suc index) pending got only read = only_at rest index pending got only.1 read
+
+pub life_unlatched : (opening : World) (events : List Event) (session : ℕ) (s : SessionState) (index : ℕ) (pending : PendingRequest) → IsOpenedWorld opening → HasItsBuckets (seat_at opening.now session)
+    → slice_get (run opening events).now.sessions session ≡ Some s → slice_get s.requests index ≡ Some pending → is_read pending.request.op ≡ true → pending.request.has_latch ≡ false
+life_unlatched opening events session s index pending opened buckets found got read =
+    let its = was_there opening events session s found in
+    let only : OnlyUpdatesShare s.requests = subst (λ (x : SessionState). OnlyUpdatesShare x.requests) (sym its.became) (run_updates (seat_at opening.now session) its.first (session_events opening session events) (opened.sessions session its.first its.was) buckets) in
+    only_at s.requests index pending got only read

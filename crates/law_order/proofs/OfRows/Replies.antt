@@ -13,23 +13,22 @@ use Rattle.fkv_ops.specs.declared.requests.Seen.{Seen}
 use Rattle.fkv_pending.specs.declared.attempting.Attempting.TheVariants.{Tries}
 use Rattle.fkv_pending.specs.declared.pending_requests.PendingRequest.{PendingRequest}
 use Rattle.fkv_pending.specs.Attempting.{AttemptState}
+use Rattle.fkv_pending.specs.Pending.{with_latch}
+use Rattle.fkv_ops.specs.Requests.{is_read}
 use Rattle.fkv_plane.specs.declared.asks.Ask.TheVariants.{Done}
 use Rattle.fkv_session.specs.declared.sessions.CatchCause.{CatchCause}
 use Rattle.fkv_session.specs.declared.sessions.CatchCause.TheVariants.{Shifts}
 use Rattle.fkv_session.specs.declared.sessions.Sitting.{Sitting}
 use Rattle.fkv_session.specs.declared.sessions.Sitting.TheVariants.{Attempts, CatchesUp, Polls}
-use Rattle.fkv_session.specs.CatchingUp.{catch_requests}
 use Rattle.fkv_session.specs.Sessions.{SessionState, Seat, bits_of, room_of, is_busy, is_full, is_spent, refusal_of, request_in_hand, session_begun, session_next}
-use Rattle.fkv_session.proofs.Shown.{attempt_keeps}
 use Rattle.law_local.specs.Sessions.Inputs.{AttemptsBy, AttemptsSo}
 use Rattle.law_local.specs.Sessions.Known.{IsHandedOver, IsKnownAnew, KnowsRequests, attempt_after, catch_after, catch_comes_to, caught_up_at, is_attempting, is_polling, with_op}
-use Rattle.law_local.specs.Sessions.Moves.{requests_at}
 use Rattle.law_local.proofs.OfSessions.AttemptInputs.{attempt_goes}
 use Rattle.law_local.proofs.OfSessions.Known.{begun_known, next_known}
-use Rattle.law_local.proofs.OfSessions.Moves.{next_requests}
 use Rattle.law_local.specs.Tries.AttemptRows.{AttemptKnows, IsTrueOfAttempt, PendingKnows}
+use Rattle.law_local.specs.Tries.HeldRows.{SoughtKnows}
 use Rattle.law_local.specs.Tries.OnWay.{IsOrderly}
-use Rattle.law_local.specs.Tries.TryRows.{NoneLaterPast, head_in}
+use Rattle.law_local.specs.Tries.TryRows.{NoneLaterPast, RequestKnows, head_in, key_in}
 use Rattle.law_local.proofs.OfTries.AttemptSteps.{attempt_begins, attempt_leads}
 use Rattle.law_order.specs.Rows.Asked.{SeeksWhereAsked, AttemptSeeks}
 use Rattle.law_order.proofs.OfRows.Seeks.{attempt_seeks, attempt_begun_seeks}
@@ -78,6 +77,16 @@ module _ (home : ℕ → ℕ) where
   abbrev pub KnowsSo : Log → Seen → SessionState → Type 0
   KnowsSo log seen s = KnowsRequests (WaitsSo log seen) (TriesSo log) s
 
+  -- of a request that waits, whatever latch it has
+  record WaitsFree (log : Log) (seen : Seen) (pending : PendingRequest) : Type 0 where
+    request : RequestKnows home log pending.request seen
+    sought : SoughtKnows home log (key_in pending.request) (head_in seen) pending.sought
+    seeks : SeeksWhereAsked pending
+
+  free_latch : (log : Log) (seen : Seen) (pending : PendingRequest) → WaitsFree log seen pending → WaitsFree log seen (with_latch pending true)
+  unfolding with_latch
+  free_latch log seen pending its = record { request = record { plain = its.request.plain; low = its.request.low; held = its.request.held }; sought = its.sought; seeks = its.seeks }
+
   -- ---- an attempt begins
   hands_over : (log : Log) (k : Seat) (seen : Seen) → IsHandedOver k seen (WaitsSo log seen) (TriesSo log)
   hands_over log k seen pending spare is_orphaned knows = (
@@ -109,16 +118,16 @@ module _ (home : ℕ → ℕ) where
       pub says : is_attempting s.step ≡ true → IsTrueOfAttempt home log k.places s.attempt s.attempt.step reply
       -- what is known stays
       pub waiting : (pending : PendingRequest) → PendingKnows home log pending s.seen → PendingKnows home log' pending s.seen
-      pub trying : is_attempting s.step ≡ true → (a : AttemptState) → a.pending.request.version ≡ s.attempt.pending.request.version → AttemptKnows home log a → AttemptKnows home log' a
-      -- in catching up no request takes its latch, and where the call in hand begins anew it may
-      pub latches : (cause : CatchCause) → s.step ≡ CatchesUp cause → catch_requests s.catching s.requests reply ≡ s.requests
+      pub trying : is_attempting s.step ≡ true → AttemptKnows home log (attempt_after k s reply) → AttemptKnows home log' (attempt_after k s reply)
+      -- no read takes a latch, and where the call in hand begins anew it may
+      pub unlatched : (index : ℕ) (pending : PendingRequest) → slice_get (session_next k s reply).requests index ≡ Some pending → is_read pending.request.op ≡ true → pending.request.has_latch ≡ false
       pub plain : s.step ≡ CatchesUp Shifts → IsReserved s.op → ⊥
       pub caught : (its : Unit {0}) → s.step ≡ CatchesUp Shifts → catch_comes_to k s reply ≡ Done its → head_in (catch_after k s reply).seen ≤ log'.fixed
 
     module _ (facts : StepFacts) (knows : KnowsSo log s.seen s) where
       goes : (attempting : is_attempting s.step ≡ true) → TriesSo log s.attempt → TriesSo log' (attempt_after k s reply)
       goes attempting its = (
-        facts.trying attempting (attempt_after k s reply) (attempt_keeps k.places (bits_of k) (room_of k) k.number s.attempt reply).version
+        facts.trying attempting
             (attempt_leads home log k.places (bits_of k) (room_of k) k.number s.attempt reply facts.orderly (facts.newest attempting) its.0 (facts.says attempting)),
         attempt_seeks k.places (bits_of k) (room_of k) k.number s.attempt reply its.1,
       )
@@ -142,23 +151,30 @@ module _ (home : ℕ → ℕ) where
             latches = λ cause pending at its. no_catch cause other at;
           })
 
-      -- in catching up the requests stay
+      -- in catching up updates take latches
       caught_so : (cause : CatchCause) → s.step ≡ CatchesUp cause → KnowsSo log' s.seen (session_next k s reply)
       caught_so cause at = record {
         waiting = λ index pending got other.
-            let its : WaitsSo log s.seen pending = knows.waiting index pending (sym (ap (λ requests. slice_get requests index) same) ∙ got) (λ e. no_poll index e) in
-            (facts.waiting pending its.0, its.1);
+            let free : WaitsFree log' s.seen pending = frees.waiting index pending got other in
+            (record { request = free.request; sought = free.sought; unlatched = facts.unlatched index pending got }, free.seeks);
         attempted = tries.attempted;
       }
         where
           not_so : {X : Type 0} (step : Sitting) → s.step ≡ step → is_catching step ≡ false → X
           not_so step e other = never (sym other ∙ (ap is_catching (sym e) ∙ ap is_catching at))
 
-          no_poll : (index : ℕ) → s.step ≡ Polls index → ⊥
-          no_poll index e = not_so (Polls index) e refl
-
-          same : (session_next k s reply).requests ≡ s.requests
-          same = next_requests k s reply ∙ (ap (λ (step : Sitting). requests_at k s step reply) at ∙ facts.latches cause at)
+          frees : KnowsRequests (WaitsFree log' s.seen) (λ a. Unit {0}) (session_next k s reply)
+          frees =
+              next_known (WaitsSo log s.seen) (WaitsFree log' s.seen) (TriesSo log) (λ a. Unit {0}) k s reply knows
+              (record {
+                waits = λ pending its. let stays = facts.waiting pending its.0 in record { request = stays.request; sought = stays.sought; seeks = its.1 };
+                attempts = λ attempting its. tt;
+                accepts = λ has_shifted told e comes accepted after. not_so (Attempts has_shifted) e refl;
+                keeps = λ index told e comes waits after. not_so (Polls index) e refl;
+                hands_over = λ polling. never (sym (ap is_polling at) ∙ polling);
+                begins_anew = λ its shifts done spare is_orphaned. tt;
+                latches = λ cause pending e its. free_latch log' s.seen pending its;
+              })
 
           tries : KnowsRequests (λ pending. Unit {0}) (TriesSo log') (session_next k s reply)
           tries =

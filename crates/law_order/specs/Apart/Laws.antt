@@ -9,7 +9,7 @@ use Rattle.law_local.specs.Sessions.Known.{is_attempting}
 use Rattle.law_local.specs.Tries.TryRows.{key_in}
 use Rattle.law_log.specs.Enabled.{AreEnabled, NoneAbove, NoneCopies}
 use Rattle.law_order.specs.Apart.Given.{Given}
-use Rattle.law_order.specs.Apart.Lives.{AllApartBehind, OpensApart}
+use Rattle.law_order.specs.Apart.Lives.{AllApartBehind, NoneHasShifted, OpensApart}
 use Rattle.law_order.specs.Known.Begins.{BegunLife, home_of_world}
 use Rattle.law_order.specs.Known.Knows.{AllKnowBehind}
 use Rattle.law_order.specs.Known.Told.{AreToldTruly}
@@ -21,12 +21,12 @@ use Rattle.law_refine.specs.Events.Reservations.{Reservation}
 abbrev pub BeginsApart : Type 0
 BeginsApart = (life : BegunLife) → AllApartBehind life.opening life.ghosts []
 
--- and they go on to by each event that is enabled, if they know what they have to and are told the truth
+-- And they go on to by each event that is enabled, if they know what they have to and are told the truth, and none of their attempts has shifted for good.
 abbrev pub GoesOnApart : Type 0
 GoesOnApart =
     (life : BegunLife) (before : List Event) (event : Event) → Given → OpensApart life → AreEnabled (home_of_world life.opening) life.ghosts (mapped life.opening (event ∷ before))
     → AllKnowBehind life.opening life.ghosts before → AreToldTruly (home_of_world life.opening) (life_ghosts life.opening life.ghosts before).log (run life.opening before).now
-    → AllApartBehind life.opening life.ghosts before → AllApartBehind life.opening life.ghosts (event ∷ before)
+    → NoneHasShifted life.opening (event ∷ before) → AllApartBehind life.opening life.ghosts before → AllApartBehind life.opening life.ghosts (event ∷ before)
 
 -- so a record that is published has no later version at its home
 abbrev pub PublishesNewest : Type 0

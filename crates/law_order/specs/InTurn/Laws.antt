@@ -11,6 +11,7 @@ use Rattle.law_world.specs.Standing.Opening.{AreNumbersInTurn}
 use Rattle.law_opening.specs.Lives.OpenedFrom.{IsOpenedFrom}
 use Rattle.law_opening.specs.Lives.Steps.{AllLeadOn, OneCommitStands, Step, device_behind, events_of, now_behind}
 use Rattle.law_commit.specs.Floor.Stands.{FloorStands, LiveViewsAreNear}
+use Rattle.law_commit.specs.Laws.Phases.{IsSafeBelowComing, IsSafeBelowViews}
 use Rattle.law_commit.specs.Phases.Staged.{OpensAtRest}
 
 -- an opened store opens at rest
@@ -37,6 +38,15 @@ HasFloorInItsLife =
 abbrev pub KeepsItsViewsNear : Type 0
 KeepsItsViewsNear =
     (bytes : List ℕ) (o : Opened) (n : Now) (events : List Event) → IsStoreOf bytes o → IsOpeningWorld o n → LiveViewsAreNear (beginning n bytes) events
+
+-- and the safe read-only offset stays at or below the tails of their views, and of those that are coming
+abbrev pub KeepsSafeBelowItsViews : Type 0
+KeepsSafeBelowItsViews =
+    (bytes : List ℕ) (o : Opened) (n : Now) (events : List Event) → IsStoreOf bytes o → IsOpeningWorld o n → IsSafeBelowViews (beginning n bytes) events
+
+abbrev pub KeepsSafeBelowItsComing : Type 0
+KeepsSafeBelowItsComing =
+    (bytes : List ℕ) (o : Opened) (n : Now) (events : List Event) → IsStoreOf bytes o → IsOpeningWorld o n → IsSafeBelowComing (beginning n bytes) events
 
 -- behind any steps of its world one commit stands in each image that a crash leaves of the device
 abbrev pub OneCommitAlwaysStands : {D : Type 0} → (D → List ℕ) → (D → List ℕ → Type 0) → D → Type 0

@@ -8,7 +8,8 @@ use Rattle.law_order.specs.Known.Knows.{AreKnown}
 use Rattle.law_order.specs.Known.Told.{AreToldTruly}
 use Rattle.law_refine.specs.Events.GhostEvents.{fixed_ghosts, life_ghosts, mapped, own_ghosts, safe_at}
 use Rattle.law_refine.specs.Records.Changes.{AreChangesPublished, ChangesPublished}
-use Rattle.law_order.specs.Rest.Resting.{HasNoCommit}
+use Rattle.law_order.specs.Apart.Given.{Given}
+use Rattle.law_order.specs.Apart.Lives.{AllApartBehind, OpensApart}
 
 -- the record that is about to be changed in place is published
 abbrev pub ChangesAPublished : Type 0
@@ -20,7 +21,7 @@ ChangesAPublished =
 abbrev pub IsOwnEnabled : Type 0
 IsOwnEnabled =
     (life : BegunLife) (before : List Event) (event : Event)
-    → HasNoCommit (event ∷ before) → AreEnabled (home_of_world life.opening) life.ghosts (mapped life.opening before)
+    → Given → OpensApart life → AllApartBehind life.opening life.ghosts before → AreEnabled (home_of_world life.opening) life.ghosts (mapped life.opening before)
     → AreChangesPublished life.opening life.ghosts before → AreKnown life.opening life.ghosts before
     → AreToldTruly (home_of_world life.opening) (life_ghosts life.opening life.ghosts before).log (run life.opening before).now
     → (run life.opening before).now.crashed ≡ false

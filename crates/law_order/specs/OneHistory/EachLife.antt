@@ -4,7 +4,6 @@ use Rattle.fkv_core.specs.Openings.{IsOpeningWorld}
 use Rattle.fkv_opening.specs.Opened.{IsStoreOf}
 use Rattle.fkv_opening.specs.declared.opened_store.Opened.{Opened}
 use Rattle.fkv_world.specs.World.{Event, Now}
-use Rattle.law_order.specs.Rest.Resting.{HasNoCommit}
 use Rattle.law_order.specs.Served.Fits.{CallsFit}
 use Rattle.law_order.specs.Tickets.Few.{HasFewCalls}
 
@@ -26,7 +25,3 @@ pub record IsLife (its : Life) : Type 0 where
 -- so it is in each life
 abbrev pub InEachLife : (Opened → Now → List ℕ → List Event → Type 0) → Type 0
 InEachLife P = (its : Life) → IsLife its → P its.opened its.world its.bytes its.events
-
--- so it is if no commit begins
-abbrev pub WithoutCommits : (Opened → Now → List ℕ → List Event → Type 0) → Opened → Now → List ℕ → List Event → Type 0
-WithoutCommits P o n bytes events = HasNoCommit events → P o n bytes events

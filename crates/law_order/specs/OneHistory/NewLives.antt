@@ -11,7 +11,6 @@ use Rattle.fkv_world.specs.World.{Event, Now}
 use Rattle.law_commit.specs.WorkedRuns.{worked_world}
 use Rattle.law_refine.specs.Events.Worked.{first_world, worked_events, worked_history}
 use Rattle.law_order.specs.OneHistory.EachLife.{IsLife, Life}
-use Rattle.law_order.specs.Rest.Resting.{HasNoCommit}
 use Rattle.law_order.specs.Rules.InTime.{ReadsInTime}
 use Rattle.law_order.specs.Rules.Ordered.{HasLegalHistory, IsGuarded, OrdersItsCalls, ReadsFreshly, RunsActionsOnce, effects_so_far}
 use Rattle.law_order.specs.Served.Fits.{CallsFit}
@@ -43,7 +42,7 @@ abbrev pub ShapesHaveLives : Type 0
 ShapesHaveLives = (shape : Shape) (events : List Event) → CallsFit events → HasFewCalls events → HasNewLife shape events
 
 -- ---- a worked life
--- what the order law says of a life without commits
+-- what the order law says of a life
 pub record IsOrderedLife (its : Life) : Type 0 where
   pub legal : HasLegalHistory its.opened its.world its.bytes its.events
   pub ordered : OrdersItsCalls its.opened its.world its.bytes its.events
@@ -68,6 +67,5 @@ pub record WorkedLife : Type 0 where
   pub its : Life
   pub begins : BeginsAsWorked its
   pub events : (let life = its in life.events ≡ worked_events)
-  pub rests : (let life = its in HasNoCommit life.events)
   pub effects : (let life = its in effects_so_far life.world life.bytes life.events ≡ worked_history)
   pub ordered : IsOrderedLife its

@@ -1,9 +1,10 @@
--- What every life without commits keeps to, event by event.
+-- What every life keeps to, event by event.
 use Rattle.std.specs.Prelude.{List}
 use Rattle.law_log.specs.Ghosts.{Ghosts}
 use Rattle.law_log.specs.Enabled.{AreEnabled}
 use Rattle.fkv_world.specs.Runs.{World}
 use Rattle.fkv_world.specs.World.{Event}
+use Rattle.law_order.specs.Apart.Lives.{AllApartBehind}
 use Rattle.law_order.specs.Known.Begins.{home_of_world}
 use Rattle.law_order.specs.Known.Knows.{AreKnown}
 use Rattle.law_refine.specs.Events.GhostEvents.{mapped}
@@ -17,3 +18,5 @@ pub record KeepsOrder (opening : World) (ghosts : Ghosts) (events : List Event) 
   pub published : AreChangesPublished opening ghosts events
   pub known : AreKnown opening ghosts events
   pub reads : AreReadsKnown opening ghosts events
+  -- at this moment its sessions keep updates apart from those of other versions
+  pub apart : AllApartBehind opening ghosts events

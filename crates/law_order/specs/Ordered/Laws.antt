@@ -7,23 +7,24 @@ use Rattle.law_order.specs.Known.Told.{TicketsAreApart}
 use Rattle.law_refine.specs.Events.GhostEvents.{mapped}
 use Rattle.law_order.specs.Ordered.Keeps.{KeepsOrder}
 use Rattle.law_refine.specs.Records.Changes.{AreChangesPublished}
-use Rattle.law_order.specs.Rest.Resting.{HasNoCommit}
+use Rattle.law_order.specs.Apart.Given.{Given}
+use Rattle.law_order.specs.Apart.Lives.{OpensApart}
 use Rattle.law_order.specs.Served.Fits.{CallsFit, CellsFit}
 
--- each life without commits keeps order
+-- each life keeps order
 abbrev pub KeepsOrderInLives : Type 0
 KeepsOrderInLives =
-    (life : BegunLife) (events : List Event) → CellsFit life.ghosts.log → HasNoCommit events → CallsFit events → TicketsAreApart life.opening events
+    (life : BegunLife) (events : List Event) → Given → OpensApart life → CellsFit life.ghosts.log → CallsFit events → TicketsAreApart life.opening events
     → KeepsOrder life.opening life.ghosts events
 
 -- so each event of its log is enabled
 abbrev pub EnablesItsEvents : Type 0
 EnablesItsEvents =
-    (life : BegunLife) (events : List Event) → CellsFit life.ghosts.log → HasNoCommit events → CallsFit events → TicketsAreApart life.opening events
+    (life : BegunLife) (events : List Event) → Given → OpensApart life → CellsFit life.ghosts.log → CallsFit events → TicketsAreApart life.opening events
     → AreEnabled (home_of_world life.opening) life.ghosts (mapped life.opening events)
 
 -- and what is changed in place is published
 abbrev pub PublishesItsChanges : Type 0
 PublishesItsChanges =
-    (life : BegunLife) (events : List Event) → CellsFit life.ghosts.log → HasNoCommit events → CallsFit events → TicketsAreApart life.opening events
+    (life : BegunLife) (events : List Event) → Given → OpensApart life → CellsFit life.ghosts.log → CallsFit events → TicketsAreApart life.opening events
     → AreChangesPublished life.opening life.ghosts events

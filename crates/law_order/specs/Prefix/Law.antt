@@ -189,7 +189,7 @@ abbrev pub LivesFollow : Type 0
 LivesFollow = (its : Life) (before : List Life) → AreLives (its ∷ before) → BeginsWithKept its before
 
 -- ---- The law of prefixes, by its twelve clauses
--- `law_order` shows the first six, all but `once` of lives without commits. `law_finished_is_told` shows `told`, and `law_lives` the last, by `recovered`.
+-- `law_order` shows the first six. `law_finished_is_told` shows `told`, and `law_lives` the last, by `recovered`.
 pub record PrefixLaw : Type 0 where
   -- the updates of a life take effect in one order, legal with the replies that were given, and reads are answered from it
   pub legal : InEachLife HasLegalHistory

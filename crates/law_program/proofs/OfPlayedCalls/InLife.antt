@@ -11,17 +11,12 @@ use Rattle.fkv_world.specs.Runs.{World, happens, run}
 use Rattle.fkv_world.specs.World.{Calls, Event, Moves}
 use Rattle.fkv_world.proofs.Shown.{is_over, session_apart}
 use Rattle.law_world.proofs.OfRuns.Nothing.{no_session}
-use Rattle.law_order.specs.Rest.Resting.{HasNoCommit}
 use Rattle.law_refine.specs.Results.Results.{NobodyCalls}
 use Rattle.law_order.specs.Served.Fits.{CallFits, CallsFit}
 use Rattle.law_order.specs.Tickets.Few.{HasFewCalls}
 use Rattle.law_program.specs.PlayedCalls.PlayedCalls.{called_alone}
 
 -- ---- its events
-pub no_commits : (number moves : ℕ) (asked : Call) (life : List Event) → HasNoCommit life → HasNoCommit (called_alone number moves asked life)
-no_commits number zero asked life none = (refl, none)
-no_commits number (suc moves) asked life none = (refl, no_commits number moves asked life none)
-
 pub calls_fit : (number moves : ℕ) (asked : Call) (life : List Event) → CallFits asked → CallsFit life → CallsFit (called_alone number moves asked life)
 calls_fit number zero asked life fits all = (fits, all)
 calls_fit number (suc moves) asked life fits all = (tt, calls_fit number moves asked life fits all)

@@ -1,4 +1,4 @@
--- An operation that is played alone is answered by the map, in a life without commits.
+-- An operation that is played alone is answered by the map.
 use Rattle.std.proofs.Common.{◌≡◌, ◌∙◌, ◌⊎◌, ℕ, zero, suc, List, [], ◌∷◌, Bool, true, false, ap, arith, inl, inr, length, refl, sym, subst, ◌+◌}
 use Rattle.std.specs.Prelude.{Option, Some, None, if◌then◌else◌, nat_lt, slice_get}
 use Rattle.std.proofs.lemmas.Bool.Decides.{nat_tests}
@@ -11,7 +11,7 @@ use Rattle.fkv_epoch.proofs.Shown.{none_some, some_same}
 use Rattle.fkv_map.specs.declared.operations.Call.{Call}
 use Rattle.fkv_map.specs.declared.operations.Call.TheVariants as call
 use Rattle.fkv_map.specs.declared.operations.Op.{Op}
-use Rattle.law_order.specs.OneHistory.EachLife.{InEachLife, IsLife, Life, WithoutCommits}
+use Rattle.law_order.specs.OneHistory.EachLife.{InEachLife, IsLife, Life}
 use Rattle.fkv_opening.specs.declared.opened_store.Opened.{Opened}
 use Rattle.law_order.specs.Rules.Ordered.{HasLegalHistory, OrdersItsCalls, ReadsFreshly}
 use Rattle.law_order.proofs.OfRules.Beginning.{world_opens}
@@ -41,7 +41,7 @@ use Rattle.law_order.specs.Served.Fits.{CallFits}
 use Rattle.law_order.specs.Tickets.Few.{HasFewCalls}
 use Rattle.law_program.specs.PlayedCalls.PlayedCalls.{IsAnsweredAlone, IsLineOfSession, IsQuietLife, IsRefusedSession, IsReplyOfMap, IsToldTo, LinesGoOn, LinesReplyAsMap, RepliesAsMap, called_alone}
 use Rattle.law_program.proofs.OfPlayedCalls.Beats.{EndsCall, beats_end}
-use Rattle.law_program.proofs.OfPlayedCalls.InLife.{calls_few, calls_fit, no_commits, nobody_behind, was_alive, was_there}
+use Rattle.law_program.proofs.OfPlayedCalls.InLife.{calls_few, calls_fit, nobody_behind, was_alive, was_there}
 use Rattle.law_program.proofs.OfPlayedCalls.OneCall.{HasOneCall, first_call, played_out, refused_out}
 use Rattle.law_program.proofs.OfPlayedCalls.Steps.{GoesByRules}
 
@@ -93,7 +93,7 @@ line_ends {D} engine rules number asked opening life queues left before after te
         inl (out.0, out.1 ∙ ap (λ (x : ℕ). session_refusal x NoSession) (sym (missing_number number its (nat_lt number (length before.seats)) missing)))
 
 -- ---- any call
--- a life without commits goes on by it
+-- a life goes on by it
 answered_alone : {D : Type 0} (number : ℕ) (asked : Call) (bytes : List ℕ) (o : Opened) (first : Now) (life : List Event) (before after : PlayerState D) (text : List ℕ) → IsQuietLife bytes o first life before.world.now
     → NobodyCalls before.world.now → CallFits asked → HasFewCalls (Calls number asked ∷ life) → EndsLine number asked (beginning first bytes) life before after text → IsAnsweredAlone number asked bytes o first life before after text
 answered_alone number asked bytes o first life before after text quiet nobody fits few its =
@@ -108,7 +108,6 @@ answered_alone number asked bytes o first life before after text quiet nobody fi
       goes_on = record {
         store = quiet.store;
         opening = quiet.opening;
-        rests = no_commits number its.moves asked life quiet.rests;
         fits = calls_fit number its.moves asked life fits quiet.fits;
         few = calls_few number its.moves asked life few;
         shows = its.ends.shows;
@@ -135,7 +134,7 @@ told_to number op serial before after (tellings.PendingRead ticket) result = res
 told_to number op serial before after (tellings.Refused why) result = tt
 told_to number op serial before after other result = absurd result
 
-module _ (legal : InEachLife (WithoutCommits HasLegalHistory)) (ordered : InEachLife (WithoutCommits OrdersItsCalls)) (fresh : InEachLife (WithoutCommits ReadsFreshly)) (whole : AnswersWholeCalls) where
+module _ (legal : InEachLife HasLegalHistory) (ordered : InEachLife OrdersItsCalls) (fresh : InEachLife ReadsFreshly) (whole : AnswersWholeCalls) where
   -- a call that has ended in a life is the map's reply
   pub reply_of : {D : Type 0} (telling : Telling) (number moves : ℕ) (op : Op) (bytes : List ℕ) (o : Opened) (first : Now) (life : List Event) (before after : PlayerState D) (text : List ℕ)
       → IsQuietLife bytes o first life before.world.now → NobodyCalls before.world.now → OpFits op → HasFewCalls (Calls number (call.Op op) ∷ life)
@@ -146,7 +145,6 @@ module _ (legal : InEachLife (WithoutCommits HasLegalHistory)) (ordered : InEach
       let all : List Event = in_call number moves op life in
       let answered = ends.answered in
       let here : NobodyCalls (run opening life).now = subst NobodyCalls (sym quiet.shows) nobody in
-      let no_commit = no_commits number moves (call.Op op) life quiet.rests in
       let all_fit = calls_fit number moves (call.Op op) life fits quiet.fits in
       let small : HasFewCalls all = calls_few number moves (call.Op op) life few in
       let alive : (run opening life).now.crashed ≡ false = was_alive opening life number moves (call.Op op) (ap (λ (x : Now). x.crashed) ends.shows ∙ answered.alive) in
@@ -156,9 +154,9 @@ module _ (legal : InEachLife (WithoutCommits HasLegalHistory)) (ordered : InEach
       let lived : Life = record { bytes = bytes; opened = o; world = first; events = all } in
       let is_life : IsLife lived = record { store = quiet.store; begins = quiet.opening; fits = all_fit; few = small } in
       let by_map = whole bytes o first life number moves op there.s answered.s answered.its quiet.opening
-      (legal lived is_life no_commit)
-      (ordered lived is_life no_commit)
-      (fresh lived is_life no_commit)
+      (legal lived is_life)
+      (ordered lived is_life)
+      (fresh lived is_life)
       here alive there.found is_now answered.at_rest in
       record {
         answer = answered.answer;
@@ -169,7 +167,7 @@ module _ (legal : InEachLife (WithoutCommits HasLegalHistory)) (ordered : InEach
         says = ends.says ∙ ap (text_of telling (call.Op op) before.seats after.world.now) answered.same;
         moves = moves;
         by_map = by_map;
-        goes_on = record { store = quiet.store; opening = quiet.opening; rests = no_commit; fits = all_fit; few = small; shows = ends.shows };
+        goes_on = record { store = quiet.store; opening = quiet.opening; fits = all_fit; few = small; shows = ends.shows };
         rests = subst NobodyCalls ends.shows (nobody_behind opening life number moves (call.Op op) answered.s answered.its here is_now answered.at_rest);
       }
 

@@ -43,7 +43,7 @@ calls_counted : (number moves : ℕ) (op : Op) (life : List Event) → calls_in 
 calls_counted number zero op life = refl
 calls_counted number (suc moves) op life = calls_counted number moves op life
 
--- Behind a line a life goes on without commits, and nobody has a call in hand; and the line is the map's.
+-- Behind a line a life goes on, and nobody has a call in hand; and the line is the map's.
 pub record GoesOnByMap {D : Type 0} (bytes : List ℕ) (o : Opened) (first : Now) (life : List Event) (number : ℕ) (op : Op) (after : PlayerState D) (text : List ℕ) : Type 0 where
   pub later : List Event
   pub quiet : IsQuietLife bytes o first later after.world.now
@@ -125,7 +125,7 @@ module _ {D S : Type 0} (engine : events.Event → WorldModel D → WorldModel D
 -- ---- as a life begins
 pub opening_quiet : (bytes : List ℕ) (o : Opened) (n : Now) → IsStoreOf bytes o → IsOpeningWorld o n → IsQuietLife bytes o n [] n
 unfolding run
-opening_quiet bytes o n store opening = record { store = store; opening = opening; rests = tt; fits = tt; few = omega arith; shows = refl }
+opening_quiet bytes o n store opening = record { store = store; opening = opening; fits = tt; few = omega arith; shows = refl }
 
 pub opening_idle : (o : Opened) (n : Now) → IsOpeningWorld o n → NobodyCalls n
 opening_idle o n opening number s found = let its : IsOpeningSession o number s = opening.its_sessions number s found in its.opened.none_in_hand

@@ -18,7 +18,7 @@ use Rattle.law_refine.specs.Results.Results.{NobodyCalls}
 use Rattle.law_program.specs.PlayedCalls.PlayedCalls.{IsQuietLife}
 use Rattle.law_program.specs.PlayedCalls.Scripts.{ArePiecesOf, EachFits, IsPlayOfMap, SessionOp}
 
--- A life without commits of a new store shows this world, with which it begins: over bytes as `create` leaves them. No session has a call in hand.
+-- A life of a new store shows this world, with which it begins: over bytes as `create` leaves them. No session has a call in hand.
 pub record BeginsQuiet (shape : Shape) (opened : Opened) (first : Now) : Type 0 where
   pub bytes : List ℕ
   pub created : IsCreated shape bytes

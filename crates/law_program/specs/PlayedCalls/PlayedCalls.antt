@@ -31,17 +31,15 @@ use Rattle.fkv_texts.specs.Refusals.{session_refusal}
 use Rattle.law_program.specs.WholeCalls.WholeCalls.{IsAnsweredByMap}
 use Rattle.fkv_world.specs.Runs.{run}
 use Rattle.fkv_world.specs.World.{Calls, Event, Moves, Now}
-use Rattle.law_order.specs.Rest.Resting.{HasNoCommit}
 use Rattle.law_refine.specs.Results.Results.{NobodyCalls, in_call}
 use Rattle.fkv_map.specs.Fits.{OpFits}
 use Rattle.law_order.specs.Served.Fits.{CallFits, CallsFit}
 use Rattle.law_order.specs.Tickets.Few.{HasFewCalls}
 
--- A life without commits of a store that these bytes hold, which began with its first world: one of which the order law speaks. It shows this world.
+-- A life of a store that these bytes hold, which began with its first world: one of which the order law speaks. It shows this world.
 pub record IsQuietLife (bytes : List ℕ) (o : Opened) (first : Now) (life : List Event) (n : Now) : Type 0 where
   pub store : IsStoreOf bytes o
   pub opening : IsOpeningWorld o first
-  pub rests : HasNoCommit life
   pub fits : CallsFit life
   pub few : HasFewCalls life
   pub shows : (run (beginning first bytes) life).now ≡ n
@@ -70,7 +68,7 @@ pub record IsReplyOfMap {D : Type 0} (telling : Telling) (number : ℕ) (op : Op
   pub goes_on : IsQuietLife bytes o first (in_call number moves op life) after.world.now
   pub rests : NobodyCalls after.world.now
 
--- Over this engine an operation that is played alone is answered by the map, where a life without commits shows the world and no session has a call in hand.
+-- Over this engine an operation that is played alone is answered by the map, where a life shows the world and no session has a call in hand.
 abbrev pub RepliesAsMap : {D : Type 0} → (events.Event → WorldModel D → WorldModel D → Option tells.Told → Bool → Type 0) → Type 0
 RepliesAsMap {D} engine =
     (bytes : List ℕ) (o : Opened) (first : Now) (life : List Event) (telling : Telling) (number : ℕ) (op : Op) (before after : PlayerState D) (text : List ℕ)
@@ -109,7 +107,7 @@ pub record IsAnsweredAlone {D : Type 0} (number : ℕ) (asked : Call) (bytes : L
   pub goes_on : IsQuietLife bytes o first (called_alone number moves asked life) after.world.now
   pub rests : NobodyCalls after.world.now
 
--- So a life without commits goes on by each line of a session, and what the law says of a line of an operation it says behind such lines too.
+-- So a life goes on by each line of a session, and what the law says of a line of an operation it says behind such lines too.
 abbrev pub LinesGoOn : {D : Type 0} → (events.Event → WorldModel D → WorldModel D → Option tells.Told → Bool → Type 0) → Type 0
 LinesGoOn {D} engine =
     (bytes : List ℕ) (o : Opened) (first : Now) (life : List Event) (number : ℕ) (asked : Call) (queues left : List QueueState) (before after : PlayerState D) (text : List ℕ)

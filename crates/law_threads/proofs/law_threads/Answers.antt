@@ -3,17 +3,14 @@ use Rattle.fkv_seats.proofs.Seats.{in_order}
 use Rattle.fkv_table.specs.Planes.{plane}
 use Rattle.law_threads.proofs.OfDurable.{recovers_durable, tells_durable}
 use Rattle.law_threads.proofs.OfImages.{by_later, by_law}
-use Rattle.law_threads.proofs.OfLaws.{by_prefix, shares, thread_law, without_commits}
+use Rattle.law_threads.proofs.OfLaws.{in_lives, shares, thread_law}
 use Rattle.law_threads.proofs.law_threads.Goals as goal
 
 pub returns-clause-by_order : goal.returns-clause-by_order
 returns-clause-by_order g c = λ at. thread_law c.law_world_sessions.ensures.serials c.law_world_requests.ensures.tickets at
 
-pub returns-clause-without_commits : goal.returns-clause-without_commits
-returns-clause-without_commits g c = λ at. without_commits at c.law_order.ensures.legal c.law_order.ensures.ordered c.law_order.ensures.in_time (thread_law c.law_world_sessions.ensures.serials c.law_world_requests.ensures.tickets at)
-
-pub returns-clause-by_prefix : goal.returns-clause-by_prefix
-returns-clause-by_prefix g c = λ at prefix. by_prefix at prefix (thread_law c.law_world_sessions.ensures.serials c.law_world_requests.ensures.tickets at)
+pub returns-clause-in_lives : goal.returns-clause-in_lives
+returns-clause-in_lives g c = λ at. in_lives at c.law_order.ensures.legal c.law_order.ensures.ordered c.law_order.ensures.in_time (thread_law c.law_world_sessions.ensures.serials c.law_world_requests.ensures.tickets at)
 
 pub returns-clause-durable : goal.returns-clause-durable
 returns-clause-durable g c = λ at. tells_durable at

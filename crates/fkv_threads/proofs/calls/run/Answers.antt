@@ -23,11 +23,8 @@ returns-clause-called g c = record {
 pub returns-clause-by_order : goal.returns-clause-by_order
 returns-clause-by_order g c = lawful (opening_of g.D.Device.seen) _ _ _ (returns-clause-called g c) (c.law_threads.ensures.by_order (opening_of g.D.Device.seen))
 
-pub returns-clause-without_commits : goal.returns-clause-without_commits
-returns-clause-without_commits g c = lawful (opening_of g.D.Device.seen) _ _ _ (returns-clause-called g c) (c.law_threads.ensures.without_commits (opening_of g.D.Device.seen))
-
-pub returns-clause-by_prefix : goal.returns-clause-by_prefix
-returns-clause-by_prefix g c = λ prefix. lawful (opening_of g.D.Device.seen) _ _ _ (returns-clause-called g c) (c.law_threads.ensures.by_prefix (opening_of g.D.Device.seen) prefix)
+pub returns-clause-in_lives : goal.returns-clause-in_lives
+returns-clause-in_lives g c = lawful (opening_of g.D.Device.seen) _ _ _ (returns-clause-called g c) (c.law_threads.ensures.in_lives (opening_of g.D.Device.seen))
 
 pub returns-clause-durable : goal.returns-clause-durable
 returns-clause-durable g c = of_this (opening_of g.D.Device.seen) _ _ TellsDurable TellsItsDurable (returns-clause-called g c) (c.law_threads.ensures.durable (opening_of g.D.Device.seen))

@@ -8,7 +8,7 @@ pub returns-clause-begins : goal.returns-clause-begins
 returns-clause-begins c = begins_apart
 
 pub returns-clause-goes_on : goal.returns-clause-goes_on
-returns-clause-goes_on c = λ life before event given opens enabled known told apart. apart_goes_on given life opens before event enabled known told apart
+returns-clause-goes_on c = λ life before event given opens enabled known told none apart. apart_goes_on given life opens before event enabled known told none apart
 
 pub returns-clause-publishes : goal.returns-clause-publishes
 returns-clause-publishes c = λ life before number s its given opens enabled known apart found publishes. publishes_none given life opens before enabled known apart number s found its publishes

@@ -7,5 +7,5 @@ pub returns-clause-published : goal.returns-clause-published
 returns-clause-published c = λ life before event known. changes_published life before event known
 
 pub returns-clause-enabled : goal.returns-clause-enabled
-returns-clause-enabled c = λ life before event none enabled published known told alive.
-    own_enabled life before event none enabled published known told alive
+returns-clause-enabled c = λ life before event given opens all_apart enabled published known told alive.
+    own_enabled life before event given opens all_apart enabled published known told alive

@@ -12,3 +12,9 @@ pub returns-clause-near : goal.returns-clause-near
 returns-clause-near c = λ bytes o n events store its.
     let begins = c.law_life_begins.ensures bytes o n store its in
     c.law_floor_stands.ensures.near (beginning n bytes) o.tail.0 events begins.store.now begins.world (record { rests = opens_at_rest o n its begins.rests; seen = λ session first found. (begins.rests.seen session first found).phase })
+
+pub returns-clause-safe : goal.returns-clause-safe
+returns-clause-safe c = λ bytes o n events store its. c.law_views_see_tails.ensures.view (beginning n bytes) o.tail.0 events (c.law_life_begins.ensures bytes o n store its).store.now
+
+pub returns-clause-coming : goal.returns-clause-coming
+returns-clause-coming c = λ bytes o n events store its. c.law_views_see_tails.ensures.coming (beginning n bytes) o.tail.0 events (c.law_life_begins.ensures bytes o n store its).store.now

@@ -1,4 +1,4 @@
--- The law, over each life without commits.
+-- The law, over each life.
 use Rattle.law_order.proofs.OfReads.LifeReads.{answers_enabled, reads_begin_so, reads_go_on}
 use Rattle.law_order.proofs.reads.law_world_reads.Goals as goal
 

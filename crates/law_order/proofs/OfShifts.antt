@@ -1,0 +1,9 @@
+pub mod Attempts
+pub mod Calm
+pub mod Catches
+pub mod Facts
+pub mod First
+pub mod Life
+pub mod Sessions
+pub mod Slots
+pub mod Tries
