@@ -14,10 +14,8 @@ use Rattle.fkv_session.specs.Sessions.{Seat, SessionState, Sitter, is_busy, sess
 use Rattle.fkv_session.specs.SessionRun.{telling}
 use Rattle.fkv_world.specs.Actors.{slot_asked}
 use Rattle.fkv_world.specs.Past.{Answered, Called, TraceEvent}
-use Rattle.fkv_world.specs.Runs.{World}
 use Rattle.fkv_world.specs.World.{Calls as Starts, Now, session_called}
 use Rattle.law_world.specs.Runs.Added.{begun_by, ended_by, told_at, told_by}
-use Rattle.law_world.proofs.OfRuns.Added.{trace_so}
 use Rattle.fkv_seats.specs.declared.held.Held.TheVariants.{Desk}
 use Rattle.fkv_seats.specs.declared.views.Role.{Role}
 use Rattle.fkv_seats.specs.declared.views.Role.TheVariants.{Sits}
@@ -32,6 +30,8 @@ use Rattle.fkv_table.specs.Openings.{IsGuardedOpening}
 use Rattle.fkv_table.specs.Planes.{plane}
 use Rattle.fkv_table.specs.Positions.{laid}
 use Rattle.fkv_table.specs.Sits.{IsSeated, Went}
+use Rattle.fkv_table.specs.Worlds.{TableWorld}
+use Rattle.fkv_table.proofs.Goes.{goes_trace}
 use Rattle.fkv_table.proofs.Laid.{set_found}
 use Rattle.fkv_table.proofs.Lives.{alive, quiet_session, rests_so, same_number, slot_facts, start_words}
 use Rattle.fkv_table.proofs.Settled.{ended_so, idle_is}
@@ -62,7 +62,7 @@ told_at_once : (n after : Now) (number : ℕ) (call : Call) (s s' : SessionState
 unfolding ended_by begun_by
 told_at_once n after number call s s' its going was now idle ended = rw (going, was, now, idle, ended) refl
 
-module _ {K : Type 0} (at : K → World) where
+module _ {K : Type 0} (at : K → TableWorld) where
   quiet_only : (number : ℕ) (xs : List Happening) → Quiet (plane at) (Sits number) xs → OnlyMoves number xs
   quiet_only number [] q = tt
   quiet_only number (x ∷ xs) q = (inr q.0, quiet_only number xs q.1)
@@ -123,7 +123,7 @@ module _ {K : Type 0} (at : K → World) where
   same_head : (its other : Happening) → ◌≡◌ {A = List Happening} (its ∷ []) (other ∷ []) → its ≡ other
   same_head its other e = cc
 
-  no_starts : (w : World) → AreStarts (plane at) w []
+  no_starts : (w : TableWorld) → AreStarts (plane at) w []
   no_starts w = record { words = λ es. refl; actions = λ es. refl }
 
   module _ (key : K) (me : Me Slot (Knows K)) (m : Sitter) (call : Call) (opens : IsGuardedOpening (at key)) (sits : IsSeated at key me (noted me.1) m) (note : noted me.1 ≡ Calls m.seat.number call ∷ []) where
@@ -187,14 +187,14 @@ module _ {K : Type 0} (at : K → World) where
           → IsToldLast (led (plane at) (at key) me'.0.seen) n (telling its m.state.finished)
       unfolding led
       noted_told its idle done =
-          let x : World = led (plane at) (at key) (t.others ++ me.0.seen) in
-          let y : World = led (plane at) (at key) seen' in
+          let x : TableWorld = led (plane at) (at key) (t.others ++ me.0.seen) in
+          let y : TableWorld = led (plane at) (at key) seen' in
           let was : slice_get x.now.sessions n ≡ Some sits.first = quiet_session at (at key) n t.others me.0.seen (subst (λ (r : Role). Quiet (plane at) r t.others) sits.role t.quiet) ∙ sits.was in
           let ended : is_busy m.state.step ≡ false = ended_so at (at key) opens seen' n m.state its stood (ap (λ (k : Seat). session_ask k m.state) (sym sits.chair) ∙ done) in
           let told = told_at_once x.now y.now n call sits.first m.state its (alive at (at key) (t.others ++ me.0.seen) opens.opened.goes_on) was stood (idle sits.first sits.was) (idle_is m.seat m.state m.state.step its ended done) in
           subst (λ (seen : List Happening). IsToldLast (led (plane at) (at key) seen) n (telling its m.state.finished)) (sym t.seen) record {
             before = record { its = Called n call; effects = length y.past.history } ∷ x.past.trace;
-            newest = trace_so x (event_of (Calls n call)) ∙ ap (λ (es : List TraceEvent). told_at (length y.past.history) es ++ x.past.trace) told;
+            newest = goes_trace x (Calls n call) tt ∙ ap (λ (es : List TraceEvent). told_at (length y.past.history) es ++ x.past.trace) told;
           }
 
   -- between two calls none is in hand

@@ -21,9 +21,7 @@ use Rattle.fkv_keeper.specs.declared.keepers.Keeping.TheVariants.{Ended, Starts,
 use Rattle.fkv_keeper.specs.Answers.{is_busy}
 use Rattle.fkv_keeper.specs.Keeping.{KeeperModel, KeeperState, commit_asked, ended, keeper_ask, keeping_ask, keeping_given, keeping_next, start_ledto}
 use Rattle.fkv_world.specs.Moves.{keeper_gets}
-use Rattle.fkv_world.specs.Runs.{World, happens, read_by_keeper}
-use Rattle.fkv_world.specs.World.{life_goes}
-use Rattle.fkv_world.proofs.Shown.{added_calls, calls_added, lived}
+use Rattle.fkv_world.proofs.Shown.{calls_added}
 use Rattle.fkv_seats.specs.Rule.{led}
 use Rattle.fkv_table.specs.declared.happenings.Happening.{Happening}
 use Rattle.fkv_table.specs.declared.happenings.Happening.TheVariants.{Commits}
@@ -33,6 +31,8 @@ use Rattle.fkv_table.specs.KeeperCalls.{IsBeginning}
 use Rattle.fkv_table.specs.Keeps.{IsKeeping, IsNoted, KeeperReplied, KeeperSettled, LeavesDevice}
 use Rattle.fkv_table.specs.Openings.{IsGuardedOpening}
 use Rattle.fkv_table.specs.Planes.{plane}
+use Rattle.fkv_table.specs.Worlds.{TableWorld, goes}
+use Rattle.fkv_table.proofs.Goes.{goes_calls}
 use Rattle.fkv_table.proofs.Lives.{alive}
 use Rattle.fkv_table.proofs.KeeperNotes.{opened_so, quiet_calls, quiet_is}
 
@@ -109,7 +109,7 @@ begun_by s kind false = tt
 pub commit_begins : (k k' : KeeperModel) (kind : CommitKind) → k' ≡ record k { state = commit_asked k.state kind } → IsBeginning k'.state.step
 commit_begins k k' kind is = subst (λ (x : KeeperModel). IsBeginning x.state.step) (sym is) (begun_by k.state kind k.state.is_broken)
 
-module _ {K : Type 0} (at : K → World) (key : K) where
+module _ {K : Type 0} (at : K → TableWorld) (key : K) where
   settled_begins : (me me' : Me Slot (Knows K)) (k k' : KeeperModel) (next : Ask KeeperTold) → KeeperSettled at next me k me' k' → IsBeginning k.state.step → IsBeginning k'.state.step
   settled_begins me me' k k' (Put slot action) t b = subst (λ (x : KeeperModel). IsBeginning x.state.step) (sym t.1) (next_stays k.shape k.places k.state k.state.step 0 false refl b)
   settled_begins me me' k k' (Take slot) t b = subst (λ (x : KeeperModel). IsBeginning x.state.step) (sym t.3) (gets_stays k.shape k.places k.state t.0 b)
@@ -132,10 +132,8 @@ module _ {K : Type 0} (at : K → World) (key : K) where
       → (led (plane at) (at key) me'.0.seen).past.calls ≡ (led (plane at) (at key) me.0.seen).past.calls
   unfolding led calls_added
   commit_calls me me' k kind guard its noted =
-      let x : World = led (plane at) (at key) (noted.others ++ me.0.seen) in
-      let made : (happens x (event_of (Commits kind))).past.calls ≡ x.past.calls =
-      ap (λ (y : World). y.past.calls) (lived x (event_of (Commits kind)) (alive at (at key) (noted.others ++ me.0.seen) guard.opened.goes_on))
-      ∙ added_calls x (life_goes x.now (read_by_keeper x) (event_of (Commits kind))) (event_of (Commits kind)) in
+      let x : TableWorld = led (plane at) (at key) (noted.others ++ me.0.seen) in
+      let made : (goes x (Commits kind)).past.calls ≡ x.past.calls = goes_calls x (Commits kind) (alive at (at key) (noted.others ++ me.0.seen) guard.opened.goes_on) in
       ap (λ (es : List Happening). (led (plane at) (at key) es).past.calls) noted.seen
       ∙ (made ∙ quiet_calls at (at key) its.from noted.others me.0.seen (quiet_is at key me k guard its noted.others noted.quiet))
 

@@ -3,13 +3,13 @@ use Rattle.std.proofs.Common.{inl, inr, ⊎_elim, ℕ, refl, sym, ap, ◌∙◌,
 use Rattle.atomic_table.specs.Table.{Me}
 use Rattle.fkv_disk.specs.Device.{AtEachMoment, Elapses}
 use Rattle.fkv_disk.proofs.Shown.{started, goes_on, goes_on_to}
-use Rattle.fkv_world.specs.Runs.{World}
 use Rattle.fkv_seats.specs.Rule.{IsSeenBy}
 use Rattle.fkv_table.specs.declared.happenings.Happening.{Happening}
 use Rattle.fkv_table.specs.Desks.{Slot, Knows}
 use Rattle.fkv_table.specs.KeeperCalls.{HasGoneOn}
 use Rattle.fkv_table.specs.Keeps.{IsAfterSeen, IsLeftWithin, IsNoted}
 use Rattle.fkv_table.specs.Planes.{plane}
+use Rattle.fkv_table.specs.Worlds.{TableWorld}
 
 weaker : {D : Type 0} (moment : D → ℕ) (left_since : D → ℕ → List ℕ → Type 0) (old new : D) (P Q : List ℕ → Type 0) → ((image : List ℕ) → P image → Q image)
     → AtEachMoment moment left_since old new P → AtEachMoment moment left_since old new Q
@@ -19,7 +19,7 @@ weaker moment left_since old new P Q so its = record {
   before = λ t image le left. ⊎_elim inl (λ is. inr (so image is)) (its.before t image le left);
 }
 
-module _ {K : Type 0} (at : K → World) where
+module _ {K : Type 0} (at : K → TableWorld) where
   nothing_since : (es : List Happening) → IsSeenBy (plane at) es es
   nothing_since es = ([], refl)
 

@@ -14,26 +14,27 @@ use Rattle.fkv_keeper.specs.KeeperRun.{is_in_hand}
 use Rattle.fkv_plane.specs.Asked.{reply_to}
 use Rattle.fkv_world.specs.Actors.{is_of_keeper, slot_of_step}
 use Rattle.fkv_world.specs.Past.{calls_after}
-use Rattle.fkv_world.specs.Runs.{World, happens, read_by_keeper}
-use Rattle.fkv_world.specs.World.{Event, Now, keeper_asked, life_goes}
-use Rattle.fkv_world.proofs.Shown.{added_calls, calls_added, keeper_apart, lived, places_stay, shape_stays}
-use Rattle.law_world.proofs.OfKeeper.OwnCalls.{opened_stays}
+use Rattle.fkv_world.specs.Runs.{World}
+use Rattle.fkv_world.specs.World.{Now, keeper_asked}
+use Rattle.fkv_world.proofs.Shown.{calls_added, keeper_apart}
 use Rattle.law_world.proofs.OfRuns.Added.{calls_stay}
-use Rattle.law_world.proofs.OfRuns.Starts.{commit_starts, device_called, turn_starts}
+use Rattle.law_world.proofs.OfRuns.Starts.{commit_starts, turn_starts}
 use Rattle.fkv_seats.specs.declared.views.Role.{Role}
 use Rattle.fkv_seats.specs.declared.views.Role.TheVariants.{Rest}
 use Rattle.fkv_seats.specs.Rule.{Carries, Changes, HandFits, Quiet, Ruled, Stepped, base, led, speaks}
 use Rattle.fkv_seats.proofs.Keeps.{allows}
 use Rattle.fkv_table.specs.declared.happenings.Happening.{Happening}
-use Rattle.fkv_table.specs.declared.happenings.Happening.TheVariants.{Calls, Moves, Commits, Turns, KeeperMoves}
+use Rattle.fkv_table.specs.declared.happenings.Happening.TheVariants.{Calls, Moves, Commits, Turns, KeeperMoves, KeeperReads}
 use Rattle.fkv_table.specs.Desks.{Slot, Knows}
 use Rattle.fkv_table.specs.Events.{actor_of, event_of}
 use Rattle.fkv_table.specs.Keeps.{IsKeeping, IsNoted, Spares, adding}
 use Rattle.fkv_table.specs.Openings.{IsGuardedOpening}
 use Rattle.fkv_table.specs.Planes.{plane}
 use Rattle.fkv_table.specs.Positions.{laid}
+use Rattle.fkv_table.specs.Worlds.{TableWorld, goes, read_in, world_in}
 use Rattle.fkv_table.proofs.Laid.{set_found}
-use Rattle.fkv_table.proofs.Lives.{alive, led_run, slot_facts}
+use Rattle.fkv_table.proofs.Goes.{IsPlain, called_now, goes_calls, led_opened, plain}
+use Rattle.fkv_table.proofs.Lives.{alive, led_store, slot_facts}
 
 same_some : {X : Type 0} (i j : X) → ◌≡◌ {A = Option X} (Some i) (Some j) → i ≡ j
 same_some i j e = cc
@@ -44,41 +45,52 @@ not_keepers from (Moves session) e = refl
 not_keepers from (Commits kind) e = absurd (true≢false e)
 not_keepers from Turns e = absurd (true≢false e)
 not_keepers from (KeeperMoves granted done) e = absurd (true≢false e)
+not_keepers from (KeeperReads header key value) e = absurd (true≢false e)
+
+not_moves : (from : ℕ) (its : Happening) → speaks (Rest from) (actor_of its) ≡ false → IsPlain its
+not_moves from (Calls session call) e = tt
+not_moves from (Moves session) e = tt
+not_moves from (Commits kind) e = tt
+not_moves from Turns e = tt
+not_moves from (KeeperMoves granted done) e = absurd (true≢false e)
+not_moves from (KeeperReads header key value) e = absurd (true≢false e)
 
 -- what a step of the keeper adds to the calls of the device
-pub moves_calls : (x : World) (granted done : Bool) → x.now.crashed ≡ false
-    → (happens x (event_of (KeeperMoves granted done))).past.calls ≡ calls_after (keeper_ask x.now.shape x.now.places x.now.keeper) (keeper_calls x.now.shape x.now.keeper done) x.past.calls
+pub moves_calls : (x : TableWorld) (granted done : Bool) → x.now.crashed ≡ false
+    → (goes x (KeeperMoves granted done)).past.calls ≡ calls_after (keeper_ask x.now.shape x.now.places x.now.keeper) (keeper_calls x.now.shape x.now.keeper done) x.past.calls
 unfolding calls_added
-moves_calls x granted done going =
-    let e : Event = event_of (KeeperMoves granted done) in
-    ap (λ (y : World). y.past.calls) (lived x e going) ∙ added_calls x (life_goes x.now (read_by_keeper x) e) e
+moves_calls x granted done going = goes_calls x (KeeperMoves granted done) going
 
 -- a call begins where none is in hand
 begun_so : (s began : KeeperState) → is_in_hand s.step ≡ false → keeper_asked s began ≡ began
 begun_so s began idle = rw idle refl
 
-module _ {K : Type 0} (at : K → World) where
-  pub quiet_keeper : (w : World) (from : ℕ) (later seen : List Happening) → Quiet (plane at) (Rest from) later
+module _ {K : Type 0} (at : K → TableWorld) where
+  pub quiet_keeper : (w : TableWorld) (from : ℕ) (later seen : List Happening) → Quiet (plane at) (Rest from) later
       → (led (plane at) w (later ++ seen)).now.keeper ≡ (led (plane at) w seen).now.keeper
   unfolding led
   quiet_keeper w from [] seen q = refl
-  quiet_keeper w from (its ∷ later) seen q = keeper_apart (led (plane at) w (later ++ seen)) (event_of its) (not_keepers from its q.0) ∙ quiet_keeper w from later seen q.1
+  quiet_keeper w from (its ∷ later) seen q =
+      let x : TableWorld = led (plane at) w (later ++ seen) in
+      ap (λ (y : World). y.now.keeper) (plain x its (not_moves from its q.0)) ∙ (keeper_apart (world_in x) (event_of its) (not_keepers from its q.0) ∙ quiet_keeper w from later seen q.1)
 
   -- nor do they call the device
-  pub quiet_calls : (w : World) (from : ℕ) (later seen : List Happening) → Quiet (plane at) (Rest from) later
+  pub quiet_calls : (w : TableWorld) (from : ℕ) (later seen : List Happening) → Quiet (plane at) (Rest from) later
       → (led (plane at) w (later ++ seen)).past.calls ≡ (led (plane at) w seen).past.calls
   unfolding led
   quiet_calls w from [] seen q = refl
-  quiet_calls w from (its ∷ later) seen q = calls_stay (led (plane at) w (later ++ seen)) (event_of its) (not_keepers from its q.0) ∙ quiet_calls w from later seen q.1
+  quiet_calls w from (its ∷ later) seen q =
+      let x : TableWorld = led (plane at) w (later ++ seen) in
+      ap (λ (y : World). y.past.calls) (plain x its (not_moves from its q.0)) ∙ (calls_stay (world_in x) (event_of its) (not_keepers from its q.0) ∙ quiet_calls w from later seen q.1)
 
-  pub opened_so : (w : World) (es : List Happening) → (led (plane at) w es).past.opened ≡ w.past.opened
-  opened_so w es = ap (λ (x : World). x.past.opened) (led_run at w es) ∙ opened_stays w (map event_of es)
+  pub opened_so : (w : TableWorld) (es : List Happening) → (led (plane at) w es).past.opened ≡ w.past.opened
+  opened_so w es = led_opened at w es
 
-  pub shape_so : (w : World) (es : List Happening) → (led (plane at) w es).now.shape ≡ w.now.shape
-  shape_so w es = ap (λ (x : World). x.now.shape) (led_run at w es) ∙ shape_stays w (map event_of es)
+  pub shape_so : (w : TableWorld) (es : List Happening) → (led (plane at) w es).now.shape ≡ w.now.shape
+  shape_so w es = (led_store at w es).0
 
-  pub places_so : (w : World) (es : List Happening) → (led (plane at) w es).now.places ≡ w.now.places
-  places_so w es = ap (λ (x : World). x.now.places) (led_run at w es) ∙ places_stay w (map event_of es)
+  pub places_so : (w : TableWorld) (es : List Happening) → (led (plane at) w es).now.places ≡ w.now.places
+  places_so w es = (led_store at w es).1
 
   pub may_note : (key : K) (slots id : ℕ) (me : Me Slot (Knows K)) (its : Happening) → IsGuardedOpening (at key) → me.0.about ≡ Some key → Spares at key me its
       → HandFits (plane at) (at key) me.0.seen me.0.hand me.1 → Allows (Ruled (plane at) key) slots id me 0 (λ n. n) (adding at its (step slots 0 0 0 none) me)
@@ -102,7 +114,7 @@ module _ {K : Type 0} (at : K → World) where
       }
 
   module _ (key : K) (me : Me Slot (Knows K)) (k : KeeperModel) (guard : IsGuardedOpening (at key)) (its : IsKeeping at key me k) where
-    abbrev w : World
+    abbrev w : TableWorld
     w = at key
 
     pub quiet_is : (others : List Happening) → Quiet (plane at) me.0.role others → Quiet (plane at) (Rest its.from) others
@@ -123,7 +135,7 @@ module _ {K : Type 0} (at : K → World) where
     unfolding led
     spares_turn = record {
       own = own Turns refl;
-      words = λ others q. ap (λ (n : Now). n.words) (turn_starts (led (plane at) w (others ++ me.0.seen)) (alive at w (others ++ me.0.seen) guard.opened.goes_on));
+      words = λ others q. let x : TableWorld = led (plane at) w (others ++ me.0.seen) in ap (λ (y : World). y.now.words) (plain x Turns tt) ∙ ap (λ (n : Now). n.words) (turn_starts (world_in x) (alive at w (others ++ me.0.seen) guard.opened.goes_on));
       slot = λ others q. refl;
     }
 
@@ -131,7 +143,7 @@ module _ {K : Type 0} (at : K → World) where
     unfolding led
     spares_commit kind = record {
       own = own (Commits kind) refl;
-      words = λ others q. ap (λ (n : Now). n.words) (commit_starts (led (plane at) w (others ++ me.0.seen)) kind (alive at w (others ++ me.0.seen) guard.opened.goes_on));
+      words = λ others q. let x : TableWorld = led (plane at) w (others ++ me.0.seen) in ap (λ (y : World). y.now.words) (plain x (Commits kind) tt) ∙ ap (λ (n : Now). n.words) (commit_starts (world_in x) kind (alive at w (others ++ me.0.seen) guard.opened.goes_on));
       slot = λ others q. refl;
     }
 
@@ -139,10 +151,19 @@ module _ {K : Type 0} (at : K → World) where
     unfolding led
     spares_call granted done asks = record {
       own = own (KeeperMoves granted done) refl;
-      words = λ others q. ap (λ (n : Now). n.words) (device_called (led (plane at) w (others ++ me.0.seen)) granted done (alive at w (others ++ me.0.seen) guard.opened.goes_on) (ask_there others q ∙ asks));
+      words = λ others q. let x : TableWorld = led (plane at) w (others ++ me.0.seen) in ap (λ (n : Now). n.words) (called_now x.now (read_in x.trusts (world_in x) (KeeperMoves granted done)) granted done (alive at w (others ++ me.0.seen) guard.opened.goes_on) (ask_there others q ∙ asks));
       slot = λ others q.
           let n : Now = (led (plane at) w (others ++ me.0.seen)).now in
           ap (λ (ask : Ask KeeperTold). slot_of_step ask (keeper_ask n.shape n.places (keeper_next n.shape n.places n.keeper (reply_to n.words (keeper_ask n.shape n.places n.keeper)) granted))) (ask_there others q ∙ asks);
+    }
+
+    -- so is one that tells what it has read
+    pub spares_read : (header key' value : ℕ) → keeper_ask k.shape k.places k.state ≡ Done Device → Spares at key me (KeeperReads header key' value)
+    unfolding led
+    spares_read header key' value asks = record {
+      own = own (KeeperReads header key' value) refl;
+      words = λ others q. let x : TableWorld = led (plane at) w (others ++ me.0.seen) in ap (λ (n : Now). n.words) (called_now x.now (read_in x.trusts (world_in x) (KeeperReads header key' value)) true true (alive at w (others ++ me.0.seen) guard.opened.goes_on) (ask_there others q ∙ asks));
+      slot = (spares_call true true asks).slot;
     }
 
     -- behind an event that is noted it is the keeper's seat still
@@ -162,15 +183,15 @@ module _ {K : Type 0} (at : K → World) where
     pub turn_on : (me' : Me Slot (Knows K)) (k' : KeeperModel) → is_in_hand k.state.step ≡ false → IsNoted at key me Turns me' → k' ≡ record k { state = turn_asked k.state } → IsKeeping at key me' k'
     unfolding led
     turn_on me' k' idle noted goes =
-        let x : World = led (plane at) w (noted.others ++ me.0.seen) in
-        let now : (happens x (event_of Turns)).now.keeper ≡ keeper_asked x.now.keeper (turn_asked x.now.keeper) = ap (λ (n : Now). n.keeper) (turn_starts x (alive at w (noted.others ++ me.0.seen) guard.opened.goes_on)) in
+        let x : TableWorld = led (plane at) w (noted.others ++ me.0.seen) in
+        let now : (goes x Turns).now.keeper ≡ keeper_asked x.now.keeper (turn_asked x.now.keeper) = ap (λ (y : World). y.now.keeper) (plain x Turns tt) ∙ ap (λ (n : Now). n.keeper) (turn_starts (world_in x) (alive at w (noted.others ++ me.0.seen) guard.opened.goes_on)) in
         let same : keeper_asked x.now.keeper (turn_asked x.now.keeper) ≡ turn_asked k.state = ap (λ (s : KeeperState). keeper_asked s (turn_asked s)) (there noted.others noted.quiet) ∙ begun_so k.state (turn_asked k.state) idle in
         keeping_on Turns me' k' noted (ap (λ (m : KeeperModel). m.shape) goes) (ap (λ (m : KeeperModel). m.places) goes) (ap (λ (m : KeeperModel). m.state) goes ∙ sym (now ∙ same))
 
     pub commit_on : (kind : CommitKind) (me' : Me Slot (Knows K)) (k' : KeeperModel) → is_in_hand k.state.step ≡ false → IsNoted at key me (Commits kind) me' → k' ≡ record k { state = commit_asked k.state kind } → IsKeeping at key me' k'
     unfolding led
     commit_on kind me' k' idle noted goes =
-        let x : World = led (plane at) w (noted.others ++ me.0.seen) in
-        let now : (happens x (event_of (Commits kind))).now.keeper ≡ keeper_asked x.now.keeper (commit_asked x.now.keeper kind) = ap (λ (n : Now). n.keeper) (commit_starts x kind (alive at w (noted.others ++ me.0.seen) guard.opened.goes_on)) in
+        let x : TableWorld = led (plane at) w (noted.others ++ me.0.seen) in
+        let now : (goes x (Commits kind)).now.keeper ≡ keeper_asked x.now.keeper (commit_asked x.now.keeper kind) = ap (λ (y : World). y.now.keeper) (plain x (Commits kind) tt) ∙ ap (λ (n : Now). n.keeper) (commit_starts (world_in x) kind (alive at w (noted.others ++ me.0.seen) guard.opened.goes_on)) in
         let same : keeper_asked x.now.keeper (commit_asked x.now.keeper kind) ≡ commit_asked k.state kind = ap (λ (s : KeeperState). keeper_asked s (commit_asked s kind)) (there noted.others noted.quiet) ∙ begun_so k.state (commit_asked k.state kind) idle in
         keeping_on (Commits kind) me' k' noted (ap (λ (m : KeeperModel). m.shape) goes) (ap (λ (m : KeeperModel). m.places) goes) (ap (λ (m : KeeperModel). m.state) goes ∙ sym (now ∙ same))

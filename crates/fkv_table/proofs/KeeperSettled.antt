@@ -26,7 +26,7 @@ use Rattle.fkv_world.specs.World.{Now, near, with_keeper}
 use Rattle.fkv_world.proofs.Shown.{keeper_own}
 use Rattle.law_world.specs.Runs.Ends.{KeeperStandsAtNoSlot, asks_left_of_keeper}
 use Rattle.law_world.proofs.OfRuns.Ends.{keeper_down}
-use Rattle.law_guard.proofs.OfGuarded.Ends.{life_keeper_stands}
+use Rattle.law_guard.proofs.OfGuarded.Ends.{takes_none}
 use Rattle.fkv_seats.specs.declared.held.Held.TheVariants.{Drain}
 use Rattle.fkv_seats.specs.Rule.{Carries, HandFits, action_in, base, flat, led}
 use Rattle.fkv_seats.proofs.Keeps.{no_some}
@@ -38,7 +38,9 @@ use Rattle.fkv_table.specs.KeeperCalls.{HasGoneOn}
 use Rattle.fkv_table.specs.Keeps.{IsKeeping, KeeperIsAsked, KeeperReplied, KeeperSettled}
 use Rattle.fkv_table.specs.Openings.{IsGuardedOpening}
 use Rattle.fkv_table.specs.Planes.{plane}
-use Rattle.fkv_table.proofs.Lives.{alive, led_run, named_within, slots_count}
+use Rattle.fkv_table.specs.Worlds.{TableWorld, world_in}
+use Rattle.fkv_table.proofs.Goes.{word_goes}
+use Rattle.fkv_table.proofs.Lives.{alive, keeper_rests_so, named_within, slots_count}
 use Rattle.fkv_table.proofs.KeeperNotes.{moves_calls, places_so, quiet_calls, quiet_is, shape_so, there}
 use Rattle.fkv_table.proofs.KeeperSteps.{names_so}
 use Rattle.fkv_table.proofs.KeeperCalled.{gone_on}
@@ -94,16 +96,16 @@ moved_by n granted shape p s =
     let behind : Near KeeperState = keeper_replied shape p granted (near n s) (keeper_ask shape p s) in
     with_keeper n (keeper_settled shape p granted behind (keeper_ask shape p behind.machine))
 
-module _ {K : Type 0} (at : K → World) where
+module _ {K : Type 0} (at : K → TableWorld) where
   module _ (key : K) (me me1 : Me Slot (Knows K)) (k k1 : KeeperModel) (granted : Bool) (guard : IsGuardedOpening (at key)) (its : IsKeeping at key me k) (r : KeeperReplied at key me granted k me1 k1)
       (place : ℕ) (named : asked_place (keeper_ask k.shape k.places k.state) ≡ Some place) where
     abbrev behind : List Happening
     behind = r.others ++ me.0.seen
 
-    abbrev x : World
+    abbrev x : TableWorld
     x = led (plane at) (at key) behind
 
-    abbrev y : World
+    abbrev y : TableWorld
     y = led (plane at) (at key) (KeeperMoves granted true ∷ behind)
 
     shape_is : x.now.shape ≡ k.shape
@@ -125,10 +127,11 @@ module _ {K : Type 0} (at : K → World) where
     unfolding led keeper_goes
     after_now =
         let there_named : asked_place (keeper_ask x.now.shape x.now.places x.now.keeper) ≡ Some place = (λ i. asked_place (keeper_ask (shape_is i) (places_is i) (stood i))) ∙ named in
-        keeper_own x (event_of (KeeperMoves granted true)) refl (alive at (at key) behind guard.opened.goes_on)
-        ∙ (ap (with_keeper x.now) (asks_settled x.now.shape x.now.places granted true (read_by_keeper x) (near x.now x.now.keeper) (keeper_ask x.now.shape x.now.places x.now.keeper) place there_named)
+        ap (λ (z : World). z.now) (word_goes x granted true place there_named)
+        ∙ (keeper_own (world_in x) (event_of (KeeperMoves granted true)) refl (alive at (at key) behind guard.opened.goes_on)
+        ∙ (ap (with_keeper x.now) (asks_settled x.now.shape x.now.places granted true (read_by_keeper (world_in x)) (near x.now x.now.keeper) (keeper_ask x.now.shape x.now.places x.now.keeper) place there_named)
         ∙ ((λ i. moved_by x.now granted (shape_is i) (places_is i) (stood i))
-        ∙ λ i. with_keeper x.now (keeper_settled k.shape k.places granted (record near1 { machine = sym r.state i }) (keeper_ask k.shape k.places (sym r.state i)))))
+        ∙ λ i. with_keeper x.now (keeper_settled k.shape k.places granted (record near1 { machine = sym r.state i }) (keeper_ask k.shape k.places (sym r.state i))))))
 
     abbrev drawer : ℕ → Slot
     drawer slot = Drain (action_in x.now.actions slot)
@@ -185,19 +188,19 @@ module _ {K : Type 0} (at : K → World) where
     same_view me' k' (Done end) t = stays_so me' k' _ (ap (λ (z : Me Slot (Knows K)). z.0) t.0) t.1 refl refl
 
     -- what is in the seat's hand is what the slot has after the event
-    hand_so : (me' : Me Slot (Knows K)) (k' : KeeperModel) (ask : Ask KeeperTold) (seen : List Happening) (now : World) → led (plane at) (at key) seen ≡ now
+    hand_so : (me' : Me Slot (Knows K)) (k' : KeeperModel) (ask : Ask KeeperTold) (seen : List Happening) (now : TableWorld) → led (plane at) (at key) seen ≡ now
         → now.now.actions ≡ (keeper_settled k.shape k.places granted near1 ask).actions → ((slot : ℕ) → slot_asked ask ≡ Some slot → slot < length x.now.actions) → KeeperSettled at ask me1 k1 me' k'
         → HandFits (plane at) (at key) seen (slot_asked ask) me'.1
     unfolding keeper_settled
     hand_so me' k' (Put slot action) seen now is acts deep t =
         let e : me'.1 ≡ (slot, Drain (Some action)) ∷ rest me1.1 = ap (λ (z : Me Slot (Knows K)). z.1) t.0 in
         let there : action_in (led (plane at) (at key) seen).now.actions slot ≡ Some action =
-        ap (λ (z : World). action_in z.now.actions slot) is ∙ (ap (λ (actions : List (Option Action)). action_in actions slot) acts ∙ ap flat (within_item x.now.actions slot (Some action) (deep slot refl))) in
+        ap (λ (z : TableWorld). action_in z.now.actions slot) is ∙ (ap (λ (actions : List (Option Action)). action_in actions slot) acts ∙ ap flat (within_item x.now.actions slot (Some action) (deep slot refl))) in
         e ∙ λ i. (slot, Drain (sym there i)) ∷ rest (sym e i)
     hand_so me' k' (Take slot) seen now is acts deep t =
         let e : me'.1 ≡ (slot, Drain None) ∷ rest me1.1 = ap (λ (z : Me Slot (Knows K)). z.1) t.2 in
         let there : action_in (led (plane at) (at key) seen).now.actions slot ≡ None =
-        ap (λ (z : World). action_in z.now.actions slot) is ∙ (ap (λ (actions : List (Option Action)). action_in actions slot) acts ∙ none_there x.now.actions slot) in
+        ap (λ (z : TableWorld). action_in z.now.actions slot) is ∙ (ap (λ (actions : List (Option Action)). action_in actions slot) acts ∙ none_there x.now.actions slot) in
         e ∙ λ i. (slot, Drain (sym there i)) ∷ rest (sym e i)
     hand_so me' k' ask seen now is acts deep t = tt
 
@@ -265,15 +268,17 @@ module _ {K : Type 0} (at : K → World) where
       pub fewer_on : keeper_asks_left k'.shape k'.places k'.state < keeper_asks_left k.shape k.places k.state
       unfolding led
       fewer_on =
-          let stands : KeeperStandsAtNoSlot x.now = subst (λ (z : World). KeeperStandsAtNoSlot z.now) (sym (led_run at (at key) behind)) (life_keeper_stands (at key) guard.start (map event_of behind) guard.guarded) in
+          let there_named : asked_place (keeper_ask x.now.shape x.now.places x.now.keeper) ≡ Some place = (λ i. asked_place (keeper_ask (shape_is i) (places_is i) (stood i))) ∙ named in
+          let stands : KeeperStandsAtNoSlot x.now = takes_none (keeper_ask x.now.shape x.now.places x.now.keeper) (keeper_rests_so at (at key) guard behind) in
           let before : asks_left_of_keeper x.now ≡ keeper_asks_left k.shape k.places k.state = λ i. keeper_asks_left (shape_is i) (places_is i) (stood i) in
           let some : 0 < keeper_asks_left k.shape k.places k.state = (keeper_left k.shape k.places k.state).0 (word_busy (keeper_ask k.shape k.places k.state) place named) in
           let down : asks_left_of_keeper y.now < asks_left_of_keeper x.now =
-          keeper_down x granted true (alive at (at key) behind guard.opened.goes_on) (subst (λ (n : ℕ). 0 < n) (sym before) some) stands in
+          subst (λ (z : World). asks_left_of_keeper z.now < asks_left_of_keeper x.now) (sym (word_goes x granted true place there_named))
+          (keeper_down (world_in x) granted true (alive at (at key) behind guard.opened.goes_on) (subst (λ (n : ℕ). 0 < n) (sym before) some) stands) in
           let last : led (plane at) (at key) me'.0.seen ≡ y = ap (led (plane at) (at key)) seen_is in
           let after : keeper_asks_left k'.shape k'.places k'.state ≡ asks_left_of_keeper y.now =
           (λ i. keeper_asks_left ((kept_on.shape ∙ sym (shape_so at (at key) (KeeperMoves granted true ∷ behind))) i) ((kept_on.places ∙ sym (places_so at (at key) (KeeperMoves granted true ∷ behind))) i)
-          ((kept_on.state ∙ ap (λ (z : World). z.now.keeper) last) i)) in
+          ((kept_on.state ∙ ap (λ (z : TableWorld). z.now.keeper) last) i)) in
           omega (arith, down, before, after)
 
   -- one step of the keeper, whole

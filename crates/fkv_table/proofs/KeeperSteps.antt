@@ -11,9 +11,7 @@ use Rattle.fkv_base.specs.declared.shapes.Shape.{Shape}
 use Rattle.fkv_keeper.specs.declared.answers.KeeperTold.{KeeperTold}
 use Rattle.fkv_keeper.specs.Keeping.{KeeperModel, KeeperState, keeper_ask, keeper_next}
 use Rattle.fkv_world.specs.Actors.{slot_asked, slot_of_step, slot_named}
-use Rattle.fkv_world.specs.Runs.{World, happens}
 use Rattle.law_world.proofs.OfRuns.OneWord.{keeper_writes}
-use Rattle.law_guard.proofs.OfGuarded.WordsWithin.{life_keeper_within}
 use Rattle.fkv_seats.specs.Rule.{Changes, Quiet, Ruled, Stepped, led}
 use Rattle.fkv_seats.proofs.Keeps.{allows}
 use Rattle.fkv_table.specs.declared.happenings.Happening.{Happening}
@@ -25,8 +23,10 @@ use Rattle.fkv_table.specs.Keeps.{IsKeeping, KeeperReplied, adding}
 use Rattle.fkv_table.specs.Openings.{IsGuardedOpening, IsTableOf}
 use Rattle.fkv_table.specs.Planes.{plane}
 use Rattle.fkv_table.specs.Positions.{laid, position}
+use Rattle.fkv_table.specs.Worlds.{TableWorld, goes, world_in}
 use Rattle.fkv_table.proofs.Laid.{below, laid_found, laid_set}
-use Rattle.fkv_table.proofs.Lives.{alive, changed_there, is_there, led_run, slot_facts}
+use Rattle.fkv_table.proofs.Goes.{Rest, spares}
+use Rattle.fkv_table.proofs.Lives.{alive, changed_there, is_there, keeper_place_so, slot_facts}
 use Rattle.fkv_table.proofs.KeeperNotes.{ask_there, own, places_so, shape_so, there}
 use Rattle.fkv_table.proofs.Steps.{few_words, same_some, slot_behind, step_word, weaken}
 
@@ -34,9 +34,9 @@ use Rattle.fkv_table.proofs.Steps.{few_words, same_some, slot_behind, step_word,
 abbrev turned_to : List ℕ → Bool → Shape → Places → KeeperState → Option ℕ
 turned_to words granted shape p s = slot_of_step (keeper_ask shape p s) (keeper_ask shape p (keeper_next shape p s (reply_to words (keeper_ask shape p s)) granted))
 
-module _ {K : Type 0} (at : K → World) where
+module _ {K : Type 0} (at : K → TableWorld) where
   module _ (key : K) (me : Me Slot (Knows K)) (k : KeeperModel) (guard : IsGuardedOpening (at key)) (its : IsKeeping at key me k) where
-    abbrev w : World
+    abbrev w : TableWorld
     w = at key
 
     abbrev ask : Ask KeeperTold
@@ -44,25 +44,24 @@ module _ {K : Type 0} (at : K → World) where
 
     pub low : (place : ℕ) → asked_place ask ≡ Some place → place < word_count w.now.places
     low place e =
-        life_keeper_within w guard.start (map event_of me.0.seen) place guard.guarded guard.seeks
-        (ap (λ (x : World). asked_place (keeper_ask x.now.shape x.now.places x.now.keeper)) (sym (led_run at w me.0.seen)) ∙ (ap asked_place (ask_there at key me k guard its [] tt) ∙ e))
+        keeper_place_so at w guard me.0.seen place (ap asked_place (ask_there at key me k guard its [] tt) ∙ e)
 
     -- its step changes the word of its ask, as the ask does
     changes : (granted : Bool) (place : ℕ) → asked_place ask ≡ Some place → Changes (plane at) key me.0 [] (KeeperMoves granted true) (position place) (asked ask)
     unfolding led
     changes granted place e others q =
-        let x : World = led (plane at) w (others ++ me.0.seen) in
+        let x : TableWorld = led (plane at) w (others ++ me.0.seen) in
         let words : List ℕ = x.now.words in
         let inside : place < length words = is_there at w guard (others ++ me.0.seen) place (low place e) in
-        let moved : (happens x (event_of (KeeperMoves granted true))).now.words ≡ set words place (asked ask (get_or words place 0)) =
-        keeper_writes x granted true (alive at w (others ++ me.0.seen) guard.opened.goes_on) ∙ (ap (words_after words) (ask_there at key me k guard its others q) ∙ changed_there words ask place e) in
+        let moved : (goes x (KeeperMoves granted true)).now.words ≡ set words place (asked ask (get_or words place 0)) =
+        ap (λ (r : Rest). r.2) (spares x (KeeperMoves granted true)) ∙ (keeper_writes (world_in x) granted true (alive at w (others ++ me.0.seen) guard.opened.goes_on) ∙ (ap (words_after words) (ask_there at key me k guard its others q) ∙ changed_there words ask place e)) in
         ap laid moved ∙ (laid_set words place (asked ask (get_or words place 0)) inside ∙ ap (λ (n : ℕ). set (laid words) (position place) (asked ask n)) (sym (laid_found words place inside)))
 
     pub names_so : (granted : Bool) (others : List Happening) → Quiet (plane at) me.0.role others → (place : ℕ) → asked_place ask ≡ Some place
         → slot_named (led (plane at) w (others ++ me.0.seen)).now (event_of (KeeperMoves granted true))
         ≡ slot_asked (keeper_ask k.shape k.places (keeper_next k.shape k.places k.state (reply_to (led (plane at) w (others ++ me.0.seen)).now.words ask) granted))
     names_so granted others q place e =
-        let x : World = led (plane at) w (others ++ me.0.seen) in
+        let x : TableWorld = led (plane at) w (others ++ me.0.seen) in
         let shape : x.now.shape ≡ k.shape = shape_so at w (others ++ me.0.seen) ∙ sym its.shape in
         let places : x.now.places ≡ k.places = places_so at w (others ++ me.0.seen) ∙ sym its.places in
         let stood : x.now.keeper ≡ k.state = there at key me k guard its others q in
@@ -95,7 +94,7 @@ module _ {K : Type 0} (at : K → World) where
   keeper_replies key slots me me' k k' event granted asks reply guard its is same (place, e) told went =
       let t = told key its.about in
       let named : asked_place (keeper_ask k.shape k.places k.state) ≡ Some place = ap asked_place (sym same) ∙ e in
-      let x : World = led (plane at) (at key) (t.others ++ me.0.seen) in
+      let x : TableWorld = led (plane at) (at key) (t.others ++ me.0.seen) in
       let inside = is_there at (at key) guard (t.others ++ me.0.seen) place (low key me k guard its place named) in
       let reply_is : reply ≡ reply_to x.now.words (keeper_ask k.shape k.places k.state) =
       t.found ∙ (ap (λ (i : ℕ). slice_index_or (laid x.now.words) i 0) (step_word slots asks place e) ∙ (laid_found x.now.words place inside ∙ ap (word_found x.now.words) (sym named))) in

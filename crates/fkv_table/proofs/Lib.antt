@@ -1,4 +1,5 @@
 pub mod Called
+pub mod Goes
 pub mod KeeperCalled
 pub mod KeeperCommits
 pub mod KeeperMoments
@@ -16,3 +17,4 @@ pub mod Seating
 pub mod Settled
 pub mod Starts
 pub mod Steps
+pub mod Told

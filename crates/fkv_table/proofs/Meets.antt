@@ -4,7 +4,6 @@ use Rattle.std.specs.Prelude.{Some}
 use Rattle.atomic_table.specs.Seated.{TableId}
 use Rattle.atomic_table.specs.Table.{Joins, Me, Splits, rest}
 use Rattle.fkv_base.specs.Limits.{drain_slots}
-use Rattle.fkv_world.specs.Runs.{World}
 use Rattle.fkv_seats.specs.declared.views.Role.{Role}
 use Rattle.fkv_seats.specs.declared.views.Role.TheVariants.{Both, Sits}
 use Rattle.fkv_seats.specs.Rule.{AreApart, GoesOn, GotUp, HasMet, KeepsDesk, Ruled, SatDown, both_view, desk_of, left_view, longer, number_of, right_view, spent_view, with_desk}
@@ -14,9 +13,10 @@ use Rattle.fkv_table.specs.Desks.{Slot, Knows}
 use Rattle.fkv_table.specs.Meets.{AreTwoReady, HaveMet, StaysReady}
 use Rattle.fkv_table.specs.Planes.{plane}
 use Rattle.fkv_table.specs.Seating.{MaySit}
+use Rattle.fkv_table.specs.Worlds.{TableWorld}
 use Rattle.fkv_table.proofs.Ready.{below, held, ready_on}
 
-module _ {K : Type 0} (at : K → World) (key : K) (table seat seat' : TableId) (first second : Me Slot (Knows K)) (two : AreTwoReady at key table seat seat' first second) where
+module _ {K : Type 0} (at : K → TableWorld) (key : K) (table seat seat' : TableId) (first second : Me Slot (Knows K)) (two : AreTwoReady at key table seat seat' first second) where
   abbrev a : ℕ
   a = two.first.seat.number
 

@@ -10,7 +10,6 @@ use Rattle.fkv_session.specs.declared.answers.Told.{Told}
 use Rattle.fkv_session.specs.Sessions.{Seat, SessionState, session_ask}
 use Rattle.fkv_world.specs.Actors.{session_goes}
 use Rattle.fkv_world.specs.Moves.{Near, session_settled, session_replied, session_asks}
-use Rattle.fkv_world.specs.Runs.{World}
 use Rattle.fkv_world.specs.World.{seat_at, near, with_session}
 use Rattle.fkv_world.proofs.Shown.{session_own}
 use Rattle.fkv_seats.specs.Rule.{action_in, flat, led}
@@ -19,6 +18,9 @@ use Rattle.fkv_table.specs.declared.happenings.Happening.{Happening}
 use Rattle.fkv_table.specs.declared.happenings.Happening.TheVariants.{Moves}
 use Rattle.fkv_table.specs.Events.{event_of}
 use Rattle.fkv_table.specs.Planes.{plane}
+use Rattle.fkv_world.specs.Runs.{World}
+use Rattle.fkv_table.specs.Worlds.{TableWorld, world_in}
+use Rattle.fkv_table.proofs.Goes.{plain}
 use Rattle.fkv_table.proofs.Lives.{alive, same_number}
 
 asks_settled : (k : Seat) (n : Near SessionState) (ask : Ask Told) (place : ℕ) → asked_place ask ≡ Some place → session_asks k n ask ≡ session_settled k (session_replied k n ask) (session_ask k (session_replied k n ask).machine)
@@ -34,16 +36,16 @@ asks_settled k n (Take slot) place e = no_some place e
 asks_settled k n (Done its) place e = no_some place e
 
 -- what it has come to behind the reply, beside the words and the actions
-abbrev pub replied_there : World → Seat → SessionState → Near SessionState
+abbrev pub replied_there : TableWorld → Seat → SessionState → Near SessionState
 replied_there x k s = session_replied k (near x.now s) (session_ask k s)
 
-pub moved_so : {K : Type 0} (at : K → World) (w : World) (es : List Happening) (number : ℕ) (s : SessionState) (place : ℕ) → w.now.crashed ≡ false → slice_get (led (plane at) w es).now.sessions number ≡ Some s
-    → let x : World = led (plane at) w es in let k : Seat = seat_at x.now number in asked_place (session_ask k s) ≡ Some place
+pub moved_so : {K : Type 0} (at : K → TableWorld) (w : TableWorld) (es : List Happening) (number : ℕ) (s : SessionState) (place : ℕ) → w.now.crashed ≡ false → slice_get (led (plane at) w es).now.sessions number ≡ Some s
+    → let x : TableWorld = led (plane at) w es in let k : Seat = seat_at x.now number in asked_place (session_ask k s) ≡ Some place
     → (led (plane at) w (Moves number ∷ es)).now ≡ with_session x.now number (session_settled k (replied_there x k s) (session_ask k (replied_there x k s).machine))
 unfolding led session_goes
 moved_so at w es number s place e got named =
-    let x : World = led (plane at) w es in let k : Seat = seat_at x.now number in
-    session_own x (event_of (Moves number)) number s (same_number number) (alive at w es e) got ∙ ap (with_session x.now number) (asks_settled k (near x.now s) (session_ask k s) place named)
+    let x : TableWorld = led (plane at) w es in let k : Seat = seat_at x.now number in
+    ap (λ (y : World). y.now) (plain x (Moves number) tt) ∙ (session_own (world_in x) (event_of (Moves number)) number s (same_number number) (alive at w es e) got ∙ ap (with_session x.now number) (asks_settled k (near x.now s) (session_ask k s) place named))
 
 -- the action of a slot by its two names
 flat_found : (its : Option (Option Action)) → flat its ≡ found_action its

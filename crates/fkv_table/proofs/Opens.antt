@@ -11,7 +11,9 @@ use Rattle.fkv_session.specs.Sessions.{Sitter}
 use Rattle.fkv_world.specs.Opened.{IsOpenedWorld}
 use Rattle.fkv_table.specs.Desks.{Slot}
 use Rattle.fkv_table.specs.Planes.{opening_of}
+use Rattle.fkv_table.specs.declared.rule.Beginning.{Beginning}
 use Rattle.fkv_table.specs.Positions.{gaps, laid}
+use Rattle.fkv_table.specs.Worlds.{world_in}
 use Rattle.fkv_table.proofs.Laid.{laid_length}
 use Rattle.fkv_table.proofs.Starts.{shown_count}
 
@@ -22,8 +24,8 @@ laid_count words laid_words is = ap length is ∙ laid_length words 0 (length wo
 pub slots_count : (slots : List Slot) (count : ℕ) (x : Slot) → slots ≡ replicate count x → length slots ≡ count
 slots_count slots count x is = ap length is ∙ length-replicate {A = Slot} count x
 
-module _ {D : Type 0} (seen : D → List ℕ) (w : WorldModel D) (key : Snapshot (WorldModel D)) (shows : key.value ≡ w) where
-  pub opened_at : (device : D) → w.device ≡ device → IsOpenedWorld (beginning w.now (seen device)) → IsOpenedWorld (opening_of seen key)
+module _ {D : Type 0} (seen : D → List ℕ) (w : WorldModel D) (key : Snapshot (Beginning D)) (shows : key.value.world ≡ w) where
+  pub opened_at : (device : D) → w.device ≡ device → IsOpenedWorld (beginning w.now (seen device)) → IsOpenedWorld (world_in (opening_of seen key))
   opened_at device same opened =
       subst (λ (x : WorldModel D). IsOpenedWorld (beginning x.now (seen x.device))) (sym shows) (subst (λ (d : D). IsOpenedWorld (beginning w.now (seen d))) (sym same) opened)
 
@@ -32,7 +34,7 @@ module _ {D : Type 0} (seen : D → List ℕ) (w : WorldModel D) (key : Snapshot
       count ∙ (laid_count words laid_words is ∙ ap (λ (ws : List ℕ). length ws + gaps) (its ∙ ap (λ (x : WorldModel D). x.now.words) (sym shows)))
 
   pub slots_at : (table : TableId) (sitters : List Sitter) (slots : List Slot) (x : Slot) (count : ℕ) → states_of sitters ≡ w.now.sessions → slots ≡ replicate count x → count ≡ drain_slots + length sitters + 1
-      → table.slots ≡ length slots → IsOpenedWorld (opening_of seen key) → table.slots ≡ drain_slots + ((opening_of seen key).now.places.sessions + 1)
+      → table.slots ≡ length slots → IsOpenedWorld (world_in (opening_of seen key)) → table.slots ≡ drain_slots + ((opening_of seen key).now.places.sessions + 1)
   slots_at table sitters slots x count states is many counted opened =
       let first = slots_count slots count x is in
       let second : length sitters ≡ length (opening_of seen key).now.sessions = shown_count state_of sitters w.now.sessions states ∙ ap (λ (y : WorldModel D). length y.now.sessions) (sym shows) in

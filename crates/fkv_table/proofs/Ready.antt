@@ -1,60 +1,40 @@
 -- What a session that is ready has in hand, and when it stays so.
-use Rattle.std.proofs.Common.{◌≡◌, ◌≢◌, ◌⊎◌, ℕ, ◌+◌, ◌<◌, refl, sym, ap, subst, ◌∙◌, inl, inr, true, false, List, [], ◌∷◌, arith}
-use Rattle.std.specs.Prelude.{Option, Some, None, slice_get, ◌==◌}
-use Rattle.std.proofs.lemmas.Bool.Decides.{nat_tests}
+use Rattle.std.proofs.Common.{◌≡◌, ℕ, ◌+◌, ◌<◌, refl, sym, ap, subst, ◌∙◌, true, false, List, [], ◌∷◌, arith}
+use Rattle.std.specs.Prelude.{Option, Some, None, slice_get}
 use Rattle.atomic_table.specs.Seated.{TableId}
 use Rattle.atomic_table.specs.Table.{Me, rest}
 use Rattle.fkv_base.specs.Limits.{drain_slots}
-use Rattle.fkv_map.specs.declared.operations.Call.TheVariants.{Refresh}
 use Rattle.fkv_session.specs.Sessions.{SessionState, Sitter}
-use Rattle.fkv_world.specs.Runs.{World, happens}
-use Rattle.fkv_world.proofs.Shown.{session_apart}
-use Rattle.law_world.proofs.OfRuns.Nothing.{no_session}
+use Rattle.law_world.proofs.OfRuns.Nothing.{none_then}
 use Rattle.fkv_seats.specs.declared.views.Role.{Role}
 use Rattle.fkv_seats.specs.declared.views.Role.TheVariants.{Sits}
 use Rattle.fkv_seats.specs.Rule.{GoesOn, HandFits, Quiet, base, desk_of, led}
-use Rattle.fkv_seats.proofs.Keeps.{same_or}
 use Rattle.fkv_table.specs.declared.happenings.Happening.{Happening}
-use Rattle.fkv_table.specs.declared.happenings.Happening.TheVariants.{Calls, Moves, Commits, Turns, KeeperMoves}
 use Rattle.fkv_table.specs.Calls.{IsReady}
 use Rattle.fkv_table.specs.Desks.{Slot, Knows}
 use Rattle.fkv_table.specs.Events.{event_of}
 use Rattle.fkv_table.specs.Openings.{IsTableOf}
 use Rattle.fkv_table.specs.Planes.{plane}
 use Rattle.fkv_table.specs.Seating.{HasDeskInHand}
+use Rattle.fkv_table.specs.Worlds.{TableWorld, world_in}
+use Rattle.fkv_table.proofs.Goes.{Rest, spares}
 use Rattle.fkv_table.proofs.Lives.{quiet_session}
 
 -- a table has a word
-pub some_words : (w : World) (id : TableId) → IsTableOf w id → 0 < id.words
+pub some_words : (w : TableWorld) (id : TableId) → IsTableOf w id → 0 < id.words
 some_words w id its = omega (arith, its.words)
 
-number_apart : (i j : ℕ) → i ≢ j → (i == j) ≡ false
-number_apart i j other = grind (arith, nat_tests)
-
 -- where there is no session of a number, there is none behind an event
-none_step : (x : World) (e : Happening) (n : ℕ) → slice_get x.now.sessions n ≡ None → slice_get (happens x (event_of e)).now.sessions n ≡ None
-none_step x (Calls j call) n none = by (same_or j n)
-  where
-    by : (j ≡ n) ⊎ (j ≢ n) → slice_get (happens x (event_of (Calls j call))).now.sessions n ≡ None
-    by (inl same) = ap (λ (y : World). slice_get y.now.sessions n) (no_session x j call (ap (slice_get x.now.sessions) same ∙ none)).0 ∙ none
-    by (inr other) = session_apart x (event_of (Calls j call)) n (number_apart j n other) ∙ none
-none_step x (Moves j) n none = by (same_or j n)
-  where
-    by : (j ≡ n) ⊎ (j ≢ n) → slice_get (happens x (event_of (Moves j))).now.sessions n ≡ None
-    by (inl same) = ap (λ (y : World). slice_get y.now.sessions n) (no_session x j Refresh (ap (slice_get x.now.sessions) same ∙ none)).1 ∙ none
-    by (inr other) = session_apart x (event_of (Moves j)) n (number_apart j n other) ∙ none
-none_step x (Commits kind) n none = session_apart x (event_of (Commits kind)) n refl ∙ none
-none_step x Turns n none = session_apart x (event_of Turns) n refl ∙ none
-none_step x (KeeperMoves granted done) n none = session_apart x (event_of (KeeperMoves granted done)) n refl ∙ none
-
-module _ {K : Type 0} (at : K → World) where
-  none_stays : (w : World) (es : List Happening) (n : ℕ) → slice_get w.now.sessions n ≡ None → slice_get (led (plane at) w es).now.sessions n ≡ None
+module _ {K : Type 0} (at : K → TableWorld) where
+  none_stays : (w : TableWorld) (es : List Happening) (n : ℕ) → slice_get w.now.sessions n ≡ None → slice_get (led (plane at) w es).now.sessions n ≡ None
   unfolding led
   none_stays w [] n none = none
-  none_stays w (e ∷ es) n none = none_step (led (plane at) w es) e n (none_stays w es n none)
+  none_stays w (e ∷ es) n none =
+      let x : TableWorld = led (plane at) w es in
+      ap (λ (r : Rest). slice_get r.4 n) (spares x e) ∙ none_then (world_in x) (event_of e) n (none_stays w es n none)
 
   -- a session that there is was there as the store was opened
-  pub was_there : (w : World) (es : List Happening) (n : ℕ) (s : SessionState) → slice_get (led (plane at) w es).now.sessions n ≡ Some s → (first : SessionState) × (slice_get w.now.sessions n ≡ Some first)
+  pub was_there : (w : TableWorld) (es : List Happening) (n : ℕ) (s : SessionState) → slice_get (led (plane at) w es).now.sessions n ≡ Some s → (first : SessionState) × (slice_get w.now.sessions n ≡ Some first)
   was_there w es n s there = by (slice_get w.now.sessions n) refl
     where
       by : (found : Option SessionState) → slice_get w.now.sessions n ≡ found → (first : SessionState) × (slice_get w.now.sessions n ≡ Some first)

@@ -4,15 +4,15 @@ use Rattle.std.specs.Prelude.{Some}
 use mathlib.Core.Option.{none}
 use Rattle.atomic_table.specs.Table.{Me, step, rest, Allows, carried_after}
 use Rattle.fkv_base.specs.Limits.{drain_slots}
-use Rattle.fkv_world.specs.Runs.{World}
 use Rattle.fkv_seats.specs.Rule.{GotUp, Ruled, SatDown, desk_of}
 use Rattle.fkv_seats.proofs.Keeps.{same_some}
 use Rattle.fkv_seats.proofs.Desks.{sits_down, gets_up}
 use Rattle.fkv_table.specs.Desks.{Slot, Knows}
 use Rattle.fkv_table.specs.Planes.{plane}
 use Rattle.fkv_table.specs.Seating.{rising, sitting}
+use Rattle.fkv_table.specs.Worlds.{TableWorld}
 
-module _ {K : Type 0} (at : K → World) where
+module _ {K : Type 0} (at : K → TableWorld) where
   pub may_sit : (key : K) (slots id : ℕ) (me : Me Slot (Knows K)) (number : ℕ) → desk_of me.0.role ≡ Some number → me.0.desk ≡ false → drain_slots + number < slots
       → Allows (Ruled (plane at) key) slots id me 0 (λ n. n) (sitting at (step slots 0 0 0 none) me)
   may_sit key slots id me number whose no_desk few s h l g b =

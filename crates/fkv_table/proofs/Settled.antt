@@ -19,15 +19,13 @@ use Rattle.fkv_session.proofs.Shown.{session_left}
 use Rattle.fkv_world.specs.Actors.{slot_asked, slot_named}
 use Rattle.fkv_world.specs.Moves.{Near, session_gets, session_settled}
 use Rattle.fkv_world.specs.Past.{Answered, TraceEvent}
-use Rattle.fkv_world.specs.Runs.{World, run}
+use Rattle.fkv_world.specs.Runs.{World}
 use Rattle.fkv_world.specs.World.{Moves as Steps, Now, seat_at, with_session}
 use Rattle.law_world.specs.Runs.Added.{told_at, told_by, ended_by, begun_by}
-use Rattle.law_world.specs.Runs.Ends.{StandsAtNoSlot, asks_left_of, left_at}
-use Rattle.law_world.proofs.OfRuns.Added.{trace_so}
+use Rattle.law_world.specs.Runs.Ends.{StandsAtNoSlot, StandsAtNone, asks_left_of, left_at}
 use Rattle.law_world.proofs.OfRuns.Ends.{session_down}
 use Rattle.law_world.proofs.OfRuns.InHand.Lives.{session_in_hand}
-use Rattle.law_world.proofs.OfRuns.Nothing.{none_ever}
-use Rattle.law_guard.proofs.OfGuarded.Ends.{life_ended, life_stands}
+use Rattle.law_guard.proofs.OfGuarded.Ends.{takes_none}
 use Rattle.fkv_seats.specs.declared.held.Held.TheVariants.{Drain}
 use Rattle.fkv_seats.specs.declared.views.Role.TheVariants.{Sits}
 use Rattle.fkv_seats.specs.Rule.{Carries, HandFits, action_in, base, flat, led}
@@ -40,7 +38,9 @@ use Rattle.fkv_table.specs.Events.{event_of}
 use Rattle.fkv_table.specs.Openings.{IsGuardedOpening}
 use Rattle.fkv_table.specs.Planes.{plane}
 use Rattle.fkv_table.specs.Sits.{IsAsked, IsIdleEmpty, IsSeated, Replied, Settled, Went}
-use Rattle.fkv_table.proofs.Lives.{alive, led_run, named_within, rests_so, same_chair, slots_count}
+use Rattle.fkv_table.specs.Worlds.{TableWorld, world_in}
+use Rattle.fkv_table.proofs.Goes.{goes_trace, plain}
+use Rattle.fkv_table.proofs.Lives.{alive, ended_at, named_within, rests_so, same_chair, slots_count}
 use Rattle.fkv_table.proofs.Moved.{moved_so, replied_there, same_drawer}
 use Rattle.fkv_table.proofs.Steps.{chair_at, names_so, standing}
 
@@ -82,20 +82,22 @@ told_so : (n after : Now) (number : ℕ) (s s' : SessionState) (its : Told) → 
 unfolding ended_by begun_by
 told_so n after number s s' its going was now busy idle = rw (going, was, now, busy, idle) refl
 
-module _ {K : Type 0} (at : K → World) where
+-- who turns to no slot stands at none
+stands_none : (n : Now) (number : ℕ) → ((s : SessionState) → slice_get n.sessions number ≡ Some s → slot_asked (session_ask (seat_at n number) s) ≡ None) → StandsAtNoSlot n number
+stands_none n number rests = by (slice_get n.sessions number) refl
+  where
+    by : (found : Option SessionState) → slice_get n.sessions number ≡ found → StandsAtNone n number found
+    by None there = tt
+    by (Some its) there = takes_none (session_ask (seat_at n number) its) (rests its there)
+
+module _ {K : Type 0} (at : K → TableWorld) where
   -- a session whose machine asks for nothing has no call in hand
-  pub ended_so : (w : World) (opens : IsGuardedOpening w) (es : List Happening) (number : ℕ) (s : SessionState) (its : Told) → slice_get (led (plane at) w es).now.sessions number ≡ Some s
+  pub ended_so : (w : TableWorld) (opens : IsGuardedOpening w) (es : List Happening) (number : ℕ) (s : SessionState) (its : Told) → slice_get (led (plane at) w es).now.sessions number ≡ Some s
       → session_ask (seat_at w.now number) s ≡ Done its → is_busy s.step ≡ false
-  ended_so w opens es number s its there asks = by (slice_get w.now.sessions number) refl
+  ended_so w opens es number s its there asks = ended_at at w opens es number s there none
     where
       k : Seat
       k = seat_at w.now number
-
-      now_there : slice_get (run w (map event_of es)).now.sessions number ≡ Some s
-      now_there = ap (λ (x : World). slice_get x.now.sessions number) (sym (led_run at w es)) ∙ there
-
-      same_seat : seat_at (run w (map event_of es)).now number ≡ k
-      same_seat = ap (λ (x : World). seat_at x.now number) (sym (led_run at w es)) ∙ same_chair at w es number
 
       done : is_done (session_ask k s) ≡ true
       done = ap is_done asks
@@ -103,12 +105,8 @@ module _ {K : Type 0} (at : K → World) where
       none_left : session_asks_left k s ≡ 0
       none_left = elim (eq-zero-or-pos (session_asks_left k s)) [ inl e ↦ e | inr some ↦ (let not : is_done (session_ask k s) ≡ false = (session_left k s).1 some in let clash : true ≡ false = sym done ∙ not in cc) ]
 
-      none : asks_left_of (run w (map event_of es)).now number ≡ 0
-      none = ap (left_at (run w (map event_of es)).now number) now_there ∙ (ap (λ (c : Seat). session_asks_left c s) same_seat ∙ none_left)
-
-      by : (was : Option SessionState) → slice_get w.now.sessions number ≡ was → is_busy s.step ≡ false
-      by None at_first = let clash : Some s ≡ None = sym now_there ∙ none_ever w (map event_of es) number at_first in cc
-      by (Some o) at_first = life_ended w opens.start (map event_of es) number o s opens.guarded at_first now_there none
+      none : asks_left_of (led (plane at) w es).now number ≡ 0
+      none = ap (left_at (led (plane at) w es).now number) there ∙ (ap (λ (c : Seat). session_asks_left c s) (same_chair at w es number) ∙ none_left)
 
   module _ (key : K) (me me1 : Me Slot (Knows K)) (own : List Happening) (m m1 : Sitter) (opens : IsGuardedOpening (at key)) (sits : IsSeated at key me own m) (r : Replied at key me own m me1 m1)
       (place : ℕ) (named : asked_place (session_ask m.seat m.state) ≡ Some place) where
@@ -118,10 +116,10 @@ module _ {K : Type 0} (at : K → World) where
     abbrev behind : List Happening
     behind = own ++ (r.others ++ me.0.seen)
 
-    abbrev x : World
+    abbrev x : TableWorld
     x = led (plane at) (at key) behind
 
-    abbrev y : World
+    abbrev y : TableWorld
     y = led (plane at) (at key) (Moves n ∷ behind)
 
     stood : slice_get x.now.sessions n ≡ Some m.state
@@ -201,18 +199,18 @@ module _ {K : Type 0} (at : K → World) where
     same_view me' m' (Done its) t = (ap (λ (z : Me Slot (Knows K)). z.0) t.0, ap (λ (z : Sitter). z.seat) t.1)
 
     -- what is in the seat's hand is what the slot has after the event
-    hand_so : (now : World) (me' : Me Slot (Knows K)) (m' : Sitter) (ask : Ask Told) (seen : List Happening) → led (plane at) (at key) seen ≡ now → now.now.actions ≡ (session_settled m1.seat near1 ask).actions
+    hand_so : (now : TableWorld) (me' : Me Slot (Knows K)) (m' : Sitter) (ask : Ask Told) (seen : List Happening) → led (plane at) (at key) seen ≡ now → now.now.actions ≡ (session_settled m1.seat near1 ask).actions
         → ((slot : ℕ) → slot_asked ask ≡ Some slot → slot < length x.now.actions) → Settled at ask me1 m1 me' m' → HandFits (plane at) (at key) seen (slot_asked ask) me'.1
     unfolding session_settled
     hand_so now me' m' (Put slot action) seen is acts deep t =
         let e : me'.1 ≡ (slot, Drain (Some action)) ∷ rest me1.1 = ap (λ (z : Me Slot (Knows K)). z.1) t.0 in
         let its : action_in (led (plane at) (at key) seen).now.actions slot ≡ Some action =
-        ap (λ (z : World). action_in z.now.actions slot) is ∙ (ap (λ (actions : List (Option Action)). action_in actions slot) acts ∙ ap flat (within_item x.now.actions slot (Some action) (deep slot refl))) in
+        ap (λ (z : TableWorld). action_in z.now.actions slot) is ∙ (ap (λ (actions : List (Option Action)). action_in actions slot) acts ∙ ap flat (within_item x.now.actions slot (Some action) (deep slot refl))) in
         e ∙ λ i. (slot, Drain (sym its i)) ∷ rest (sym e i)
     hand_so now me' m' (Take slot) seen is acts deep t =
         let e : me'.1 ≡ (slot, Drain None) ∷ rest me1.1 = ap (λ (z : Me Slot (Knows K)). z.1) t.2 in
         let its : action_in (led (plane at) (at key) seen).now.actions slot ≡ None =
-        ap (λ (z : World). action_in z.now.actions slot) is ∙ (ap (λ (actions : List (Option Action)). action_in actions slot) acts ∙ none_there x.now.actions slot) in
+        ap (λ (z : TableWorld). action_in z.now.actions slot) is ∙ (ap (λ (actions : List (Option Action)). action_in actions slot) acts ∙ none_there x.now.actions slot) in
         e ∙ λ i. (slot, Drain (sym its i)) ∷ rest (sym e i)
     hand_so now me' m' ask seen is acts deep t = tt
 
@@ -296,8 +294,8 @@ module _ {K : Type 0} (at : K → World) where
           by : (found : Option ℕ) → slot_asked ask ≡ found → me'.0.hand ≡ None
           by None e = hand' ∙ e
           by (Some slot) e =
-              let busy : is_busy m'.state.step ≡ true = session_in_hand x n slot m.state m'.state going stood (ap (λ (k : Seat). slot_asked (session_ask k m.state)) chair ∙ (ap (λ (k : Seat). slot_asked (session_ask k m.state)) sits.chair ∙ rests_so at (at key) opens behind n m.state stood))
-              (turned_to ask is slot e) now_there in
+              let busy : is_busy m'.state.step ≡ true = session_in_hand (world_in x) n slot m.state m'.state going stood (ap (λ (k : Seat). slot_asked (session_ask k m.state)) chair ∙ (ap (λ (k : Seat). slot_asked (session_ask k m.state)) sits.chair ∙ rests_so at (at key) opens behind n m.state stood))
+              (turned_to ask is slot e) (ap (λ (z : World). slice_get z.now.sessions n) (sym (plain x (Moves n) tt)) ∙ now_there) in
               let clash : true ≡ false = sym busy ∙ idle_now its done in cc
 
       pub told_on : (its : Told) → session_ask m'.seat m'.state ≡ Done its → IsToldLast (led (plane at) (at key) me'.0.seen) m'.seat.number (telling its m'.state.finished)
@@ -307,14 +305,14 @@ module _ {K : Type 0} (at : K → World) where
           let told = told_so x.now y.now n m.state m'.state its going stood now_there busy_before idle in
           subst (λ (z : List Happening × Seat). IsToldLast (led (plane at) (at key) z.0) z.1.number (telling its m'.state.finished)) (λ i. (sym seen_is i, sym seat_on i)) record {
             before = x.past.trace;
-            newest = trace_so x (event_of (Moves n)) ∙ ap (λ (es : List TraceEvent). told_at (length y.past.history) es ++ x.past.trace) told;
+            newest = goes_trace x (Moves n) tt ∙ ap (λ (es : List TraceEvent). told_at (length y.past.history) es ++ x.past.trace) told;
           }
 
       pub fewer_on : session_asks_left m'.seat m'.state < session_asks_left m.seat m.state
       unfolding led
       fewer_on =
-          let stands : StandsAtNoSlot x.now n = subst (λ (z : World). StandsAtNoSlot z.now n) (sym (led_run at (at key) behind)) (life_stands (at key) opens.start (map event_of behind) n opens.guarded) in
-          let down : asks_left_of y.now n ≤ asks_left_of x.now n - 1 = session_down x n going stands in
+          let stands : StandsAtNoSlot x.now n = stands_none x.now n (λ s there. ap (λ (k : Seat). slot_asked (session_ask k s)) (same_chair at (at key) behind n) ∙ rests_so at (at key) opens behind n s there) in
+          let down : asks_left_of y.now n ≤ asks_left_of x.now n - 1 = subst (λ (z : World). asks_left_of z.now n ≤ asks_left_of x.now n - 1) (sym (plain x (Moves n) tt)) (session_down (world_in x) n going stands) in
           let before : asks_left_of x.now n ≡ session_asks_left m.seat m.state = ap (left_at x.now n) stood ∙ ap (λ (k : Seat). session_asks_left k m.state) chair in
           let after : asks_left_of y.now n ≡ session_asks_left m'.seat m'.state =
           ap (left_at y.now n) now_there ∙ ap (λ (k : Seat). session_asks_left k m'.state) (chair_at at key me own m opens sits (Moves n ∷ behind) ∙ sym seat_on) in

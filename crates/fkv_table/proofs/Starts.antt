@@ -14,7 +14,6 @@ use Rattle.fkv_keeper.specs.Keeping.{KeeperModel}
 use Rattle.fkv_keeper.specs.KeeperRun.{is_in_hand}
 use Rattle.fkv_session.specs.Sessions.{Seat, SessionState, Sitter}
 use Rattle.fkv_world.specs.Opened.{IsOpenedWorld}
-use Rattle.fkv_world.specs.Runs.{World}
 use Rattle.fkv_world.specs.World.{seat_at}
 use Rattle.fkv_seats.specs.declared.held.Held.TheVariants.{Drain}
 use Rattle.fkv_seats.specs.declared.views.Role.TheVariants.{Sits}
@@ -57,7 +56,7 @@ none_in zero k = refl
 none_in (suc count) zero = refl
 none_in (suc count) (suc k) = none_in count k
 
-module _ {K : Type 0} (at : K → World) (key : K) where
+module _ {K : Type 0} (at : K → TableWorld) (key : K) where
   -- a table whose words are the opened world's, with empty slots
   pub opens_so : (words : List ℕ) (count : ℕ) → words ≡ laid (at key).now.words → (at key).now.actions ≡ replicate drain_slots None → drain_slots ≤ count
       → Ruled (plane at) key (opening words (replicate count (Drain None)) (first_view (plane at) key))
@@ -92,7 +91,7 @@ module _ {K : Type 0} (at : K → World) (key : K) where
 
   -- a session with its seat
   pub fresh_so : (table seat : TableId) (number : ℕ) (m : Sitter) (desk : ℕ) (me : Me Slot (Knows K)) → HasSeat key table number seat me → desk ≡ drain_slots + number
-      → m.seat ≡ seat_at (at key).now number → slice_get (at key).now.sessions number ≡ Some m.state → IsOpenedWorld (at key)
+      → m.seat ≡ seat_at (at key).now number → slice_get (at key).now.sessions number ≡ Some m.state → IsOpenedWorld (world_in (at key))
       → table.words ≡ length (at key).now.words + gaps → table.slots ≡ drain_slots + ((at key).now.places.sessions + 1) → IsFresh at key table number m desk seat me
   unfolding led
   fresh_so table seat number m desk me has desk_is chair there opened words slots =
@@ -130,7 +129,7 @@ module _ {K : Type 0} (at : K → World) (key : K) where
 
   -- the keeper, with what is left of the rest
   pub fresh_keeper : (table seat : TableId) (k : KeeperModel) (from : ℕ) (me : Me Slot (Knows K)) → me ≡ (rest_view key from, []) → seat ≡ table
-      → k ≡ record { shape = (at key).now.shape; places = (at key).now.places; state = (at key).now.keeper } → IsOpenedWorld (at key)
+      → k ≡ record { shape = (at key).now.shape; places = (at key).now.places; state = (at key).now.keeper } → IsOpenedWorld (world_in (at key))
       → table.words ≡ length (at key).now.words + gaps → table.slots ≡ drain_slots + ((at key).now.places.sessions + 1) → IsFreshKeeper at key table k seat me
   unfolding led
   fresh_keeper table seat k from me me_is same its opened words slots =
@@ -160,7 +159,7 @@ module _ {K : Type 0} (at : K → World) (key : K) where
   -- each session of the list
   pub each_fresh : {X : Type 0} (machine_of : X → Sitter) (desk_of : X → ℕ) (seat_of : X → TableId) (me_of : X → Me Slot (Knows K)) (table : TableId) (xs : List X) (sitters : List Sitter) → map machine_of xs ≡ sitters
       → EachAt xs (λ i x. HasSeat key table i (seat_of x) (me_of x) × (desk_of x ≡ drain_slots + i)) → states_of sitters ≡ (at key).now.sessions → AreSeated (at key).now.shape (at key).now.places sitters
-      → IsOpenedWorld (at key) → table.words ≡ length (at key).now.words + gaps → table.slots ≡ drain_slots + ((at key).now.places.sessions + 1)
+      → IsOpenedWorld (world_in (at key)) → table.words ≡ length (at key).now.words + gaps → table.slots ≡ drain_slots + ((at key).now.places.sessions + 1)
       → EachAt xs (λ i x. IsFresh at key table i (machine_of x) (desk_of x) (seat_of x) (me_of x))
   each_fresh machine_of desk_of seat_of me_of table xs sitters shown each states seated opened words slots i x got =
       let its = each i x got in

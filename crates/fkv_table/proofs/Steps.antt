@@ -11,7 +11,6 @@ use Rattle.fkv_plane.specs.Places.{word_count}
 use Rattle.fkv_session.specs.declared.answers.Told.{Told}
 use Rattle.fkv_session.specs.Sessions.{Seat, SessionState, Sitter, session_ask, session_next}
 use Rattle.fkv_world.specs.Actors.{slot_asked, slot_of_step, slot_named, session_slot_named}
-use Rattle.fkv_world.specs.Runs.{World}
 use Rattle.fkv_world.specs.World.{seat_at}
 use Rattle.fkv_seats.specs.declared.views.Role.{Role}
 use Rattle.fkv_seats.specs.declared.views.Role.TheVariants.{Sits}
@@ -26,6 +25,7 @@ use Rattle.fkv_table.specs.Openings.{IsGuardedOpening, IsTableOf}
 use Rattle.fkv_table.specs.Planes.{plane}
 use Rattle.fkv_table.specs.Positions.{laid, position}
 use Rattle.fkv_table.specs.Sits.{IsSeated, Replied, called_after}
+use Rattle.fkv_table.specs.Worlds.{TableWorld}
 use Rattle.fkv_table.proofs.Laid.{below, laid_found}
 use Rattle.fkv_table.proofs.Lives.{are_starts, is_there, own_step, place_within, same_chair, slot_facts, stands, start_words, writes_laid}
 
@@ -59,13 +59,13 @@ slot_behind (Max i k) behind place e = refl
 pub few_words : (p : Places) (place : ℕ) → place < word_count p → place < 2 ^ 62
 few_words p place low = omega (arith, low, p.few_sessions, p.few_buckets, p.few_overflow, p.small_ring)
 
-module _ {K : Type 0} (at : K → World) where
+module _ {K : Type 0} (at : K → TableWorld) where
   pub weaken : (key : K) (slots id : ℕ) (me : Me Slot (Knows K)) (i : ℕ) (f : ℕ → ℕ) (then other : ℕ → Me Slot (Knows K) → Type 0) → ((n : ℕ) (m : Me Slot (Knows K)) → then n m → other n m)
       → Allows (Ruled (plane at) key) slots id me i f then → Allows (Ruled (plane at) key) slots id me i f other
   weaken key slots id me i f then other on allowed s h l g b = let t = allowed s h l g b in (t.0, t.1, t.2, t.3, on _ _ t.4)
 
   module _ (key : K) (me : Me Slot (Knows K)) (own : List Happening) (m : Sitter) (opens : IsGuardedOpening (at key)) (sits : IsSeated at key me own m) where
-    abbrev w : World
+    abbrev w : TableWorld
     w = at key
 
     abbrev n : ℕ
@@ -101,7 +101,7 @@ module _ {K : Type 0} (at : K → World) where
         → slot_named (led (plane at) w (own ++ (later ++ me.0.seen))).now (event_of (Moves n))
         ≡ slot_asked (session_ask m.seat (session_next m.seat m.state (reply_to (led (plane at) w (own ++ (later ++ me.0.seen))).now.words (session_ask m.seat m.state))))
     names_so later q place e =
-        let x : World = led (plane at) w (own ++ (later ++ me.0.seen)) in
+        let x : TableWorld = led (plane at) w (own ++ (later ++ me.0.seen)) in
         ap (session_slot_named x.now (seat_at x.now n)) (standing later q)
         ∙ (ap (λ (k : Seat). session_slot_named x.now k (Some m.state)) (chair_at (own ++ (later ++ me.0.seen)))
         ∙ slot_behind (session_ask m.seat m.state) (session_ask m.seat (session_next m.seat m.state (reply_to x.now.words (session_ask m.seat m.state)))) place e)
@@ -136,8 +136,8 @@ module _ {K : Type 0} (at : K → World) where
       let t = told key sits.about in
       let named : asked_place (session_ask m.seat m.state) ≡ Some place = ap asked_place (sym is) ∙ e in
       let before : List Happening = own me.1 ++ (t.others ++ me.0.seen) in
-      let x : World = led (plane at) (at key) before in
-      let y : World = led (plane at) (at key) (t.others ++ me.0.seen) in
+      let x : TableWorld = led (plane at) (at key) before in
+      let y : TableWorld = led (plane at) (at key) (t.others ++ me.0.seen) in
       let number_is : number_of me.0.role ≡ m.seat.number = ap number_of sits.role in
       let there = is_there at (at key) opens (t.others ++ me.0.seen) place (low key me (own me.1) m opens sits place named) in
       let reply_is : reply ≡ reply_to x.now.words (session_ask m.seat m.state) =

@@ -11,7 +11,6 @@ use Rattle.fkv_session.specs.Answers.{IsAnswerTold}
 use Rattle.fkv_session.specs.SessionRun.{Telling, telling}
 use Rattle.fkv_session.specs.Sessions.{SessionState, Sitter, is_busy}
 use Rattle.fkv_world.specs.Past.{Traced, Answered}
-use Rattle.fkv_world.specs.Runs.{World}
 use Rattle.fkv_seats.specs.declared.views.Role.TheVariants.{Sits}
 use Rattle.fkv_seats.specs.Rule.{led, speaks}
 use Rattle.fkv_table.specs.declared.happenings.Happening.{Happening}
@@ -21,6 +20,7 @@ use Rattle.fkv_table.specs.Events.{actor_of}
 use Rattle.fkv_table.specs.Openings.{IsTableOf}
 use Rattle.fkv_table.specs.Planes.{plane}
 use Rattle.fkv_table.specs.Sits.{IsSeated}
+use Rattle.fkv_table.specs.Worlds.{TableWorld}
 
 -- of this session nothing but its steps
 abbrev pub OnlyMoves : ℕ → List Happening → Type 0
@@ -46,18 +46,18 @@ pub record HasStepped (number : ℕ) (seen seen' : List Happening) : Type 0 wher
   pub so : seen' ≡ steps ++ seen
 
 -- the newest that callers see of a world is this answer of a session
-pub record IsToldLast (w : World) (number : ℕ) (its : Telling) : Type 0 where
+pub record IsToldLast (w : TableWorld) (number : ℕ) (its : Telling) : Type 0 where
   pub before : List Traced
   pub newest : w.past.trace ≡ record { its = Answered number its; effects = length w.past.history } ∷ before
 
 -- so it is with the answer to a call
-pub record IsAnsweredLast (w : World) (number : ℕ) (answer : Answer) : Type 0 where
+pub record IsAnsweredLast (w : TableWorld) (number : ℕ) (answer : Answer) : Type 0 where
   pub its : Told
   pub finished : List Finished
   pub last : IsToldLast w number (telling its finished)
   pub told : IsAnswerTold its finished answer
 
-module _ {K : Type 0} (at : K → World) where
+module _ {K : Type 0} (at : K → TableWorld) where
   -- behind what has been seen the session has no call in hand
   abbrev pub WasIdle : K → List Happening → ℕ → Type 0
   WasIdle key seen number = (s : SessionState) → slice_get (led (plane at) (at key) seen).now.sessions number ≡ Some s → is_busy s.step ≡ false

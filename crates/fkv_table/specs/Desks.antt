@@ -2,7 +2,6 @@
 use Rattle.std.specs.Prelude.{◌≡◌, ℕ, true, List, [], ◌∷◌, Some}
 use Rattle.atomic_table.specs.Table.{Me, Step}
 use Rattle.fkv_plane.specs.declared.actions.Action.{Action}
-use Rattle.fkv_world.specs.Runs.{World}
 use Rattle.fkv_seats.specs.declared.held.Held.{Held}
 use Rattle.fkv_seats.specs.declared.held.Held.TheVariants.{Drain, Desk}
 use Rattle.fkv_seats.specs.declared.views.View.{View}
@@ -10,6 +9,7 @@ use Rattle.fkv_seats.specs.Rule.{Stepped, base, number_of}
 use Rattle.fkv_table.specs.declared.happenings.Happening.{Happening}
 use Rattle.fkv_table.specs.declared.happenings.Happening.TheVariants.{Moves}
 use Rattle.fkv_table.specs.Planes.{plane}
+use Rattle.fkv_table.specs.Worlds.{TableWorld}
 
 abbrev pub Slot : Type 0
 Slot = Held Action Happening
@@ -26,7 +26,7 @@ abbrev pub noted : List (ℕ × Slot) → List Happening
 noted [] = []
 noted (x ∷ xs) = written x.1
 
-module _ {K : Type 0} (at : K → World) where
+module _ {K : Type 0} (at : K → TableWorld) where
   -- what a step of a session tells, with the starts that it adds before its own event
   abbrev pub turned : (List (ℕ × Slot) → List Happening) → Step Slot → Me Slot (Knows K) → ℕ → Me Slot (Knows K) → Type 0
   turned own st m n m' = (key : K) → m.0.about ≡ Some key → Stepped (plane at) (at key) m.0 m.1 st.word (own m.1) (Moves (number_of m.0.role)) n m'

@@ -3,7 +3,7 @@ use Rattle.std.specs.Prelude.{◌≡◌, ⊤, List, [], ◌∷◌, ◌++◌}
 use Rattle.fkv_keeper.specs.declared.keepers.Keeping.{Keeping}
 use Rattle.fkv_keeper.specs.declared.keepers.Keeping.TheVariants.{Ended, Starts}
 use Rattle.fkv_table.specs.declared.happenings.Happening.{Happening}
-use Rattle.fkv_table.specs.declared.happenings.Happening.TheVariants.{Calls, Moves, Commits, Turns, KeeperMoves}
+use Rattle.fkv_table.specs.declared.happenings.Happening.TheVariants.{Calls, Moves, Commits, Turns, KeeperMoves, KeeperReads}
 
 -- no call of the keeper begins in these
 abbrev pub BeginsNone : List Happening → Type 0
@@ -13,6 +13,7 @@ BeginsNone (Moves session ∷ before) = BeginsNone before
 BeginsNone (Commits kind ∷ before) = ⊥
 BeginsNone (Turns ∷ before) = ⊥
 BeginsNone (KeeperMoves granted done ∷ before) = BeginsNone before
+BeginsNone (KeeperReads header key value ∷ before) = BeginsNone before
 
 -- all of these are sessions' events
 abbrev pub AreSessions : List Happening → Type 0
@@ -22,6 +23,7 @@ AreSessions (Moves session ∷ before) = AreSessions before
 AreSessions (Commits kind ∷ before) = ⊥
 AreSessions (Turns ∷ before) = ⊥
 AreSessions (KeeperMoves granted done ∷ before) = ⊥
+AreSessions (KeeperReads header key value ∷ before) = ⊥
 
 -- Behind a call of the keeper the list has its start, once, behind all that had been seen; and from there on of the keeper nothing but its steps.
 pub record HasKept (start : Happening) (seen seen' : List Happening) : Type 0 where

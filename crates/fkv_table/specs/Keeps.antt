@@ -2,6 +2,7 @@
 use Rattle.std.specs.Prelude.{◌≡◌, ⊤, ℕ, Bool, true, false, List, [], ◌∷◌, ◌++◌, Option, Some, None}
 use Rattle.atomic_table.specs.Seated.{TableId}
 use Rattle.atomic_table.specs.Table.{Me, Step, rest}
+use Rattle.fkv_disk.specs.Asks.{AskedCall, Reads}
 use Rattle.fkv_disk.specs.Calls.{MayLeave}
 use Rattle.fkv_disk.specs.Device.{IsAfter}
 use Rattle.fkv_plane.specs.declared.actions.Action.{Action}
@@ -10,22 +11,33 @@ use Rattle.fkv_plane.specs.declared.asks.Ask.TheVariants.{Put, Take}
 use Rattle.fkv_plane.specs.Asked.{reply_to}
 use Rattle.fkv_keeper.specs.declared.answers.KeeperTold.{KeeperTold}
 use Rattle.fkv_keeper.specs.Keeping.{KeeperModel, keeper_ask, keeper_next}
+use Rattle.fkv_flush.specs.declared.serving.Serving.{Serving}
+use Rattle.fkv_flush.specs.declared.serving.Serving.TheVariants.{StoresHeader}
+use Rattle.fkv_keeper.specs.KeeperAsks.{keeper_due}
 use Rattle.fkv_keeper.specs.KeeperRun.{is_in_hand}
 use Rattle.fkv_world.specs.Actors.{slot_asked, slot_named}
 use Rattle.fkv_world.specs.Moves.{keeper_gets}
 use Rattle.fkv_world.specs.Past.{Past}
-use Rattle.fkv_world.specs.Runs.{World}
 use Rattle.fkv_seats.specs.declared.held.Held.TheVariants.{Drain}
 use Rattle.fkv_seats.specs.declared.views.Role.TheVariants.{Rest}
 use Rattle.fkv_seats.specs.Rule.{Carries, HandFits, IsSeenBy, Quiet, Stepped, base, led, speaks}
 use Rattle.fkv_table.specs.declared.happenings.Happening.{Happening}
-use Rattle.fkv_table.specs.declared.happenings.Happening.TheVariants.{KeeperMoves}
+use Rattle.fkv_table.specs.declared.happenings.Happening.TheVariants.{KeeperMoves, KeeperReads}
 use Rattle.fkv_table.specs.Desks.{Slot, Knows}
 use Rattle.fkv_table.specs.Events.{actor_of, event_of}
 use Rattle.fkv_table.specs.Openings.{IsGuardedOpening, IsTableOf}
 use Rattle.fkv_table.specs.Planes.{plane}
+use Rattle.fkv_table.specs.Worlds.{TableWorld}
 
-module _ {K : Type 0} (at : K → World) where
+-- The event of a call of the device that has succeeded. Behind a read it tells the three words that the machine has got.
+abbrev pub told_by : Option AskedCall → Serving → Happening
+told_by (Some (Reads at count)) (StoresHeader session mail) = KeeperReads mail.header mail.key mail.value
+told_by due serving = KeeperMoves true true
+
+abbrev pub event_told : KeeperModel → KeeperModel → Happening
+event_told k k' = told_by (keeper_due k) k'.state.maintain.serving
+
+module _ {K : Type 0} (at : K → TableWorld) where
   -- The seat is the keeper's of this store, which has no desk in hand, and the machine is what the events that it has seen have led it to.
   pub record IsKeeping (key : K) (me : Me Slot (Knows K)) (k : KeeperModel) : Type 0 where
     pub about : me.0.about ≡ Some key

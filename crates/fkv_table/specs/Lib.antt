@@ -11,3 +11,4 @@ pub mod Positions
 pub mod Seating
 pub mod Sits
 pub mod Starts
+pub mod Worlds

@@ -3,19 +3,19 @@ use Rattle.std.specs.Prelude.{◌≡◌, ◌+◌, ◌≤◌, ℕ, length}
 use Rattle.atomic_table.specs.Seated.{TableId}
 use Rattle.fkv_base.specs.Limits.{drain_slots}
 use Rattle.fkv_world.specs.Opened.{IsOpenedWorld}
-use Rattle.fkv_world.specs.Runs.{World}
 use Rattle.law_guard.specs.Guarded.Shows.{IsOpened}
 use Rattle.fkv_table.specs.Positions.{gaps}
+use Rattle.fkv_table.specs.Worlds.{TableWorld, world_in}
 
 -- The guard begins with it, its store was just opened, and its keeper seeks the points of no more sessions than there are.
-pub record IsGuardedOpening (w : World) : Type 0 where
+pub record IsGuardedOpening (w : TableWorld) : Type 0 where
   pub start : ℕ
   pub guarded : IsOpened w.now start
-  pub opened : IsOpenedWorld w
+  pub opened : IsOpenedWorld (world_in w)
   pub seeks : w.now.keeper.seek.sessions ≤ w.now.places.sessions
 
 -- A table over such a world: a position for each word, and beside the drain slots a desk for each session and for the keeper.
-pub record IsTableOf (w : World) (id : TableId) : Type 0 where
+pub record IsTableOf (w : TableWorld) (id : TableId) : Type 0 where
   pub opening : IsGuardedOpening w
   pub words : id.words ≡ length w.now.words + gaps
   pub slots : id.slots ≡ drain_slots + (w.now.places.sessions + 1)

@@ -3,10 +3,10 @@ use Rattle.std.specs.Prelude.{◌≡◌, ◌+◌, ◌<◌, ℕ, false, ◌∷◌
 use Rattle.atomic_table.specs.Seated.{TableId}
 use Rattle.atomic_table.specs.Table.{Me, Step, rest}
 use Rattle.fkv_base.specs.Limits.{drain_slots}
-use Rattle.fkv_world.specs.Runs.{World}
 use Rattle.fkv_seats.specs.Rule.{GotUp, SatDown, desk_of}
 use Rattle.fkv_table.specs.Desks.{Slot, Knows}
 use Rattle.fkv_table.specs.Planes.{plane}
+use Rattle.fkv_table.specs.Worlds.{TableWorld}
 
 -- A seat has a desk at this table, and isn't at it.
 abbrev pub MaySit : {K : Type 0} → TableId → Me Slot (Knows K) → Type 0
@@ -16,7 +16,7 @@ MaySit table me = (number : ℕ) × (desk_of me.0.role ≡ Some number) × (me.0
 abbrev pub HasDeskInHand : {K : Type 0} → Me Slot (Knows K) → Type 0
 HasDeskInHand me = (number : ℕ) × (note : Slot) × (desk_of me.0.role ≡ Some number) × (me.1 ≡ (drain_slots + number, note) ∷ rest me.1)
 
-module _ {K : Type 0} (at : K → World) where
+module _ {K : Type 0} (at : K → TableWorld) where
   -- what a load tells by which a seat sits down, and one by which it gets up
   abbrev pub sitting : Step Slot → Me Slot (Knows K) → ℕ → Me Slot (Knows K) → Type 0
   sitting st m n m' = (number : ℕ) → desk_of m.0.role ≡ Some number → SatDown (plane at) number m.0 m.1 m'

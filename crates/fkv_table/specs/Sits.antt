@@ -10,7 +10,6 @@ use Rattle.fkv_session.specs.declared.answers.Told.{Told}
 use Rattle.fkv_session.specs.Sessions.{Seat, SessionState, Sitter, session_ask, session_next}
 use Rattle.fkv_world.specs.Actors.{slot_asked}
 use Rattle.fkv_world.specs.Moves.{session_gets}
-use Rattle.fkv_world.specs.Runs.{World}
 use Rattle.fkv_world.specs.World.{seat_at, session_called}
 use Rattle.fkv_seats.specs.declared.held.Held.TheVariants.{Drain}
 use Rattle.fkv_seats.specs.declared.views.Role.TheVariants.{Sits}
@@ -19,6 +18,7 @@ use Rattle.fkv_table.specs.declared.happenings.Happening.{Happening}
 use Rattle.fkv_table.specs.declared.happenings.Happening.TheVariants.{Calls, Moves}
 use Rattle.fkv_table.specs.Desks.{Slot, Knows}
 use Rattle.fkv_table.specs.Planes.{plane}
+use Rattle.fkv_table.specs.Worlds.{TableWorld}
 
 -- the starts of calls of a session, and what they lead its machine to
 abbrev pub AreCalls : ℕ → List Happening → Type 0
@@ -30,7 +30,7 @@ called_after k s [] = s
 called_after k s (Calls number call ∷ before) = session_called k (called_after k s before) call
 called_after k s (its ∷ before) = called_after k s before
 
-module _ {K : Type 0} (at : K → World) where
+module _ {K : Type 0} (at : K → TableWorld) where
   -- The seat is the session's of this store, and the machine is what its own events have led it to: those that it has seen, and starts that it has yet to add.
   pub record IsSeated (key : K) (me : Me Slot (Knows K)) (own : List Happening) (m : Sitter) : Type 0 where
     pub about : me.0.about ≡ Some key

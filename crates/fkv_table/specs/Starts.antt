@@ -4,11 +4,11 @@ use Rattle.atomic_table.specs.Seated.{TableId}
 use Rattle.atomic_table.specs.Table.{Me}
 use Rattle.fkv_base.specs.Limits.{drain_slots}
 use Rattle.fkv_session.specs.Sessions.{Sitter}
-use Rattle.fkv_world.specs.Runs.{World}
 use Rattle.fkv_seats.specs.declared.views.Role.TheVariants.{Rest, Sits}
 use Rattle.fkv_table.specs.Calls.{IsReady}
 use Rattle.fkv_table.specs.Desks.{Slot, Knows}
 use Rattle.fkv_table.specs.Openings.{IsGuardedOpening}
+use Rattle.fkv_table.specs.Worlds.{TableWorld}
 
 -- each item has it at its place in the list
 abbrev pub EachAt : {X : Type 0} → List X → (ℕ → X → Type 0) → Type 0
@@ -27,7 +27,7 @@ pub record HasSeat {K : Type 0} (key : K) (table : TableId) (number : ℕ) (seat
   pub note : Slot
   pub its : me ≡ (seat_view key number, (drain_slots + number, note) ∷ [])
 
-module _ {K : Type 0} (at : K → World) where
+module _ {K : Type 0} (at : K → TableWorld) where
   -- A session of a table that was just opened, with its pass. As soon as the guard begins with the table's world they are ready.
   pub record IsFresh (key : K) (table : TableId) (number : ℕ) (m : Sitter) (desk : ℕ) (seat : TableId) (me : Me Slot (Knows K)) : Type 0 where
     pub ready : IsGuardedOpening (at key) → IsReady at key table seat me m desk

@@ -15,4 +15,6 @@ pub enum Happening {
     Turns,
     /// It makes its ask or its call of the device: whether memory is granted, and whether the call succeeds.
     KeeperMoves(bool, bool),
+    /// Its call of the device is a read and succeeds. The read gives a record of these three words: header, key and value.
+    KeeperReads(u64, u64, u64),
 }

@@ -27,7 +27,8 @@ use fkv_disk::Device;
 use fkv_keeper::{KeeperAsk, KeeperTold, Turn};
 use fkv_plane::Ask;
 use fkv_seats::Held;
-use std::marker::PhantomData;
+use std::marker::{Brand, PhantomData};
+use std::snapshot::Snapshot;
 
 /// The keeper of a store that threads share.
 #[derive(Drop)]
@@ -77,7 +78,7 @@ impl OfKeeper for LogCommit {
     ghost its = { Commits Log };
 }
 
-/// A step of the keeper's, with memory for a copy. A call of the device that has succeeded is one too.
+/// A step of the keeper's, with memory for a copy.
 pub(crate) struct Granted;
 
 impl OfKeeper for Granted {
@@ -107,6 +108,13 @@ impl OfKeeper for Failed {
     ghost its = { KeeperMoves true false };
 }
 
+/// The event that a call of `note_call` picks.
+impl OfKeeper for Brand {
+    ghost use Rattle.fkv_table.specs.declared.happenings.Happening.TheVariants.{Turns};
+
+    ghost its = { Turns };
+}
+
 /// What a step of the keeper tells.
 pub(crate) struct Adding<E> {
     kind: PhantomData<E>,
@@ -129,6 +137,24 @@ pub(crate) fn note<D: Device, E: OfKeeper>(words: &Words<D>, seat: &mut Place<D>
     ensures noted { IsNoted (opening_of D.seen) words.now.key seat.old.me E.its seat.new.me }
 {
     let _ = words.load::<Adding<E>>(seat, 0);
+}
+
+/// Adds the event of a call of the device that has succeeded. It is picked by the machine before the call and behind it.
+fn note_call<D: Device, E: OfKeeper>(
+    words: &Words<D>,
+    seat: &mut Place<D>,
+    before: &Snapshot<fkv_keeper::Keeper>,
+    machine: &fkv_keeper::Keeper,
+)
+    requires table { (seat.old.table_id ≡ words.now.table_id) × IsTableOf (opening_of D.seen words.now.key) words.now.table_id }
+    requires about { seat.old.me.0.about ≡ Some words.now.key }
+    requires spares { Spares (opening_of D.seen) words.now.key seat.old.me E.its }
+    requires hand { HandFits (plane (opening_of D.seen)) (opening_of D.seen words.now.key) seat.old.me.0.seen seat.old.me.0.hand seat.old.me.1 }
+    ensures seat { (seat.new.table_id ≡ seat.old.table_id) × (seat.new.id ≡ seat.old.id) }
+    ensures noted { IsNoted (opening_of D.seen) words.now.key seat.old.me E.its seat.new.me }
+{
+    let _ = (before, machine);
+    note::<D, E>(words, seat);
 }
 
 /// Begins a turn, and adds that to the list.
@@ -267,7 +293,7 @@ fn step<D: Device>(
     settle(words, seat, machine, next);
 }
 
-/// Makes the call of the device that the machine asks for, and adds that to the list.
+/// Makes the call of the device that the machine asks for, and adds that to the list, with what it has read.
 fn call_device<D: Device>(
     words: &Words<D>,
     seat: &mut Place<D>,
@@ -277,18 +303,18 @@ fn call_device<D: Device>(
     requires table { (seat.old.table_id ≡ words.now.table_id) × IsTableOf (opening_of D.seen words.now.key) words.now.table_id }
     requires keeping { IsKeeping (opening_of D.seen) words.now.key seat.old.me machine.old }
     requires ask { keeper_ask machine.old.shape machine.old.places machine.old.state ≡ Done AtDevice }
-    requires honest { D.honest d.old }
-    requires after { IsAfterSeen (opening_of D.seen) words.now.key seat.old.me.0.seen (D.seen d.old) (D.may_leave d.old) }
+    requires trusted { (opening_of D.seen words.now.key).trusts ≡ true → D.honest d.old × IsAfterSeen (opening_of D.seen) words.now.key seat.old.me.0.seen (D.seen d.old) (D.may_leave d.old) }
     ensures seat { (seat.new.table_id ≡ seat.old.table_id) × (seat.new.id ≡ seat.old.id) }
     ensures keeping { IsKeeping (opening_of D.seen) words.now.key seat.new.me machine.new }
     ensures went { HasGoneOn seat.old.me.0.seen seat.new.me.0.seen }
-    ensures honest { D.honest d.new }
-    ensures after { IsAfterSeen (opening_of D.seen) words.now.key seat.new.me.0.seen (D.seen d.new) (D.may_leave d.new) }
-    ensures moments { AtEachMoment D.moment D.left_since d.old d.new (IsLeftWithin (opening_of D.seen) words.now.key seat.old.me.0.seen seat.new.me.0.seen) }
+    ensures honest { D.honest d.old → D.honest d.new }
+    ensures after { D.honest d.old → IsAfterSeen (opening_of D.seen) words.now.key seat.old.me.0.seen (D.seen d.old) (D.may_leave d.old) → IsAfterSeen (opening_of D.seen) words.now.key seat.new.me.0.seen (D.seen d.new) (D.may_leave d.new) }
+    ensures moments { D.honest d.old → IsAfterSeen (opening_of D.seen) words.now.key seat.old.me.0.seen (D.seen d.old) (D.may_leave d.old) → AtEachMoment D.moment D.left_since d.old d.new (IsLeftWithin (opening_of D.seen) words.now.key seat.old.me.0.seen seat.new.me.0.seen) }
     ensures fewer { keeper_asks_left machine.new.shape machine.new.places machine.new.state < keeper_asks_left machine.old.shape machine.old.places machine.old.state }
 {
+    let before = Snapshot::of(&*machine);
     match machine.call_device(d) {
-        Ok(_) => note::<D, Granted>(words, seat),
+        Ok(_) => note_call::<D, Brand>(words, seat, &before, &*machine),
         Err(_) => note::<D, Failed>(words, seat),
     }
 }
@@ -302,14 +328,13 @@ fn steps_on<D: Device>(
 )
     requires table { (seat.old.table_id ≡ words.now.table_id) × IsTableOf (opening_of D.seen words.now.key) words.now.table_id }
     requires keeping { IsKeeping (opening_of D.seen) words.now.key seat.old.me machine.old }
-    requires honest { D.honest d.old }
-    requires after { IsAfterSeen (opening_of D.seen) words.now.key seat.old.me.0.seen (D.seen d.old) (D.may_leave d.old) }
+    requires trusted { (opening_of D.seen words.now.key).trusts ≡ true → D.honest d.old × IsAfterSeen (opening_of D.seen) words.now.key seat.old.me.0.seen (D.seen d.old) (D.may_leave d.old) }
     ensures seat { (seat.new.table_id ≡ seat.old.table_id) × (seat.new.id ≡ seat.old.id) }
     ensures keeping { IsKeeping (opening_of D.seen) words.now.key seat.new.me machine.new }
     ensures went { HasGoneOn seat.old.me.0.seen seat.new.me.0.seen }
-    ensures honest { D.honest d.new }
-    ensures after { IsAfterSeen (opening_of D.seen) words.now.key seat.new.me.0.seen (D.seen d.new) (D.may_leave d.new) }
-    ensures moments { AtEachMoment D.moment D.left_since d.old d.new (IsLeftWithin (opening_of D.seen) words.now.key seat.old.me.0.seen seat.new.me.0.seen) }
+    ensures honest { D.honest d.old → D.honest d.new }
+    ensures after { D.honest d.old → IsAfterSeen (opening_of D.seen) words.now.key seat.old.me.0.seen (D.seen d.old) (D.may_leave d.old) → IsAfterSeen (opening_of D.seen) words.now.key seat.new.me.0.seen (D.seen d.new) (D.may_leave d.new) }
+    ensures moments { D.honest d.old → IsAfterSeen (opening_of D.seen) words.now.key seat.old.me.0.seen (D.seen d.old) (D.may_leave d.old) → AtEachMoment D.moment D.left_since d.old d.new (IsLeftWithin (opening_of D.seen) words.now.key seat.old.me.0.seen seat.new.me.0.seen) }
     ensures over { is_busy (keeper_ask machine.new.shape machine.new.places machine.new.state) ≡ false }
 {
     'asks: loop {
@@ -344,8 +369,9 @@ fn commit_steps<D: Device>(words: &Words<D>, seat: &mut Place<D>, machine: &mut 
 
 impl Keeper {
     /// Makes a turn to its end, with each call of the device that it needs. Its answers are those of the keeper's machine: it ends early
-    /// with `Broken`, `Device`, `EpochsSpent` or `Memory`. The device is the one that the store was opened from, and it is honest. What a crash
-    /// leaves in the middle of a turn is what the life's calls may leave behind a part of what the turn adds to the list.
+    /// with `Broken`, `Device`, `EpochsSpent` or `Memory`. If the table takes its device for an honest one, this is the one that the store was
+    /// opened from, and it is honest. Over any other device the list tells what reads gave. What an honest device leaves in the middle of a turn,
+    /// if a crash strikes, is what the life's calls may leave behind a part of what the turn adds to the list.
     pub fn turn<D: Device>(
         &mut self,
         table: &Table<D>,
@@ -353,13 +379,12 @@ impl Keeper {
         d: &mut D,
     ) -> (KeeperPass<D>, Result<Turn, Fault>)
         requires ready { IsKeeperReady (opening_of D.seen) table.now.table.shared.key table.now.table.shared.table_id pass.seat.table_id pass.seat.me self.old.machine }
-        requires honest { D.honest d.old }
-        requires after { IsAfterSeen (opening_of D.seen) table.now.table.shared.key pass.seat.me.0.seen (D.seen d.old) (D.may_leave d.old) }
+        requires trusted { (opening_of D.seen table.now.table.shared.key).trusts ≡ true → D.honest d.old × IsAfterSeen (opening_of D.seen) table.now.table.shared.key pass.seat.me.0.seen (D.seen d.old) (D.may_leave d.old) }
         ensures ready { IsKeeperReady (opening_of D.seen) table.now.table.shared.key table.now.table.shared.table_id result.0.seat.table_id result.0.seat.me self.new.machine }
         ensures kept { HasKept Turns pass.seat.me.0.seen result.0.seat.me.0.seen }
-        ensures honest { D.honest d.new }
-        ensures after { IsAfterSeen (opening_of D.seen) table.now.table.shared.key result.0.seat.me.0.seen (D.seen d.new) (D.may_leave d.new) }
-        ensures moments { AtEachMoment D.moment D.left_since d.old d.new (IsLeftWithin (opening_of D.seen) table.now.table.shared.key pass.seat.me.0.seen result.0.seat.me.0.seen) }
+        ensures honest { D.honest d.old → D.honest d.new }
+        ensures after { D.honest d.old → IsAfterSeen (opening_of D.seen) table.now.table.shared.key pass.seat.me.0.seen (D.seen d.old) (D.may_leave d.old) → IsAfterSeen (opening_of D.seen) table.now.table.shared.key result.0.seat.me.0.seen (D.seen d.new) (D.may_leave d.new) }
+        ensures moments { D.honest d.old → IsAfterSeen (opening_of D.seen) table.now.table.shared.key pass.seat.me.0.seen (D.seen d.old) (D.may_leave d.old) → AtEachMoment D.moment D.left_since d.old d.new (IsLeftWithin (opening_of D.seen) table.now.table.shared.key pass.seat.me.0.seen result.0.seat.me.0.seen) }
         ensures told { IsTurnTold self.new.machine.state.last (keeper_ask self.new.machine.shape self.new.machine.places self.new.machine.state) result.1 }
     {
         let words = &table.table.shared;

@@ -20,5 +20,5 @@ pub use joining::join;
 pub use keepers::{Keeper, KeeperPass};
 pub use opening::OpenTable;
 pub use positions::law_positions;
-pub use rule::{Engine, Pass, Table};
+pub use rule::{Beginning, Engine, Pass, Table};
 pub use sessions::Session;

@@ -12,11 +12,12 @@ ghost use Rattle.fkv_table.specs.Keeps.{IsFreshKeeper};
 ghost use Rattle.fkv_table.specs.Planes.{plane, opening_of};
 ghost use Rattle.fkv_table.specs.Positions.{laid, low_place, place_at};
 ghost use Rattle.fkv_table.specs.Starts.{EachAt, HasSeat, IsFresh, rest_view};
+ghost use Rattle.fkv_table.specs.Worlds.{world_in};
 
 use crate::desks::sit_down;
 use crate::joining::Meeting;
 use crate::keepers::{Keeper, KeeperPass};
-use crate::rule::{Engine, Knows, Opening, Pass, Place, Slot, Table, Words};
+use crate::rule::{Beginning, Engine, Knows, Opening, Pass, Place, Slot, Table, Words};
 use crate::sessions::Session;
 use fkv_base::{DRAIN_SLOTS, Fault};
 use fkv_core::World;
@@ -43,12 +44,18 @@ pub struct OpenTable<D: Device> {
 
 impl<D: Device + Drop> Table<D> {
     /// The table of a store that was opened on this device. Each session has its pass, and so has the keeper; nothing has happened yet.
-    /// The device comes back, since the keeper alone calls it. `Memory` where memory was refused; then all that was handed in is dropped,
-    /// the device too.
-    pub fn open(alloc: Global, opened: Opened, device: D) -> Result<OpenTable<D>, Fault>
+    /// The device comes back, since the keeper alone calls it. The table takes it for an honest one if it is told to (`trusts`). `Memory` where
+    /// memory was refused; then all that was handed in is dropped, the device too.
+    pub fn open(
+        alloc: Global,
+        opened: Opened,
+        device: D,
+        trusts: bool,
+    ) -> Result<OpenTable<D>, Fault>
         ensures world { IfOk result (λ t. IsOpeningWorld opened (opening_of D.seen t.table.table.shared.key).now) }
-        ensures opened { IfOk result (λ t. IsOpenedWorld (opening_of D.seen t.table.table.shared.key)) }
-        ensures bytes { IfOk result (λ t. opening_of D.seen t.table.table.shared.key ≡ beginning (opening_of D.seen t.table.table.shared.key).now (D.seen device)) }
+        ensures opened { IfOk result (λ t. IsOpenedWorld (world_in (opening_of D.seen t.table.table.shared.key))) }
+        ensures bytes { IfOk result (λ t. world_in (opening_of D.seen t.table.table.shared.key) ≡ beginning (opening_of D.seen t.table.table.shared.key).now (D.seen device)) }
+        ensures trusts { IfOk result (λ t. (opening_of D.seen t.table.table.shared.key).trusts ≡ trusts) }
         ensures count { IfOk result (λ t. length t.sessions.items ≡ opened.shape.sessions) }
         ensures sessions { IfOk result (λ t. EachAt t.sessions.items (λ i x. IsFresh (opening_of D.seen) t.table.table.shared.key t.table.table.shared.table_id i x.0.machine x.0.desk x.1.seat.table_id x.1.seat.me)) }
         ensures keeper { IfOk result (λ t. IsFreshKeeper (opening_of D.seen) t.table.table.shared.key t.table.table.shared.table_id t.keeper.machine t.pass.seat.table_id t.pass.seat.me) }
@@ -57,7 +64,9 @@ impl<D: Device + Drop> Table<D> {
     {
         let count = Places::of(&opened.shape).word_count();
         let world = World::open(alloc, opened, device)?;
-        let about = Snapshot::of(&world);
+        let start = Beginning { world, trusts };
+        let about = Snapshot::of(&start);
+        let Beginning { world, .. } = start;
         let (plane, machines, machine, device) = world.into_parts();
         let words = laid_words(alloc, &plane, count)?;
         let slots = empty_slots(alloc, DRAIN_SLOTS + machines.len() + 1)?;

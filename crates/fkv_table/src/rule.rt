@@ -12,8 +12,14 @@ use std::snapshot::Snapshot;
 /// What a slot of the table holds: an action of a drain slot, or what a seat notes on its desk.
 pub(crate) type Slot = Held<Action, Happening>;
 
-/// The world that the store was opened with.
-pub(crate) type Opening<D> = Snapshot<World<D>>;
+/// What a table begins with: the world that the store was opened with, and whether its device is taken for an honest one.
+#[derive(Drop)]
+pub struct Beginning<D: Device> {
+    pub world: World<D>,
+    pub trusts: bool,
+}
+
+pub(crate) type Opening<D> = Snapshot<Beginning<D>>;
 
 pub(crate) type Knows<D> = View<Happening, Opening<D>>;
 
@@ -21,7 +27,7 @@ pub(crate) type Words<D> = Shared<Slot, Knows<D>, Opening<D>, Engine<D>>;
 
 pub(crate) type Place<D> = Seat<Slot, Knows<D>>;
 
-/// The words of the table are those of the engine's world after one list of events, over the device that the store was opened from.
+/// The words of the table are those of the engine's world after one list of events.
 pub struct Engine<D> {
     device: PhantomData<D>,
 }

@@ -3,17 +3,17 @@ use Rattle.std.proofs.Common.{◌≡◌, ℕ, List, subst}
 use Rattle.fkv_map.specs.declared.operations.Call.{Call}
 use Rattle.fkv_opening.specs.declared.opened_store.Opened.{Opened}
 use Rattle.fkv_session.specs.declared.answers.Answer.{Answer}
-use Rattle.fkv_world.specs.Runs.{World}
 use Rattle.fkv_world.specs.World.{Event, Now}
 use Rattle.fkv_seats.specs.Rule.{led}
 use Rattle.fkv_table.specs.Calls.{IsAnsweredLast}
 use Rattle.fkv_table.specs.declared.happenings.Happening.{Happening}
 use Rattle.fkv_table.specs.Planes.{plane}
+use Rattle.fkv_table.specs.Worlds.{TableWorld}
 use Rattle.law_threads.specs.Calls.{CallRun, HasRun, OfEachRun}
 use Rattle.law_threads.specs.Laws.{IsThreadLaw}
 use Rattle.fkv_threads.specs.Runs.{IsLawful, OfThisRun}
 
-module _ {K : Type 0} (at : K → World) where
+module _ {K : Type 0} (at : K → TableWorld) where
   pub of_this : (key : K) (its : CallRun) (If : Opened → Now → List ℕ → List Event → Type 0) (P : Opened → Now → List ℕ → CallRun → Type 0) → HasRun at key its → OfEachRun at If P → OfThisRun at key its If P
   of_this key its If P has law = λ o n bytes over holds. law key o n bytes its over has holds
 

@@ -5,13 +5,13 @@ use Rattle.atomic_table.specs.Table.{Me}
 use Rattle.fkv_keeper.specs.Keeping.{KeeperModel}
 use Rattle.fkv_opening.specs.declared.opened_store.Opened.{Opened}
 use Rattle.fkv_session.specs.Sessions.{Sitter}
-use Rattle.fkv_world.specs.Runs.{World}
 use Rattle.fkv_table.specs.Calls.{IsReady}
 use Rattle.fkv_table.specs.Desks.{Slot, Knows}
 use Rattle.fkv_table.specs.Keeps.{IsKeeperReady}
+use Rattle.fkv_table.specs.Worlds.{TableWorld}
 use Rattle.law_threads.specs.Calls.{IsOver}
 
-module _ {K : Type 0} (at : K → World) where
+module _ {K : Type 0} (at : K → TableWorld) where
   -- the table lies over the world with which this store begins, that these bytes hold
   abbrev pub IsOverStore : K → Opened → List ℕ → Type 0
   IsOverStore key o bytes = IsOver at key o (at key).now bytes

@@ -5,13 +5,13 @@ use Rattle.fkv_base.specs.declared.numbers.Value.{Value}
 use Rattle.fkv_map.specs.declared.operations.Call.{Call}
 use Rattle.fkv_opening.specs.declared.opened_store.Opened.{Opened}
 use Rattle.fkv_session.specs.declared.answers.Answer.{Answer}
-use Rattle.fkv_world.specs.Runs.{World}
 use Rattle.fkv_world.specs.World.{Event, Now}
 use Rattle.law_opening.specs.Log.Maps.{opening_map}
 use Rattle.law_order.specs.Rules.InTime.{IsInTime}
 use Rattle.law_order.specs.Tickets.Few.{HasFewCalls}
 use Rattle.law_refine.specs.Events.Lines.{read_reply}
 use Rattle.fkv_table.specs.declared.happenings.Happening.{Happening}
+use Rattle.fkv_table.specs.Worlds.{TableWorld}
 use Rattle.law_threads.specs.Calls.{CallRun, HasRun, IsOver, events_of}
 use Rattle.law_threads.specs.Polls.{FinishedIsSeen, IsPolledRead}
 use Rattle.law_threads.specs.Threads.{DoneIsSeen, ReadsWhatWasSeen, StandsInOneHistory, history_seen}
@@ -20,7 +20,7 @@ use Rattle.law_threads.specs.Threads.{DoneIsSeen, ReadsWhatWasSeen, StandsInOneH
 abbrev pub run_of : ℕ → Call → Answer → List Happening → List Happening → CallRun
 run_of number call answer before behind = record { number = number; call = call; answer = answer; before = before; behind = behind }
 
-module _ {K : Type 0} (at : K → World) (key : K) (its : CallRun) where
+module _ {K : Type 0} (at : K → TableWorld) (key : K) (its : CallRun) where
   -- the session has run it
   abbrev pub IsRun : Type 0
   IsRun = HasRun at key its

@@ -7,11 +7,10 @@ ghost use Rattle.law_order.specs.Prefix.Law.{PrefixLaw, TellsDurable};
 ghost use Rattle.law_threads.specs.Durable.{RecoversItsDurable, RecoversLater, TellsItsDurable};
 ghost use Rattle.law_threads.specs.Laws.{IsOrdered, IsWithin, IsWithoutCommits};
 
-use fkv_core::World;
 use fkv_disk::Device;
 use fkv_map::Call;
 use fkv_session::Answer;
-use fkv_table::{Pass, Session, Table};
+use fkv_table::{Beginning, Pass, Session, Table};
 use law_threads::law_threads;
 use std::snapshot::Snapshot;
 
@@ -35,6 +34,6 @@ pub fn run<D: Device>(
     ensures durable { OfThisRun (opening_of D.seen) table.now.table.shared.key (run_of session.old.machine.seat.number call result.1 pass.seat.me.0.seen result.0.seat.me.0.seen) TellsDurable TellsItsDurable }
     ensures recovered { OfThisRun (opening_of D.seen) table.now.table.shared.key (run_of session.old.machine.seat.number call result.1 pass.seat.me.0.seen result.0.seat.me.0.seen) RecoversLater RecoversItsDurable }
 {
-    law_threads::<Snapshot<World<D>>>();
+    law_threads::<Snapshot<Beginning<D>>>();
     session.run(table, pass, call)
 }

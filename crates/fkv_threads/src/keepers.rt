@@ -1,4 +1,5 @@
 //! The keeper's calls.
+ghost use Rattle.std.specs.Prelude.{◌≡◌, true};
 ghost use Rattle.fkv_disk.specs.Device.{AtEachMoment};
 ghost use Rattle.fkv_keeper.specs.Keeping.{keeper_ask};
 ghost use Rattle.fkv_keeper.specs.Running.{IsBeginTold, IsTurnTold};
@@ -13,16 +14,15 @@ ghost use Rattle.law_threads.specs.Images.{RecoversWithin};
 ghost use Rattle.law_threads.specs.Laws.{IsWithin};
 
 use fkv_base::{CommitKind, Fault, Version};
-use fkv_core::World;
 use fkv_disk::Device;
 use fkv_keeper::Turn;
-use fkv_table::{Keeper, KeeperPass, Table};
+use fkv_table::{Beginning, Keeper, KeeperPass, Table};
 use law_threads::law_threads;
 use std::snapshot::Snapshot;
 
 /// Makes a turn of the keeper to its end, with each call of the device that it needs: it flushes, serves and carries a commit on. It ends early with
-/// `Broken`, `Device`, `EpochsSpent` or `Memory`. The device is the one that the store was opened from, behind the calls that the keeper's pass has seen.
-/// An image that a crash leaves in the middle of the turn is one that the life may leave at some moment of it. It holds a prefix of the life as it was
+/// `Broken`, `Device`, `EpochsSpent` or `Memory`. If the table takes its device for an honest one, this is the one that the store was opened from, behind the
+/// calls that the keeper's pass has seen, and it is honest. Over any other device the list tells what reads gave. An image that a crash leaves in the middle of the turn is one that the life may leave at some moment of it. It holds a prefix of the life as it was
 /// then, if the law of prefixes holds.
 pub fn turn<D: Device>(
     keeper: &mut Keeper,
@@ -31,18 +31,17 @@ pub fn turn<D: Device>(
     device: &mut D,
 ) -> (KeeperPass<D>, Result<Turn, Fault>)
     requires ready { IsKeeperReady (opening_of D.seen) table.now.table.shared.key table.now.table.shared.table_id pass.seat.table_id pass.seat.me keeper.old.machine }
-    requires honest { D.honest device.old }
-    requires after { IsAfterSeen (opening_of D.seen) table.now.table.shared.key pass.seat.me.0.seen (D.seen device.old) (D.may_leave device.old) }
+    requires trusted { (opening_of D.seen table.now.table.shared.key).trusts ≡ true → D.honest device.old × IsAfterSeen (opening_of D.seen) table.now.table.shared.key pass.seat.me.0.seen (D.seen device.old) (D.may_leave device.old) }
     ensures ready { IsKeeperReady (opening_of D.seen) table.now.table.shared.key table.now.table.shared.table_id result.0.seat.table_id result.0.seat.me keeper.new.machine }
     ensures kept { HasKept Turns pass.seat.me.0.seen result.0.seat.me.0.seen }
-    ensures honest { D.honest device.new }
-    ensures after { IsAfterSeen (opening_of D.seen) table.now.table.shared.key result.0.seat.me.0.seen (D.seen device.new) (D.may_leave device.new) }
-    ensures moments { AtEachMoment D.moment D.left_since device.old device.new (IsLeftWithin (opening_of D.seen) table.now.table.shared.key pass.seat.me.0.seen result.0.seat.me.0.seen) }
+    ensures honest { D.honest device.old → D.honest device.new }
+    ensures after { D.honest device.old → IsAfterSeen (opening_of D.seen) table.now.table.shared.key pass.seat.me.0.seen (D.seen device.old) (D.may_leave device.old) → IsAfterSeen (opening_of D.seen) table.now.table.shared.key result.0.seat.me.0.seen (D.seen device.new) (D.may_leave device.new) }
+    ensures moments { D.honest device.old → IsAfterSeen (opening_of D.seen) table.now.table.shared.key pass.seat.me.0.seen (D.seen device.old) (D.may_leave device.old) → AtEachMoment D.moment D.left_since device.old device.new (IsLeftWithin (opening_of D.seen) table.now.table.shared.key pass.seat.me.0.seen result.0.seat.me.0.seen) }
     ensures recovered { RecoversWithin (opening_of D.seen) (λ o n bytes. RecoversLater o n bytes (events_of pass.seat.me.0.seen)) table.now.table.shared.key pass.seat.me.0.seen result.0.seat.me.0.seen }
     ensures by_prefix { PrefixLaw → RecoversWithin (opening_of D.seen) (λ o n bytes. IsWithin o n bytes (events_of result.0.seat.me.0.seen)) table.now.table.shared.key pass.seat.me.0.seen result.0.seat.me.0.seen }
     ensures told { IsTurnTold keeper.new.machine.state.last (keeper_ask keeper.new.machine.shape keeper.new.machine.places keeper.new.machine.state) result.1 }
 {
-    law_threads::<Snapshot<World<D>>>();
+    law_threads::<Snapshot<Beginning<D>>>();
     keeper.turn(table, pass, device)
 }
 

@@ -8,5 +8,5 @@ mod passes;
 
 pub use calls::run;
 pub use keepers::{ask_commit, turn};
-pub use opening::open;
+pub use opening::{open, open_any};
 pub use passes::{close, join};

@@ -5,7 +5,7 @@ use Rattle.std.proofs.lemmas.Bool.Decides.{nat_tests}
 use Rattle.fkv_epoch.proofs.Shown.{some_same}
 use Rattle.fkv_map.specs.declared.operations.Call.{Call}
 use Rattle.fkv_seats.specs.declared.views.Role.TheVariants.{Sits}
-use Rattle.fkv_seats.specs.Rule.{led, speaks}
+use Rattle.fkv_seats.specs.Rule.{speaks}
 use Rattle.fkv_session.specs.declared.answers.Finished.{Finished}
 use Rattle.fkv_session.specs.declared.answers.Told.{Told}
 use Rattle.fkv_session.specs.declared.sessions.Sitting.{Sitting}
@@ -13,7 +13,7 @@ use Rattle.fkv_session.specs.declared.sessions.Sitting.TheVariants.{Idle}
 use Rattle.fkv_session.specs.SessionRun.{telling}
 use Rattle.fkv_session.specs.Sessions.{SessionState, is_busy, session_begun}
 use Rattle.fkv_world.specs.Past.{Traced, TraceEvent, Called, Answered}
-use Rattle.fkv_world.specs.Runs.{World, happens}
+use Rattle.fkv_world.specs.Runs.{World, happens, run}
 use Rattle.fkv_world.specs.World as world
 use Rattle.law_world.specs.Runs.Added.{begun_by, call_answered, call_begun, ended_by, told_at, told_by}
 use Rattle.law_world.proofs.OfRuns.Added.{trace_so}
@@ -23,10 +23,10 @@ use Rattle.law_order.proofs.OfReads.Numbers.{is_other}
 use Rattle.law_order.proofs.OfReads.Turns.{Goes, Turn, Rests, BeginsOne, GoesOne, moved_to, turn_of}
 use Rattle.fkv_table.specs.Calls.{OnlyMoves}
 use Rattle.fkv_table.specs.declared.happenings.Happening.{Happening}
-use Rattle.fkv_table.specs.declared.happenings.Happening.TheVariants.{Calls, Moves, Commits, Turns, KeeperMoves}
+use Rattle.fkv_table.specs.declared.happenings.Happening.TheVariants.{Calls, Moves, Commits, Turns, KeeperMoves, KeeperReads}
 use Rattle.fkv_table.specs.Events.{actor_of, event_of}
-use Rattle.fkv_table.specs.Planes.{plane}
-use Rattle.fkv_table.proofs.Lives.{alive}
+use Rattle.law_threads.specs.Seen.{world_seen}
+use Rattle.law_threads.proofs.Seen.{alive_seen}
 
 -- of others than the session
 abbrev pub OfOthers : ℕ → List Traced → Type 0
@@ -58,9 +58,9 @@ seen_called effects number its trace = record { its = Called number its; effects
 abbrev pub seen_answered : ℕ → ℕ → Told → List Finished → List Traced → List Traced
 seen_answered effects number its finished trace = record { its = Answered number (telling its finished); effects = effects } ∷ trace
 
-module _ {K : Type 0} (at : K → World) (opening : World) (number : ℕ) (call : Call) (rest : List Happening) where
+module _ (opening : World) (number : ℕ) (call : Call) (rest : List Happening) where
   abbrev pub after : List Happening → World
-  after es = led (plane at) opening es
+  after es = world_seen opening es
 
   abbrev pub trace_of : List Happening → List Traced
   trace_of es = (after es).past.trace
@@ -113,7 +113,7 @@ module _ {K : Type 0} (at : K → World) (opening : World) (number : ℕ) (call 
   -- ---- an event that tells nothing of the session and leaves it
   stays : (es : List Happening) (e : Happening) → AreOthers number (told_by (after es).now (happens (after es) (event_of e)).now (event_of e))
       → slice_get (happens (after es) (event_of e)).now.sessions number ≡ slice_get (after es).now.sessions number → Course es → Course (e ∷ es)
-  unfolding led
+  unfolding run
   stays es e others same (Going hand) = Going (record {
     s = hand.s;
     found = same ∙ hand.found;
@@ -155,7 +155,7 @@ module _ {K : Type 0} (at : K → World) (opening : World) (number : ℕ) (call 
       → slice_get (happens (after (between ++ called_at)) (world.Moves number)).now.sessions number ≡ Some s
       → told_by (after (between ++ called_at)).now (happens (after (between ++ called_at)) (world.Moves number)).now (world.Moves number) ≡ call_answered number true step finished
       → Course (Moves number ∷ (between ++ called_at))
-  unfolding led
+  unfolding run
   ends es between hand (Idle its) finished s is list found told = Over (record {
     s = s;
     found = found;
@@ -216,6 +216,7 @@ module _ {K : Type 0} (at : K → World) (opening : World) (number : ℕ) (call 
   other_caller (Commits kind) k c other is = cc
   other_caller Turns k c other is = cc
   other_caller (KeeperMoves granted done) k c other is = cc
+  other_caller (KeeperReads header key value) k c other is = cc
 
   other_mover : (e : Happening) (k : ℕ) → speaks (Sits number) (actor_of e) ≡ false → event_of e ≡ world.Moves k → (k == number) ≡ false
   other_mover (Calls n its) k other is = absurd (no_call k n its (sym is))
@@ -223,6 +224,7 @@ module _ {K : Type 0} (at : K → World) (opening : World) (number : ℕ) (call 
   other_mover (Commits kind) k other is = cc
   other_mover Turns k other is = cc
   other_mover (KeeperMoves granted done) k other is = cc
+  other_mover (KeeperReads header key value) k other is = cc
 
   by_other : (es : List Happening) (e : Happening) → speaks (Sits number) (actor_of e) ≡ false → Turn (after es) (event_of e) → Course es → Course (e ∷ es)
   by_other es e other (Rests quiet own stay) so = stays es e (keepers_other number _ quiet) (stay number) so
@@ -240,7 +242,7 @@ module _ {K : Type 0} (at : K → World) (opening : World) (number : ℕ) (call 
         → (happens (after rest) (world.Calls number call)).past.trace
         ≡ told_at (length (happens (after rest) (world.Calls number call)).past.history) (call_answered number true step to.finished) ++ seen_called (length (happens (after rest) (world.Calls number call)).past.history) number call (trace_of rest)
         → Course called_at
-    unfolding led
+    unfolding run
     begins_at (Idle its) to begun is there told = Over (record {
       s = to;
       found = there;
@@ -267,7 +269,7 @@ module _ {K : Type 0} (at : K → World) (opening : World) (number : ℕ) (call 
 
     -- callers see its start
     pub call_told : told_by (after rest).now (happens (after rest) (world.Calls number call)).now (world.Calls number call) ≡ ended_by (after rest).now (happens (after rest) (world.Calls number call)).now (world.Calls number call) ++ Called number call ∷ []
-    call_told = alive_told (after rest) (world.Calls number call) (alive at opening rest goes_on) ∙ ap (λ (x : List TraceEvent). ended_by (after rest).now (happens (after rest) (world.Calls number call)).now (world.Calls number call) ++ x) starts
+    call_told = alive_told (after rest) (world.Calls number call) (alive_seen opening rest goes_on) ∙ ap (λ (x : List TraceEvent). ended_by (after rest).now (happens (after rest) (world.Calls number call)).now (world.Calls number call) ++ x) starts
 
     -- an idle session begins the call
     begun : Turn (after rest) (world.Calls number call) → Course called_at
@@ -287,9 +289,9 @@ module _ {K : Type 0} (at : K → World) (opening : World) (number : ℕ) (call 
     begun (GoesOne its) = absurd (no_call its.number number call (sym its.is))
 
     one_on : (e : Happening) (steps : List Happening) → (e ≡ Moves number) ⊎ (speaks (Sits number) (actor_of e) ≡ false) → Course (steps ++ called_at) → Course (e ∷ (steps ++ called_at))
-    one_on e steps (inl own) so = subst (λ (x : Happening). Course (x ∷ (steps ++ called_at))) (sym own) (by_own steps (turn_of (after (steps ++ called_at)) (world.Moves number) (alive at opening (steps ++ called_at) goes_on)) so)
-    one_on e steps (inr other) so = by_other (steps ++ called_at) e other (turn_of (after (steps ++ called_at)) (event_of e) (alive at opening (steps ++ called_at) goes_on)) so
+    one_on e steps (inl own) so = subst (λ (x : Happening). Course (x ∷ (steps ++ called_at))) (sym own) (by_own steps (turn_of (after (steps ++ called_at)) (world.Moves number) (alive_seen opening (steps ++ called_at) goes_on)) so)
+    one_on e steps (inr other) so = by_other (steps ++ called_at) e other (turn_of (after (steps ++ called_at)) (event_of e) (alive_seen opening (steps ++ called_at) goes_on)) so
 
     pub course : (steps : List Happening) → OnlyMoves number steps → Course (steps ++ called_at)
-    course [] only = begun (turn_of (after rest) (world.Calls number call) (alive at opening rest goes_on))
+    course [] only = begun (turn_of (after rest) (world.Calls number call) (alive_seen opening rest goes_on))
     course (e ∷ steps) only = one_on e steps only.0 (course steps only.1)

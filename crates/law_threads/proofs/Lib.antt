@@ -8,3 +8,4 @@ mod OfPolls
 mod OfReads
 mod OfRuns
 mod OfTickets
+mod Seen

@@ -31,8 +31,9 @@ use Rattle.law_refine.proofs.OfCalls.Life.{idle_calm, life_stood, next_at, told_
 use Rattle.law_order.specs.Rules.Ordered.{OrdersItsCalls}
 use Rattle.law_order.proofs.OfReads.Numbers.{is_other}
 use Rattle.fkv_table.specs.declared.happenings.Happening.{Happening}
-use Rattle.fkv_table.proofs.Lives.{led_run}
-use Rattle.law_threads.specs.Calls.{CallRun, HasRun, IsOver, events_of}
+use Rattle.law_threads.specs.Calls.{CallRun, events_of}
+use Rattle.law_threads.specs.Seen.{IsRunOver, IsStoreWorld, world_seen}
+use Rattle.law_threads.proofs.Seen.{seen_run}
 use Rattle.law_threads.specs.Threads.{DoneIsSeen}
 use Rattle.law_threads.proofs.Course.{OfOthers, seen_answered, seen_called}
 use Rattle.law_threads.proofs.OfRuns.{IsToldIn, earlier, first, idle, is_told, same_number, same_told, since_call, told_with, was}
@@ -95,37 +96,37 @@ pub record Taken (its : CallRun) (serial : Serial) (reply : Reply) (w : World) (
   pub update : HasReply (effects_of_life w events) its.number serial.0 reply
   pub called : (let u = update in its.call ≡ call.Op u.update.effect.entry.op)
 
-module _ (in_turn : GivesSerialsInTurn) {K : Type 0} (at : K → World) (key : K) (its : CallRun) (run_so : HasRun at key its) (serial : Serial) (reply : Reply) (given : its.answer ≡ answer.Done serial reply) where
+module _ (in_turn : GivesSerialsInTurn) (opening : World) (its : CallRun) (run_so : IsRunOver opening its) (serial : Serial) (reply : Reply) (given : its.answer ≡ answer.Done serial reply) where
   abbrev number : ℕ
   number = its.number
 
   abbrev before : List Event
-  before = events_of (earlier at key its run_so)
+  before = events_of (earlier opening its run_so)
 
   abbrev behind : List Event
-  behind = events_of (since_call at key its run_so)
+  behind = events_of (since_call opening its run_so)
 
   abbrev trace_at : List Event → List Traced
-  trace_at events = (run (at key) events).past.trace
+  trace_at events = (run opening events).past.trace
 
   abbrev numbers : ℕ → ℕ
-  numbers = serials_in (at key).now
+  numbers = serials_in opening.now
 
-  abbrev its_telling : IsToldIn at (at key) number its.call (earlier at key its run_so) (since_call at key its run_so) (told.Done serial reply) run_so.answered.finished
-  its_telling = subst (λ (x : Told). IsToldIn at (at key) number its.call (earlier at key its run_so) (since_call at key its run_so) x run_so.answered.finished) (same_told run_so.answered.its run_so.answered.finished its.answer run_so.answered.told ∙ ap told_with given) (is_told at key its run_so)
+  abbrev its_telling : IsToldIn opening number its.call (earlier opening its run_so) (since_call opening its run_so) (told.Done serial reply) run_so.answered.finished
+  its_telling = subst (λ (x : Told). IsToldIn opening number its.call (earlier opening its run_so) (since_call opening its run_so) x run_so.answered.finished) (same_told run_so.answered.its run_so.answered.finished its.answer run_so.answered.told ∙ ap told_with given) (is_told opening its run_so)
 
   so : trace_at behind ≡ seen_answered its_telling.effects number (told.Done serial reply) its_telling.finished (its_telling.more ++ seen_called its_telling.began number its.call (trace_at before))
-  so = sym (ap (λ (w : World). w.past.trace) (led_run at (at key) (since_call at key its run_so)))
-      ∙ (its_telling.so ∙ ap (λ (w : World). seen_answered its_telling.effects number (told.Done serial reply) its_telling.finished (its_telling.more ++ seen_called its_telling.began number its.call w.past.trace)) (led_run at (at key) (earlier at key its run_so)))
+  so = sym (ap (λ (w : World). w.past.trace) (seen_run opening (since_call opening its run_so)))
+      ∙ (its_telling.so ∙ ap (λ (w : World). seen_answered its_telling.effects number (told.Done serial reply) its_telling.finished (its_telling.more ++ seen_called its_telling.began number its.call w.past.trace)) (seen_run opening (earlier opening its run_so)))
 
-  opened : IsOpenedWorld (at key)
-  opened = run_so.ready.opened.opening.opened
+  opened : IsOpenedWorld opening
+  opened = run_so.opened
 
-  was_there : WasOpened (at key) before number (first at key its run_so)
-  was_there = was_opened (at key) before number (first at key its run_so) opened (ap (λ (w : World). slice_get w.now.sessions number) (sym (led_run at (at key) (earlier at key its run_so))) ∙ was at key its run_so)
+  was_there : WasOpened opening before number (first opening its run_so)
+  was_there = was_opened opening before number (first opening its run_so) opened (ap (λ (w : World). slice_get w.now.sessions number) (sym (seen_run opening (earlier opening its run_so))) ∙ was opening its run_so)
 
-  became : HasBecome (at key) behind number was_there.first its_telling.s
-  became = record { opened = opened; was = was_there.became.was; is_now = ap (λ (w : World). slice_get w.now.sessions number) (sym (led_run at (at key) (since_call at key its run_so))) ∙ its_telling.found }
+  became : HasBecome opening behind number was_there.first its_telling.s
+  became = record { opened = opened; was = was_there.became.was; is_now = ap (λ (w : World). slice_get w.now.sessions number) (sym (seen_run opening (since_call opening its run_so))) ∙ its_telling.found }
 
   -- the serial is the next one
   answers_now : serials_given (answers_of number (trace_at behind)) ≡ serial.0 ∷ serials_given (answers_of number (trace_at before))
@@ -138,7 +139,7 @@ module _ (in_turn : GivesSerialsInTurn) {K : Type 0} (at : K → World) (key : K
   next =
       let given_all : List ℕ = serials_given (answers_of number (trace_at before)) in
       let turn : AreInTurn was_there.first.serial its_telling.s.serial (answers_of number (trace_at behind)) =
-      subst (AreInTurn was_there.first.serial its_telling.s.serial) (told_so (at key) behind number was_there.first its_telling.s became its_telling.idle) (in_turn (at key) behind number was_there.first its_telling.s became) in
+      subst (AreInTurn was_there.first.serial its_telling.s.serial) (told_so opening behind number was_there.first its_telling.s became its_telling.idle) (in_turn opening behind number was_there.first its_telling.s became) in
       let is : serial.0 ∷ given_all ≡ serials_after was_there.first.serial (length (serial.0 ∷ given_all)) = sym answers_now ∙ (turn.in_turn ∙ ap (λ (x : List ℕ). serials_after was_there.first.serial (length x)) answers_now) in
       let begun : numbers number ≡ was_there.first.serial = ap serial_in was_there.became.was in
       ap (λ (x : ℕ). newest_serial x given_all + 1) begun ∙ sym (serial_next was_there.first.serial serial.0 given_all is)
@@ -146,36 +147,36 @@ module _ (in_turn : GivesSerialsInTurn) {K : Type 0} (at : K → World) (key : K
   -- and had not been called before
   none_before : called_as (lines_of numbers (trace_at before)) number serial.0 ≡ None
   none_before =
-      let s : SessionState = first at key its run_so in
-      let is : s.serial + 1 ≡ serial.0 = sym (next_at (at key) before number was_there.first s was_there.became (idle at key its run_so)) ∙ next in
+      let s : SessionState = first opening its run_so in
+      let is : s.serial + 1 ≡ serial.0 = sym (next_at opening before number was_there.first s was_there.became (idle opening its run_so)) ∙ next in
       ap (λ (n : ℕ). called_as (lines_of numbers (trace_at before)) number n) (sym is)
-      ∙ (idle_calm (ledger_of numbers number (trace_at before)) s s.step (idle at key its run_so) (life_stood (at key) before number was_there.first s was_there.became)).none
+      ∙ (idle_calm (ledger_of numbers number (trace_at before)) s s.step (idle opening its run_so) (life_stood opening before number was_there.first s was_there.became)).none
 
-  module _ (orders : OrdersCalls (effects_of_life (at key) behind) (lines_of_life (at key) behind)) where
-    gives : IsIn (GivesResult number serial.0 reply) (lines_of_life (at key) behind)
+  module _ (orders : OrdersCalls (effects_of_life opening behind) (lines_of_life opening behind)) where
+    gives : IsIn (GivesResult number serial.0 reply) (lines_of_life opening behind)
     unfolding lines_of
     gives = subst (λ (x : List Traced). IsIn (GivesResult number serial.0 reply) (lines_of numbers x)) (sym so) (inl refl)
 
-    update : HasReply (effects_of_life (at key) behind) number serial.0 reply
+    update : HasReply (effects_of_life opening behind) number serial.0 reply
     update = orders.given number serial.0 reply gives
 
-    called_now : called_as (lines_of_life (at key) behind) number serial.0 ≡ called_as (lines_of numbers (seen_called its_telling.began number its.call (trace_at before))) number serial.0
+    called_now : called_as (lines_of_life opening behind) number serial.0 ≡ called_as (lines_of numbers (seen_called its_telling.began number its.call (trace_at before))) number serial.0
     unfolding lines_of
     called_now =
         ap (λ (x : List Traced). called_as (lines_of numbers x) number serial.0) so
         ∙ called_kept numbers number serial.0 its_telling.more (seen_called its_telling.began number its.call (trace_at before)) its_telling.others
 
-    pub taken : Taken its serial reply (at key) behind
+    pub taken : Taken its serial reply opening behind
     taken =
         let effect = update.update.effect in
-        let named : called_as (lines_of_life (at key) behind) number serial.0 ≡ Some effect.entry.op =
-        (λ i. called_as (lines_of_life (at key) behind) (sym update.update.its_session i) (sym update.update.its_serial i)) ∙ orders.called effect update.update.is_in in
+        let named : called_as (lines_of_life opening behind) number serial.0 ≡ Some effect.entry.op =
+        (λ i. called_as (lines_of_life opening behind) (sym update.update.its_session i) (sym update.update.its_serial i)) ∙ orders.called effect update.update.is_in in
         record { update = update; called = its_op numbers number serial.0 its_telling.began its.call (trace_at before) effect.entry.op next none_before (sym called_now ∙ named) }
 
-pub done_so : GivesSerialsInTurn → {K : Type 0} (at : K → World) (key : K) (o : Opened) (n : Now) (bytes : List ℕ) (its : CallRun) → IsOver at key o n bytes → HasRun at key its → OrdersItsCalls o n bytes (events_of its.behind) → DoneIsSeen o n bytes its
-done_so in_turn at key o n bytes its over run_so law serial reply given =
-    let there : OrdersCalls (effects_of_life (at key) (events_of (since_call at key its run_so))) (lines_of_life (at key) (events_of (since_call at key its run_so))) =
+pub done_so : GivesSerialsInTurn → (opening : World) (o : Opened) (n : Now) (bytes : List ℕ) (its : CallRun) → IsStoreWorld opening o n bytes → IsRunOver opening its → OrdersItsCalls o n bytes (events_of its.behind) → DoneIsSeen o n bytes its
+done_so in_turn opening o n bytes its over run_so law serial reply given =
+    let there : OrdersCalls (effects_of_life opening (events_of (since_call opening its run_so))) (lines_of_life opening (events_of (since_call opening its run_so))) =
     subst (λ (x : World × List Happening). OrdersCalls (effects_of_life x.0 (events_of x.1)) (lines_of_life x.0 (events_of x.1))) (λ i. (sym over.same i, run_so.called.so i)) law in
     let so : Taken its serial reply (beginning n bytes) (events_of its.behind) =
-    subst (λ (x : World × List Happening). Taken its serial reply x.0 (events_of x.1)) (λ i. (over.same i, sym run_so.called.so i)) (taken in_turn at key its run_so serial reply given there) in
+    subst (λ (x : World × List Happening). Taken its serial reply x.0 (events_of x.1)) (λ i. (over.same i, sym run_so.called.so i)) (taken in_turn opening its run_so serial reply given there) in
     record { update = so.update; called = so.called }

@@ -9,7 +9,6 @@ use Rattle.fkv_map.specs.declared.operations.Call.{Call}
 use Rattle.fkv_map.specs.History.{point_of}
 use Rattle.fkv_opening.specs.Opened.{IsStoreOf}
 use Rattle.fkv_opening.specs.declared.opened_store.Opened.{Opened}
-use Rattle.fkv_seats.specs.Rule.{led}
 use Rattle.fkv_session.specs.declared.answers.Answer.TheVariants as answer
 use Rattle.fkv_session.specs.declared.answers.Finished.{Finished}
 use Rattle.fkv_session.specs.declared.answers.Told.{Told}
@@ -25,9 +24,9 @@ use Rattle.law_order.specs.Prefix.Law.{HoldsPrefix, IsKeptOf, ReachesFar, TellsD
 use Rattle.law_order.proofs.OfReads.Numbers.{is_other}
 use Rattle.fkv_table.specs.declared.happenings.Happening.{Happening}
 use Rattle.fkv_table.specs.Events.{event_of}
-use Rattle.fkv_table.specs.Planes.{plane}
-use Rattle.fkv_table.proofs.Lives.{led_run}
-use Rattle.law_threads.specs.Calls.{CallRun, HasRun, IsOver, events_of}
+use Rattle.law_threads.specs.Calls.{CallRun, events_of}
+use Rattle.law_threads.specs.Seen.{IsRunOver, IsStoreWorld, world_seen}
+use Rattle.law_threads.proofs.Seen.{seen_run}
 use Rattle.law_threads.specs.Durable.{IsDurable, RecoversItsDurable, RecoversLater, TellsItsDurable}
 use Rattle.law_threads.proofs.Course.{OfOthers, seen_answered, seen_called}
 use Rattle.law_threads.proofs.Histories.{events_both}
@@ -92,45 +91,45 @@ own_point number effects serial list before =
     subst (λ (c : Bool). IsIn (record { point = serial.0; finished = finishes_at_call number before }) (if c then record { point = serial.0; finished = finishes_at_call number before } ∷ points_told number before else points_told number before))
     (sym (same_number number)) (inl refl)
 
-module _ {K : Type 0} (at : K → World) (key : K) (o : Opened) (n : Now) (bytes : List ℕ) (its : CallRun) (over : IsOver at key o n bytes) (run_so : HasRun at key its) (serial : Serial) (given : its.answer ≡ answer.Durable serial) where
+module _ (opening : World) (o : Opened) (n : Now) (bytes : List ℕ) (its : CallRun) (over : IsStoreWorld opening o n bytes) (run_so : IsRunOver opening its) (serial : Serial) (given : its.answer ≡ answer.Durable serial) where
   abbrev opening : World
   opening = beginning n bytes
 
   abbrev number : ℕ
   number = its.number
 
-  abbrev its_telling : IsToldIn at (at key) number its.call (earlier at key its run_so) (since_call at key its run_so) (told.Durable serial) run_so.answered.finished
-  its_telling = subst (λ (x : Told). IsToldIn at (at key) number its.call (earlier at key its run_so) (since_call at key its run_so) x run_so.answered.finished) (same_told run_so.answered.its run_so.answered.finished its.answer run_so.answered.told ∙ ap told_with given) (is_told at key its run_so)
+  abbrev its_telling : IsToldIn opening number its.call (earlier opening its run_so) (since_call opening its run_so) (told.Durable serial) run_so.answered.finished
+  its_telling = subst (λ (x : Told). IsToldIn opening number its.call (earlier opening its run_so) (since_call opening its run_so) x run_so.answered.finished) (same_told run_so.answered.its run_so.answered.finished its.answer run_so.answered.told ∙ ap told_with given) (is_told opening its run_so)
 
   abbrev trace_at : List Happening → List Traced
   trace_at es = trace_so_far n bytes (events_of es)
 
-  in_run : (es : List Happening) → (led (plane at) (at key) es).past.trace ≡ trace_at es
-  in_run es = ap (λ (w : World). w.past.trace) (led_run at (at key) es) ∙ ap (λ (w : World). (run w (events_of es)).past.trace) over.same
+  in_run : (es : List Happening) → (world_seen opening es).past.trace ≡ trace_at es
+  in_run es = ap (λ (w : World). w.past.trace) (seen_run opening es) ∙ ap (λ (w : World). (run w (events_of es)).past.trace) over.same
 
-  so : trace_at its.behind ≡ seen_answered its_telling.effects number (told.Durable serial) its_telling.finished (its_telling.more ++ seen_called its_telling.began number its.call (trace_at (earlier at key its run_so)))
+  so : trace_at its.behind ≡ seen_answered its_telling.effects number (told.Durable serial) its_telling.finished (its_telling.more ++ seen_called its_telling.began number its.call (trace_at (earlier opening its run_so)))
   so = ap trace_at run_so.called.so
-      ∙ (sym (in_run (since_call at key its run_so))
-      ∙ (its_telling.so ∙ ap (λ (x : List Traced). seen_answered its_telling.effects number (told.Durable serial) its_telling.finished (its_telling.more ++ seen_called its_telling.began number its.call x)) (in_run (earlier at key its run_so))))
+      ∙ (sym (in_run (since_call opening its run_so))
+      ∙ (its_telling.so ∙ ap (λ (x : List Traced). seen_answered its_telling.effects number (told.Durable serial) its_telling.finished (its_telling.more ++ seen_called its_telling.began number its.call x)) (in_run (earlier opening its run_so))))
 
   abbrev point : ToldPoint
-  point = record { point = serial.0; finished = finishes_told (trace_at (earlier at key its run_so)) }
+  point = record { point = serial.0; finished = finishes_told (trace_at (earlier opening its run_so)) }
 
   is_there : IsIn point ((past_so_far n bytes (events_of its.behind)).told number)
   is_there =
-      let before : List Traced = its_telling.more ++ seen_called its_telling.began number its.call (trace_at (earlier at key its run_so)) in
-      let at_call : finishes_at_call number before ≡ finishes_told (trace_at (earlier at key its run_so)) =
-      call_kept number its_telling.more _ its_telling.others ∙ own_call number its_telling.began its.call (trace_at (earlier at key its run_so)) in
+      let before : List Traced = its_telling.more ++ seen_called its_telling.began number its.call (trace_at (earlier opening its run_so)) in
+      let at_call : finishes_at_call number before ≡ finishes_told (trace_at (earlier opening its run_so)) =
+      call_kept number its_telling.more _ its_telling.others ∙ own_call number its_telling.began its.call (trace_at (earlier opening its run_so)) in
       subst (λ (x : List Traced). IsIn point (points_told number x)) (sym so)
       (subst (λ (x : ℕ). IsIn (record { point = serial.0; finished = x }) (points_told number (seen_answered its_telling.effects number (told.Durable serial) its_telling.finished before))) at_call
       (own_point number its_telling.effects serial its_telling.finished before))
 
   pub durable_at : TellsDurable o n bytes (events_of its.behind) → IsDurable o n bytes its serial
   durable_at law = record {
-    finished = finishes_told (trace_at (earlier at key its run_so));
+    finished = finishes_told (trace_at (earlier opening its run_so));
     seen =
         let behind = trace_behind opening run_so.called.others (events_of its.before) in
-        let same : trace_at (earlier at key its run_so) ≡ behind.later ++ trace_at its.before = ap (λ (es : List Event). (run opening es).past.trace) (events_both run_so.called.others its.before) ∙ behind.whole in
+        let same : trace_at (earlier opening its run_so) ≡ behind.later ++ trace_at its.before = ap (λ (es : List Event). (run opening es).past.trace) (events_both run_so.called.others its.before) ∙ behind.whole in
         subst (λ (x : List Traced). finishes_told (trace_at its.before) ≤ finishes_told x) (sym same) (finishes_more behind.later (trace_at its.before));
     durable = law number point is_there;
   }
@@ -145,8 +144,8 @@ module _ {K : Type 0} (at : K → World) (key : K) (o : Opened) (n : Now) (bytes
       let there : IsIn point (points_told number (run opening (events_of later ++ events_of its.behind)).past.trace) = subst (λ (x : List Traced). IsIn point (points_told number x)) (sym behind.whole) (points_more number point behind.later _ is_there) in
       subst (λ (x : ℕ). serial.0 ≤ x) (sym (kept.points number)) (held.current.durable number point there)
 
-pub tells_durable : {K : Type 0} (at : K → World) (key : K) (o : Opened) (n : Now) (bytes : List ℕ) (its : CallRun) → IsOver at key o n bytes → HasRun at key its → TellsDurable o n bytes (events_of its.behind) → TellsItsDurable o n bytes its
-tells_durable at key o n bytes its over run law serial given = durable_at at key o n bytes its over run serial given law
+pub tells_durable : (opening : World) (o : Opened) (n : Now) (bytes : List ℕ) (its : CallRun) → IsStoreWorld opening o n bytes → IsRunOver opening its → TellsDurable o n bytes (events_of its.behind) → TellsItsDurable o n bytes its
+tells_durable opening o n bytes its over run law serial given = durable_at opening o n bytes its over run serial given law
 
-pub recovers_durable : {K : Type 0} (at : K → World) (key : K) (o : Opened) (n : Now) (bytes : List ℕ) (its : CallRun) → IsOver at key o n bytes → HasRun at key its → RecoversLater o n bytes (events_of its.behind) → RecoversItsDurable o n bytes its
-recovers_durable at key o n bytes its over run law serial given = recovered_at at key o n bytes its over run serial given law
+pub recovers_durable : (opening : World) (o : Opened) (n : Now) (bytes : List ℕ) (its : CallRun) → IsStoreWorld opening o n bytes → IsRunOver opening its → RecoversLater o n bytes (events_of its.behind) → RecoversItsDurable o n bytes its
+recovers_durable opening o n bytes its over run law serial given = recovered_at opening o n bytes its over run serial given law

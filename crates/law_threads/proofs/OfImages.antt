@@ -14,7 +14,8 @@ use Rattle.law_order.specs.Served.Fits.{CallsFit}
 use Rattle.law_order.specs.Tickets.Few.{HasFewCalls, calls_in, with_begun}
 use Rattle.fkv_table.specs.declared.happenings.Happening.{Happening}
 use Rattle.fkv_table.specs.Planes.{plane}
-use Rattle.fkv_table.proofs.Lives.{led_run}
+use Rattle.fkv_table.specs.Worlds.{TableWorld}
+use Rattle.fkv_table.proofs.Lives.{trusted_run}
 use Rattle.law_threads.specs.Calls.{IsOver, events_of}
 use Rattle.law_threads.specs.Durable.{RecoversLater}
 use Rattle.law_threads.specs.Images.{RecoversWithin}
@@ -43,9 +44,9 @@ few_before later before most few = let less = fewer_before later before in omega
 within_before : (o : Opened) (n : Now) (bytes : List ℕ) (later before : List Event) → IsWithin o n bytes (later ++ before) → IsWithin o n bytes before
 within_before o n bytes later before its = record { fits = fits_before later before its.fits; few = few_before later before _ its.few }
 
-module _ {K : Type 0} (at : K → World) (key : K) (o : Opened) (n : Now) (bytes : List ℕ) (over : IsOver at key o n bytes) where
+module _ {K : Type 0} (at : K → TableWorld) (key : K) (o : Opened) (n : Now) (bytes : List ℕ) (over : IsOver at key o n bytes) where
   past_so : (es : List Happening) → (led (plane at) (at key) es).past ≡ (run (beginning n bytes) (events_of es)).past
-  past_so es = ap (λ (w : World). w.past) (led_run at (at key) es) ∙ ap (λ (w : World). (run w (events_of es)).past) over.same
+  past_so es = ap (λ (w : World). w.past) (trusted_run at (at key) es over.trusted) ∙ ap (λ (w : World). (run w (events_of es)).past) over.same
 
   -- an image is left of the life that the order law knows
   left_so : (es : List Happening) (image : List ℕ) → (let p : Past = (led (plane at) (at key) es).past in MayLeave p.opened p.calls image) → MayLeave bytes (calls_so_far n bytes (events_of es)) image
@@ -53,7 +54,7 @@ module _ {K : Type 0} (at : K → World) (key : K) (o : Opened) (n : Now) (bytes
       let here : (let p : Past = (run (beginning n bytes) (events_of es)).past in MayLeave p.opened p.calls image) = subst (λ (p : Past). MayLeave p.opened p.calls image) (past_so es) left in
       subst (λ (opened : List ℕ). MayLeave opened (calls_so_far n bytes (events_of es)) image) (opened_stays (beginning n bytes) (events_of es)) here
 
-pub by_later : {K : Type 0} (at : K → World) (key : K) (seen seen' : List Happening) → RecoversWithin at (λ o n bytes. RecoversLater o n bytes (events_of seen)) key seen seen'
+pub by_later : {K : Type 0} (at : K → TableWorld) (key : K) (seen seen' : List Happening) → RecoversWithin at (λ o n bytes. RecoversLater o n bytes (events_of seen)) key seen seen'
 by_later at key seen seen' o n bytes over law far image its =
     let both : events_of its.now ≡ events_of its.from.0 ++ events_of seen = ap events_of its.from.1 ∙ events_both its.from.0 seen in
     let left : MayLeave bytes (calls_so_far n bytes (events_of its.from.0 ++ events_of seen)) image =
@@ -61,7 +62,7 @@ by_later at key seen seen' o n bytes over law far image its =
     let held : HoldsPrefix o n bytes (events_of its.from.0 ++ events_of seen) image = law (events_of its.from.0) far image left in
     record { now = its.now; from = its.from; to = its.to; holds = subst (λ (es : List Event). HoldsPrefix o n bytes es image) (sym both) held }
 
-pub by_law : {K : Type 0} (at : K → World) (key : K) (seen seen' : List Happening) → PrefixLaw → RecoversWithin at (λ o n bytes. IsWithin o n bytes (events_of seen')) key seen seen'
+pub by_law : {K : Type 0} (at : K → TableWorld) (key : K) (seen seen' : List Happening) → PrefixLaw → RecoversWithin at (λ o n bytes. IsWithin o n bytes (events_of seen')) key seen seen'
 by_law at key seen seen' prefix o n bytes over within far image its =
     let both : events_of seen' ≡ events_of its.to.0 ++ events_of its.now = ap events_of its.to.1 ∙ events_both its.to.0 its.now in
     let here : IsWithin o n bytes (events_of its.now) = within_before o n bytes (events_of its.to.0) (events_of its.now) (subst (λ (es : List Event). IsWithin o n bytes es) both within) in

@@ -5,38 +5,48 @@ use Rattle.fkv_opening.specs.Opened.{IsStoreOf}
 use Rattle.fkv_opening.specs.declared.opened_store.Opened.{Opened}
 use Rattle.fkv_seats.specs.Kept.{SeesInOrder}
 use Rattle.fkv_seats.specs.Rule.{IsSeenBy}
-use Rattle.fkv_world.specs.Runs.{World}
 use Rattle.fkv_world.specs.World.{Event, Now}
 use Rattle.law_order.specs.OneHistory.EachLife.{InEachLife, IsLife, Life, WithoutCommits}
-use Rattle.law_order.specs.Prefix.Law.{PrefixLaw}
+use Rattle.law_order.specs.Prefix.Law.{PrefixLaw, TellsDurable}
 use Rattle.law_order.specs.Rules.InTime.{ReadsInTime}
 use Rattle.law_order.specs.Rules.Ordered.{HasLegalHistory, OrdersItsCalls}
 use Rattle.fkv_table.specs.declared.happenings.Happening.{Happening}
 use Rattle.fkv_table.specs.Planes.{plane}
-use Rattle.law_threads.specs.Calls.{events_of}
+use Rattle.fkv_table.specs.Worlds.{TableWorld, world_in}
+use Rattle.law_threads.specs.Calls.{OfEachRun, events_of}
+use Rattle.law_threads.specs.Durable.{RecoversItsDurable, RecoversLater, TellsItsDurable}
 use Rattle.law_threads.specs.Laws.{IsOrdered, IsSeenIn, IsThreadLaw, IsWithin, IsWithoutCommits, SharesOneHistory}
 use Rattle.law_threads.specs.Threads.{IsBeginning, history_seen}
 use Rattle.law_threads.proofs.Histories.{begins_with}
+use Rattle.law_threads.proofs.Seen.{over_world, store_world}
+use Rattle.law_threads.proofs.OfDurable.{recovers_durable, tells_durable}
 use Rattle.law_threads.proofs.OfDone.{GivesSerialsInTurn, done_so}
 use Rattle.law_threads.proofs.OfPolls.{finished_so, polls_so}
 use Rattle.law_threads.proofs.OfReads.{reads_so}
 use Rattle.law_threads.proofs.OfTickets.{GivesTicketsInTurn}
 use Rattle.law_threads.proofs.OfRuns.{begins_so}
 
-pub thread_law : GivesSerialsInTurn → GivesTicketsInTurn → {K : Type 0} (at : K → World) → IsThreadLaw at IsOrdered
+pub thread_law : GivesSerialsInTurn → GivesTicketsInTurn → {K : Type 0} (at : K → TableWorld) → IsThreadLaw at IsOrdered
 thread_law in_turn tickets at = record {
-  done = λ key o n bytes its over run law. done_so in_turn at key o n bytes its over run law.ordered;
-  reads = λ key o n bytes its over run law. reads_so at key its run o n bytes over law.in_time;
-  finished = λ key o n bytes its over run law. finished_so at key o n bytes its over run law.ordered;
-  polled = λ key o n bytes asked poll over ran polled law few k value its. polls_so tickets at key asked poll ran polled k value its few o n bytes over law.in_time;
-  history = λ key o n bytes its over run law. record { legal = law.legal; ordered = law.ordered; begins = begins_so at key its run n bytes };
+  done = λ key o n bytes its over run law. done_so in_turn (world_in (at key)) o n bytes its (store_world at key o n bytes over) (over_world at key its run over.trusted) law.ordered;
+  reads = λ key o n bytes its over run law. reads_so (world_in (at key)) its (over_world at key its run over.trusted) o n bytes (store_world at key o n bytes over) law.in_time;
+  finished = λ key o n bytes its over run law. finished_so (world_in (at key)) o n bytes its (store_world at key o n bytes over) (over_world at key its run over.trusted) law.ordered;
+  polled = λ key o n bytes asked poll over ran polled law few k value its.
+      polls_so tickets (world_in (at key)) asked poll (over_world at key asked ran over.trusted) (over_world at key poll polled over.trusted) k value its few o n bytes (store_world at key o n bytes over) law.in_time;
+  history = λ key o n bytes its over run law. record { legal = law.legal; ordered = law.ordered; begins = begins_so (world_in (at key)) its (over_world at key its run over.trusted) n bytes };
 }
+
+pub durable_law : {K : Type 0} (at : K → TableWorld) → OfEachRun at TellsDurable TellsItsDurable
+durable_law at key o n bytes its over run law = tells_durable (world_in (at key)) o n bytes its (store_world at key o n bytes over) (over_world at key its run over.trusted) law
+
+pub recovered_law : {K : Type 0} (at : K → TableWorld) → OfEachRun at RecoversLater RecoversItsDurable
+recovered_law at key o n bytes its over run law = recovers_durable (world_in (at key)) o n bytes its (store_world at key o n bytes over) (over_world at key its run over.trusted) law
 
 -- where more is so
 abbrev Implies : (Opened → Now → List ℕ → List Event → Type 0) → (Opened → Now → List ℕ → List Event → Type 0) → Type 0
 Implies If Then = (o : Opened) (n : Now) (bytes : List ℕ) (events : List Event) → IsStoreOf bytes o → IsOpeningWorld o n → If o n bytes events → Then o n bytes events
 
-weaker : {K : Type 0} (at : K → World) (If Then : Opened → Now → List ℕ → List Event → Type 0) → Implies If Then → IsThreadLaw at Then → IsThreadLaw at If
+weaker : {K : Type 0} (at : K → TableWorld) (If Then : Opened → Now → List ℕ → List Event → Type 0) → Implies If Then → IsThreadLaw at Then → IsThreadLaw at If
 weaker at If Then so law = record {
   done = λ key o n bytes its over run it. law.done key o n bytes its over run (so o n bytes (events_of its.behind) over.store over.begins it);
   reads = λ key o n bytes its over run it. law.reads key o n bytes its over run (so o n bytes (events_of its.behind) over.store over.begins it);
@@ -51,7 +61,7 @@ life o n bytes events = record { bytes = bytes; opened = o; world = n; events = 
 is_life : (o : Opened) (n : Now) (bytes : List ℕ) (events : List Event) → IsStoreOf bytes o → IsOpeningWorld o n → IsWithin o n bytes events → IsLife (record { bytes = bytes; opened = o; world = n; events = events })
 is_life o n bytes events store begins within = record { store = store; begins = begins; fits = within.fits; few = within.few }
 
-pub without_commits : {K : Type 0} (at : K → World) → InEachLife (WithoutCommits HasLegalHistory) → InEachLife (WithoutCommits OrdersItsCalls) → InEachLife (WithoutCommits ReadsInTime) → IsThreadLaw at IsOrdered → IsThreadLaw at IsWithoutCommits
+pub without_commits : {K : Type 0} (at : K → TableWorld) → InEachLife (WithoutCommits HasLegalHistory) → InEachLife (WithoutCommits OrdersItsCalls) → InEachLife (WithoutCommits ReadsInTime) → IsThreadLaw at IsOrdered → IsThreadLaw at IsWithoutCommits
 without_commits at legal ordered in_time law = weaker at IsWithoutCommits IsOrdered
     (λ o n bytes events store begins it.
     let its : Life = record { bytes = bytes; opened = o; world = n; events = events } in
@@ -59,7 +69,7 @@ without_commits at legal ordered in_time law = weaker at IsWithoutCommits IsOrde
     record { legal = legal its is it.rests; ordered = ordered its is it.rests; in_time = in_time its is it.rests })
     law
 
-pub by_prefix : {K : Type 0} (at : K → World) → PrefixLaw → IsThreadLaw at IsOrdered → IsThreadLaw at IsWithin
+pub by_prefix : {K : Type 0} (at : K → TableWorld) → PrefixLaw → IsThreadLaw at IsOrdered → IsThreadLaw at IsWithin
 by_prefix at prefix law = weaker at IsWithin IsOrdered
     (λ o n bytes events store begins it.
     let its : Life = record { bytes = bytes; opened = o; world = n; events = events } in
@@ -67,10 +77,10 @@ by_prefix at prefix law = weaker at IsWithin IsOrdered
     record { legal = prefix.legal its is; ordered = prefix.ordered its is; in_time = prefix.in_time its is })
     law
 
-seen_in : {K : Type 0} (at : K → World) (n : Now) (bytes : List ℕ) (less more : List Happening) → IsSeenBy (plane at) less more → IsSeenIn at n bytes less more
+seen_in : {K : Type 0} (at : K → TableWorld) (n : Now) (bytes : List ℕ) (less more : List Happening) → IsSeenBy (plane at) less more → IsSeenIn at n bytes less more
 seen_in at n bytes less more seen = record { seen = seen; history = subst (λ (x : List Happening). IsBeginning (history_seen n bytes less) (history_seen n bytes x)) (sym seen.1) (begins_with n bytes seen.0 less) }
 
-pub shares : {K : Type 0} (at : K → World) → SeesInOrder (plane at) → SharesOneHistory at
+pub shares : {K : Type 0} (at : K → TableWorld) → SeesInOrder (plane at) → SharesOneHistory at
 shares at in_order key o n bytes s id other v u over ruled one two = by_side (in_order key s id other v u ruled one two)
   where
     by_side : IsSeenBy (plane at) v.seen u.seen ⊎ IsSeenBy (plane at) u.seen v.seen → IsSeenIn at n bytes v.seen u.seen ⊎ IsSeenIn at n bytes u.seen v.seen

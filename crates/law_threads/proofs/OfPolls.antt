@@ -11,7 +11,6 @@ use Rattle.fkv_map.specs.declared.operations.Reply.{Reply}
 use Rattle.fkv_opening.specs.declared.opened_store.Opened.{Opened}
 use Rattle.fkv_pending.specs.declared.pending_requests.PendingRequest.{PendingRequest}
 use Rattle.fkv_pending.specs.declared.pending_requests.Ticket.{Ticket}
-use Rattle.fkv_seats.specs.Rule.{led}
 use Rattle.fkv_session.specs.declared.answers.Answer.{Answer}
 use Rattle.fkv_session.specs.declared.answers.Answer.TheVariants as answer
 use Rattle.fkv_session.specs.declared.answers.Finished.{Finished}
@@ -43,9 +42,9 @@ use Rattle.law_order.proofs.OfReads.Numbers.{called_hand}
 use Rattle.law_order.proofs.OfTickets.Events.{before_few}
 use Rattle.fkv_table.specs.declared.happenings.Happening.TheVariants.{Calls, Moves}
 use Rattle.fkv_table.specs.Events.{event_of}
-use Rattle.fkv_table.specs.Planes.{plane}
-use Rattle.fkv_table.proofs.Lives.{led_run}
-use Rattle.law_threads.specs.Calls.{CallRun, HasRun, IsOver, events_of}
+use Rattle.law_threads.specs.Calls.{CallRun, events_of}
+use Rattle.law_threads.specs.Seen.{IsRunOver, IsStoreWorld, world_seen}
+use Rattle.law_threads.proofs.Seen.{seen_run}
 use Rattle.law_threads.specs.Polls.{FinishedIsSeen, HasFinished, IsPolledRead}
 use Rattle.law_threads.specs.Threads.{IsBeginning, history_seen}
 use Rattle.law_threads.proofs.Course.{Answering, AtOnce, ByStep, InTurn, seen_answered, seen_called}
@@ -110,7 +109,7 @@ few_before : (later before : List Event) → HasFewCalls (later ++ before) → H
 few_before [] before few = few
 few_before (event ∷ later) before few = few_before later before (before_few event (later ++ before) few)
 
-module _ (in_turn : GivesTicketsInTurn) {K : Type 0} (at : K → World) (key : K) (asked poll : CallRun) (ran : HasRun at key asked) (polled : HasRun at key poll) (k : Key) (value : Option Value) (its : IsPolledRead asked poll k value) (few : HasFewCalls (events_of poll.behind)) where
+module _ (in_turn : GivesTicketsInTurn) (opening : World) (asked poll : CallRun) (ran : IsRunOver opening asked) (polled : IsRunOver opening poll) (k : Key) (value : Option Value) (its : IsPolledRead asked poll k value) (few : HasFewCalls (events_of poll.behind)) where
   abbrev number : ℕ
   number = poll.number
 
@@ -118,28 +117,28 @@ module _ (in_turn : GivesTicketsInTurn) {K : Type 0} (at : K → World) (key : K
   ticket = its.ticket
 
   abbrev trace_at : List Happening → List Traced
-  trace_at es = (run (at key) (events_of es)).past.trace
+  trace_at es = (run opening (events_of es)).past.trace
 
   abbrev first_rest : List Happening
-  first_rest = earlier at key asked ran
+  first_rest = earlier opening asked ran
 
   abbrev rest : List Happening
-  rest = earlier at key poll polled
+  rest = earlier opening poll polled
 
-  in_run : (es : List Happening) → (led (plane at) (at key) es).past.trace ≡ trace_at es
-  in_run es = ap (λ (w : World). w.past.trace) (led_run at (at key) es)
+  in_run : (es : List Happening) → (world_seen opening es).past.trace ≡ trace_at es
+  in_run es = ap (λ (w : World). w.past.trace) (seen_run opening es)
 
   abbrev reader : ℕ
-  reader = length (led (plane at) (at key) first_rest).past.trace
+  reader = length (world_seen opening first_rest).past.trace
 
-  abbrev asked_told : IsToldIn at (at key) asked.number asked.call first_rest (since_call at key asked ran) (told.PendingRead ticket) ran.answered.finished
-  asked_told = subst (λ (x : Told). IsToldIn at (at key) asked.number asked.call first_rest (since_call at key asked ran) x ran.answered.finished) (same_told ran.answered.its ran.answered.finished asked.answer ran.answered.told ∙ ap told_with its.waits) (is_told at key asked ran)
+  abbrev asked_told : IsToldIn opening asked.number asked.call first_rest (since_call opening asked ran) (told.PendingRead ticket) ran.answered.finished
+  asked_told = subst (λ (x : Told). IsToldIn opening asked.number asked.call first_rest (since_call opening asked ran) x ran.answered.finished) (same_told ran.answered.its ran.answered.finished asked.answer ran.answered.told ∙ ap told_with its.waits) (is_told opening asked ran)
 
   abbrev asked_trace : List Traced
-  asked_trace = asked_told.more ++ seen_called asked_told.began asked.number asked.call (led (plane at) (at key) first_rest).past.trace
+  asked_trace = asked_told.more ++ seen_called asked_told.began asked.number asked.call (world_seen opening first_rest).past.trace
 
   asked_so : trace_at asked.behind ≡ seen_answered asked_told.effects number (told.PendingRead ticket) asked_told.finished asked_trace
-  asked_so = ap trace_at ran.called.so ∙ (sym (in_run (since_call at key asked ran)) ∙ (asked_told.so ∙ ap (λ (n : ℕ). seen_answered asked_told.effects n (told.PendingRead ticket) asked_told.finished asked_trace) (sym its.same)))
+  asked_so = ap trace_at ran.called.so ∙ (sym (in_run (since_call opening asked ran)) ∙ (asked_told.so ∙ ap (λ (n : ℕ). seen_answered asked_told.effects n (told.PendingRead ticket) asked_told.finished asked_trace) (sym its.same)))
 
   waits_there : read_waiting number ticket.0 (trace_at asked.behind) ≡ reader
   waits_there =
@@ -164,33 +163,33 @@ module _ (in_turn : GivesTicketsInTurn) {K : Type 0} (at : K → World) (key : K
       (subst HasFewCalls (ap events_of (polled.called.so ∙ sym (append_assoc polled.called.steps (Calls number poll.call ∷ []) rest)) ∙ events_both (polled.called.steps ++ Calls number poll.call ∷ []) rest) few)
 
   once : times_given number ticket.0 (trace_at rest) ≤ 1
-  once = once_given in_turn (at key) (events_of rest) number ticket.0 (first at key poll polled) polled.ready.opened.opening.opened few_rest
-      (ap (λ (w : World). slice_get w.now.sessions number) (sym (led_run at (at key) rest)) ∙ was at key poll polled) (idle at key poll polled)
+  once = once_given in_turn opening (events_of rest) number ticket.0 (first opening poll polled) polled.opened few_rest
+      (ap (λ (w : World). slice_get w.now.sessions number) (sym (seen_run opening rest)) ∙ was opening poll polled) (idle opening poll polled)
 
   waits_rest : read_waiting number ticket.0 (trace_at rest) ≡ reader
   waits_rest =
-      let behind = trace_behind (at key) between (events_of asked.behind) in
-      let same : trace_at rest ≡ behind.later ++ trace_at asked.behind = ap trace_at whole_rest ∙ (ap (λ (es : List Event). (run (at key) es).past.trace) (events_both between asked.behind) ∙ behind.whole) in
+      let behind = trace_behind opening between (events_of asked.behind) in
+      let same : trace_at rest ≡ behind.later ++ trace_at asked.behind = ap trace_at whole_rest ∙ (ap (λ (es : List Event). (run opening es).past.trace) (events_both between asked.behind) ∙ behind.whole) in
       ap (read_waiting number ticket.0) same
       ∙ (waits_on number ticket.0 behind.later (trace_at asked.behind) given_there (subst (λ (x : List Traced). times_given number ticket.0 x ≤ 1) same once) ∙ waits_there)
 
-  poll_line : (left : ℕ) (list : List Finished) (es : List Happening) (step : ByStep at (at key) number poll.call rest (told.Polled left) list es) → IsIn (finished.Read ticket value) list
-      → IsIn (AnswersRead reader (read_reply value)) (event_adds (at key) (events_of (step.between ++ Calls number poll.call ∷ rest)) (event_of (Moves number)))
+  poll_line : (left : ℕ) (list : List Finished) (es : List Happening) (step : ByStep opening number poll.call rest (told.Polled left) list es) → IsIn (finished.Read ticket value) list
+      → IsIn (AnswersRead reader (read_reply value)) (event_adds opening (events_of (step.between ++ Calls number poll.call ∷ rest)) (event_of (Moves number)))
   poll_line left list es step is_in =
       let mid : List Happening = step.between ++ Calls number poll.call ∷ rest in
-      let w : World = led (plane at) (at key) mid in
+      let w : World = world_seen opening mid in
       let waits : read_waiting number ticket.0 w.past.trace ≡ reader =
       ap (read_waiting number ticket.0) step.hand.so ∙ (others_wait number ticket.0 step.hand.since _ step.hand.others ∙ (ap (read_waiting number ticket.0) (in_run rest) ∙ waits_rest)) in
-      to_run at key poll polled (AnswersRead reader (read_reply value)) mid (event_of (Moves number))
-      (subst (λ (told : List TraceEvent). IsIn (AnswersRead reader (read_reply value)) (lines_added (serials_in (at key).now) w.past.trace (told_at (length (happens w (event_of (Moves number))).past.history) told))) (sym step.adds)
-      (oldest_added (serials_in (at key).now) w.past.trace (length (happens w (event_of (Moves number))).past.history) [] (Answered number (telling (told.Polled left) list)) (AnswersRead reader (read_reply value))
+      to_run opening poll polled (AnswersRead reader (read_reply value)) mid (event_of (Moves number))
+      (subst (λ (told : List TraceEvent). IsIn (AnswersRead reader (read_reply value)) (lines_added (serials_in opening.now) w.past.trace (told_at (length (happens w (event_of (Moves number))).past.history) told))) (sym step.adds)
+      (oldest_added (serials_in opening.now) w.past.trace (length (happens w (event_of (Moves number))).past.history) [] (Answered number (telling (told.Polled left) list)) (AnswersRead reader (read_reply value))
       (subst (λ (x : ℕ). IsIn (AnswersRead x (read_reply value)) (finished_lines number w.past.trace list)) waits (finished_in number w.past.trace (finished.Read ticket value) list is_in))))
 
-  module _ (o : Opened) (n : Now) (bytes : List ℕ) (over : IsOver at key o n bytes) (law : ReadsInTime o n bytes (events_of poll.behind)) where
+  module _ (o : Opened) (n : Now) (bytes : List ℕ) (over : IsStoreWorld opening o n bytes) (law : ReadsInTime o n bytes (events_of poll.behind)) where
     abbrev start : Happening
     start = Calls asked.number asked.call
 
-    by_step : (left : ℕ) (list : List Finished) → IsIn (finished.Read ticket value) list → ByStep at (at key) number poll.call rest (told.Polled left) list (since_call at key poll polled)
+    by_step : (left : ℕ) (list : List Finished) → IsIn (finished.Read ticket value) list → ByStep opening number poll.call rest (told.Polled left) list (since_call opening poll polled)
         → IsInTime (opening_map bytes o) (history_seen n bytes asked.before) (history_seen n bytes poll.behind) k.0 (read_reply value)
     by_step left list is_in step =
         let mid : List Happening = step.between ++ Calls number poll.call ∷ rest in
@@ -203,13 +202,13 @@ module _ (in_turn : GivesTicketsInTurn) {K : Type 0} (at : K → World) (key : K
         (begins_with n bytes (start ∷ ran.called.others) asked.before)
         (subst (λ (es : List Happening). IsBeginning (history_seen n bytes (Moves number ∷ (since ++ start ∷ first_rest))) (history_seen n bytes es)) (sym whole) (begins_with n bytes step.later (Moves number ∷ (since ++ start ∷ first_rest))))
         (seen_in_time o n bytes step.later since first_rest start (Moves number) reader k.0 (read_reply value) (subst (λ (es : List Happening). ReadsInTime o n bytes (events_of es)) whole law)
-        (subst (λ (w : World). IsIn (CallsRead reader k.0) (event_adds w (events_of first_rest) (event_of start))) over.same (call_line at key asked ran k its.reads))
-        (subst (λ (x : World × List Happening). IsIn (AnswersRead reader (read_reply value)) (event_adds x.0 (events_of x.1) (event_of (Moves number)))) (λ i. (over.same i, same i)) (poll_line left list (since_call at key poll polled) step is_in)))
+        (subst (λ (w : World). IsIn (CallsRead reader k.0) (event_adds w (events_of first_rest) (event_of start))) over.same (call_line opening asked ran k its.reads))
+        (subst (λ (x : World × List Happening). IsIn (AnswersRead reader (read_reply value)) (event_adds x.0 (events_of x.1) (event_of (Moves number)))) (λ i. (over.same i, same i)) (poll_line left list (since_call opening poll polled) step is_in)))
 
-    by_how : (left : ℕ) (list : List Finished) → IsIn (finished.Read ticket value) list → Answering at (at key) number poll.call rest (told.Polled left) list (since_call at key poll polled)
+    by_how : (left : ℕ) (list : List Finished) → IsIn (finished.Read ticket value) list → Answering opening number poll.call rest (told.Polled left) list (since_call opening poll polled)
         → IsInTime (opening_map bytes o) (history_seen n bytes asked.before) (history_seen n bytes poll.behind) k.0 (read_reply value)
     by_how left list is_in (AtOnce s begun is_list) =
-        let w : World = led (plane at) (at key) rest in
+        let w : World = world_seen opening rest in
         let seat : Seat = world.seat_at w.now number in
         let none : list ≡ [] = sym is_list ∙ (ap (λ (c : Call). (session_begun seat s c).finished) its.polls ∙ none_at_once seat s left (ap (λ (c : Call). (session_begun seat s c).step) (sym its.polls) ∙ begun)) in
         absurd (subst (IsIn (finished.Read ticket value)) none is_in)
@@ -218,8 +217,8 @@ module _ (in_turn : GivesTicketsInTurn) {K : Type 0} (at : K → World) (key : K
     pub polls_so : IsInTime (opening_map bytes o) (history_seen n bytes asked.before) (history_seen n bytes poll.behind) k.0 (read_reply value)
     polls_so =
         let how = told_polled polled.answered.its polled.answered.finished poll.answer (finished.Read ticket value) polled.answered.told its.has_finished in
-        let its_telling : IsToldIn at (at key) number poll.call rest (since_call at key poll polled) (told.Polled how.left) polled.answered.finished =
-        subst (λ (x : Told). IsToldIn at (at key) number poll.call rest (since_call at key poll polled) x polled.answered.finished) how.polled (is_told at key poll polled) in
+        let its_telling : IsToldIn opening number poll.call rest (since_call opening poll polled) (told.Polled how.left) polled.answered.finished =
+        subst (λ (x : Told). IsToldIn opening number poll.call rest (since_call opening poll polled) x polled.answered.finished) how.polled (is_told opening poll polled) in
         by_how how.left its_telling.finished (subst (IsIn (finished.Read ticket value)) (sym its_telling.same) how.is_in) its_telling.how
 
 -- ---- updates that a poll says are finished
@@ -229,14 +228,14 @@ unfolding lines_of
 polled_line numbers number effects left list before serial reply is_in =
     in_left (GivesResult number serial.0 reply) (finished_lines number before list) (lines_of numbers before) (finished_in number before (finished.Update serial reply) list is_in)
 
-pub finished_so : {K : Type 0} (at : K → World) (key : K) (o : Opened) (n : Now) (bytes : List ℕ) (its : CallRun) → IsOver at key o n bytes → HasRun at key its → OrdersItsCalls o n bytes (events_of its.behind) → FinishedIsSeen o n bytes its
-finished_so at key o n bytes its over ran law serial reply has =
+pub finished_so : (opening : World) (o : Opened) (n : Now) (bytes : List ℕ) (its : CallRun) → IsStoreWorld opening o n bytes → IsRunOver opening its → OrdersItsCalls o n bytes (events_of its.behind) → FinishedIsSeen o n bytes its
+finished_so opening o n bytes its over ran law serial reply has =
     let how = told_polled ran.answered.its ran.answered.finished its.answer (finished.Update serial reply) ran.answered.told has in
-    let its_telling : IsToldIn at (at key) its.number its.call (earlier at key its ran) (since_call at key its ran) (told.Polled how.left) ran.answered.finished =
-    subst (λ (x : Told). IsToldIn at (at key) its.number its.call (earlier at key its ran) (since_call at key its ran) x ran.answered.finished) how.polled (is_told at key its ran) in
-    let before : List Traced = its_telling.more ++ seen_called its_telling.began its.number its.call (led (plane at) (at key) (earlier at key its ran)).past.trace in
+    let its_telling : IsToldIn opening its.number its.call (earlier opening its ran) (since_call opening its ran) (told.Polled how.left) ran.answered.finished =
+    subst (λ (x : Told). IsToldIn opening its.number its.call (earlier opening its ran) (since_call opening its ran) x ran.answered.finished) how.polled (is_told opening its ran) in
+    let before : List Traced = its_telling.more ++ seen_called its_telling.began its.number its.call (world_seen opening (earlier opening its ran)).past.trace in
     let so : (run (beginning n bytes) (events_of its.behind)).past.trace ≡ seen_answered its_telling.effects its.number (told.Polled how.left) its_telling.finished before =
-    (λ i. (run (sym over.same i) (events_of (ran.called.so i))).past.trace) ∙ (sym (ap (λ (w : World). w.past.trace) (led_run at (at key) (since_call at key its ran))) ∙ its_telling.so) in
+    (λ i. (run (sym over.same i) (events_of (ran.called.so i))).past.trace) ∙ (sym (ap (λ (w : World). w.past.trace) (seen_run opening (since_call opening its ran))) ∙ its_telling.so) in
     law.given its.number serial.0 reply
     (subst (λ (x : List Traced). IsIn (GivesResult its.number serial.0 reply) (lines_of (serials_in n) x)) (sym so)
     (polled_line (serials_in n) its.number its_telling.effects how.left its_telling.finished before serial reply (subst (IsIn (finished.Update serial reply)) (sym its_telling.same) how.is_in)))

@@ -13,7 +13,6 @@ use Rattle.fkv_map.specs.declared.operations.Reply.{Reply}
 use Rattle.fkv_map.specs.History.{content}
 use Rattle.fkv_map.specs.Map.{Map, reply_to_read}
 use Rattle.fkv_opening.specs.declared.opened_store.Opened.{Opened}
-use Rattle.fkv_seats.specs.Rule.{led}
 use Rattle.fkv_session.specs.declared.answers.Answer.{Answer}
 use Rattle.fkv_session.specs.declared.answers.Answer.TheVariants as answer
 use Rattle.fkv_session.specs.Answers.{IsAnswerTold}
@@ -38,9 +37,9 @@ use Rattle.law_order.proofs.OfReads.Numbers.{called_hand}
 use Rattle.fkv_table.specs.declared.happenings.Happening.{Happening}
 use Rattle.fkv_table.specs.declared.happenings.Happening.TheVariants.{Calls, Moves}
 use Rattle.fkv_table.specs.Events.{event_of}
-use Rattle.fkv_table.specs.Planes.{plane}
-use Rattle.fkv_table.proofs.Lives.{led_run}
-use Rattle.law_threads.specs.Calls.{CallRun, HasRun, IsOver, events_of}
+use Rattle.law_threads.specs.Calls.{CallRun, events_of}
+use Rattle.law_threads.specs.Seen.{IsRunOver, IsStoreWorld, world_seen}
+use Rattle.law_threads.proofs.Seen.{seen_run}
 use Rattle.law_threads.specs.Threads.{IsBeginning, ReadsWhatWasSeen, history_seen, read_told}
 use Rattle.law_threads.proofs.Course.{Answering, AtOnce, ByStep, InTurn, call_told}
 use Rattle.law_threads.proofs.Histories.{begins_with, events_both}
@@ -82,36 +81,36 @@ seen_in_time o n bytes later between before start answer reader key reply law ca
 abbrev adds_to : (ℕ → ℕ) → World → Event → List TraceLine
 adds_to first w event = lines_added first w.past.trace (traced_by w event)
 
-module _ {K : Type 0} (at : K → World) (key : K) (its : CallRun) (run_so : HasRun at key its) where
+module _ (opening : World) (its : CallRun) (run_so : IsRunOver opening its) where
   abbrev start : Happening
   start = Calls its.number its.call
 
   abbrev world_at : List Happening → World
-  world_at es = led (plane at) (at key) es
+  world_at es = world_seen opening es
 
   abbrev numbers : ℕ → ℕ
-  numbers = serials_in (at key).now
+  numbers = serials_in opening.now
 
   abbrev reader : ℕ
-  reader = length (world_at (earlier at key its run_so)).past.trace
+  reader = length (world_at (earlier opening its run_so)).past.trace
 
-  pub to_run : (line : TraceLine) (es : List Happening) (event : Event) → IsIn line (adds_to numbers (world_at es) event) → IsIn line (event_adds (at key) (events_of es) event)
-  to_run line es event is_in = subst (λ (w : World). IsIn line (adds_to numbers w event)) (led_run at (at key) es) is_in
+  pub to_run : (line : TraceLine) (es : List Happening) (event : Event) → IsIn line (adds_to numbers (world_at es) event) → IsIn line (event_adds opening (events_of es) event)
+  to_run line es event is_in = subst (λ (w : World). IsIn line (adds_to numbers w event)) (seen_run opening es) is_in
 
-  pub call_line : (k : Key) → its.call ≡ call.Op (Read k) → IsIn (CallsRead reader k.0) (event_adds (at key) (events_of (earlier at key its run_so)) (event_of start))
+  pub call_line : (k : Key) → its.call ≡ call.Op (Read k) → IsIn (CallsRead reader k.0) (event_adds opening (events_of (earlier opening its run_so)) (event_of start))
   call_line k is =
-      let w : World = world_at (earlier at key its run_so) in
-      to_run (CallsRead reader k.0) (earlier at key its run_so) (event_of start)
+      let w : World = world_at (earlier opening its run_so) in
+      to_run (CallsRead reader k.0) (earlier opening its run_so) (event_of start)
       (subst (λ (told : List TraceEvent). IsIn (CallsRead reader k.0) (lines_added numbers w.past.trace (told_at (length (happens w (event_of start)).past.history) told)))
-      (sym (call_told at (at key) its.number its.call (earlier at key its run_so) (goes_on at key its run_so) (first at key its run_so) (was at key its run_so) (idle at key its run_so)))
+      (sym (call_told opening its.number its.call (earlier opening its run_so) (goes_on opening its run_so) (first opening its run_so) (was opening its run_so) (idle opening its run_so)))
       (oldest_added numbers w.past.trace (length (happens w (event_of start)).past.history) (ended_by w.now (happens w (event_of start)).now (event_of start)) (Called its.number its.call) (CallsRead reader k.0)
       (subst (λ (c : Call). IsIn (CallsRead reader k.0) (event_lines numbers w.past.trace (Called its.number c))) (sym is) (inl refl))))
 
-  answer_line : (t : Told) (f list : List Finished) (reply : Reply) (es : List Happening) (step : ByStep at (at key) its.number its.call (earlier at key its run_so) t list es)
+  answer_line : (t : Told) (f list : List Finished) (reply : Reply) (es : List Happening) (step : ByStep opening its.number its.call (earlier opening its run_so) t list es)
       → IsAnswerTold t f its.answer → read_told its.answer ≡ Some reply
-      → IsIn (AnswersRead reader reply) (event_adds (at key) (events_of (step.between ++ start ∷ earlier at key its run_so)) (event_of (Moves its.number)))
+      → IsIn (AnswersRead reader reply) (event_adds opening (events_of (step.between ++ start ∷ earlier opening its run_so)) (event_of (Moves its.number)))
   answer_line t f list reply es step answered read =
-      let mid : List Happening = step.between ++ start ∷ earlier at key its run_so in
+      let mid : List Happening = step.between ++ start ∷ earlier opening its run_so in
       let w : World = world_at mid in
       let hand : read_in_hand its.number w.past.trace ≡ reader = ap (read_in_hand its.number) step.hand.so ∙ (hand_kept its.number step.hand.since _ step.hand.others ∙ called_hand step.hand.effects its.number its.call _) in
       let line : event_lines numbers w.past.trace (Answered its.number (telling t list)) ≡ AnswersRead reader reply ∷ [] =
@@ -121,31 +120,31 @@ module _ {K : Type 0} (at : K → World) (key : K) (its : CallRun) (run_so : Has
       (oldest_added numbers w.past.trace (length (happens w (event_of (Moves its.number))).past.history) [] (Answered its.number (telling t list)) (AnswersRead reader reply)
       (subst (IsIn (AnswersRead reader reply)) (sym line) (inl refl))))
 
-  module _ (o : Opened) (n : Now) (bytes : List ℕ) (over : IsOver at key o n bytes) (law : ReadsInTime o n bytes (events_of its.behind)) where
+  module _ (o : Opened) (n : Now) (bytes : List ℕ) (over : IsStoreWorld opening o n bytes) (law : ReadsInTime o n bytes (events_of its.behind)) where
     by_step : (k : Key) (reply : Reply) (t : Told) (f list : List Finished) → its.call ≡ call.Op (Read k) → IsAnswerTold t f its.answer → read_told its.answer ≡ Some reply
-        → ByStep at (at key) its.number its.call (earlier at key its run_so) t list (since_call at key its run_so) → IsInTime (opening_map bytes o) (history_seen n bytes its.before) (history_seen n bytes its.behind) k.0 reply
+        → ByStep opening its.number its.call (earlier opening its run_so) t list (since_call opening its run_so) → IsInTime (opening_map bytes o) (history_seen n bytes its.before) (history_seen n bytes its.behind) k.0 reply
     by_step k reply t f list is answered read step =
-        let mid : List Happening = step.between ++ start ∷ earlier at key its run_so in
+        let mid : List Happening = step.between ++ start ∷ earlier opening its run_so in
         let whole : its.behind ≡ step.later ++ Moves its.number ∷ mid = run_so.called.so ∙ step.all in
-        widened (opening_map bytes o) (history_seen n bytes its.before) (history_seen n bytes (start ∷ earlier at key its run_so)) (history_seen n bytes (Moves its.number ∷ mid)) (history_seen n bytes its.behind) k.0 reply
+        widened (opening_map bytes o) (history_seen n bytes its.before) (history_seen n bytes (start ∷ earlier opening its run_so)) (history_seen n bytes (Moves its.number ∷ mid)) (history_seen n bytes its.behind) k.0 reply
         (begins_with n bytes (start ∷ run_so.called.others) its.before)
         (subst (λ (es : List Happening). IsBeginning (history_seen n bytes (Moves its.number ∷ mid)) (history_seen n bytes es)) (sym whole) (begins_with n bytes step.later (Moves its.number ∷ mid)))
-        (seen_in_time o n bytes step.later step.between (earlier at key its run_so) start (Moves its.number) reader k.0 reply (subst (λ (es : List Happening). ReadsInTime o n bytes (events_of es)) whole law)
-        (subst (λ (w : World). IsIn (CallsRead reader k.0) (event_adds w (events_of (earlier at key its run_so)) (event_of start))) over.same (call_line k is))
-        (subst (λ (w : World). IsIn (AnswersRead reader reply) (event_adds w (events_of mid) (event_of (Moves its.number)))) over.same (answer_line t f list reply (since_call at key its run_so) step answered read)))
+        (seen_in_time o n bytes step.later step.between (earlier opening its run_so) start (Moves its.number) reader k.0 reply (subst (λ (es : List Happening). ReadsInTime o n bytes (events_of es)) whole law)
+        (subst (λ (w : World). IsIn (CallsRead reader k.0) (event_adds w (events_of (earlier opening its run_so)) (event_of start))) over.same (call_line k is))
+        (subst (λ (w : World). IsIn (AnswersRead reader reply) (event_adds w (events_of mid) (event_of (Moves its.number)))) over.same (answer_line t f list reply (since_call opening its run_so) step answered read)))
 
     refused_reads : (t : Told) (cause : Fault) (f : List Finished) (given : Answer) (reply : Reply) → t ≡ Refused cause → IsAnswerTold t f given → read_told given ≡ Some reply → ⊥
     refused_reads t cause f given reply is answered read =
         let so : given ≡ answer.Refused cause = subst (λ (x : Told). IsAnswerTold x f given) is answered in no_reply reply (sym (ap read_told so) ∙ read)
 
     by_how : (k : Key) (reply : Reply) (t : Told) (f list : List Finished) → its.call ≡ call.Op (Read k) → IsAnswerTold t f its.answer → read_told its.answer ≡ Some reply
-        → Answering at (at key) its.number its.call (earlier at key its run_so) t list (since_call at key its run_so) → IsInTime (opening_map bytes o) (history_seen n bytes its.before) (history_seen n bytes its.behind) k.0 reply
+        → Answering opening its.number its.call (earlier opening its run_so) t list (since_call opening its run_so) → IsInTime (opening_map bytes o) (history_seen n bytes its.before) (history_seen n bytes its.behind) k.0 reply
     by_how k reply t f list is answered read (AtOnce s begun idle_then) =
-        let w : World = world_at (earlier at key its run_so) in
+        let w : World = world_at (earlier opening its run_so) in
         let s' : SessionState = record s { asks = 0; effect = None; wants_turn = false } in
         let refused = refused_at_once (world.seat_at w.now its.number) s' (Read k) (refusal_of s' (Read k)) t (ap (λ (c : Call). (session_begun (world.seat_at w.now its.number) s c).step) (sym is) ∙ begun) in
         absurd (refused_reads t refused.0 f its.answer reply refused.1 answered read)
     by_how k reply t f list is answered read (InTurn step) = by_step k reply t f list is answered read step
 
     pub reads_so : ReadsWhatWasSeen o n bytes its
-    reads_so k reply is read = let told = is_told at key its run_so in by_how k reply run_so.answered.its run_so.answered.finished told.finished is run_so.answered.told read told.how
+    reads_so k reply is read = let told = is_told opening its run_so in by_how k reply run_so.answered.its run_so.answered.finished told.finished is run_so.answered.told read told.how

@@ -7,8 +7,6 @@ use Rattle.fkv_map.specs.declared.operations.Call.{Call}
 use Rattle.fkv_map.specs.declared.operations.Op.{Op}
 use Rattle.fkv_map.specs.declared.operations.Reply.{Reply}
 use Rattle.fkv_map.specs.declared.operations.Reply.TheVariants as reply
-use Rattle.fkv_seats.specs.declared.views.Role.TheVariants.{Sits}
-use Rattle.fkv_seats.specs.Rule.{Quiet, led}
 use Rattle.fkv_session.specs.declared.answers.Answer.{Answer}
 use Rattle.fkv_session.specs.declared.answers.Answer.TheVariants as answer
 use Rattle.fkv_session.specs.declared.answers.Finished.{Finished}
@@ -25,25 +23,20 @@ use Rattle.law_log.specs.Trace.{AnswersRead, IsIn, TraceLine}
 use Rattle.law_world.specs.Runs.Added.{told_at}
 use Rattle.law_refine.specs.Events.Lines.{answer_lines, event_lines, lines_added, read_in_hand}
 use Rattle.law_order.proofs.OfReads.Numbers.{is_other, other_hand}
-use Rattle.fkv_table.specs.Calls.{AreOthers, IsToldLast}
 use Rattle.fkv_table.specs.declared.happenings.Happening.{Happening}
 use Rattle.fkv_table.specs.declared.happenings.Happening.TheVariants.{Calls}
-use Rattle.fkv_table.specs.Planes.{plane}
-use Rattle.fkv_table.proofs.Lives.{quiet_session}
-use Rattle.law_threads.specs.Calls.{CallRun, HasRun}
+use Rattle.law_threads.specs.Calls.{CallRun}
+use Rattle.law_threads.specs.Seen.{IsRunOver, IsToldAt, world_seen}
 use Rattle.law_threads.specs.Threads.{IsBeginning, history_seen, read_told}
 use Rattle.law_threads.proofs.Course.{Answering, Course, Going, OfOthers, Over, course, seen_answered, seen_called}
 use Rattle.law_threads.proofs.Histories.{begins_with}
+use Rattle.law_threads.proofs.Seen.{quiet_seen}
 
 pub same_number : (n : ℕ) → (n == n) ≡ true
 same_number n = grind (arith, nat_tests)
 
 not_true : true ≡ false → ⊥
 not_true e = cc
-
-quiet_so : {K : Type 0} (at : K → World) (number : ℕ) (xs : List Happening) → AreOthers number xs → Quiet (plane at) (Sits number) xs
-quiet_so at number [] others = tt
-quiet_so at number (x ∷ xs) others = (others.0, quiet_so at number xs others.1)
 
 -- ---- the trace behind it
 head_same : (x y : Traced) (xs ys : List Traced) → x ∷ xs ≡ y ∷ ys → x.its ≡ y.its
@@ -81,32 +74,32 @@ none_since : (number eff : ℕ) (telling : Telling) (since trace before behind :
 none_since number eff telling [] trace before behind others so newest = refl
 none_since number eff telling (x ∷ since) trace before behind others so newest = absurd (answers_own number telling x.its others.0 (head_same _ _ _ _ (sym so ∙ newest)))
 
-module _ {K : Type 0} (at : K → World) (opening : World) (number : ℕ) (its : Call) (rest : List Happening) where
+module _ (opening : World) (number : ℕ) (its : Call) (rest : List Happening) where
   -- how the call was answered, and what callers see of it behind that
   pub record IsToldIn (behind : List Happening) (t : Told) (list : List Finished) : Type 0 where
     pub s : SessionState
-    pub found : slice_get (led (plane at) opening behind).now.sessions number ≡ Some s
+    pub found : slice_get (world_seen opening behind).now.sessions number ≡ Some s
     pub idle : is_busy s.step ≡ false
     pub finished : List Finished
     pub same : with_finished t finished ≡ with_finished t list
-    pub how : Answering at opening number its rest t finished behind
+    pub how : Answering opening number its rest t finished behind
     pub effects : ℕ
     pub more : List Traced
     pub others : OfOthers number more
     pub began : ℕ
-    pub so : (led (plane at) opening behind).past.trace ≡ seen_answered effects number t finished (more ++ seen_called began number its (led (plane at) opening rest).past.trace)
+    pub so : (world_seen opening behind).past.trace ≡ seen_answered effects number t finished (more ++ seen_called began number its (world_seen opening rest).past.trace)
 
-  told_in : (behind : List Happening) (t : Told) (list : List Finished) → IsToldLast (led (plane at) opening behind) number (telling t list) → Course at opening number its rest behind → IsToldIn behind t list
-  told_in behind t list last (Going hand) = absurd (in_hand_tells_none number hand.effects (length (led (plane at) opening behind).past.history) its (telling t list) hand.since _ last.before _ hand.others hand.so last.newest)
+  told_in : (behind : List Happening) (t : Told) (list : List Finished) → IsToldAt (world_seen opening behind) number (telling t list) → Course opening number its rest behind → IsToldIn behind t list
+  told_in behind t list last (Going hand) = absurd (in_hand_tells_none number hand.effects (length (world_seen opening behind).past.history) its (telling t list) hand.since _ last.before _ hand.others hand.so last.newest)
   told_in behind t list last (Over e) =
-      let none : e.since ≡ [] = none_since number (length (led (plane at) opening behind).past.history) (telling t list) e.since _ last.before _ e.others e.so last.newest in
-      let so : (led (plane at) opening behind).past.trace ≡ seen_answered e.effects number e.its e.finished (e.more ++ seen_called e.began number its (led (plane at) opening rest).past.trace) =
-      e.so ∙ ap (λ (x : List Traced). x ++ seen_answered e.effects number e.its e.finished (e.more ++ seen_called e.began number its (led (plane at) opening rest).past.trace)) none in
+      let none : e.since ≡ [] = none_since number (length (world_seen opening behind).past.history) (telling t list) e.since _ last.before _ e.others e.so last.newest in
+      let so : (world_seen opening behind).past.trace ≡ seen_answered e.effects number e.its e.finished (e.more ++ seen_called e.began number its (world_seen opening rest).past.trace) =
+      e.so ∙ ap (λ (x : List Traced). x ++ seen_answered e.effects number e.its e.finished (e.more ++ seen_called e.began number its (world_seen opening rest).past.trace)) none in
       let same : e.its ≡ t = told_same number e.its t e.finished list (head_same _ _ _ _ (sym so ∙ last.newest)) in
       let all : with_finished t e.finished ≡ with_finished t list = ap (λ (x : Told). with_finished x e.finished) (sym same) ∙ list_same number e.its t e.finished list (head_same _ _ _ _ (sym so ∙ last.newest)) in
       subst (λ (x : Told). with_finished x e.finished ≡ with_finished x list → IsToldIn behind x list) same (λ listed. record { same = listed; s = e.s; found = e.found; idle = e.idle; finished = e.finished; how = e.how; effects = e.effects; more = e.more; others = e.more_others; began = e.began; so = so }) all
 
-module _ {K : Type 0} (at : K → World) (key : K) (its : CallRun) (run : HasRun at key its) where
+module _ (opening : World) (its : CallRun) (run : IsRunOver opening its) where
   -- what stands in the list before the call's start
   abbrev pub earlier : List Happening
   earlier = run.called.others ++ its.before
@@ -114,25 +107,24 @@ module _ {K : Type 0} (at : K → World) (key : K) (its : CallRun) (run : HasRun
   abbrev pub since_call : List Happening
   since_call = run.called.steps ++ Calls its.number its.call ∷ earlier
 
-  pub goes_on : (at key).now.crashed ≡ false
-  goes_on = run.ready.opened.opening.opened.goes_on
+  pub goes_on : opening.now.crashed ≡ false
+  goes_on = run.opened.goes_on
 
   abbrev pub first : SessionState
-  first = run.ready.seated.first
+  first = run.first
 
-  pub was : slice_get (led (plane at) (at key) earlier).now.sessions its.number ≡ Some first
-  was = quiet_session at (at key) its.number run.called.others its.before (quiet_so at its.number run.called.others run.called.quiet)
-      ∙ ((λ i. slice_get (led (plane at) (at key) (sym run.seen i)).now.sessions (sym run.number i)) ∙ run.ready.seated.was)
+  pub was : slice_get (world_seen opening earlier).now.sessions its.number ≡ Some first
+  was = quiet_seen opening its.number run.called.others its.before run.called.quiet ∙ run.was
 
   pub idle : is_busy first.step ≡ false
-  idle = ap (λ (s : SessionState). is_busy s.step) (sym run.ready.seated.state) ∙ run.ready.idle
+  idle = run.idle
 
-  its_course : Course at (at key) its.number its.call earlier since_call
-  its_course = course at (at key) its.number its.call earlier goes_on first was idle run.called.steps run.called.only
+  its_course : Course opening its.number its.call earlier since_call
+  its_course = course opening its.number its.call earlier goes_on first was idle run.called.steps run.called.only
 
-  pub is_told : IsToldIn at (at key) its.number its.call earlier since_call run.answered.its run.answered.finished
-  is_told = told_in at (at key) its.number its.call earlier since_call run.answered.its run.answered.finished
-      (subst (λ (x : List Happening). IsToldLast (led (plane at) (at key) x) its.number (telling run.answered.its run.answered.finished)) run.called.so run.answered.last) its_course
+  pub is_told : IsToldIn opening its.number its.call earlier since_call run.answered.its run.answered.finished
+  is_told = told_in opening its.number its.call earlier since_call run.answered.its run.answered.finished
+      (subst (λ (x : List Happening). IsToldAt (world_seen opening x) its.number (telling run.answered.its run.answered.finished)) run.called.so run.answered.last) its_course
 
   -- it begins with what had been seen
   pub begins_so : (n : Now) (bytes : List ℕ) → IsBeginning (history_seen n bytes its.before) (history_seen n bytes its.behind)

@@ -1,5 +1,5 @@
 -- A call that a session has run at a table, over the store of an image.
-use Rattle.std.specs.Prelude.{◌≡◌, ℕ, List, map}
+use Rattle.std.specs.Prelude.{◌≡◌, ℕ, true, List, map}
 use Rattle.atomic_table.specs.Seated.{TableId}
 use Rattle.atomic_table.specs.Table.{Me}
 use Rattle.fkv_core.specs.Openings.{IsOpeningWorld, beginning}
@@ -9,13 +9,13 @@ use Rattle.fkv_opening.specs.declared.opened_store.Opened.{Opened}
 use Rattle.fkv_seats.specs.Rule.{led}
 use Rattle.fkv_session.specs.declared.answers.Answer.{Answer}
 use Rattle.fkv_session.specs.Sessions.{Sitter}
-use Rattle.fkv_world.specs.Runs.{World}
 use Rattle.fkv_world.specs.World.{Event, Now}
 use Rattle.fkv_table.specs.Calls.{HasCalled, IsAnsweredLast, IsReady}
 use Rattle.fkv_table.specs.declared.happenings.Happening.{Happening}
 use Rattle.fkv_table.specs.Desks.{Slot, Knows}
 use Rattle.fkv_table.specs.Events.{event_of}
 use Rattle.fkv_table.specs.Planes.{plane}
+use Rattle.fkv_table.specs.Worlds.{TableWorld, world_in}
 
 -- the events of a life, of which a pass has seen these
 abbrev pub events_of : List Happening → List Event
@@ -29,7 +29,7 @@ pub record CallRun : Type 0 where
   pub before : List Happening
   pub behind : List Happening
 
-module _ {K : Type 0} (at : K → World) where
+module _ {K : Type 0} (at : K → TableWorld) where
   -- The session has run it, with this pass: what `Session::run` requires and ensures.
   pub record HasRun (key : K) (its : CallRun) : Type 0 where
     pub table : TableId
@@ -43,11 +43,12 @@ module _ {K : Type 0} (at : K → World) where
     pub called : HasCalled its.number its.call its.before its.behind
     pub answered : IsAnsweredLast (led (plane at) (at key) its.behind) its.number its.answer
 
-  -- A table over the world with which a store opens, that an image holds.
+  -- A table over the world with which a store opens, that an image holds. It takes its device for an honest one.
   pub record IsOver (key : K) (o : Opened) (n : Now) (bytes : List ℕ) : Type 0 where
     pub store : IsStoreOf bytes o
     pub begins : IsOpeningWorld o n
-    pub same : at key ≡ beginning n bytes
+    pub same : world_in (at key) ≡ beginning n bytes
+    pub trusted : (at key).trusts ≡ true
 
   -- So it is of each call that was run, if this is so of the events that its pass has seen behind it.
   abbrev pub OfEachRun : (Opened → Now → List ℕ → List Event → Type 0) → (Opened → Now → List ℕ → CallRun → Type 0) → Type 0

@@ -2,15 +2,15 @@
 use Rattle.std.specs.Prelude.{ℕ, List}
 use Rattle.fkv_opening.specs.declared.opened_store.Opened.{Opened}
 use Rattle.fkv_seats.specs.Rule.{IsSeenBy}
-use Rattle.fkv_world.specs.Runs.{World}
 use Rattle.fkv_world.specs.World.{Now}
 use Rattle.law_order.specs.Prefix.Law.{HoldsPrefix, ReachesFar}
 use Rattle.fkv_table.specs.declared.happenings.Happening.{Happening}
 use Rattle.fkv_table.specs.Keeps.{IsLeftWithin}
 use Rattle.fkv_table.specs.Planes.{plane}
+use Rattle.fkv_table.specs.Worlds.{TableWorld}
 use Rattle.law_threads.specs.Calls.{IsOver, events_of}
 
-module _ {K : Type 0} (at : K → World) where
+module _ {K : Type 0} (at : K → TableWorld) where
   -- An image holds a prefix of the life as it is at some moment of the call, behind these events.
   pub record HoldsWithin (o : Opened) (n : Now) (bytes : List ℕ) (seen seen' : List Happening) (image : List ℕ) : Type 0 where
     pub now : List Happening

@@ -5,7 +5,6 @@ use lib.ListN.{get_elem?}
 use Rattle.atomic_table.specs.Table.{State}
 use Rattle.fkv_opening.specs.declared.opened_store.Opened.{Opened}
 use Rattle.fkv_seats.specs.Rule.{IsSeenBy, Ruled}
-use Rattle.fkv_world.specs.Runs.{World}
 use Rattle.fkv_world.specs.World.{Event, Now}
 use Rattle.law_order.specs.Rest.Resting.{HasNoCommit}
 use Rattle.law_order.specs.Rules.InTime.{ReadsInTime}
@@ -15,6 +14,7 @@ use Rattle.law_order.specs.Tickets.Few.{HasFewCalls}
 use Rattle.fkv_table.specs.declared.happenings.Happening.{Happening}
 use Rattle.fkv_table.specs.Desks.{Slot, Knows}
 use Rattle.fkv_table.specs.Planes.{plane}
+use Rattle.fkv_table.specs.Worlds.{TableWorld}
 use Rattle.law_threads.specs.Calls.{IsOver, OfEachRun}
 use Rattle.law_threads.specs.Polls.{FinishedIsSeen, PollsWhatWasSeen}
 use Rattle.law_threads.specs.Threads.{DoneIsSeen, IsBeginning, ReadsWhatWasSeen, StandsInOneHistory, history_seen}
@@ -36,7 +36,7 @@ pub record IsWithoutCommits (o : Opened) (n : Now) (bytes : List ℕ) (events : 
   pub rests : HasNoCommit events
 
 -- The thread law, of lives of which this is so.
-pub record IsThreadLaw {K : Type 0} (at : K → World) (If : Opened → Now → List ℕ → List Event → Type 0) : Type 0 where
+pub record IsThreadLaw {K : Type 0} (at : K → TableWorld) (If : Opened → Now → List ℕ → List Event → Type 0) : Type 0 where
   pub done : OfEachRun at If DoneIsSeen
   pub reads : OfEachRun at If ReadsWhatWasSeen
   pub finished : OfEachRun at If FinishedIsSeen
@@ -45,11 +45,11 @@ pub record IsThreadLaw {K : Type 0} (at : K → World) (If : Opened → Now → 
 
 -- ---- views
 -- what one pass has seen is a beginning of what another has, and so are their histories
-pub record IsSeenIn {K : Type 0} (at : K → World) (n : Now) (bytes : List ℕ) (less more : List Happening) : Type 0 where
+pub record IsSeenIn {K : Type 0} (at : K → TableWorld) (n : Now) (bytes : List ℕ) (less more : List Happening) : Type 0 where
   pub seen : IsSeenBy (plane at) less more
   pub history : IsBeginning (history_seen n bytes less) (history_seen n bytes more)
 
 -- So it is of any two passes at one moment of a table.
-abbrev pub SharesOneHistory : {K : Type 0} → (K → World) → Type 0
+abbrev pub SharesOneHistory : {K : Type 0} → (K → TableWorld) → Type 0
 SharesOneHistory {K} at = (key : K) (o : Opened) (n : Now) (bytes : List ℕ) (s : State Slot (Knows K)) (id other : ℕ) (v u : Knows K) → IsOver at key o n bytes → Ruled (plane at) key s
     → get_elem? s.views id ≡ some v → get_elem? s.views other ≡ some u → IsSeenIn at n bytes v.seen u.seen ⊎ IsSeenIn at n bytes u.seen v.seen

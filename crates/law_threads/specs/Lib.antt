@@ -3,4 +3,5 @@ pub mod Durable
 pub mod Images
 pub mod Laws
 pub mod Polls
+pub mod Seen
 pub mod Threads

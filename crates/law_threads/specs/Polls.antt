@@ -12,7 +12,6 @@ use Rattle.fkv_session.specs.declared.answers.Answer.{Answer}
 use Rattle.fkv_session.specs.declared.answers.Answer.TheVariants as answer
 use Rattle.fkv_session.specs.declared.answers.Finished.{Finished}
 use Rattle.fkv_session.specs.declared.answers.Finished.TheVariants as finished
-use Rattle.fkv_world.specs.Runs.{World}
 use Rattle.fkv_world.specs.World.{Event, Now}
 use Rattle.law_log.specs.Trace.{HasReply, IsIn}
 use Rattle.law_opening.specs.Log.Maps.{opening_map}
@@ -22,6 +21,7 @@ use Rattle.law_order.specs.Tickets.Few.{HasFewCalls}
 use Rattle.law_refine.specs.Events.Lines.{read_reply}
 use Rattle.fkv_table.specs.declared.happenings.Happening.{Happening}
 use Rattle.law_threads.specs.Calls.{CallRun, HasRun, IsOver, events_of}
+use Rattle.fkv_table.specs.Worlds.{TableWorld}
 use Rattle.law_threads.specs.Threads.{history_seen}
 
 -- an answer says that this is finished
@@ -45,7 +45,7 @@ pub record IsPolledRead (asked poll : CallRun) (key : Key) (value : Option Value
   pub behind : poll.before ≡ later ++ asked.behind
 
 -- Such a read too gives its key's value after some beginning of the history that holds what its pass had seen when it was called, if few calls begin.
-abbrev pub PollsWhatWasSeen : {K : Type 0} → (K → World) → (Opened → Now → List ℕ → List Event → Type 0) → Type 0
+abbrev pub PollsWhatWasSeen : {K : Type 0} → (K → TableWorld) → (Opened → Now → List ℕ → List Event → Type 0) → Type 0
 PollsWhatWasSeen {K} at If = (key : K) (o : Opened) (n : Now) (bytes : List ℕ) (asked poll : CallRun) → IsOver at key o n bytes → HasRun at key asked → HasRun at key poll
     → If o n bytes (events_of poll.behind) → HasFewCalls (events_of poll.behind) → (k : Key) (value : Option Value) → IsPolledRead asked poll k value
     → IsInTime (opening_map bytes o) (history_seen n bytes asked.before) (history_seen n bytes poll.behind) k.0 (read_reply value)

@@ -3,7 +3,7 @@
 
 ghost use Rattle.std.specs.Prelude.{List};
 ghost use Rattle.fkv_table.specs.declared.happenings.Happening.{Happening};
-ghost use Rattle.fkv_world.specs.Runs.{World};
+ghost use Rattle.fkv_table.specs.Worlds.{TableWorld};
 ghost use Rattle.law_order.specs.Prefix.Law.{PrefixLaw, TellsDurable};
 ghost use Rattle.law_threads.specs.Calls.{OfEachRun, events_of};
 ghost use Rattle.law_threads.specs.Durable.{RecoversItsDurable, RecoversLater, TellsItsDurable};
@@ -22,14 +22,14 @@ use law_world::{law_world_requests, law_world_sessions};
 /// each image that a crash may leave in the middle of a turn holds a prefix of the life as it was at some moment of the turn (`turns`, `turns_by_prefix`). Of two
 /// passes at one moment one has seen a beginning of what the other has, and so are their histories.
 pub fn law_threads<K>()
-    ensures by_order { (at : K → World) → IsThreadLaw at IsOrdered }
-    ensures without_commits { (at : K → World) → IsThreadLaw at IsWithoutCommits }
-    ensures by_prefix { (at : K → World) → PrefixLaw → IsThreadLaw at IsWithin }
-    ensures durable { (at : K → World) → OfEachRun at TellsDurable TellsItsDurable }
-    ensures recovered { (at : K → World) → OfEachRun at RecoversLater RecoversItsDurable }
-    ensures turns { (at : K → World) (key : K) (seen seen' : List Happening) → RecoversWithin at (λ o n bytes. RecoversLater o n bytes (events_of seen)) key seen seen' }
-    ensures turns_by_prefix { (at : K → World) (key : K) (seen seen' : List Happening) → PrefixLaw → RecoversWithin at (λ o n bytes. IsWithin o n bytes (events_of seen')) key seen seen' }
-    ensures views { (at : K → World) → SharesOneHistory at }
+    ensures by_order { (at : K → TableWorld) → IsThreadLaw at IsOrdered }
+    ensures without_commits { (at : K → TableWorld) → IsThreadLaw at IsWithoutCommits }
+    ensures by_prefix { (at : K → TableWorld) → PrefixLaw → IsThreadLaw at IsWithin }
+    ensures durable { (at : K → TableWorld) → OfEachRun at TellsDurable TellsItsDurable }
+    ensures recovered { (at : K → TableWorld) → OfEachRun at RecoversLater RecoversItsDurable }
+    ensures turns { (at : K → TableWorld) (key : K) (seen seen' : List Happening) → RecoversWithin at (λ o n bytes. RecoversLater o n bytes (events_of seen)) key seen seen' }
+    ensures turns_by_prefix { (at : K → TableWorld) (key : K) (seen seen' : List Happening) → PrefixLaw → RecoversWithin at (λ o n bytes. IsWithin o n bytes (events_of seen')) key seen seen' }
+    ensures views { (at : K → TableWorld) → SharesOneHistory at }
 {
     law_order();
     law_world_sessions();

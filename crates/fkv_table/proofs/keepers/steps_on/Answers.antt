@@ -11,11 +11,12 @@ asks-init g c = record {
   id = refl;
   keeping = c.requires.keeping;
   went = record { steps = []; begins = tt; so = refl };
-  honest = c.requires.honest;
-  after = c.requires.after;
-  moments =
+  trusted = c.requires.trusted;
+  honest = λ honest. honest;
+  after = λ honest after. after;
+  moments = λ honest after.
       let d = g.D.Device in
-      moments_begin (opening_of d.seen) d.moment d.left_since _ c.args.d.now _ (d.seen c.args.d.now) (d.may_leave c.args.d.now) c.requires.after (λ image left. g.met.D.Device.only_now c.args.d.now image c.requires.honest left);
+      moments_begin (opening_of d.seen) d.moment d.left_since _ c.args.d.now _ (d.seen c.args.d.now) (d.may_leave c.args.d.now) after (λ image left. g.met.D.Device.only_now c.args.d.now image honest left);
 }
 
 pub asks-preserved-in-Device : goal.asks-preserved-in-Device
@@ -24,9 +25,11 @@ asks-preserved-in-Device g c = let inv = c.asks.invariant in let did = c.call_de
   id = did.seat.1 ∙ inv.id;
   keeping = did.keeping;
   went = gone_both (opening_of g.D.Device.seen) _ _ _ inv.went did.went;
-  honest = did.honest;
-  after = did.after;
-  moments = moments_both (opening_of g.D.Device.seen) g.D.Device.moment g.D.Device.left_since _ _ _ _ _ _ _ inv.went did.went inv.moments did.moments;
+  trusted = λ trusts. let t = inv.trusted trusts in (did.honest t.0, did.after t.0 t.1);
+  honest = λ honest. did.honest (inv.honest honest);
+  after = λ honest after. did.after (inv.honest honest) (inv.after honest after);
+  moments = λ honest after.
+      moments_both (opening_of g.D.Device.seen) g.D.Device.moment g.D.Device.left_since _ _ _ _ _ _ _ inv.went did.went (inv.moments honest after) (did.moments (inv.honest honest) (inv.after honest after));
 }
 
 pub step-requires : goal.step-requires
@@ -43,7 +46,8 @@ asks-preserved g c = let inv = c.asks.invariant in let did = c.step.ensures in r
   id = did.seat.1 ∙ inv.id;
   keeping = did.keeping;
   went = gone_both (opening_of g.D.Device.seen) _ _ _ inv.went did.went;
+  trusted = λ trusts. let t = inv.trusted trusts in (t.0, step_spares (opening_of g.D.Device.seen) _ _ _ _ _ did.calls t.1);
   honest = inv.honest;
-  after = step_spares (opening_of g.D.Device.seen) _ _ _ _ _ did.calls inv.after;
-  moments = moments_stepped (opening_of g.D.Device.seen) g.D.Device.moment g.D.Device.left_since _ _ _ _ _ _ did.went inv.moments;
+  after = λ honest after. step_spares (opening_of g.D.Device.seen) _ _ _ _ _ did.calls (inv.after honest after);
+  moments = λ honest after. moments_stepped (opening_of g.D.Device.seen) g.D.Device.moment g.D.Device.left_since _ _ _ _ _ _ did.went (inv.moments honest after);
 }

@@ -1,4 +1,4 @@
-use Rattle.std.proofs.Common.{◌≡◌}
+use Rattle.std.proofs.Common.{◌≡◌, true}
 use Rattle.fkv_disk.specs.Device.{AtEachMoment}
 use Rattle.fkv_keeper.specs.KeeperAsks.{keeper_asks_left}
 use Rattle.fkv_table.specs.KeeperCalls.{HasGoneOn}
@@ -12,9 +12,12 @@ invariant-asks g l = record {
   id : l.seat.id ≡ l.fn.seat.id;
   keeping : IsKeeping (opening_of g.D.Device.seen) l.fn.words.key l.seat.me l.machine;
   went : HasGoneOn l.fn.seat.me.0.seen l.seat.me.0.seen;
-  honest : g.D.Device.honest l.d;
-  after : IsAfterSeen (opening_of g.D.Device.seen) l.fn.words.key l.seat.me.0.seen (g.D.Device.seen l.d) (g.D.Device.may_leave l.d);
-  moments : AtEachMoment g.D.Device.moment g.D.Device.left_since l.fn.d l.d (IsLeftWithin (opening_of g.D.Device.seen) l.fn.words.key l.fn.seat.me.0.seen l.seat.me.0.seen);
+  trusted : (opening_of g.D.Device.seen l.fn.words.key).trusts ≡ true → g.D.Device.honest l.d × IsAfterSeen (opening_of g.D.Device.seen) l.fn.words.key l.seat.me.0.seen (g.D.Device.seen l.d) (g.D.Device.may_leave l.d);
+  honest : g.D.Device.honest l.fn.d → g.D.Device.honest l.d;
+  after : g.D.Device.honest l.fn.d → IsAfterSeen (opening_of g.D.Device.seen) l.fn.words.key l.fn.seat.me.0.seen (g.D.Device.seen l.fn.d) (g.D.Device.may_leave l.fn.d)
+      → IsAfterSeen (opening_of g.D.Device.seen) l.fn.words.key l.seat.me.0.seen (g.D.Device.seen l.d) (g.D.Device.may_leave l.d);
+  moments : g.D.Device.honest l.fn.d → IsAfterSeen (opening_of g.D.Device.seen) l.fn.words.key l.fn.seat.me.0.seen (g.D.Device.seen l.fn.d) (g.D.Device.may_leave l.fn.d)
+      → AtEachMoment g.D.Device.moment g.D.Device.left_since l.fn.d l.d (IsLeftWithin (opening_of g.D.Device.seen) l.fn.words.key l.fn.seat.me.0.seen l.seat.me.0.seen);
 }
 
 abbrev pub decreases-asks : goal.decreases-asks

@@ -1,13 +1,13 @@
 -- Each is ready as soon as the guard begins with the table's world.
 use Rattle.fkv_table.specs.Planes.{opening_of}
-use Rattle.fkv_threads.proofs.Opens.{after_nothing, guarded_ok, three_ok}
+use Rattle.fkv_threads.proofs.Opens.{after_nothing, four_ok, guarded_ok, three_ok}
 use Rattle.fkv_threads.proofs.opening.open.Goals as goal
 
 pub returns-clause-over : goal.returns-clause-over
 returns-clause-over g c =
     let its = c.open.ensures in
-    three_ok c.open.result _ _ _ _ its.world its.bytes its.device
-    (λ t begins bytes same. record { store = c.requires.store; begins = begins; same = bytes })
+    four_ok c.open.result _ _ _ _ _ its.world its.bytes its.device its.trusts
+    (λ t begins bytes same trusts. record { store = c.requires.store; begins = begins; same = bytes; trusted = trusts })
 
 pub returns-clause-sessions : goal.returns-clause-sessions
 returns-clause-sessions g c =

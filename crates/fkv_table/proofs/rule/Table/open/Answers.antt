@@ -25,8 +25,8 @@ shared_table-requires g c =
     let seen = g.D.Device.seen in
     let key = c.of-about.result in
     let words_are =
-    c.deref.ensures.value ∙ (c.in_ok-words.ensures.words ∙ (ap (λ (x : Plane). laid x.words) c.into_parts-plane.ensures.words ∙ ap (λ x. laid x.now.words) (sym c.of-about.ensures))) in
-    let none = ap (λ x. x.now.actions) c.of-about.ensures ∙ c.in_ok-world.ensures.world.no_actions in
+    c.deref.ensures.value ∙ (c.in_ok-words.ensures.words ∙ (ap (λ (x : Plane). laid x.words) c.into_parts-plane.ensures.words ∙ ap (λ x. laid x.world.now.words) (sym c.of-about.ensures))) in
+    let none = ap (λ x. x.world.now.actions) c.of-about.ensures ∙ c.in_ok-world.ensures.world.no_actions in
     subst (λ (slots : List Slot). Ruled (plane (opening_of seen)) key (opening c.deref.result.now slots (first_view (plane (opening_of seen)) key))) (sym c.in_ok-slots.ensures.slots)
     (opens_so (opening_of seen) key c.deref.result.now _ words_are none (omega arith))
 
@@ -42,7 +42,7 @@ returns-clause-sessions g c =
     let key = c.in_ok-table.table.shared.key in
     let table = c.in_ok-table.table.shared.table_id in
     let parts = c.into_parts-plane in
-    let shows : key.value ≡ w = ap (λ x. x.value) c.in_ok-table.ensures.key ∙ c.of-about.ensures in
+    let shows : key.value.world ≡ w = ap (λ x. x.value.world) c.in_ok-table.ensures.key ∙ ap (λ x. x.world) c.of-about.ensures in
     let opened = opened_at seen w key shows _ c.in_ok-world.ensures.device c.in_ok-world.ensures.opened in
     let words = words_at seen w key shows table _ c.deref.result.now (ap (λ (x : Plane). x.words) parts.ensures.words) (c.deref.ensures.value ∙ c.in_ok-words.ensures.words) c.in_ok-table.ensures.counts.0 in
     let slots = slots_at seen w key shows table parts.result.1.items _ _ _ parts.ensures.sessions c.in_ok-slots.ensures.slots (omega arith) c.in_ok-table.ensures.counts.1 opened in
@@ -56,7 +56,7 @@ returns-clause-keeper g c =
     let key = c.in_ok-table.table.shared.key in
     let table = c.in_ok-table.table.shared.table_id in
     let parts = c.into_parts-plane in
-    let shows : key.value ≡ w = ap (λ x. x.value) c.in_ok-table.ensures.key ∙ c.of-about.ensures in
+    let shows : key.value.world ≡ w = ap (λ x. x.value.world) c.in_ok-table.ensures.key ∙ ap (λ x. x.world) c.of-about.ensures in
     let opened = opened_at seen w key shows _ c.in_ok-world.ensures.device c.in_ok-world.ensures.opened in
     let words = words_at seen w key shows table _ c.deref.result.now (ap (λ (x : Plane). x.words) parts.ensures.words) (c.deref.ensures.value ∙ c.in_ok-words.ensures.words) c.in_ok-table.ensures.counts.0 in
     let slots = slots_at seen w key shows table parts.result.1.items _ _ _ parts.ensures.sessions c.in_ok-slots.ensures.slots (omega arith) c.in_ok-table.ensures.counts.1 opened in
