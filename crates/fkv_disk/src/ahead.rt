@@ -67,7 +67,8 @@ impl Pages {
 /// the device refuses, is passed on as it is; so are writes and syncs. A write drops the pages that it touches.
 ///
 /// What is claimed of it is what its device claims. But a kept page asks for no call: so it says nothing of which calls
-/// to come are refused, and of the calls of its device each method tells.
+/// to come are refused, and of the calls of its device each method tells. How many reads a page saves is measured, not
+/// proved.
 #[derive(Drop)]
 pub struct ReadAhead<D: Device> {
     device: D,

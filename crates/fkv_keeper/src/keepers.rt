@@ -199,7 +199,7 @@ impl Keeper {
     /// hand isn't copied. `None` elsewhere, and where memory is refused. What a commit has got once it isn't asked for again.
     ///
     /// It is for a caller that has to know whether memory is granted before the step: others may see a step that is made before its
-    /// reply is gone on with.
+    /// reply is gone on with. No clause says when memory is granted, nor that a room is kept.
     pub fn room(&mut self) -> Option<CopyRoom>
         ensures same { self.new ≡ self.old }
         ensures none { may_copy self.old.state ≡ false → result ≡ None }
