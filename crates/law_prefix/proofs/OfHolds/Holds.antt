@@ -1,0 +1,1 @@
+-- From the parts to what `law_paper` says.
