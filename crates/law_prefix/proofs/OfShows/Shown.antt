@@ -1,6 +1,5 @@
 -- An image that shows the flushed part of a log shows the log up to the end of the commit that it names.
-use Rattle.std.proofs.Common.{◌≡◌, ℕ, ◌+◌, ◌<◌, ◌≤◌, arith, refl, sym, ap, subst, List}
-use Rattle.fkv_base.specs.declared.shapes.Shape.{Shape}
+use Rattle.std.proofs.Common.{◌≡◌, ℕ, ◌+◌, ◌<◌, ◌≤◌, arith, sym, ap, subst, List}
 use Rattle.fkv_core.specs.Openings.{IsOpeningWorld}
 use Rattle.fkv_keeper.specs.Keeping.{Finality}
 use Rattle.fkv_keeper.specs.LastCommits.{lost_written}
@@ -8,7 +7,6 @@ use Rattle.fkv_opening.specs.declared.opened_store.Opened.{Opened}
 use Rattle.fkv_record.specs.declared.lost_ranges.LostRange.{LostRange}
 use Rattle.fkv_record.specs.declared.records.Record.{Record}
 use Rattle.fkv_scan.specs.Log as scan
-use Rattle.fkv_scan.specs.Log.{record_home}
 use Rattle.fkv_scan.specs.Records.{losses}
 use Rattle.fkv_world.specs.World.{Event, Now}
 use Rattle.law_commit.specs.BegunCommits.{BegunCommit, commit_opened}
@@ -18,14 +16,30 @@ use Rattle.law_images.specs.Fits.{FitsLife}
 use Rattle.law_images.specs.Left.{flushed_so_far}
 use Rattle.law_images.specs.Lost.{LosesNoneFrom}
 use Rattle.law_images.specs.Records.{ShowsFlushed}
+use Rattle.law_log.specs.Ghosts.{Log}
 use Rattle.law_order.specs.Decided.Cut.{NamesEnd, log_beside}
 use Rattle.law_paper.specs.Paper.Images.{IsDecided, ShowsLog}
+use Rattle.law_prefix.proofs.OfShows.Opened.{of_homes}
 use Rattle.law_refine.specs.Events.GhostEvents.{home_in}
 
--- the home of a record is that of its key
-home_is : (bits : ℕ) (x : Record) → record_home bits x ≡ home_in bits x.key.0
-unfolding record_home
-home_is bits x = refl
+-- a log that is shown from an address on is shown from each later one on
+pub shows_later : (home : ℕ → ℕ) (from later : ℕ) (image : scan.Log) (g : Log) → from ≤ later → ShowsLog home from image g → ShowsLog home later image g
+shows_later home from later image g up shows = record {
+  homes = shows.homes;
+  published = λ a cell is low. (let its = shows.published a cell is low in record {
+    held = its.held;
+    stands = its.stands;
+    valid = its.valid;
+    its_key = its.its_key;
+    its_value = its.its_value;
+    leads = its.leads;
+    low = its.low;
+    same = λ on. its.same (omega (arith, up, on));
+  });
+  decided = λ a on. shows.decided a (omega (arith, up, on));
+  dropped = λ a cell is on. shows.dropped a cell is (omega (arith, up, on));
+  none_lost = λ a x on. shows.none_lost a x (omega (arith, up, on));
+}
 
 -- a commit that is newer than the opening's isn't that
 pub newer_commit : (o : Opened) (n : Now) (bytes : List ℕ) (c : BegunCommit) → IsOpeningWorld o n → o.number.0 < c.number.0 → c ≡ commit_opened n bytes → ⊥
@@ -46,7 +60,7 @@ shows_log o n bytes events image c shape names lost fits shows decides young non
     let version = names.version in
     let flushed = fits.is_flushed in
     record {
-      homes = λ x. subst (λ (s : Shape). record_home s.bucket_bits x ≡ home_in n.shape.bucket_bits x.key.0) (sym shape) (home_is n.shape.bucket_bits x);
+      homes = of_homes image n.shape (sym shape);
       published = λ a cell is low. shows.published a cell is (omega (arith, low, end, flushed));
       decided = decides;
       dropped = λ a cell is on low.
