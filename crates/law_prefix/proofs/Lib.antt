@@ -1,2 +1,3 @@
 mod OfHolds
+mod OfPoints
 mod OfShows
