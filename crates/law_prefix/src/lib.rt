@@ -2,11 +2,9 @@
 #![tactic(auto)]
 
 mod holds;
-mod keeps;
 mod shows;
 
 pub use holds::law_named_hold;
-pub use keeps::law_lives_keep_rules;
 pub use shows::{
     law_images_show_life, law_log_in_order, law_opened_log_stands, law_scans_start_above,
 };
