@@ -1,4 +1,5 @@
 pub mod Firsts
+pub mod Numbers
 pub mod Opened
 pub mod Order
 pub mod Shown
