@@ -2,12 +2,10 @@
 #![tactic(auto)]
 
 mod holds;
-mod keeps;
 mod points;
 mod shows;
 
 pub use holds::law_named_hold;
-pub use keeps::law_lives_keep_rules;
 pub use points::law_points_keep;
 pub use shows::{
     law_images_show_life, law_log_in_order, law_opened_log_stands, law_scans_start_above,

@@ -3,12 +3,14 @@ ghost use Rattle.law_prefix.specs.Leaves.{OfEachLeft, OfEachNamed};
 ghost use Rattle.law_prefix.specs.Parts.{HasOrderlyLog, ShowsItsLog, StartsAbove};
 ghost use Rattle.law_prefix.specs.Shows.{StandsOpened};
 
-use crate::keeps::law_lives_keep_rules;
 use law_changes::law_lives_change_published;
 use law_commit::{law_commits_cut, law_commits_ended};
 use law_images::{law_commits_lose_the_rest, law_images_show_log};
 use law_opening::law_log_counted;
-use law_order::{law_cut_opens, law_ends_open, law_life_begins, law_old_opens, law_versions_open};
+use law_order::{
+    law_cut_opens, law_ends_open, law_life_begins, law_lives_keep_rules, law_old_opens,
+    law_versions_open,
+};
 
 /// In each life the log beside it is in order. Its chains have just the published records of their homes, versions never rise down a chain, and nothing stands
 /// at address 0.

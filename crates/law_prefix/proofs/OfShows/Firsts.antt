@@ -1,6 +1,5 @@
 -- The first address of a commit of a life isn't below the tail with which the life began.
-use Rattle.std.proofs.Common.{◌≡◌, ℕ, ◌<◌, ◌≤◌, arith, ap, subst, List, [], ◌++◌}
-use Rattle.std.proofs.lemmas.List.{append-nil}
+use Rattle.std.proofs.Common.{◌≡◌, ℕ, ◌<◌, ◌≤◌, arith, ap, List, []}
 use Rattle.fkv_core.specs.Openings.{IsOpeningWorld, beginning}
 use Rattle.fkv_keeper.specs.Keeping.{Finality}
 use Rattle.fkv_keeper.specs.declared.last_commits.Checkpoint.{Checkpoint}
@@ -12,8 +11,8 @@ use Rattle.fkv_world.specs.Runs.{World, run}
 use Rattle.fkv_world.specs.World.{Event, Now}
 use Rattle.law_commit.specs.BegunCommits.{BegunCommit}
 use Rattle.law_commit.specs.Decided.Ended.{HasEnded, Span, span_of, span_opened}
-use Rattle.law_commit.proofs.OfDecided.Lives.{tails_rise}
 use Rattle.law_guard.specs.Guarded.Shows as guard
+use Rattle.law_refine.proofs.OfEvents.Fixed.{life_rises}
 use Rattle.law_refine.specs.Events.Reserved.{tail_at}
 
 pub opened_tail : (o : Opened) (n : Now) → IsOpeningWorld o n → tail_at n ≡ o.tail.0
@@ -22,7 +21,7 @@ opened_tail o n begins = ap (λ (all : List ℕ). word_at all (shared_place one.
 -- the tail never falls
 tail_since : (opening : World) (start : ℕ) (moment : List Event) → guard.IsOpened opening.now start → tail_at opening.now ≤ tail_at (run opening moment).now
 unfolding run
-tail_since opening start moment opened = subst (λ (events : List Event). tail_at opening.now ≤ tail_at (run opening events).now) (append-nil moment) (tails_rise opening start moment [] opened)
+tail_since opening start moment opened = (life_rises opening start [] moment opened).tail
 
 -- and the first address was the tail at a moment
 pub first_above : (opening : World) (start : ℕ) (events : List Event) (c : BegunCommit) → guard.IsOpened opening.now start → HasEnded opening events (span_of c) → tail_at opening.now ≤ c.first.0
