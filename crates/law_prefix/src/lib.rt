@@ -3,10 +3,16 @@
 
 mod holds;
 mod points;
+mod prefix;
 mod shows;
+mod uses;
 
-pub use holds::law_named_hold;
+pub use holds::{law_images_hold, law_named_hold};
 pub use points::law_points_keep;
+pub use prefix::{law_images_recovered, law_prefix};
 pub use shows::{
     law_images_show_life, law_log_in_order, law_opened_log_stands, law_scans_start_above,
+};
+pub use uses::{
+    law_images_keep_checkpoint, law_images_keep_records, law_images_use_checkpoints,
 };
