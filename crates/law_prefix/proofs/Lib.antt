@@ -1,1 +1,2 @@
 mod OfHolds
+mod OfUses

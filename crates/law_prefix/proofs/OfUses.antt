@@ -1,0 +1,5 @@
+pub mod Areas
+pub mod New
+pub mod Numbers
+pub mod Old
+pub mod Records

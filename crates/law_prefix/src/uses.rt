@@ -1,0 +1,44 @@
+//! What an image has of the checkpoint that its commit uses.
+ghost use Rattle.law_prefix.specs.Leaves.{OfEachLeft, OfEachNamed};
+ghost use Rattle.law_prefix.specs.Parts.{KeepsCheckpoint, KeepsRecords, UsesItsCheckpoint};
+
+use fkv_record::law_spellings_apart;
+use law_changes::law_lives_change_published;
+use law_images::{law_commits_fit, law_commits_lose_the_rest, law_images_hold_triples};
+use law_opening::{law_guard_opens, law_log_begins};
+use law_order::{law_commits_in_turn, law_cut_opens, law_old_opens};
+use law_refine::law_device_shows_log;
+
+/// In each image that a crash may leave of a life, the records below the opened end stand as they were.
+pub fn law_images_keep_records()
+    ensures { OfEachLeft KeepsRecords }
+{
+    law_spellings_apart();
+    law_guard_opens();
+    law_log_begins();
+    law_device_shows_log();
+    law_lives_change_published();
+}
+
+/// If such an image names a commit that uses the checkpoint with which the store was opened, its triples are those of then: no commit of the life has written
+/// to their area.
+pub fn law_images_keep_checkpoint()
+    ensures { OfEachLeft KeepsCheckpoint }
+{
+    law_commits_fit();
+}
+
+/// A commit of the life uses a checkpoint that the life has made, or the one with which the store was opened. In an image that names it the triples of the
+/// first cover the chains, as its copy of the index was taken. What is published below its first address is of no later version. With the other one recovery
+/// meets again what it met at the opening, and the lost ranges lose just what was left out then.
+pub fn law_images_use_checkpoints()
+    ensures { OfEachNamed UsesItsCheckpoint }
+{
+    law_images_keep_records();
+    law_commits_fit();
+    law_commits_lose_the_rest();
+    law_images_hold_triples();
+    law_commits_in_turn();
+    law_cut_opens();
+    law_old_opens();
+}
