@@ -10,6 +10,7 @@ use Rattle.fkv_world.specs.World.{Event, Now}
 use Rattle.law_commit.specs.BegunCommits.{BegunCommit, commit_opened}
 use Rattle.law_images.specs.Fits.{FitsLife, NamesFit}
 use Rattle.law_images.specs.Left.{flushed_so_far}
+use Rattle.law_images.specs.Opened.{newest_in}
 
 -- A slot says what the keeper writes for this commit, which fits its life.
 pub record SaysCommit (o : Opened) (n : Now) (flushed : ℕ) (c : BegunCommit) (newest : Newest) : Type 0 where
@@ -17,8 +18,9 @@ pub record SaysCommit (o : Opened) (n : Now) (flushed : ℕ) (c : BegunCommit) (
   pub fits : FitsLife o n flushed c
 
 -- Or it is the one with which the store was opened, of the commit of then.
-pub record SaysOpened (o : Opened) (n : Now) (bytes : List ℕ) (store : IsStoreOf bytes o) (c : BegunCommit) (newest : Newest) : Type 0 where
+pub record SaysOpened (o : Opened) (n : Now) (bytes : List ℕ) (store : IsStoreOf bytes o) (image : List ℕ) (c : BegunCommit) (newest : Newest) : Type 0 where
   pub is : c ≡ commit_opened n bytes
+  pub was : newest ≡ newest_in image store.newest
   pub slot : newest.slot ≡ (let was = store.newest in was.slot)
 
 pub record ReadsBack (o : Opened) (n : Now) (bytes : List ℕ) (events : List Event) (store : IsStoreOf bytes o) (image : List ℕ) : Type 0 where
@@ -26,4 +28,4 @@ pub record ReadsBack (o : Opened) (n : Now) (bytes : List ℕ) (events : List Ev
   pub newest : Newest
   pub its : IsNewestOf image newest
   pub shape : (let is = newest in is.shape ≡ n.shape)
-  pub says : (let it = names in let is = it.named in SaysCommit o n (flushed_so_far n bytes events) is.commit newest ⊎ SaysOpened o n bytes store is.commit newest)
+  pub says : (let it = names in let is = it.named in SaysCommit o n (flushed_so_far n bytes events) is.commit newest ⊎ SaysOpened o n bytes store image is.commit newest)

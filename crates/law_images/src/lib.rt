@@ -27,4 +27,4 @@ pub use opened::{
     law_images_keep_opened, law_images_keep_their_shape, law_images_name_their_commit,
 };
 pub use read::law_images_read_back;
-pub use records::law_images_show_log;
+pub use records::{law_images_keep_old, law_images_show_log};

@@ -1,5 +1,5 @@
 //! Records in images.
-ghost use Rattle.law_images.specs.Laws.Records.{ImagesShowTheLog};
+ghost use Rattle.law_images.specs.Laws.Records.{ImagesKeepTheOldRecords, ImagesShowTheLog};
 
 use fkv_record::law_spellings_apart;
 use law_changes::{law_lives_change_published, law_lives_fit};
@@ -23,4 +23,16 @@ pub fn law_images_show_log()
     law_lives_change_published();
     law_lives_fit();
     law_stands_show_log();
+}
+
+/// Below the opened end each such image has just the records of the opened bytes, also those that recovery left out: ones that were given up, lost or too new.
+/// It holds if the opened bytes end behind all that their newest slot names.
+pub fn law_images_keep_old()
+    ensures { ImagesKeepTheOldRecords }
+{
+    law_spellings_apart();
+    law_guard_opens();
+    law_log_begins();
+    law_device_shows_log();
+    law_lives_change_published();
 }

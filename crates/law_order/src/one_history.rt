@@ -1,4 +1,5 @@
 //! The order law of the engine, in every life.
+ghost use Rattle.law_opening.specs.Log.Lives.{KeepsRules};
 ghost use Rattle.law_order.specs.OneHistory.EachLife as lives;
 ghost use Rattle.law_order.specs.Rules.InTime.{ReadsInTime};
 ghost use Rattle.law_order.specs.Rules.Ordered as laws;
@@ -32,6 +33,26 @@ pub fn law_order()
 {
     law_life_begins();
     law_order_of_rules();
+    law_opening_fits();
+    law_world_ordered();
+    law_ends_open();
+    law_versions_open();
+    law_latches_open();
+    law_phases_are_seen();
+    law_floor_stands();
+    law_versions_end();
+    law_shares_not_missed();
+    law_versions_counted();
+    law_latched_in_tries();
+    law_views_see_tails();
+}
+
+/// So each life keeps to the rules of the log beside it, with commits too: each event of the log is enabled where it happens. So what `law_log` says of logs
+/// holds beside each life.
+pub fn law_lives_keep_rules()
+    ensures { lives.InEachLife KeepsRules }
+{
+    law_life_begins();
     law_opening_fits();
     law_world_ordered();
     law_ends_open();

@@ -1,2 +1,3 @@
 mod OfHolds
+mod OfShows
 mod OfUses

@@ -1,3 +1,4 @@
 pub mod Holds
 pub mod Leaves
 pub mod Parts
+pub mod Shows

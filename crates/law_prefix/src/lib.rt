@@ -2,7 +2,11 @@
 #![tactic(auto)]
 
 mod holds;
+mod shows;
 mod uses;
 
 pub use holds::law_named_hold;
+pub use shows::{
+    law_images_show_life, law_log_in_order, law_opened_log_stands, law_scans_start_above,
+};
 pub use uses::{law_images_keep_checkpoint, law_images_keep_records, law_images_use_checkpoints};

@@ -74,7 +74,7 @@ returns-clause-slot c = λ o n bytes events image store begins long left.
             newest = newest_in image store.newest;
             its = newest_kept bytes image store.newest store.triples store.checkpoint block (slot_place n.keeper.last.number) told.in_force in_image same;
             shape = sym store.tells.shape ∙ sym begins.its_shape;
-            says = inr (record { is = old.0; slot = refl });
+            says = inr (record { is = old.0; was = refl; slot = refl });
           }
     ]
 

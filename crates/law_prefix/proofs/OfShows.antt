@@ -1,0 +1,4 @@
+pub mod Firsts
+pub mod Opened
+pub mod Order
+pub mod Shown
