@@ -2,4 +2,3 @@ pub mod Areas
 pub mod New
 pub mod Numbers
 pub mod Old
-pub mod Records

@@ -1,4 +1,5 @@
 pub mod Holds
 pub mod Leaves
 pub mod Parts
+pub mod Points
 pub mod Shows

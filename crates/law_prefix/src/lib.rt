@@ -2,10 +2,12 @@
 #![tactic(auto)]
 
 mod holds;
+mod points;
 mod shows;
 mod uses;
 
 pub use holds::law_named_hold;
+pub use points::law_points_keep;
 pub use shows::{
     law_images_show_life, law_log_in_order, law_opened_log_stands, law_scans_start_above,
 };

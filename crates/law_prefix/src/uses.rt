@@ -2,22 +2,16 @@
 ghost use Rattle.law_prefix.specs.Leaves.{OfEachLeft, OfEachNamed};
 ghost use Rattle.law_prefix.specs.Parts.{KeepsCheckpoint, KeepsRecords, UsesItsCheckpoint};
 
-use fkv_record::law_spellings_apart;
-use law_changes::law_lives_change_published;
-use law_images::{law_commits_fit, law_commits_lose_the_rest, law_images_hold_triples};
-use law_opening::{law_guard_opens, law_log_begins};
+use law_images::{
+    law_commits_fit, law_commits_lose_the_rest, law_images_hold_triples, law_images_keep_old,
+};
 use law_order::{law_commits_in_turn, law_cut_opens, law_old_opens};
-use law_refine::law_device_shows_log;
 
 /// In each image that a crash may leave of a life, the records below the opened end stand as they were.
 pub fn law_images_keep_records()
     ensures { OfEachLeft KeepsRecords }
 {
-    law_spellings_apart();
-    law_guard_opens();
-    law_log_begins();
-    law_device_shows_log();
-    law_lives_change_published();
+    law_images_keep_old();
 }
 
 /// If such an image names a commit that uses the checkpoint with which the store was opened, its triples are those of then: no commit of the life has written

@@ -1,31 +1,6 @@
--- The law: no call of the life has written below the opened end of the log.
-use Rattle.std.proofs.Common.{◌≡◌, ℕ, ◌+◌, ◌<◌, ◌≤◌, arith, sym, subst, List, length}
-use Rattle.fkv_base.specs.declared.shapes.Shape.{Shape}
-use Rattle.fkv_core.specs.Openings.{beginning}
-use Rattle.fkv_disk.specs.Bytes.{bytes_at}
-use Rattle.fkv_disk.specs.Calls.{Call}
-use Rattle.fkv_flush.specs.GuardFlushed.{IsSynced, stands}
-use Rattle.fkv_plane.specs.declared.places.RecordWord.{RecordWord}
-use Rattle.fkv_record.specs.Places.{record_place}
-use Rattle.fkv_world.specs.Runs.{World, run}
-use Rattle.law_guard.specs.Guarded.GuardEvents as guarded
-use Rattle.law_guard.specs.Guarded.OpenedStore.{IsOpenedStore}
-use Rattle.law_guard.specs.Guarded.Shows.{guard_opening}
-use Rattle.law_images.specs.Left.{flushed_so_far}
-use Rattle.law_opening.specs.Log.OpeningLog.{opening_ghosts}
-use Rattle.law_prefix.proofs.OfUses.Records.{holds_below, old_bytes}
+-- The law, in the words of this crate.
+use Rattle.std.proofs.Common.{arith, sym}
 use Rattle.law_prefix.proofs.uses.law_images_keep_records.Goals as goal
 
 pub returns : goal.returns
-returns c = λ o n bytes events image leaves a some low.
-    let opening : World = beginning n bytes in
-    let opened : IsOpenedStore opening o.tail.0 = c.law_guard_opens.ensures o n bytes leaves.begins in
-    let first = c.law_log_begins.ensures bytes o n leaves.store leaves.begins in
-    let calls : List Call = (run opening events).past.calls in
-    let words : ℕ → RecordWord → ℕ = stands (guard_opening n o.tail.0) (guarded.mapped opening events) in
-    let synced : IsSynced n.shape bytes calls words o.tail.0 (flushed_so_far n bytes events) =
-    c.law_device_shows_log.ensures.synced opening o.tail.0 (opening_ghosts bytes o) events opened first.unborn (c.law_lives_change_published.ensures.published o n bytes events leaves.store leaves.begins) in
-    let within : record_place n.shape a + 24 ≤ length bytes =
-    subst (λ (s : Shape). record_place s a + 24 ≤ length bytes) (sym leaves.begins.its_shape) (holds_below c.law_spellings_apart.ensures.shapes bytes o leaves.store leaves.far a (omega (arith, some)) low) in
-    subst (λ (s : Shape). bytes_at bytes (record_place s a) 24 ≡ bytes_at image (record_place s a) 24) leaves.begins.its_shape
-    (sym (old_bytes n.shape bytes image calls words o.tail.0 (flushed_so_far n bytes events) a synced leaves.left low within))
+returns c = λ o n bytes events image leaves a some low. sym (c.law_images_keep_old.ensures o n bytes events image a leaves.store leaves.begins leaves.far leaves.left (omega (arith, some)) low)
