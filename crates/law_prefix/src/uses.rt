@@ -22,9 +22,9 @@ pub fn law_images_keep_checkpoint()
     law_commits_fit();
 }
 
-/// A commit of the life uses a checkpoint that the life has made, or the one with which the store was opened. In an image that names it the triples of the
-/// first cover the chains, as its copy of the index was taken. What is published below its first address is of no later version. With the other one recovery
-/// meets again what it met at the opening, and the lost ranges lose just what was left out then.
+/// A commit of the life uses a checkpoint that the life has made, or the one with which the store was opened. In an image that names the commit the triples of
+/// that checkpoint are read back. If the life has made it, they cover the chains of the log, and what is published below its first address is of no later
+/// version. Else recovery meets again what it met at the opening, and the lost ranges lose just what was left out then.
 pub fn law_images_use_checkpoints()
     ensures { OfEachNamed UsesItsCheckpoint }
 {

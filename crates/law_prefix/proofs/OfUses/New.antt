@@ -28,7 +28,7 @@ use Rattle.law_prefix.proofs.OfUses.Numbers.{ends_by}
 use Rattle.law_world.specs.Standing.Standing.{triples_in}
 
 -- a newer commit ends no lower
-pub EndRises : List BegunCommit → Type 0
+abbrev pub EndRises : List BegunCommit → Type 0
 EndRises begun = (older newer : BegunCommit) → IsIn older begun → IsIn newer begun → older.number.0 < newer.number.0 → older.end.0 ≤ newer.end.0
 
 module _ (o : Opened) (n : Now) (bytes : List ℕ) (events : List Event) (image : List ℕ) (names : NamesNew o n bytes events image) (begins : IsOpeningWorld o n) (none : NamesNone o names.commit)
@@ -63,7 +63,6 @@ module _ (o : Opened) (n : Now) (bytes : List ℕ) (events : List Event) (image 
 
   module _ (turn : AreInTurn (begun_so_far n bytes events)) (rises : EndRises (begun_so_far n bytes events)) where
     end_below : d.end.0 ≤ slot.end.0
-    unfolding EndRises
     end_below =
         let says = names.says in
         let end : slot.end.0 ≡ c.end.0 = ap (λ (x : SlotSaid). x.end.0) says.said in

@@ -18,12 +18,11 @@ use Rattle.law_order.specs.Decided.Cut.{log_beside}
 use Rattle.law_paper.specs.Paper.Old.{LosesTheRest}
 use Rattle.law_prefix.specs.Leaves.{NamesNew}
 use Rattle.law_prefix.proofs.OfUses.Areas.{opened_older, opened_triples, said_area, same_triples}
-use Rattle.law_prefix.proofs.OfUses.New.{EndRises, by_cover}
+use Rattle.law_prefix.proofs.OfUses.New.{by_cover}
 use Rattle.law_prefix.proofs.OfUses.Old.{uses_old}
 use Rattle.law_prefix.proofs.uses.law_images_use_checkpoints.Goals as goal
 
 pub returns : goal.returns
-unfolding EndRises
 returns c = λ o n bytes events image leaves names.
     let it : BegunCommit = names.commit in
     let newest : Newest = names.newest in
