@@ -1,4 +1,6 @@
 pub mod EachLife
+pub mod History
+pub mod InVersions
 pub mod NewLives
 mod WorkedEffects
 pub mod WorkedLives

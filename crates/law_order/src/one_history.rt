@@ -1,5 +1,6 @@
 //! The order law of the engine, in every life.
 ghost use Rattle.law_opening.specs.Log.Lives.{KeepsRules};
+ghost use Rattle.law_order.specs.OneHistory.Beside.{HasItsHistory, KeepsItsOrder};
 ghost use Rattle.law_order.specs.OneHistory.EachLife as lives;
 ghost use Rattle.law_order.specs.Rules.InTime.{ReadsInTime};
 ghost use Rattle.law_order.specs.Rules.Ordered as laws;
@@ -16,6 +17,42 @@ use law_opening::law_latches_open;
 use law_paper::law_phases_are_seen;
 use law_parts::law_latched_in_tries;
 
+/// Each life keeps order, with commits too. Each event of the log beside it is enabled, what a session is about to change in place is published, and at each
+/// moment sessions know what they have to of the log. Its calls are of numbers below 2^64, and fewer than 2^64 - 1 calls of sessions begin.
+pub fn law_lives_keep_order()
+    ensures { lives.InEachLife KeepsItsOrder }
+{
+    law_life_begins();
+    law_opening_fits();
+    law_world_ordered();
+    law_ends_open();
+    law_versions_open();
+    law_latches_open();
+    law_phases_are_seen();
+    law_floor_stands();
+    law_versions_end();
+    law_shares_not_missed();
+    law_versions_counted();
+    law_latched_in_tries();
+    law_views_see_tails();
+}
+
+/// So each life keeps to the rules of that log, and what `law_log` says of logs holds beside each life.
+pub fn law_lives_keep_rules()
+    ensures { lives.InEachLife KeepsRules }
+{
+    law_lives_keep_order();
+}
+
+/// And that log has the history of the life, each effect in its version. For a record that is published has the version of its update's request, and so has one
+/// that is changed in place.
+pub fn law_history_beside()
+    ensures { lives.InEachLife HasItsHistory }
+{
+    law_life_begins();
+    law_lives_keep_order();
+}
+
 /// In each life what has taken effect so far is one history, legal from the store's map on, with the replies given. Sessions turn pages, sleep,
 /// wake, stall in the middle of calls, meet the disk and fill overflow buckets. Calls of the device fail, any actor moves at any step, and a crash comes
 /// anywhere. The history orders the calls. Each update whose result was given took effect once, with that reply, and none took effect but those that were
@@ -31,38 +68,6 @@ pub fn law_order()
     ensures guarded { lives.InEachLife laws.IsGuarded }
     ensures once { lives.InEachLife laws.RunsActionsOnce }
 {
-    law_life_begins();
     law_order_of_rules();
-    law_opening_fits();
-    law_world_ordered();
-    law_ends_open();
-    law_versions_open();
-    law_latches_open();
-    law_phases_are_seen();
-    law_floor_stands();
-    law_versions_end();
-    law_shares_not_missed();
-    law_versions_counted();
-    law_latched_in_tries();
-    law_views_see_tails();
-}
-
-/// So each life keeps to the rules of the log beside it, with commits too: each event of the log is enabled where it happens. So what `law_log` says of logs
-/// holds beside each life.
-pub fn law_lives_keep_rules()
-    ensures { lives.InEachLife KeepsRules }
-{
-    law_life_begins();
-    law_opening_fits();
-    law_world_ordered();
-    law_ends_open();
-    law_versions_open();
-    law_latches_open();
-    law_phases_are_seen();
-    law_floor_stands();
-    law_versions_end();
-    law_shares_not_missed();
-    law_versions_counted();
-    law_latched_in_tries();
-    law_views_see_tails();
+    law_lives_keep_order();
 }

@@ -97,7 +97,7 @@ mover_reserves : (n : Now) (session : ℕ) (found : Option SessionState) (its : 
 mover_reserves n session None its e reserved = none_some its reserved
 mover_reserves n session (Some s) its e reserved = record { state = s; found = e; reserved = reserved }
 
-step_reserves : (n : Now) (event : Event) (its : Reservation) → (step_at n event).reserved ≡ Some its → (session : ℕ) × HasReserved n session its
+pub step_reserves : (n : Now) (event : Event) (its : Reservation) → (step_at n event).reserved ≡ Some its → (session : ℕ) × HasReserved n session its
 step_reserves n (Moves session) its reserved = (session, mover_reserves n session (slice_get n.sessions session) its refl reserved)
 step_reserves n (Calls session call) its reserved = none_some its reserved
 step_reserves n (Commits kind) its reserved = none_some its reserved

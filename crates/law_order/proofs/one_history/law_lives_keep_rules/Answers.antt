@@ -1,7 +1,5 @@
--- By the induction over events.
-use Rattle.law_opening.specs.Log.Lives.{KeepsRules}
-use Rattle.law_order.proofs.OfOneHistory.EachLife.{of_each_life}
+-- It is a part of the order that lives keep.
 use Rattle.law_order.proofs.one_history.law_lives_keep_rules.Goals as goal
 
 pub returns : goal.returns
-returns c = of_each_life KeepsRules c.law_life_begins.ensures (record { ends = c.law_ends_open.ensures; versions = c.law_versions_open.ensures; latches = c.law_latches_open.ensures }) (record { sound = c.law_phases_are_seen.ensures.sound; floor = c.law_phases_are_seen.ensures.floor; floors = c.law_floor_stands.ensures.floor; left = c.law_versions_end.ensures.left; prepare = c.law_shares_not_missed.ensures.prepare; bit = c.law_shares_not_missed.ensures.bit; older = c.law_shares_not_missed.ensures.older; latches = c.law_versions_end.ensures.latches; ahead = c.law_versions_counted.ensures.below; beside = c.law_latched_in_tries.ensures.beside_none; safe = c.law_views_see_tails.ensures.view }) c.law_opening_fits.ensures c.law_world_ordered.ensures (λ bytes o n events store world rules published. rules)
+returns c = λ its is. (c.law_lives_keep_order.ensures its is).enabled
