@@ -11,4 +11,4 @@ pub use points::law_points_keep;
 pub use shows::{
     law_images_show_life, law_log_in_order, law_opened_log_stands, law_scans_start_above,
 };
-pub use uses::{law_images_keep_checkpoint, law_images_keep_records, law_images_use_checkpoints};
+pub use uses::{law_images_keep_checkpoint, law_images_use_checkpoints};

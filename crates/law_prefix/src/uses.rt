@@ -1,20 +1,13 @@
 //! What an image has of the checkpoint that its commit uses.
 ghost use Rattle.law_prefix.specs.Leaves.{OfEachLeft, OfEachNamed};
-ghost use Rattle.law_prefix.specs.Parts.{KeepsCheckpoint, KeepsRecords, UsesItsCheckpoint};
+ghost use Rattle.law_prefix.specs.Parts.{KeepsCheckpoint, UsesItsCheckpoint};
 
 use law_images::{
     law_commits_fit, law_commits_lose_the_rest, law_images_hold_triples, law_images_keep_old,
 };
 use law_order::{law_commits_in_turn, law_cut_opens, law_old_opens};
 
-/// In each image that a crash may leave of a life, the records below the opened end stand as they were.
-pub fn law_images_keep_records()
-    ensures { OfEachLeft KeepsRecords }
-{
-    law_images_keep_old();
-}
-
-/// If such an image names a commit that uses the checkpoint with which the store was opened, its triples are those of then: no commit of the life has written
+/// If an image that a crash may leave names a commit that uses the checkpoint with which the store was opened, its triples are those of then: no commit of the life has written
 /// to their area.
 pub fn law_images_keep_checkpoint()
     ensures { OfEachLeft KeepsCheckpoint }
@@ -28,7 +21,7 @@ pub fn law_images_keep_checkpoint()
 pub fn law_images_use_checkpoints()
     ensures { OfEachNamed UsesItsCheckpoint }
 {
-    law_images_keep_records();
+    law_images_keep_old();
     law_commits_fit();
     law_commits_lose_the_rest();
     law_images_hold_triples();

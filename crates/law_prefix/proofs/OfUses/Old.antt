@@ -20,7 +20,11 @@ use Rattle.law_commit.specs.BegunCommits.{BegunCommit}
 use Rattle.law_order.specs.Decided.Cut.{log_beside}
 use Rattle.law_paper.specs.Paper.Old.{GoesOnFrom, HasWhatCounted, LosesTheRest, WasSound}
 use Rattle.law_prefix.specs.Leaves.{Leaves, NamesNew}
-use Rattle.law_prefix.specs.Parts.{KeepsRecords, UsesOld}
+use Rattle.law_prefix.specs.Parts.{UsesOld}
+
+-- an image has the records below the opened end as they were
+abbrev KeepsOld : Opened → List ℕ → List ℕ → Type 0
+KeepsOld o bytes image = (a : ℕ) → 0 < a → a < o.tail.0 → bytes_at image (record_place o.shape a) 24 ≡ bytes_at bytes (record_place o.shape a) 24
 
 was_sound : (bytes : List ℕ) (o : Opened) (store : IsStoreOf bytes o) → WasSound (log_of_store bytes o store)
 was_sound bytes o store =
@@ -67,13 +71,13 @@ module _ (o : Opened) (n : Now) (bytes : List ℕ) (events : List Event) (image 
       ap (λ (x : SlotSaid). x.first.0) says.said
       ∙ (ap (λ (x : Checkpoint). x.first.0) used ∙ (ap (λ (f : Finality). f.checkpoint.first.0) leaves.begins.its_keeper.newest ∙ ap (λ (a : Addr). a.0) store.tells.first))
 
-  same_record : KeepsRecords o n bytes events image leaves → (a : ℕ) → 0 < a → a < old.end.0 → bytes_at bytes (record_place was.shape a) 24 ≡ bytes_at image (record_place newest.shape a) 24
+  same_record : KeepsOld o bytes image → (a : ℕ) → 0 < a → a < old.end.0 → bytes_at bytes (record_place was.shape a) 24 ≡ bytes_at image (record_place newest.shape a) 24
   same_record keeps a some low =
       let tail : o.tail.0 ≡ old.end.0 = ap (λ (x : Addr). x.0) store.tells.tail in
       ap (λ (s : Shape). bytes_at bytes (record_place s a) 24) shape_was
-      ∙ (keeps a (omega (arith, some)) (omega (arith, tail, low)) ∙ ap (λ (s : Shape). bytes_at image (record_place s a) 24) shape_is)
+      ∙ (sym (keeps a some (omega (arith, tail, low))) ∙ ap (λ (s : Shape). bytes_at image (record_place s a) 24) shape_is)
 
-  goes_on : KeepsRecords o n bytes events image leaves → GoesOnFrom (log_of_store bytes o store) (log_of image newest store.triples)
+  goes_on : KeepsOld o bytes image → GoesOnFrom (log_of_store bytes o store) (log_of image newest store.triples)
   goes_on keeps =
       let says = names.says in
       let fits = says.fits in
@@ -92,7 +96,7 @@ module _ (o : Opened) (n : Now) (bytes : List ℕ) (events : List Event) (image 
         bytes = λ a x some low. (let same = same_record keeps a some low in (λ stands. stands ∙ same, λ stands. stands ∙ sym same));
       }
 
-  pub uses_old : KeepsRecords o n bytes events image leaves → HasCheckpoint image newest store.triples → HasWhatCounted (log_of_store bytes o store) (log_beside o n bytes events)
+  pub uses_old : KeepsOld o bytes image → HasCheckpoint image newest store.triples → HasWhatCounted (log_of_store bytes o store) (log_beside o n bytes events)
       → LosesTheRest (lost_written c.lost) (log_of_store bytes o store) (log_beside o n bytes events) → UsesOld o n bytes events image leaves names
   uses_old keeps checkpoint before loses =
       let says = names.says in

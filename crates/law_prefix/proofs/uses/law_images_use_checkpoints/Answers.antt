@@ -56,5 +56,5 @@ returns c = λ o n bytes events image leaves names.
                 let newer = fits.newer in
                 absurd (omega (arith, same, was, newer))
           ] in
-          inr (uses_old o n bytes events image leaves names its.checkpoint (c.law_images_keep_records.ensures o n bytes events image leaves) checkpoint (c.law_old_opens.ensures.before bytes o n events store leaves.begins) loses)
+          inr (uses_old o n bytes events image leaves names its.checkpoint (λ a some low. c.law_images_keep_old.ensures o n bytes events image a store leaves.begins leaves.far leaves.left some low) checkpoint (c.law_old_opens.ensures.before bytes o n events store leaves.begins) loses)
     ]
