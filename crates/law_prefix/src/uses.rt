@@ -7,8 +7,8 @@ use law_images::{
 };
 use law_order::{law_commits_in_turn, law_cut_opens, law_old_opens};
 
-/// If an image that a crash may leave names a commit that uses the checkpoint with which the store was opened, its triples are those of then: no commit of the life has written
-/// to their area.
+/// If an image that a crash may leave names a commit which uses the checkpoint with which the store was opened, its triples are those of then. For no commit of
+/// the life has written to their area.
 pub fn law_images_keep_checkpoint()
     ensures { OfEachLeft KeepsCheckpoint }
 {
