@@ -1,3 +1,4 @@
 mod OfHolds
 mod OfPoints
 mod OfShows
+mod OfUses

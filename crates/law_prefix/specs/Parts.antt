@@ -1,9 +1,7 @@
 -- The premises of `law_paper` on an image that names a commit of its life, each as a part that is shown by itself.
 use Rattle.std.specs.Prelude.{◌≡◌, ◌⊎◌, ◌<◌, ◌≤◌, ℕ, List}
-use Rattle.fkv_disk.specs.Bytes.{bytes_at}
 use Rattle.fkv_opening.specs.Faults.{HasCheckpoint}
 use Rattle.fkv_opening.specs.declared.opened_store.Opened.{Opened}
-use Rattle.fkv_record.specs.Places.{record_place}
 use Rattle.fkv_record.specs.declared.triples.Triple.{Triple}
 use Rattle.fkv_world.specs.World.{Event, Now}
 use Rattle.law_images.specs.Read.{ReadsBack}
@@ -58,10 +56,6 @@ abbrev pub HasItsSlots : (o : Opened) (n : Now) (bytes : List ℕ) (events : Lis
 HasItsSlots o n bytes events image leaves names = (triples : List Triple) → HasSlots (log_named names triples) (log_beside o n bytes events)
 
 -- ---- what was opened
--- The records below the opened end stand as they were.
-abbrev pub KeepsRecords : (o : Opened) (n : Now) (bytes : List ℕ) (events : List Event) (image : List ℕ) → Leaves o n bytes events image → Type 0
-KeepsRecords o n bytes events image leaves = (a : ℕ) → 1 ≤ a → a < o.tail.0 → bytes_at bytes (record_place o.shape a) 24 ≡ bytes_at image (record_place o.shape a) 24
-
 -- If the image names a commit that uses the checkpoint with which the store was opened, its triples are those of then.
 abbrev pub KeepsCheckpoint : (o : Opened) (n : Now) (bytes : List ℕ) (events : List Event) (image : List ℕ) → Leaves o n bytes events image → Type 0
 KeepsCheckpoint o n bytes events image leaves =

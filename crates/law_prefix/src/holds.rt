@@ -6,10 +6,8 @@ use crate::points::law_points_keep;
 use crate::shows::{
     law_images_show_life, law_log_in_order, law_opened_log_stands, law_scans_start_above,
 };
-use crate::uses::{
-    law_images_keep_checkpoint, law_images_keep_records, law_images_use_checkpoints,
-};
-use law_images::law_images_read_back;
+use crate::uses::{law_images_keep_checkpoint, law_images_use_checkpoints};
+use law_images::{law_images_keep_old, law_images_read_back};
 use law_order::{law_cut_opens, law_slots_open};
 use law_paper::{law_kept_paper_is_sound, law_old_paper_is_sound, law_paper_is_sound};
 
@@ -39,6 +37,6 @@ pub fn law_images_hold()
     law_points_keep();
     law_opened_log_stands();
     law_images_keep_checkpoint();
-    law_images_keep_records();
+    law_images_keep_old();
     law_kept_paper_is_sound();
 }

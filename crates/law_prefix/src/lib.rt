@@ -13,6 +13,4 @@ pub use prefix::{law_images_recovered, law_prefix};
 pub use shows::{
     law_images_show_life, law_log_in_order, law_opened_log_stands, law_scans_start_above,
 };
-pub use uses::{
-    law_images_keep_checkpoint, law_images_keep_records, law_images_use_checkpoints,
-};
+pub use uses::{law_images_keep_checkpoint, law_images_use_checkpoints};

@@ -42,9 +42,9 @@ module _ (added : (w : World) (event : Event) → IsHistoryAfter w event (happen
   each_seated (event ∷ before) effect there = elim (added (run opening before) event) [
     | inl same ↦ each_seated before effect (subst (λ (history : List Effect). IsIn effect history) same there)
     | inr new ↦ elim (subst (λ (history : List Effect). IsIn effect history) new.1 there) [
-        | inl first ↦ subst (IsSeated opening) first (made_seated before event new.0 new.2)
-        | inr older ↦ each_seated before effect older
-      ]
+      | inl first ↦ subst (IsSeated opening) first (made_seated before event new.0 new.2)
+      | inr older ↦ each_seated before effect older
+    ]
   ]
 
 -- as the log's effects

@@ -68,7 +68,7 @@ returns c = λ o n bytes events image leaves.
             since = omega (arith, number);
             holds = subst (λ (x : Newest). HoldsCommit (homes_of n) image x log) (sym old.was)
                 (c.law_kept_paper_is_sound.ensures (homes_of n) bytes image o store (open_number (slot_in image 512), open_number (slot_in image 1024)) log kept
-                (shares_log bytes image o store kept (c.law_images_keep_records.ensures o n bytes events image leaves)) (c.law_opened_log_stands.ensures o n bytes events image leaves));
+                (shares_log bytes image o store kept (λ a some low. sym (c.law_images_keep_old.ensures o n bytes events image a store begins leaves.far leaves.left (omega (arith, some)) low))) (c.law_opened_log_stands.ensures o n bytes events image leaves));
             far = far;
           }
     ]

@@ -1,0 +1,4 @@
+pub mod Areas
+pub mod New
+pub mod Numbers
+pub mod Old
