@@ -7,9 +7,8 @@ use Rattle.fkv_world.specs.World.{Event, Now}
 use Rattle.law_images.specs.Read.{ReadsBack}
 use Rattle.law_log.specs.Chains.{Cell, Published}
 use Rattle.law_order.specs.Decided.Cut.{log_beside}
-use Rattle.law_paper.specs.Paper.Images.{IsCut, IsOrderly, ShowsLog}
+use Rattle.law_paper.specs.Paper.Images.{IsOrderly, ShowsLog}
 use Rattle.law_paper.specs.Paper.Old.{GoesOnFrom, HasWhatCounted, LosesTheRest, WasSound}
-use Rattle.law_paper.specs.Paper.Slots.{HasSlots}
 use Rattle.law_paper.specs.Paper.Stands.{CoversChains}
 use Rattle.law_prefix.specs.Leaves.{Leaves, NamesNew, homes_of, log_named, log_then}
 
@@ -21,10 +20,6 @@ HasOrderlyLog o n bytes events image leaves = IsOrderly (homes_of n) (log_beside
 -- The image shows the log from the opened tail on, whatever triples are read from it.
 abbrev pub ShowsItsLog : (o : Opened) (n : Now) (bytes : List ℕ) (events : List Event) (image : List ℕ) → Leaves o n bytes events image → NamesNew o n bytes events image → Type 0
 ShowsItsLog o n bytes events image leaves names = (triples : List Triple) → ShowsLog (homes_of n) o.tail.0 (log_named names triples) (log_beside o n bytes events)
-
--- The commit cuts the log.
-abbrev pub CutsItsLog : (o : Opened) (n : Now) (bytes : List ℕ) (events : List Event) (image : List ℕ) → Leaves o n bytes events image → NamesNew o n bytes events image → Type 0
-CutsItsLog o n bytes events image leaves names = (triples : List Triple) → IsCut (log_named names triples) (log_beside o n bytes events)
 
 -- If its checkpoint is newer than the opening's commit, the scan begins at or above the opened tail.
 abbrev pub StartsAbove : (o : Opened) (n : Now) (bytes : List ℕ) (events : List Event) (image : List ℕ) → Leaves o n bytes events image → NamesNew o n bytes events image → Type 0
@@ -50,10 +45,6 @@ pub record UsesOld (o : Opened) (n : Now) (bytes : List ℕ) (events : List Even
 -- It uses the one or the other.
 abbrev pub UsesItsCheckpoint : (o : Opened) (n : Now) (bytes : List ℕ) (events : List Event) (image : List ℕ) → Leaves o n bytes events image → NamesNew o n bytes events image → Type 0
 UsesItsCheckpoint o n bytes events image leaves names = UsesNew o n bytes events image names ⊎ UsesOld o n bytes events image leaves names
-
--- Each home of the log has a slot of the index.
-abbrev pub HasItsSlots : (o : Opened) (n : Now) (bytes : List ℕ) (events : List Event) (image : List ℕ) → Leaves o n bytes events image → NamesNew o n bytes events image → Type 0
-HasItsSlots o n bytes events image leaves names = (triples : List Triple) → HasSlots (log_named names triples) (log_beside o n bytes events)
 
 -- ---- what was opened
 -- If the image names a commit that uses the checkpoint with which the store was opened, its triples are those of then.
