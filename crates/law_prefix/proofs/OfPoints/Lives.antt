@@ -8,6 +8,7 @@ use Rattle.fkv_base.specs.Limits.{last_serial}
 use Rattle.fkv_epoch.proofs.Shown.{none_some}
 use Rattle.fkv_keeper.specs.LastCommits.{points_written}
 use Rattle.fkv_map.specs.History.{is_kept, is_update, point_of}
+use Rattle.fkv_map.specs.declared.history.HistoryEntry.{HistoryEntry}
 use Rattle.fkv_session.specs.Accounts.{IsAnsweredOnce, names_of, number_of}
 use Rattle.fkv_session.specs.Replies.{AreRepliesOfEffects, is_of}
 use Rattle.fkv_session.specs.SessionRun.{in_hand, session_run}
@@ -167,7 +168,7 @@ module _ (g : Given) (opening : World) (start : ℕ) (events : List Event) (open
             let most = given in
             let one = one_there opening start events quiet session first its became (g.taken opening events session first its became) (λ i above upto. g.once opening events session first its i became above upto)
             (g.replies opening events session first its became) c.number.0 n none (is_above first.serial n e) (omega (arith, low, is)) (omega (arith, low, is, most)) in
-            high_count first.serial n _ (ap (number_of (is_of n)) (sym (g.tells opening events session first its became)) ∙ one) (is_above first.serial n e)
+            high_count first.serial n _ (ap (λ (x : List HistoryEntry). number_of (is_of n) x) (sym (g.tells opening events session first its became)) ∙ one) (is_above first.serial n e)
         by_test false e =
             let quiet = opens.quiet in
             low_count first.serial n _ (none_low opening start events quiet session first its became (g.effects opening start events session first its quiet.guarded quiet.seen.rests became) n (is_upto first.serial n e)) (is_upto first.serial n e)

@@ -51,7 +51,7 @@ returns c = λ o n bytes events image leaves.
           }
       | inr old ↦
           let was : Newest = store.newest in
-          let last : n.keeper.last ≡ _ = begins.its_keeper.newest in
+          let last = begins.its_keeper.newest in
           let number = ap (λ (s : ManifestSlot). s.number) old.slot ∙ sym store.tells.number in
           let opened = ap (λ (x : BegunCommit). x.number.0) old.is ∙ ap (λ (x : Finality). x.number.0) last in
           let kept : HasCheckpoint image (newest_in image store.newest) store.triples = subst (λ (x : Newest). HasCheckpoint image x store.triples) old.was
