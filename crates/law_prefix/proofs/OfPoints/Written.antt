@@ -14,7 +14,7 @@ pub written_there : (sessions session : ℕ) (points : List Serial) → session 
 written_there sessions session points there small =
     let none : Serial = record { 0 = 0 } in
     ap (λ (s : Serial). s.0) (get_or-map-range_with_len (λ (i : ℕ). point_written points i) 0 sessions session session none there (omega arith))
-    ∙ (ap (λ (n : ℕ). min n last_serial) (same_point points session) ∙ min-eq_left (point_of points session) last_serial small)
+    ∙ (ap (λ (n : ℕ). min n last_serial) (same_point points session) ∙ min-eq_left small)
 
 pub written_past : (sessions session : ℕ) (points : List Serial) → sessions ≤ session → point_of (points_written sessions points) session ≡ 0
 written_past sessions session points past =
