@@ -2,7 +2,7 @@
 ghost use Rattle.law_prefix.specs.Points.{FitsSlot, HasRisen, KeepsWhole, OfEachCommit, PointsRise, SplitsByVersion};
 
 use law_commit::{law_points_between, law_points_split, law_points_taken, law_versions_end};
-use law_order::law_points_open;
+use law_order::{law_order, law_points_open};
 use law_world::{
     law_of_the_past, law_world_effects, law_world_replies, law_world_requests, law_world_sessions,
 };
@@ -17,6 +17,7 @@ pub fn law_points_keep()
     ensures fits { OfEachCommit FitsSlot }
     ensures rise { PointsRise }
 {
+    law_order();
     law_points_open();
     law_points_taken();
     law_points_between();

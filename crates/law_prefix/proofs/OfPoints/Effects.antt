@@ -1,5 +1,5 @@
 -- The effects of a life, by session and serial.
-use Rattle.std.proofs.Common.{◌≡◌, inl, inr, ℕ, ◌+◌, ◌∙◌, List, [], ◌∷◌, refl, arith, ap, sym, subst, Bool, true, false, cond, ◌&&◌}
+use Rattle.std.proofs.Common.{◌≡◌, inl, inr, ℕ, ◌+◌, ◌≤◌, ◌∙◌, List, [], ◌∷◌, ◌++◌, refl, arith, ap, sym, subst, Bool, true, false, cond, ◌&&◌}
 use Rattle.std.specs.Prelude.{◌==◌, if◌then◌else◌, Some, slice_get}
 use Rattle.std.specs.List.{count_by}
 use Rattle.std.proofs.lemmas.Bool.Decides.{nat_tests}
@@ -16,7 +16,7 @@ use Rattle.fkv_world.specs.Runs.{World, happens, run}
 use Rattle.fkv_world.specs.World.{Event, seat_at}
 use Rattle.law_commit.proofs.OfVersions.Accepted.{made_own}
 use Rattle.law_log.specs.Trace as log
-use Rattle.law_log.specs.Trace.{IsIn, history_of}
+use Rattle.law_log.specs.Trace.{HasUpdate, IsIn, history_of}
 use Rattle.law_refine.specs.Calls.Calls.{effect_in_log, effects_in_log}
 use Rattle.law_refine.proofs.OfCalls.InHand.{was_opened}
 use Rattle.law_world.specs.Runs.Added.{IsEffectOf, IsHistoryAfter}
@@ -73,5 +73,33 @@ none_so session n (it ∷ before) none = by_test (it.entry.session == session) (
     by_test : (mine named : Bool) → (it.entry.session == session) ≡ mine → (it.entry.serial.0 == n) ≡ named → number_of (is_of n) (effects_of session before) ≡ 0
         → number_of (is_of n) (if mine then it.entry ∷ effects_of session before else effects_of session before) ≡ 0
     by_test true true m e rest = absurd (none it (inl refl) (grind (arith, nat_tests, m)) (grind (arith, nat_tests, e)))
+    by_test true false m e rest = rw e (omega (arith, rest))
+    by_test false named m e rest = rest
+
+-- ---- if each update has taken effect once, at most one is counted
+abbrev pub NoneTwice : List log.Effect → Type 0
+NoneTwice effects = (newer older : List log.Effect) (effect : log.Effect) → effects ≡ newer ++ effect ∷ older → HasUpdate older effect.entry.session effect.entry.serial.0 → ⊥
+
+in_log : (history : List Effect) (it : Effect) → IsIn it history → IsIn (effect_in_log it) (effects_in_log history)
+in_log [] it there = absurd there
+in_log (x ∷ before) it (inl same) = inl (ap effect_in_log same)
+in_log (x ∷ before) it (inr older) = inr (in_log before it older)
+
+pub most_one : (session n : ℕ) (history : List Effect) → NoneTwice (effects_in_log history) → number_of (is_of n) (effects_of session history) ≤ 1
+most_one session n [] once = omega arith
+most_one session n (it ∷ before) once =
+    by_test (it.entry.session == session) (it.entry.serial.0 == n) refl refl
+    (most_one session n before (λ newer older effect same. once (effect_in_log it ∷ newer) older effect (ap (λ (x : List log.Effect). effect_in_log it ∷ x) same)))
+  where
+    none : (it.entry.session == session) ≡ true → (it.entry.serial.0 == n) ≡ true → number_of (is_of n) (effects_of session before) ≡ 0
+    none m e =
+        let mine : it.entry.session ≡ session = grind (arith, nat_tests, m) in
+        let named : it.entry.serial.0 ≡ n = grind (arith, nat_tests, e) in
+        none_so session n before (λ x there own serial.
+        once [] (effects_in_log before) (effect_in_log it) refl (record { effect = effect_in_log x; is_in = in_log before x there; its_session = own ∙ sym mine; its_serial = serial ∙ sym named }))
+
+    by_test : (mine named : Bool) → (it.entry.session == session) ≡ mine → (it.entry.serial.0 == n) ≡ named → number_of (is_of n) (effects_of session before) ≤ 1
+        → number_of (is_of n) (if mine then it.entry ∷ effects_of session before else effects_of session before) ≤ 1
+    by_test true true m e rest = let zero_there = none m e in rw e (omega (arith, zero_there))
     by_test true false m e rest = rw e (omega (arith, rest))
     by_test false named m e rest = rest

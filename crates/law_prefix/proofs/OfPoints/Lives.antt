@@ -32,7 +32,7 @@ use Rattle.law_commit.proofs.Shown.{life_counted}
 use Rattle.law_log.specs.Trace as log
 use Rattle.law_log.specs.Trace.{IsIn, history_of}
 use Rattle.law_paper.specs.Kept.{PointsSplit}
-use Rattle.law_prefix.proofs.OfPoints.Effects.{IsSeated, count_is, each_seated, none_so, of_life}
+use Rattle.law_prefix.proofs.OfPoints.Effects.{IsSeated, NoneTwice, count_is, each_seated, most_one, none_so, of_life}
 use Rattle.law_prefix.proofs.OfPoints.Once.{none_low, one_there}
 use Rattle.law_prefix.proofs.OfPoints.Written.{written_past, written_there}
 use Rattle.law_refine.specs.Calls.Calls.{effect_in_log, effects_of_life}
@@ -144,9 +144,9 @@ module _ (g : Given) (opening : World) (start : ℕ) (events : List Event) (open
             written_there sessions session c.points (omega (arith, within, many)) (is_small session first was)
 
     -- ---- each serial up to a point is kept once
-    seated_count : (session n : ℕ) (first : SessionState) → slice_get opening.now.sessions session ≡ Some first → n ≤ point_of c.points session
+    seated_count : NoneTwice (effects_of_life opening events) → (session n : ℕ) (first : SessionState) → slice_get opening.now.sessions session ≡ Some first → n ≤ point_of c.points session
         → number_of (is_of n) (effects_of session (run opening events).past.history) ≡ cond (nat_lt first.serial n) 1 0
-    seated_count session n first was low = by_test (nat_lt first.serial n) refl
+    seated_count twice session n first was low = by_test (nat_lt first.serial n) refl
       where
         its : SessionState
         its = session_now session first
@@ -167,14 +167,15 @@ module _ (g : Given) (opening : World) (start : ℕ) (events : List Event) (open
             let is = is_point session in
             let most = given in
             let one = one_there opening start events quiet session first its became (g.taken opening events session first its became) (λ i above upto. g.once opening events session first its i became above upto)
-            (g.replies opening events session first its became) c.number.0 n none (is_above first.serial n e) (omega (arith, low, is)) (omega (arith, low, is, most)) in
+            (g.replies opening events session first its became)
+            (λ i. subst (λ (x : List HistoryEntry). number_of (is_of i) x ≤ 1) (sym (g.tells opening events session first its became)) (most_one session i (run opening events).past.history twice)) c.number.0 n none (is_above first.serial n e) (omega (arith, low, is)) (omega (arith, low, is, most)) in
             high_count first.serial n _ (ap (λ (x : List HistoryEntry). number_of (is_of n) x) (sym (g.tells opening events session first its became)) ∙ one) (is_above first.serial n e)
         by_test false e =
             let quiet = opens.quiet in
             low_count first.serial n _ (none_low opening start events quiet session first its became (g.effects opening start events session first its quiet.guarded quiet.seen.rests became) n (is_upto first.serial n e)) (is_upto first.serial n e)
 
-    pub count_so : (session n : ℕ) → n ≤ point_of c.points session → count_by (is_update session n) (history_of (effects_of_life opening events)) ≡ cond (nat_lt (serial_at opening.now session) n) 1 0
-    count_so session n low = count_is session n (run opening events).past.history ∙ by_session (slice_get opening.now.sessions session) refl
+    pub count_so : NoneTwice (effects_of_life opening events) → (session n : ℕ) → n ≤ point_of c.points session → count_by (is_update session n) (history_of (effects_of_life opening events)) ≡ cond (nat_lt (serial_at opening.now session) n) 1 0
+    count_so twice session n low = count_is session n (run opening events).past.history ∙ by_session (slice_get opening.now.sessions session) refl
       where
         by_session : (found : Option SessionState) → slice_get opening.now.sessions session ≡ found → number_of (is_of n) (effects_of session (run opening events).past.history) ≡ cond (nat_lt (serial_at opening.now session) n) 1 0
         by_session None none =
@@ -187,7 +188,7 @@ module _ (g : Given) (opening : World) (start : ℕ) (events : List Event) (open
             none_some seated.0 (sym none ∙ (ap (λ (i : ℕ). slice_get opening.now.sessions i) (sym mine) ∙ seated.1))))
             (omega (arith, low, is))
         by_session (Some first) was =
-            seated_count session n first was low ∙ ap (λ (s : ℕ). cond (nat_lt s n) 1 0) (sym (ap serial_of was))
+            seated_count twice session n first was low ∙ ap (λ (s : ℕ). cond (nat_lt s n) 1 0) (sym (ap serial_of was))
 
   -- ---- and no commit has a lower point than an older one
   pub rises_so : (older newer : BegunCommit) → IsIn older (life_begun opening events) → IsIn newer (life_begun opening events) → older.number.0 ≤ newer.number.0 → (session : ℕ) → point_of older.points session ≤ point_of newer.points session

@@ -23,7 +23,6 @@ use Rattle.law_prefix.proofs.OfPoints.Counted.{one_least}
 use Rattle.law_prefix.proofs.OfPoints.Effects.{none_so}
 use Rattle.law_prefix.proofs.OfPoints.Waiting.{none_waits, taken_above, taken_upto}
 use Rattle.law_refine.specs.Events.Names.{AreNamedSo}
-use Rattle.law_refine.proofs.OfCalls.Once.{one_effect}
 use Rattle.law_refine.proofs.OfEvents.RequestNames.{life_named}
 use Rattle.law_world.proofs.OfSessions.OwnRun.{opened_so}
 
@@ -77,8 +76,9 @@ module _ (opening : World) (start : ℕ) (events : List Event) (opens : OpensQui
   pub one_there : AreAsTaken taken its.requests
       → ((n : ℕ) → first.serial < n → n ≤ its.serial → IsAnsweredOnce (life_told opening events session first) (names_of its.requests) (in_hand its.step its.finished) n)
       → AreRepliesOfEffects (life_effects opening events session first) (life_told opening events session first) (in_hand its.step its.finished) (is_busy its.step)
+      → ((n : ℕ) → number_of (is_of n) (life_effects opening events session first) ≤ 1)
       → (last n : ℕ) → HasNoneUpto last its → first.serial < n → n ≤ point opening events session last → n ≤ its.serial → number_of (is_of n) (life_effects opening events session first) ≡ 1
-  one_there are once replies last n none above low given =
+  one_there are once replies most last n none above low given =
       let fit : IsVersion first.seen.version.0 = first_version opening session first its events became opens.seen.rests in
       let named : AreNamedSo its.requests = (life_named opening start events session its opens.guarded became.is_now).waiting in
       just_one (number_of (is_of n) (life_effects opening events session first))
@@ -86,4 +86,4 @@ module _ (opening : World) (start : ℕ) (events : List Event) (opens : OpensQui
       (none_waits last n first.seen.version.0 (session_run k first own).seen.version.0 taken its.requests
       (λ version was. taken_upto first.serial last its.seen.version.0 n version taken (run_follow k first own opened) falls was (counted last n low))
       named (run_all k first own opened fit rises) are none.waiting))
-      (one_effect k first own n opened)
+      (most n)

@@ -26,7 +26,7 @@ returns-clause-whole c = λ its d is there.
     let newest = is.begins.its_keeper.newest in
     whole_by_count (history_so_far its.world its.bytes its.events) its.opened.points.items d.points
     (λ session serial low.
-    count_so given (beginning its.world its.bytes) its.opened.tail.0 its.events opens d there session serial low
+    count_so given (beginning its.world its.bytes) its.opened.tail.0 its.events opens d there (c.law_order.ensures.ordered its is).once session serial low
     ∙ ap (λ (n : ℕ). cond (nat_lt n serial) 1 0) (sym (opens.points session) ∙ ap (λ (last : Finality). point_of last.points session) newest))
 
 pub returns-clause-risen : goal.returns-clause-risen
