@@ -1,5 +1,5 @@
 -- The points of each commit that has begun in a life, by the laws of points, and by what its sessions have answered.
-use Rattle.std.proofs.Common.{◌≡◌, ◌⊎◌, ℕ, ◌+◌, ◌<◌, ◌≤◌, ◌∙◌, List, length, arith, ap, sym, subst, Bool, true, false, cond}
+use Rattle.std.proofs.Common.{◌≡◌, ◌⊎◌, ℕ, ◌+◌, ◌<◌, ◌≤◌, ◌∙◌, List, length, refl, arith, ap, sym, subst, Bool, true, false, cond}
 use Rattle.std.specs.Prelude.{Option, None, Some, nat_le, nat_lt, slice_get}
 use Rattle.std.specs.List.{count_by}
 use Rattle.std.proofs.lemmas.Bool.Decides.{nat_tests}
@@ -85,7 +85,7 @@ is_upto a b e = grind (arith, nat_tests, e)
 
 -- ---- of one life
 module _ (g : Given) (opening : World) (start : ℕ) (events : List Event) (opens : OpensPointed opening start) where
-  session_now : (session : ℕ) → SessionState → SessionState
+  abbrev session_now : (session : ℕ) → SessionState → SessionState
   session_now session first = session_run (seat_at opening.now session) first (session_events opening session events)
 
   become : (session : ℕ) (first : SessionState) → slice_get opening.now.sessions session ≡ Some first → HasBecome opening events session first (session_now session first)
