@@ -4,8 +4,8 @@ use Rattle.fkv_map.specs.History.{point_of}
 use Rattle.fkv_newest.specs.declared.newest_slots.Newest.{Newest}
 use Rattle.fkv_opening.specs.declared.opened_store.Opened.{Opened}
 use Rattle.fkv_world.specs.World.{Event, Now}
-use Rattle.law_images.specs.Left.{OpensLong}
 use Rattle.law_images.specs.Named.{NamesBegun}
+use Rattle.law_opening.specs.Lives.Reaching.{ReachesFar}
 use Rattle.law_order.specs.Decided.Cut.{log_beside}
 use Rattle.law_paper.specs.Paper.Named.{HoldsCommit}
 use Rattle.law_prefix.specs.Leaves.{Leaves, NamesNew, homes_of}
@@ -23,7 +23,7 @@ pub record HoldsBegun (o : Opened) (n : Now) (bytes : List ℕ) (events : List E
   pub points : (let it = named in let c = it.commit in let is = newest in let s = is.slot in (session : ℕ) → point_of s.points.serials.items session ≡ point_of c.points session)
   pub since : (let is = newest in let s = is.slot in o.number.0 ≤ s.number)
   pub holds : HoldsCommit (homes_of n) image newest (log_beside o n bytes events)
-  pub far : OpensLong image
+  pub far : ReachesFar image
 
 abbrev pub HoldsTheNamed : (o : Opened) (n : Now) (bytes : List ℕ) (events : List Event) (image : List ℕ) → Leaves o n bytes events image → Type 0
 HoldsTheNamed o n bytes events image leaves = HoldsBegun o n bytes events image

@@ -12,10 +12,11 @@ use Rattle.fkv_scan.specs.Log as scan
 use Rattle.fkv_world.specs.World.{Event, Now}
 use Rattle.law_changes.specs.Fits.{CallsFit}
 use Rattle.law_commit.specs.BegunCommits.{BegunCommit, commit_opened}
-use Rattle.law_images.specs.Left.{IsLeft, OpensLong, flushed_so_far}
+use Rattle.law_images.specs.Left.{IsLeft, flushed_so_far}
 use Rattle.law_images.specs.Named.{AreTriplesOf, begun_so_far}
 use Rattle.law_images.specs.Read.{SaysCommit}
 use Rattle.law_log.specs.Trace.{IsIn}
+use Rattle.law_opening.specs.Lives.Reaching.{ReachesFar}
 use Rattle.law_order.specs.Tickets.Few.{HasFewCalls}
 use Rattle.law_refine.specs.Events.GhostEvents.{home_in}
 use Rattle.law_world.specs.Standing.Standing.{triples_in}
@@ -26,7 +27,7 @@ pub record Leaves (o : Opened) (n : Now) (bytes : List ℕ) (events : List Event
   pub begins : IsOpeningWorld o n
   pub fits : CallsFit events
   pub few : HasFewCalls events
-  pub far : OpensLong bytes
+  pub far : ReachesFar bytes
   pub left : IsLeft n bytes events image
 
 -- The newest slot of an image says a commit of this life, which isn't the opening's. The area that it names holds the triples of the commit's checkpoint.

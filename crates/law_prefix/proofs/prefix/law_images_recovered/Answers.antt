@@ -43,13 +43,12 @@ returns c = λ its is reaches image left.
       begins = is.begins;
       fits = is.fits;
       few = is.few;
-      far = record { newest = reaches.newest; its = reaches.its; long = reaches.long };
+      far = reaches;
       left = left;
     } in
     let held : HoldsBegun o n bytes events image = c.law_images_hold.ensures o n bytes events image leaves in
     let named = held.named in
     let it : BegunCommit = named.commit in
-    let far = held.far in
     record {
       commit = it;
       current = record {
@@ -82,5 +81,5 @@ returns c = λ its is reaches image left.
             whole = whole_same (history_so_far n bytes events) o.points.items r.points.items it.points same (c.law_points_keep.ensures.whole its it is named.begun);
             risen = risen_same o.points.items r.points.items it.points same (c.law_points_keep.ensures.risen its it is named.begun);
           };
-      reaches = record { newest = far.newest; its = far.its; long = far.long };
+      reaches = held.far;
     }

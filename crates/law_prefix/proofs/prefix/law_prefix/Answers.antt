@@ -14,5 +14,5 @@ returns c = record {
   in_turn = c.law_commits_in_turn.ensures;
   fair = c.law_points_are_fair.ensures;
   durable = c.law_durable_is_sealed.ensures;
-  lives = c.law_lives.ensures c.law_images_recovered.ensures;
+  lives = c.law_lives.ensures.follow c.law_images_recovered.ensures;
 }
