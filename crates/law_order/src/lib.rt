@@ -36,7 +36,7 @@ pub use in_turn::{
 pub use known::law_sessions_begin;
 pub use looks::law_looks_true;
 pub use new_lives::law_life_exists;
-pub use one_history::law_order;
+pub use one_history::{law_lives_keep_order, law_order};
 pub use opened::{
     law_copies_open, law_links_open, law_marks_open, law_serials_open, law_stages_open,
 };
@@ -50,7 +50,7 @@ pub use rest::{law_life_rests, law_log_rests, law_rest_said};
 pub use rows::{law_requests_asked, law_rows_go_on, law_waits_stay};
 pub use rules::{law_cuts_open, law_life_begins, law_order_of_rules};
 pub use served::law_world_served;
-pub use shares::law_shares_open;
+pub use shares::{law_shares_open, law_updates_share};
 pub use tickets::law_tickets_apart;
 pub use told::law_world_told;
 pub use truth::law_world_truth;

@@ -1,5 +1,6 @@
 //! The order law of the engine, in every life.
 ghost use Rattle.law_order.specs.OneHistory.EachLife as lives;
+ghost use Rattle.law_order.specs.Ordered.Keeps.{KeepsItsOrder};
 ghost use Rattle.law_order.specs.Rules.InTime.{ReadsInTime};
 ghost use Rattle.law_order.specs.Rules.Ordered as laws;
 
@@ -14,6 +15,26 @@ use law_commit::{
 use law_opening::law_latches_open;
 use law_paper::law_phases_are_seen;
 use law_parts::law_latched_in_tries;
+
+/// Each life keeps order, with no further premise: it begins so, and what the induction is given of phases, latches and versions holds of each life. So each
+/// event of the log beside it is enabled, and what a session is about to change in place is published. And no attempt ends as a shift and isn't made again.
+pub fn law_lives_keep_order()
+    ensures { lives.InEachLife KeepsItsOrder }
+{
+    law_life_begins();
+    law_opening_fits();
+    law_world_ordered();
+    law_ends_open();
+    law_versions_open();
+    law_latches_open();
+    law_phases_are_seen();
+    law_floor_stands();
+    law_versions_end();
+    law_shares_not_missed();
+    law_versions_counted();
+    law_latched_in_tries();
+    law_views_see_tails();
+}
 
 /// In each life what has taken effect so far is one history, legal from the store's map on, with the replies given. Sessions turn pages, sleep,
 /// wake, stall in the middle of calls, meet the disk and fill overflow buckets. Calls of the device fail, any actor moves at any step, and a crash comes
@@ -30,18 +51,6 @@ pub fn law_order()
     ensures guarded { lives.InEachLife laws.IsGuarded }
     ensures once { lives.InEachLife laws.RunsActionsOnce }
 {
-    law_life_begins();
     law_order_of_rules();
-    law_opening_fits();
-    law_world_ordered();
-    law_ends_open();
-    law_versions_open();
-    law_latches_open();
-    law_phases_are_seen();
-    law_floor_stands();
-    law_versions_end();
-    law_shares_not_missed();
-    law_versions_counted();
-    law_latched_in_tries();
-    law_views_see_tails();
+    law_lives_keep_order();
 }

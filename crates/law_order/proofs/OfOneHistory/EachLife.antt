@@ -1,4 +1,4 @@
--- What holds where a life keeps to its rules holds in each life of an opened store, as each of them does.
+-- Each life of an opened store keeps order. So what holds where a life keeps to its rules holds in each of them.
 use Rattle.std.specs.Prelude.{ℕ, List}
 use Rattle.fkv_core.specs.Openings.{IsOpeningWorld, beginning}
 use Rattle.fkv_filling.specs.OpeningIndex.{opening_lists}
@@ -10,7 +10,7 @@ use Rattle.law_order.specs.Rules.Ordered.{OfEachKept, opening_version}
 use Rattle.fkv_world.specs.World.{Event, Now}
 use Rattle.law_order.specs.Known.Begins.{BeginsLife, BegunLife}
 use Rattle.law_order.specs.Known.Told.{TicketsAreApart}
-use Rattle.law_order.specs.Ordered.Keeps.{KeepsOrder}
+use Rattle.law_order.specs.Ordered.Keeps.{KeepsItsOrder, KeepsOrder}
 use Rattle.law_order.specs.Apart.Given.{Given}
 use Rattle.law_order.specs.Apart.Lives.{OpensApart}
 use Rattle.law_order.specs.Rules.Openings.{OpensItsEnds, OpensItsVersions}
@@ -39,8 +39,8 @@ pub record OpensSo : Type 0 where
   pub versions : OpensItsVersions
   pub latches : (o : Opened) (n : Now) → IsOpeningWorld o n → latches.IsOpened n
 
-pub of_each_life : (P : Opened → Now → List ℕ → List Event → Type 0) → LivesBegin → OpensSo → Given → OpeningsFit → LivesKeepOrder → OfEachKept P → InEachLife P
-of_each_life P lives opens given fit keep kept = λ its is.
+pub keeps_its_order : LivesBegin → OpensSo → Given → OpeningsFit → LivesKeepOrder → InEachLife KeepsItsOrder
+keeps_its_order lives opens given fit keep = λ its is.
     let n : Now = its.world in
     let bytes : List ℕ = its.bytes in
     let o : Opened = its.opened in
@@ -55,6 +55,9 @@ of_each_life P lives opens given fit keep kept = λ its is.
       begins = lives bytes o n is.store is.begins;
     } in
     let apart : OpensApart life = record { quiet = opens.ends bytes o n is.store is.begins; latches = opens.latches o n is.begins; upto = (opens.versions bytes o n is.store is.begins).upto } in
-    let keeps : KeepsOrder (beginning n bytes) (opening_ghosts bytes o) its.events =
-    keep life its.events given apart (fit bytes o is.store) is.fits (tickets_apart (beginning n bytes) its.events life.begins.world is.few) in
-    kept bytes o n its.events is.store is.begins keeps.enabled keeps.published
+    keep life its.events given apart (fit bytes o is.store) is.fits (tickets_apart (beginning n bytes) its.events life.begins.world is.few)
+
+pub of_each_life : (P : Opened → Now → List ℕ → List Event → Type 0) → InEachLife KeepsItsOrder → OfEachKept P → InEachLife P
+of_each_life P keep kept = λ its is.
+    let keeps : KeepsItsOrder its.opened its.world its.bytes its.events = keep its is in
+    kept its.bytes its.opened its.world its.events is.store is.begins keeps.enabled keeps.published
