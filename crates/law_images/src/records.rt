@@ -9,8 +9,8 @@ use law_refine::{law_device_shows_log, law_stands_show_log};
 /// In each image that a crash may leave of a life, commits and crashes anywhere, the records below the flushed offset stand as the log beside the life has
 /// them. A published one is valid, with its key, its value, its version and what it leads to. One that was given up has the invalid bit, leads below itself
 /// and has its version, so recovery passes over it. What the store was opened with stands as it was. The calls of the
-/// life are of numbers below 2^64, as all that a program can make are. So the log's numbers fit in words. It holds if the opened bytes end behind all that their
-/// newest slot names.
+/// life are of numbers below 2^64, as all that a program can make are. So the log's numbers fit in words. It holds if the opened bytes
+/// reach far.
 pub fn law_images_show_log()
     ensures { ImagesShowTheLog }
 {
