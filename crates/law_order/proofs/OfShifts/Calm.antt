@@ -1,5 +1,5 @@
 -- A session that is idle, or makes a turn of its own, stays so by its step.
-use Rattle.std.proofs.Common.{◌≡◌, ℕ, refl, ap, Bool, true, false}
+use Rattle.std.proofs.Common.{◌≡◌, ℕ, refl, ap, true}
 use Rattle.std.specs.Prelude.{Option, Some, None}
 use Rattle.fkv_plane.specs.declared.actions.Action.{Action}
 use Rattle.fkv_plane.specs.declared.asks.Ask.{Ask}
@@ -10,7 +10,7 @@ use Rattle.fkv_session.specs.declared.answers.Told.{Told}
 use Rattle.fkv_session.specs.declared.sessions.Sitting.{Sitting}
 use Rattle.fkv_session.specs.declared.sessions.Sitting.TheVariants.{Idle, Turns}
 use Rattle.fkv_session.specs.OwnTurns.{own_turn_ask, own_turn_given}
-use Rattle.fkv_session.specs.Sessions.{Seat, SessionState, asks_after, is_word_ask, own_turn_moved, session_ask, session_given, session_next, sitting_given, sitting_next, turn_ledto}
+use Rattle.fkv_session.specs.Sessions.{Seat, SessionState, asks_after, is_word_ask, own_turn_moved, session_ask, session_next, sitting_given, sitting_next, turn_ledto}
 use Rattle.fkv_world.specs.Moves.{Near, session_asks, session_gets, session_moved, session_replied, session_settled}
 use Rattle.law_changes.proofs.OfSessions.Calm.{is_calm}
 

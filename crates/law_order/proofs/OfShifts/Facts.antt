@@ -1,6 +1,6 @@
 -- Where a try in prepare would shift, the phase word has come further. So a second attempt isn't in prepare, and one of a poll has come with its share.
 use Rattle.std.proofs.Common.{◌≡◌, ℕ, ◌+◌, ◌*◌, ◌^◌, ◌<◌, ◌≤◌, ◌∙◌, refl, sym, ap, subst, arith, List, Bool, true, false, inl, inr}
-use Rattle.std.specs.Prelude.{⊤, ◌&&◌, Option, Some, None, nat_lt, not, slice_get}
+use Rattle.std.specs.Prelude.{◌&&◌, Option, Some, None, not, slice_get}
 use Rattle.std.proofs.lemmas.Bool.Decides.{nat_tests}
 use Rattle.fkv_base.specs.declared.numbers.Version.{Version}
 use Rattle.fkv_base.specs.declared.phases.Phase.{Phase}
@@ -16,7 +16,6 @@ use Rattle.fkv_latch.specs.declared.latching.Latching.TheVariants.{AddsShare}
 use Rattle.fkv_latch.specs.Latching.{is_exclusive, latch_ask, one_share}
 use Rattle.fkv_latch.specs.LatchWorld.{has_latch}
 use Rattle.fkv_map.specs.Keys.{key_of}
-use Rattle.fkv_ops.specs.declared.requests.Occasion.{Occasion}
 use Rattle.fkv_ops.specs.declared.requests.Occasion.TheVariants.{Call as AtCall, Poll as AtPoll}
 use Rattle.fkv_ops.specs.declared.requests.Request.{Request}
 use Rattle.fkv_ops.specs.declared.requests.Seen.{Seen}
@@ -41,21 +40,21 @@ use Rattle.fkv_session.specs.declared.sessions.CatchCause.TheVariants.{Shifts}
 use Rattle.fkv_session.specs.declared.sessions.Sitting.{Sitting}
 use Rattle.fkv_session.specs.declared.sessions.Sitting.TheVariants.{Attempts, CatchesUp, Polls}
 use Rattle.fkv_session.specs.CatchingUp.{catching_ask}
-use Rattle.fkv_session.specs.Sessions.{Seat, SessionState, bits_of, session_ask, sitting_ask}
+use Rattle.fkv_session.specs.Sessions.{Seat, SessionState, session_ask, sitting_ask}
 use Rattle.fkv_words.specs.declared.phase_words.PhaseSaid.{PhaseSaid}
 use Rattle.fkv_words.specs.declared.phase_words.PhaseSaid.TheVariants.{Says, Spoiled}
 use Rattle.fkv_words.specs.PhaseWords.{phase_said}
 use Rattle.fkv_world.specs.Opened.{HasBecome}
 use Rattle.fkv_world.specs.Runs.{run}
 use Rattle.fkv_world.specs.World.{Event, Now, seat_at}
-use Rattle.fkv_world.proofs.Shown.{places_stay, same_seat, shape_stays}
+use Rattle.fkv_world.proofs.Shown.{places_stay, shape_stays}
 use Rattle.law_apart.specs.Apart.Rows.{HasComeTo, HasMet, HasMetFirst, LatchRow, MetIn, SharesRow, TryApart, WalkApart}
 use Rattle.law_apart.proofs.OfApart.Tries.{came_stays}
 use Rattle.law_apart.proofs.OfApart.Walks.{walk_apart, walk_met}
 use Rattle.law_changes.proofs.OfSessions.Attempting.{life_attempts}
 use Rattle.law_commit.specs.Phases.Projected.{SitsAwake}
 use Rattle.law_commit.specs.PhaseVersions.{phase_version, version_said}
-use Rattle.law_commit.specs.Floor.Stands.{FloorStands, stage_number}
+use Rattle.law_commit.specs.Floor.Stands.{FloorStands}
 use Rattle.law_commit.specs.Quiet.{rank_now, rank_said}
 use Rattle.law_commit.specs.Ranks.{rank}
 use Rattle.law_commit.specs.Shares.Tries.{SharesSo, SharesTrying}

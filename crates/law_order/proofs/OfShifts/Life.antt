@@ -1,5 +1,5 @@
 -- So no attempt of a life ends as a shift and isn't made again.
-use Rattle.std.proofs.Common.{◌≡◌, ◌≢◌, ◌⊎◌, inl, inr, ℕ, zero, suc, ◌<◌, ◌≤◌, ◌∙◌, refl, sym, ap, subst, arith, eqb-true, List, [], ◌∷◌, ◌++◌, Bool, true, false}
+use Rattle.std.proofs.Common.{◌≡◌, inl, inr, ℕ, zero, suc, ◌≤◌, ◌∙◌, refl, sym, ap, subst, arith, List, [], ◌∷◌, ◌++◌, Bool, true, false}
 use Rattle.std.specs.Prelude.{⊤, ◌||◌, Option, Some, None, if◌then◌else◌, slice_get}
 use Rattle.fkv_ops.specs.declared.answers.TryAnswer.{TryAnswer}
 use Rattle.fkv_ops.specs.declared.answers.TryAnswer.TheVariants as tried
@@ -7,7 +7,7 @@ use Rattle.fkv_ops.specs.declared.requests.Seen.{Seen}
 use Rattle.fkv_ops.specs.declared.trying.Trying.{Trying}
 use Rattle.fkv_ops.specs.declared.trying.Trying.TheVariants as trying
 use Rattle.fkv_ops.specs.Requests.{is_read}
-use Rattle.fkv_ops.specs.Trying.{TryState, is_prepare}
+use Rattle.fkv_ops.specs.Trying.{TryState}
 use Rattle.fkv_pending.specs.declared.attempting.Attempting.{Attempting}
 use Rattle.fkv_pending.specs.declared.attempting.Attempting.TheVariants as attempting
 use Rattle.fkv_pending.specs.declared.pending_requests.PendingRequest.{PendingRequest}
@@ -25,7 +25,7 @@ use Rattle.fkv_session.specs.declared.sessions.CatchCause.TheVariants.{Refreshes
 use Rattle.fkv_session.specs.declared.sessions.Sitting.{Sitting}
 use Rattle.fkv_session.specs.declared.sessions.Sitting.TheVariants.{Attempts, CatchesUp, ClearsMail, Idle, Leaves, LoadsDurable, Polls, StoresCut, StoresOwing, Turns}
 use Rattle.fkv_session.specs.CatchingUp.{CatchState}
-use Rattle.fkv_session.specs.SessionRun.{Begins, Gets, Replies, SessionEvent, session_happens, session_run}
+use Rattle.fkv_session.specs.SessionRun.{Replies, SessionEvent, session_happens, session_run}
 use Rattle.fkv_session.specs.Sessions.{Seat, SessionState, is_busy, session_ask, session_next}
 use Rattle.fkv_session.specs.Shares.{AllUpdatesShare}
 use Rattle.fkv_world.specs.Actors.{is_of_session}
@@ -36,7 +36,6 @@ use Rattle.fkv_world.specs.Runs.{World, run}
 use Rattle.fkv_world.specs.World as world
 use Rattle.fkv_world.specs.World.{Calls, Commits, Crashes, Event, KeeperMoves, Moves, Now, near, seat_at}
 use Rattle.fkv_world.proofs.Shown.{same_seat, session_runs, session_runs_on}
-use Rattle.fkv_epoch.proofs.Shown.{some_same}
 use Rattle.law_changes.proofs.OfSessions.Calm.{is_calm, not_calm}
 use Rattle.law_changes.proofs.OfSessions.Comes.{SessionComes, Stays, Steps, session_comes}
 use Rattle.law_changes.proofs.OfSessions.Comes as comes
@@ -55,7 +54,7 @@ use Rattle.law_order.proofs.OfShifts.Attempts.{AttemptRow}
 use Rattle.law_order.proofs.OfShifts.Catches.{CatchRow, HasPassed}
 use Rattle.law_order.proofs.OfShifts.Calm.{stays_calm}
 use Rattle.law_order.proofs.OfShifts.Facts.{replies_so}
-use Rattle.law_order.proofs.OfShifts.Sessions.{Come, LeadsRow, RepliesSo, Shifting, SitsRow, begun_leads, next_leads, none_shifts, settled}
+use Rattle.law_order.proofs.OfShifts.Sessions.{Come, LeadsRow, RepliesSo, SitsRow, begun_leads, next_leads, none_shifts, settled}
 use Rattle.law_order.proofs.OfShifts.Slots.{attempt_puts_none, is_put}
 use Rattle.law_order.proofs.OfShifts.Tries.{IsShift, ShiftRow}
 use Rattle.law_refine.specs.Events.GhostEvents.{life_ghosts, mapped}

@@ -1,13 +1,11 @@
 -- What a session's control state tells of shifts, and where each reply and each call lead it.
-use Rattle.std.proofs.Common.{◌≡◌, ◌⊎◌, inl, inr, ℕ, ◌+◌, ◌∙◌, refl, sym, ap, subst, List, [], ◌∷◌, ◌++◌, length, Bool, true, false}
+use Rattle.std.proofs.Common.{◌≡◌, ◌⊎◌, inl, inr, ℕ, ◌+◌, ◌∙◌, refl, sym, ap, subst, [], length, Bool, true, false}
 use Rattle.std.specs.Prelude.{⊤, ◌||◌, ◌==◌, Option, Some, None, if◌then◌else◌, not, slice_get, slice_set}
-use Rattle.std.specs.List.{remove}
 use Rattle.fkv_base.specs.declared.faults.Fault.{Fault}
 use Rattle.fkv_base.specs.declared.faults.Fault.TheVariants as fault
 use Rattle.fkv_map.specs.declared.operations.Call.{Call}
 use Rattle.fkv_map.specs.declared.operations.Call.TheVariants as call
 use Rattle.fkv_map.specs.declared.operations.Op.{Op}
-use Rattle.fkv_ops.specs.declared.answers.DiskRecord.{DiskRecord}
 use Rattle.fkv_ops.specs.declared.answers.Reason.{Reason}
 use Rattle.fkv_ops.specs.declared.answers.Reason.TheVariants as reason
 use Rattle.fkv_ops.specs.declared.answers.TryAnswer.{TryAnswer}
@@ -17,8 +15,7 @@ use Rattle.fkv_ops.specs.declared.requests.Occasion.TheVariants.{Call as AtCall,
 use Rattle.fkv_ops.specs.declared.requests.Seen.{Seen}
 use Rattle.fkv_ops.specs.Requests.{is_read}
 use Rattle.fkv_ops.specs.Trying.{is_prepare}
-use Rattle.fkv_pending.specs.declared.attempting.Attempting.{Attempting}
-use Rattle.fkv_pending.specs.declared.attempting.Attempting.TheVariants.{Ended, Tries}
+use Rattle.fkv_pending.specs.declared.attempting.Attempting.TheVariants.{Tries}
 use Rattle.fkv_pending.specs.declared.mailing.MailAnswer.{MailAnswer}
 use Rattle.fkv_pending.specs.declared.mailing.MailAnswer.TheVariants.{Cleared}
 use Rattle.fkv_pending.specs.declared.mailing.MailTask.TheVariants.{Clear}
@@ -39,8 +36,8 @@ use Rattle.fkv_session.specs.declared.sessions.Sitting.{Sitting}
 use Rattle.fkv_session.specs.declared.sessions.Sitting.TheVariants.{Attempts, CatchesUp, ClearsMail, Idle, Leaves, LoadsDurable, Polls, StoresCut, StoresOwing, Turns}
 use Rattle.fkv_session.specs.CatchingUp.{catch_ask, refresh_begun, wake_begun}
 use Rattle.fkv_session.specs.OwnTurns.{own_turn_begun}
-use Rattle.fkv_session.specs.Sessions.{Seat, SessionState, accepts, answers, answers_after_turn, asks_after, attempt_left, attempt_ledto, attempt_moved, attempted, attempts, bits_of, call_begun, catch_ledto, caught, caught_up, clear_ledto, finishes_request, is_finished, is_no_room, is_owed, is_word_ask, keeps_request, lacks_room, leave_ledto, op_begun, own_turn_moved, poll_begun, poll_call, poll_ledto, polls_at, polls_request, refresh_call, refusal_of, refuses, request_finished, request_in_hand, room_of, serial_taken, session_ask, session_begun, session_next, shifts, sitting_next, sleep_call, ticket_after, turn_ledto, update_done, wake_call, with_request}
-use Rattle.fkv_session.specs.Shares.{attempt_told, is_shift}
+use Rattle.fkv_session.specs.Sessions.{Seat, SessionState, accepts, answers, answers_after_turn, asks_after, attempt_left, attempt_ledto, attempt_moved, attempted, attempts, bits_of, call_begun, catch_ledto, caught, clear_ledto, finishes_request, is_finished, is_no_room, is_owed, is_word_ask, keeps_request, lacks_room, leave_ledto, op_begun, own_turn_moved, poll_begun, poll_call, poll_ledto, polls_at, polls_request, refresh_call, refusal_of, refuses, request_finished, request_in_hand, room_of, serial_taken, session_ask, session_begun, session_next, shifts, sitting_next, sleep_call, ticket_after, turn_ledto, update_done, wake_call, with_request}
+use Rattle.fkv_session.specs.Shares.{is_shift}
 use Rattle.fkv_session.proofs.Shown.{attempt_ends}
 use Rattle.fkv_words.specs.PhaseWords.{phase_said}
 use Rattle.law_commit.specs.Shares.Waiting.{is_shifted, shifts_at}

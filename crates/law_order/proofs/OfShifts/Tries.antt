@@ -31,7 +31,7 @@ use Rattle.fkv_ops.specs.declared.walking.WalkAnswer.{WalkAnswer}
 use Rattle.fkv_ops.specs.declared.walking.WalkAnswer.TheVariants as walk
 use Rattle.fkv_ops.specs.Appending.{append_ask, append_next}
 use Rattle.fkv_ops.specs.Requests.{is_blind, is_read}
-use Rattle.fkv_ops.specs.Trying.{TryState, answer_ledto, append_ledto, appends, awaits, changes, copies, copies_from, current_ledto, ended_without, ends, exclusive_dropped, exclusive_ledto, full_at, has_walked, held_used, is_own_version, is_wait, met_disk, met_nowhere, met_record, must_shift, new_try, old_ledto, region_met, safe_loaded, shared_dropped, shared_ledto, takes_effect, told_value, try_begun, try_next, trying_next, value_changed, walk_ledto, walked, walks, wants_exclusive, wants_shared, with_latch}
+use Rattle.fkv_ops.specs.Trying.{TryState, answer_ledto, append_ledto, appends, awaits, changes, copies, copies_from, current_ledto, ended_without, ends, exclusive_dropped, exclusive_ledto, full_at, has_walked, held_used, is_own_version, is_wait, met_disk, met_nowhere, met_record, must_shift, new_try, old_ledto, region_met, shared_dropped, shared_ledto, takes_effect, told_value, try_begun, try_next, trying_next, walk_ledto, walked, walks, wants_exclusive, wants_shared, with_latch}
 use Rattle.fkv_ops.specs.Values.{value_of}
 use Rattle.fkv_ops.specs.Walking.{walk_ask, walk_next, walk_on}
 use Rattle.fkv_plane.specs.declared.asks.Ask.{Ask}

@@ -184,7 +184,8 @@ abbrev pub LivesReachFar : Type 0
 LivesReachFar = (its : Life) (before : List Life) → AreLives (its ∷ before) → ReachesFar its.bytes
 
 -- ---- The law of prefixes, by its twelve clauses
--- `law_order` shows the first six. `law_finished_is_told` shows `told`, and `law_lives` the last, by `recovered`.
+-- All are of lives with commits, crashes and failing calls of the device. `law_order` shows the first six. `law_finished_is_told` shows `told`,
+-- `law_commits_in_turn` `in_turn`, `law_points_are_fair` `fair`, and `law_durable_is_sealed` `durable`. `law_lives` shows the last, by `recovered`.
 pub record PrefixLaw : Type 0 where
   -- the updates of a life take effect in one order, legal with the replies that were given, and reads are answered from it
   pub legal : InEachLife HasLegalHistory
