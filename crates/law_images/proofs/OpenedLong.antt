@@ -17,7 +17,7 @@ use Rattle.fkv_record.specs.declared.formats.Format.{Format}
 use Rattle.fkv_record.specs.declared.manifest_slots.ManifestSlot.{ManifestSlot}
 use Rattle.fkv_record.proofs.Shown.{manifest_apart}
 use Rattle.fkv_words.specs.Fields.{SpellsApart}
-use Rattle.law_images.specs.Left.{OpensLong}
+use Rattle.law_opening.specs.Lives.Reaching.{ReachesFar}
 
 pub same_slot : (bytes : List ℕ) (one other : Newest) → IsNewestOf bytes one → IsNewestOf bytes other → one.slot ≡ other.slot
 same_slot bytes one other first second =
@@ -32,7 +32,7 @@ pub same_shape : SpellsApart shape_bytes → (bytes : List ℕ) (one other : New
 same_shape apart bytes one other first second = apart one.shape other.shape (first.block ∙ sym second.block)
 
 -- so they are long for any newest slot that they have
-pub long_for : SpellsApart shape_bytes → (bytes : List ℕ) (n : Newest) → OpensLong bytes → IsNewestOf bytes n → IsLong bytes n.shape n.slot
+pub long_for : SpellsApart shape_bytes → (bytes : List ℕ) (n : Newest) → ReachesFar bytes → IsNewestOf bytes n → IsLong bytes n.shape n.slot
 long_for apart bytes n long its =
     let there = long.newest in
     subst (λ (s : Shape). IsLong bytes s n.slot) (same_shape apart bytes there n long.its its) (subst (λ (s : ManifestSlot). IsLong bytes there.shape s) (same_slot bytes there n long.its its) long.long)
@@ -41,7 +41,7 @@ long_for apart bytes n long its =
 below_end : (base tail a size : ℕ) → (1 < tail → base + 24 * (tail - 1) + 24 ≤ size) → 0 < a → a < tail → base + 24 * a + 24 ≤ size
 below_end base tail a size long some low = let most = long (omega (arith, some, low)) in omega (arith, most, some, low)
 
-pub holds_below : SpellsApart shape_bytes → (bytes : List ℕ) (o : Opened) → IsStoreOf bytes o → OpensLong bytes → (a : ℕ) → 0 < a → a < o.tail.0 → record_place o.shape a + 24 ≤ length bytes
+pub holds_below : SpellsApart shape_bytes → (bytes : List ℕ) (o : Opened) → IsStoreOf bytes o → ReachesFar bytes → (a : ℕ) → 0 < a → a < o.tail.0 → record_place o.shape a + 24 ≤ length bytes
 holds_below apart bytes o store long a some low =
     let n = store.newest in
     let its : IsLong bytes n.shape n.slot = long_for apart bytes n long store.checkpoint.newest in

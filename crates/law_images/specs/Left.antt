@@ -1,11 +1,8 @@
--- The images that a crash may leave of a life, and what is supposed of the opened bytes.
+-- The images that a crash may leave of a life.
 use Rattle.std.specs.Prelude.{ℕ, List}
 use Rattle.fkv_core.specs.Openings.{beginning}
-use Rattle.fkv_creating.specs.Long.{IsLong}
 use Rattle.fkv_disk.specs.Calls.{MayLeave}
 use Rattle.fkv_flush.specs.GuardLevels.{levels_of}
-use Rattle.fkv_newest.specs.Newest.{IsNewestOf}
-use Rattle.fkv_newest.specs.declared.newest_slots.Newest.{Newest}
 use Rattle.fkv_world.specs.Runs.{run}
 use Rattle.fkv_world.specs.World.{Event, Now}
 
@@ -16,9 +13,3 @@ IsLeft n bytes events image = MayLeave bytes (run (beginning n bytes) events).pa
 -- the records below this address are flushed
 abbrev pub flushed_so_far : Now → List ℕ → List Event → ℕ
 flushed_so_far n bytes events = (levels_of (run (beginning n bytes) events).now.words).flushed
-
--- The opened bytes end at or above the end of all that their newest slot names.
-pub record OpensLong (bytes : List ℕ) : Type 0 where
-  pub newest : Newest
-  pub its : IsNewestOf bytes newest
-  pub long : IsLong bytes newest.shape newest.slot

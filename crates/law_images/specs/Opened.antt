@@ -18,8 +18,8 @@ use Rattle.fkv_record.specs.declared.formats.Format.TheVariants.{Third}
 use Rattle.fkv_record.specs.declared.manifest_slots.ManifestSlot.{ManifestSlot}
 use Rattle.fkv_record.specs.Manifest.{newest_bytes, said_in}
 use Rattle.fkv_record.specs.Places.{open_number}
-use Rattle.law_images.specs.Left.{OpensLong}
 use Rattle.law_paper.specs.Paper.Opened.{with_numbers}
+use Rattle.law_opening.specs.Lives.Reaching.{ReachesFar}
 
 abbrev pub is_at_finish : Keeping → Bool
 is_at_finish Finishes = true
@@ -39,7 +39,7 @@ newest_in image n = with_numbers n (open_number (slot_in image 512), open_number
 pub record KeepsCommit (bytes : List ℕ) (o : Opened) (store : IsStoreOf bytes o) (image : List ℕ) : Type 0 where
   pub checkpoint : HasCheckpoint image (newest_in image store.newest) store.triples
   pub log : ShareLog store.newest bytes image
-  pub long : OpensLong image
+  pub long : ReachesFar image
 
 -- ---- a commit of the life
 -- the newest slot of an image that stands at this index, and says this in the newest format

@@ -1,6 +1,6 @@
 //! What a crash's image holds of a run: the records that were flushed, how far it reaches, its shape, the opened commit until
-//! another is finished, which commit it names, and what that commit says. The opened bytes are supposed to end behind all that their
-//! newest slot names (`OpensLong`). Then each image does so too.
+//! another is finished, which commit it names, and what that commit says. The opened bytes are supposed to reach far: they end
+//! behind all that their newest slot names (`ReachesFar`). Then each image does so too.
 #![tactic(auto)]
 
 mod copied;

@@ -6,7 +6,7 @@ use law_opening::law_lost_is_the_rest;
 
 /// The lost ranges in a commit's slot lose none of the records of the life that has begun it. If the commit uses the checkpoint with which the store was opened,
 /// they lose just what the opening left out: of the valid records that its scan met, those that the log doesn't have. Else its checkpoint is newer than the
-/// opening's commit, and the slot names no range. It holds if the opened bytes end behind all that their newest slot names.
+/// opening's commit, and the slot names no range. It holds if the opened bytes reach far.
 pub fn law_commits_lose_the_rest()
     ensures { CommitsLoseTheRest }
 {

@@ -10,7 +10,7 @@ use law_world::law_world_one_commit_stands;
 /// opens its gate was called. Once the sync behind that has succeeded it is that one's alone. So no image is of a commit older than one whose points may have
 /// been told. Its bytes are those that this life has written for it: its number, end, points, checkpoint and lost ranges. The opening's commit
 /// has its opened bytes. The triples of the commit's checkpoint stand as a full commit of this life wrote them, or as they were opened. They fit into their
-/// area, and lie below the end of the image. It holds if the opened bytes end behind all that their newest slot names.
+/// area, and lie below the end of the image. It holds if the opened bytes reach far.
 pub fn law_images_name_a_begun()
     ensures { ImagesNameABegun }
 {

@@ -9,7 +9,7 @@ use law_refine::law_device_shows_log;
 use law_world::law_world_one_commit_stands;
 
 /// In each life the keeper writes nothing below the slots. So each image that a crash may leave begins with the block of the store's shape, if the opened bytes
-/// end behind all that their newest slot names.
+/// reach far.
 pub fn law_images_keep_their_shape()
     ensures { ImagesKeepTheirShape }
 {
@@ -27,7 +27,7 @@ pub fn law_images_name_their_commit()
 
 /// Until the first commit of a life comes to its finish, each image that a crash may leave has the commit with which the store was opened in force, as it
 /// was: its slot is the newest one, it has the triples of its checkpoint and its records, and it ends behind all of these. So `law_kept_paper_is_sound` speaks
-/// of it. Or it has the new commit in force, whole. It holds if the opened bytes end behind all that their newest slot names.
+/// of it. Or it has the new commit in force, whole. It holds if the opened bytes reach far.
 pub fn law_images_keep_opened()
     ensures { ImagesKeepTheOpened }
 {

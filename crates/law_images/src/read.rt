@@ -10,7 +10,7 @@ use law_opening::{law_guard_opens, law_long_opens, law_told_opens};
 
 /// So the newest slot of each image that a crash may leave of a life is read back, in the store's shape. It says the number, end, points, checkpoint and lost
 /// ranges of the commit for which this life has written it, or it is as it was opened. The image ends behind the slots, the triples of the checkpoint, and the
-/// commit's last record, if the opened bytes end behind what theirs names. So the next life too begins with an image that reaches far.
+/// commit's last record, if the opened bytes reach far. So the next life too begins with an image that reaches far.
 pub fn law_images_read_back()
     ensures slot { ImagesReadBack }
     ensures far { ImagesReachFar }

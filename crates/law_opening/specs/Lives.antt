@@ -1,4 +1,5 @@
 pub mod Laws
 pub mod Made
 pub mod OpenedFrom
+pub mod Reaching
 pub mod Steps

@@ -43,9 +43,10 @@ pub fn law_told_opens()
     ensures { lives.KeeperIsToldTheBytes }
 {}
 
-/// The bytes end so where they are as long as their newest slot asks: those of a new store are, as `create` tells.
+/// The bytes end so if they reach far: at or above the end of all that their newest slot names. Those of a new store do, as `create` leaves them.
 pub fn law_long_opens()
-    ensures { lives.LongBytesEndBehind }
+    ensures behind { lives.FarBytesEndBehind }
+    ensures created { lives.CreatedReachesFar }
 {
     law_spellings_apart();
 }

@@ -9,7 +9,6 @@ mod OfOrdered
 mod OfEnabled
 mod OfPrefix
 pub mod OfReads
-mod OfRest
 mod OfRows
 pub mod OfRules
 mod OfServed

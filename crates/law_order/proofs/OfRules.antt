@@ -5,7 +5,6 @@ pub mod InTime
 pub mod Kept
 pub mod Points
 mod ReadRuns
-pub mod Rests
 pub mod SameEntries
 pub mod Versions
 pub mod Words

@@ -8,7 +8,6 @@ pub mod Opened
 pub mod Ordered
 pub mod Prefix
 pub mod Reads
-pub mod Rest
 pub mod Rows
 pub mod Rules
 pub mod Served

@@ -3,7 +3,6 @@
 ghost use Rattle.law_order.specs.InTurn.Laws as commits;
 ghost use Rattle.law_order.specs.Rules.Openings.{OpensItsEnds, OpensItsPoints, OpensItsVersions};
 
-use crate::rest::law_rest_said;
 use crate::rules::{law_cuts_open, law_life_begins};
 use fkv_disk::Device;
 use law_commit::{law_begun, law_floor_stands, law_views_see_tails};
@@ -17,7 +16,6 @@ pub fn law_phases_open()
     ensures in_turn { commits.NumbersItsCommitsInTurn }
     ensures told { commits.TellsOfItsLife }
 {
-    law_rest_said();
     law_life_begins();
     law_begun();
     law_told_opens();

@@ -15,7 +15,6 @@ mod opened;
 mod ordered;
 mod prefix;
 mod reads;
-mod rest;
 mod rows;
 mod rules;
 mod served;
@@ -46,7 +45,6 @@ pub use prefix::{
     law_join, law_lives, law_points_are_fair, law_replays_kept, law_slots_open,
 };
 pub use reads::law_world_reads;
-pub use rest::{law_life_rests, law_log_rests, law_rest_said};
 pub use rows::{law_requests_asked, law_rows_go_on, law_waits_stay};
 pub use rules::{law_cuts_open, law_life_begins, law_order_of_rules};
 pub use served::law_world_served;

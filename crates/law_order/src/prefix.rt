@@ -11,6 +11,7 @@ use law_changes::law_lives_change_published;
 use law_commit::{
     law_begun, law_points_between, law_points_taken, law_told_are_sealed, law_told_never_falls,
 };
+use law_images::law_images_read_back;
 use law_opening::{law_guard_opens, law_log_begins, law_log_beside, law_log_opened};
 use law_paper::law_kept;
 use law_parts::law_world_one_entry;
@@ -62,11 +63,15 @@ pub fn law_durable_never_falls()
     law_told_never_falls();
 }
 
-/// If each image that a crash may leave of a life holds a prefix of it, lives follow one another. Each begins with the first store's map behind a replay of
-/// what was kept of all lives before. That is legal with the replies that were given, and has each session's serials up to its point once.
+/// Each image that a crash may leave of a life reaches far, if the life began with one that does. So does the image with which each later life begins. And if each
+/// image that is left holds a prefix of its life, lives follow one another. Each begins with the first store's map behind a replay of what was kept of all lives
+/// before. That is legal with the replies that were given, and has each session's serials up to its point once.
 pub fn law_lives()
-    ensures { InEachLife said.RecoversPrefix → said.LivesFollow }
-{}
+    ensures reach { said.LivesReachFar }
+    ensures follow { InEachLife said.RecoversPrefix → said.LivesFollow }
+{
+    law_images_read_back();
+}
 
 /// The map of an image's store is the content of what its points keep, if two things hold. Its values are those that a log shows of versions up to a
 /// commit's. Its points keep just what the log has of these. `law_paper` shows the one of each image with a commit in force, and the other of each commit's

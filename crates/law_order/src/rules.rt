@@ -4,7 +4,6 @@ ghost use Rattle.law_order.specs.Rules.InTime.{ReadsInTime};
 ghost use Rattle.law_order.specs.Rules.Ordered as laws;
 ghost use Rattle.law_order.specs.Rules.Openings as opens;
 
-use crate::rest::law_rest_said;
 use fkv_core::law_words_open;
 use law_guard::{law_world_is_guarded, law_world_once};
 use law_opening::{
@@ -21,7 +20,6 @@ pub fn law_life_begins()
     law_guard_opens();
     law_index_opens();
     law_words_open();
-    law_rest_said();
     law_log_counted();
     law_log_opened();
     law_log_begins();

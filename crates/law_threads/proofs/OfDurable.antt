@@ -21,7 +21,8 @@ use Rattle.law_commit.specs.ToldPoints.{ToldPoint, and_one_finished, at_call_by,
 use Rattle.law_log.specs.Trace.{IsIn}
 use Rattle.law_world.specs.Runs.Added.{told_at, told_by}
 use Rattle.law_world.proofs.OfRuns.Added.{trace_so}
-use Rattle.law_order.specs.Prefix.Law.{HoldsPrefix, IsKeptOf, ReachesFar, TellsDurable, calls_so_far, past_so_far, trace_so_far}
+use Rattle.law_opening.specs.Lives.Reaching.{ReachesFar}
+use Rattle.law_order.specs.Prefix.Law.{HoldsPrefix, IsKeptOf, TellsDurable, calls_so_far, past_so_far, trace_so_far}
 use Rattle.law_order.proofs.OfReads.Numbers.{is_other}
 use Rattle.fkv_table.specs.declared.happenings.Happening.{Happening}
 use Rattle.fkv_table.specs.Events.{event_of}

@@ -8,7 +8,8 @@ use Rattle.fkv_opening.specs.declared.opened_store.Opened.{Opened}
 use Rattle.fkv_session.specs.declared.answers.Answer.TheVariants.{Durable}
 use Rattle.fkv_world.specs.World.{Event, Now}
 use Rattle.law_commit.specs.ToldPoints.{finishes_told}
-use Rattle.law_order.specs.Prefix.Law.{IsToldDurable, ReachesFar, RecoversPrefix, calls_so_far, past_so_far, trace_so_far}
+use Rattle.law_opening.specs.Lives.Reaching.{ReachesFar}
+use Rattle.law_order.specs.Prefix.Law.{IsToldDurable, RecoversPrefix, calls_so_far, past_so_far, trace_so_far}
 use Rattle.fkv_table.specs.declared.happenings.Happening.{Happening}
 use Rattle.law_threads.specs.Calls.{CallRun, events_of}
 

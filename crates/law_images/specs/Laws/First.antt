@@ -6,10 +6,11 @@ use Rattle.fkv_opening.specs.Opened.{IsStoreOf}
 use Rattle.fkv_opening.specs.declared.opened_store.Opened.{Opened}
 use Rattle.fkv_world.specs.World.{Event, Now}
 use Rattle.law_images.specs.First.{WritesNoCommit}
-use Rattle.law_images.specs.Left.{IsLeft, OpensLong}
+use Rattle.law_images.specs.Left.{IsLeft}
+use Rattle.law_opening.specs.Lives.Reaching.{ReachesFar}
 
 -- until the first commit is written an image agrees with the opened bytes
 abbrev pub ImagesAgreeAtFirst : Type 0
 ImagesAgreeAtFirst =
-    (o : Opened) (n : Now) (bytes : List ℕ) (events : List Event) (image : List ℕ) → IsStoreOf bytes o → IsOpeningWorld o n → OpensLong bytes → WritesNoCommit (beginning n bytes) events
+    (o : Opened) (n : Now) (bytes : List ℕ) (events : List Event) (image : List ℕ) → IsStoreOf bytes o → IsOpeningWorld o n → ReachesFar bytes → WritesNoCommit (beginning n bytes) events
     → IsLeft n bytes events image → Agree bytes image

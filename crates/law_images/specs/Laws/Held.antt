@@ -11,12 +11,13 @@ use Rattle.fkv_record.specs.Layout.{triple_bytes}
 use Rattle.fkv_record.specs.declared.triples.Triple.{Triple}
 use Rattle.fkv_world.specs.World.{Event, Now}
 use Rattle.law_images.specs.Held.{HoldsTriples, SuitSlot, area_bytes}
-use Rattle.law_images.specs.Left.{IsLeft, OpensLong}
+use Rattle.law_images.specs.Left.{IsLeft}
+use Rattle.law_opening.specs.Lives.Reaching.{ReachesFar}
 
 -- an image holds the triples of its checkpoint
 abbrev pub ImagesHoldTheirTriples : Type 0
 ImagesHoldTheirTriples =
-    (o : Opened) (n : Now) (bytes : List ℕ) (events : List Event) (image : List ℕ) (store : IsStoreOf bytes o) → IsOpeningWorld o n → OpensLong bytes → IsLeft n bytes events image → HoldsTriples o n bytes events store image
+    (o : Opened) (n : Now) (bytes : List ℕ) (events : List Event) (image : List ℕ) (store : IsStoreOf bytes o) → IsOpeningWorld o n → ReachesFar bytes → IsLeft n bytes events image → HoldsTriples o n bytes events store image
 
 -- triples whose bytes are those of the area are read back, if they suit the slot
 abbrev pub TriplesAreReadBack : Type 0

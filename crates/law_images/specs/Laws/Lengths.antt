@@ -5,7 +5,8 @@ use Rattle.fkv_opening.specs.Opened.{IsStoreOf}
 use Rattle.fkv_opening.specs.declared.opened_store.Opened.{Opened}
 use Rattle.fkv_record.specs.Places.{record_place}
 use Rattle.fkv_world.specs.World.{Event, Now}
-use Rattle.law_images.specs.Left.{IsLeft, OpensLong, flushed_so_far}
+use Rattle.law_images.specs.Left.{IsLeft, flushed_so_far}
+use Rattle.law_opening.specs.Lives.Reaching.{ReachesFar}
 
 -- no image is shorter than the opened bytes
 abbrev pub ImagesReachTheOpened : Type 0
@@ -21,5 +22,5 @@ ImagesReachTheFlushed =
 -- and behind the last record of each end up to the flushed offset
 abbrev pub ImagesReachEachEnd : Type 0
 ImagesReachEachEnd =
-    (o : Opened) (n : Now) (bytes : List ℕ) (events : List Event) (image : List ℕ) (end : ℕ) → IsStoreOf bytes o → IsOpeningWorld o n → OpensLong bytes → IsLeft n bytes events image
+    (o : Opened) (n : Now) (bytes : List ℕ) (events : List Event) (image : List ℕ) (end : ℕ) → IsStoreOf bytes o → IsOpeningWorld o n → ReachesFar bytes → IsLeft n bytes events image
     → 1 < end → end ≤ flushed_so_far n bytes events → record_place o.shape (end - 1) + 24 ≤ length image

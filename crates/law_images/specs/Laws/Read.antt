@@ -4,15 +4,16 @@ use Rattle.fkv_core.specs.Openings.{IsOpeningWorld}
 use Rattle.fkv_opening.specs.Opened.{IsStoreOf}
 use Rattle.fkv_opening.specs.declared.opened_store.Opened.{Opened}
 use Rattle.fkv_world.specs.World.{Event, Now}
-use Rattle.law_images.specs.Left.{IsLeft, OpensLong}
+use Rattle.law_images.specs.Left.{IsLeft}
 use Rattle.law_images.specs.Read.{ReadsBack}
+use Rattle.law_opening.specs.Lives.Reaching.{ReachesFar}
 
 -- the newest slot of an image is read back
 abbrev pub ImagesReadBack : Type 0
 ImagesReadBack =
-    (o : Opened) (n : Now) (bytes : List ℕ) (events : List Event) (image : List ℕ) (store : IsStoreOf bytes o) → IsOpeningWorld o n → OpensLong bytes → IsLeft n bytes events image → ReadsBack o n bytes events store image
+    (o : Opened) (n : Now) (bytes : List ℕ) (events : List Event) (image : List ℕ) (store : IsStoreOf bytes o) → IsOpeningWorld o n → ReachesFar bytes → IsLeft n bytes events image → ReadsBack o n bytes events store image
 
 -- and the image ends behind all that it names
 abbrev pub ImagesReachFar : Type 0
 ImagesReachFar =
-    (o : Opened) (n : Now) (bytes : List ℕ) (events : List Event) (image : List ℕ) → IsStoreOf bytes o → IsOpeningWorld o n → OpensLong bytes → IsLeft n bytes events image → OpensLong image
+    (o : Opened) (n : Now) (bytes : List ℕ) (events : List Event) (image : List ℕ) → IsStoreOf bytes o → IsOpeningWorld o n → ReachesFar bytes → IsLeft n bytes events image → ReachesFar image

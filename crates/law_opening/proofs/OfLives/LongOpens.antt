@@ -17,6 +17,7 @@ use Rattle.fkv_record.specs.Places.{area_place}
 use Rattle.fkv_record.specs.declared.formats.Format.{Format}
 use Rattle.fkv_record.specs.declared.manifest_slots.ManifestSlot.{ManifestSlot}
 use Rattle.fkv_record.proofs.Shown.{manifest_apart}
+use Rattle.law_opening.specs.Lives.Reaching.{ReachesFar}
 use Rattle.law_world.specs.Standing.Opening.{IsBehind}
 use Rattle.fkv_words.specs.Fields.{SpellsApart}
 
@@ -52,12 +53,12 @@ behind bytes shape slot o long same triples area = record {
       omega (arith, reaches, place, below, triples);
 }
 
-pub long_opens : SpellsApart shape_bytes → (bytes : List ℕ) (n : Newest) (o : Opened) → IsNewestOf bytes n → IsLong bytes n.shape n.slot → IsStoreOf bytes o
-    → IsBehind o.shape (newest_commit o).checkpoint (length bytes)
-long_opens apart bytes n o told long store =
+pub long_opens : SpellsApart shape_bytes → (bytes : List ℕ) (o : Opened) → ReachesFar bytes → IsStoreOf bytes o → IsBehind o.shape (newest_commit o).checkpoint (length bytes)
+long_opens apart bytes o far store =
+    let n : Newest = far.newest in
     let its : IsNewestOf bytes store.newest = store.checkpoint.newest in
-    let slot : n.slot ≡ store.newest.slot = same_slot bytes n store.newest told its in
-    let shape : n.shape ≡ o.shape = apart n.shape store.newest.shape (told.block ∙ sym its.block) ∙ sym store.tells.shape in
-    behind bytes n.shape n.slot o long shape
+    let slot : n.slot ≡ store.newest.slot = same_slot bytes n store.newest far.its its in
+    let shape : n.shape ≡ o.shape = apart n.shape store.newest.shape (far.its.block ∙ sym its.block) ∙ sym store.tells.shape in
+    behind bytes n.shape n.slot o far.long shape
     (store.tells.triples ∙ ap (λ (s : ManifestSlot). s.triples) (sym slot))
     (store.tells.area ∙ ap (λ (s : ManifestSlot). s.area) (sym slot))

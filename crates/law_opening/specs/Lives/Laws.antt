@@ -1,10 +1,9 @@
 -- What the laws of `lives` say.
 use Rattle.std.specs.Prelude.{ℕ, List, [], length, Bool}
-use Rattle.fkv_creating.specs.Long.{IsLong}
+use Rattle.fkv_base.specs.declared.shapes.Shape.{Shape}
+use Rattle.fkv_creating.specs.Created.{IsCreated}
 use Rattle.fkv_disk.specs.Device.{IsAfter, LeavesOnly}
 use Rattle.fkv_filling.specs.OpeningIndex.{IsOpeningIndex, opening_lists}
-use Rattle.fkv_newest.specs.Newest.{IsNewestOf}
-use Rattle.fkv_newest.specs.declared.newest_slots.Newest.{Newest}
 use Rattle.fkv_opening.specs.Opened.{IsStoreOf}
 use Rattle.fkv_opening.specs.declared.opened_store.Opened.{Opened}
 use Rattle.law_world.specs.Standing.Opening.{AreNumbersInTurn, IsBehind, IsToldBy}
@@ -18,6 +17,7 @@ use Rattle.law_parts.specs.Index.Shows as index
 use Rattle.law_parts.specs.Latches.Shows as latch
 use Rattle.law_opening.specs.Lives.Made.{AllMade}
 use Rattle.law_opening.specs.Lives.OpenedFrom.{IsOpenedFrom}
+use Rattle.law_opening.specs.Lives.Reaching.{ReachesFar}
 use Rattle.law_opening.specs.Lives.Steps.{AllLeadOn, AllLedOn, AreStepsOfOpened, OneCommitStands, Step, device_behind, events_of, now_behind}
 
 -- the world of an opened store is one with which the guard begins
@@ -66,10 +66,14 @@ abbrev pub KeeperIsToldTheBytes : Type 0
 KeeperIsToldTheBytes =
     (bytes : List ℕ) (o : Opened) (n : Now) → IsOpenedFrom bytes o n → IsToldBy n.shape n.places bytes n.keeper
 
--- bytes as long as their newest slot asks end behind its checkpoint
-abbrev pub LongBytesEndBehind : Type 0
-LongBytesEndBehind =
-    (bytes : List ℕ) (n : Newest) (o : Opened) → IsNewestOf bytes n → IsLong bytes n.shape n.slot → IsStoreOf bytes o → IsBehind o.shape (newest_commit o).checkpoint (length bytes)
+-- bytes that reach far end behind the checkpoint of the store that they hold
+abbrev pub FarBytesEndBehind : Type 0
+FarBytesEndBehind =
+    (bytes : List ℕ) (o : Opened) → ReachesFar bytes → IsStoreOf bytes o → IsBehind o.shape (newest_commit o).checkpoint (length bytes)
+
+-- and those of a new store do
+abbrev pub CreatedReachesFar : Type 0
+CreatedReachesFar = (shape : Shape) (image : List ℕ) → IsCreated shape image → ReachesFar image
 
 -- the keeper is told the truth in each life whose commits have numbers in turn
 abbrev pub KeeperIsToldItsLife : Type 0

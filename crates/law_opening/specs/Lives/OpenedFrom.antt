@@ -7,7 +7,7 @@ use Rattle.law_world.specs.Standing.Opening.{IsBehind}
 use Rattle.fkv_world.specs.World.{Now}
 
 -- These bytes hold the store, and this is its world. They end behind the two slots and behind the triples of the checkpoint that the newest commit uses:
--- what is past their end reads as 0, so shorter ones may open too.
+-- what is past their end reads as 0, so shorter ones may open too. Bytes that reach far end so.
 pub record IsOpenedFrom (bytes : List ℕ) (o : Opened) (n : Now) : Type 0 where
   pub store : IsStoreOf bytes o
   pub world : IsOpeningWorld o n

@@ -29,7 +29,7 @@ use Rattle.law_changes.proofs.OfSessions.Comes.{Begins, SessionComes, Stays, Ste
 use Rattle.law_commit.specs.PhaseVersions.{phase_version}
 use Rattle.law_commit.proofs.OfVersions.Requests.{update_at}
 use Rattle.law_local.specs.Sessions.Known.{attempt_after, is_attempting}
-use Rattle.law_local.specs.Tries.AttemptRows.{AttemptRow, IsTrueOfAttempt, PendingKnows}
+use Rattle.law_local.specs.Tries.AttemptRows.{AttemptRow, IsTrueOfAttempt}
 use Rattle.law_local.specs.Tries.AttemptRows as local
 use Rattle.law_local.specs.Tries.Replies.{IsTrueReply}
 use Rattle.law_local.specs.Tries.TryRows.{NoneIsLater, NoneLaterPast, key_in}

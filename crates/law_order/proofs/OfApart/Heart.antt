@@ -39,7 +39,7 @@ use Rattle.law_apart.proofs.OfApart.Raises.{StandsAlready}
 use Rattle.law_changes.proofs.OfSessions.Attempting.{life_attempts}
 use Rattle.law_local.specs.Sessions.Inputs.{AttemptsBy, IsTryFor, TriesFor}
 use Rattle.law_local.specs.Sessions.Known.{is_attempting}
-use Rattle.law_local.specs.Tries.AttemptRows.{AttemptKnows, AttemptRow}
+use Rattle.law_local.specs.Tries.AttemptRows.{AttemptRow}
 use Rattle.law_local.specs.Tries.AttemptRows as local
 use Rattle.law_local.specs.Tries.TryRows.{TryRow, cell_of, key_in}
 use Rattle.law_log.specs.Chains.{Cell, Reserved, version_at}

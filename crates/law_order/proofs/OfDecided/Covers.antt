@@ -11,7 +11,6 @@ use Rattle.fkv_index.proofs.Shown.{homes_are_there}
 use Rattle.fkv_opening.specs.declared.opened_store.Opened.{Opened}
 use Rattle.fkv_record.specs.declared.triples.Triple.{Triple}
 use Rattle.fkv_scan.specs.Log as scan
-use Rattle.fkv_scan.specs.Log.{HasTriple}
 use Rattle.fkv_world.specs.World.{Event, Now}
 use Rattle.law_changes.specs.Linked.{ChainsFall, IsFalling}
 use Rattle.law_log.specs.Chains.{head_of}

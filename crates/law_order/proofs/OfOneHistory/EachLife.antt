@@ -6,7 +6,7 @@ use Rattle.fkv_opening.specs.Opened.{IsStoreOf}
 use Rattle.fkv_opening.specs.declared.opened_store.Opened.{Opened}
 use Rattle.law_opening.specs.Log.Maps.{opening_map}
 use Rattle.law_opening.specs.Log.OpeningLog.{opening_ghosts}
-use Rattle.law_order.specs.Rules.Ordered.{OfEachKept, opening_version}
+use Rattle.law_order.specs.Rules.Ordered.{OfEachKept}
 use Rattle.fkv_world.specs.World.{Event, Now}
 use Rattle.law_order.specs.Known.Begins.{BeginsLife, BegunLife}
 use Rattle.law_order.specs.Known.Told.{TicketsAreApart}
@@ -22,7 +22,7 @@ use Rattle.law_order.specs.OneHistory.EachLife.{InEachLife}
 -- what a life begins with
 abbrev pub LivesBegin : Type 0
 LivesBegin = (bytes : List ℕ) (o : Opened) (n : Now) → IsStoreOf bytes o → IsOpeningWorld o n
-    → BeginsLife (beginning n bytes) o.tail.0 (opening_lists o.entries.items) (opening_version o) (opening_map bytes o) o.number.0 (opening_ghosts bytes o)
+    → BeginsLife (beginning n bytes) o.tail.0 (opening_lists o.entries.items) (opening_map bytes o) o.number.0 (opening_ghosts bytes o)
 
 -- the numbers of the log that it begins with
 abbrev pub OpeningsFit : Type 0
@@ -48,7 +48,6 @@ keeps_its_order lives opens given fit keep = λ its is.
       opening = beginning n bytes;
       start = o.tail.0;
       lists = opening_lists o.entries.items;
-      version = opening_version o;
       map = opening_map bytes o;
       number = o.number.0;
       ghosts = opening_ghosts bytes o;

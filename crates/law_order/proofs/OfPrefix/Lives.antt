@@ -7,8 +7,9 @@ use Rattle.fkv_map.specs.declared.history.HistoryEntry.{HistoryEntry}
 use Rattle.fkv_map.specs.Map.{Map}
 use Rattle.fkv_map.specs.History.{AreAtMost, IsLegal, IsWhole, content, kept, point_of}
 use Rattle.fkv_map.proofs.Shown.{content-append, IsLegal-append, kept-append, kept_again, kept_by_more, whole_of_lives}
+use Rattle.law_images.specs.Laws.Read.{ImagesReachFar}
 use Rattle.law_order.specs.OneHistory.EachLife.{InEachLife, IsLife, Life}
-use Rattle.law_order.specs.Prefix.Law.{AreLives, BeginsWithKept, HoldsPrefix, IsKeptOf, LivesFollow, ReachesFar, RecoversPrefix, first_of, history_so_far, kept_of_all, map_of, points_of}
+use Rattle.law_order.specs.Prefix.Law.{AreLives, BeginsWithKept, HoldsPrefix, IsKeptOf, LivesFollow, LivesReachFar, RecoversPrefix, first_of, history_so_far, kept_of_all, map_of, points_of}
 
 -- what points keep of all lives they keep again
 kept_before : (points : List Serial) (before : List Life) → kept (kept_of_all points before) points ≡ kept_of_all points before
@@ -58,24 +59,25 @@ one_more its earlier rest follow whole risen legal pairs =
       risen = λ session. omega (arith, follow.risen session, risen session);
     }
 
-module _ (recovers : InEachLife RecoversPrefix) where
-  -- an image that a life leaves, where the life itself began with one that reaches far
-  left : (its earlier : Life) (rest : List Life) → AreLives (its ∷ (earlier ∷ rest)) → ReachesFar earlier.bytes → HoldsPrefix earlier.opened earlier.world earlier.bytes earlier.events its.bytes
-  left its earlier rest lives far =
-      let e : IsLife earlier = (let older = lives.2 in older.0) in
-      recovers earlier e far its.bytes lives.1
+-- the first life begins with an image that reaches far, and each other one with an image that such a life has left
+pub lives_reach_far : ImagesReachFar → LivesReachFar
+lives_reach_far far its [] lives = lives.1
+lives_reach_far far its (earlier ∷ rest) lives =
+    let own : IsLife earlier = (let older = lives.2 in older.0) in
+    far earlier.opened earlier.world earlier.bytes earlier.events its.bytes own.store own.begins (lives_reach_far far earlier rest lives.2) lives.1
 
-  reaches : (its : Life) (before : List Life) → AreLives (its ∷ before) → ReachesFar its.bytes
-  reaches its [] lives = lives.1
-  reaches its (earlier ∷ rest) lives =
-      let held : HoldsPrefix earlier.opened earlier.world earlier.bytes earlier.events its.bytes = left its earlier rest lives (reaches earlier rest lives.2) in
-      held.reaches
+module _ (reaches : LivesReachFar) (recovers : InEachLife RecoversPrefix) where
+  -- an image that a life leaves
+  left : (its earlier : Life) (rest : List Life) → AreLives (its ∷ (earlier ∷ rest)) → HoldsPrefix earlier.opened earlier.world earlier.bytes earlier.events its.bytes
+  left its earlier rest lives =
+      let own : IsLife earlier = (let older = lives.2 in older.0) in
+      recovers earlier own (reaches earlier rest lives.2) its.bytes lives.1
 
   follow : (its : Life) (before : List Life) → AreLives (its ∷ before) → Follow its before
   follow its [] lives = record { begins = record { pairs = refl; legal = tt; whole = none_whole (points_of its) }; risen = λ session. omega arith }
   follow its (earlier ∷ rest) lives =
       let own : IsLife its = lives.0 in
-      let held : HoldsPrefix earlier.opened earlier.world earlier.bytes earlier.events its.bytes = left its earlier rest lives (reaches earlier rest lives.2) in
+      let held : HoldsPrefix earlier.opened earlier.world earlier.bytes earlier.events its.bytes = left its earlier rest lives in
       let k : IsKeptOf earlier.opened earlier.world earlier.bytes earlier.events held.commit its.bytes its.opened = held.each its.opened own.store in
       one_more its earlier rest (follow earlier rest lives.2) k.whole k.risen k.legal k.pairs
 

@@ -1,4 +1,4 @@
--- As the life of an opened store begins nothing of its log is undecided, and each session has seen its rest.
+-- As the life of an opened store begins nothing of its log is undecided.
 use Rattle.std.proofs.Common.{◌∙◌, sym, ap, ℕ, List}
 use Rattle.fkv_core.specs.Openings.{IsOpeningWorld, beginning}
 use Rattle.fkv_opening.specs.Opened.{IsStoreOf}
@@ -8,16 +8,11 @@ use Rattle.law_opening.specs.Log.OpeningLog.{opening_ghosts}
 use Rattle.law_commit.specs.Decided.Cells.{ChainsTaken}
 use Rattle.law_commit.specs.Decided.Laws.{OpensDecided}
 use Rattle.law_commit.specs.Versions.Cells.{made_in}
-use Rattle.law_commit.specs.Floor.Stands.{OpensSeen}
 use Rattle.law_order.specs.Rules.Openings.{BeginsItsLife}
-use Rattle.law_order.proofs.OfRules.Rests.{opens_at_rest}
 
 module _ (begins : BeginsItsLife) (bytes : List ℕ) (o : Opened) (n : Now) (store : IsStoreOf bytes o) (its : IsOpeningWorld o n) where
   pub opens_decided : OpensDecided (beginning n bytes) o.tail.0 (opening_ghosts bytes o)
   opens_decided = let life = begins bytes o n store its in record { guarded = life.store.now; opened = life.world; unborn = life.unborn; decided = life.reserves }
-
-  pub opens_seen : OpensSeen (beginning n bytes).now
-  opens_seen = let life = begins bytes o n store its in record { rests = opens_at_rest o n its life.rests; seen = λ session first found. (life.rests.seen session first found).phase }
 
   -- and each address that stands in a chain is taken
   pub opens_taken : ChainsTaken (opening_ghosts bytes o).log

@@ -1,8 +1,8 @@
 -- What a life begins with, beside the log of the order law.
 use Rattle.std.specs.Prelude.{◌≡◌, ℕ, ◌<◌, List}
-use Rattle.fkv_base.specs.declared.numbers.Version.{Version}
 use Rattle.fkv_map.specs.Map.{Map}
 use Rattle.law_changes.specs.Images.{IsInImage}
+use Rattle.law_commit.specs.Floor.Stands.{OpensSeen}
 use Rattle.law_log.specs.Chains.{Cell, Published}
 use Rattle.law_log.specs.Ghosts.{Ghosts}
 use Rattle.law_log.specs.Enabled as order
@@ -14,38 +14,34 @@ use Rattle.law_parts.specs.Index.Shows as index
 use Rattle.law_parts.specs.Mail.Shows as mail
 use Rattle.law_refine.specs.Events.GhostEvents.{home_in, safe_at}
 use Rattle.law_refine.specs.Events.Reserved.{IsUnbornFrom, ReservesNothing, tail_at}
-use Rattle.law_order.specs.Rest.Logs.{CellsRest}
-use Rattle.law_order.specs.Rest.Resting.{RestsIn}
 
 -- the home of a key in the store of a world
 abbrev pub home_of_world : World → ℕ → ℕ
 home_of_world w = home_in w.now.shape.bucket_bits
 
 -- A store was just opened, with its records' end at `start`: to the engine, the guard, the index (whose overflow buckets follow in these lists) and each
--- mailbox. It rests in a version. The log is one with which the order law begins, from a map and in a version of its own; it has fixed what lies below the
+-- mailbox. It rests, as each session has seen. The log is one with which the order law begins, from a map and in a version of its own; it has fixed what lies below the
 -- safe read-only offset, its chains begin where the entries of the index lead, and the image that the device holds has each of its records.
-pub record BeginsLife (opening : World) (start : ℕ) (lists : ℕ → List ℕ) (version : Version) (m : Map) (number : ℕ) (ghosts : Ghosts) : Type 0 where
+pub record BeginsLife (opening : World) (start : ℕ) (lists : ℕ → List ℕ) (m : Map) (number : ℕ) (ghosts : Ghosts) : Type 0 where
   pub world : IsOpenedWorld opening
   pub store : IsOpenedStore opening start
   pub index : index.IsOpened opening lists
   pub mailboxes : (session : ℕ) → session < opening.now.places.sessions → mail.IsOpened opening.now session
-  pub rests : RestsIn version opening.now
+  pub rests : OpensSeen opening.now
   pub log : order.IsOpened (home_of_world opening) m number ghosts
   pub fixed : ghosts.log.fixed ≡ safe_at opening.now
   pub unborn : IsUnbornFrom (tail_at opening.now) ghosts
   pub reserves : ReservesNothing ghosts
-  pub cells : CellsRest version.0 ghosts.log.cells
   pub heads : LeadToHeads opening.now lists ghosts.log
   pub device : (a : ℕ) (cell : Cell) → ghosts.log.cells a ≡ Published cell → IsInImage opening.now.shape opening.past.opened a cell
 
--- A life as the order law begins it: its world, where its records end, its overflow buckets, and the version in which it rests. Beside it stands the log, with
--- the map from which that begins and the number of the map's version.
+-- A life as the order law begins it: its world, where its records end, and its overflow buckets. Beside it stands the log, with the map from which that begins
+-- and the number of the map's version.
 pub record BegunLife : Type 0 where
   pub opening : World
   pub start : ℕ
   pub lists : ℕ → List ℕ
-  pub version : Version
   pub map : Map
   pub number : ℕ
   pub ghosts : Ghosts
-  pub begins : BeginsLife opening start lists version map number ghosts
+  pub begins : BeginsLife opening start lists map number ghosts

@@ -4,13 +4,10 @@ use Rattle.fkv_base.specs.declared.faults.Fault.{Fault}
 use Rattle.fkv_base.specs.declared.numbers.Serial.{Serial}
 use Rattle.fkv_commit.specs.declared.commits.Commit.{Commit}
 use Rattle.fkv_core.specs.Openings.{beginning, newest_commit}
-use Rattle.fkv_creating.specs.Long.{IsLong}
 use Rattle.fkv_disk.specs.Calls.{Call, MayLeave}
 use Rattle.fkv_map.specs.History.{AreAtMost, IsLegal, IsWhole, content, kept, point_of}
 use Rattle.fkv_map.specs.Map.{Map}
 use Rattle.fkv_map.specs.declared.history.HistoryEntry.{HistoryEntry}
-use Rattle.fkv_newest.specs.Newest.{IsNewestOf}
-use Rattle.fkv_newest.specs.declared.newest_slots.Newest.{Newest}
 use Rattle.fkv_opening.specs.Faults.{IsFaultOf}
 use Rattle.fkv_opening.specs.Opened.{IsStoreOf}
 use Rattle.fkv_opening.specs.declared.opened_store.Opened.{Opened}
@@ -23,6 +20,7 @@ use Rattle.law_commit.specs.FinishedCommits.{commits_finished, commits_told, tol
 use Rattle.law_commit.specs.PrefixPast.{PrefixPast, prefix_past}
 use Rattle.law_commit.specs.ToldPoints.{ToldPoint}
 use Rattle.law_log.specs.Trace.{IsIn, history_of}
+use Rattle.law_opening.specs.Lives.Reaching.{ReachesFar}
 use Rattle.law_opening.specs.Log.Maps.{opening_map}
 use Rattle.law_order.specs.OneHistory.EachLife.{InEachLife, IsLife, Life}
 use Rattle.law_order.specs.Rules.InTime.{ReadsInTime}
@@ -49,13 +47,6 @@ abbrev pub past_so_far : Now → List ℕ → List Event → PrefixPast
 past_so_far n bytes events = prefix_past (beginning n bytes) events
 
 -- ---- recovered
--- An image ends at or above the end of all that its newest slot names. One that somebody cut may open too, since bytes past the end read as 0. Once a later
--- write makes it longer a crash may leave anything there. A new store reaches far; `recovered` says it of each image that a life leaves.
-pub record ReachesFar (image : List ℕ) : Type 0 where
-  pub newest : Newest
-  pub its : IsNewestOf image newest
-  pub long : IsLong image newest.shape newest.slot
-
 -- A commit is current: it has begun, no finished one is newer, and its points are no less than what sessions were told as durable.
 pub record IsCurrent (past : PrefixPast) (c : BegunCommit) : Type 0 where
   pub begun : IsIn c past.begun
@@ -188,8 +179,13 @@ pub record BeginsWithKept (its : Life) (before : List Life) : Type 0 where
 abbrev pub LivesFollow : Type 0
 LivesFollow = (its : Life) (before : List Life) → AreLives (its ∷ before) → BeginsWithKept its before
 
+-- And each begins with an image that reaches far.
+abbrev pub LivesReachFar : Type 0
+LivesReachFar = (its : Life) (before : List Life) → AreLives (its ∷ before) → ReachesFar its.bytes
+
 -- ---- The law of prefixes, by its twelve clauses
--- `law_order` shows the first six. `law_finished_is_told` shows `told`, and `law_lives` the last, by `recovered`.
+-- All are of lives with commits, crashes and failing calls of the device. `law_order` shows the first six. `law_finished_is_told` shows `told`,
+-- `law_commits_in_turn` `in_turn`, `law_points_are_fair` `fair`, and `law_durable_is_sealed` `durable`. `law_lives` shows the last, by `recovered`.
 pub record PrefixLaw : Type 0 where
   -- the updates of a life take effect in one order, legal with the replies that were given, and reads are answered from it
   pub legal : InEachLife HasLegalHistory

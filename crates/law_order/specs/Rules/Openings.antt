@@ -12,13 +12,12 @@ use Rattle.law_commit.specs.Points.{OpensPointed}
 use Rattle.law_commit.specs.Quiet.{OpensQuiet}
 use Rattle.law_commit.specs.Versions.Laws.{OpensWithLog}
 use Rattle.law_order.specs.Known.Begins.{BeginsLife}
-use Rattle.law_order.specs.Rules.Ordered.{opening_version}
 
 -- the life of an opened store begins with the log of its image
 abbrev pub BeginsItsLife : Type 0
 BeginsItsLife =
     (bytes : List ℕ) (o : Opened) (n : Now) → IsStoreOf bytes o → IsOpeningWorld o n
-    → BeginsLife (beginning n bytes) o.tail.0 (opening_lists o.entries.items) (opening_version o) (opening_map bytes o) o.number.0 (opening_ghosts bytes o)
+    → BeginsLife (beginning n bytes) o.tail.0 (opening_lists o.entries.items) (opening_map bytes o) o.number.0 (opening_ghosts bytes o)
 
 -- the world of an opened store has all its words
 abbrev pub OpensWithItsWords : Type 0

@@ -1,6 +1,5 @@
 -- The order law of an opened store's life, in the words of the life itself.
 use Rattle.std.specs.Prelude.{◌≡◌, ℕ, ◌+◌, List, ◌∷◌, ◌++◌}
-use Rattle.fkv_base.specs.declared.numbers.Version.{Version}
 use Rattle.fkv_core.specs.Openings.{IsOpeningWorld, beginning}
 use Rattle.fkv_epoch.specs.EpochWorld.{Claimed, Ran}
 use Rattle.fkv_epoch.specs.Once.{Among, HasRunOnce}
@@ -22,10 +21,6 @@ use Rattle.law_guard.specs.Guarded.KeptGuarded.{ChangesOpenPlaces, OpensNextPage
 use Rattle.law_guard.specs.Guarded.LoadedSince.{HaveLoadedSince}
 use Rattle.law_guard.specs.Guarded.Shows.{ArePermitted, Shows, seen_by_guard}
 use Rattle.law_refine.specs.Records.Changes.{AreChangesPublished}
-
--- an opened store rests in the version behind its commit's
-abbrev pub opening_version : Opened → Version
-opening_version o = record { 0 = o.number.0 + 1 }
 
 -- what has taken effect in a life so far, and what its calls were told, each the newest first
 abbrev pub effects_so_far : Now → List ℕ → List Event → List Effect

@@ -28,7 +28,7 @@ returns c = λ o n bytes events image store begins long left.
     let opening : World = beginning n bytes in
     let opened : IsOpenedStore opening o.tail.0 = c.law_guard_opens.ensures o n bytes begins in
     let world : IsOpenedWorld opening = world_opens o n bytes begins opened in
-    let from : IsOpenedFrom bytes o n = record { store = store; world = begins; long = c.law_long_opens.ensures bytes long.newest o long.its long.long store } in
+    let from : IsOpenedFrom bytes o n = record { store = store; world = begins; long = c.law_long_opens.ensures.behind bytes o long store } in
     let told = c.law_told_opens.ensures bytes o n from in
     let rests = opens_at_rest o n begins in
     let life : IsLifeTold opening events = record { opened = world; told = told; in_turn = c.law_begun.ensures.numbers opening o.tail.0 events world opened.now rests } in

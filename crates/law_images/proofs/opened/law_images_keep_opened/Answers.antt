@@ -64,7 +64,7 @@ pub returns : goal.returns
 returns c = λ o n bytes events image store begins long none left.
     let opening : World = beginning n bytes in
     let store_opened : IsOpenedStore opening o.tail.0 = c.law_guard_opens.ensures o n bytes begins in
-    let from : IsOpenedFrom bytes o n = record { store = store; world = begins; long = c.law_long_opens.ensures bytes long.newest o long.its long.long store } in
+    let from : IsOpenedFrom bytes o n = record { store = store; world = begins; long = c.law_long_opens.ensures.behind bytes o long store } in
     let world : IsOpenedWorld opening = world_opens o n bytes begins store_opened in
     let told = c.law_told_opens.ensures bytes o n from in
     let life : IsLifeTold opening events = record { opened = world; told = told; in_turn = c.law_begun.ensures.numbers opening o.tail.0 events world store_opened.now (opens_at_rest o n begins) } in

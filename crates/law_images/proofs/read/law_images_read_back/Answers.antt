@@ -64,7 +64,7 @@ returns-clause-slot c = λ o n bytes events image store begins long left.
             says = inl (record { said = refl; fits = fits });
           }
       | inr old ↦
-          let from : IsOpenedFrom bytes o n = record { store = store; world = begins; long = c.law_long_opens.ensures bytes long.newest o long.its long.long store } in
+          let from : IsOpenedFrom bytes o n = record { store = store; world = begins; long = c.law_long_opens.ensures.behind bytes o long store } in
           let told = c.law_told_opens.ensures bytes o n from in
           let block : HasShape image (let was = store.newest in was.shape) = subst (λ (s : Shape). HasShape image s) store.tells.shape (c.law_images_keep_their_shape.ensures o n bytes events image store begins long left) in
           let in_image : manifest.newest image ≡ Some (slot_place n.keeper.last.number) = named.in_force ∙ ap (λ (x : BegunCommit). Some (slot_place x.number)) old.0 in

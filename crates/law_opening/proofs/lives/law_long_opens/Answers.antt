@@ -2,5 +2,8 @@
 use Rattle.law_opening.proofs.OfLives.LongOpens.{long_opens}
 use Rattle.law_opening.proofs.lives.law_long_opens.Goals as goal
 
-pub returns : goal.returns
-returns c = λ bytes n o told long store. long_opens c.law_spellings_apart.ensures.shapes bytes n o told long store
+pub returns-clause-behind : goal.returns-clause-behind
+returns-clause-behind c = λ bytes o far store. long_opens c.law_spellings_apart.ensures.shapes bytes o far store
+
+pub returns-clause-created : goal.returns-clause-created
+returns-clause-created c = λ shape image made. record { newest = made.newest; its = made.told; long = made.long }

@@ -8,6 +8,6 @@ returns c = λ bytes o n store its.
     record {
       guarded = begins.store.now;
       opened = begins.world;
-      seen = record { rests = c.law_phases_open.ensures.rests o n its; seen = λ session first found. (begins.rests.seen session first found).phase };
+      seen = begins.rests;
       sought = its.its_keeper.sought ∙ sym its.its_places.sessions;
     }

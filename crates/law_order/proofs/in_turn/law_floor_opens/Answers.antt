@@ -1,17 +1,16 @@
 -- By the words that an opened store tells: it opens at rest, and each session has seen that.
 use Rattle.fkv_core.specs.Openings.{beginning}
-use Rattle.law_order.proofs.OfRules.Rests.{opens_at_rest}
 use Rattle.law_order.proofs.in_turn.law_floor_opens.Goals as goal
 
 pub returns-clause-floor : goal.returns-clause-floor
 returns-clause-floor c = λ bytes o n events store its.
     let begins = c.law_life_begins.ensures bytes o n store its in
-    c.law_floor_stands.ensures.floor (beginning n bytes) o.tail.0 events begins.store.now begins.world (record { rests = opens_at_rest o n its begins.rests; seen = λ session first found. (begins.rests.seen session first found).phase })
+    c.law_floor_stands.ensures.floor (beginning n bytes) o.tail.0 events begins.store.now begins.world begins.rests
 
 pub returns-clause-near : goal.returns-clause-near
 returns-clause-near c = λ bytes o n events store its.
     let begins = c.law_life_begins.ensures bytes o n store its in
-    c.law_floor_stands.ensures.near (beginning n bytes) o.tail.0 events begins.store.now begins.world (record { rests = opens_at_rest o n its begins.rests; seen = λ session first found. (begins.rests.seen session first found).phase })
+    c.law_floor_stands.ensures.near (beginning n bytes) o.tail.0 events begins.store.now begins.world begins.rests
 
 pub returns-clause-safe : goal.returns-clause-safe
 returns-clause-safe c = λ bytes o n events store its. c.law_views_see_tails.ensures.view (beginning n bytes) o.tail.0 events (c.law_life_begins.ensures bytes o n store its).store.now

@@ -1,18 +1,15 @@
 -- By the words that an opened store tells, and the stages of its lives.
-use Rattle.std.proofs.Common.{arith}
 use Rattle.fkv_core.specs.Openings.{beginning}
-use Rattle.law_order.specs.Rules.Ordered.{opening_version}
-use Rattle.law_order.proofs.OfRules.Rests.{opens_at_rest}
-use Rattle.law_order.proofs.OfRules.Words.{rests_in}
+use Rattle.law_order.proofs.OfRules.Words.{opens_seen}
 use Rattle.law_order.proofs.in_turn.law_phases_open.Goals as goal
 
 pub returns-clause-rests : goal.returns-clause-rests
-returns-clause-rests c = λ o n its. let few = o.few_commits in opens_at_rest o n its (rests_in o n its (c.law_rest_said.ensures (opening_version o) (omega arith) (omega (arith, few))))
+returns-clause-rests c = λ o n its. (opens_seen o n its).rests
 
 pub returns-clause-in_turn : goal.returns-clause-in_turn
 returns-clause-in_turn c = λ bytes o n events store its.
     let begins = c.law_life_begins.ensures bytes o n store its in
-    c.law_begun.ensures.numbers (beginning n bytes) o.tail.0 events begins.world begins.store.now (opens_at_rest o n its begins.rests)
+    c.law_begun.ensures.numbers (beginning n bytes) o.tail.0 events begins.world begins.store.now begins.rests.rests
 
 pub returns-clause-told : goal.returns-clause-told
 returns-clause-told c = λ bytes o n events from.
@@ -20,5 +17,5 @@ returns-clause-told c = λ bytes o n events from.
     record {
       opened = begins.world;
       told = c.law_told_opens.ensures bytes o n from;
-      in_turn = c.law_begun.ensures.numbers (beginning n bytes) o.tail.0 events begins.world begins.store.now (opens_at_rest o n from.world begins.rests);
+      in_turn = c.law_begun.ensures.numbers (beginning n bytes) o.tail.0 events begins.world begins.store.now begins.rests.rests;
     }

@@ -1,27 +1,26 @@
 -- The laws, by what an opened store's life begins with.
 use Rattle.fkv_core.specs.Openings.{beginning}
-use Rattle.law_order.proofs.OfRules.Rests.{opens_at_rest}
 use Rattle.law_order.proofs.opened.law_stages_open.Goals as goal
 
 pub returns-clause-paper : goal.returns-clause-paper
 returns-clause-paper c = λ bytes o n events store its.
     let begins = c.law_life_begins.ensures bytes o n store its in
-    c.law_lives_are_phases.ensures (beginning n bytes) o.tail.0 events begins.store.now begins.world (record { rests = opens_at_rest o n its begins.rests; seen = λ session first found. (begins.rests.seen session first found).phase })
+    c.law_lives_are_phases.ensures (beginning n bytes) o.tail.0 events begins.store.now begins.world begins.rests
 
 pub returns-clause-stages : goal.returns-clause-stages
 returns-clause-stages c = λ bytes o n events store its.
     let begins = c.law_life_begins.ensures bytes o n store its in
-    c.law_phases_in_turn.ensures.stages (beginning n bytes) o.tail.0 events begins.store.now begins.world (opens_at_rest o n its begins.rests)
+    c.law_phases_in_turn.ensures.stages (beginning n bytes) o.tail.0 events begins.store.now begins.world begins.rests.rests
 
 pub returns-clause-rises : goal.returns-clause-rises
 returns-clause-rises c = λ bytes o n events store its.
     let begins = c.law_life_begins.ensures bytes o n store its in
-    c.law_phases_in_turn.ensures.rises (beginning n bytes) o.tail.0 events begins.store.now begins.world (opens_at_rest o n its begins.rests)
+    c.law_phases_in_turn.ensures.rises (beginning n bytes) o.tail.0 events begins.store.now begins.world begins.rests.rests
 
 pub returns-clause-rests : goal.returns-clause-rests
 returns-clause-rests c = λ bytes o n events store its.
     let begins = c.law_life_begins.ensures bytes o n store its in
-    c.law_phases_in_turn.ensures.rests (beginning n bytes) o.tail.0 events begins.store.now begins.world (opens_at_rest o n its begins.rests)
+    c.law_phases_in_turn.ensures.rests (beginning n bytes) o.tail.0 events begins.store.now begins.world begins.rests.rests
 
 pub returns-clause-stamped : goal.returns-clause-stamped
 returns-clause-stamped c = λ bytes o n events session first its store world became.

@@ -1,5 +1,5 @@
 -- The law, by those of its parts.
-use Rattle.std.proofs.Common.{sym, subst, arith}
+use Rattle.std.proofs.Common.{sym, subst}
 use Rattle.fkv_base.specs.declared.shapes.Shape.{Shape}
 use Rattle.law_changes.proofs.OfDevice.Image.{in_image}
 use Rattle.law_changes.proofs.OfDevice.Mailboxes.{mailboxes_empty}
@@ -8,16 +8,14 @@ use Rattle.law_parts.proofs.OfMail.Openings.{opened_mailbox}
 use Rattle.law_refine.specs.Events.GhostEvents.{home_in}
 use Rattle.law_opening.specs.Log.Maps.{opening_map}
 use Rattle.law_opening.specs.Log.OpeningLog.{opening_ghosts}
-use Rattle.law_order.specs.Rules.Ordered.{opening_version}
-use Rattle.law_order.proofs.OfRules.Beginning.{cells_rest, world_opens}
-use Rattle.law_order.proofs.OfRules.Words.{rests_in}
+use Rattle.law_order.proofs.OfRules.Beginning.{world_opens}
+use Rattle.law_order.proofs.OfRules.Words.{opens_seen}
 use Rattle.law_order.proofs.rules.law_life_begins.Goals as goal
 
 pub returns : goal.returns
 returns c = λ bytes o n store world.
     let guarded = c.law_guard_opens.ensures o n bytes world in
     let begins = c.law_log_begins.ensures bytes o n store world in
-    let few = o.few_commits in
     let opened : IsOpened (home_in n.shape.bucket_bits) (opening_map bytes o) o.number.0 (opening_ghosts bytes o) =
     subst (λ (s : Shape). IsOpened (home_in s.bucket_bits) (opening_map bytes o) o.number.0 (opening_ghosts bytes o)) (sym world.its_shape) (c.law_log_opened.ensures.opened bytes o store) in
     record {
@@ -25,12 +23,11 @@ returns c = λ bytes o n store world.
       store = guarded;
       index = c.law_index_opens.ensures.opened o n bytes world;
       mailboxes = λ session there. opened_mailbox n o.tail.0 session guarded.now (mailboxes_empty o n world (c.law_words_open.ensures.words o n world)) there;
-      rests = rests_in o n world (c.law_rest_said.ensures (opening_version o) (omega arith) (omega (arith, few)));
+      rests = opens_seen o n world;
       log = opened;
       fixed = begins.fixed;
       unborn = begins.unborn;
       reserves = begins.reserves_nothing;
-      cells = cells_rest (home_in n.shape.bucket_bits) (opening_map bytes o) o.number.0 (opening_ghosts bytes o) opened;
       heads = c.law_log_heads.ensures bytes o n store world;
       device = in_image bytes o n store world.its_shape (c.law_log_counted.ensures bytes o store);
     }
