@@ -1,10 +1,10 @@
 //! What the copies of the index are in every life.
 ghost use Rattle.law_commit.specs.Laws.Copied as copied;
 
-/// In every life of a store that was opened, with commits too, the copy that the keeper has begun last is a run of the world of a copy, over the index
-/// of the life. Where a full commit counts as copied, that copy is finished: the keeper has it in hand, or its triples are what is written as the
-/// commit's checkpoint. At every moment each entry that was copied has stood at a step of the copy, and no home was copied twice. At its end no home
-/// is left out that had an entry when it began.
+/// In every life of a store that was opened, with commits too, the copy that the keeper has begun last goes over the index of the life, as far as the keeper's
+/// replies lead. As long as the device works, and the writes of a full commit that counts as copied have not begun, that copy is finished and in the keeper's
+/// hand. From then on, while the commit is in hand, its triples are what is written as its checkpoint. At every moment each entry that was copied has stood at
+/// a step of the copy, and no home was copied twice. At its end no home is left out that had an entry when it began.
 pub fn law_world_copied()
     ensures index { copied.CopiesGoOverTheIndex }
     ensures replies { copied.CopiesGoByReplies }

@@ -4,9 +4,9 @@ ghost use Rattle.law_commit.specs.Floor.Stands.{FloorAlwaysStands, ViewsAreNear}
 
 use law_paper::law_phases_are_seen;
 
-/// Each life of a store that opened at rest, as its sessions have seen, is a run of the phases on paper. So it is whatever its calls, commits and the order
-/// of its steps. Each of its events is some on paper, and each of these is enabled there. They are what its session does, the steps of the phase word, raises
-/// of the epoch, reservations, and what is safe then. What is on paper shows the life at each moment.
+/// Each life of a store that opened at rest, as its sessions have seen, is a run of the phases on paper. So it is whatever its calls, commits and the order of
+/// its steps. Each of its events is some on paper, or none, and each of these is enabled there. What is on paper shows the life at each moment: the rank of the
+/// phase word, the epoch, what is safe, the tail, and what each session has seen of them.
 pub fn law_lives_are_phases()
     ensures { LivesAreOnPaper }
 {

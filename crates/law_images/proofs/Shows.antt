@@ -15,6 +15,7 @@ use Rattle.fkv_scan.specs.Log as scan
 use Rattle.law_changes.proofs.OfDevice.Words.{value_fits}
 use Rattle.law_changes.specs.Fits.{CellFits}
 use Rattle.law_images.proofs.Ranges.{range_same}
+use Rattle.law_images.specs.Records.{ShowsGivenUp}
 use Rattle.law_images.proofs.Words.{low_bytes, low_word}
 use Rattle.law_log.specs.Chains.{Cell}
 use Rattle.law_opening.specs.Log.Records.{IsCellOf, cell_of}
@@ -51,13 +52,10 @@ low_spelled header key value =
     ap (λ (bytes : List ℕ). to_le_bytes w64 header ++ (bytes ++ (to_le_bytes w64 (value % 2 ^ 64) ++ []))) (low_bytes key)
     ∙ ap (λ (bytes : List ℕ). to_le_bytes w64 header ++ (to_le_bytes w64 key ++ (bytes ++ []))) (low_bytes value)
 
-pub shows_given_up : (image : scan.Log) (a : ℕ) (words : RecordWord → ℕ) (cell : Cell) → HasWords image a words → IsGivenUp a cell (words rec.Header) → cell.version ≤ image.version + 1 → ShowsDropped image a
+pub shows_given_up : (image : scan.Log) (a : ℕ) (words : RecordWord → ℕ) (cell : Cell) → HasWords image a words → IsGivenUp a cell (words rec.Header) → ShowsGivenUp image a cell
 unfolding record_bytes
-shows_given_up image a words cell there gives young =
+shows_given_up image a words cell there gives =
     let is = gives.header in
-    let low = gives.falls in
-    let leads = is.leads in
-    let version = is.version in
     record {
       held = record {
         header = is.header;
@@ -68,9 +66,18 @@ shows_given_up image a words cell there gives young =
       };
       stands = ap (λ (h : ℕ). spelled (h ∷ words rec.Key % 2 ^ 64 ∷ words rec.Value % 2 ^ 64 ∷ [])) (sym is.spells) ∙ low_spelled (words rec.Header) (words rec.Key) (words rec.Value) ∙ sym there;
       invalid = is.bit;
-      falls = omega (arith, low, leads);
-      young = omega (arith, young, version);
+      same = is.version;
+      leads = is.leads;
+      falls = gives.falls;
     }
+
+-- so recovery passes over it, if it is of the version after the commit's at most
+pub passes_over : (image : scan.Log) (a : ℕ) (cell : Cell) → ShowsGivenUp image a cell → cell.version ≤ image.version + 1 → ShowsDropped image a
+passes_over image a cell its young =
+    let low = its.falls in
+    let leads = its.leads in
+    let version = its.same in
+    record { held = its.held; stands = its.stands; invalid = its.invalid; falls = omega (arith, low, leads); young = omega (arith, young, version) }
 
 -- a record that counted stands as it stood
 pub shows_counted : (from : ℕ) (was image : scan.Log) (a : ℕ) (cell : Cell) → a < from → image.shape ≡ was.shape → bytes_at image.image (record_place was.shape a) 24 ≡ bytes_at was.image (record_place was.shape a) 24

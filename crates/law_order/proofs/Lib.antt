@@ -1,5 +1,6 @@
 pub mod OfApart
 mod OfAsked
+mod OfCopies
 mod OfDecided
 mod OfKnown
 mod OfLooks

@@ -1,9 +1,12 @@
 -- What the laws of phases, versions, cuts, copies and links say of the lives of opened stores.
 use Rattle.std.specs.List.{AllByRecursion}
-use Rattle.std.specs.Prelude.{◌≡◌, ◌≢◌, ◌<◌, ◌≤◌, ◌+◌, ◌-◌, ℕ, List, Some, false, length, true}
-use Rattle.fkv_checkpoint.specs.Fuzzy.{CopiedHaveStood, HomesOnce, NoneLeftOut}
+use Rattle.std.specs.Prelude.{◌≡◌, ◌≢◌, ◌⊎◌, ◌<◌, ◌≤◌, ◌+◌, ◌-◌, ◌++◌, ℕ, List, Some, false, length, true}
+use Rattle.fkv_base.specs.declared.commits.CommitKind.TheVariants.{Full}
+use Rattle.fkv_checkpoint.specs.Fuzzy.{CopiedHaveStood, HomesOnce, NoneLeftOut, begun_at}
+use Rattle.fkv_checkpoint.specs.Triples.{all_bytes}
 use Rattle.fkv_checkpoint.specs.declared.copying.CopyStep.TheVariants.{Ended}
 use Rattle.fkv_commit.specs.Cuts.{serial_said}
+use Rattle.fkv_commit.specs.declared.commits.Commit.{Commit}
 use Rattle.fkv_core.specs.Openings.{IsOpeningWorld, beginning}
 use Rattle.fkv_epoch.specs.EpochWorld.{safe_of}
 use Rattle.fkv_filling.specs.OpeningIndex.{opening_lists}
@@ -17,13 +20,15 @@ use Rattle.fkv_session.specs.Words.{IsCutAsleep, IsMark}
 use Rattle.fkv_session.specs.declared.sessions.CatchCause.TheVariants.{Wakes}
 use Rattle.fkv_session.specs.declared.sessions.Sitting.TheVariants.{CatchesUp}
 use Rattle.fkv_world.specs.Opened.{HasBecome}
-use Rattle.fkv_world.specs.OwnEvents.{session_events}
+use Rattle.fkv_world.specs.OwnEvents.{keeper_events, session_events}
 use Rattle.fkv_world.specs.Runs.{World, run}
 use Rattle.fkv_world.specs.World.{Event, Now, seat_at}
 use Rattle.law_commit.specs.Accepted.{HasRisingVersion, NeverFall, point, serial_at}
-use Rattle.law_commit.specs.Copied.Covers.{CoverHeads, HasBegunFor, HasStoodSince, LeadIntoChains, before_copy}
-use Rattle.law_commit.specs.Copied.Runs.{copy_events, opening_copy, seen_by_copy}
+use Rattle.law_commit.specs.BegunCommits.{BegunCommit, life_begun}
+use Rattle.law_commit.specs.Copied.Covers.{CoverHeads, HasBegunFor, HasStoodSince, LeadIntoChains, MayBeCopied, before_copy}
+use Rattle.law_commit.specs.Copied.Runs.{IsCopyBy, KeepsCopy, WritesCopy, copy_events, opening_copy, seen_by_copy}
 use Rattle.law_commit.specs.Cuts.{IsCutPlace, durable_at, life_leaving, serial_before, stored_by_keeper, stored_by_session, word_now}
+use Rattle.law_commit.specs.Decided.Ended.{span_in, span_of, span_opened}
 use Rattle.law_commit.specs.Linked.{HaveMetEmpty, MeetEmpty}
 use Rattle.law_commit.specs.PhaseVersions.{phase_version}
 use Rattle.law_commit.specs.Phases.Staged.{HasStage}
@@ -32,8 +37,11 @@ use Rattle.law_commit.specs.PrefixPast.{prefix_past}
 use Rattle.law_commit.specs.Views.{View, sight_of}
 use Rattle.law_guard.specs.Guarded.Shows.{seen_by_guard}
 use Rattle.law_log.specs.Ghosts.{Ghosts}
+use Rattle.law_log.specs.Trace.{IsIn}
 use Rattle.law_opening.specs.Log.OpeningLog.{opening_ghosts}
+use Rattle.law_parts.specs.Index.Shows.{seen_by_index}
 use Rattle.law_refine.specs.Events.GhostEvents.{life_ghosts}
+use Rattle.law_world.specs.Keeper.Lives.{life_writing, replies_copied}
 
 -- ---- of a session
 -- so it is of each session in each life of an opened store, as it began and as it is now
@@ -121,6 +129,26 @@ abbrev pub WithItsIndex : (World → (ℕ → List ℕ) → Ghosts → List Even
 WithItsIndex P =
     (bytes : List ℕ) (o : Opened) (n : Now) (events : List Event) → IsStoreOf bytes o → IsOpeningWorld o n → P (beginning n bytes) (opening_lists o.entries.items) (opening_ghosts bytes o) events
 
+-- the copy that the keeper has begun last goes over the index of the life
+abbrev pub CopiesItsIndex : World → (ℕ → List ℕ) → Ghosts → List Event → Type 0
+CopiesItsIndex opening lists ghosts events = (seen_by_copy opening lists events).index ≡ seen_by_index opening lists events
+
+-- it began with the index as that was then
+abbrev pub BeginsWithItsIndex : World → (ℕ → List ℕ) → Ghosts → List Event → Type 0
+BeginsWithItsIndex opening lists ghosts events = begun_at (opening_copy opening lists) (copy_events opening events) ≡ seen_by_index opening lists (before_copy opening events)
+
+-- and has come as far as the keeper's replies lead
+abbrev pub CopiesByReplies : World → (ℕ → List ℕ) → Ghosts → List Event → Type 0
+CopiesByReplies opening lists ghosts events = IsCopyBy opening.now.places (replies_copied opening (keeper_events opening events)) (seen_by_copy opening lists events)
+
+-- it is finished and in hand, as long as the device works and the writes of a full commit that counts as copied have not begun
+abbrev pub KeepsItsCopy : World → (ℕ → List ℕ) → Ghosts → List Event → Type 0
+KeepsItsCopy opening lists ghosts events = KeepsCopy opening.now.places (run opening events).now.keeper (seen_by_copy opening lists events)
+
+-- then its triples are what is written
+abbrev pub WritesItsCopy : World → (ℕ → List ℕ) → Ghosts → List Event → Type 0
+WritesItsCopy opening lists ghosts events = WritesCopy (run opening events).now.keeper (life_writing opening events) (seen_by_copy opening lists events)
+
 -- each entry that was copied has stood at a step of its copy, and so in the index of the life since the copy began
 abbrev pub CopiesWhatStood : World → (ℕ → List ℕ) → Ghosts → List Event → Type 0
 CopiesWhatStood opening lists ghosts events = CopiedHaveStood (opening_copy opening lists) (copy_events opening events) × AllByRecursion (HasStoodSince opening lists events) (seen_by_copy opening lists events).triples
@@ -145,6 +173,22 @@ CoversItsChains opening lists ghosts events =
 -- the copy of a full commit in hand began while it was in hand
 abbrev pub BeginsItsCopy : World → (ℕ → List ℕ) → Ghosts → List Event → Type 0
 BeginsItsCopy opening lists ghosts events = HasBegunFor opening events
+
+-- A full commit has written the copy that the keeper had begun last at a moment. It was finished then, with the commit in hand, for which it had begun.
+pub record HasWrittenCopy (opening : World) (lists : ℕ → List ℕ) (events : List Event) (c : BegunCommit) : Type 0 where
+  pub moment : List Event
+  pub later : List Event
+  pub split : events ≡ later ++ moment
+  pub commit : Commit
+  pub in_hand : (run opening moment).now.keeper.commit ≡ Some commit
+  pub its : span_of c ≡ span_in commit c.end c.triples
+  pub begun : MayBeCopied (run opening (before_copy opening moment)).now commit
+  pub finished : (let copy = seen_by_copy opening lists moment in copy.copying.step ≡ Ended)
+  pub written : (let copy = seen_by_copy opening lists moment in c.triples ≡ all_bytes copy.triples)
+
+-- so has each full commit that has begun, but the opening's
+abbrev pub CommitsWriteCopies : World → (ℕ → List ℕ) → Ghosts → List Event → Type 0
+CommitsWriteCopies opening lists ghosts events = (c : BegunCommit) → IsIn c (life_begun opening events) → c.kind ≡ Full → HasWrittenCopy opening lists events c ⊎ (span_of c ≡ span_opened opening)
 
 -- a search that loads an eighth word which leads nowhere meets an empty chain
 abbrev pub LinksWhereEmpty : World → (ℕ → List ℕ) → Ghosts → List Event → Type 0

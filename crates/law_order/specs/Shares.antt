@@ -15,7 +15,7 @@ use Rattle.fkv_session.specs.declared.sessions.Sitting.TheVariants.{CatchesUp}
 use Rattle.fkv_session.specs.Sessions.{SessionState, session_ask}
 use Rattle.fkv_world.specs.Opened.{HasBecome}
 use Rattle.fkv_world.specs.OwnEvents.{session_events}
-use Rattle.fkv_world.specs.Runs.{run}
+use Rattle.fkv_world.specs.Runs.{World, run}
 use Rattle.fkv_world.specs.World.{Event, Now, seat_at}
 use Rattle.law_local.specs.Sessions.Known.{is_attempting}
 use Rattle.law_parts.specs.Latches.Latchers.{session_alone}
@@ -78,3 +78,29 @@ abbrev pub AllShareJustInItsLife : Type 0
 AllShareJustInItsLife =
     (bytes : List ℕ) (o : Opened) (n : Now) (events : List Event) (session : ℕ) (first its : SessionState) → IsStoreOf bytes o → IsOpeningWorld o n → HasBecome (beginning n bytes) events session first its
     → has_shifted (seat_at n session) first (session_events (beginning n bytes) session events) ≡ false → seen_by its its.step ≡ its.seen → AllShareSo (SharesJust its.seen) its
+
+-- ---- of each life of which the order law speaks
+-- so it is of each of its sessions, as it began and as it is now
+abbrev pub OfEachSession : (World → List Event → ℕ → SessionState → SessionState → Type 0) → Opened → Now → List ℕ → List Event → Type 0
+OfEachSession P o n bytes events = (session : ℕ) (first its : SessionState) → HasBecome (beginning n bytes) events session first its → P (beginning n bytes) events session first its
+
+-- none of its attempts has ended as a shift and wasn't made again
+abbrev pub HasNotShifted : World → List Event → ℕ → SessionState → SessionState → Type 0
+HasNotShifted opening events session first its = has_shifted (seat_at opening.now session) first (session_events opening session events) ≡ false
+
+-- in prepare each of its updates that waits shares its latch
+abbrev pub SharesInPrepare : World → List Event → ℕ → SessionState → SessionState → Type 0
+SharesInPrepare opening events session first its = ShareSitting its its.step
+
+-- each does from where it has come to prepare of the update's version
+abbrev pub ShareSincePrepare : World → List Event → ℕ → SessionState → SessionState → Type 0
+ShareSincePrepare opening events session first its = AllShareSo (SharesSince its.seen) its
+
+-- so an update that it tries and that is of an earlier version than its own has come with its share
+abbrev pub OlderComesSharing : World → List Event → ℕ → SessionState → SessionState → Type 0
+OlderComesSharing opening events session first its =
+    is_attempting its.step ≡ true → its.attempt.step ≡ Tries → is_read its.attempt.pending.request.op ≡ false → its.attempt.pending.request.version.0 < its.seen.version.0 → its.attempt.trial.request.has_latch ≡ true
+
+-- and each shares its latch just if it has come there, as long as it takes up no other phase
+abbrev pub ShareJustSincePrepare : World → List Event → ℕ → SessionState → SessionState → Type 0
+ShareJustSincePrepare opening events session first its = seen_by its its.step ≡ its.seen → AllShareSo (SharesJust its.seen) its

@@ -1,4 +1,5 @@
-//! Of each life of a store that was opened: its commits' phases and numbers are in turn, so one commit always stands.
+//! Of each life of a store that was opened: it begins as the laws of phases, versions and points ask. So commits' numbers are in turn, views have their floor,
+//! and one commit always stands.
 ghost use Rattle.law_order.specs.InTurn.Laws as commits;
 ghost use Rattle.law_order.specs.Rules.Openings.{OpensItsEnds, OpensItsPoints, OpensItsVersions};
 
@@ -7,9 +8,9 @@ use fkv_disk::Device;
 use law_commit::{law_begun, law_floor_stands, law_views_see_tails};
 use law_opening::{law_opened_commit_stands, law_told_opens};
 
-/// An opened store opens at rest: its phase word says rest of the version behind its newest commit's number, and each session has seen that. So the laws of
-/// `law_commit` hold of each of its lives: versions never fall, and each commit that begins has the number behind the newest finished one's. So
-/// `law_world_one_commit_stands` speaks of each of its lives, with commits, crashes and failing calls of the device, whatever their order.
+/// An opened store opens at rest: its phase word says rest of the version behind its newest commit's number, and each session has seen that version. In each of
+/// its lives, with commits, crashes and failing calls of the device, each commit that begins has the number behind the newest finished one's. So
+/// `law_world_one_commit_stands` speaks of each, if the opened bytes end behind slots and triples.
 pub fn law_phases_open()
     ensures rests { commits.OpensItsStoreAtRest }
     ensures in_turn { commits.NumbersItsCommitsInTurn }

@@ -48,7 +48,7 @@ pub use reads::law_world_reads;
 pub use rows::{law_requests_asked, law_rows_go_on, law_waits_stay};
 pub use rules::{law_cuts_open, law_life_begins, law_order_of_rules};
 pub use served::law_world_served;
-pub use shares::law_shares_open;
+pub use shares::{law_shares_open, law_updates_share};
 pub use tickets::law_tickets_apart;
 pub use told::law_world_told;
 pub use truth::law_world_truth;

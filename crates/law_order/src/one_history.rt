@@ -1,7 +1,8 @@
 //! The order law of the engine, in every life.
 ghost use Rattle.law_opening.specs.Log.Lives.{KeepsRules};
-ghost use Rattle.law_order.specs.OneHistory.Beside.{HasItsHistory, KeepsItsOrder};
+ghost use Rattle.law_order.specs.OneHistory.Beside.{HasItsHistory};
 ghost use Rattle.law_order.specs.OneHistory.EachLife as lives;
+ghost use Rattle.law_order.specs.Ordered.Keeps.{KeepsItsOrder};
 ghost use Rattle.law_order.specs.Rules.InTime.{ReadsInTime};
 ghost use Rattle.law_order.specs.Rules.Ordered as laws;
 
@@ -17,8 +18,8 @@ use law_opening::law_latches_open;
 use law_paper::law_phases_are_seen;
 use law_parts::law_latched_in_tries;
 
-/// Each life keeps order, with commits too. Each event of the log beside it is enabled, what a session is about to change in place is published, and at each
-/// moment sessions know what they have to of the log. Its calls are of numbers below 2^64, and fewer than 2^64 - 1 calls of sessions begin.
+/// Each life keeps order, with no further premise: it begins so, and what the induction is given of phases, latches and versions holds of each life. So each
+/// event of the log beside it is enabled, and what a session is about to change in place is published. And no attempt ends as a shift and isn't made again.
 pub fn law_lives_keep_order()
     ensures { lives.InEachLife KeepsItsOrder }
 {
@@ -37,7 +38,7 @@ pub fn law_lives_keep_order()
     law_views_see_tails();
 }
 
-/// So each life keeps to the rules of that log, and what `law_log` says of logs holds beside each life.
+/// So each life keeps to the rules of that log. What `law_log` says of logs holds beside each life.
 pub fn law_lives_keep_rules()
     ensures { lives.InEachLife KeepsRules }
 {

@@ -3,10 +3,10 @@ ghost use Rattle.law_commit.specs.Floor.OnPaper.{IsOnPaper};
 ghost use Rattle.law_commit.specs.PhaseVersions.{HasRisingPhase, RestsAreNext};
 ghost use Rattle.law_order.specs.Opened as opened;
 
-use crate::in_turn::law_phases_open;
+use crate::in_turn::{law_ends_open, law_phases_open};
 use crate::rules::{law_cuts_open, law_life_begins};
 use law_commit::{
-    law_copies_cover, law_cuts_stand, law_durable_stands, law_links_meet_empty,
+    law_commits_ended, law_copies_cover, law_cuts_stand, law_durable_stands, law_links_meet_empty,
     law_lives_are_phases, law_marks_stand, law_phases_in_turn, law_stamps_are_loads,
     law_versions_counted, law_world_copied,
 };
@@ -64,20 +64,30 @@ pub fn law_marks_open()
     law_durable_stands();
 }
 
-/// In each such life the copy of the index that the keeper has begun last has each home once, by an entry that has stood there since. It leaves none out that
-/// had an entry as it began. Its triples lead into the chains of the log, and a finished copy covers them as they were then. The copy of a full commit in hand
-/// began while the commit was in hand.
+/// In each such life the copy of the index that the keeper has begun last has each home once, by an entry that has stood there since. It goes over the life's
+/// index, from how that was then, and as far as the keeper's replies lead. Once finished it leaves none out that had an entry as it began. Its triples lead
+/// into the chains of the log, and a finished copy covers them as they were then. The copy of a full commit in hand began while the commit was in hand. As long
+/// as the device works and its writes have not begun, the copy of one that counts as copied is finished and in hand. Then its triples are what is written. So
+/// each full commit that has begun, but the opening's, has written such a copy.
 pub fn law_copies_open()
+    ensures index { opened.WithItsIndex opened.CopiesItsIndex }
+    ensures begun { opened.WithItsIndex opened.BeginsWithItsIndex }
+    ensures replies { opened.WithItsIndex opened.CopiesByReplies }
+    ensures held { opened.WithItsIndex opened.KeepsItsCopy }
+    ensures written { opened.WithItsIndex opened.WritesItsCopy }
     ensures stood { opened.WithItsIndex opened.CopiesWhatStood }
     ensures once { opened.WithItsIndex opened.CopiesHomesOnce }
     ensures whole { opened.WithItsIndex opened.LeavesNoneOut }
     ensures in_chains { opened.WithItsIndex opened.LeadsIntoChains }
     ensures covers { opened.WithItsIndex opened.CoversItsChains }
     ensures commit { opened.WithItsIndex opened.BeginsItsCopy }
+    ensures full { opened.WithItsIndex opened.CommitsWriteCopies }
 {
     law_life_begins();
+    law_ends_open();
     law_world_copied();
     law_copies_cover();
+    law_commits_ended();
 }
 
 /// In each such life an update's search that goes on to link an overflow bucket has met an empty chain.

@@ -1,4 +1,4 @@
-//! The law of prefixes: what follows of its parts. The law itself is `PrefixLaw`, of which not all is proved yet.
+//! The law of prefixes: what follows of its parts. The law itself is `PrefixLaw`; `law_prefix` shows it.
 ghost use Rattle.law_order.specs.OneHistory.EachLife.{InEachLife};
 ghost use Rattle.law_order.specs.Prefix.Durable.{ToldNeverFalls};
 ghost use Rattle.law_order.specs.Prefix.Law as said;

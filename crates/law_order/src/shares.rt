@@ -1,6 +1,8 @@
 //! Shares of latches in the lives of opened stores.
+ghost use Rattle.law_order.specs.OneHistory.EachLife.{InEachLife};
 ghost use Rattle.law_order.specs.Shares as shares;
 
+use crate::one_history::law_lives_keep_order;
 use crate::rules::law_life_begins;
 use law_commit::law_shares_not_missed;
 use law_opening::law_latches_open;
@@ -9,7 +11,7 @@ use law_opening::law_latches_open;
 /// latch. No share is missed that a session adds as it takes up prepare, and a live session leaves a version from its prepare alone. So in prepare each update
 /// that waits shares its latch, as long as no attempt has ended as a shift and isn't made again. No update shares its latch before its session has come to prepare
 /// of the update's version. From there on each does, again as long as no attempt has ended so. So while a session takes up no other phase, an update shares its
-/// latch just if its session has come to prepare of its version.
+/// latch just if its session has come to prepare of its version. No attempt ends so in the lives of which the order law speaks: `law_updates_share`.
 pub fn law_shares_open()
     ensures alone { shares.HoldsAloneBetweenInItsLife }
     ensures tries { shares.SharesInTriesOfItsLife }
@@ -24,4 +26,19 @@ pub fn law_shares_open()
     law_life_begins();
     law_latches_open();
     law_shares_not_missed();
+}
+
+/// In each life each update shares its latch from where its session has come to prepare of its version, in its tries too. For no attempt ends as a shift and
+/// isn't made again. In prepare all updates that wait share theirs, between their session's calls and in them. One that is tried and is of the version before
+/// its session's has come with its share. While a session takes up no other phase, an update shares its latch just if its session has come to prepare of its
+/// version. No share is missed as a session takes up prepare: `law_shares_open` (`meets`).
+pub fn law_updates_share()
+    ensures shifts { InEachLife (shares.OfEachSession shares.HasNotShifted) }
+    ensures prepare { InEachLife (shares.OfEachSession shares.SharesInPrepare) }
+    ensures since { InEachLife (shares.OfEachSession shares.ShareSincePrepare) }
+    ensures older { InEachLife (shares.OfEachSession shares.OlderComesSharing) }
+    ensures just { InEachLife (shares.OfEachSession shares.ShareJustSincePrepare) }
+{
+    law_shares_open();
+    law_lives_keep_order();
 }

@@ -10,14 +10,13 @@ use Rattle.law_order.specs.Rules.Ordered.{OfEachKept}
 use Rattle.fkv_world.specs.World.{Event, Now}
 use Rattle.law_order.specs.Known.Begins.{BeginsLife, BegunLife}
 use Rattle.law_order.specs.Known.Told.{TicketsAreApart}
-use Rattle.law_order.specs.Ordered.Keeps.{KeepsOrder}
+use Rattle.law_order.specs.Ordered.Keeps.{KeepsItsOrder, KeepsOrder}
 use Rattle.law_order.specs.Apart.Given.{Given}
 use Rattle.law_order.specs.Apart.Lives.{OpensApart}
 use Rattle.law_order.specs.Rules.Openings.{OpensItsEnds, OpensItsVersions}
 use Rattle.law_parts.specs.Latches.Shows as latches
 use Rattle.law_order.specs.Served.Fits.{CallsFit, CellsFit}
 use Rattle.law_order.proofs.OfTickets.Life.{tickets_apart}
-use Rattle.law_order.specs.OneHistory.Beside.{KeepsItsOrder}
 use Rattle.law_order.specs.OneHistory.EachLife.{InEachLife}
 
 -- what a life begins with
@@ -40,8 +39,8 @@ pub record OpensSo : Type 0 where
   pub versions : OpensItsVersions
   pub latches : (o : Opened) (n : Now) → IsOpeningWorld o n → latches.IsOpened n
 
-pub keeps_order : LivesBegin → OpensSo → Given → OpeningsFit → LivesKeepOrder → InEachLife KeepsItsOrder
-keeps_order lives opens given fit keep = λ its is.
+pub keeps_its_order : LivesBegin → OpensSo → Given → OpeningsFit → LivesKeepOrder → InEachLife KeepsItsOrder
+keeps_its_order lives opens given fit keep = λ its is.
     let n : Now = its.world in
     let bytes : List ℕ = its.bytes in
     let o : Opened = its.opened in
@@ -59,5 +58,5 @@ keeps_order lives opens given fit keep = λ its is.
 
 pub of_each_life : (P : Opened → Now → List ℕ → List Event → Type 0) → InEachLife KeepsItsOrder → OfEachKept P → InEachLife P
 of_each_life P keep kept = λ its is.
-    let keeps : KeepsOrder (beginning its.world its.bytes) (opening_ghosts its.bytes its.opened) its.events = keep its is in
+    let keeps : KeepsItsOrder its.opened its.world its.bytes its.events = keep its is in
     kept its.bytes its.opened its.world its.events is.store is.begins keeps.enabled keeps.published

@@ -1,9 +1,12 @@
 -- What every life keeps to, event by event.
-use Rattle.std.specs.Prelude.{List}
+use Rattle.std.specs.Prelude.{ℕ, List}
+use Rattle.fkv_core.specs.Openings.{beginning}
+use Rattle.fkv_opening.specs.declared.opened_store.Opened.{Opened}
 use Rattle.law_log.specs.Ghosts.{Ghosts}
 use Rattle.law_log.specs.Enabled.{AreEnabled}
 use Rattle.fkv_world.specs.Runs.{World}
-use Rattle.fkv_world.specs.World.{Event}
+use Rattle.fkv_world.specs.World.{Event, Now}
+use Rattle.law_opening.specs.Log.OpeningLog.{opening_ghosts}
 use Rattle.law_order.specs.Apart.Lives.{AllApartBehind}
 use Rattle.law_order.specs.Known.Begins.{home_of_world}
 use Rattle.law_order.specs.Known.Knows.{AreKnown}
@@ -20,3 +23,7 @@ pub record KeepsOrder (opening : World) (ghosts : Ghosts) (events : List Event) 
   pub reads : AreReadsKnown opening ghosts events
   -- at this moment its sessions keep updates apart from those of other versions
   pub apart : AllApartBehind opening ghosts events
+
+-- so it is with a life of an opened store, beside the log of its image
+abbrev pub KeepsItsOrder : Opened → Now → List ℕ → List Event → Type 0
+KeepsItsOrder o n bytes events = KeepsOrder (beginning n bytes) (opening_ghosts bytes o) events

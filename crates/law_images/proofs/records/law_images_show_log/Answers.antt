@@ -15,8 +15,9 @@ use Rattle.law_guard.specs.Guarded.OpenedStore.{IsOpenedStore}
 use Rattle.law_guard.specs.Guarded.Shows.{guard_opening}
 use Rattle.law_images.specs.Left.{flushed_so_far}
 use Rattle.law_images.proofs.OpenedLong.{holds_below}
-use Rattle.law_images.proofs.Shows.{HasWords, old_bytes, shows_counted, shows_given_up, shows_words}
-use Rattle.law_log.specs.Chains.{Cell, Logged, Published, Unborn}
+use Rattle.law_images.specs.Records.{ShowsGivenUp}
+use Rattle.law_images.proofs.Shows.{HasWords, old_bytes, passes_over, shows_counted, shows_given_up, shows_words}
+use Rattle.law_log.specs.Chains.{Cell, Dropped, Logged, Published, Unborn}
 use Rattle.law_log.specs.Enabled.{IsOpened}
 use Rattle.law_log.specs.Ghosts.{Ghosts}
 use Rattle.law_opening.specs.Log.Maps.{opening_map}
@@ -51,6 +52,8 @@ returns c = λ o n bytes events image store begins long fits left shape.
     let counted = c.law_log_counted.ensures bytes o store in
     let log : IsOpened (home_in o.shape.bucket_bits) (opening_map bytes o) o.number.0 ghosts = c.law_log_opened.ensures.opened bytes o store in
     let same : (a : ℕ) → a < o.tail.0 → (ghosts_beside o n bytes events).log.cells a ≡ ghosts.log.cells a = λ a low. c.law_lives_change_published.ensures.old o n bytes events a store begins low in
+    let given_up : (a : ℕ) (cell : Cell) → (ghosts_beside o n bytes events).log.cells a ≡ Dropped cell → o.tail.0 ≤ a → a < flushed_so_far n bytes events → ShowsGivenUp image a cell = λ a cell e from to.
+    shows_given_up image a (words a) cell (there a from to) (headers.dropped a cell from e) in
     record {
       published = λ a cell e to. elim (cases_lt a o.tail.0) [
         | inl low ↦
@@ -64,5 +67,6 @@ returns c = λ o n bytes events image store begins long fits left shape.
             let its = shows a cell high e in
             shows_words o.tail.0 image a (words a) cell (there a high to) (headers.published a cell high e) its.key its.value (c.law_lives_fit.ensures.fit o n bytes events store begins fits a cell e)
       ];
-      dropped = λ a cell e from to young. shows_given_up image a (words a) cell (there a from to) (headers.dropped a cell from e) young;
+      given_up = given_up;
+      dropped = λ a cell e from to young. passes_over image a cell (given_up a cell e from to) young;
     }

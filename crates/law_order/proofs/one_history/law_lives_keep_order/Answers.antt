@@ -1,9 +1,11 @@
--- By the induction over events, of what an opened store's life begins with.
-use Rattle.law_order.proofs.OfOneHistory.EachLife.{keeps_order}
+-- The law, by those of its parts.
+use Rattle.law_order.proofs.OfOneHistory.EachLife.{keeps_its_order}
 use Rattle.law_order.proofs.one_history.law_lives_keep_order.Goals as goal
 
 pub returns : goal.returns
-returns c = keeps_order c.law_life_begins.ensures (record { ends = c.law_ends_open.ensures; versions = c.law_versions_open.ensures; latches = c.law_latches_open.ensures })
+returns c =
+    keeps_its_order c.law_life_begins.ensures
+    (record { ends = c.law_ends_open.ensures; versions = c.law_versions_open.ensures; latches = c.law_latches_open.ensures })
     (record {
       sound = c.law_phases_are_seen.ensures.sound;
       floor = c.law_phases_are_seen.ensures.floor;

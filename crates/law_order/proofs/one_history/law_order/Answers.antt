@@ -1,4 +1,4 @@
--- The law, by those of its parts.
+-- The law, of lives that keep order.
 use Rattle.law_order.specs.Rules.InTime.{ReadsInTime}
 use Rattle.law_order.specs.Rules.Ordered.{HasLegalHistory, IsGuarded, OrdersItsCalls, ReadsFreshly}
 use Rattle.law_order.proofs.OfOneHistory.EachLife.{of_each_life}

@@ -2,7 +2,33 @@
 use Rattle.fkv_core.specs.Openings.{beginning}
 use Rattle.fkv_filling.specs.OpeningIndex.{opening_lists}
 use Rattle.law_opening.specs.Log.OpeningLog.{opening_ghosts}
+use Rattle.law_order.proofs.OfCopies.{full_written}
 use Rattle.law_order.proofs.opened.law_copies_open.Goals as goal
+
+pub returns-clause-index : goal.returns-clause-index
+returns-clause-index c = λ bytes o n events store world.
+    let life = c.law_life_begins.ensures bytes o n store world in
+    c.law_world_copied.ensures.index (beginning n bytes) (opening_lists o.entries.items) events life.index
+
+pub returns-clause-begun : goal.returns-clause-begun
+returns-clause-begun c = λ bytes o n events store world.
+    let life = c.law_life_begins.ensures bytes o n store world in
+    c.law_copies_cover.ensures.begun (beginning n bytes) (opening_lists o.entries.items) events life.index
+
+pub returns-clause-replies : goal.returns-clause-replies
+returns-clause-replies c = λ bytes o n events store world.
+    let life = c.law_life_begins.ensures bytes o n store world in
+    c.law_world_copied.ensures.replies (beginning n bytes) (opening_lists o.entries.items) events life.index
+
+pub returns-clause-held : goal.returns-clause-held
+returns-clause-held c = λ bytes o n events store world.
+    let life = c.law_life_begins.ensures bytes o n store world in
+    c.law_world_copied.ensures.held (beginning n bytes) (opening_lists o.entries.items) events life.index
+
+pub returns-clause-written : goal.returns-clause-written
+returns-clause-written c = λ bytes o n events store world.
+    let life = c.law_life_begins.ensures bytes o n store world in
+    c.law_world_copied.ensures.written (beginning n bytes) (opening_lists o.entries.items) events life.index
 
 pub returns-clause-stood : goal.returns-clause-stood
 returns-clause-stood c = λ bytes o n events store world.
@@ -33,3 +59,8 @@ pub returns-clause-commit : goal.returns-clause-commit
 returns-clause-commit c = λ bytes o n events store world.
     let life = c.law_life_begins.ensures bytes o n store world in
     c.law_copies_cover.ensures.commit (beginning n bytes) (opening_lists o.entries.items) events life.index
+
+pub returns-clause-full : goal.returns-clause-full
+returns-clause-full c = λ bytes o n events store world.
+    let life = c.law_life_begins.ensures bytes o n store world in
+    full_written c.law_commits_ended.ensures c.law_world_copied.ensures.held c.law_copies_cover.ensures.commit (beginning n bytes) o.tail.0 (opening_lists o.entries.items) events (c.law_ends_open.ensures bytes o n store world) life.index
