@@ -8,10 +8,10 @@ use Rattle.law_images.specs.Named.{NamesBegun}
 use Rattle.law_opening.specs.Lives.Reaching.{ReachesFar}
 use Rattle.law_order.specs.Decided.Cut.{log_beside}
 use Rattle.law_paper.specs.Paper.Named.{HoldsCommit}
-use Rattle.law_prefix.specs.Leaves.{Leaves, NamesNew, homes_of}
+use Rattle.law_prefix.specs.Leaves.{SaidOfLeft, SaidOfNamed, homes_of}
 
 -- the image holds the commit of its life that it names
-abbrev pub HoldsItsCommit : (o : Opened) (n : Now) (bytes : List ℕ) (events : List Event) (image : List ℕ) → Leaves o n bytes events image → NamesNew o n bytes events image → Type 0
+abbrev pub HoldsItsCommit : SaidOfNamed
 HoldsItsCommit o n bytes events image leaves names = HoldsCommit (homes_of n) image names.newest (log_beside o n bytes events)
 
 -- An image names a commit that has begun, or the opening's. It says the commit's number and its points, and holds the commit. It ends behind all that it names.
@@ -25,5 +25,5 @@ pub record HoldsBegun (o : Opened) (n : Now) (bytes : List ℕ) (events : List E
   pub holds : HoldsCommit (homes_of n) image newest (log_beside o n bytes events)
   pub far : ReachesFar image
 
-abbrev pub HoldsTheNamed : (o : Opened) (n : Now) (bytes : List ℕ) (events : List Event) (image : List ℕ) → Leaves o n bytes events image → Type 0
+abbrev pub HoldsTheNamed : SaidOfLeft
 HoldsTheNamed o n bytes events image leaves = HoldsBegun o n bytes events image

@@ -40,13 +40,20 @@ pub record NamesNew (o : Opened) (n : Now) (bytes : List ℕ) (events : List Eve
   pub says : SaysCommit o n (flushed_so_far n bytes events) commit newest
   pub made : (let c = commit in AreTriplesOf n.shape bytes (commit_opened n bytes) (begun_so_far n bytes events) c.checkpoint (triples_in n.shape image c.checkpoint))
 
+-- ---- what is said of an image that a life leaves, and of one that names a commit of its life
+abbrev pub SaidOfLeft : Type 1
+SaidOfLeft = (o : Opened) (n : Now) (bytes : List ℕ) (events : List Event) (image : List ℕ) → Leaves o n bytes events image → Type 0
+
+abbrev pub SaidOfNamed : Type 1
+SaidOfNamed = (o : Opened) (n : Now) (bytes : List ℕ) (events : List Event) (image : List ℕ) → Leaves o n bytes events image → NamesNew o n bytes events image → Type 0
+
 -- so it is of each image that names a commit of its life
-abbrev pub OfEachNamed : ((o : Opened) (n : Now) (bytes : List ℕ) (events : List Event) (image : List ℕ) → Leaves o n bytes events image → NamesNew o n bytes events image → Type 0) → Type 0
+abbrev pub OfEachNamed : SaidOfNamed → Type 0
 OfEachNamed P =
     (o : Opened) (n : Now) (bytes : List ℕ) (events : List Event) (image : List ℕ) (leaves : Leaves o n bytes events image) (names : NamesNew o n bytes events image) → P o n bytes events image leaves names
 
 -- and of each image that a life leaves
-abbrev pub OfEachLeft : ((o : Opened) (n : Now) (bytes : List ℕ) (events : List Event) (image : List ℕ) → Leaves o n bytes events image → Type 0) → Type 0
+abbrev pub OfEachLeft : SaidOfLeft → Type 0
 OfEachLeft P =
     (o : Opened) (n : Now) (bytes : List ℕ) (events : List Event) (image : List ℕ) (leaves : Leaves o n bytes events image) → P o n bytes events image leaves
 

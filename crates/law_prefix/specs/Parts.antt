@@ -10,19 +10,19 @@ use Rattle.law_order.specs.Decided.Cut.{log_beside}
 use Rattle.law_paper.specs.Paper.Images.{IsOrderly, ShowsLog}
 use Rattle.law_paper.specs.Paper.Old.{GoesOnFrom, HasWhatCounted, LosesTheRest, WasSound}
 use Rattle.law_paper.specs.Paper.Stands.{CoversChains}
-use Rattle.law_prefix.specs.Leaves.{Leaves, NamesNew, homes_of, log_named, log_then}
+use Rattle.law_prefix.specs.Leaves.{Leaves, NamesNew, SaidOfLeft, SaidOfNamed, homes_of, log_named, log_then}
 
 -- ---- the log's part
 -- the log beside the life is in order
-abbrev pub HasOrderlyLog : (o : Opened) (n : Now) (bytes : List ℕ) (events : List Event) (image : List ℕ) → Leaves o n bytes events image → Type 0
+abbrev pub HasOrderlyLog : SaidOfLeft
 HasOrderlyLog o n bytes events image leaves = IsOrderly (homes_of n) (log_beside o n bytes events)
 
 -- The image shows the log from the opened tail on, whatever triples are read from it.
-abbrev pub ShowsItsLog : (o : Opened) (n : Now) (bytes : List ℕ) (events : List Event) (image : List ℕ) → Leaves o n bytes events image → NamesNew o n bytes events image → Type 0
+abbrev pub ShowsItsLog : SaidOfNamed
 ShowsItsLog o n bytes events image leaves names = (triples : List Triple) → ShowsLog (homes_of n) o.tail.0 (log_named names triples) (log_beside o n bytes events)
 
 -- If its checkpoint is newer than the opening's commit, the scan begins at or above the opened tail.
-abbrev pub StartsAbove : (o : Opened) (n : Now) (bytes : List ℕ) (events : List Event) (image : List ℕ) → Leaves o n bytes events image → NamesNew o n bytes events image → Type 0
+abbrev pub StartsAbove : SaidOfNamed
 StartsAbove o n bytes events image leaves names = (let c = names.commit in o.number.0 < c.checkpoint.number.0) → (triples : List Triple) → (let log = log_named names triples in o.tail.0 ≤ log.start)
 
 -- ---- the checkpoint's part
@@ -43,12 +43,12 @@ pub record UsesOld (o : Opened) (n : Now) (bytes : List ℕ) (events : List Even
   pub loses : (let store = leaves.store in let log = log_named names store.triples in LosesTheRest log.lost (log_then leaves) (log_beside o n bytes events))
 
 -- It uses the one or the other.
-abbrev pub UsesItsCheckpoint : (o : Opened) (n : Now) (bytes : List ℕ) (events : List Event) (image : List ℕ) → Leaves o n bytes events image → NamesNew o n bytes events image → Type 0
+abbrev pub UsesItsCheckpoint : SaidOfNamed
 UsesItsCheckpoint o n bytes events image leaves names = UsesNew o n bytes events image names ⊎ UsesOld o n bytes events image leaves names
 
 -- ---- what was opened
 -- If the image names a commit that uses the checkpoint with which the store was opened, its triples are those of then.
-abbrev pub KeepsCheckpoint : (o : Opened) (n : Now) (bytes : List ℕ) (events : List Event) (image : List ℕ) → Leaves o n bytes events image → Type 0
+abbrev pub KeepsCheckpoint : SaidOfLeft
 KeepsCheckpoint o n bytes events image leaves =
     (read : ReadsBack o n bytes events leaves.store image) → (let names = read.names in let named = names.named in let c = named.commit in c.checkpoint ≡ n.keeper.last.checkpoint)
     → (let store = leaves.store in HasCheckpoint image read.newest store.triples)

@@ -12,27 +12,22 @@ use Rattle.law_order.specs.Prefix.Law.{history_so_far}
 use Rattle.law_order.specs.Rules.Ordered.{effects_so_far}
 use Rattle.law_paper.specs.Kept.{PointsSplit}
 
--- so it is of each commit that has begun in a life, with the opening's
-abbrev pub OfEachCommit : (Opened → Now → List ℕ → List Event → BegunCommit → Type 0) → Type 0
-OfEachCommit P = (its : Life) (c : BegunCommit) → IsLife its → IsIn c (begun_so_far its.world its.bytes its.events) → P its.opened its.world its.bytes its.events c
+-- What the points of a commit keep of a life.
+pub record KeepsItsPoints (o : Opened) (n : Now) (bytes : List ℕ) (events : List Event) (c : BegunCommit) : Type 0 where
+  -- just the updates of versions up to its number
+  pub split : PointsSplit c.points c.number.0 (effects_so_far n bytes events)
+  -- each session's serials above its point of the opening, up to its point, once
+  pub whole : IsWhole (history_so_far n bytes events) o.points.items c.points
+  -- none has fallen since the opening
+  pub risen : AreAtMost o.points.items c.points
+  -- and a slot has room for each
+  pub fits : (session : ℕ) → point_of (points_written n.shape.sessions c.points) session ≡ point_of c.points session
 
--- its points keep just the updates of versions up to its number
-abbrev pub SplitsByVersion : Opened → Now → List ℕ → List Event → BegunCommit → Type 0
-SplitsByVersion o n bytes events c = PointsSplit c.points c.number.0 (effects_so_far n bytes events)
+-- So it is of each commit that has begun in a life, with the opening's.
+abbrev pub CommitsKeepTheirPoints : Type 0
+CommitsKeepTheirPoints = (its : Life) (c : BegunCommit) → IsLife its → IsIn c (begun_so_far its.world its.bytes its.events) → KeepsItsPoints its.opened its.world its.bytes its.events c
 
--- they keep each session's serials above its point of the opening, up to its point, once
-abbrev pub KeepsWhole : Opened → Now → List ℕ → List Event → BegunCommit → Type 0
-KeepsWhole o n bytes events c = IsWhole (history_so_far n bytes events) o.points.items c.points
-
--- none has fallen since the opening
-abbrev pub HasRisen : Opened → Now → List ℕ → List Event → BegunCommit → Type 0
-HasRisen o n bytes events c = AreAtMost o.points.items c.points
-
--- a slot has room for each
-abbrev pub FitsSlot : Opened → Now → List ℕ → List Event → BegunCommit → Type 0
-FitsSlot o n bytes events c = (session : ℕ) → point_of (points_written n.shape.sessions c.points) session ≡ point_of c.points session
-
--- and none is more than that of a newer commit
+-- none is more than that of a newer commit
 abbrev pub PointsRise : Type 0
 PointsRise =
     (its : Life) (older newer : BegunCommit) → IsLife its → IsIn older (begun_so_far its.world its.bytes its.events) → IsIn newer (begun_so_far its.world its.bytes its.events) → older.number.0 ≤ newer.number.0

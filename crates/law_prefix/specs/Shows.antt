@@ -4,8 +4,8 @@ use Rattle.fkv_opening.specs.declared.opened_store.Opened.{Opened}
 use Rattle.fkv_world.specs.World.{Event, Now}
 use Rattle.law_order.specs.Decided.Cut.{log_beside}
 use Rattle.law_paper.specs.Paper.Opened.{StandsAsOpened}
-use Rattle.law_prefix.specs.Leaves.{Leaves, homes_of, log_then}
+use Rattle.law_prefix.specs.Leaves.{SaidOfLeft, homes_of, log_then}
 
 -- The log stands as `law_paper` asks while that commit is in force.
-abbrev pub StandsOpened : (o : Opened) (n : Now) (bytes : List ℕ) (events : List Event) (image : List ℕ) → Leaves o n bytes events image → Type 0
+abbrev pub StandsOpened : SaidOfLeft
 StandsOpened o n bytes events image leaves = StandsAsOpened (homes_of n) (log_then leaves) (log_beside o n bytes events)

@@ -1,5 +1,5 @@
 //! What the points of commits keep.
-ghost use Rattle.law_prefix.specs.Points.{FitsSlot, HasRisen, KeepsWhole, OfEachCommit, PointsRise, SplitsByVersion};
+ghost use Rattle.law_prefix.specs.Points.{CommitsKeepTheirPoints, PointsRise};
 
 use law_commit::{law_points_between, law_points_split, law_points_taken, law_versions_end};
 use law_order::{law_order, law_points_open};
@@ -11,10 +11,7 @@ use law_world::{
 /// up to that version waits. So each serial up to a session's point has taken effect once, if it is above the session's point of the opening; and no other has.
 /// No point has fallen since the opening, nor from a commit to a newer one. A slot has room for each.
 pub fn law_points_keep()
-    ensures split { OfEachCommit SplitsByVersion }
-    ensures whole { OfEachCommit KeepsWhole }
-    ensures risen { OfEachCommit HasRisen }
-    ensures fits { OfEachCommit FitsSlot }
+    ensures kept { CommitsKeepTheirPoints }
     ensures rise { PointsRise }
 {
     law_order();

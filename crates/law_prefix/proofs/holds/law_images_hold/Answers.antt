@@ -42,7 +42,7 @@ returns c = λ o n bytes events image leaves.
             newest = read.newest;
             shape = read.shape;
             number = number;
-            points = λ session. ap (λ (s : SlotSaid). point_of s.points session) says.said ∙ c.law_points_keep.ensures.fits life it is named.begun session;
+            points = λ session. ap (λ (s : SlotSaid). point_of s.points session) says.said ∙ (c.law_points_keep.ensures.kept life it is named.begun).fits session;
             since = omega (arith, newer, number);
             holds = c.law_named_hold.ensures o n bytes events image leaves
                 (record { commit = it; begun = named.begun; newest = read.newest; its = read.its; shape = read.shape; says = says; made = named.triples });

@@ -49,6 +49,7 @@ returns c = λ its is reaches image left.
     let held : HoldsBegun o n bytes events image = c.law_images_hold.ensures o n bytes events image leaves in
     let named = held.named in
     let it : BegunCommit = named.commit in
+    let points = c.law_points_keep.ensures.kept its it is named.begun in
     record {
       commit = it;
       current = record {
@@ -68,7 +69,7 @@ returns c = λ its is reaches image left.
             newest = held.newest;
             values = of;
             since = held.since;
-            split = splits_same r.points.items it.points it.number.0 _ _ _ same held.number (c.law_history_beside.ensures its is) (c.law_points_keep.ensures.split its it is named.begun);
+            split = splits_same r.points.items it.points it.number.0 _ _ _ same held.number (c.law_history_beside.ensures its is) points.split;
           } in
           let rules = c.law_lives_keep_rules.ensures its is in
           let published = c.law_lives_change_published.ensures.published o n bytes events is.store is.begins in
@@ -78,8 +79,8 @@ returns c = λ its is reaches image left.
             points = same;
             pairs = c.law_replays_kept.ensures.pairs bytes o n events image r store is.store is.begins rules published beside;
             legal = c.law_replays_kept.ensures.legal bytes o n events image r store is.store is.begins rules published beside;
-            whole = whole_same (history_so_far n bytes events) o.points.items r.points.items it.points same (c.law_points_keep.ensures.whole its it is named.begun);
-            risen = risen_same o.points.items r.points.items it.points same (c.law_points_keep.ensures.risen its it is named.begun);
+            whole = whole_same (history_so_far n bytes events) o.points.items r.points.items it.points same points.whole;
+            risen = risen_same o.points.items r.points.items it.points same points.risen;
           };
       reaches = held.far;
     }
