@@ -11,6 +11,7 @@ use Rattle.law_commit.specs.ToldPoints.{finishes_told}
 use Rattle.law_order.specs.Prefix.Law.{IsToldDurable, ReachesFar, RecoversPrefix, calls_so_far, past_so_far, trace_so_far}
 use Rattle.fkv_table.specs.declared.happenings.Happening.{Happening}
 use Rattle.law_threads.specs.Calls.{CallRun, events_of}
+use Rattle.law_threads.specs.Laws.{IsWithin}
 
 -- The point is the session's in a commit that is sealed by what the pass has seen behind the answer. It is no less than its point in each commit that was told as
 -- finished before the call, those among them that the pass had seen finished.
@@ -26,6 +27,12 @@ TellsItsDurable o n bytes its = (serial : Serial) → its.answer ≡ Durable ser
 abbrev pub RecoversItsDurable : Opened → Now → List ℕ → CallRun → Type 0
 RecoversItsDurable o n bytes its = (serial : Serial) → its.answer ≡ Durable serial → ReachesFar bytes
     → (later : List Happening) (image : List ℕ) (r : Opened) → MayLeave bytes (calls_so_far n bytes (events_of (later ++ its.behind))) image → IsStoreOf image r → serial.0 ≤ point_of r.points.items its.number
+
+-- So does each, by the premises of the law of prefixes alone.
+abbrev pub KeepsItsDurable : Opened → Now → List ℕ → CallRun → Type 0
+KeepsItsDurable o n bytes its = (serial : Serial) → its.answer ≡ Durable serial → ReachesFar bytes
+    → (later : List Happening) (image : List ℕ) (r : Opened) → IsWithin o n bytes (events_of (later ++ its.behind)) → MayLeave bytes (calls_so_far n bytes (events_of (later ++ its.behind))) image → IsStoreOf image r
+    → serial.0 ≤ point_of r.points.items its.number
 
 -- each image that a life leaves holds a prefix of it, as far as the life goes on
 abbrev pub RecoversLater : Opened → Now → List ℕ → List Event → Type 0

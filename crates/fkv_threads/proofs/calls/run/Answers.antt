@@ -2,7 +2,8 @@
 use Rattle.std.proofs.Common.{refl}
 use Rattle.fkv_table.specs.Planes.{opening_of}
 use Rattle.law_order.specs.Prefix.Law.{TellsDurable}
-use Rattle.law_threads.specs.Durable.{RecoversItsDurable, RecoversLater, TellsItsDurable}
+use Rattle.law_threads.specs.Durable.{KeepsItsDurable, RecoversItsDurable, RecoversLater, TellsItsDurable}
+use Rattle.law_threads.specs.Laws.{IsWithin}
 use Rattle.fkv_threads.proofs.Lawful.{answered_to, lawful, of_this}
 use Rattle.fkv_threads.proofs.calls.run.Goals as goal
 
@@ -31,3 +32,9 @@ returns-clause-durable g c = of_this (opening_of g.D.Device.seen) _ _ TellsDurab
 
 pub returns-clause-recovered : goal.returns-clause-recovered
 returns-clause-recovered g c = of_this (opening_of g.D.Device.seen) _ _ RecoversLater RecoversItsDurable (returns-clause-called g c) (c.law_threads.ensures.recovered (opening_of g.D.Device.seen))
+
+pub returns-clause-tells : goal.returns-clause-tells
+returns-clause-tells g c = of_this (opening_of g.D.Device.seen) _ _ IsWithin TellsItsDurable (returns-clause-called g c) (c.law_threads.ensures.tells (opening_of g.D.Device.seen))
+
+pub returns-clause-keeps : goal.returns-clause-keeps
+returns-clause-keeps g c = of_this (opening_of g.D.Device.seen) _ _ IsWithin KeepsItsDurable (returns-clause-called g c) (c.law_threads.ensures.keeps (opening_of g.D.Device.seen))
