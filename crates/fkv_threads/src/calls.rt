@@ -3,8 +3,7 @@ ghost use Rattle.std.specs.Prelude.{◌≡◌};
 ghost use Rattle.fkv_table.specs.Calls.{IsReady};
 ghost use Rattle.fkv_table.specs.Planes.{opening_of};
 ghost use Rattle.fkv_threads.specs.Runs.{IsLawful, IsRun, OfThisRun, run_of};
-ghost use Rattle.law_order.specs.Prefix.Law.{TellsDurable};
-ghost use Rattle.law_threads.specs.Durable.{KeepsItsDurable, RecoversItsDurable, RecoversLater, TellsItsDurable};
+ghost use Rattle.law_threads.specs.Durable.{RecoversItsDurable, TellsItsDurable};
 ghost use Rattle.law_threads.specs.Laws.{IsOrdered, IsWithin};
 
 use fkv_core::World;
@@ -32,10 +31,8 @@ pub fn run<D: Device>(
     ensures called { IsRun (opening_of D.seen) table.now.table.shared.key (run_of session.old.machine.seat.number call result.1 pass.seat.me.0.seen result.0.seat.me.0.seen) }
     ensures by_order { IsLawful (opening_of D.seen) table.now.table.shared.key (run_of session.old.machine.seat.number call result.1 pass.seat.me.0.seen result.0.seat.me.0.seen) IsOrdered }
     ensures in_lives { IsLawful (opening_of D.seen) table.now.table.shared.key (run_of session.old.machine.seat.number call result.1 pass.seat.me.0.seen result.0.seat.me.0.seen) IsWithin }
-    ensures durable { OfThisRun (opening_of D.seen) table.now.table.shared.key (run_of session.old.machine.seat.number call result.1 pass.seat.me.0.seen result.0.seat.me.0.seen) TellsDurable TellsItsDurable }
-    ensures recovered { OfThisRun (opening_of D.seen) table.now.table.shared.key (run_of session.old.machine.seat.number call result.1 pass.seat.me.0.seen result.0.seat.me.0.seen) RecoversLater RecoversItsDurable }
-    ensures tells { OfThisRun (opening_of D.seen) table.now.table.shared.key (run_of session.old.machine.seat.number call result.1 pass.seat.me.0.seen result.0.seat.me.0.seen) IsWithin TellsItsDurable }
-    ensures keeps { OfThisRun (opening_of D.seen) table.now.table.shared.key (run_of session.old.machine.seat.number call result.1 pass.seat.me.0.seen result.0.seat.me.0.seen) IsWithin KeepsItsDurable }
+    ensures durable { OfThisRun (opening_of D.seen) table.now.table.shared.key (run_of session.old.machine.seat.number call result.1 pass.seat.me.0.seen result.0.seat.me.0.seen) IsWithin TellsItsDurable }
+    ensures recovered { OfThisRun (opening_of D.seen) table.now.table.shared.key (run_of session.old.machine.seat.number call result.1 pass.seat.me.0.seen result.0.seat.me.0.seen) IsWithin RecoversItsDurable }
 {
     law_threads::<Snapshot<World<D>>>();
     session.run(table, pass, call)

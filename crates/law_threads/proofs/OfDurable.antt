@@ -29,7 +29,7 @@ use Rattle.fkv_table.specs.Events.{event_of}
 use Rattle.fkv_table.specs.Planes.{plane}
 use Rattle.fkv_table.proofs.Lives.{led_run}
 use Rattle.law_threads.specs.Calls.{CallRun, HasRun, IsOver, events_of}
-use Rattle.law_threads.specs.Durable.{IsDurable, KeepsItsDurable, RecoversItsDurable, RecoversLater, TellsItsDurable}
+use Rattle.law_threads.specs.Durable.{IsDurable, RecoversItsDurable, TellsItsDurable}
 use Rattle.law_threads.specs.Laws.{IsWithin}
 use Rattle.law_threads.proofs.Course.{OfOthers, seen_answered, seen_called}
 use Rattle.law_threads.proofs.Histories.{events_both}
@@ -147,22 +147,16 @@ module _ {K : Type 0} (at : K → World) (key : K) (o : Opened) (n : Now) (bytes
       let there : IsIn point (points_told number (run opening (events_of later ++ events_of its.behind)).past.trace) = subst (λ (x : List Traced). IsIn point (points_told number x)) (sym behind.whole) (points_more number point behind.later _ is_there) in
       subst (λ (x : ℕ). serial.0 ≤ x) (sym (kept.points number)) (held.current.durable number point there)
 
-pub tells_durable : {K : Type 0} (at : K → World) (key : K) (o : Opened) (n : Now) (bytes : List ℕ) (its : CallRun) → IsOver at key o n bytes → HasRun at key its → TellsDurable o n bytes (events_of its.behind) → TellsItsDurable o n bytes its
-tells_durable at key o n bytes its over run law serial given = durable_at at key o n bytes its over run serial given law
-
-pub recovers_durable : {K : Type 0} (at : K → World) (key : K) (o : Opened) (n : Now) (bytes : List ℕ) (its : CallRun) → IsOver at key o n bytes → HasRun at key its → RecoversLater o n bytes (events_of its.behind) → RecoversItsDurable o n bytes its
-recovers_durable at key o n bytes its over run law serial given far later image r left store = recovered_at at key o n bytes its over run serial given later (law (events_of later)) far image r left store
-
 -- ---- in all lives
 is_life : {K : Type 0} (at : K → World) (key : K) (o : Opened) (n : Now) (bytes : List ℕ) (events : List Event) → IsOver at key o n bytes → IsWithin o n bytes events → IsLife (record { bytes = bytes; opened = o; world = n; events = events })
 is_life at key o n bytes events over within = record { store = over.store; begins = over.begins; fits = within.fits; few = within.few }
 
-pub tells_in_lives : {K : Type 0} (at : K → World) → PrefixLaw → (key : K) (o : Opened) (n : Now) (bytes : List ℕ) (its : CallRun) → IsOver at key o n bytes → HasRun at key its → IsWithin o n bytes (events_of its.behind) → TellsItsDurable o n bytes its
-tells_in_lives at prefix key o n bytes its over run within =
-    tells_durable at key o n bytes its over run (prefix.durable (record { bytes = bytes; opened = o; world = n; events = events_of its.behind }) (is_life at key o n bytes (events_of its.behind) over within))
+pub tells_durable : {K : Type 0} (at : K → World) → PrefixLaw → (key : K) (o : Opened) (n : Now) (bytes : List ℕ) (its : CallRun) → IsOver at key o n bytes → HasRun at key its → IsWithin o n bytes (events_of its.behind) → TellsItsDurable o n bytes its
+tells_durable at prefix key o n bytes its over run within serial given =
+    durable_at at key o n bytes its over run serial given (prefix.durable (record { bytes = bytes; opened = o; world = n; events = events_of its.behind }) (is_life at key o n bytes (events_of its.behind) over within))
 
-pub keeps_durable : {K : Type 0} (at : K → World) → PrefixLaw → (key : K) (o : Opened) (n : Now) (bytes : List ℕ) (its : CallRun) → IsOver at key o n bytes → HasRun at key its → IsWithin o n bytes (events_of its.behind) → KeepsItsDurable o n bytes its
-keeps_durable at prefix key o n bytes its over run here serial given far later image r within left store =
+pub recovers_durable : {K : Type 0} (at : K → World) → PrefixLaw → (key : K) (o : Opened) (n : Now) (bytes : List ℕ) (its : CallRun) → IsOver at key o n bytes → HasRun at key its → IsWithin o n bytes (events_of its.behind) → RecoversItsDurable o n bytes its
+recovers_durable at prefix key o n bytes its over run here serial given far later image r within left store =
     let both : events_of (later ++ its.behind) ≡ events_of later ++ events_of its.behind = events_both later its.behind in
     let there : IsWithin o n bytes (events_of later ++ events_of its.behind) = subst (λ (es : List Event). IsWithin o n bytes es) both within in
     let law : RecoversPrefix o n bytes (events_of later ++ events_of its.behind) =

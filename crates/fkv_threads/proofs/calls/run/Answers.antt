@@ -1,8 +1,7 @@
 -- The call is one that the session has run, so the thread law speaks of it.
 use Rattle.std.proofs.Common.{refl}
 use Rattle.fkv_table.specs.Planes.{opening_of}
-use Rattle.law_order.specs.Prefix.Law.{TellsDurable}
-use Rattle.law_threads.specs.Durable.{KeepsItsDurable, RecoversItsDurable, RecoversLater, TellsItsDurable}
+use Rattle.law_threads.specs.Durable.{RecoversItsDurable, TellsItsDurable}
 use Rattle.law_threads.specs.Laws.{IsWithin}
 use Rattle.fkv_threads.proofs.Lawful.{answered_to, lawful, of_this}
 use Rattle.fkv_threads.proofs.calls.run.Goals as goal
@@ -28,13 +27,7 @@ pub returns-clause-in_lives : goal.returns-clause-in_lives
 returns-clause-in_lives g c = lawful (opening_of g.D.Device.seen) _ _ _ (returns-clause-called g c) (c.law_threads.ensures.in_lives (opening_of g.D.Device.seen))
 
 pub returns-clause-durable : goal.returns-clause-durable
-returns-clause-durable g c = of_this (opening_of g.D.Device.seen) _ _ TellsDurable TellsItsDurable (returns-clause-called g c) (c.law_threads.ensures.durable (opening_of g.D.Device.seen))
+returns-clause-durable g c = of_this (opening_of g.D.Device.seen) _ _ IsWithin TellsItsDurable (returns-clause-called g c) (c.law_threads.ensures.durable (opening_of g.D.Device.seen))
 
 pub returns-clause-recovered : goal.returns-clause-recovered
-returns-clause-recovered g c = of_this (opening_of g.D.Device.seen) _ _ RecoversLater RecoversItsDurable (returns-clause-called g c) (c.law_threads.ensures.recovered (opening_of g.D.Device.seen))
-
-pub returns-clause-tells : goal.returns-clause-tells
-returns-clause-tells g c = of_this (opening_of g.D.Device.seen) _ _ IsWithin TellsItsDurable (returns-clause-called g c) (c.law_threads.ensures.tells (opening_of g.D.Device.seen))
-
-pub returns-clause-keeps : goal.returns-clause-keeps
-returns-clause-keeps g c = of_this (opening_of g.D.Device.seen) _ _ IsWithin KeepsItsDurable (returns-clause-called g c) (c.law_threads.ensures.keeps (opening_of g.D.Device.seen))
+returns-clause-recovered g c = of_this (opening_of g.D.Device.seen) _ _ IsWithin RecoversItsDurable (returns-clause-called g c) (c.law_threads.ensures.recovered (opening_of g.D.Device.seen))

@@ -4,6 +4,3 @@ use Rattle.fkv_threads.proofs.keepers.turn.Goals as goal
 
 pub returns-clause-recovered : goal.returns-clause-recovered
 returns-clause-recovered g c = c.law_threads.ensures.turns (opening_of g.D.Device.seen) _ _ _
-
-pub returns-clause-in_lives : goal.returns-clause-in_lives
-returns-clause-in_lives g c = c.law_threads.ensures.turns_in_lives (opening_of g.D.Device.seen) _ _ _
