@@ -14,7 +14,7 @@ use Rattle.law_changes.specs.Fits.{CallsFit}
 use Rattle.law_commit.specs.BegunCommits.{BegunCommit, commit_opened}
 use Rattle.law_images.specs.Left.{IsLeft, OpensLong, flushed_so_far}
 use Rattle.law_images.specs.Named.{AreTriplesOf, begun_so_far}
-use Rattle.law_images.specs.Read.{ReadsBack, SaysCommit}
+use Rattle.law_images.specs.Read.{SaysCommit}
 use Rattle.law_log.specs.Trace.{IsIn}
 use Rattle.law_order.specs.Tickets.Few.{HasFewCalls}
 use Rattle.law_refine.specs.Events.GhostEvents.{home_in}

@@ -1,5 +1,5 @@
 -- What the log and the slot of an image are to `law_paper`.
-use Rattle.std.proofs.Common.{◌≡◌, ℕ, ◌<◌, ◌≤◌, arith, ap, List}
+use Rattle.std.proofs.Common.{ℕ, ◌<◌, ◌≤◌, arith, ap, List}
 use Rattle.fkv_opening.specs.declared.opened_store.Opened.{Opened}
 use Rattle.fkv_record.specs.Manifest.{SlotSaid}
 use Rattle.fkv_record.specs.declared.triples.Triple.{Triple}

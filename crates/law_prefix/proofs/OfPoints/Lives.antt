@@ -1,5 +1,5 @@
 -- The points of each commit that has begun in a life, by the laws of points, and by what its sessions have answered.
-use Rattle.std.proofs.Common.{◌≡◌, ◌⊎◌, ℕ, ◌+◌, ◌<◌, ◌≤◌, ◌∙◌, List, length, refl, arith, ap, sym, subst, Bool, true, false, cond}
+use Rattle.std.proofs.Common.{◌≡◌, ℕ, ◌<◌, ◌≤◌, ◌∙◌, List, length, refl, arith, ap, sym, subst, Bool, true, false, cond}
 use Rattle.std.specs.Prelude.{Option, None, Some, nat_le, nat_lt, slice_get}
 use Rattle.std.specs.List.{count_by}
 use Rattle.std.proofs.lemmas.Bool.Decides.{nat_tests}
@@ -20,7 +20,7 @@ use Rattle.fkv_world.specs.Past as world
 use Rattle.fkv_world.specs.Runs.{World, happens, run}
 use Rattle.fkv_world.specs.World.{Event, seat_at}
 use Rattle.fkv_world.proofs.Shown.{session_runs}
-use Rattle.law_commit.specs.Accepted.{count_upto, point, serial_at, serial_of, versions_found}
+use Rattle.law_commit.specs.Accepted.{point, serial_at, serial_of, versions_found}
 use Rattle.law_commit.specs.BegunCommits.{BegunCommit, life_begun}
 use Rattle.law_commit.specs.Points.{BegunHavePoints, OpensPointed, RisesByVersion, UpToGiven}
 use Rattle.law_commit.specs.Quiet.{BegunHaveFlushed, HasNoneUpto, NoneIsLeft, PointsAlwaysSplit, pending_rank, rank_now}
@@ -35,7 +35,7 @@ use Rattle.law_paper.specs.Kept.{PointsSplit}
 use Rattle.law_prefix.proofs.OfPoints.Effects.{IsSeated, NoneTwice, count_is, each_seated, most_one, none_so, of_life}
 use Rattle.law_prefix.proofs.OfPoints.Once.{none_low, one_there}
 use Rattle.law_prefix.proofs.OfPoints.Written.{written_past, written_there}
-use Rattle.law_refine.specs.Calls.Calls.{effect_in_log, effects_of_life}
+use Rattle.law_refine.specs.Calls.Calls.{effects_of_life}
 use Rattle.law_world.proofs.OfSessions.OwnRun.{opened_so}
 use Rattle.law_world.specs.Runs.Added.{IsHistoryAfter}
 

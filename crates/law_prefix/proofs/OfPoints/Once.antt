@@ -1,6 +1,5 @@
 -- The effects of a session, once a version is over: one of each serial that it has given from the opening on, up to its point of that version.
-use Rattle.std.proofs.Common.{◌≡◌, ◌⊎◌, inl, inr, ℕ, ◌+◌, ◌<◌, ◌≤◌, ◌∙◌, List, length, arith, ap, sym, subst, Bool}
-use Rattle.std.specs.Prelude.{Some, slice_get}
+use Rattle.std.proofs.Common.{◌≡◌, inl, inr, ℕ, ◌+◌, ◌<◌, ◌≤◌, List, arith, ap, subst}
 use Rattle.fkv_session.specs.Accounts.{IsAnsweredOnce, names_of, number_of}
 use Rattle.fkv_session.specs.Replies.{AreRepliesOfEffects, is_of}
 use Rattle.fkv_session.specs.SessionRun.{SessionEvent, in_hand, session_run}

@@ -5,7 +5,6 @@ use Rattle.fkv_keeper.specs.Keeping.{Finality}
 use Rattle.fkv_keeper.specs.LastCommits.{lost_written}
 use Rattle.fkv_opening.specs.declared.opened_store.Opened.{Opened}
 use Rattle.fkv_record.specs.declared.lost_ranges.LostRange.{LostRange}
-use Rattle.fkv_record.specs.declared.records.Record.{Record}
 use Rattle.fkv_scan.specs.Log as scan
 use Rattle.fkv_scan.specs.Records.{losses}
 use Rattle.fkv_world.specs.World.{Event, Now}

@@ -1,6 +1,6 @@
 -- The triples with which the store was opened, in an image whose newest slot names their checkpoint.
 use Rattle.std.proofs.Common.{◌≡◌, inl, inr, ℕ, zero, suc, ◌+◌, ◌*◌, ◌^◌, ◌<◌, ◌≤◌, ◌∙◌, arith, refl, sym, ap, subst, List, [], ◌∷◌, length}
-use Rattle.std.specs.Prelude.{◌⊎◌, Some, slice_get}
+use Rattle.std.specs.Prelude.{Some, slice_get}
 use Rattle.fkv_base.specs.declared.commits.CommitKind.{CommitKind}
 use Rattle.fkv_base.specs.declared.commits.CommitKind.TheVariants.{Full}
 use Rattle.fkv_base.specs.declared.numbers.Addr.{Addr}

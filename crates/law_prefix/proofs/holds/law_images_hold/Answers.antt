@@ -1,7 +1,6 @@
 -- By the newest slot as it is read back.
-use Rattle.std.proofs.Common.{◌≡◌, ℕ, ◌∙◌, ◌≤◌, ◌<◌, inl, inr, ap, arith, sym, subst, List}
+use Rattle.std.proofs.Common.{◌∙◌, inl, inr, ap, arith, sym, subst, List}
 use Rattle.fkv_base.specs.declared.numbers.Serial.{Serial}
-use Rattle.fkv_base.specs.declared.numbers.Version.{Version}
 use Rattle.fkv_keeper.specs.Keeping.{Finality}
 use Rattle.fkv_manifest.specs.Newest.{slot_in}
 use Rattle.fkv_map.specs.History.{point_of}

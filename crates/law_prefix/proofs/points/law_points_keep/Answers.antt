@@ -1,13 +1,11 @@
 -- By what an opened store's life begins with.
-use Rattle.std.proofs.Common.{◌≡◌, ℕ, ◌<◌, ◌≤◌, ◌∙◌, ap, arith, sym, subst, cond}
+use Rattle.std.proofs.Common.{ℕ, ◌≤◌, ◌∙◌, ap, sym, subst, cond}
 use Rattle.std.specs.Prelude.{nat_lt}
-use Rattle.std.specs.List.{count_by}
 use Rattle.fkv_base.specs.declared.shapes.Shape.{Shape}
 use Rattle.fkv_core.specs.Openings.{beginning}
 use Rattle.fkv_keeper.specs.Keeping.{Finality}
-use Rattle.fkv_map.specs.History.{is_update, point_of}
+use Rattle.fkv_map.specs.History.{point_of}
 use Rattle.fkv_map.proofs.Shown.{whole_by_count}
-use Rattle.law_commit.specs.Accepted.{serial_at}
 use Rattle.law_commit.specs.Points.{OpensPointed}
 use Rattle.law_order.specs.Prefix.Law.{history_so_far}
 use Rattle.law_prefix.proofs.OfPoints.Lives.{Given, count_so, fits_so, no_lower, rises_so, splits_so}

@@ -3,11 +3,9 @@ use Rattle.std.proofs.Common.{◌≡◌, ℕ, ◌∙◌, ◌≤◌, ◌&&◌, ap
 use Rattle.std.specs.Prelude.{nat_le, nat_lt}
 use Rattle.std.specs.List.{count_by}
 use Rattle.fkv_base.specs.declared.numbers.Serial.{Serial}
-use Rattle.fkv_core.specs.Openings.{beginning}
-use Rattle.fkv_map.specs.History.{AreAtMost, IsWhole, is_kept, is_update, point_of}
+use Rattle.fkv_map.specs.History.{AreAtMost, IsWhole, is_update, point_of}
 use Rattle.fkv_map.specs.declared.history.HistoryEntry.{HistoryEntry}
 use Rattle.fkv_map.proofs.Shown.{kept_by_same_points}
-use Rattle.fkv_opening.specs.Opened.{IsStoreOf}
 use Rattle.fkv_opening.specs.declared.opened_store.Opened.{Opened}
 use Rattle.fkv_world.specs.World.{Event, Now}
 use Rattle.law_commit.specs.BegunCommits.{BegunCommit}

@@ -1,6 +1,5 @@
 -- By what is flushed, by the commit's cut, and by what its slot loses.
-use Rattle.std.proofs.Common.{◌≡◌, ◌∙◌, inl, inr, ap, sym, ℕ, List}
-use Rattle.fkv_base.specs.declared.numbers.Addr.{Addr}
+use Rattle.std.proofs.Common.{◌≡◌, ◌∙◌, inl, inr, ap}
 use Rattle.fkv_core.specs.Openings.{beginning}
 use Rattle.fkv_keeper.specs.LastCommits.{lost_written}
 use Rattle.fkv_record.specs.Manifest.{SlotSaid}

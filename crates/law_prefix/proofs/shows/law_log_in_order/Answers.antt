@@ -1,5 +1,4 @@
 -- By the rules that each life keeps.
-use Rattle.std.proofs.Common.{ℕ, List}
 use Rattle.fkv_core.specs.Openings.{beginning}
 use Rattle.law_opening.specs.Log.Maps.{opening_map}
 use Rattle.law_opening.specs.Log.OpeningLog.{opening_ghosts}

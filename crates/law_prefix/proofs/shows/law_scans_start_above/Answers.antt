@@ -1,5 +1,5 @@
 -- By the moments through which the full commit has come that made the checkpoint.
-use Rattle.std.proofs.Common.{◌≡◌, inl, inr, arith, ap, sym, ℕ, ◌<◌}
+use Rattle.std.proofs.Common.{◌≡◌, inl, inr, arith, ap, sym, ◌<◌}
 use Rattle.fkv_base.specs.declared.numbers.Addr.{Addr}
 use Rattle.fkv_base.specs.declared.numbers.Version.{Version}
 use Rattle.fkv_core.specs.Openings.{beginning}

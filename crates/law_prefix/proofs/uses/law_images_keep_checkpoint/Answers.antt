@@ -1,5 +1,5 @@
 -- The law, by what the slot says of the checkpoint.
-use Rattle.std.proofs.Common.{◌≡◌, inl, inr, ℕ, ◌≤◌, arith, ap, List}
+use Rattle.std.proofs.Common.{inl, inr, ◌≤◌, arith, ap}
 use Rattle.fkv_base.specs.declared.numbers.Addr.{Addr}
 use Rattle.fkv_newest.specs.declared.newest_slots.Newest.{Newest}
 use Rattle.fkv_opening.specs.Opened.{IsStoreOf}

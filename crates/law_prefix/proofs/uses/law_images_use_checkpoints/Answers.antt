@@ -1,22 +1,19 @@
 -- The law, by whose checkpoint the commit uses.
-use Rattle.std.proofs.Common.{◌≡◌, inl, inr, ℕ, ◌≤◌, ◌∙◌, arith, ap, List}
+use Rattle.std.proofs.Common.{inl, inr, ◌≤◌, arith, ap}
 use Rattle.fkv_keeper.specs.Keeping.{Finality}
 use Rattle.fkv_keeper.specs.LastCommits.{lost_written}
 use Rattle.fkv_keeper.specs.declared.last_commits.Checkpoint.{Checkpoint}
 use Rattle.fkv_newest.specs.declared.newest_slots.Newest.{Newest}
 use Rattle.fkv_opening.specs.Faults.{HasCheckpoint}
 use Rattle.fkv_opening.specs.Opened.{IsStoreOf}
-use Rattle.fkv_opening.specs.declared.opened_store.Opened.{Opened}
 use Rattle.fkv_pairs.specs.Pairs.{log_of_store}
 use Rattle.fkv_record.specs.Manifest.{SlotSaid}
 use Rattle.fkv_record.specs.declared.manifest_slots.ManifestSlot.{ManifestSlot}
-use Rattle.fkv_world.specs.World.{Event, Now}
-use Rattle.law_commit.specs.BegunCommits.{BegunCommit, commit_opened}
+use Rattle.law_commit.specs.BegunCommits.{BegunCommit}
 use Rattle.law_images.specs.Fits.{FitsLife}
 use Rattle.law_images.specs.Left.{flushed_so_far}
 use Rattle.law_order.specs.Decided.Cut.{log_beside}
 use Rattle.law_paper.specs.Paper.Old.{LosesTheRest}
-use Rattle.law_prefix.specs.Leaves.{NamesNew}
 use Rattle.law_prefix.proofs.OfUses.Areas.{opened_older, opened_triples, said_area, same_triples}
 use Rattle.law_prefix.proofs.OfUses.New.{by_cover}
 use Rattle.law_prefix.proofs.OfUses.Old.{uses_old}
