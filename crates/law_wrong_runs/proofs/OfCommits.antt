@@ -13,7 +13,7 @@ use Rattle.law_commit.specs.BegunCommits.{BegunCommit, commit_opened, life_begun
 use Rattle.law_commit.specs.PrefixPast.{PrefixPast, prefix_past, serials_asked}
 use Rattle.law_commit.specs.ToldPoints.{ToldPoint, points_told}
 use Rattle.law_log.specs.Trace.{IsIn}
-use Rattle.law_order.specs.Prefix.Law.{TakesFairPoints}
+use Rattle.law_order.specs.Prefix.Law.{IsToldDurable, TakesFairPoints}
 use Rattle.law_wrong_runs.specs.Tables.{commit_keeps_nothing, right_tables, run_by, serial_is_told_as_durable}
 use Rattle.law_wrong_runs.specs.WrongCommits.{AreWrongCommits, LeavesCurrent, LeavesDurable, TakesFair, asks_durable, begins_commit, new_world, past_by, with_nothing_kept}
 use Rattle.law_wrong_runs.proofs.Computed.{places, places_fit, shape, world_opened}
@@ -109,10 +109,7 @@ wrong_current its one other current =
 pub right_durable : (its : KeeperState) (one other : SessionState) (o : Opened) → LeavesDurable o right_tables (world its one other) asks_durable
 right_durable its one other o told is = by_place (subst (λ (x : List ToldPoint). IsIn told x) (is_told_right its one other) is)
   where
-    first : BegunCommit
-    first = commit_opened (world its one other).now []
-
-    by_place : IsIn told (nothing_told ∷ []) → _
+    by_place : IsIn told (nothing_told ∷ []) → IsToldDurable o (past_by right_tables (world its one other) asks_durable) 0 told
     by_place (inl same) = record {
       commit = commit_opened (world its one other).now [];
       begun = subst (λ (x : List BegunCommit). IsIn (commit_opened (world its one other).now []) x) (sym (one_begun its one other)) (inl refl);
