@@ -6,11 +6,7 @@ ghost use Rattle.fkv_table.specs.declared.happenings.Happening.TheVariants.{Comm
 ghost use Rattle.fkv_table.specs.KeeperCalls.{HasKept};
 ghost use Rattle.fkv_table.specs.Keeps.{IsAfterSeen, IsKeeperReady, IsLeftWithin, LeavesDevice};
 ghost use Rattle.fkv_table.specs.Planes.{opening_of};
-ghost use Rattle.law_order.specs.Prefix.Law.{PrefixLaw};
-ghost use Rattle.law_threads.specs.Calls.{events_of};
-ghost use Rattle.law_threads.specs.Durable.{RecoversLater};
 ghost use Rattle.law_threads.specs.Images.{RecoversWithin};
-ghost use Rattle.law_threads.specs.Laws.{IsWithin};
 
 use fkv_base::{CommitKind, Fault, Version};
 use fkv_core::World;
@@ -23,7 +19,7 @@ use std::snapshot::Snapshot;
 /// Makes a turn of the keeper to its end, with each call of the device that it needs: it flushes, serves and carries a commit on. It ends early with
 /// `Broken`, `Device`, `EpochsSpent` or `Memory`. The device is the one that the store was opened from, behind the calls that the keeper's pass has seen.
 /// An image that a crash leaves in the middle of the turn is one that the life may leave at some moment of it. It holds a prefix of the life as it was
-/// then, if the law of prefixes holds.
+/// then (`recovered`).
 pub fn turn<D: Device>(
     keeper: &mut Keeper,
     table: &Table<D>,
@@ -38,8 +34,7 @@ pub fn turn<D: Device>(
     ensures honest { D.honest device.new }
     ensures after { IsAfterSeen (opening_of D.seen) table.now.table.shared.key result.0.seat.me.0.seen (D.seen device.new) (D.may_leave device.new) }
     ensures moments { AtEachMoment D.moment D.left_since device.old device.new (IsLeftWithin (opening_of D.seen) table.now.table.shared.key pass.seat.me.0.seen result.0.seat.me.0.seen) }
-    ensures recovered { RecoversWithin (opening_of D.seen) (λ o n bytes. RecoversLater o n bytes (events_of pass.seat.me.0.seen)) table.now.table.shared.key pass.seat.me.0.seen result.0.seat.me.0.seen }
-    ensures by_prefix { PrefixLaw → RecoversWithin (opening_of D.seen) (λ o n bytes. IsWithin o n bytes (events_of result.0.seat.me.0.seen)) table.now.table.shared.key pass.seat.me.0.seen result.0.seat.me.0.seen }
+    ensures recovered { RecoversWithin (opening_of D.seen) table.now.table.shared.key pass.seat.me.0.seen result.0.seat.me.0.seen }
     ensures told { IsTurnTold keeper.new.machine.state.last (keeper_ask keeper.new.machine.shape keeper.new.machine.places keeper.new.machine.state) result.1 }
 {
     law_threads::<Snapshot<World<D>>>();

@@ -22,14 +22,16 @@ use Rattle.law_log.specs.Trace.{IsIn}
 use Rattle.law_world.specs.Runs.Added.{told_at, told_by}
 use Rattle.law_world.proofs.OfRuns.Added.{trace_so}
 use Rattle.law_opening.specs.Lives.Reaching.{ReachesFar}
-use Rattle.law_order.specs.Prefix.Law.{HoldsPrefix, IsKeptOf, TellsDurable, calls_so_far, past_so_far, trace_so_far}
+use Rattle.law_order.specs.OneHistory.EachLife.{IsLife}
+use Rattle.law_order.specs.Prefix.Law.{HoldsPrefix, IsKeptOf, PrefixLaw, RecoversPrefix, TellsDurable, calls_so_far, past_so_far, trace_so_far}
 use Rattle.law_order.proofs.OfReads.Numbers.{is_other}
 use Rattle.fkv_table.specs.declared.happenings.Happening.{Happening}
 use Rattle.fkv_table.specs.Events.{event_of}
 use Rattle.fkv_table.specs.Planes.{plane}
 use Rattle.fkv_table.proofs.Lives.{led_run}
 use Rattle.law_threads.specs.Calls.{CallRun, HasRun, IsOver, events_of}
-use Rattle.law_threads.specs.Durable.{IsDurable, RecoversItsDurable, RecoversLater, TellsItsDurable}
+use Rattle.law_threads.specs.Durable.{IsDurable, RecoversItsDurable, TellsItsDurable}
+use Rattle.law_threads.specs.Laws.{IsWithin}
 use Rattle.law_threads.proofs.Course.{OfOthers, seen_answered, seen_called}
 use Rattle.law_threads.proofs.Histories.{events_both}
 use Rattle.law_threads.proofs.OfRuns.{IsToldIn, earlier, is_told, same_number, same_told, since_call, told_with}
@@ -136,18 +138,28 @@ module _ {K : Type 0} (at : K → World) (key : K) (o : Opened) (n : Now) (bytes
     durable = law number point is_there;
   }
 
-  pub recovered_at : RecoversLater o n bytes (events_of its.behind) → ReachesFar bytes → (later : List Happening) (image : List ℕ) (r : Opened) → MayLeave bytes (calls_so_far n bytes (events_of (later ++ its.behind))) image → IsStoreOf image r
+  pub recovered_at : (later : List Happening) → RecoversPrefix o n bytes (events_of later ++ events_of its.behind) → ReachesFar bytes → (image : List ℕ) (r : Opened) → MayLeave bytes (calls_so_far n bytes (events_of (later ++ its.behind))) image → IsStoreOf image r
       → serial.0 ≤ point_of r.points.items number
-  recovered_at law far later image r left store =
+  recovered_at later law far image r left store =
       let both : events_of (later ++ its.behind) ≡ events_of later ++ events_of its.behind = events_both later its.behind in
-      let held : HoldsPrefix o n bytes (events_of later ++ events_of its.behind) image = law (events_of later) far image (subst (λ (es : List Event). MayLeave bytes (calls_so_far n bytes es) image) both left) in
+      let held : HoldsPrefix o n bytes (events_of later ++ events_of its.behind) image = law far image (subst (λ (es : List Event). MayLeave bytes (calls_so_far n bytes es) image) both left) in
       let kept : IsKeptOf o n bytes (events_of later ++ events_of its.behind) held.commit image r = held.each r store in
       let behind = trace_behind opening later (events_of its.behind) in
       let there : IsIn point (points_told number (run opening (events_of later ++ events_of its.behind)).past.trace) = subst (λ (x : List Traced). IsIn point (points_told number x)) (sym behind.whole) (points_more number point behind.later _ is_there) in
       subst (λ (x : ℕ). serial.0 ≤ x) (sym (kept.points number)) (held.current.durable number point there)
 
-pub tells_durable : {K : Type 0} (at : K → World) (key : K) (o : Opened) (n : Now) (bytes : List ℕ) (its : CallRun) → IsOver at key o n bytes → HasRun at key its → TellsDurable o n bytes (events_of its.behind) → TellsItsDurable o n bytes its
-tells_durable at key o n bytes its over run law serial given = durable_at at key o n bytes its over run serial given law
+-- ---- in all lives
+is_life : {K : Type 0} (at : K → World) (key : K) (o : Opened) (n : Now) (bytes : List ℕ) (events : List Event) → IsOver at key o n bytes → IsWithin o n bytes events → IsLife (record { bytes = bytes; opened = o; world = n; events = events })
+is_life at key o n bytes events over within = record { store = over.store; begins = over.begins; fits = within.fits; few = within.few }
 
-pub recovers_durable : {K : Type 0} (at : K → World) (key : K) (o : Opened) (n : Now) (bytes : List ℕ) (its : CallRun) → IsOver at key o n bytes → HasRun at key its → RecoversLater o n bytes (events_of its.behind) → RecoversItsDurable o n bytes its
-recovers_durable at key o n bytes its over run law serial given = recovered_at at key o n bytes its over run serial given law
+pub tells_durable : {K : Type 0} (at : K → World) → PrefixLaw → (key : K) (o : Opened) (n : Now) (bytes : List ℕ) (its : CallRun) → IsOver at key o n bytes → HasRun at key its → IsWithin o n bytes (events_of its.behind) → TellsItsDurable o n bytes its
+tells_durable at prefix key o n bytes its over run within serial given =
+    durable_at at key o n bytes its over run serial given (prefix.durable (record { bytes = bytes; opened = o; world = n; events = events_of its.behind }) (is_life at key o n bytes (events_of its.behind) over within))
+
+pub recovers_durable : {K : Type 0} (at : K → World) → PrefixLaw → (key : K) (o : Opened) (n : Now) (bytes : List ℕ) (its : CallRun) → IsOver at key o n bytes → HasRun at key its → IsWithin o n bytes (events_of its.behind) → RecoversItsDurable o n bytes its
+recovers_durable at prefix key o n bytes its over run here serial given far later image r within left store =
+    let both : events_of (later ++ its.behind) ≡ events_of later ++ events_of its.behind = events_both later its.behind in
+    let there : IsWithin o n bytes (events_of later ++ events_of its.behind) = subst (λ (es : List Event). IsWithin o n bytes es) both within in
+    let law : RecoversPrefix o n bytes (events_of later ++ events_of its.behind) =
+    prefix.recovered (record { bytes = bytes; opened = o; world = n; events = events_of later ++ events_of its.behind }) (is_life at key o n bytes (events_of later ++ events_of its.behind) over there) in
+    recovered_at at key o n bytes its over run serial given later law far image r left store

@@ -1,4 +1,4 @@
--- What images hold that a crash may leave in a call of the keeper, by the clause of the law of prefixes.
+-- What images hold that a crash may leave in a call of the keeper, by the law of prefixes.
 use Rattle.std.proofs.Common.{◌≡◌, ℕ, ◌≤◌, ◌<◌, ◌∙◌, sym, ap, subst, arith, List, [], ◌∷◌, ◌++◌}
 use Rattle.fkv_core.specs.Openings.{beginning}
 use Rattle.fkv_disk.specs.Calls.{MayLeave}
@@ -9,14 +9,13 @@ use Rattle.fkv_world.specs.Runs.{World, run}
 use Rattle.fkv_world.specs.World.{Calls, Event, Now}
 use Rattle.law_world.proofs.OfKeeper.OwnCalls.{opened_stays}
 use Rattle.law_order.specs.OneHistory.EachLife.{IsLife, Life}
-use Rattle.law_order.specs.Prefix.Law.{HoldsPrefix, PrefixLaw, calls_so_far}
+use Rattle.law_order.specs.Prefix.Law.{PrefixLaw, calls_so_far}
 use Rattle.law_order.specs.Served.Fits.{CallsFit}
 use Rattle.law_order.specs.Tickets.Few.{HasFewCalls, calls_in, with_begun}
 use Rattle.fkv_table.specs.declared.happenings.Happening.{Happening}
 use Rattle.fkv_table.specs.Planes.{plane}
 use Rattle.fkv_table.proofs.Lives.{led_run}
 use Rattle.law_threads.specs.Calls.{IsOver, events_of}
-use Rattle.law_threads.specs.Durable.{RecoversLater}
 use Rattle.law_threads.specs.Images.{RecoversWithin}
 use Rattle.law_threads.specs.Laws.{IsWithin}
 use Rattle.law_threads.proofs.Histories.{events_both}
@@ -53,16 +52,8 @@ module _ {K : Type 0} (at : K → World) (key : K) (o : Opened) (n : Now) (bytes
       let here : (let p : Past = (run (beginning n bytes) (events_of es)).past in MayLeave p.opened p.calls image) = subst (λ (p : Past). MayLeave p.opened p.calls image) (past_so es) left in
       subst (λ (opened : List ℕ). MayLeave opened (calls_so_far n bytes (events_of es)) image) (opened_stays (beginning n bytes) (events_of es)) here
 
-pub by_later : {K : Type 0} (at : K → World) (key : K) (seen seen' : List Happening) → RecoversWithin at (λ o n bytes. RecoversLater o n bytes (events_of seen)) key seen seen'
-by_later at key seen seen' o n bytes over law far image its =
-    let both : events_of its.now ≡ events_of its.from.0 ++ events_of seen = ap events_of its.from.1 ∙ events_both its.from.0 seen in
-    let left : MayLeave bytes (calls_so_far n bytes (events_of its.from.0 ++ events_of seen)) image =
-    subst (λ (es : List Event). MayLeave bytes (calls_so_far n bytes es) image) both (left_so at key o n bytes over its.now image its.left) in
-    let held : HoldsPrefix o n bytes (events_of its.from.0 ++ events_of seen) image = law (events_of its.from.0) far image left in
-    record { now = its.now; from = its.from; to = its.to; holds = subst (λ (es : List Event). HoldsPrefix o n bytes es image) (sym both) held }
-
-pub by_law : {K : Type 0} (at : K → World) (key : K) (seen seen' : List Happening) → PrefixLaw → RecoversWithin at (λ o n bytes. IsWithin o n bytes (events_of seen')) key seen seen'
-by_law at key seen seen' prefix o n bytes over within far image its =
+pub recovers_within : {K : Type 0} (at : K → World) (key : K) (seen seen' : List Happening) → PrefixLaw → RecoversWithin at key seen seen'
+recovers_within at key seen seen' prefix o n bytes over within far image its =
     let both : events_of seen' ≡ events_of its.to.0 ++ events_of its.now = ap events_of its.to.1 ∙ events_both its.to.0 its.now in
     let here : IsWithin o n bytes (events_of its.now) = within_before o n bytes (events_of its.to.0) (events_of its.now) (subst (λ (es : List Event). IsWithin o n bytes es) both within) in
     let life : Life = record { bytes = bytes; opened = o; world = n; events = events_of its.now } in

@@ -6,12 +6,13 @@ use Rattle.fkv_map.specs.History.{point_of}
 use Rattle.fkv_opening.specs.Opened.{IsStoreOf}
 use Rattle.fkv_opening.specs.declared.opened_store.Opened.{Opened}
 use Rattle.fkv_session.specs.declared.answers.Answer.TheVariants.{Durable}
-use Rattle.fkv_world.specs.World.{Event, Now}
+use Rattle.fkv_world.specs.World.{Now}
 use Rattle.law_commit.specs.ToldPoints.{finishes_told}
 use Rattle.law_opening.specs.Lives.Reaching.{ReachesFar}
-use Rattle.law_order.specs.Prefix.Law.{IsToldDurable, RecoversPrefix, calls_so_far, past_so_far, trace_so_far}
+use Rattle.law_order.specs.Prefix.Law.{IsToldDurable, calls_so_far, past_so_far, trace_so_far}
 use Rattle.fkv_table.specs.declared.happenings.Happening.{Happening}
 use Rattle.law_threads.specs.Calls.{CallRun, events_of}
+use Rattle.law_threads.specs.Laws.{IsWithin}
 
 -- The point is the session's in a commit that is sealed by what the pass has seen behind the answer. It is no less than its point in each commit that was told as
 -- finished before the call, those among them that the pass had seen finished.
@@ -23,11 +24,9 @@ pub record IsDurable (o : Opened) (n : Now) (bytes : List ℕ) (its : CallRun) (
 abbrev pub TellsItsDurable : Opened → Now → List ℕ → CallRun → Type 0
 TellsItsDurable o n bytes its = (serial : Serial) → its.answer ≡ Durable serial → IsDurable o n bytes its serial
 
--- Each image that a crash may leave then or later recovers a point of the session at or above it.
+-- Each image that a crash may leave then or later recovers a point of the session at or above it, if the life began with an image that reaches far and keeps to
+-- the premises of the law of prefixes.
 abbrev pub RecoversItsDurable : Opened → Now → List ℕ → CallRun → Type 0
 RecoversItsDurable o n bytes its = (serial : Serial) → its.answer ≡ Durable serial → ReachesFar bytes
-    → (later : List Happening) (image : List ℕ) (r : Opened) → MayLeave bytes (calls_so_far n bytes (events_of (later ++ its.behind))) image → IsStoreOf image r → serial.0 ≤ point_of r.points.items its.number
-
--- each image that a life leaves holds a prefix of it, as far as the life goes on
-abbrev pub RecoversLater : Opened → Now → List ℕ → List Event → Type 0
-RecoversLater o n bytes events = (later : List Event) → RecoversPrefix o n bytes (later ++ events)
+    → (later : List Happening) (image : List ℕ) (r : Opened) → IsWithin o n bytes (events_of (later ++ its.behind)) → MayLeave bytes (calls_so_far n bytes (events_of (later ++ its.behind))) image → IsStoreOf image r
+    → serial.0 ≤ point_of r.points.items its.number

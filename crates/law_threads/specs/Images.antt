@@ -10,6 +10,7 @@ use Rattle.fkv_table.specs.declared.happenings.Happening.{Happening}
 use Rattle.fkv_table.specs.Keeps.{IsLeftWithin}
 use Rattle.fkv_table.specs.Planes.{plane}
 use Rattle.law_threads.specs.Calls.{IsOver, events_of}
+use Rattle.law_threads.specs.Laws.{IsWithin}
 
 module _ {K : Type 0} (at : K → World) where
   -- An image holds a prefix of the life as it is at some moment of the call, behind these events.
@@ -19,7 +20,7 @@ module _ {K : Type 0} (at : K → World) where
     pub to : IsSeenBy (plane at) now seen'
     pub holds : HoldsPrefix o n bytes (events_of now) image
 
-  -- So does each image that a crash may leave in the call, over each store of which this is so, if the life began with an image that reaches far.
-  abbrev pub RecoversWithin : (Opened → Now → List ℕ → Type 0) → K → List Happening → List Happening → Type 0
-  RecoversWithin If key seen seen' = (o : Opened) (n : Now) (bytes : List ℕ) → IsOver at key o n bytes → If o n bytes → ReachesFar bytes
+  -- So does each image that a crash may leave in the call, if the life began with an image that reaches far and keeps to the premises of the law of prefixes.
+  abbrev pub RecoversWithin : K → List Happening → List Happening → Type 0
+  RecoversWithin key seen seen' = (o : Opened) (n : Now) (bytes : List ℕ) → IsOver at key o n bytes → IsWithin o n bytes (events_of seen') → ReachesFar bytes
       → (image : List ℕ) → IsLeftWithin at key seen seen' image → HoldsWithin o n bytes seen seen' image

@@ -24,7 +24,7 @@ pub record IsOrdered (o : Opened) (n : Now) (bytes : List ℕ) (events : List Ev
   pub ordered : OrdersItsCalls o n bytes events
   pub in_time : ReadsInTime o n bytes events
 
--- its premises: numbers below 2^64, and fewer than 2^64 - 1 calls
+-- its premises, and those of the law of prefixes: numbers below 2^64, and fewer than 2^64 - 1 calls
 pub record IsWithin (o : Opened) (n : Now) (bytes : List ℕ) (events : List Event) : Type 0 where
   pub fits : CallsFit events
   pub few : HasFewCalls events

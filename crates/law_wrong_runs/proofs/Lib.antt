@@ -1,3 +1,4 @@
 mod Computed
 mod OfGuard
 mod Lives
+mod OfCommits

@@ -1,2 +1,3 @@
 pub mod Tables
+pub mod WrongCommits
 pub mod WrongLives

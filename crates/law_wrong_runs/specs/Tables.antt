@@ -1,6 +1,7 @@
 -- Lives in which a row of one machine's table is wrong.
-use Rattle.std.specs.Prelude.{ℕ, ◌+◌, ◌-◌, nat_le, if◌then◌else◌, List, [], ◌∷◌, ◌++◌, slice_get, slice_set, Option, Some}
+use Rattle.std.specs.Prelude.{ℕ, ◌+◌, ◌-◌, nat_le, if◌then◌else◌, true, List, [], ◌∷◌, ◌++◌, slice_get, slice_set, Option, Some, None}
 use Rattle.fkv_base.specs.declared.faults.Fault.TheVariants.{Asleep, LogFull}
+use Rattle.fkv_commit.specs.declared.commits.Commit.{Commit}
 use Rattle.fkv_epoch.specs.EpochWorld as epochs
 use Rattle.fkv_epoch.specs.EpochWorld.{EpochMachine}
 use Rattle.fkv_epoch.specs.declared.claiming.Claiming.{Claiming}
@@ -164,3 +165,24 @@ action_is_claimed_early = of_keeper (λ was s. with_maintain s (claimed_early wa
 abbrev pub machine_claims_early : EpochMachine → EpochMachine → EpochMachine
 machine_claims_early (epochs.Claims was) (epochs.Claims step) = epochs.Claims (claims_early was step)
 machine_claims_early was machine = machine
+
+-- ---- tables of commits
+-- who asks what is durable is told its last serial
+abbrev pub tells_serial : SessionState → Sitting → Sitting
+tells_serial s (Idle (Durable serial)) = Idle (Durable (record { 0 = s.serial }))
+tells_serial s step = step
+
+abbrev pub serial_is_told_as_durable : Tables
+serial_is_told_as_durable = of_sessions (λ was s. record s { step = tells_serial s s.step })
+
+-- a commit keeps nothing: it has its points as soon as it is in hand, and all of them are 0
+abbrev pub with_no_points : KeeperState → Option Commit → KeeperState
+with_no_points s None = s
+with_no_points s (Some c) = record s { has_points = true; seek = record s.seek { points = [] } }
+
+abbrev pub commit_keeps_nothing : Tables
+commit_keeps_nothing = of_keeper (λ was s. with_no_points s s.commit)
+
+-- the right ones
+abbrev pub right_tables : Tables
+right_tables = record { session = λ was s. s; keeper = λ was s. s }

@@ -1,6 +1,7 @@
 //! What wrong tables lead to, computed.
 ghost use Rattle.fkv_keeper.specs.Keeping.{KeeperState};
 ghost use Rattle.fkv_session.specs.Sessions.{SessionState};
+ghost use Rattle.law_wrong_runs.specs.WrongCommits.{AreWrongCommits};
 ghost use Rattle.law_wrong_runs.specs.WrongLives.{AreWrongLives};
 
 /// Two sessions of a store with one bucket, whose key has 70 by one record. A table by which a record that is fixed is changed in place leads to a
@@ -11,4 +12,11 @@ ghost use Rattle.law_wrong_runs.specs.WrongLives.{AreWrongLives};
 /// writes a flushed record, and an action that is claimed one epoch early isn't seen by each session.
 pub fn law_of_wrong_lives()
     ensures { (keeper : KeeperState) (one other : SessionState) → AreWrongLives keeper one other }
+{}
+
+/// Two sessions of the same store, of which nothing is kept yet. Session 0 has given a key a value. If it is told its last serial as durable, that is its point
+/// in no commit. So no commit is current either, as one has to be that an image holds. By the right table it is told its point in the opening's commit. A
+/// commit that keeps nothing has a point below what session 0 had given as the commit was asked for.
+pub fn law_of_wrong_commits()
+    ensures { (keeper : KeeperState) (one other : SessionState) → AreWrongCommits keeper one other }
 {}

@@ -1,8 +1,8 @@
--- The law, by clauses of the order law.
+-- The law, by clauses of the order law and of the law of prefixes.
 use Rattle.fkv_seats.proofs.Seats.{in_order}
 use Rattle.fkv_table.specs.Planes.{plane}
 use Rattle.law_threads.proofs.OfDurable.{recovers_durable, tells_durable}
-use Rattle.law_threads.proofs.OfImages.{by_later, by_law}
+use Rattle.law_threads.proofs.OfImages.{recovers_within}
 use Rattle.law_threads.proofs.OfLaws.{in_lives, shares, thread_law}
 use Rattle.law_threads.proofs.law_threads.Goals as goal
 
@@ -13,16 +13,13 @@ pub returns-clause-in_lives : goal.returns-clause-in_lives
 returns-clause-in_lives g c = λ at. in_lives at c.law_order.ensures.legal c.law_order.ensures.ordered c.law_order.ensures.in_time (thread_law c.law_world_sessions.ensures.serials c.law_world_requests.ensures.tickets at)
 
 pub returns-clause-durable : goal.returns-clause-durable
-returns-clause-durable g c = λ at. tells_durable at
+returns-clause-durable g c = λ at. tells_durable at c.law_prefix.ensures
 
 pub returns-clause-recovered : goal.returns-clause-recovered
-returns-clause-recovered g c = λ at. recovers_durable at
+returns-clause-recovered g c = λ at. recovers_durable at c.law_prefix.ensures
 
 pub returns-clause-turns : goal.returns-clause-turns
-returns-clause-turns g c = λ at key seen seen'. by_later at key seen seen'
-
-pub returns-clause-turns_by_prefix : goal.returns-clause-turns_by_prefix
-returns-clause-turns_by_prefix g c = λ at key seen seen' prefix. by_law at key seen seen' prefix
+returns-clause-turns g c = λ at key seen seen'. recovers_within at key seen seen' c.law_prefix.ensures
 
 pub returns-clause-views : goal.returns-clause-views
 returns-clause-views g c = λ at. shares at (in_order (plane at))

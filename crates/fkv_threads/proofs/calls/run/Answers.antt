@@ -1,8 +1,8 @@
 -- The call is one that the session has run, so the thread law speaks of it.
 use Rattle.std.proofs.Common.{refl}
 use Rattle.fkv_table.specs.Planes.{opening_of}
-use Rattle.law_order.specs.Prefix.Law.{TellsDurable}
-use Rattle.law_threads.specs.Durable.{RecoversItsDurable, RecoversLater, TellsItsDurable}
+use Rattle.law_threads.specs.Durable.{RecoversItsDurable, TellsItsDurable}
+use Rattle.law_threads.specs.Laws.{IsWithin}
 use Rattle.fkv_threads.proofs.Lawful.{answered_to, lawful, of_this}
 use Rattle.fkv_threads.proofs.calls.run.Goals as goal
 
@@ -27,7 +27,7 @@ pub returns-clause-in_lives : goal.returns-clause-in_lives
 returns-clause-in_lives g c = lawful (opening_of g.D.Device.seen) _ _ _ (returns-clause-called g c) (c.law_threads.ensures.in_lives (opening_of g.D.Device.seen))
 
 pub returns-clause-durable : goal.returns-clause-durable
-returns-clause-durable g c = of_this (opening_of g.D.Device.seen) _ _ TellsDurable TellsItsDurable (returns-clause-called g c) (c.law_threads.ensures.durable (opening_of g.D.Device.seen))
+returns-clause-durable g c = of_this (opening_of g.D.Device.seen) _ _ IsWithin TellsItsDurable (returns-clause-called g c) (c.law_threads.ensures.durable (opening_of g.D.Device.seen))
 
 pub returns-clause-recovered : goal.returns-clause-recovered
-returns-clause-recovered g c = of_this (opening_of g.D.Device.seen) _ _ RecoversLater RecoversItsDurable (returns-clause-called g c) (c.law_threads.ensures.recovered (opening_of g.D.Device.seen))
+returns-clause-recovered g c = of_this (opening_of g.D.Device.seen) _ _ IsWithin RecoversItsDurable (returns-clause-called g c) (c.law_threads.ensures.recovered (opening_of g.D.Device.seen))

@@ -4,6 +4,3 @@ use Rattle.fkv_threads.proofs.keepers.turn.Goals as goal
 
 pub returns-clause-recovered : goal.returns-clause-recovered
 returns-clause-recovered g c = c.law_threads.ensures.turns (opening_of g.D.Device.seen) _ _ _
-
-pub returns-clause-by_prefix : goal.returns-clause-by_prefix
-returns-clause-by_prefix g c = λ prefix. c.law_threads.ensures.turns_by_prefix (opening_of g.D.Device.seen) _ _ _ prefix

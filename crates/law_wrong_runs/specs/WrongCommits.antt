@@ -1,0 +1,65 @@
+-- Lives by wrong tables in which a clause of the law of prefixes fails: of what is told as durable, and of the points of commits.
+use Rattle.std.specs.Prelude.{ℕ, true, replicate, List, [], ◌∷◌, ◌++◌}
+use Rattle.fkv_base.specs.declared.commits.CommitKind.TheVariants.{Full}
+use Rattle.fkv_base.specs.declared.shapes.Shape.{Shape}
+use Rattle.fkv_keeper.specs.Keeping.{KeeperState}
+use Rattle.fkv_keeper.specs.NewKeepers.{ArePlacesOfStore}
+use Rattle.fkv_map.specs.declared.operations.Call.TheVariants as call
+use Rattle.fkv_opening.specs.declared.opened_store.Opened.{Opened}
+use Rattle.fkv_plane.specs.declared.places.Places.{Places}
+use Rattle.fkv_session.specs.Sessions.{SessionState}
+use Rattle.fkv_world.specs.Opened.{IsOpenedWorld}
+use Rattle.fkv_world.specs.Runs.{World}
+use Rattle.fkv_world.specs.World.{Calls, Commits, Event, KeeperMoves, Moves}
+use Rattle.law_commit.specs.BegunCommits.{BegunCommit}
+use Rattle.law_commit.specs.PrefixPast.{PrefixPast, prefix_past}
+use Rattle.law_commit.specs.ToldPoints.{ToldPoint, points_told}
+use Rattle.law_log.specs.Trace.{IsIn}
+use Rattle.law_order.specs.Prefix.Law.{IsCurrent, IsToldDurable, TakesFairPoints}
+use Rattle.law_wrong_runs.specs.Tables.{Tables, commit_keeps_nothing, right_tables, run_by, serial_is_told_as_durable}
+use Rattle.law_wrong_runs.specs.WrongLives.{gives_events, opened_world}
+
+-- ---- what a life leaves
+-- its commits are those of the keeper's own events, and sessions are told this by the table
+abbrev pub past_by : Tables → World → List Event → PrefixPast
+past_by t opening events = record (prefix_past opening events) { told = λ session. points_told session (run_by t opening events).past.trace }
+
+-- what session 0 was told as durable is its point in a sealed commit
+abbrev pub LeavesDurable : Opened → Tables → World → List Event → Type 0
+LeavesDurable o t opening events = (told : ToldPoint) → IsIn told ((past_by t opening events).told 0) → IsToldDurable o (past_by t opening events) 0 told
+
+-- some commit is current, as the one has to be that an image holds
+abbrev pub LeavesCurrent : Tables → World → List Event → Type 0
+LeavesCurrent t opening events = (c : BegunCommit) × IsCurrent (past_by t opening events) c
+
+-- the commit in hand has fair points
+abbrev pub TakesFair : Tables → World → List Event → Type 0
+TakesFair t opening events = TakesFairPoints (run_by t opening events).now (prefix_past opening events)
+
+-- ---- the beginning: a store that was just opened, of which nothing is kept yet
+abbrev pub with_nothing_kept : KeeperState → KeeperState
+with_nothing_kept k = record k { last = record k.last { points = [] }; lost = [] }
+
+abbrev pub new_world : Shape → Places → KeeperState → SessionState → SessionState → World
+new_world shape places keeper one other = opened_world shape places (with_nothing_kept keeper) one other
+
+-- Session 0 gives a key a value, and asks what is durable.
+abbrev pub asks_durable : List Event
+asks_durable = replicate 2 (Moves 0) ++ Calls 0 call.Durable ∷ gives_events
+
+-- Or a full commit begins.
+abbrev pub begins_commit : List Event
+begins_commit = replicate 8 (KeeperMoves true true) ++ Commits Full ∷ gives_events
+
+-- In a store of this shape, with its places: if session 0 is told its last serial as durable, no commit has that as its point, and so none is current. By the
+-- right table it is told its point in the commit with which the store was opened. If a commit keeps nothing, its point is below what session 0 had given as
+-- it was asked for.
+pub record AreWrongCommits (keeper : KeeperState) (one other : SessionState) : Type 0 where
+  pub shape : Shape
+  pub places : Places
+  pub fits : ArePlacesOfStore shape places
+  pub opened : IsOpenedWorld (new_world shape places keeper one other)
+  pub undurable : (o : Opened) → LeavesDurable o serial_is_told_as_durable (new_world shape places keeper one other) asks_durable → ⊥
+  pub durable_right : (o : Opened) → LeavesDurable o right_tables (new_world shape places keeper one other) asks_durable
+  pub uncurrent : LeavesCurrent serial_is_told_as_durable (new_world shape places keeper one other) asks_durable → ⊥
+  pub unfair : TakesFair commit_keeps_nothing (new_world shape places keeper one other) begins_commit → ⊥
