@@ -1,5 +1,5 @@
 -- What images hold that a crash may leave in a call of the keeper, by the law of prefixes.
-use Rattle.std.proofs.Common.{◌≡◌, ℕ, ◌≤◌, ◌<◌, ◌∙◌, sym, ap, subst, arith, List, [], ◌∷◌, ◌++◌}
+use Rattle.std.proofs.Common.{◌≡◌, ℕ, ◌≤◌, ◌<◌, ◌∙◌, ap, subst, arith, List, [], ◌∷◌, ◌++◌}
 use Rattle.fkv_core.specs.Openings.{beginning}
 use Rattle.fkv_disk.specs.Calls.{MayLeave}
 use Rattle.fkv_opening.specs.declared.opened_store.Opened.{Opened}
@@ -11,7 +11,7 @@ use Rattle.law_world.proofs.OfKeeper.OwnCalls.{opened_stays}
 use Rattle.law_order.specs.OneHistory.EachLife.{IsLife, Life}
 use Rattle.law_order.specs.Prefix.Law.{PrefixLaw, calls_so_far}
 use Rattle.law_order.specs.Served.Fits.{CallsFit}
-use Rattle.law_order.specs.Tickets.Few.{HasFewCalls, calls_in, with_begun}
+use Rattle.law_order.specs.Tickets.Few.{calls_in, with_begun}
 use Rattle.fkv_table.specs.declared.happenings.Happening.{Happening}
 use Rattle.fkv_table.specs.Planes.{plane}
 use Rattle.fkv_table.proofs.Lives.{led_run}

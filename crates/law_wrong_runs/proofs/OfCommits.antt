@@ -1,5 +1,5 @@
 -- The lives in which a clause of the law of prefixes fails, by computing them.
-use Rattle.std.proofs.Common.{◌≡◌, inl, inr, ℕ, ◌≤◌, ◌∙◌, List, [], ◌∷◌, refl, sym, ap, subst, arith, true}
+use Rattle.std.proofs.Common.{◌≡◌, inl, inr, ◌≤◌, ◌∙◌, List, [], ◌∷◌, refl, sym, ap, subst, arith, true}
 use Rattle.std.specs.Prelude.{Option, Some, None, IsSome}
 use Rattle.fkv_base.specs.declared.numbers.Serial.{Serial}
 use Rattle.fkv_commit.specs.declared.commits.Commit.{Commit}
@@ -11,7 +11,7 @@ use Rattle.fkv_world.specs.Runs.{World}
 use Rattle.fkv_world.specs.World.{Now}
 use Rattle.law_commit.specs.BegunCommits.{BegunCommit, commit_opened, life_begun}
 use Rattle.law_commit.specs.PrefixPast.{PrefixPast, prefix_past, serials_asked}
-use Rattle.law_commit.specs.ToldPoints.{ToldPoint, points_told}
+use Rattle.law_commit.specs.ToldPoints.{ToldPoint}
 use Rattle.law_log.specs.Trace.{IsIn}
 use Rattle.law_order.specs.Prefix.Law.{IsToldDurable, TakesFairPoints}
 use Rattle.law_wrong_runs.specs.Tables.{commit_keeps_nothing, right_tables, run_by, serial_is_told_as_durable}

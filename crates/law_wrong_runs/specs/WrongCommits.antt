@@ -1,5 +1,5 @@
 -- Lives by wrong tables in which a clause of the law of prefixes fails: of what is told as durable, and of the points of commits.
-use Rattle.std.specs.Prelude.{ℕ, true, replicate, List, [], ◌∷◌, ◌++◌}
+use Rattle.std.specs.Prelude.{true, replicate, List, [], ◌∷◌, ◌++◌}
 use Rattle.fkv_base.specs.declared.commits.CommitKind.TheVariants.{Full}
 use Rattle.fkv_base.specs.declared.shapes.Shape.{Shape}
 use Rattle.fkv_keeper.specs.Keeping.{KeeperState}
