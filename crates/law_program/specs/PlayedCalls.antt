@@ -1,3 +1,6 @@
+pub mod EachLine
+pub mod Finished
 pub mod NewFiles
 pub mod PlayedCalls
 pub mod Scripts
+pub mod Waiting
