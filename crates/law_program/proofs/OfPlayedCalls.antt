@@ -4,6 +4,7 @@ pub mod EachLine
 mod InLife
 mod Keeper
 pub mod Led
+pub mod Lives
 pub mod NewFiles
 mod NewStores
 mod OneCall

@@ -1,5 +1,6 @@
 pub mod EachLine
 pub mod Finished
+pub mod Lives
 pub mod NewFiles
 pub mod PlayedCalls
 pub mod Scripts
