@@ -1,6 +1,6 @@
 -- What the keeper does leaves sessions as they are, and nothing takes effect by it; nor is a session told anything.
 use Rattle.std.proofs.Common.{◌≡◌, ◌∙◌, ℕ, List, [], ◌∷◌, ◌++◌, Bool, true, false, ap, append_assoc, refl, sym, subst, length}
-use Rattle.std.specs.Prelude.{Some, if◌then◌else◌, slice_get}
+use Rattle.std.specs.Prelude.{if◌then◌else◌, slice_get}
 use Rattle.fkv_core.specs.Openings.{beginning}
 use Rattle.fkv_keeper.specs.KeeperRun.{is_in_hand}
 use Rattle.fkv_keeper.specs.KeeperAsks.{keeper_calls}

@@ -1,5 +1,5 @@
 -- A life begins over a device that holds a store's image.
-use Rattle.std.proofs.Common.{◌≡◌, ◌∙◌, ℕ, zero, suc, List, [], ap, refl, replicate, sym, subst}
+use Rattle.std.proofs.Common.{◌≡◌, ◌∙◌, ℕ, zero, suc, List, [], ap, replicate, sym, subst}
 use Rattle.std.specs.Prelude.{Bool, Some, slice_get}
 use Rattle.fkv_core.specs.Openings.{IsOpeningWorld, beginning}
 use Rattle.fkv_disk.specs.Calls.{ReadsAs}
@@ -18,7 +18,7 @@ use Rattle.fkv_playing.specs.Seats.{SeatState, first_seat}
 use Rattle.fkv_runs.specs.Openings.{Holds}
 use Rattle.fkv_texts.specs.Polls.{key_of_ticket}
 use Rattle.fkv_world.specs.Runs.{run}
-use Rattle.fkv_world.specs.World.{Event, Now}
+use Rattle.fkv_world.specs.World.{Now}
 use Rattle.law_program.specs.PlayedCalls.EachLine.{IsLifeOver}
 use Rattle.law_program.specs.PlayedCalls.Lives.{ArmingGoesOn, CrashesGoOn, LivesBegin}
 use Rattle.law_program.specs.PlayedCalls.PlayedCalls.{IsQuietLife}

@@ -2,7 +2,6 @@
 use Rattle.std.proofs.Common.{◌≡◌, ◌∙◌, ℕ, List, [], ◌∷◌, ◌++◌, false, ap, inl, inr, refl, sym, subst}
 use Rattle.std.specs.Prelude.{Some, length, slice_get}
 use Rattle.fkv_base.specs.declared.numbers.Key.{Key}
-use Rattle.fkv_base.specs.declared.numbers.Serial.{Serial}
 use Rattle.fkv_core.specs.Openings.{beginning}
 use Rattle.fkv_epoch.proofs.Shown.{some_same}
 use Rattle.fkv_map.specs.History.{IsLegal, content}
@@ -30,20 +29,18 @@ use Rattle.fkv_texts.specs.Sessions.{finished_by}
 use Rattle.fkv_world.specs.Past.{Answered, Called, Traced}
 use Rattle.fkv_world.specs.Runs.{World, run}
 use Rattle.fkv_world.specs.World.{Calls, Event, Now}
-use Rattle.law_log.specs.Trace.{CallsRead, Effect, GivesResult, IsIn, TraceLine, history_of}
+use Rattle.law_log.specs.Trace.{CallsRead, Effect, GivesResult, IsIn, history_of}
 use Rattle.law_opening.specs.Log.Maps.{opening_map}
 use Rattle.law_order.specs.OneHistory.EachLife.{InEachLife, IsLife, Life}
 use Rattle.law_order.specs.Rules.Ordered.{HasLegalHistory, OrdersItsCalls, effects_so_far, lines_so_far}
-use Rattle.law_order.specs.Served.Fits.{CallFits}
-use Rattle.law_order.specs.Tickets.Few.{HasFewCalls}
 use Rattle.law_refine.specs.Calls.Calls.{event_adds}
 use Rattle.law_refine.specs.Events.GhostEvents.{serials_in}
 use Rattle.law_refine.specs.Events.Lines.{finished_line, finished_lines, lines_of}
 use Rattle.law_refine.specs.Results.Results.{NobodyCalls}
-use Rattle.law_program.specs.PlayedCalls.Finished.{AreRepliedAtEffects, IsCallAnswered, IsRepliedAtEffect}
+use Rattle.law_program.specs.PlayedCalls.Finished.{AreRepliedAtEffects, IsRepliedAtEffect}
 use Rattle.law_program.specs.PlayedCalls.PlayedCalls.{IsQuietLife, called_alone}
 use Rattle.law_program.proofs.OfPlayedCalls.Beats.{EndsCall}
-use Rattle.law_program.proofs.OfPlayedCalls.InLife.{calls_few, calls_fit, was_alive, was_there}
+use Rattle.law_program.proofs.OfPlayedCalls.InLife.{was_alive, was_there}
 use Rattle.law_program.proofs.OfWholeCalls.InLists.{in_left, in_right}
 use Rattle.law_program.proofs.OfWholeCalls.CallTold.{IsAnsweredIn, TraceAt, answered_in, call_line, in_call_told}
 

@@ -1,5 +1,5 @@
 -- The value that a poll gives for a read is its key's, at some moment between the read's call and the answer.
-use Rattle.std.proofs.Common.{◌≡◌, ◌∙◌, ℕ, List, [], ◌∷◌, ◌++◌, ap, append_assoc, inl, inr, length, refl, sym, subst}
+use Rattle.std.proofs.Common.{◌≡◌, ◌∙◌, ℕ, List, [], ◌∷◌, ◌++◌, ap, append_assoc, inl, inr, sym, subst}
 use Rattle.std.specs.Prelude.{Option, Some, slice_get}
 use Rattle.fkv_base.specs.declared.numbers.Key.{Key}
 use Rattle.fkv_base.specs.declared.numbers.Value.{Value}
@@ -7,7 +7,6 @@ use Rattle.fkv_core.specs.Openings.{beginning}
 use Rattle.fkv_map.specs.declared.operations.Call.{Call}
 use Rattle.fkv_map.specs.declared.operations.Call.TheVariants as call
 use Rattle.fkv_map.specs.declared.operations.Op.TheVariants.{Read}
-use Rattle.fkv_map.specs.declared.operations.Reply.{Reply}
 use Rattle.fkv_opening.specs.declared.opened_store.Opened.{Opened}
 use Rattle.fkv_pending.specs.declared.pending_requests.Ticket.{Ticket}
 use Rattle.fkv_playing.specs.Seats.{SeatState}
@@ -18,7 +17,7 @@ use Rattle.fkv_session.specs.declared.answers.Finished.{Finished}
 use Rattle.fkv_session.specs.declared.answers.Finished.TheVariants as finished
 use Rattle.fkv_session.specs.declared.answers.Told.{Told}
 use Rattle.fkv_world.specs.Past.{Answered, Called, Traced}
-use Rattle.fkv_world.specs.Runs.{World, run}
+use Rattle.fkv_world.specs.Runs.{run}
 use Rattle.fkv_world.specs.World.{Calls, Event, Now}
 use Rattle.law_log.specs.Trace.{AnswersRead, CallsRead, IsIn, TraceLine}
 use Rattle.law_order.specs.OneHistory.EachLife.{InEachLife, IsLife, Life}
@@ -29,7 +28,7 @@ use Rattle.law_refine.specs.Events.GhostEvents.{serials_in}
 use Rattle.law_refine.specs.Events.Lines.{event_lines, lines_of, read_reply}
 use Rattle.law_program.specs.PlayedCalls.PlayedCalls.{called_alone}
 use Rattle.law_program.specs.PlayedCalls.Waiting.{AreReadInTime, IsReadCalled, IsReadInTime, SeatsKeepKeys, StandsForKey, reader_of}
-use Rattle.law_program.proofs.OfPlayedCalls.Polled.{IsPolled, IsTraced, finished_in, line_in, polled, trace_of_call}
+use Rattle.law_program.proofs.OfPlayedCalls.Polled.{IsPolled, IsTraced, finished_in, line_in, polled}
 use Rattle.law_program.proofs.OfPlayedCalls.ReadCalls.{called_before}
 use Rattle.law_program.proofs.OfWholeCalls.InLists.{in_right}
 

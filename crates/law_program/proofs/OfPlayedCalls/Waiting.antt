@@ -7,7 +7,6 @@ use Rattle.std.proofs.lemmas.List.{append-nil, reverse-append}
 use Rattle.fkv_base.specs.declared.numbers.Key.{Key}
 use Rattle.fkv_core.specs.Openings.{beginning}
 use Rattle.fkv_epoch.proofs.Shown.{item_spared, item_written, none_some, same_or, some_same}
-use Rattle.fkv_map.specs.Keys.{key_of}
 use Rattle.fkv_map.specs.declared.operations.Call.{Call}
 use Rattle.fkv_map.specs.declared.operations.Call.TheVariants as call
 use Rattle.fkv_map.specs.declared.operations.Op.TheVariants.{Read}
@@ -24,12 +23,11 @@ use Rattle.fkv_texts.specs.Polls.{has_ticket, key_of_ticket}
 use Rattle.fkv_texts.specs.Sessions.{key_of_call}
 use Rattle.fkv_texts.specs.declared.polls.WaitingRead.{WaitingRead}
 use Rattle.fkv_world.specs.Past.{Answered, Called, Traced}
-use Rattle.fkv_world.specs.Runs.{World, run}
+use Rattle.fkv_world.specs.Runs.{run}
 use Rattle.fkv_world.specs.World.{Calls, Event, Moves, Now}
 use Rattle.law_log.specs.Trace.{CallsRead, IsIn}
 use Rattle.law_order.specs.Rules.Ordered.{lines_so_far}
 use Rattle.law_order.proofs.OfReads.Numbers.{called_hand, other_waiting}
-use Rattle.law_refine.specs.Calls.Calls.{event_adds}
 use Rattle.law_refine.specs.Events.GhostEvents.{serials_in}
 use Rattle.law_refine.specs.Events.Lines.{gives_ticket, lines_of, read_in_hand, read_waiting}
 use Rattle.law_program.specs.PlayedCalls.PlayedCalls.{called_alone}

@@ -196,6 +196,17 @@ pub record IsAnsweredIn (opening : World) (before : List Event) (number count : 
 answers_at : (number : ℕ) (step : Sitting) (list : List Finished) (its : Told) → step ≡ Idle its → call_answered number true step list ≡ Answered number (telling its list) ∷ []
 answers_at number step list its at = ap (λ (x : Sitting). call_answered number true x list) at
 
+-- a move behind it gives none
+moved_behind : (opening : World) (before : List Event) (number count : ℕ) (asked : Call) (its : Told) (list : List Finished) → IsAnsweredIn opening before number count asked its list → IsAnsweredIn opening before number (suc count) asked its list
+moved_behind opening before number count asked its list given = record {
+  behind = Moves number ∷ given.behind;
+  answer = given.answer;
+  between = given.between;
+  so = ap (λ (x : List Event). Moves number ∷ x) given.so;
+  e = given.e;
+  adds = given.adds;
+}
+
 pub answered_in : (opening : World) (before : List Event) (number count : ℕ) (asked : Call) (s : SessionState) → (run opening before).now.crashed ≡ false → slice_get (run opening before).now.sessions number ≡ Some s → is_busy s.step ≡ false
     → (a : SessionState) (its : Told) → slice_get (run opening (called_alone number count asked before)).now.sessions number ≡ Some a → a.step ≡ Idle its → IsAnsweredIn opening before number count asked its a.finished
 unfolding run
@@ -241,12 +252,5 @@ answered_in opening before number (suc count) asked s alive found idle a its is_
     by_step false calm before_it =
         let now : World = run opening (called_alone number count asked before) in
         let same : a ≡ was.its = some_same _ _ (sym is_now ∙ session_written now (Moves number) number was.its (grind (arith, nat_tests)) was.alive was.found) ∙ still now number was.its calm in
-        let earlier : IsAnsweredIn opening before number count asked its was.its.finished = before_it its (sym (ap (λ (x : SessionState). x.step) same) ∙ at) in
-        record {
-          behind = Moves number ∷ earlier.behind;
-          answer = earlier.answer;
-          between = earlier.between;
-          so = ap (λ (x : List Event). Moves number ∷ x) earlier.so;
-          e = earlier.e;
-          adds = λ line is_in. earlier.adds line (subst (λ (x : SessionState). IsIn line (event_lines (serials_in opening.now) (record { its = Called number asked; effects = earlier.e } ∷ (run opening before).past.trace) (Answered number (telling its x.finished)))) same is_in);
-        }
+        subst (λ (x : SessionState). IsAnsweredIn opening before number (suc count) asked its x.finished) (sym same)
+        (moved_behind opening before number count asked its was.its.finished (before_it its (sym (ap (λ (x : SessionState). x.step) same) ∙ at)))
