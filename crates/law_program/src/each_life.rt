@@ -18,5 +18,4 @@ pub fn law_each_life<M: Crashes>()
 /// And a line by which a call of the device is to fail, or a crash to strike, leaves the life as it is.
 pub fn law_arming<D: Device>()
     ensures { ArmingGoesOn D.seen D.may_leave }
-{
-}
+{}

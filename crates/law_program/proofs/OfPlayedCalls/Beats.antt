@@ -22,7 +22,7 @@ use Rattle.fkv_playing.specs.declared.calls.Stage.{Stage}
 use Rattle.fkv_playing.specs.declared.calls.Stage.TheVariants as stage
 use Rattle.fkv_playing.specs.declared.calls.Telling.{Telling}
 use Rattle.fkv_world.specs.Runs.{World, run}
-use Rattle.fkv_world.specs.World.{Event, Moves}
+use Rattle.fkv_world.specs.World.{Event, Moves, Now}
 use Rattle.law_program.proofs.OfPlayedCalls.Steps.{GoesByRules, IsAnsweredNow, IsRuled, answered_now, led_on, stage_event}
 
 -- ---- by the outcome
@@ -77,6 +77,11 @@ told_calm (told.Turn its) = turn_calm its
 pub outcome_calm : (its : Option tells.Told) → is_struck_by (outcome_of false its) ≡ false
 outcome_calm None = refl
 outcome_calm (Some said) = told_calm said
+
+-- nobody hears what was told in a beat in which a crash strikes
+pub unheard_then : (telling : Telling) (asked : Call) (seats : List SeatState) (n : Now) (struck : Bool) (its : Option tells.Told) → true ≡ is_struck_by (outcome_of struck its) → text_heard telling asked seats n (heard struck its) ≡ []
+unheard_then telling asked seats n true its e = refl
+unheard_then telling asked seats n false its e = let never : true ≡ false = e ∙ outcome_calm its in cc
 
 -- ---- beat by beat
 -- The life has gone on with these events to the world behind a call, the session has been answered, and this is printed.

@@ -1,5 +1,5 @@
 -- A life goes on by each line of a call, and by each finish.
-use Rattle.std.proofs.Common.{◌≡◌, ◌∙◌, ◌⊎◌, ◌+◌, ◌-◌, ◌^◌, ◌<◌, ◌≤◌, ℕ, zero, suc, List, [], ◌∷◌, ◌++◌, Bool, true, false, ap, arith, inl, inr, length, refl, replicate, sym, subst, take}
+use Rattle.std.proofs.Common.{◌≡◌, ◌∙◌, ◌⊎◌, ◌+◌, ◌-◌, ◌^◌, ◌<◌, ◌≤◌, ℕ, zero, suc, List, [], ◌∷◌, ◌++◌, Bool, true, false, ap, append_assoc, arith, inl, inr, length, refl, replicate, sym, subst, take}
 use Rattle.std.specs.Prelude.{Option, Some, None, nat_lt, ⊤}
 use Rattle.std.proofs.lemmas.List.{append-nil}
 use Rattle.fkv_base.specs.declared.faults.Fault.TheVariants.{NoSession}
@@ -23,7 +23,7 @@ use Rattle.fkv_playing.specs.Texts.{phase_shown}
 use Rattle.fkv_playing.specs.declared.calls.ActorCall.{ActorCall}
 use Rattle.fkv_playing.specs.declared.calls.ActorCall.TheVariants.{Session, Commit, Turn}
 use Rattle.fkv_playing.specs.declared.calls.Outcome.{Outcome}
-use Rattle.fkv_playing.specs.declared.calls.Outcome.TheVariants.{Answered, GoesOn}
+use Rattle.fkv_playing.specs.declared.calls.Outcome.TheVariants.{Answered, Closed, GoesOn, Struck}
 use Rattle.fkv_playing.specs.declared.calls.Stage.TheVariants as stage
 use Rattle.fkv_playing.specs.declared.calls.Telling.{Telling}
 use Rattle.fkv_playing.specs.declared.calls.Telling.TheVariants.{Finished, Whole}
@@ -37,7 +37,7 @@ use Rattle.law_order.specs.Rules.Ordered.{HasLegalHistory, OrdersItsCalls, Reads
 use Rattle.law_order.specs.Served.Fits.{CallFits, CallsFit}
 use Rattle.law_order.specs.Tickets.Few.{HasFewCalls, calls_in}
 use Rattle.law_order.proofs.OfRules.Beginning.{world_opens}
-use Rattle.law_program.specs.PlayedCalls.EachLine.{AreMovesOf, ArePlayedInLife, CallsGoOn, FinishesGoOn, IsEndOfFinish, IsFinishInLife, IsLifeOver, IsLineInLife, IsOfKeeper, IsPlayedInLife, IsRefusedLine, IsToldInLife, ItsNumbersFit, StruckCallsSayNothing, begun_by}
+use Rattle.law_program.specs.PlayedCalls.EachLine.{AreMovesOf, ArePlayedInLife, CallsGoOn, FinishesGoOn, IsEndOfFinish, IsFinishCutShort, IsFinishInLife, IsLifeOver, IsLineInLife, IsOfKeeper, IsPlayedInLife, IsRefusedLine, IsToldInLife, ItsNumbersFit, StruckCallsSayNothing, StruckFinishesEnd, begun_by}
 use Rattle.law_program.specs.PlayedCalls.Finished.{IsCallAnswered}
 use Rattle.law_program.specs.PlayedCalls.PlayedCalls.{called_alone}
 use Rattle.law_program.specs.PlayedCalls.Waiting.{SeatsKeepKeys}
@@ -45,7 +45,7 @@ use Rattle.law_program.specs.WholeCalls.WholeCalls.{map_after}
 use Rattle.law_program.proofs.OfPlayedCalls.Beats.{EndsCall, HasEnded, beats_end}
 use Rattle.law_program.proofs.OfPlayedCalls.InLife.{calls_few, calls_fit}
 use Rattle.law_program.proofs.OfPlayedCalls.Keeper.{map_stays, nobody_still, seats_still}
-use Rattle.law_program.proofs.OfPlayedCalls.Led.{IsKeepers, IsLedBy, LeadsLives, ShowsBoth, alike, beats_on, told_last}
+use Rattle.law_program.proofs.OfPlayedCalls.Led.{IsKeepers, IsLedBy, LeadsLives, ShowsBoth, alike, beats_on, struck_alone, told_last}
 use Rattle.law_program.proofs.OfPlayedCalls.OneCall.{HasOneCall, first_call, played_out, refused_out, struck_silent}
 use Rattle.law_program.proofs.OfPlayedCalls.Polled.{IsTraced, traced, updates_answered}
 use Rattle.law_program.proofs.OfPlayedCalls.PolledReads.{reads_answered}
@@ -115,6 +115,18 @@ taken_few : (count : ℕ) (calls : List ActorCall) → length (take count calls)
 taken_few zero calls = omega arith
 taken_few (suc count) [] = omega arith
 taken_few (suc count) (its ∷ calls) = let rest = taken_few count calls in omega (arith, rest)
+
+taken_parts : (count : ℕ) (calls : List ActorCall) → (behind : List ActorCall) × (calls ≡ take count calls ++ behind)
+taken_parts zero calls = (calls, refl)
+taken_parts (suc count) [] = ([], refl)
+taken_parts (suc count) (its ∷ calls) = let rest = taken_parts count calls in (rest.0, ap (λ (x : List ActorCall). its ∷ x) rest.1)
+
+-- where a crash strikes it says nothing behind them
+none_behind : (outcome : Outcome) → true ≡ is_struck_by outcome → behind_rounds outcome ≡ []
+none_behind Struck struck = refl
+none_behind GoesOn struck = cc
+none_behind Answered struck = cc
+none_behind Closed struck = cc
 
 -- what it says behind them
 ends_so : (outcome : Outcome) → IsEndOfFinish (behind_rounds outcome)
@@ -336,3 +348,56 @@ module _ {D : Type 0} (legal : InEachLife HasLegalHistory) (ordered : InEachLife
       by_phase : (its : Phase) → IsFinishIn engine its before after outcome text → IsFinishInLife seen may_leave bytes o first life before after text
       by_phase phase.Rest its = nothing_in_life bytes o first life before after text over its.0 its.2
       by_phase other its = rounds_in_life bytes o first life before after outcome text over few its calm
+
+  -- ---- a finish in which a crash strikes
+  record GoesOnUpTo (calls : List ActorCall) (bytes : List ℕ) (o : Opened) (first : Now) (life : List Event) (before : PlayerState D) (text : List ℕ) : Type 0 where
+    ended : List ActorCall
+    behind : List ActorCall
+    parts : calls ≡ ended ++ behind
+    later : List Event
+    last : PlayerState D
+    all : ArePlayedInLife seen may_leave Finished ended bytes o first life later before last text
+
+  up_to : (calls : List ActorCall) (bytes : List ℕ) (o : Opened) (first : Now) (life : List Event) (before after : PlayerState D) (outcome : Outcome) (text : List ℕ) → IsLifeOver seen may_leave bytes o first life before → AreFit calls
+      → calls_in life + length calls < 2 ^ 64 - 1 → true ≡ is_struck_by outcome → InTurn (IsPlayedAlone engine Finished) Answered calls before after outcome text → GoesOnUpTo calls bytes o first life before text
+  up_to [] bytes o first life before after outcome text over fit few struck all = let never : true ≡ false = struck ∙ ap is_struck_by all.1 in cc
+  up_to (its ∷ []) bytes o first life before after outcome text over fit few struck all =
+      record { ended = []; behind = its ∷ []; parts = refl; later = life; last = before; all = (refl, refl, struck_alone engine Finished its stage.Begins all.moves before after outcome text struck all.beats) }
+  up_to (its ∷ next ∷ rest) bytes o first life before after outcome text over fit few struck all =
+      let more = begun_counted its life in
+      let one = one_alone its bytes o first life before all.0 Answered all.1 over fit.0 (omega (arith, few, more)) refl all.3 in
+      let many = one.few in
+      let others = up_to (next ∷ rest) bytes o first one.later all.0 after outcome all.2 one.played.goes_on fit.1 (omega (arith, few, more, many)) struck all.4 in
+      record {
+        ended = its ∷ others.ended;
+        behind = others.behind;
+        parts = ap (λ (x : List ActorCall). its ∷ x) others.parts;
+        later = others.later;
+        last = others.last;
+        all = (one.later, all.0, all.1, all.2, one.played, others.all, all.5);
+      }
+
+  rounds_up_to : (bytes : List ℕ) (o : Opened) (first : Now) (life : List Event) (before after : PlayerState D) (outcome : Outcome) (text : List ℕ)
+      → IsLifeOver seen may_leave bytes o first life before → calls_in life + length (rounds most_rounds (round_of before.seats)) < 2 ^ 64 - 1
+      → AreRounds engine before after outcome text → true ≡ is_struck_by outcome → IsFinishCutShort seen may_leave bytes o first life before text
+  rounds_up_to bytes o first life before after outcome text over few its struck =
+      let calls : List ActorCall = rounds most_rounds (round_of before.seats) in
+      let fewer = taken_few its.count calls in
+      let all = up_to (take its.count calls) bytes o first life before after outcome its.said over (fit_taken its.count calls (fit_rounds most_rounds (round_of before.seats) (fit_round before.seats))) (omega (arith, few, fewer)) struck its.calls in
+      let parts = taken_parts its.count calls in
+      let says : text ≡ its.said = its.says ∙ (ap (λ (x : List ℕ). its.said ++ x) (none_behind outcome struck) ∙ append-nil its.said) in
+      record {
+        calls = all.ended;
+        behind = all.behind ++ parts.0;
+        first_of = parts.1 ∙ (ap (λ (x : List ActorCall). x ++ parts.0) all.parts ∙ append_assoc all.ended all.behind parts.0);
+        later = all.later;
+        last = all.last;
+        played = subst (ArePlayedInLife seen may_leave Finished all.ended bytes o first life all.later before all.last) (sym says) all.all;
+      }
+
+  pub struck_finishes_end : StruckFinishesEnd seen may_leave engine
+  struck_finishes_end bytes o first life before after outcome text over few its struck = by_phase (phase_shown before.world.now).0 its
+    where
+      by_phase : (its : Phase) → IsFinishIn engine its before after outcome text → IsFinishCutShort seen may_leave bytes o first life before text
+      by_phase phase.Rest its = let never : false ≡ true = sym (ap is_struck_by its.1) ∙ struck in cc
+      by_phase other its = rounds_up_to bytes o first life before after outcome text over few its (sym struck)

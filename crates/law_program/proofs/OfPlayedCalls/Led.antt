@@ -17,6 +17,7 @@ use Rattle.fkv_keeper.specs.declared.keepers.Keeping.{Keeping}
 use Rattle.fkv_keeper.specs.declared.keepers.Keeping.TheVariants.{Ended}
 use Rattle.fkv_map.specs.declared.operations.Call.{Call}
 use Rattle.fkv_playing.specs.Beats.{IsBeat, asked_of, event_of, heard, seats_behind}
+use Rattle.fkv_playing.specs.Groups.{is_struck_by}
 use Rattle.fkv_playing.specs.InTurn.{InTurn}
 use Rattle.fkv_playing.specs.Players.{EngineStep, PlayerState, is_struck}
 use Rattle.fkv_playing.specs.Seats.{SeatState}
@@ -32,7 +33,7 @@ use Rattle.fkv_world.specs.Opened.{IsOpenedWorld}
 use Rattle.fkv_world.specs.Runs.{World, run}
 use Rattle.fkv_world.specs.World.{Event, Moves, Now}
 use Rattle.law_program.specs.PlayedCalls.EachLine.{AreMovesOf, IsMoveOf, IsOfKeeper, begun_by}
-use Rattle.law_program.proofs.OfPlayedCalls.Beats.{HasEnded, ended_heard, unheard}
+use Rattle.law_program.proofs.OfPlayedCalls.Beats.{HasEnded, ended_heard, unheard, unheard_then}
 
 -- ---- by the engine's rules
 -- A step leads on each life of an opened store that shows the world and the device before it, and tells what its event gives.
@@ -187,3 +188,16 @@ module _ {D : Type 0} (seen : D → List ℕ) (may_leave : D → List ℕ → Ty
         many = one_longer rest.moves rest.event ∙ ap suc rest.many;
         shows = subst (λ (x : List Event). ShowsBoth seen may_leave opening x after.world) (sym (append_assoc rest.moves (rest.event ∷ []) (one.event ∷ life))) rest.shows;
       }
+
+-- ---- where a crash strikes
+-- the call has printed nothing
+pub struck_alone : {D : Type 0} (engine : events.Event → WorldModel D → WorldModel D → Option tells.Told → Bool → Type 0) (telling : Telling) (its : ActorCall) (at : Stage) (count : ℕ) (before after : PlayerState D) (outcome : Outcome) (text : List ℕ)
+    → true ≡ is_struck_by outcome → InTurn (IsBeat engine telling its) GoesOn (at ∷ replicate count stage.Moves) before after outcome text → text ≡ []
+struck_alone engine telling its at zero before after outcome text struck beat =
+    beat.says ∙ unheard_then telling (asked_of its) before.seats after.world.now (is_struck before.waits beat.broken) beat.its (struck ∙ ap is_struck_by beat.ends)
+struck_alone {D} engine telling its at (suc count) before after outcome text struck beats =
+    let between : PlayerState D = beats.0 in
+    let beat : IsBeat engine telling its at before between GoesOn beats.1 = beats.3 in
+    let silent : beats.1 ≡ [] = beat.says ∙ ap (text_heard telling (asked_of its) before.seats between.world.now) (unheard (is_struck before.waits beat.broken) beat.its beat.ends) in
+    let rest : beats.2 ≡ [] = struck_alone engine telling its stage.Moves count between after outcome beats.2 struck beats.4 in
+    beats.5 ∙ (ap (λ (x : List ℕ). x ++ beats.2) silent ∙ rest)

@@ -7,7 +7,7 @@ use Rattle.fkv_core.specs.Worlds.{WorldModel}
 use Rattle.fkv_core.specs.declared.events.Event as events
 use Rattle.fkv_core.specs.declared.events.Told as tells
 use Rattle.fkv_epoch.proofs.Shown.{item_spared, item_written, none_some, same_or, some_same}
-use Rattle.fkv_playing.specs.Beats.{IsBeat, asked_of, heard, outcome_of, seats_behind}
+use Rattle.fkv_playing.specs.Beats.{IsBeat, asked_of, seats_behind}
 use Rattle.fkv_playing.specs.Groups.{GroupState, IsBeatOf, IsPick, is_struck_by, missing_session}
 use Rattle.fkv_playing.specs.InTurn.{InTurn}
 use Rattle.fkv_playing.specs.Players.{PlayerState, is_struck}
@@ -21,8 +21,7 @@ use Rattle.fkv_playing.specs.declared.calls.Stage.{Stage}
 use Rattle.fkv_playing.specs.declared.calls.Stage.TheVariants as stage
 use Rattle.fkv_playing.specs.declared.calls.Telling.TheVariants.{Whole}
 use Rattle.fkv_texts.specs.Refusals.{session_refusal}
-use Rattle.fkv_world.specs.World.{Now}
-use Rattle.law_program.proofs.OfPlayedCalls.Beats.{HasEnded, outcome_calm, unheard}
+use Rattle.law_program.proofs.OfPlayedCalls.Beats.{HasEnded, unheard, unheard_then}
 
 -- ---- the queues of one call
 -- it is to be begun, or in hand, and nothing else is left
@@ -218,13 +217,9 @@ module _ {D : Type 0} (engine : events.Event → WorldModel D → WorldModel D �
   none_left picked (next ∷ later) before after struck text nobody played = none_picked engine picked before played.0 false played.1 nobody played.3
 
   -- in the beat in which it strikes nobody hears what was told
-  unheard_then : (seats : List SeatState) (n : Now) (struck : Bool) (its : Option tells.Told) → true ≡ is_struck_by (outcome_of struck its) → text_heard Whole (asked_of call) seats n (heard struck its) ≡ []
-  unheard_then seats n true its e = refl
-  unheard_then seats n false its e = let never : true ≡ false = e ∙ outcome_calm its in cc
-
   struck_beat : (at : Stage) (before after : PlayerState D) (outcome : Outcome) (text : List ℕ) (missing : Option ℕ) → true ≡ is_struck_by outcome → IsBeatOf engine call at before after outcome text missing → text ≡ []
   struck_beat at before after outcome text None struck beat =
-      beat.says ∙ unheard_then before.seats after.world.now (is_struck before.waits beat.broken) beat.its (struck ∙ ap is_struck_by beat.ends)
+      beat.says ∙ unheard_then Whole (asked_of call) before.seats after.world.now (is_struck before.waits beat.broken) beat.its (struck ∙ ap is_struck_by beat.ends)
   struck_beat at before after outcome text (Some number) struck beat = let never : true ≡ false = struck ∙ ap is_struck_by beat.1 in cc
 
   -- before it the call has printed nothing

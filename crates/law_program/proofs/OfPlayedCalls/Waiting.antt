@@ -136,10 +136,11 @@ module _ (bytes : List ℕ) (first : Now) (life : List Event) (number count : �
           let here : IsIn (CallsRead (length trace) k) (lines_of (serials_in first) (trace_of_call number asked at.e at.later trace its list))
           = subst (λ (x : List Traced). IsIn (CallsRead (length trace) k) (lines_of (serials_in first) x)) at.so (subst (λ (n : ℕ). IsIn (CallsRead n k) (lines_so_far first bytes later)) (own_now ticket gives) is_in) in
           let read : IsReadOf asked k = called_now k (serials_in first) number at.e at.later asked (Answered number (telling its list)) trace here in
-          let same : read.its_key ≡ key = only read.its_key read.its_op in
-          (read.same ∙ ap (λ (x : Key). x.0) same,
-          subst (λ (n : ℕ). IsReadCalled bytes first later number n key) (sym (own_now ticket gives))
-          (subst (λ (x : Key). IsReadCalled bytes first later number (length trace) x) same (called_here read.its_key read.its_op)));
+          let same : read.its_key ≡ key = only read.its_key read.its_op in (
+            read.same ∙ ap (λ (x : Key). x.0) same,
+            subst (λ (n : ℕ). IsReadCalled bytes first later number n key) (sym (own_now ticket gives))
+                (subst (λ (x : Key). IsReadCalled bytes first later number (length trace) x) same (called_here read.its_key read.its_op)),
+          );
     }
       where
         called_here : (k : Key) → asked ≡ call.Op (Read k) → IsReadCalled bytes first later number (length trace) k

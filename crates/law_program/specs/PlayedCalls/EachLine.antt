@@ -96,8 +96,8 @@ IsEndOfFinish text = (text ≡ []) ⊎ (text ≡ not_finished) ⊎ (text ≡ not
 
 -- ---- over a device
 module _ {D : Type 0} (seen : D → List ℕ) (may_leave : D → List ℕ → Type 0) where
-  -- A life of a store that these bytes hold shows the player's world and its device: that reads as, and may leave, what the life's calls of it give. No session
-  -- has a call in hand, and each ticket that a seat keeps stands for its key.
+  -- A life of a store that these bytes hold shows the player's world. It shows the device too, which reads as, and may leave, what the life's calls of it give.
+  -- No session has a call in hand. Each ticket that a seat keeps stands for its key.
   pub record IsLifeOver (bytes : List ℕ) (o : Opened) (first : Now) (life : List Event) (player : PlayerState D) : Type 0 where
     pub quiet : IsQuietLife bytes o first life player.world.now
     pub device : IsAfter (run (beginning first bytes) life).past.opened (run (beginning first bytes) life).past.calls (seen player.world.device) (may_leave player.world.device)
@@ -135,9 +135,18 @@ module _ {D : Type 0} (seen : D → List ℕ) (may_leave : D → List ℕ → Ty
     pub says : text ≡ said ++ behind
     pub goes_on : IsLifeOver bytes o first later after
 
+  -- One in which a crash strikes has printed the lines of the calls that had ended before, and no more.
+  pub record IsFinishCutShort (bytes : List ℕ) (o : Opened) (first : Now) (life : List Event) (before : PlayerState D) (text : List ℕ) : Type 0 where
+    pub calls : List ActorCall
+    pub behind : List ActorCall
+    pub first_of : rounds most_rounds (round_of before.seats) ≡ calls ++ behind
+    pub later : List Event
+    pub last : PlayerState D
+    pub played : ArePlayedInLife Finished calls bytes o first life later before last text
+
   -- ---- so it is over these steps of the engine
   module _ (engine : events.Event → WorldModel D → WorldModel D → Option tells.Told → Bool → Type 0) where
-    -- of each line of a call, where no crash strikes in it
+    -- of each line of a call in which no crash strikes
     abbrev pub CallsGoOn : Type 0
     CallsGoOn =
         (bytes : List ℕ) (o : Opened) (first : Now) (life : List Event) (its : ActorCall) (queues left : List QueueState) (before after : PlayerState D) (text : List ℕ)
@@ -145,14 +154,21 @@ module _ {D : Type 0} (seen : D → List ℕ) (may_leave : D → List ℕ → Ty
         → AreQueuesOf (its ∷ []) queues → IsGroup engine (record { player = before; queues = queues }) (record { player = after; queues = left }) false text
         → IsRefusedLine its before after text ⊎ IsLineInLife its bytes o first life before after text
 
-    -- and of each finish
+    -- of each such finish
     abbrev pub FinishesGoOn : Type 0
     FinishesGoOn =
         (bytes : List ℕ) (o : Opened) (first : Now) (life : List Event) (before after : PlayerState D) (outcome : Outcome) (text : List ℕ)
         → IsLifeOver bytes o first life before → calls_in life + length (rounds most_rounds (round_of before.seats)) < 2 ^ 64 - 1
         → IsFinish engine before after outcome text → is_struck_by outcome ≡ false → IsFinishInLife bytes o first life before after text
 
-    -- A line of a call in which a crash strikes prints nothing of its own.
+    -- of each finish in which one strikes
+    abbrev pub StruckFinishesEnd : Type 0
+    StruckFinishesEnd =
+        (bytes : List ℕ) (o : Opened) (first : Now) (life : List Event) (before after : PlayerState D) (outcome : Outcome) (text : List ℕ)
+        → IsLifeOver bytes o first life before → calls_in life + length (rounds most_rounds (round_of before.seats)) < 2 ^ 64 - 1
+        → IsFinish engine before after outcome text → is_struck_by outcome ≡ true → IsFinishCutShort bytes o first life before text
+
+    -- And a line of a call in which one strikes prints nothing of its own.
     abbrev pub StruckCallsSayNothing : Type 0
     StruckCallsSayNothing =
         (its : ActorCall) (queues left : List QueueState) (before after : PlayerState D) (text : List ℕ) → AreQueuesOf (its ∷ []) queues
@@ -162,4 +178,5 @@ module _ {D : Type 0} (seen : D → List ℕ) (may_leave : D → List ℕ → Ty
     pub record EachLineGoesOn : Type 0 where
       pub calls : CallsGoOn
       pub finishes : FinishesGoOn
-      pub struck : StruckCallsSayNothing
+      pub struck_calls : StruckCallsSayNothing
+      pub struck_finishes : StruckFinishesEnd

@@ -44,8 +44,7 @@ SeatsKeepKeys bytes first life seats =
     (number : ℕ) (seat : SeatState) → slice_get seats number ≡ Some seat → (ticket : Ticket) (key : Key) → key_of_ticket seat.waiting ticket ≡ Some key → StandsForKey bytes first life number ticket key
 
 -- ---- a poll's value
--- The session called a read of this key in the life, and this is the value that the key has had at some moment between that call and the answer, in the life's
--- one history.
+-- The session called a read of this key in the life. This is the value of the key at some moment between that call and the answer, in the life's one history.
 pub record IsReadInTime (bytes : List ℕ) (o : Opened) (first : Now) (life later : List Event) (number : ℕ) (key : Key) (value : Option Value) : Type 0 where
   pub since : List Event
   pub earlier : List Event
