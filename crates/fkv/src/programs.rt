@@ -4,15 +4,19 @@ ghost use Rattle.clap.specs.Walk.{texts};
 ghost use Rattle.fkv_playing.specs.InTurn.{Writes};
 ghost use Rattle.fkv_playing.specs.Players.{EngineStep};
 ghost use Rattle.fkv_runs.specs.Beginnings.{BreaksOff};
-ghost use Rattle.fkv_runs.specs.Openings.{medium_of};
+ghost use Rattle.fkv_runs.specs.Openings.{Holds, medium_of};
 ghost use Rattle.fkv_cli.specs.Output.{IsOutputOf};
+ghost use Rattle.law_program.specs.PlayedCalls.EachLine.{EachLineGoesOn};
+ghost use Rattle.law_program.specs.PlayedCalls.Lives.{ArmingGoesOn, LivesGoOn};
 ghost use Rattle.fkv.specs.Replies.{PrintsMapOfFileScript, PrintsMapOfScript, ReplyLineByLine};
 
 use fkv_cli::Lockable;
 use fkv_disk::{Device, FileDisk, Fuse, MemDisk};
 use fkv_playing::Breaks;
 use fkv_runs::Crashes;
-use law_program::{law_new_files, law_played_calls, law_played_scripts};
+use law_program::{
+    law_arming, law_each_life, law_each_line, law_new_files, law_played_calls, law_played_scripts,
+};
 use std::alloc::Global;
 use std::io::{Read, Write};
 use std::rt::Files;
@@ -22,6 +26,9 @@ use std::rt::Files;
 /// operations so far, and each read gives its key's value. An operation that has to wait, or is refused, says so and leaves the map. Each
 /// line of an operation is answered so in every other script without a seed, by the map of the history so far, in a life
 /// that shows the world (`lines`, `file_lines`). The life of a new store is such a one as it begins (`law_new_files`).
+/// In memory a life goes on by each line of a call too, by the keeper's and by each finish, and shows the device behind it (`each_line`).
+/// What a poll has finished is as the history says. Each life begins so, the first one and each behind a crash (`lives`). A line by which
+/// a call of the device is to fail, or a crash to strike, leaves it (`armed`).
 pub fn run<H: Files, R: Read + Drop, W: Write, E: Write>(
     rt: &H,
     alloc: Global,
@@ -37,11 +44,17 @@ where
     ensures replies { result ≡ 0 → Writes (PrintsMapOfScript (texts words.now) (R.remaining input)) (W.contents output.old) (W.contents output.new) }
     ensures file_replies { result ≡ 0 → Writes (PrintsMapOfFileScript (texts words.now) (R.remaining input)) (W.contents output.old) (W.contents output.new) }
     ensures lines { ReplyLineByLine (EngineStep ⟦<Fuse<MemDisk> as Device>⟧.honest ⟦<Fuse<MemDisk> as Device>⟧.seen ⟦<Fuse<MemDisk> as Device>⟧.may_leave ⟦<Fuse<MemDisk> as Device>⟧.failed ⟦<Fuse<MemDisk> as Device>⟧.refuses ⟦<Fuse<MemDisk> as Breaks>⟧.broken) }
+    ensures each_line { EachLineGoesOn ⟦<Fuse<MemDisk> as Device>⟧.seen ⟦<Fuse<MemDisk> as Device>⟧.may_leave (EngineStep ⟦<Fuse<MemDisk> as Device>⟧.honest ⟦<Fuse<MemDisk> as Device>⟧.seen ⟦<Fuse<MemDisk> as Device>⟧.may_leave ⟦<Fuse<MemDisk> as Device>⟧.failed ⟦<Fuse<MemDisk> as Device>⟧.refuses ⟦<Fuse<MemDisk> as Breaks>⟧.broken) }
+    ensures lives { LivesGoOn ⟦<Fuse<MemDisk> as Device>⟧.seen ⟦<Fuse<MemDisk> as Device>⟧.may_leave (Holds ⟦<Fuse<MemDisk> as Device>⟧.honest ⟦<Fuse<MemDisk> as Device>⟧.seen ⟦<Fuse<MemDisk> as Device>⟧.may_leave ⟦<Fuse<MemDisk> as Device>⟧.refuses) }
+    ensures armed { ArmingGoesOn ⟦<MemDisk as Device>⟧.seen ⟦<MemDisk as Device>⟧.may_leave }
     ensures file_lines { ReplyLineByLine (EngineStep ⟦<FileDisk<H::File> as Device>⟧.honest ⟦<FileDisk<H::File> as Device>⟧.seen ⟦<FileDisk<H::File> as Device>⟧.may_leave ⟦<FileDisk<H::File> as Device>⟧.failed ⟦<FileDisk<H::File> as Device>⟧.refuses ⟦<FileDisk<H::File> as Breaks>⟧.broken) }
 {
     law_played_scripts::<Fuse<MemDisk>, FileDisk<H::File>>();
     law_new_files::<Fuse<MemDisk>, FileDisk<H::File>>();
     law_played_calls::<Fuse<MemDisk>>();
+    law_each_line::<Fuse<MemDisk>>();
+    law_each_life::<Fuse<MemDisk>>();
+    law_arming::<MemDisk>();
     law_played_calls::<FileDisk<H::File>>();
     fkv_cli::run(rt, alloc, words, input, output, complaints)
 }

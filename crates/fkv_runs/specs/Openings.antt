@@ -6,6 +6,7 @@ use Rattle.fkv_core.specs.Openings.{IsOpeningWorld}
 use Rattle.fkv_core.specs.Worlds.{WorldModel}
 use Rattle.fkv_core.specs.declared.events.Event.{Event}
 use Rattle.fkv_core.specs.declared.events.Told.{Told}
+use Rattle.fkv_disk.specs.Device.{LeavesOnly}
 use Rattle.fkv_map.specs.declared.history.HistoryEntry.{HistoryEntry}
 use Rattle.fkv_opening.specs.Opened.{IsStoreOf}
 use Rattle.fkv_opening.specs.declared.opened_store.Opened.{Opened}
@@ -24,9 +25,12 @@ pub record IsRecovered (image : List ℕ) (opened : Opened) (pairs : List (Key �
 abbrev pub RefusesNoCall : {D : Type 0} → (D → ℕ → Bool) → D → Type 0
 RefusesNoCall refuses device = (call : ℕ) → refuses device call ≡ false
 
--- a device is honest, reads as this image, and refuses no call
-abbrev pub Holds : {D : Type 0} → (D → Type 0) → (D → List ℕ) → (D → ℕ → Bool) → List ℕ → D → Type 0
-Holds honest seen refuses image device = honest device × (seen device ≡ image) × RefusesNoCall refuses device
+-- A device is honest, reads as this image, and refuses no call; and a crash leaves just that image of it.
+pub record Holds {D : Type 0} (honest : D → Type 0) (seen : D → List ℕ) (may_leave : D → List ℕ → Type 0) (refuses : D → ℕ → Bool) (image : List ℕ) (device : D) : Type 0 where
+  pub is_honest : honest device
+  pub reads : seen device ≡ image
+  pub synced : LeavesOnly image (may_leave device)
+  pub sound : RefusesNoCall refuses device
 
 -- What a run goes by of the device of a store: what a step of the engine over it is, the image that a crash leaves of it, which is set to this byte where it
 -- isn't synced, when it holds an image, whether it has failed for good, and how it is made to fail behind so many calls.
@@ -38,7 +42,7 @@ pub record Medium (D : Type 0) : Type 1 where
   pub armed : ℕ → Waits → PlayerState D → PlayerState D → Type 0
 
 abbrev pub medium_of : {D : Type 0} → (D → Type 0) → (D → List ℕ) → (D → List ℕ → Type 0) → (D → ℕ) → (D → ℕ → Bool) → (D → Bool) → (D → ℕ → List ℕ) → (ℕ → Waits → PlayerState D → PlayerState D → Type 0) → Medium D
-medium_of honest seen may_leave failed refuses broken image armed = record { engine = EngineStep honest seen may_leave failed refuses broken; image = image; holds = Holds honest seen refuses; broken = broken; armed = armed }
+medium_of honest seen may_leave failed refuses broken image armed = record { engine = EngineStep honest seen may_leave failed refuses broken; image = image; holds = Holds honest seen may_leave refuses; broken = broken; armed = armed }
 
 -- A player begins with the world of this opened store over this device: all sessions are awake, nothing is to come of the device, and these updates are kept.
 pub record Begins {D : Type 0} (opened : Opened) (device : D) (history : List HistoryEntry) (keeps_history : Bool) (player : PlayerState D) : Type 0 where

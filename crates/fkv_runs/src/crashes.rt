@@ -43,7 +43,7 @@ pub(crate) fn take_crash<D: Crashes, W: Write>(
 ) -> io::Result<Option<NextLife<D>>>
     ensures { IfOk result (λ next. MatchOption next
         (Writes (IsRefusal (D.image player.world.device settings.torn)) (W.contents output.old) (W.contents output.new))
-        (λ life. Writes (IsCrash (Holds D.honest D.seen D.refuses) (D.image player.world.device settings.torn) settings.checks player life.player life.agrees) (W.contents output.old) (W.contents output.new))) }
+        (λ life. Writes (IsCrash (Holds D.honest D.seen D.may_leave D.refuses) (D.image player.world.device settings.torn) settings.checks player life.player life.agrees) (W.contents output.old) (W.contents output.new))) }
 {
     let (device, history) = player.end();
     let image = granted(device.crash(settings.torn))?;
@@ -60,7 +60,7 @@ pub(crate) fn take_crash<D: Crashes, W: Write>(
 /// The store that this device holds.
 fn recover_image<D: Crashes>(alloc: Global, device: D) -> Result<Recovered<D>, Fault>
     ensures store { D.honest device → IfOk result (λ its. IsRecovered (D.seen device) its.opened its.pairs.items) }
-    ensures reads { D.honest device → RefusesNoCall D.refuses device → IfOk result (λ its. Holds D.honest D.seen D.refuses (D.seen device) its.device) }
+    ensures reads { D.honest device → RefusesNoCall D.refuses device → IfOk result (λ its. Holds D.honest D.seen D.may_leave D.refuses (D.seen device) its.device) }
     ensures cause { D.honest device → IfErr result (IsCause (D.seen device)) }
 {
     let mut device = device;

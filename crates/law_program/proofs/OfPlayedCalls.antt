@@ -1,10 +1,18 @@
 mod Beats
 mod Calm
+pub mod EachLine
 mod InLife
+mod Keeper
+pub mod Led
+pub mod Lives
 pub mod NewFiles
 mod NewStores
 mod OneCall
 mod Pieces
+mod Polled
+mod PolledReads
+mod ReadCalls
 pub mod Replies
 pub mod Scripts
 pub mod Steps
+mod Waiting

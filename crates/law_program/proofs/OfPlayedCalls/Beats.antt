@@ -22,7 +22,7 @@ use Rattle.fkv_playing.specs.declared.calls.Stage.{Stage}
 use Rattle.fkv_playing.specs.declared.calls.Stage.TheVariants as stage
 use Rattle.fkv_playing.specs.declared.calls.Telling.{Telling}
 use Rattle.fkv_world.specs.Runs.{World, run}
-use Rattle.fkv_world.specs.World.{Event, Moves}
+use Rattle.fkv_world.specs.World.{Event, Moves, Now}
 use Rattle.law_program.proofs.OfPlayedCalls.Steps.{GoesByRules, IsAnsweredNow, IsRuled, answered_now, led_on, stage_event}
 
 -- ---- by the outcome
@@ -55,18 +55,42 @@ pub record IsHeard (struck : Bool) (its : Option tells.Told) : Type 0 where
   pub was : its ≡ Some said
   pub hears : heard struck its ≡ Some said
 
-ended_heard : (struck : Bool) (its : Option tells.Told) (outcome : Outcome) → outcome ≡ outcome_of struck its → HasEnded outcome → IsHeard struck its
+pub ended_heard : (struck : Bool) (its : Option tells.Told) (outcome : Outcome) → outcome ≡ outcome_of struck its → HasEnded outcome → IsHeard struck its
 ended_heard true its outcome e ended = let none : is_struck_by Struck ≡ false = subst (λ (x : Outcome). is_struck_by x ≡ false) e ended.1 in cc
 ended_heard false None outcome e ended = absurd (ended.0 e)
 ended_heard false (Some said) outcome e ended = record { said = said; was = refl; hears = refl }
 
+-- ---- what is told is no crash
+finished_calm : (its : Option keeper.Finished) → is_struck_by (outcome_of_finished its) ≡ false
+finished_calm None = refl
+finished_calm (Some its) = refl
+
+turn_calm : (its : Result turns.Turn Fault) → is_struck_by (outcome_of_turn its) ≡ false
+turn_calm (Ok turn) = finished_calm turn.finished
+turn_calm (Err fault) = refl
+
+told_calm : (said : tells.Told) → is_struck_by (outcome_of_told said) ≡ false
+told_calm (told.Session number answer) = refl
+told_calm (told.Commit begun) = refl
+told_calm (told.Turn its) = turn_calm its
+
+pub outcome_calm : (its : Option tells.Told) → is_struck_by (outcome_of false its) ≡ false
+outcome_calm None = refl
+outcome_calm (Some said) = told_calm said
+
+-- nobody hears what was told in a beat in which a crash strikes
+pub unheard_then : (telling : Telling) (asked : Call) (seats : List SeatState) (n : Now) (struck : Bool) (its : Option tells.Told) → true ≡ is_struck_by (outcome_of struck its) → text_heard telling asked seats n (heard struck its) ≡ []
+unheard_then telling asked seats n true its e = refl
+unheard_then telling asked seats n false its e = let never : true ≡ false = e ∙ outcome_calm its in cc
+
 -- ---- beat by beat
 -- The life has gone on with these events to the world behind a call, the session has been answered, and this is printed.
-pub record EndsCall {D : Type 0} (telling : Telling) (number : ℕ) (call : Call) (seats : List SeatState) (opening : World) (life : List Event) (after : PlayerState D) (text : List ℕ) : Type 0 where
+pub record EndsCall {D : Type 0} (telling : Telling) (number : ℕ) (call : Call) (were : List SeatState) (opening : World) (life : List Event) (after : PlayerState D) (text : List ℕ) : Type 0 where
   pub shows : (run opening life).now ≡ after.world.now
   pub said : tells.Told
   pub answered : IsAnsweredNow number after.world.now said
-  pub says : text ≡ text_of telling call seats after.world.now said
+  pub says : text ≡ text_of telling call were after.world.now said
+  pub seats : after.seats ≡ seats_behind call were (Some said)
 
 module _ {D : Type 0} (engine : events.Event → WorldModel D → WorldModel D → Option tells.Told → Bool → Type 0) (rules : GoesByRules engine) (telling : Telling) (number : ℕ) (call : Call) (opening : World) where
   ruled : (at : Stage) (before after : PlayerState D) (outcome : Outcome) (text : List ℕ) → (beat : IsBeat engine telling (Session number call) at before after outcome text)
@@ -84,6 +108,7 @@ module _ {D : Type 0} (engine : events.Event → WorldModel D → WorldModel D �
         said = its.said;
         answered = answered_now at number call before.world.now after.world.now its.said (subst (λ (x : Option tells.Told). IsRuled (stage_event at number call) before.world.now after.world.now x) its.was step);
         says = beat.says ∙ ap (text_heard telling call before.seats after.world.now) its.hears;
+        seats = beat.seats ∙ ap (seats_behind call before.seats) its.hears;
       }
 
   -- one behind which the call goes on
@@ -120,4 +145,5 @@ module _ {D : Type 0} (engine : events.Event → WorldModel D → WorldModel D �
         said = rest.said;
         answered = rest.answered;
         says = beats.5 ∙ (ap (λ (x : List ℕ). x ++ beats.2) first.silent ∙ (rest.says ∙ ap (λ (x : List SeatState). text_of telling call x after.world.now rest.said) first.seats));
+        seats = rest.seats ∙ ap (λ (x : List SeatState). seats_behind call x (Some rest.said)) first.seats;
       }

@@ -1,15 +1,11 @@
 -- Where nothing is to come of the device no crash strikes, and a group that is a piece of a run is played in one life.
-use Rattle.std.proofs.Common.{◌≡◌, ◌∙◌, ℕ, List, [], ◌∷◌, ◌++◌, Bool, false, ap, refl, sym, subst}
-use Rattle.std.specs.Prelude.{Option, Some, None, Result, Ok, Err}
+use Rattle.std.proofs.Common.{◌≡◌, ◌∙◌, ℕ, List, [], ◌∷◌, ◌++◌, Bool, false, ap, sym, subst}
+use Rattle.std.specs.Prelude.{Option, Some, None}
 use Rattle.std.proofs.lemmas.List.{append-nil}
-use Rattle.fkv_base.specs.declared.faults.Fault.{Fault}
 use Rattle.fkv_core.specs.Worlds.{WorldModel}
 use Rattle.fkv_core.specs.declared.events.Event as events
 use Rattle.fkv_core.specs.declared.events.Told as tells
-use Rattle.fkv_core.specs.declared.events.Told.TheVariants as told
-use Rattle.fkv_keeper.specs.declared.answers.Finished as keeper
-use Rattle.fkv_keeper.specs.declared.answers.Turn as turns
-use Rattle.fkv_playing.specs.Beats.{outcome_of, outcome_of_finished, outcome_of_told, outcome_of_turn}
+use Rattle.fkv_playing.specs.Beats.{outcome_of}
 use Rattle.fkv_playing.specs.Groups.{GroupState, IsBeatOf, IsGroup, IsPick, is_struck_by, missing_session, queues_behind}
 use Rattle.fkv_playing.specs.InTurn.{InTurn}
 use Rattle.fkv_playing.specs.Players.{PlayerState, is_struck}
@@ -22,25 +18,8 @@ use Rattle.fkv_playing.specs.declared.players.Waits.TheVariants.{Nothing}
 use Rattle.fkv_runs.specs.Openings.{Medium}
 use Rattle.fkv_runs.specs.Runs.{IsCrashedWhere, IsGroupPlayed, RunState}
 use Rattle.fkv_runs.specs.declared.settings.Settings.{Settings}
+use Rattle.law_program.proofs.OfPlayedCalls.Beats.{outcome_calm}
 use Rattle.law_program.proofs.OfPlayedCalls.OneCall.{none_played}
-
--- ---- what is told is no crash
-finished_calm : (its : Option keeper.Finished) → is_struck_by (outcome_of_finished its) ≡ false
-finished_calm None = refl
-finished_calm (Some its) = refl
-
-turn_calm : (its : Result turns.Turn Fault) → is_struck_by (outcome_of_turn its) ≡ false
-turn_calm (Ok turn) = finished_calm turn.finished
-turn_calm (Err fault) = refl
-
-told_calm : (said : tells.Told) → is_struck_by (outcome_of_told said) ≡ false
-told_calm (told.Session number answer) = refl
-told_calm (told.Commit begun) = refl
-told_calm (told.Turn its) = turn_calm its
-
-outcome_calm : (its : Option tells.Told) → is_struck_by (outcome_of false its) ≡ false
-outcome_calm None = refl
-outcome_calm (Some said) = told_calm said
 
 -- ---- a group
 -- no crash has struck, and nothing is to come

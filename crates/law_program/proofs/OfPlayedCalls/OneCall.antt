@@ -13,6 +13,7 @@ use Rattle.fkv_playing.specs.InTurn.{InTurn}
 use Rattle.fkv_playing.specs.Players.{PlayerState, is_struck}
 use Rattle.fkv_playing.specs.Queues.{AreQueuesOf, NobodyHasSteps, QueueState, given_up, held, held_by, is_of, next_step, queue_behind, rank_of, step_of}
 use Rattle.fkv_playing.specs.Seats.{SeatState}
+use Rattle.fkv_playing.specs.Texts.{text_heard}
 use Rattle.fkv_playing.specs.declared.calls.ActorCall.{ActorCall}
 use Rattle.fkv_playing.specs.declared.calls.Outcome.{Outcome}
 use Rattle.fkv_playing.specs.declared.calls.Outcome.TheVariants.{Answered, Closed, GoesOn, Struck}
@@ -20,7 +21,7 @@ use Rattle.fkv_playing.specs.declared.calls.Stage.{Stage}
 use Rattle.fkv_playing.specs.declared.calls.Stage.TheVariants as stage
 use Rattle.fkv_playing.specs.declared.calls.Telling.TheVariants.{Whole}
 use Rattle.fkv_texts.specs.Refusals.{session_refusal}
-use Rattle.law_program.proofs.OfPlayedCalls.Beats.{HasEnded, unheard}
+use Rattle.law_program.proofs.OfPlayedCalls.Beats.{HasEnded, unheard, unheard_then}
 
 -- ---- the queues of one call
 -- it is to be begun, or in hand, and nothing else is left
@@ -208,6 +209,45 @@ module _ {D : Type 0} (engine : events.Event → WorldModel D → WorldModel D �
       let beat = subst (λ (x : Option ℕ). IsBeatOf engine call stage.Begins before.player played.0.player one.outcome played.1 x) missing one.beat in
       let over = over_so stage.Begins call place before.queues played.0.queues its (one.queues ∙ ap (λ (x : Outcome). slice_set before.queues place (queue_behind x (taken its.queue call))) beat.1) in
       absurd (none_more engine next later played.0 after played.2 over played.4)
+
+  -- ---- a call in which a crash strikes
+  -- no step is left, struck or not
+  none_left : (picked : ℕ) (later : List ℕ) (before after : GroupState D) (struck : Bool) (text : List ℕ) → NobodyHasSteps before.queues → InTurn (IsPick engine) false (picked ∷ later) before after struck text → ⊥
+  none_left picked [] before after struck text nobody played = none_picked engine picked before after struck text nobody played
+  none_left picked (next ∷ later) before after struck text nobody played = none_picked engine picked before played.0 false played.1 nobody played.3
+
+  -- in the beat in which it strikes nobody hears what was told
+  struck_beat : (at : Stage) (before after : PlayerState D) (outcome : Outcome) (text : List ℕ) (missing : Option ℕ) → true ≡ is_struck_by outcome → IsBeatOf engine call at before after outcome text missing → text ≡ []
+  struck_beat at before after outcome text None struck beat =
+      beat.says ∙ unheard_then Whole (asked_of call) before.seats after.world.now (is_struck before.waits beat.broken) beat.its (struck ∙ ap is_struck_by beat.ends)
+  struck_beat at before after outcome text (Some number) struck beat = let never : true ≡ false = struck ∙ ap is_struck_by beat.1 in cc
+
+  -- before it the call has printed nothing
+  silent_before : (at : Stage) (before after : PlayerState D) (outcome : Outcome) (text : List ℕ) (missing : Option ℕ) → outcome ≡ GoesOn → IsBeatOf engine call at before after outcome text missing → text ≡ []
+  silent_before at before after outcome text None goes beat =
+      beat.says ∙ ap (text_heard Whole (asked_of call) before.seats after.world.now) (unheard (is_struck before.waits beat.broken) beat.its (sym goes ∙ beat.ends))
+  silent_before at before after outcome text (Some number) goes beat = let never : GoesOn ≡ Answered = sym goes ∙ beat.1 in cc
+
+  pub struck_silent : (picks : List ℕ) (at : Stage) (place : ℕ) (before after : GroupState D) (text : List ℕ) → HasOneCall at call place before.queues → InTurn (IsPick engine) false picks before after true text → text ≡ []
+  struck_silent [] at place before after text its played = let never : true ≡ false = played.1 in cc
+  struck_silent (picked ∷ []) at place before after text its played =
+      let one = its_pick at place picked before after true text its played in struck_beat at before.player after.player one.outcome text (missing_session before.player.seats call) one.ends one.beat
+  struck_silent (picked ∷ next ∷ later) at place before after text its played = by_outcome one.outcome refl (λ stands. struck_silent (next ∷ later) stage.Moves place played.0 after played.2 stands played.4)
+    where
+      one : IsItsPick at place before played.0 its.queue false played.1
+      one = its_pick at place picked before played.0 false played.1 its played.3
+
+      queues_so : (outcome : Outcome) → one.outcome ≡ outcome → played.0.queues ≡ slice_set before.queues place (queue_behind outcome (taken its.queue call))
+      queues_so outcome e = one.queues ∙ ap (λ (x : Outcome). slice_set before.queues place (queue_behind x (taken its.queue call))) e
+
+      by_outcome : (outcome : Outcome) → one.outcome ≡ outcome → (HasOneCall stage.Moves call place played.0.queues → played.2 ≡ []) → text ≡ []
+      by_outcome GoesOn e goes_on =
+          let silent : played.1 ≡ [] = silent_before at before.player played.0.player one.outcome played.1 (missing_session before.player.seats call) e one.beat in
+          let rest : played.2 ≡ [] = goes_on (goes_on_so at call place before.queues played.0.queues its (queues_so GoesOn e)) in
+          played.5 ∙ (ap (λ (x : List ℕ). x ++ played.2) silent ∙ rest)
+      by_outcome Answered e goes_on = absurd (none_left next later played.0 after true played.2 (over_so at call place before.queues played.0.queues its (queues_so Answered e)) played.4)
+      by_outcome Closed e goes_on = absurd (none_left next later played.0 after true played.2 (over_so at call place before.queues played.0.queues its (queues_so Closed e)) played.4)
+      by_outcome Struck e goes_on = let never : false ≡ true = one.ends ∙ ap is_struck_by e in cc
 
 -- ---- the queues of a group of one call
 its_rank : (rank : ℕ) (call : ActorCall) → rank ≡ rank_of call → is_of rank call ≡ true

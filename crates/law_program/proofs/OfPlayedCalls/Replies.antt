@@ -39,6 +39,7 @@ use Rattle.law_refine.proofs.OfResults.InCall.{result_told}
 use Rattle.fkv_map.specs.Fits.{OpFits}
 use Rattle.law_order.specs.Served.Fits.{CallFits}
 use Rattle.law_order.specs.Tickets.Few.{HasFewCalls}
+use Rattle.law_program.specs.PlayedCalls.EachLine.{IsOpAnswered}
 use Rattle.law_program.specs.PlayedCalls.PlayedCalls.{IsAnsweredAlone, IsLineOfSession, IsQuietLife, IsRefusedSession, IsReplyOfMap, IsToldTo, LinesGoOn, LinesReplyAsMap, RepliesAsMap, called_alone}
 use Rattle.law_program.proofs.OfPlayedCalls.Beats.{EndsCall, beats_end}
 use Rattle.law_program.proofs.OfPlayedCalls.InLife.{calls_few, calls_fit, nobody_behind, was_alive, was_there}
@@ -53,7 +54,7 @@ AnswersWholeCalls = (bytes : List ℕ) (o : Opened) (n : Now) (before : List Eve
     → slice_get (run (beginning n bytes) (in_call number moves op before)).now.sessions number ≡ Some its → its.step ≡ Idle answer → IsAnsweredByMap o n bytes before (in_call number moves op before) op answer
 
 -- the session that is missing is the call's
-missing_number : (number its : ℕ) (c : Bool) → (if c then None else Some number) ≡ Some its → number ≡ its
+pub missing_number : (number its : ℕ) (c : Bool) → (if c then None else Some number) ≡ Some its → number ≡ its
 missing_number number its true e = none_some its e
 missing_number number its false e = some_same _ _ e
 
@@ -93,26 +94,43 @@ line_ends {D} engine rules number asked opening life queues left before after te
         inl (out.0, out.1 ∙ ap (λ (x : ℕ). session_refusal x NoSession) (sym (missing_number number its (nat_lt number (length before.seats)) missing)))
 
 -- ---- any call
--- a life goes on by it
+-- the life has gone on, and no session has a call in hand
+pub record IsAtRest (bytes : List ℕ) (o : Opened) (first : Now) (later : List Event) (after : Now) : Type 0 where
+  pub goes_on : IsQuietLife bytes o first later after
+  pub rests : NobodyCalls after
+
+-- so it is behind a call that has ended
+pub at_rest_behind : {D : Type 0} (telling : Telling) (number moves : ℕ) (asked : Call) (bytes : List ℕ) (o : Opened) (first : Now) (life : List Event) (before after : PlayerState D) (text : List ℕ) → IsQuietLife bytes o first life before.world.now
+    → NobodyCalls before.world.now → CallFits asked → HasFewCalls (Calls number asked ∷ life) → EndsCall telling number asked before.seats (beginning first bytes) (called_alone number moves asked life) after text
+    → IsAtRest bytes o first (called_alone number moves asked life) after.world.now
+at_rest_behind telling number moves asked bytes o first life before after text quiet nobody fits few ends =
+    let opening : World = beginning first bytes in
+    let answered = ends.answered in
+    let here : NobodyCalls (run opening life).now = subst NobodyCalls (sym quiet.shows) nobody in
+    let is_now : slice_get (run opening (called_alone number moves asked life)).now.sessions number ≡ Some answered.s = ap (λ (x : Now). slice_get x.sessions number) ends.shows ∙ answered.found in
+    record {
+      goes_on = record {
+        store = quiet.store;
+        opening = quiet.opening;
+        fits = calls_fit number moves asked life fits quiet.fits;
+        few = calls_few number moves asked life few;
+        shows = ends.shows;
+      };
+      rests = subst NobodyCalls ends.shows (nobody_behind opening life number moves asked answered.s answered.its here is_now answered.at_rest);
+    }
+
+-- a life goes on by a line of it
 answered_alone : {D : Type 0} (number : ℕ) (asked : Call) (bytes : List ℕ) (o : Opened) (first : Now) (life : List Event) (before after : PlayerState D) (text : List ℕ) → IsQuietLife bytes o first life before.world.now
     → NobodyCalls before.world.now → CallFits asked → HasFewCalls (Calls number asked ∷ life) → EndsLine number asked (beginning first bytes) life before after text → IsAnsweredAlone number asked bytes o first life before after text
 answered_alone number asked bytes o first life before after text quiet nobody fits few its =
-    let opening : World = beginning first bytes in
     let answered = its.ends.answered in
-    let here : NobodyCalls (run opening life).now = subst NobodyCalls (sym quiet.shows) nobody in
-    let is_now : slice_get (run opening (called_alone number its.moves asked life)).now.sessions number ≡ Some answered.s = ap (λ (x : Now). slice_get x.sessions number) its.ends.shows ∙ answered.found in
+    let behind = at_rest_behind Whole number its.moves asked bytes o first life before after text quiet nobody fits few its.ends in
     record {
       answer = answered.answer;
       says = its.ends.says ∙ ap (text_of Whole asked before.seats after.world.now) answered.same;
       moves = its.moves;
-      goes_on = record {
-        store = quiet.store;
-        opening = quiet.opening;
-        fits = calls_fit number its.moves asked life fits quiet.fits;
-        few = calls_few number its.moves asked life few;
-        shows = its.ends.shows;
-      };
-      rests = subst NobodyCalls its.ends.shows (nobody_behind opening life number its.moves asked answered.s answered.its here is_now answered.at_rest);
+      goes_on = behind.goes_on;
+      rests = behind.rests;
     }
 
 pub lines_go_on : {D : Type 0} (engine : events.Event → WorldModel D → WorldModel D → Option tells.Told → Bool → Type 0) → GoesByRules engine → LinesGoOn engine
@@ -135,12 +153,12 @@ told_to number op serial before after (tellings.Refused why) result = tt
 told_to number op serial before after other result = absurd result
 
 module _ (legal : InEachLife HasLegalHistory) (ordered : InEachLife OrdersItsCalls) (fresh : InEachLife ReadsFreshly) (whole : AnswersWholeCalls) where
-  -- a call that has ended in a life is the map's reply
-  pub reply_of : {D : Type 0} (telling : Telling) (number moves : ℕ) (op : Op) (bytes : List ℕ) (o : Opened) (first : Now) (life : List Event) (before after : PlayerState D) (text : List ℕ)
+  -- one that has ended in a life is answered by the map
+  pub op_answered : {D : Type 0} (telling : Telling) (number moves : ℕ) (op : Op) (bytes : List ℕ) (o : Opened) (first : Now) (life : List Event) (before after : PlayerState D) (text : List ℕ)
       → IsQuietLife bytes o first life before.world.now → NobodyCalls before.world.now → OpFits op → HasFewCalls (Calls number (call.Op op) ∷ life)
-      → EndsCall telling number (call.Op op) before.seats (beginning first bytes) (in_call number moves op life) after text
-      → IsReplyOfMap telling number op bytes o first life before after text
-  reply_of telling number moves op bytes o first life before after text quiet nobody fits few ends =
+      → (ends : EndsCall telling number (call.Op op) before.seats (beginning first bytes) (in_call number moves op life) after text)
+      → IsOpAnswered bytes o first life (in_call number moves op life) number op ends.said
+  op_answered telling number moves op bytes o first life before after text quiet nobody fits few ends =
       let opening : World = beginning first bytes in
       let all : List Event = in_call number moves op life in
       let answered = ends.answered in
@@ -153,22 +171,40 @@ module _ (legal : InEachLife HasLegalHistory) (ordered : InEachLife OrdersItsCal
       let result = result_told opening life number moves op there.s answered.s answered.its (world_opens o first bytes quiet.opening) alive there.found (here number there.s there.found) is_now answered.at_rest in
       let lived : Life = record { bytes = bytes; opened = o; world = first; events = all } in
       let is_life : IsLife lived = record { store = quiet.store; begins = quiet.opening; fits = all_fit; few = small } in
-      let by_map = whole bytes o first life number moves op there.s answered.s answered.its quiet.opening
-      (legal lived is_life)
-      (ordered lived is_life)
-      (fresh lived is_life)
-      here alive there.found is_now answered.at_rest in
       record {
         answer = answered.answer;
+        same = answered.same;
         its = answered.its;
         finished = answered.s.finished;
         is_told = answered.is_told;
         told_to = told_to number op (there.s.serial + 1) (history_at opening life) (history_at opening all) answered.its result;
-        says = ends.says ∙ ap (text_of telling (call.Op op) before.seats after.world.now) answered.same;
+        by_map =
+            whole bytes o first life number moves op there.s answered.s answered.its quiet.opening
+            (legal lived is_life)
+            (ordered lived is_life)
+            (fresh lived is_life)
+            here alive there.found is_now answered.at_rest;
+      }
+
+  -- so it prints the map's reply
+  pub reply_of : {D : Type 0} (telling : Telling) (number moves : ℕ) (op : Op) (bytes : List ℕ) (o : Opened) (first : Now) (life : List Event) (before after : PlayerState D) (text : List ℕ)
+      → IsQuietLife bytes o first life before.world.now → NobodyCalls before.world.now → OpFits op → HasFewCalls (Calls number (call.Op op) ∷ life)
+      → EndsCall telling number (call.Op op) before.seats (beginning first bytes) (in_call number moves op life) after text
+      → IsReplyOfMap telling number op bytes o first life before after text
+  reply_of telling number moves op bytes o first life before after text quiet nobody fits few ends =
+      let its = op_answered telling number moves op bytes o first life before after text quiet nobody fits few ends in
+      let behind = at_rest_behind telling number moves (call.Op op) bytes o first life before after text quiet nobody fits few ends in
+      record {
+        answer = its.answer;
+        its = its.its;
+        finished = its.finished;
+        is_told = its.is_told;
+        told_to = its.told_to;
+        says = ends.says ∙ ap (text_of telling (call.Op op) before.seats after.world.now) its.same;
         moves = moves;
-        by_map = by_map;
-        goes_on = record { store = quiet.store; opening = quiet.opening; fits = all_fit; few = small; shows = ends.shows };
-        rests = subst NobodyCalls ends.shows (nobody_behind opening life number moves (call.Op op) answered.s answered.its here is_now answered.at_rest);
+        by_map = its.by_map;
+        goes_on = behind.goes_on;
+        rests = behind.rests;
       }
 
   pub replies : {D : Type 0} (engine : events.Event → WorldModel D → WorldModel D → Option tells.Told → Bool → Type 0) → GoesByRules engine → RepliesAsMap engine

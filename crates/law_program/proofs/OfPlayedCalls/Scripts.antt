@@ -131,7 +131,7 @@ pub opening_idle : (o : Opened) (n : Now) → IsOpeningWorld o n → NobodyCalls
 opening_idle o n opening number s found = let its : IsOpeningSession o number s = opening.its_sessions number s found in its.opened.none_in_hand
 
 -- the store shows its own map then
-opening_shows : (bytes : List ℕ) (o : Opened) (n : Now) → map_after o n bytes [] ≡ opening_map bytes o
+pub opening_shows : (bytes : List ℕ) (o : Opened) (n : Now) → map_after o n bytes [] ≡ opening_map bytes o
 unfolding run
 opening_shows bytes o n = refl
 

@@ -58,7 +58,7 @@ absent_lines first number (Read key) e later before list =
     (length before, ap (λ (x : ℕ). AnswersRead x reply.Absent ∷ CallsRead (length before) key.0 ∷ lines_of first before) (reader_is number (Read key) e before))
 absent_lines first number op e later before list = tt
 
-told_alone : (first : ℕ → ℕ) (number : ℕ) (op : Op) (before trace : List Traced) (list : List Finished) (its : Told) → TraceAt number op before (Idle its) list trace → TellsAlone (lines_of first before) (lines_of first trace) op its
+told_alone : (first : ℕ → ℕ) (number : ℕ) (op : Op) (before trace : List Traced) (list : List Finished) (its : Told) → TraceAt number (call.Op op) before (Idle its) list trace → TellsAlone (lines_of first before) (lines_of first trace) op its
 told_alone first number op before trace list (told.Found value) so =
     subst (λ (x : List Traced). TellsRead (lines_of first before) (lines_of first x) op (reply.Found value)) (sym so.2) (found_lines first number op so.0 so.1 before list value)
 told_alone first number op before trace list told.Absent so =
@@ -112,11 +112,11 @@ given_call bytes o n before number moves op s its answer world legal ordered rea
     let opening : World = beginning n bytes in
     let events : List Event = in_call number moves op before in
     let result = result_told opening before number moves op s its answer (world_opens o n bytes world) alive found idle is_now at in
-    let call_told = in_call_told opening before number moves op s alive found idle in
+    let call_told = in_call_told opening before number moves (call.Op op) s alive found idle in
     let same : call_told.its ≡ its = some_same _ _ (sym call_told.found ∙ is_now) in
-    let trace : TraceAt number op (run opening before).past.trace (Idle answer) its.finished (run opening events).past.trace
-    = subst (λ (x : Sitting). TraceAt number op (run opening before).past.trace x its.finished (run opening events).past.trace) at
-    (subst (λ (x : SessionState). TraceAt number op (run opening before).past.trace x.step x.finished (run opening events).past.trace) same call_told.told) in
+    let trace : TraceAt number (call.Op op) (run opening before).past.trace (Idle answer) its.finished (run opening events).past.trace
+    = subst (λ (x : Sitting). TraceAt number (call.Op op) (run opening before).past.trace x its.finished (run opening events).past.trace) at
+    (subst (λ (x : SessionState). TraceAt number (call.Op op) (run opening before).past.trace x.step x.finished (run opening events).past.trace) same call_told.told) in
     let both = answered_alone (opening_map bytes o) op (effects_so_far n bytes before) (effects_so_far n bytes events) (lines_so_far n bytes before) (lines_so_far n bytes events) answer legal ordered reads given
     (happened_alone number op (s.serial + 1) (history_at opening before) (history_at opening events) answer result)
     (told_alone (serials_in opening.now) number op (run opening before).past.trace (run opening events).past.trace its.finished answer trace) in

@@ -7,3 +7,6 @@ returns-clause-replies g c = writes_map _ _ _ c.run.result _ _ c.run.ensures.who
 
 pub returns-clause-file_replies : goal.returns-clause-file_replies
 returns-clause-file_replies g c = writes_file_map _ _ _ c.run.result _ _ c.run.ensures.whole c.law_new_files.ensures.plays
+
+pub returns-clause-each_line : goal.returns-clause-each_line
+returns-clause-each_line g c = c.law_each_line.ensures (λ device. tt)

@@ -18,4 +18,9 @@ returns-clause-reads g c = λ honest none.
     let later = c.content.ensures.quiet in
     let still = quiet.premise.0 honest in
     let none_behind = none_behind_sync _ _ _ _ c.recover.ensures.asked none in
-    (later.premise.0 still, later.same_bytes still ∙ quiet.same_bytes honest, none_behind_reads _ _ _ _ c.content.ensures.reads none_behind)
+    record {
+      is_honest = later.premise.0 still;
+      reads = later.same_bytes still ∙ quiet.same_bytes honest;
+      synced = λ image left. c.in_ok-opened.ensures.synced honest image (later.leaves_no_more still image left);
+      sound = none_behind_reads _ _ _ _ c.content.ensures.reads none_behind;
+    }

@@ -10,7 +10,7 @@ returns-in-Ok g c =
     let honest : g.D.Device.honest c.in_ok-image.image = rw c.in_ok-image.ensures at c.crash.ensures.honest in
     let seen : g.D.Device.seen c.in_ok-image.image ≡ g.D.Crashes.image c.end-device.result.0 c.args.settings.torn = rw c.in_ok-image.ensures at c.crash.ensures.image in
     let none : RefusesNoCall g.D.Device.refuses c.in_ok-image.image = rw c.in_ok-image.ensures at c.crash.ensures.sound in
-    crash_taken (Holds g.D.Device.honest g.D.Device.seen g.D.Device.refuses) (g.D.Crashes.image c.args.player.world.device c.args.settings.torn) (g.D.Device.seen c.in_ok-image.image) its.opened its.device its.pairs.items
+    crash_taken (Holds g.D.Device.honest g.D.Device.seen g.D.Device.may_leave g.D.Device.refuses) (g.D.Crashes.image c.args.player.world.device c.args.settings.torn) (g.D.Device.seen c.in_ok-image.image) its.opened its.device its.pairs.items
     c.args.player life.player c.deref.result.now c.args.settings.checks life.agrees (g.W.Write.contents c.args.output.now) (g.W.Write.contents c.report.new.output)
     (seen ∙ ap (λ (device : g.row.D.Denot). g.D.Crashes.image device c.args.settings.torn) c.end-device.ensures.device)
     (c.deref.ensures.value ∙ c.end-device.ensures.history)

@@ -1,0 +1,203 @@
+-- Over an honest device a life goes on by each beat of a call, and shows the device with the world.
+use Rattle.std.proofs.Common.{◌≡◌, ◌∙◌, ℕ, zero, suc, List, [], ◌∷◌, ◌++◌, Bool, true, false, ap, append_assoc, length, refl, replicate, sym, subst}
+use Rattle.std.specs.Prelude.{Option, Some, None, ⊤}
+use Rattle.fkv_core.specs.Lives.{LeadsOn}
+use Rattle.fkv_core.specs.Told.{IsKeepingTold, IsTold, keeper_told}
+use Rattle.fkv_core.specs.Worlds.{WorldModel, took_place}
+use Rattle.fkv_core.specs.declared.events.Event as events
+use Rattle.fkv_core.specs.declared.events.Told as tells
+use Rattle.fkv_core.specs.declared.events.Told.TheVariants as told
+use Rattle.fkv_disk.specs.Device.{IsAfter}
+use Rattle.fkv_epoch.proofs.Shown.{none_some, some_same}
+use Rattle.fkv_keeper.specs.KeeperRun.{is_in_hand}
+use Rattle.fkv_keeper.specs.Keeping.{KeeperState}
+use Rattle.fkv_keeper.specs.declared.answers.KeeperAsk.{KeeperAsk}
+use Rattle.fkv_keeper.specs.declared.answers.KeeperAsk.TheVariants as ask
+use Rattle.fkv_keeper.specs.declared.keepers.Keeping.{Keeping}
+use Rattle.fkv_keeper.specs.declared.keepers.Keeping.TheVariants.{Ended}
+use Rattle.fkv_map.specs.declared.operations.Call.{Call}
+use Rattle.fkv_playing.specs.Beats.{IsBeat, asked_of, event_of, heard, seats_behind}
+use Rattle.fkv_playing.specs.Groups.{is_struck_by}
+use Rattle.fkv_playing.specs.InTurn.{InTurn}
+use Rattle.fkv_playing.specs.Players.{EngineStep, PlayerState, is_struck}
+use Rattle.fkv_playing.specs.Seats.{SeatState}
+use Rattle.fkv_playing.specs.Texts.{text_heard, text_of}
+use Rattle.fkv_playing.specs.declared.calls.ActorCall.{ActorCall}
+use Rattle.fkv_playing.specs.declared.calls.ActorCall.TheVariants.{Session, Commit, Turn}
+use Rattle.fkv_playing.specs.declared.calls.Outcome.{Outcome}
+use Rattle.fkv_playing.specs.declared.calls.Outcome.TheVariants.{GoesOn}
+use Rattle.fkv_playing.specs.declared.calls.Stage.{Stage}
+use Rattle.fkv_playing.specs.declared.calls.Stage.TheVariants as stage
+use Rattle.fkv_playing.specs.declared.calls.Telling.{Telling}
+use Rattle.fkv_world.specs.Opened.{IsOpenedWorld}
+use Rattle.fkv_world.specs.Runs.{World, run}
+use Rattle.fkv_world.specs.World.{Event, Moves, Now}
+use Rattle.law_program.specs.PlayedCalls.EachLine.{AreMovesOf, IsMoveOf, IsOfKeeper, begun_by}
+use Rattle.law_program.proofs.OfPlayedCalls.Beats.{HasEnded, ended_heard, unheard, unheard_then}
+
+-- ---- by the engine's rules
+-- A step leads on each life of an opened store that shows the world and the device before it, and tells what its event gives.
+pub record IsLeading {D : Type 0} (seen : D → List ℕ) (may_leave : D → List ℕ → Type 0) (its : events.Event) (world after : WorldModel D) (said : Option tells.Told) : Type 0 where
+  pub granted : Bool
+  pub done : Bool
+  pub leads : LeadsOn world.now after.now (took_place its granted done) said (seen world.device) (seen after.device) (may_leave world.device) (may_leave after.device)
+  pub tells : IsTold world.now.crashed world.now after.now (took_place its granted done) said
+
+abbrev pub LeadsLives : {D : Type 0} → (D → List ℕ) → (D → List ℕ → Type 0) → (events.Event → WorldModel D → WorldModel D → Option tells.Told → Bool → Type 0) → Type 0
+LeadsLives {D} seen may_leave engine =
+    (its : events.Event) (world after : WorldModel D) (said : Option tells.Told) (broken : Bool) → engine its world after said broken → IsLeading seen may_leave its world after said
+
+pub engine_leads : {D : Type 0} (honest : D → Type 0) (seen : D → List ℕ) (may_leave : D → List ℕ → Type 0) (failed : D → ℕ) (refuses : D → ℕ → Bool) (broken : D → Bool) → ((device : D) → honest device)
+    → LeadsLives seen may_leave (EngineStep honest seen may_leave failed refuses broken)
+engine_leads honest seen may_leave failed refuses broken all = λ its world after said is_broken step.
+    record { granted = step.0.granted; done = step.0.done; leads = step.0.life (all world.device); tells = step.0.tells }
+
+-- ---- the event of a beat
+abbrev pub IsEventAt : Stage → ActorCall → Event → Type 0
+IsEventAt stage.Begins its event = event ≡ begun_by its
+IsEventAt stage.Moves its event = IsMoveOf its event
+
+took_at : (at : Stage) (its : ActorCall) (granted done : Bool) → IsEventAt at its (took_place (event_of at its) granted done)
+took_at stage.Begins (Session number asked) granted done = refl
+took_at stage.Begins (Commit kind) granted done = refl
+took_at stage.Begins Turn granted done = refl
+took_at stage.Moves (Session number asked) granted done = refl
+took_at stage.Moves (Commit kind) granted done = (granted, done, refl)
+took_at stage.Moves Turn granted done = (granted, done, refl)
+
+moves_both : (its : ActorCall) (later before : List Event) → AreMovesOf its later → AreMovesOf its before → AreMovesOf its (later ++ before)
+moves_both its [] before newer older = older
+moves_both its (event ∷ later) before newer older = (newer.0, moves_both its later before newer.1 older)
+
+one_longer : (xs : List Event) (x : Event) → length (xs ++ x ∷ []) ≡ suc (length xs)
+one_longer [] x = refl
+one_longer (y ∷ xs) x = ap suc (one_longer xs x)
+
+-- a session's moves are all alike
+pub alike : (number : ℕ) (asked : Call) (moves : List Event) → AreMovesOf (Session number asked) moves → moves ≡ replicate (length moves) (Moves number)
+alike number asked [] are = refl
+alike number asked (event ∷ before) are = ap (λ (x : Event). x ∷ before) are.0 ∙ ap (λ (x : List Event). Moves number ∷ x) (alike number asked before are.1)
+
+-- ---- what the keeper is told
+abbrev pub IsKeepers : ActorCall → Type 0
+IsKeepers (Session number asked) = ⊥
+IsKeepers its = ⊤
+
+asks_said : (given : KeeperAsk) (said : tells.Told) → Some said ≡ keeper_told given → IsOfKeeper said
+asks_said (ask.Turned its) said e = subst IsOfKeeper (sym (some_same _ _ e)) tt
+asks_said (ask.Begun its) said e = subst IsOfKeeper (sym (some_same _ _ e)) tt
+asks_said given said e = none_some said (sym e)
+
+keeping_said : (was_busy : Bool) (step : Keeping) (s : KeeperState) (said : tells.Told) → IsKeepingTold was_busy step s (Some said) → IsOfKeeper said
+keeping_said true (Ended its) s said so = asks_said so.0 said so.2
+keeping_said was_busy step s said so = none_some said (sym so)
+
+event_said : (at : Stage) (its : ActorCall) (n after : Now) (granted done : Bool) (said : tells.Told) → IsKeepers its → IsTold false n after (took_place (event_of at its) granted done) (Some said) → IsOfKeeper said
+event_said at (Session number asked) n after granted done said keeper so = absurd keeper
+event_said stage.Begins (Commit kind) n after granted done said keeper so = keeping_said _ after.keeper.step after.keeper said so
+event_said stage.Begins Turn n after granted done said keeper so = keeping_said _ after.keeper.step after.keeper said so
+event_said stage.Moves (Commit kind) n after granted done said keeper so = keeping_said (is_in_hand n.keeper.step) after.keeper.step after.keeper said so
+event_said stage.Moves Turn n after granted done said keeper so = keeping_said (is_in_hand n.keeper.step) after.keeper.step after.keeper said so
+
+said_by_keeper : (at : Stage) (its : ActorCall) (crashed : Bool) (n after : Now) (granted done : Bool) (said : tells.Told) → IsKeepers its → IsTold crashed n after (took_place (event_of at its) granted done) (Some said) → IsOfKeeper said
+said_by_keeper at its true n after granted done said keeper so = none_some said (sym so)
+said_by_keeper at its false n after granted done said keeper so = event_said at its n after granted done said keeper so
+
+-- the seats stay then
+seats_kept : (asked : Call) (seats : List SeatState) (said : tells.Told) → IsOfKeeper said → seats_behind asked seats (Some said) ≡ seats
+seats_kept asked seats (told.Session number answer) by_keeper = absurd by_keeper
+seats_kept asked seats (told.Commit begun) by_keeper = refl
+seats_kept asked seats (told.Turn its) by_keeper = refl
+
+-- ---- beat by beat
+-- what is printed is what the call was told
+pub record IsToldLast {D : Type 0} (telling : Telling) (its : ActorCall) (before after : PlayerState D) (text : List ℕ) : Type 0 where
+  pub said : tells.Told
+  pub says : text ≡ text_of telling (asked_of its) before.seats after.world.now said
+  pub by_keeper : IsKeepers its → IsOfKeeper said
+  pub seats : IsKeepers its → after.seats ≡ before.seats
+
+-- a life shows the world and the device
+pub record ShowsBoth {D : Type 0} (seen : D → List ℕ) (may_leave : D → List ℕ → Type 0) (opening : World) (life : List Event) (world : WorldModel D) : Type 0 where
+  pub shows : (run opening life).now ≡ world.now
+  pub device : IsAfter (run opening life).past.opened (run opening life).past.calls (seen world.device) (may_leave world.device)
+
+-- It shows them behind a beat.
+pub record IsLedTo {D : Type 0} (seen : D → List ℕ) (may_leave : D → List ℕ → Type 0) (its : ActorCall) (opening : World) (at : Stage) (life : List Event) (after : WorldModel D) : Type 0 where
+  pub event : Event
+  pub is_at : IsEventAt at its event
+  pub shows : ShowsBoth seen may_leave opening (event ∷ life) after
+
+-- The first event is the first beat's, and behind it its actor alone moves.
+pub record IsLedBy {D : Type 0} (seen : D → List ℕ) (may_leave : D → List ℕ → Type 0) (its : ActorCall) (opening : World) (at : Stage) (count : ℕ) (life : List Event) (after : WorldModel D) : Type 0 where
+  pub event : Event
+  pub is_at : IsEventAt at its event
+  pub moves : List Event
+  pub are_moves : AreMovesOf its moves
+  pub many : length moves ≡ count
+  pub shows : ShowsBoth seen may_leave opening (moves ++ event ∷ life) after
+
+module _ {D : Type 0} (seen : D → List ℕ) (may_leave : D → List ℕ → Type 0) (engine : events.Event → WorldModel D → WorldModel D → Option tells.Told → Bool → Type 0) (leads : LeadsLives seen may_leave engine) (telling : Telling) (its : ActorCall) where
+  pub told_last : (at : Stage) (count : ℕ) (before after : PlayerState D) (outcome : Outcome) (text : List ℕ) → HasEnded outcome
+      → InTurn (IsBeat engine telling its) GoesOn (at ∷ replicate count stage.Moves) before after outcome text → IsToldLast telling its before after text
+  told_last at zero before after outcome text ended beat =
+      let end = ended_heard (is_struck before.waits beat.broken) beat.its outcome beat.ends ended in
+      let led = leads (event_of at its) before.world after.world beat.its beat.broken beat.step in
+      record {
+        said = end.said;
+        says = beat.says ∙ ap (text_heard telling (asked_of its) before.seats after.world.now) end.hears;
+        by_keeper = λ keeper. said_by_keeper at its before.world.now.crashed before.world.now after.world.now led.granted led.done end.said keeper
+            (subst (λ (x : Option tells.Told). IsTold before.world.now.crashed before.world.now after.world.now (took_place (event_of at its) led.granted led.done) x) end.was led.tells);
+        seats = λ keeper. beat.seats ∙ (ap (seats_behind (asked_of its) before.seats) end.hears ∙ seats_kept (asked_of its) before.seats end.said (said_by_keeper at its before.world.now.crashed before.world.now after.world.now led.granted led.done end.said keeper
+            (subst (λ (x : Option tells.Told). IsTold before.world.now.crashed before.world.now after.world.now (took_place (event_of at its) led.granted led.done) x) end.was led.tells)));
+      }
+  told_last at (suc count) before after outcome text ended beats =
+      let between : PlayerState D = beats.0 in
+      let beat : IsBeat engine telling its at before between GoesOn beats.1 = beats.3 in
+      let none : heard (is_struck before.waits beat.broken) beat.its ≡ None = unheard (is_struck before.waits beat.broken) beat.its beat.ends in
+      let silent : beats.1 ≡ [] = beat.says ∙ ap (text_heard telling (asked_of its) before.seats between.world.now) none in
+      let seats : between.seats ≡ before.seats = beat.seats ∙ ap (seats_behind (asked_of its) before.seats) none in
+      let rest = told_last stage.Moves count between after outcome beats.2 ended beats.4 in
+      record {
+        said = rest.said;
+        says = beats.5 ∙ (ap (λ (x : List ℕ). x ++ beats.2) silent ∙ (rest.says ∙ ap (λ (x : List SeatState). text_of telling (asked_of its) x after.world.now rest.said) seats));
+        by_keeper = rest.by_keeper;
+        seats = λ keeper. rest.seats keeper ∙ seats;
+      }
+
+  one_on : (opening : World) → IsOpenedWorld opening → (at : Stage) (life : List Event) (before after : PlayerState D) (outcome : Outcome) (text : List ℕ) → ShowsBoth seen may_leave opening life before.world
+      → IsBeat engine telling its at before after outcome text → IsLedTo seen may_leave its opening at life after.world
+  one_on opening opened at life before after outcome text was beat =
+      let led = leads (event_of at its) before.world after.world beat.its beat.broken beat.step in
+      let on = led.leads opening life opened was.shows was.device in
+      record { event = took_place (event_of at its) led.granted led.done; is_at = took_at at its led.granted led.done; shows = record { shows = on.shows; device = on.device } }
+
+  pub beats_on : (opening : World) → IsOpenedWorld opening → (at : Stage) (count : ℕ) (life : List Event) (before after : PlayerState D) (outcome : Outcome) (text : List ℕ) → ShowsBoth seen may_leave opening life before.world
+      → InTurn (IsBeat engine telling its) GoesOn (at ∷ replicate count stage.Moves) before after outcome text → IsLedBy seen may_leave its opening at count life after.world
+  beats_on opening opened at zero life before after outcome text was beat =
+      let one = one_on opening opened at life before after outcome text was beat in record { event = one.event; is_at = one.is_at; moves = []; are_moves = tt; many = refl; shows = one.shows }
+  beats_on opening opened at (suc count) life before after outcome text was beats =
+      let between : PlayerState D = beats.0 in
+      let one = one_on opening opened at life before between GoesOn beats.1 was beats.3 in
+      let rest = beats_on opening opened stage.Moves count (one.event ∷ life) between after outcome beats.2 one.shows beats.4 in
+      record {
+        event = one.event;
+        is_at = one.is_at;
+        moves = rest.moves ++ rest.event ∷ [];
+        are_moves = moves_both its rest.moves (rest.event ∷ []) rest.are_moves (rest.is_at, tt);
+        many = one_longer rest.moves rest.event ∙ ap suc rest.many;
+        shows = subst (λ (x : List Event). ShowsBoth seen may_leave opening x after.world) (sym (append_assoc rest.moves (rest.event ∷ []) (one.event ∷ life))) rest.shows;
+      }
+
+-- ---- where a crash strikes
+-- the call has printed nothing
+pub struck_alone : {D : Type 0} (engine : events.Event → WorldModel D → WorldModel D → Option tells.Told → Bool → Type 0) (telling : Telling) (its : ActorCall) (at : Stage) (count : ℕ) (before after : PlayerState D) (outcome : Outcome) (text : List ℕ)
+    → true ≡ is_struck_by outcome → InTurn (IsBeat engine telling its) GoesOn (at ∷ replicate count stage.Moves) before after outcome text → text ≡ []
+struck_alone engine telling its at zero before after outcome text struck beat =
+    beat.says ∙ unheard_then telling (asked_of its) before.seats after.world.now (is_struck before.waits beat.broken) beat.its (struck ∙ ap is_struck_by beat.ends)
+struck_alone {D} engine telling its at (suc count) before after outcome text struck beats =
+    let between : PlayerState D = beats.0 in
+    let beat : IsBeat engine telling its at before between GoesOn beats.1 = beats.3 in
+    let silent : beats.1 ≡ [] = beat.says ∙ ap (text_heard telling (asked_of its) before.seats between.world.now) (unheard (is_struck before.waits beat.broken) beat.its beat.ends) in
+    let rest : beats.2 ≡ [] = struck_alone engine telling its stage.Moves count between after outcome beats.2 struck beats.4 in
+    beats.5 ∙ (ap (λ (x : List ℕ). x ++ beats.2) silent ∙ rest)

@@ -1,0 +1,21 @@
+//! The lives of a store in memory.
+ghost use Rattle.fkv_runs.specs.Openings.{Holds};
+ghost use Rattle.law_program.specs.PlayedCalls.Lives.{ArmingGoesOn, LivesGoOn};
+
+use fkv_disk::Device;
+use fkv_runs::Crashes;
+use law_opening::law_log_opened;
+
+/// Over an honest device of which a crash leaves just a store's image a life of that store begins, which shows the world and the device. So it is behind each
+/// crash: the report is of a store that the image of the crash holds, and its pairs are the map with which the next life begins. So `law_each_line` speaks of the
+/// lines of each life.
+pub fn law_each_life<M: Crashes>()
+    ensures { LivesGoOn M.seen M.may_leave (Holds M.honest M.seen M.may_leave M.refuses) }
+{
+    law_log_opened();
+}
+
+/// And a line by which a call of the device is to fail, or a crash to strike, leaves the life as it is.
+pub fn law_arming<D: Device>()
+    ensures { ArmingGoesOn D.seen D.may_leave }
+{}
