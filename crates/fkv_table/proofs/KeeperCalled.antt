@@ -24,8 +24,8 @@ use Rattle.fkv_world.specs.Past.{Past, calls_after}
 use Rattle.fkv_world.specs.Runs.{World, happens, read_by_keeper, run}
 use Rattle.fkv_world.specs.World.{Now, life_goes}
 use Rattle.fkv_world.proofs.Shown.{added_calls, asks_while_done, calls_added, lived}
-use Rattle.law_guard.proofs.OfGuarded.Ends.{life_keeper_ended}
-use Rattle.law_guard.proofs.OfGuarded.Slots.{life_keeper_rests}
+use Rattle.law_world.proofs.OfGuarded.Ends.{life_keeper_ended}
+use Rattle.law_world.proofs.OfGuarded.Slots.{life_keeper_rests}
 use Rattle.fkv_seats.proofs.Keeps.{no_some}
 use Rattle.law_world.proofs.OfRuns.Starts.{device_called}
 use Rattle.fkv_seats.specs.declared.views.Role.{Role}

@@ -26,7 +26,7 @@ use Rattle.fkv_world.specs.World.{Now, near, with_keeper}
 use Rattle.fkv_world.proofs.Shown.{keeper_own}
 use Rattle.law_world.specs.Runs.Ends.{KeeperStandsAtNoSlot, asks_left_of_keeper}
 use Rattle.law_world.proofs.OfRuns.Ends.{keeper_down}
-use Rattle.law_guard.proofs.OfGuarded.Ends.{life_keeper_stands}
+use Rattle.law_world.proofs.OfGuarded.Ends.{life_keeper_stands}
 use Rattle.fkv_seats.specs.declared.held.Held.TheVariants.{Drain}
 use Rattle.fkv_seats.specs.Rule.{Carries, HandFits, action_in, base, flat, led}
 use Rattle.fkv_seats.proofs.Keeps.{no_some}

@@ -13,7 +13,7 @@ use Rattle.fkv_keeper.specs.Keeping.{KeeperModel, KeeperState, keeper_ask, keepe
 use Rattle.fkv_world.specs.Actors.{slot_asked, slot_of_step, slot_named}
 use Rattle.fkv_world.specs.Runs.{World, happens}
 use Rattle.law_world.proofs.OfRuns.OneWord.{keeper_writes}
-use Rattle.law_guard.proofs.OfGuarded.WordsWithin.{life_keeper_within}
+use Rattle.law_world.proofs.OfGuarded.WordsWithin.{life_keeper_within}
 use Rattle.fkv_seats.specs.Rule.{Changes, Quiet, Ruled, Stepped, led}
 use Rattle.fkv_seats.proofs.Keeps.{allows}
 use Rattle.fkv_table.specs.declared.happenings.Happening.{Happening}

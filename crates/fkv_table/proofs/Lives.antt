@@ -22,10 +22,10 @@ use Rattle.law_world.proofs.OfRuns.Crashed.{goes_on}
 use Rattle.law_world.proofs.OfRuns.Nothing.{no_session}
 use Rattle.law_world.proofs.OfRuns.OneWord.{keeper_writes, one_slot, session_writes}
 use Rattle.law_world.proofs.OfRuns.Starts.{call_starts, commit_starts, turn_starts}
-use Rattle.law_guard.specs.Guarded.SlotsApart.{AreOfOthers}
-use Rattle.law_guard.proofs.OfGuarded.Slots.{life_names_within, life_session_rests, life_slots_count}
-use Rattle.law_guard.proofs.OfGuarded.SlotsApart.{life_apart}
-use Rattle.law_guard.proofs.OfGuarded.WordsWithin.{life_session_within}
+use Rattle.law_world.specs.Guarded.SlotsApart.{AreOfOthers}
+use Rattle.law_world.proofs.OfGuarded.Slots.{life_names_within, life_session_rests, life_slots_count}
+use Rattle.law_world.proofs.OfGuarded.SlotsApart.{life_apart}
+use Rattle.law_world.proofs.OfGuarded.WordsWithin.{life_session_within}
 use Rattle.fkv_seats.specs.declared.views.Role.TheVariants.{Sits}
 use Rattle.fkv_seats.specs.Rule.{AreOwn, AreStarts, NoneOf, Quiet, SlotFacts, action_in, led, speaks}
 use Rattle.fkv_table.specs.declared.happenings.Happening.{Happening}

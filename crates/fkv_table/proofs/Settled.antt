@@ -27,7 +27,7 @@ use Rattle.law_world.proofs.OfRuns.Added.{trace_so}
 use Rattle.law_world.proofs.OfRuns.Ends.{session_down}
 use Rattle.law_world.proofs.OfRuns.InHand.Lives.{session_in_hand}
 use Rattle.law_world.proofs.OfRuns.Nothing.{none_ever}
-use Rattle.law_guard.proofs.OfGuarded.Ends.{life_ended, life_stands}
+use Rattle.law_world.proofs.OfGuarded.Ends.{life_ended, life_stands}
 use Rattle.fkv_seats.specs.declared.held.Held.TheVariants.{Drain}
 use Rattle.fkv_seats.specs.declared.views.Role.TheVariants.{Sits}
 use Rattle.fkv_seats.specs.Rule.{Carries, HandFits, action_in, base, flat, led}

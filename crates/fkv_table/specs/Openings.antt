@@ -4,7 +4,7 @@ use Rattle.atomic_table.specs.Seated.{TableId}
 use Rattle.fkv_base.specs.Limits.{drain_slots}
 use Rattle.fkv_world.specs.Opened.{IsOpenedWorld}
 use Rattle.fkv_world.specs.Runs.{World}
-use Rattle.law_guard.specs.Guarded.Shows.{IsOpened}
+use Rattle.law_world.specs.Guarded.Shows.{IsOpened}
 use Rattle.fkv_table.specs.Positions.{gaps}
 
 -- The guard begins with it, its store was just opened, and its keeper seeks the points of no more sessions than there are.

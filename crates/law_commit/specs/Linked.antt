@@ -11,7 +11,7 @@ use Rattle.fkv_session.specs.Sessions.{SessionState, session_ask}
 use Rattle.fkv_world.specs.Runs.{World, run}
 use Rattle.fkv_world.specs.World.{Event, Now, seat_at}
 use Rattle.law_log.specs.Ghosts.{Ghosts, Log}
-use Rattle.law_parts.specs.Index.Finders.{Search, Searches, session_part}
+use Rattle.law_refine.specs.Index.Finders.{Search, Searches, session_part}
 use Rattle.law_refine.specs.Events.GhostEvents.{life_ghosts}
 use Rattle.law_refine.specs.Heads.Heads.{head_at}
 

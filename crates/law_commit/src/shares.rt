@@ -6,7 +6,7 @@ ghost use Rattle.law_commit.specs.Shares.Tries.{SharesInTries};
 ghost use Rattle.law_commit.specs.Shares.Waiting.{SharesInPrepare};
 
 use law_paper::law_phases_are_seen;
-use law_parts::law_world_latched;
+use law_refine::law_world_latched;
 
 /// In each life of a store that opened at rest, as each does, with commits too, a session holds a latch alone only while it is awake and goes by in-progress or
 /// wait-pending. A try of an update in prepare shares its latch from where it has taken its share on, and one whose request came with its latch does in each

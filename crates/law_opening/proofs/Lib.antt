@@ -1,3 +1,4 @@
+pub mod OfChanges
 mod OfLives
 mod OfLog
 mod OfWorlds

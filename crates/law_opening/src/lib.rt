@@ -1,10 +1,15 @@
-//! Recovery starts a run.
+//! Recovery starts a run. In each life from there sessions change in place only what is published, and the numbers of the log fit in words.
 #![tactic(auto)]
 
+mod changing;
+mod fitting;
 mod lives;
 mod log;
+mod published;
 mod worlds;
 
+pub use changing::law_lives_change_published;
+pub use fitting::{law_lives_fit, law_logs_fit};
 pub use lives::{
     law_device_opens, law_guard_opens, law_index_opens, law_latches_open, law_long_opens,
     law_opened_commit_stands, law_told_opens,
@@ -13,4 +18,5 @@ pub use log::{
     law_log_begins, law_log_beside, law_log_counted, law_log_heads, law_log_opened,
     law_lost_is_the_rest,
 };
+pub use published::law_changes_published;
 pub use worlds::law_world_exists;

@@ -2,13 +2,15 @@ pub mod OfApart
 mod OfAsked
 mod OfCopies
 mod OfDecided
+mod OfEnabled
+mod OfImages
 mod OfKnown
 mod OfLooks
 mod OfOneHistory
 mod OfOrdered
-mod OfEnabled
 mod OfPrefix
 pub mod OfReads
+mod OfRecovered
 mod OfRows
 pub mod OfRules
 mod OfServed

@@ -16,7 +16,7 @@ use Rattle.law_commit.specs.Decided.Ended.{CommitsHaveEnded, HadMoment, LoadsEnd
 use Rattle.law_commit.specs.Laws.Copied.{CopiesAreInHand, CopiesBeginForCommits}
 use Rattle.law_commit.specs.Quiet.{OpensQuiet}
 use Rattle.law_log.specs.Trace.{IsIn}
-use Rattle.law_parts.specs.Index.Shows as index
+use Rattle.law_refine.specs.Index.Shows as index
 use Rattle.law_order.specs.Opened.{HasWrittenCopy}
 
 module _ (held : CopiesAreInHand) (begun : CopiesBeginForCommits) (opening : World) (lists : ℕ → List ℕ) (in_order : index.IsOpened opening lists) where

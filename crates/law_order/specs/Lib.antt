@@ -1,6 +1,7 @@
 pub mod Apart
 pub mod Asked
 pub mod Decided
+pub mod Images
 pub mod InTurn
 pub mod Known
 pub mod OneHistory
@@ -8,6 +9,7 @@ pub mod Opened
 pub mod Ordered
 pub mod Prefix
 pub mod Reads
+pub mod Recovered
 pub mod Rows
 pub mod Rules
 pub mod Served

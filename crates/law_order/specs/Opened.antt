@@ -35,11 +35,11 @@ use Rattle.law_commit.specs.Phases.Staged.{HasStage}
 use Rattle.law_commit.specs.Phases.Stamped.{SessionStamped, is_live}
 use Rattle.law_commit.specs.PrefixPast.{prefix_past}
 use Rattle.law_commit.specs.Views.{View, sight_of}
-use Rattle.law_guard.specs.Guarded.Shows.{seen_by_guard}
+use Rattle.law_world.specs.Guarded.Shows.{seen_by_guard}
 use Rattle.law_log.specs.Ghosts.{Ghosts}
 use Rattle.law_log.specs.Trace.{IsIn}
 use Rattle.law_opening.specs.Log.OpeningLog.{opening_ghosts}
-use Rattle.law_parts.specs.Index.Shows.{seen_by_index}
+use Rattle.law_refine.specs.Index.Shows.{seen_by_index}
 use Rattle.law_refine.specs.Events.GhostEvents.{life_ghosts}
 use Rattle.law_world.specs.Keeper.Lives.{life_writing, replies_copied}
 

@@ -18,7 +18,7 @@ use Rattle.fkv_world.specs.OwnEvents.{session_events}
 use Rattle.fkv_world.specs.Runs.{World, run}
 use Rattle.fkv_world.specs.World.{Event, Now, seat_at}
 use Rattle.law_local.specs.Sessions.Known.{is_attempting}
-use Rattle.law_parts.specs.Latches.Latchers.{session_alone}
+use Rattle.law_refine.specs.Latches.Latchers.{session_alone}
 use Rattle.law_commit.specs.Shares.Leaving.{HasLoaded}
 use Rattle.law_commit.specs.Shares.Since.{AllShareSo, SharesJust, SharesOnly, SharesSince, seen_by}
 use Rattle.law_commit.specs.Shares.Tries.{SharesInHand}

@@ -5,12 +5,11 @@ ghost use Rattle.law_order.specs.Decided.Old as old;
 
 use crate::in_turn::{law_ends_open, law_versions_open};
 use crate::rules::law_life_begins;
-use law_changes::law_lives_change_published;
 use law_commit::{
     law_addresses_taken, law_chains_below, law_commits_cut, law_commits_decided,
     law_commits_settled, law_versions_bounded,
 };
-use law_opening::law_log_counted;
+use law_opening::{law_lives_change_published, law_log_counted};
 
 /// In each life of an opened store, with commits, crashes and failing calls of the device, each address from the first tail up to the tail is taken. All is
 /// decided below what each session that is awake has seen as tail. So it is below the first address of the commit in hand, from in-progress on and as its copy

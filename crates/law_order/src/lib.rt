@@ -6,6 +6,7 @@ mod asked;
 mod decided;
 mod enabled;
 mod fits;
+mod images;
 mod in_turn;
 mod known;
 mod looks;
@@ -15,6 +16,7 @@ mod opened;
 mod ordered;
 mod prefix;
 mod reads;
+mod recovered;
 mod rows;
 mod rules;
 mod served;
@@ -28,6 +30,13 @@ pub use asked::law_world_asked;
 pub use decided::{law_chains_open, law_cut_opens, law_decided_opens, law_old_opens};
 pub use enabled::law_world_enabled;
 pub use fits::law_opening_fits;
+pub use images::{
+    law_commits_end_flushed, law_commits_fit, law_commits_lose_the_rest,
+    law_commits_write_their_copy, law_images_agree_at_first, law_images_are_long,
+    law_images_hold_triples, law_images_keep_old, law_images_keep_opened,
+    law_images_keep_their_shape, law_images_name_a_begun, law_images_name_their_commit,
+    law_images_read_back, law_images_show_log,
+};
 pub use in_turn::{
     law_commit_always_stands, law_ends_open, law_floor_opens, law_phases_open, law_points_open,
     law_versions_open,
@@ -45,6 +54,11 @@ pub use prefix::{
     law_join, law_lives, law_points_are_fair, law_replays_kept, law_slots_open,
 };
 pub use reads::law_world_reads;
+pub use recovered::{
+    law_images_hold, law_images_keep_checkpoint, law_images_recovered, law_images_show_life,
+    law_images_use_checkpoints, law_log_in_order, law_named_hold, law_opened_log_stands,
+    law_points_keep, law_prefix, law_scans_start_above,
+};
 pub use rows::{law_requests_asked, law_rows_go_on, law_waits_stay};
 pub use rules::{law_cuts_open, law_life_begins, law_order_of_rules};
 pub use served::law_world_served;

@@ -16,7 +16,7 @@ use law_commit::{
 };
 use law_opening::law_latches_open;
 use law_paper::law_phases_are_seen;
-use law_parts::law_latched_in_tries;
+use law_refine::law_latched_in_tries;
 
 /// Each life keeps order, with no further premise: it begins so, and what the induction is given of phases, latches and versions holds of each life. So each
 /// event of the log beside it is enabled, and what a session is about to change in place is published. And no attempt ends as a shift and isn't made again.

@@ -6,16 +6,16 @@ ghost use Rattle.law_order.specs.Prefix.Slots.{HomesHaveSlots};
 ghost use Rattle.law_order.specs.Prefix.Stores as stores;
 
 use crate::in_turn::{law_phases_open, law_points_open};
+use crate::law_images_read_back;
 use crate::rules::{law_cuts_open, law_life_begins};
-use law_changes::law_lives_change_published;
 use law_commit::{
     law_begun, law_points_between, law_points_taken, law_told_are_sealed, law_told_never_falls,
 };
-use law_images::law_images_read_back;
-use law_opening::{law_guard_opens, law_log_begins, law_log_beside, law_log_opened};
+use law_opening::{
+    law_guard_opens, law_lives_change_published, law_log_begins, law_log_beside, law_log_opened,
+};
 use law_paper::law_kept;
-use law_parts::law_world_one_entry;
-use law_refine::law_heads;
+use law_refine::{law_heads, law_world_one_entry};
 
 /// In each life the commits that are finished are the opening's and those that the keeper has told as finished, in their order. Each has the number and the
 /// points that were told.

@@ -5,11 +5,11 @@ ghost use Rattle.law_order.specs.Rules.Ordered as laws;
 ghost use Rattle.law_order.specs.Rules.Openings as opens;
 
 use fkv_core::law_words_open;
-use law_guard::{law_world_is_guarded, law_world_once};
 use law_opening::{
     law_guard_opens, law_index_opens, law_log_begins, law_log_beside, law_log_counted,
     law_log_heads, law_log_opened,
 };
+use law_world::{law_world_is_guarded, law_world_once};
 
 /// The life of an opened store begins with the log of its image, from the store's map and in the version of its commit, and at rest in the version behind
 /// that: the engine, the guard, the index and each mailbox are as such a store has them, the chains begin where the entries of the index lead, and the

@@ -1,6 +1,10 @@
 pub mod Calls
 pub mod Events
+pub mod Footprint
 pub mod Heads
+pub mod Index
+pub mod Latches
+pub mod Mail
 pub mod Records
 pub mod Results
 pub mod Seen

@@ -1,9 +1,12 @@
-//! Each step of the engine as events of the abstract log.
+//! The engine refines the index, the latches and the mailboxes, and each of its steps is events of the abstract log.
 #![tactic(auto)]
 
 mod calls;
 mod events;
 mod heads;
+mod index;
+mod latches;
+mod mail;
 mod records;
 mod results;
 mod seen;
@@ -14,6 +17,9 @@ pub use events::{
     law_ghost_trace, law_ghost_unborn, law_of_a_worked_life,
 };
 pub use heads::{law_heads, law_heads_found};
+pub use index::{law_of_searches, law_world_one_entry};
+pub use latches::{law_latched_in_tries, law_world_latched};
+pub use mail::{law_world_mailbox, law_world_taken};
 pub use records::{
     law_device_shows_log, law_frames_show_log, law_headers_show_log, law_records_published,
     law_stands_show_log,

@@ -1,7 +1,7 @@
 //! What stands for a record is the log's cell.
 ghost use Rattle.law_refine.specs.Records.Laws as records;
 
-use law_guard::law_world_flushed_is_synced;
+use law_world::law_world_flushed_is_synced;
 
 /// In every life that begins as the guard supposes, beside a log that has no record from the tail up: where the record whose value a session is
 /// about to change in place is published, it lies below the tail. So where that is so before each event of the life, each of its steps is

@@ -9,8 +9,7 @@ ghost use Rattle.law_threads.specs.Durable.{RecoversItsDurable, TellsItsDurable}
 ghost use Rattle.law_threads.specs.Images.{RecoversWithin};
 ghost use Rattle.law_threads.specs.Laws.{IsOrdered, IsThreadLaw, IsWithin, SharesOneHistory};
 
-use law_order::law_order;
-use law_prefix::law_prefix;
+use law_order::{law_order, law_prefix};
 use law_world::{law_world_requests, law_world_sessions};
 
 /// Sessions make their calls at one table, each in any thread. `Session::run` says how a call stands in the list of events. If clauses of the order law hold of the

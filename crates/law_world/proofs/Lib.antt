@@ -1,3 +1,6 @@
+mod OfGuardKeeper
+pub mod OfGuardSessions
+pub mod OfGuarded
 pub mod OfKeeper
 pub mod OfRuns
 pub mod OfSessions

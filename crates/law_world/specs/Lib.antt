@@ -1,3 +1,6 @@
+pub mod GuardKeeper
+pub mod GuardSessions
+pub mod Guarded
 pub mod Keeper
 pub mod Runs
 pub mod Standing

@@ -1,11 +1,24 @@
-//! What the laws of each machine say in every life of the engine, and that one commit stands whatever a crash leaves.
+//! What the laws of each machine say in every life of the engine; that one commit stands whatever a crash leaves; and that the engine
+//! refines the guard of frames and epochs: who may write where, and when an action runs.
 #![tactic(auto)]
 
+mod guard_keeper;
+mod guard_reads;
+mod guard_sessions;
+mod guarded;
 mod keeper;
 mod runs;
 mod sessions;
 mod standing;
 
+pub use guard_keeper::{law_keeper_calls, law_keeper_followed};
+pub use guard_reads::{law_reads, law_reads_ends, law_reads_places, law_reads_slots};
+pub use guard_sessions::{law_sessions_followed, law_sessions_permitted};
+pub use guarded::{
+    law_world_ends, law_world_flushed, law_world_flushed_is_synced, law_world_is_guarded,
+    law_world_once, law_world_permitted, law_world_places, law_world_seen, law_world_sleepers,
+    law_world_slots,
+};
 pub use keeper::{law_world_checkpoints, law_world_keeper, law_world_one_commit_stands};
 pub use runs::{
     law_of_a_crash, law_of_ends, law_of_lives, law_of_nothing_to_do, law_of_one_word,

@@ -18,9 +18,9 @@ use Rattle.law_log.specs.Worked.{entry_of, no_map}
 use Rattle.fkv_plane.specs.declared.places.Places.{Places}
 use Rattle.fkv_session.specs.Sessions.{SessionState, IsOpened}
 use Rattle.fkv_epoch.specs.EpochWorld.{drain_word, own_epoch}
-use Rattle.law_guard.specs.Sessions.Likenesses.{last_seen}
+use Rattle.law_world.specs.GuardSessions.Likenesses.{last_seen}
 use Rattle.fkv_world.specs.Opened.{IsOpenedWorld}
-use Rattle.law_guard.specs.Guarded.Shows as guard
+use Rattle.law_world.specs.Guarded.Shows as guard
 use Rattle.law_refine.specs.Calls.Calls.{effects_in_log}
 use Rattle.law_refine.specs.Events.Lines.{lines_of}
 use Rattle.law_refine.specs.Events.Worked.{adds_5, first_session, first_words, gives_70, gives_8}

@@ -10,9 +10,9 @@ use Rattle.fkv_world.specs.Runs.{World, run}
 use Rattle.fkv_world.specs.World.{Event, Moves}
 use Rattle.law_world.proofs.OfRuns.Nothing.{none_ever}
 use Rattle.law_world.proofs.OfRuns.Lives.{runs_on}
-use Rattle.law_guard.specs.Guarded.EndsAlone.{AreKeeperMoves, most_keeper_asks, most_session_asks}
-use Rattle.law_guard.specs.Guarded.OpenedStore.{IsOpenedStore}
-use Rattle.law_guard.specs.Guarded.Shows.{IsOpened}
+use Rattle.law_world.specs.Guarded.EndsAlone.{AreKeeperMoves, most_keeper_asks, most_session_asks}
+use Rattle.law_world.specs.Guarded.OpenedStore.{IsOpenedStore}
+use Rattle.law_world.specs.Guarded.Shows.{IsOpened}
 use Rattle.fkv_core.specs.declared.events.Actor.TheVariants.{Session, Keeper}
 use Rattle.fkv_core.specs.Alone.{Move, in_hand, moves_of}
 use Rattle.law_answers.proofs.OfAnswered.OneEvent.{IsBusy, busy_of, call_of}

@@ -7,7 +7,7 @@ use Rattle.fkv_opening.specs.declared.opened_store.Opened.{Opened}
 use Rattle.fkv_world.specs.Opened.{IsOpenedWorld}
 use Rattle.fkv_world.specs.Runs.{run}
 use Rattle.fkv_world.specs.World.{Now}
-use Rattle.law_guard.specs.Guarded.OpenedStore.{IsOpenedStore}
+use Rattle.law_world.specs.Guarded.OpenedStore.{IsOpenedStore}
 use Rattle.law_answers.specs.Answered.Lives.{IsOfLife}
 
 -- what the laws of opened stores say

@@ -14,7 +14,7 @@ use Rattle.law_answers.specs.Answered.Lives.{IsOfLife}
 use Rattle.fkv_world.specs.Opened.{IsOpenedWorld}
 use Rattle.fkv_world.specs.Runs.{World, run}
 use Rattle.fkv_world.specs.World.{Event, Now}
-use Rattle.law_guard.specs.Guarded.OpenedStore.{IsOpenedStore}
+use Rattle.law_world.specs.Guarded.OpenedStore.{IsOpenedStore}
 use Rattle.law_answers.specs.Effects.Kept.{listed, told_behind, told_behind_step, updates}
 
 -- what `law_effects_told` says of each event

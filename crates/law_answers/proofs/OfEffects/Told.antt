@@ -21,8 +21,8 @@ use Rattle.law_world.proofs.OfRuns.Added.{history_so}
 use Rattle.fkv_world.proofs.Shown.{is_over, same_seat, session_runs}
 use Rattle.law_world.proofs.OfSessions.Effects.{life_made}
 use Rattle.law_world.proofs.OfRuns.Nothing.{no_session, none_ever, none_in_hand}
-use Rattle.law_guard.specs.Guarded.OpenedStore.{IsOpenedStore}
-use Rattle.law_guard.specs.Guarded.Shows.{IsOpened}
+use Rattle.law_world.specs.Guarded.OpenedStore.{IsOpenedStore}
+use Rattle.law_world.specs.Guarded.Shows.{IsOpened}
 use Rattle.law_answers.specs.Effects.Kept.{effects_kept, told_behind, updates}
 use Rattle.law_answers.proofs.OfEffects.Moved.{IsBusy, asks_on, busy_of, move_replies}
 use Rattle.law_answers.proofs.OfEffects.Quiet.{HaveReply, quiet}

@@ -10,7 +10,7 @@ use Rattle.fkv_world.specs.Opened.{IsOpenedWorld}
 use Rattle.fkv_world.specs.Runs as runs
 use Rattle.fkv_world.specs.Runs.{run}
 use Rattle.fkv_world.specs.World.{Event}
-use Rattle.law_guard.specs.Guarded.OpenedStore.{IsOpenedStore}
+use Rattle.law_world.specs.Guarded.OpenedStore.{IsOpenedStore}
 use Rattle.law_answers.specs.Effects.Kept.{effects_kept, listed, told_behind, told_behind_step, updates}
 
 -- what is told behind an event is what it adds to the history

@@ -16,9 +16,9 @@ use Rattle.fkv_keeper.specs.KeeperRun.{KeeperEvent, Replies, keeper_run}
 use Rattle.fkv_world.specs.OwnEvents.{keeper_part_of}
 use Rattle.fkv_world.specs.Runs.{World, run}
 use Rattle.fkv_world.specs.World.{Event}
-use Rattle.law_parts.specs.Index.IndexEvents.{index_events, mapped}
-use Rattle.law_parts.specs.Index.Shows as index
-use Rattle.law_parts.specs.Index.Shows.{seen_by_index}
+use Rattle.law_refine.specs.Index.IndexEvents.{index_events, mapped}
+use Rattle.law_refine.specs.Index.Shows as index
+use Rattle.law_refine.specs.Index.Shows.{seen_by_index}
 use Rattle.law_commit.specs.Copied.Covers.{HasStoodSince, before_copy, begins_at, begins_copy}
 use Rattle.law_commit.specs.Copied.Runs.{copy_events, copy_moves, keeper_copies, opening_copy, seen_by_copy}
 use Rattle.law_commit.proofs.OfCopied.Lives.{life_copies}

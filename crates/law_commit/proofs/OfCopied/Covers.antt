@@ -19,8 +19,8 @@ use Rattle.law_log.specs.Chains.{Logged, Published, Reserved, head_of}
 use Rattle.law_log.specs.Ghosts.{Changes, Drops, Ghosts, GhostEvent, Log, Publishes, changed, dropped, ghost_run, ghosts_after, published, set_at}
 use Rattle.law_log.specs.Trace.{IsIn}
 use Rattle.law_log.proofs.Shown.{run_on}
-use Rattle.law_parts.specs.Index.LifeEntries.{lists_seen}
-use Rattle.law_parts.specs.Index.Shows.{seen_by_index}
+use Rattle.law_refine.specs.Index.LifeEntries.{lists_seen}
+use Rattle.law_refine.specs.Index.Shows.{seen_by_index}
 use Rattle.law_refine.specs.Events.GhostEvents.{ghost_events, home_in, home_number, life_ghosts, mapped, serials_in}
 use Rattle.law_refine.specs.Heads.Heads.{head_at}
 use Rattle.law_commit.specs.Copied.Covers.{CoverHeads, HasStoodSince, LeadIntoChains, before_copy}

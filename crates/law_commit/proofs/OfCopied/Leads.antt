@@ -8,13 +8,13 @@ use Rattle.fkv_index.specs.OneEntry.{IsHome}
 use Rattle.fkv_index.specs.Slots.{entry_addr}
 use Rattle.fkv_world.specs.Runs.{World, run}
 use Rattle.fkv_world.specs.World.{Event, Now}
-use Rattle.law_guard.specs.Guarded.Shows as guard
+use Rattle.law_world.specs.Guarded.Shows as guard
 use Rattle.law_log.specs.Ghosts.{Ghosts, Log}
-use Rattle.law_parts.specs.Index.LifeEntries.{lists_seen}
-use Rattle.law_parts.specs.Index.Shows as index
-use Rattle.law_parts.specs.Index.Shows.{Shows, seen_by_index}
-use Rattle.law_parts.proofs.OfIndex.Permitted.{are_permitted}
-use Rattle.law_parts.proofs.OfIndex.Worlds.{life_shows}
+use Rattle.law_refine.specs.Index.LifeEntries.{lists_seen}
+use Rattle.law_refine.specs.Index.Shows as index
+use Rattle.law_refine.specs.Index.Shows.{Shows, seen_by_index}
+use Rattle.law_refine.proofs.OfIndex.Permitted.{are_permitted}
+use Rattle.law_refine.proofs.OfIndex.Worlds.{life_shows}
 use Rattle.law_refine.specs.Events.GhostEvents.{life_ghosts}
 use Rattle.law_refine.specs.Events.Reserved.{IsUnbornFrom, ReservesNothing, tail_at}
 use Rattle.law_refine.specs.Heads.Heads.{LeadToHeads, head_at}

@@ -26,11 +26,11 @@ use Rattle.fkv_world.specs.World.{Event, Calls, Moves, Commits, Turns, KeeperMov
 use Rattle.fkv_world.proofs.Shown.{keeper_runs, places_stay, shape_stays}
 use Rattle.law_world.specs.Keeper.Lives.{begun_last, keeper_after, life_writing, replies_copied}
 use Rattle.law_world.proofs.OfKeeper.OwnRun.{of_keeper, to_keeper}
-use Rattle.law_parts.specs.Index.IndexEvents.{index_events, mapped}
-use Rattle.law_parts.specs.Index.Shows as index
-use Rattle.law_parts.specs.Index.Shows.{Shows, seen_by_index}
-use Rattle.law_parts.proofs.OfIndex.Permitted.{are_permitted}
-use Rattle.law_parts.proofs.OfIndex.Worlds.{life_shows}
+use Rattle.law_refine.specs.Index.IndexEvents.{index_events, mapped}
+use Rattle.law_refine.specs.Index.Shows as index
+use Rattle.law_refine.specs.Index.Shows.{Shows, seen_by_index}
+use Rattle.law_refine.proofs.OfIndex.Permitted.{are_permitted}
+use Rattle.law_refine.proofs.OfIndex.Worlds.{life_shows}
 use Rattle.law_commit.specs.Copied.Runs.{HasInHand, IsCheckpointOf, IsCopyBy, KeepsCopy, WritesCopy, copy_events, keeper_copies, opening_copy, seen_by_copy}
 use Rattle.law_commit.proofs.OfCopied.Commits.{some_same}
 use Rattle.law_commit.proofs.OfCopied.Keepers.{AreReplied, GoesOn, copies_on, own_on, steps_replied}

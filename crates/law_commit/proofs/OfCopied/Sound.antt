@@ -3,7 +3,7 @@ use Rattle.std.specs.Prelude.{ℕ, List, length}
 use Rattle.fkv_checkpoint.proofs.Shown.{IsCopySound, copy_opens, copy_sound}
 use Rattle.fkv_world.specs.Runs.{World}
 use Rattle.fkv_world.specs.World.{Event}
-use Rattle.law_parts.specs.Index.Shows as index
+use Rattle.law_refine.specs.Index.Shows as index
 use Rattle.law_commit.specs.Copied.Runs.{copy_events, opening_copy}
 
 pub life_sound : (opening : World) (lists : ℕ → List ℕ) (events : List Event) → index.IsOpened opening lists → IsCopySound (opening_copy opening lists) (copy_events opening events)

@@ -30,9 +30,9 @@ use Rattle.fkv_world.specs.Runs.{World, happens, read_by_keeper, run}
 use Rattle.fkv_world.specs.World.{Event, Calls, Moves, Commits, Turns, KeeperMoves, Crashes, Now, near, seat_at}
 use Rattle.fkv_world.proofs.Shown.{is_over, keeper_runs, keeper_runs_on, places_stay, shape_stays}
 use Rattle.law_world.proofs.OfRuns.OneWord.{keeper_writes}
-use Rattle.law_parts.specs.Footprint.{Durable, TheDurable, Spares}
-use Rattle.law_parts.proofs.Footprint.Lives.{keeper_spares}
-use Rattle.law_parts.proofs.Footprint.Sessions.{IsSessionSparing, SessionRests, session_asks_spares}
+use Rattle.law_refine.specs.Footprint.{Durable, TheDurable, Spares}
+use Rattle.law_refine.proofs.Footprint.Lives.{keeper_spares}
+use Rattle.law_refine.proofs.Footprint.Sessions.{IsSessionSparing, SessionRests, session_asks_spares}
 use Rattle.law_commit.specs.Cuts.{HasItsWords, ShowsDurable, durable_at, stored_behind, stored_by, stored_by_keeper, stored_last, word_now}
 use Rattle.law_commit.proofs.OfCuts.Events.{event_words, length_stays}
 use Rattle.law_commit.proofs.OfCuts.Marks.{few_places, sparing_now}

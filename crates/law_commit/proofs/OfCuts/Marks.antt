@@ -32,10 +32,10 @@ use Rattle.fkv_world.specs.Runs.{World, happens, run}
 use Rattle.fkv_world.specs.World.{Event, Calls, Moves, Now, near, seat_at}
 use Rattle.fkv_world.proofs.Shown.{is_over, places_stay, same_seat, session_runs, session_runs_on}
 use Rattle.law_world.proofs.OfRuns.OneWord.{session_writes}
-use Rattle.law_parts.specs.Footprint.{Marks, TheMarks, IsAmong, Spares}
-use Rattle.law_parts.proofs.Footprint.Catches.{is_marking}
-use Rattle.law_parts.proofs.Footprint.Lives.{at_each_moment, keeper_spares}
-use Rattle.law_parts.proofs.Footprint.Sessions.{IsSessionSparing, SessionRests, session_asks_spares, session_run_spares, sitting_marks}
+use Rattle.law_refine.specs.Footprint.{Marks, TheMarks, IsAmong, Spares}
+use Rattle.law_refine.proofs.Footprint.Catches.{is_marking}
+use Rattle.law_refine.proofs.Footprint.Lives.{at_each_moment, keeper_spares}
+use Rattle.law_refine.proofs.Footprint.Sessions.{IsSessionSparing, SessionRests, session_asks_spares, session_run_spares, sitting_marks}
 use Rattle.law_commit.specs.Cuts.{HasItsWords, stored_by_session, word_now}
 use Rattle.law_commit.proofs.OfCuts.Events.{event_words, length_stays}
 use Rattle.law_commit.proofs.OfCuts.Words.{IsStore, IsThere, followed_word, spared_word}

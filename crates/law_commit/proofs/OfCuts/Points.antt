@@ -26,7 +26,7 @@ use Rattle.fkv_keeper.specs.Keeping.{KeeperState, finish_ledto, finished, keeper
 use Rattle.fkv_keeper.specs.KeeperRun.{KeeperEvent, BeginsTurn, BeginsCommit, Replies, Gets, Calls, IsOpened, is_in_hand, keeper_happens, keeper_run}
 use Rattle.fkv_keeper.proofs.Shown.{each_move, run_finished, run_spares}
 use Rattle.law_world.proofs.OfStanding.Runs.{happens_at}
-use Rattle.law_parts.proofs.Footprint.Keepers.{keeper_run_spares}
+use Rattle.law_refine.proofs.Footprint.Keepers.{keeper_run_spares}
 use Rattle.law_commit.specs.Cuts.{durable_at, durable_in, stored_behind, stored_by, stored_last}
 use Rattle.law_commit.proofs.BegunStands.{there}
 

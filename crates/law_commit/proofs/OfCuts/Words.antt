@@ -7,7 +7,7 @@ use Rattle.fkv_plane.specs.declared.asks.Ask.TheVariants.{Load, Store, Swap, Cas
 use Rattle.fkv_plane.specs.declared.places.Places.{Places}
 use Rattle.fkv_plane.specs.Asked.{word_at, words_after}
 use Rattle.fkv_epoch.proofs.Shown.{same_or, word_spared, word_written}
-use Rattle.law_parts.specs.Footprint.{OwnWords, OfSession, IsAmong, IsOutside, Spares}
+use Rattle.law_refine.specs.Footprint.{OwnWords, OfSession, IsAmong, IsOutside, Spares}
 use Rattle.law_commit.specs.Cuts.{stored_by}
 
 -- it is a store

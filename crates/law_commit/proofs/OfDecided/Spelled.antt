@@ -23,10 +23,10 @@ use Rattle.fkv_world.specs.World.{Event}
 use Rattle.fkv_world.proofs.Shown.{places_stay}
 use Rattle.law_log.specs.Ghosts.{Ghosts}
 use Rattle.law_log.specs.Trace.{IsIn}
-use Rattle.law_guard.specs.Guarded.Shows as guard
-use Rattle.law_parts.specs.Index.Shows as index
-use Rattle.law_parts.proofs.OfIndex.Permitted.{are_permitted}
-use Rattle.law_parts.proofs.OfIndex.Worlds.{life_shows}
+use Rattle.law_world.specs.Guarded.Shows as guard
+use Rattle.law_refine.specs.Index.Shows as index
+use Rattle.law_refine.proofs.OfIndex.Permitted.{are_permitted}
+use Rattle.law_refine.proofs.OfIndex.Worlds.{life_shows}
 use Rattle.law_refine.specs.Events.GhostEvents.{home_number, life_ghosts}
 use Rattle.law_refine.specs.Events.Reserved.{tail_at}
 use Rattle.law_refine.specs.Heads.Heads.{LeadToHeads}

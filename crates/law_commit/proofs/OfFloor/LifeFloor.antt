@@ -44,16 +44,16 @@ use Rattle.fkv_world.specs.Moves.{keeper_gets}
 use Rattle.fkv_world.specs.Opened.{IsOpenedWorld}
 use Rattle.fkv_world.specs.Runs.{World, read_by_keeper, run}
 use Rattle.fkv_world.specs.World.{Event, Now}
-use Rattle.law_guard.specs.Guarded.GuardEvents.{guard_events}
-use Rattle.law_guard.specs.Guarded.Shows as guard
-use Rattle.law_guard.specs.Guarded.Shows.{seen_by_guard}
-use Rattle.law_guard.specs.Keeper.KeeperShown.{KeepingKnows}
-use Rattle.law_guard.proofs.OfGuarded.Kept.{is_steps}
-use Rattle.law_guard.proofs.OfGuarded.Worlds.{life_shows}
+use Rattle.law_world.specs.Guarded.GuardEvents.{guard_events}
+use Rattle.law_world.specs.Guarded.Shows as guard
+use Rattle.law_world.specs.Guarded.Shows.{seen_by_guard}
+use Rattle.law_world.specs.GuardKeeper.KeeperShown.{KeepingKnows}
+use Rattle.law_world.proofs.OfGuarded.Kept.{is_steps}
+use Rattle.law_world.proofs.OfGuarded.Worlds.{life_shows}
 use Rattle.law_paper.specs.Phases as paper
 use Rattle.law_paper.specs.Phases.{PhaseEvent, Phasing, RaisesEnding, RaisesPending, RaisesProgress, StoresNext, WaitsFlush, phase_after, phase_run}
-use Rattle.law_parts.proofs.Footprint.Commits.{finish_stores, seek_stores, start_stores}
-use Rattle.law_parts.proofs.Footprint.Keepers.{keeper_stores}
+use Rattle.law_refine.proofs.Footprint.Commits.{finish_stores, seek_stores, start_stores}
+use Rattle.law_refine.proofs.Footprint.Keepers.{keeper_stores}
 use Rattle.law_commit.specs.Floor.Stands.{PaperIsSound}
 use Rattle.law_commit.specs.Phases.Projected.{ShowsLife, ShowsSessions, session_phase_events}
 use Rattle.law_commit.specs.Phases.Running.{IsSafeRun, claim_runs, keeping_runs, maintain_runs, sitting_runs, turn_runs}

@@ -16,11 +16,11 @@ use Rattle.fkv_session.specs.Sessions.{session_ask}
 use Rattle.fkv_world.specs.Runs.{World, run}
 use Rattle.fkv_world.specs.World.{Event, Now, seat_at}
 use Rattle.law_log.specs.Ghosts.{Ghosts}
-use Rattle.law_parts.specs.Index.Finders.{SessionWork, Searches}
-use Rattle.law_parts.specs.Index.LifeEntries.{lists_seen}
-use Rattle.law_parts.specs.Index.Shows.{IsWork, seen_by_index}
-use Rattle.law_parts.proofs.OfIndex.LifeFacts.{life_asks, life_sound}
-use Rattle.law_parts.proofs.OfIndex.Permitted.{are_permitted}
+use Rattle.law_refine.specs.Index.Finders.{SessionWork, Searches}
+use Rattle.law_refine.specs.Index.LifeEntries.{lists_seen}
+use Rattle.law_refine.specs.Index.Shows.{IsWork, seen_by_index}
+use Rattle.law_refine.proofs.OfIndex.LifeFacts.{life_asks, life_sound}
+use Rattle.law_refine.proofs.OfIndex.Permitted.{are_permitted}
 use Rattle.law_refine.specs.Events.GhostEvents.{life_ghosts}
 use Rattle.law_refine.specs.Heads.Heads.{head_at}
 use Rattle.law_commit.specs.Linked.{MeetEmpty}

@@ -15,12 +15,12 @@ use Rattle.fkv_world.specs.Runs.{World, happens, run}
 use Rattle.fkv_world.specs.World.{Event, Calls, Moves, Now, life_goes, near, seat_at, session_calls, session_moves}
 use Rattle.fkv_world.proofs.Shown.{is_over, lives, session_apart, session_written}
 use Rattle.law_log.specs.Ghosts.{Ghosts}
-use Rattle.law_parts.specs.Index.Finders.{IndexPart, Search, NoWork, Searches, session_part}
-use Rattle.law_parts.specs.Index.Shows as index
-use Rattle.law_parts.proofs.OfIndex.Moved.{moves_on}
-use Rattle.law_parts.proofs.OfIndex.Permitted.{are_permitted}
-use Rattle.law_parts.proofs.OfIndex.SessionParts.{Homes, SittingKnows, call_goes, idle_part}
-use Rattle.law_parts.proofs.OfIndex.Worlds.{opening_holds, run_holds}
+use Rattle.law_refine.specs.Index.Finders.{IndexPart, Search, NoWork, Searches, session_part}
+use Rattle.law_refine.specs.Index.Shows as index
+use Rattle.law_refine.proofs.OfIndex.Moved.{moves_on}
+use Rattle.law_refine.proofs.OfIndex.Permitted.{are_permitted}
+use Rattle.law_refine.proofs.OfIndex.SessionParts.{Homes, SittingKnows, call_goes, idle_part}
+use Rattle.law_refine.proofs.OfIndex.Worlds.{opening_holds, run_holds}
 use Rattle.law_refine.specs.Events.GhostEvents.{life_ghosts}
 use Rattle.law_refine.specs.Heads.Heads.{head_at}
 use Rattle.law_commit.specs.Linked.{HasMetEmpty, HaveMetEmpty, IsLinking, LinksFor}

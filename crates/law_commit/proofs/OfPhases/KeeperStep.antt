@@ -50,10 +50,10 @@ use Rattle.fkv_keeper.specs.Keeping.{KeeperState, device_passed, keeper_ask, kee
 use Rattle.fkv_world.specs.Actors.{slot_asked}
 use Rattle.fkv_world.specs.Moves.{keeper_asks, keeper_gets, keeper_moved, keeper_settled}
 use Rattle.fkv_world.specs.World.{Now, near, with_keeper}
-use Rattle.law_parts.specs.Footprint.{Spares, ThePhase}
-use Rattle.law_parts.proofs.Footprint.Commits.{finish_stores, seek_stores, start_stores}
-use Rattle.law_parts.proofs.Footprint.Keepers.{keeper_stores}
-use Rattle.law_parts.proofs.Footprint.Maintains.{maintain_stores}
+use Rattle.law_refine.specs.Footprint.{Spares, ThePhase}
+use Rattle.law_refine.proofs.Footprint.Commits.{finish_stores, seek_stores, start_stores}
+use Rattle.law_refine.proofs.Footprint.Keepers.{keeper_stores}
+use Rattle.law_refine.proofs.Footprint.Maintains.{maintain_stores}
 use Rattle.law_commit.specs.Phases.Staged.{DefersPending, DefersProgress, FinishAt, FitsVersion, Holder, InSlot, IsStaged, KeeperAt, OnlyOut, SeekAt, Stage, StageAfter, StartAt, StepAt, WithKeeper, defer_moves, enter_moves, finish_moves, finish_number, held, held_at, is_resting, keeper_hand, keeping_hand, keeping_moves, keeping_number, maintain_hand, phase_in, seek_moves, stage_out, stage_phase, stage_run, stage_version, stage_word, start_moves}
 use Rattle.law_commit.proofs.OfPhases.KeeperHands.{PutsAt, keeper_called_hand, keeper_given_hand, keeper_next_none, keeper_puts_at}
 use Rattle.law_commit.proofs.OfPhases.KeeperStages.{KeeperSays, keeper_called_at, keeper_given_at, keeper_replied_at}

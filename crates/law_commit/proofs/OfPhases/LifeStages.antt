@@ -27,14 +27,14 @@ use Rattle.fkv_world.specs.OwnEvents.{session_events}
 use Rattle.fkv_world.specs.Opened.{HasBecome, IsOpenedWorld}
 use Rattle.fkv_world.specs.Runs.{World, read_by_keeper, run}
 use Rattle.fkv_world.specs.World.{Calls, Commits, Crashes, Event, KeeperMoves, Moves, Now, Turns, keeper_asked, life_goes, near, seat_at, session_calls, session_moves, with_keeper, with_session}
-use Rattle.law_guard.specs.Guarded.Shows as guard
-use Rattle.law_guard.specs.Guarded.Shows.{seen_by_guard}
-use Rattle.law_guard.proofs.OfGuarded.Slots.{life_keeper_rests, life_session_rests}
-use Rattle.law_guard.proofs.OfGuarded.Worlds.{life_shows}
-use Rattle.law_parts.specs.Footprint.{Spares, ThePhase}
-use Rattle.law_parts.proofs.Footprint.Keepers.{keeper_stores}
-use Rattle.law_parts.proofs.Footprint.Lives.{keeper_spares}
-use Rattle.law_parts.proofs.Footprint.Sessions.{SessionRests, session_asks_spares, sitting_stores}
+use Rattle.law_world.specs.Guarded.Shows as guard
+use Rattle.law_world.specs.Guarded.Shows.{seen_by_guard}
+use Rattle.law_world.proofs.OfGuarded.Slots.{life_keeper_rests, life_session_rests}
+use Rattle.law_world.proofs.OfGuarded.Worlds.{life_shows}
+use Rattle.law_refine.specs.Footprint.{Spares, ThePhase}
+use Rattle.law_refine.proofs.Footprint.Keepers.{keeper_stores}
+use Rattle.law_refine.proofs.Footprint.Lives.{keeper_spares}
+use Rattle.law_refine.proofs.Footprint.Sessions.{SessionRests, session_asks_spares, sitting_stores}
 use Rattle.law_commit.specs.Accepted.{HasRisingVersion}
 use Rattle.law_commit.specs.PhaseVersions.{HasRisingPhase, NoneIsAhead, RestIsNext, RestsAreNext, phase_version, version_said}
 use Rattle.law_commit.specs.Phases.Staged.{DefersPending, DefersProgress, EarlyAt, FitsVersion, Flushes, Holder, InSlot, IsStaged, KeeperAt, OnlyOut, OpensAtRest, Pends, Prepares, Progresses, Rests, Stage, StepAt, WithKeeper, WithSession, hand_found, held, keeper_hand, keeping_hand, phase_in, sitting_hand, stage_out, stage_phase, stage_version}

@@ -23,13 +23,13 @@ use Rattle.fkv_world.specs.Opened.{HasBecome}
 use Rattle.fkv_world.specs.Runs.{World, run}
 use Rattle.fkv_world.specs.World.{Event}
 use Rattle.law_world.proofs.OfSessions.OwnRun.{of_run}
-use Rattle.law_guard.specs.Guarded.LoadedSince.{HaveLoadedSince}
-use Rattle.law_guard.specs.Guarded.Shows as guard
-use Rattle.law_guard.specs.Guarded.Shows.{seen_by_guard}
-use Rattle.law_guard.specs.Sessions.Catches.{catch_machine, held_machine, protect_machine, refresh_machine}
-use Rattle.law_guard.specs.Sessions.Sessions.{is_protected_at, is_protected_catching, sitting_likeness}
-use Rattle.law_guard.proofs.OfGuarded.LoadedSince.{life_safe_loaded}
-use Rattle.law_guard.proofs.OfGuarded.Worlds.{life_shows}
+use Rattle.law_world.specs.Guarded.LoadedSince.{HaveLoadedSince}
+use Rattle.law_world.specs.Guarded.Shows as guard
+use Rattle.law_world.specs.Guarded.Shows.{seen_by_guard}
+use Rattle.law_world.specs.GuardSessions.Catches.{catch_machine, held_machine, protect_machine, refresh_machine}
+use Rattle.law_world.specs.GuardSessions.Sessions.{is_protected_at, is_protected_catching, sitting_likeness}
+use Rattle.law_world.proofs.OfGuarded.LoadedSince.{life_safe_loaded}
+use Rattle.law_world.proofs.OfGuarded.Worlds.{life_shows}
 use Rattle.law_commit.specs.Phases.Stamped.{CatchStamped, HeldStamped, IsOf, IsUnderWay, ProtectStamped, RefreshStamped, SessionStamped, SittingStamped, is_live, is_live_at}
 use Rattle.law_commit.specs.Views.{Sight, View, sight_found, sight_in, sight_of}
 use Rattle.law_commit.proofs.OfPhases.GuardLoads.{IsBlind, rest_blind}

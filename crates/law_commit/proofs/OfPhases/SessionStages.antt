@@ -33,9 +33,9 @@ use Rattle.fkv_commit.specs.Commits.{version_after}
 use Rattle.fkv_world.specs.Actors.{slot_asked}
 use Rattle.fkv_world.specs.Moves.{session_asks, session_gets, session_moved, session_settled}
 use Rattle.fkv_world.specs.World.{Now, near, seat_at, with_session}
-use Rattle.law_parts.specs.Footprint.{Spares, ThePhase, stores_phase}
-use Rattle.law_parts.proofs.Footprint.OwnTurns.{turn_stores}
-use Rattle.law_parts.proofs.Footprint.Sessions.{sitting_stores}
+use Rattle.law_refine.specs.Footprint.{Spares, ThePhase, stores_phase}
+use Rattle.law_refine.proofs.Footprint.OwnTurns.{turn_stores}
+use Rattle.law_refine.proofs.Footprint.Sessions.{sitting_stores}
 use Rattle.law_commit.specs.Phases.Staged.{DefersPending, DefersProgress, FitsVersion, Flushes, InSlot, IsStaged, KeeperAt, OnlyOut, Pends, Prepares, Progresses, Rests, Stage, WithSession, claim_hand, hand_found, held, held_at, phase_in, session_hand, sitting_hand, stage_out, stage_phase, stage_run, stage_version, stage_word, turn_hand}
 use Rattle.law_commit.proofs.OfPhases.OneOut.{dropped, fewer, session_empties, session_put, session_same, session_takes, taken}
 use Rattle.law_commit.proofs.OfPhases.SessionHands.{PutsNone, session_given_hand, session_next_none, session_puts}

@@ -14,8 +14,8 @@ use Rattle.fkv_keeper.specs.Keeping.{KeeperState, commit_asked, keeper_ask, keep
 use Rattle.fkv_session.specs.Sessions.{SessionState}
 use Rattle.fkv_world.specs.Moves.{keeper_gets}
 use Rattle.fkv_world.specs.World.{Now, keeper_asked}
-use Rattle.law_parts.proofs.Footprint.Commits.{finish_stores, seek_stores, start_stores}
-use Rattle.law_parts.proofs.Footprint.Keepers.{keeper_stores}
+use Rattle.law_refine.proofs.Footprint.Commits.{finish_stores, seek_stores, start_stores}
+use Rattle.law_refine.proofs.Footprint.Keepers.{keeper_stores}
 use Rattle.law_commit.specs.Phases.Staged.{KeeperAt, Stage, StageAfter, keeper_hand, keeping_moves, keeping_number, session_hand, stage_run}
 use Rattle.law_commit.proofs.OfPhases.KeeperHands.{PutsAt}
 

@@ -49,12 +49,12 @@ use Rattle.fkv_world.specs.Runs.{World, run}
 use Rattle.fkv_world.specs.World.{Event, seat_at}
 use Rattle.fkv_world.proofs.Shown.{places_stay, same_seat}
 use Rattle.law_world.proofs.OfSessions.OwnRun.{of_run, opened_so}
-use Rattle.law_guard.specs.Guarded.Shows as guard
+use Rattle.law_world.specs.Guarded.Shows as guard
 use Rattle.law_paper.specs.Apart.{IsBetween}
 use Rattle.law_paper.specs.Phases as paper
-use Rattle.law_parts.specs.Latches.Latchers.{attempt_alone, attempt_latching, catch_latching, held_if, its_latch, session_latching, sitting_alone, sitting_latching, try_alone, try_latching}
-use Rattle.law_parts.specs.Latches.Shows as latches
-use Rattle.law_parts.specs.Latches.Shows.{Shows, seen_by_latches}
+use Rattle.law_refine.specs.Latches.Latchers.{attempt_alone, attempt_latching, catch_latching, held_if, its_latch, session_latching, sitting_alone, sitting_latching, try_alone, try_latching}
+use Rattle.law_refine.specs.Latches.Shows as latches
+use Rattle.law_refine.specs.Latches.Shows.{Shows, seen_by_latches}
 use Rattle.law_commit.specs.Floor.Stands.{HasFloor, OpensSeen, PaperHasFloor, PaperIsSound, stage_number}
 use Rattle.law_commit.specs.PhaseVersions.{NoneIsAhead, phase_version}
 use Rattle.law_commit.specs.Phases.Projected.{is_coming, paper_view}

@@ -20,9 +20,9 @@ use Rattle.fkv_world.specs.Opened.{HasBecome, IsOpenedWorld}
 use Rattle.fkv_world.specs.Runs.{World, run}
 use Rattle.fkv_world.specs.World.{Event}
 use Rattle.fkv_world.proofs.Shown.{session_runs}
-use Rattle.law_parts.specs.Latches.LatchEvents.{mapped}
-use Rattle.law_parts.specs.Latches.Latchers.{session_alone, session_latching}
-use Rattle.law_parts.specs.Latches.Shows.{Shows, seen_by_latches}
+use Rattle.law_refine.specs.Latches.LatchEvents.{mapped}
+use Rattle.law_refine.specs.Latches.Latchers.{session_alone, session_latching}
+use Rattle.law_refine.specs.Latches.Shows.{Shows, seen_by_latches}
 
 -- ---- there are as many actors as sessions
 set_length : {A : Type 0} (xs : List A) (i : ℕ) (x : A) → length (slice_set xs i x) ≡ length xs

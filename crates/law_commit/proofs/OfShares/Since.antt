@@ -25,8 +25,8 @@ use Rattle.fkv_world.specs.OwnEvents.{session_events, session_part_of}
 use Rattle.fkv_world.specs.Runs.{World, run}
 use Rattle.fkv_world.specs.World.{Event, Now, seat_at}
 use Rattle.fkv_world.proofs.Shown.{same_seat, session_runs}
-use Rattle.law_guard.specs.Guarded.Shows as guard
-use Rattle.law_parts.specs.Latches.Shows as latches
+use Rattle.law_world.specs.Guarded.Shows as guard
+use Rattle.law_refine.specs.Latches.Shows as latches
 use Rattle.law_local.specs.Sessions.Inputs.{AttemptsSo, TriesFor}
 use Rattle.law_local.specs.Sessions.Known.{is_attempting}
 use Rattle.law_local.proofs.OfSessions.Lists.{AllBut, AllKnown, all_left}

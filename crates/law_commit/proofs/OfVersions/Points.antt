@@ -10,7 +10,7 @@ use Rattle.fkv_world.specs.Opened.{HasBecome}
 use Rattle.fkv_world.specs.OwnEvents.{session_events}
 use Rattle.fkv_world.specs.Runs.{World}
 use Rattle.fkv_world.specs.World.{Event, seat_at}
-use Rattle.law_guard.specs.Guarded.Shows as guard
+use Rattle.law_world.specs.Guarded.Shows as guard
 use Rattle.law_world.proofs.OfSessions.OwnRun.{opened_so}
 use Rattle.law_commit.specs.Accepted.{NeverFall, count_upto, serial_at, serial_of, versions_accepted, versions_of}
 use Rattle.law_commit.specs.Phases.Staged.{OpensAtRest}

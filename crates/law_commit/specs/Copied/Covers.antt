@@ -17,7 +17,7 @@ use Rattle.fkv_world.specs.Runs.{World, run}
 use Rattle.fkv_world.specs.World.{Event, Now}
 use Rattle.law_log.specs.Ghosts.{Log}
 use Rattle.law_log.specs.Trace.{IsIn}
-use Rattle.law_parts.specs.Index.Shows.{seen_by_index}
+use Rattle.law_refine.specs.Index.Shows.{seen_by_index}
 use Rattle.law_refine.specs.Events.GhostEvents.{home_number}
 use Rattle.law_refine.specs.Heads.Heads.{head_at}
 use Rattle.law_commit.specs.Copied.Runs.{keeper_copies}

@@ -16,7 +16,7 @@ use Rattle.fkv_keeper.specs.KeeperRun.{KeeperEvent, Replies, Writing, keeper_run
 use Rattle.fkv_world.specs.OwnEvents.{keeper_part_of}
 use Rattle.fkv_world.specs.Runs.{World, run}
 use Rattle.fkv_world.specs.World.{Event}
-use Rattle.law_parts.specs.Index.IndexEvents.{index_events}
+use Rattle.law_refine.specs.Index.IndexEvents.{index_events}
 
 -- A copy begins where a reply leads the keeper to copy, and each reply from there on is a step of it.
 abbrev pub copy_moves : Keeping → KeeperEvent → Keeping → List CopyEvent

@@ -12,7 +12,7 @@ use Rattle.fkv_world.specs.Runs.{World}
 use Rattle.fkv_world.specs.World.{Event}
 use Rattle.law_log.specs.Ghosts.{Ghosts, Log}
 use Rattle.law_log.specs.Trace.{IsIn}
-use Rattle.law_parts.specs.Index.Shows as index
+use Rattle.law_refine.specs.Index.Shows as index
 use Rattle.law_refine.specs.Events.GhostEvents.{life_ghosts}
 use Rattle.law_refine.specs.Events.Reserved.{IsUnbornFrom, ReservesNothing, tail_at}
 use Rattle.law_refine.specs.Heads.Heads.{LeadToHeads}

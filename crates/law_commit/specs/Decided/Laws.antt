@@ -13,11 +13,11 @@ use Rattle.fkv_session.specs.Sessions.{SessionState}
 use Rattle.fkv_world.specs.Opened.{HasBecome, IsOpenedWorld}
 use Rattle.fkv_world.specs.Runs.{World, run}
 use Rattle.fkv_world.specs.World.{Event, Now}
-use Rattle.law_guard.specs.Guarded.Shows as guard
+use Rattle.law_world.specs.Guarded.Shows as guard
 use Rattle.law_log.specs.Chains.{Cell, Reserved}
 use Rattle.law_log.specs.Ghosts.{Ghosts}
 use Rattle.law_log.specs.Trace.{IsIn}
-use Rattle.law_parts.specs.Index.Shows as index
+use Rattle.law_refine.specs.Index.Shows as index
 use Rattle.law_refine.specs.Heads.Heads.{LeadToHeads}
 use Rattle.fkv_checkpoint.specs.Triples.{CopiedEntry}
 use Rattle.law_refine.specs.Events.GhostEvents.{life_ghosts}

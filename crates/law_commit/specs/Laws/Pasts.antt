@@ -10,7 +10,7 @@ use Rattle.fkv_world.specs.Opened.{HasBecome, IsOpenedWorld}
 use Rattle.fkv_world.specs.OwnEvents.{keeper_events, session_events}
 use Rattle.fkv_world.specs.Runs.{World, run}
 use Rattle.fkv_world.specs.World.{Event, KeeperMoves, seat_at}
-use Rattle.law_guard.specs.Guarded.Shows.{IsOpened}
+use Rattle.law_world.specs.Guarded.Shows.{IsOpened}
 use Rattle.law_commit.specs.Accepted.{HasRisingVersion, NeverFall, point, serial_at}
 use Rattle.law_commit.specs.BegunCommits.{AreInTurn, AtKeeping}
 use Rattle.law_commit.specs.FinishedCommits.{commits_finished, commits_told, told_of}

@@ -18,8 +18,8 @@ use Rattle.fkv_world.specs.Opened.{HasBecome}
 use Rattle.fkv_world.specs.OwnEvents.{session_events}
 use Rattle.fkv_world.specs.Runs.{World}
 use Rattle.fkv_world.specs.World.{Event, seat_at}
-use Rattle.law_guard.specs.Guarded.Shows as guard
-use Rattle.law_parts.specs.Latches.Shows as latches
+use Rattle.law_world.specs.Guarded.Shows as guard
+use Rattle.law_refine.specs.Latches.Shows as latches
 use Rattle.law_commit.specs.Floor.Stands.{OpensSeen}
 
 abbrev pub is_shifted : Ask TryAnswer → Bool

@@ -11,7 +11,7 @@ use Rattle.fkv_base.specs.declared.shapes.Shape.{Shape}
 use Rattle.fkv_epoch.specs.EpochWorld.{drain_word}
 use Rattle.fkv_flush.specs.Guarded as guard
 use Rattle.fkv_flush.specs.GuardSeen.{LastSeen}
-use Rattle.law_guard.specs.Sessions.Likenesses.{last_seen}
+use Rattle.law_world.specs.GuardSessions.Likenesses.{last_seen}
 use Rattle.fkv_keeper.specs.KeeperRun as keeper
 use Rattle.fkv_keeper.specs.KeeperRun.{is_in_hand}
 use Rattle.fkv_plane.specs.Places.{word_count}
@@ -23,8 +23,8 @@ use Rattle.fkv_core.specs.Openings.{IsOpeningSeen, IsOpeningWorld, beginning}
 use Rattle.fkv_ops.specs.declared.requests.Seen.{Seen}
 use Rattle.fkv_core.specs.OpeningWords.{words_before_frames, words_once}
 use Rattle.fkv_core.proofs.Shown.{length-before}
-use Rattle.law_guard.specs.Guarded.OpenedStore.{IsOpenedStore}
-use Rattle.law_guard.specs.Guarded.Shows.{IsOpened}
+use Rattle.law_world.specs.Guarded.OpenedStore.{IsOpenedStore}
+use Rattle.law_world.specs.Guarded.Shows.{IsOpened}
 use Rattle.law_opening.proofs.OfLives.Words.{IsParted, once_word, parted, session_word_at}
 
 -- the page of a place is at most two pages from the end of the room that is open

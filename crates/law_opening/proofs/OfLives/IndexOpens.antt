@@ -12,7 +12,7 @@ use Rattle.fkv_world.specs.World.{Now}
 use Rattle.fkv_core.specs.Openings.{IsOpeningWorld, beginning}
 use Rattle.fkv_core.specs.OpeningWords.{AreWordsOfOpened}
 use Rattle.fkv_core.proofs.Shown.{length-filled}
-use Rattle.law_parts.specs.Index.Shows.{IsOpened}
+use Rattle.law_refine.specs.Index.Shows.{IsOpened}
 use Rattle.law_opening.proofs.OfLives.GuardOpens.{enough, its_keeper_opens}
 use Rattle.law_opening.proofs.OfLives.Words.{index_word, taken_word}
 

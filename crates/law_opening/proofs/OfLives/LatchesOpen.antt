@@ -10,7 +10,7 @@ use Rattle.fkv_plane.specs.Places.{bucket_place}
 use Rattle.fkv_opening.specs.declared.opened_store.Opened.{Opened}
 use Rattle.fkv_world.specs.World.{Now}
 use Rattle.fkv_core.specs.Openings.{IsOpeningWorld}
-use Rattle.law_parts.specs.Latches.Shows.{IsOpened}
+use Rattle.law_refine.specs.Latches.Shows.{IsOpened}
 use Rattle.law_opening.proofs.OfLives.GuardOpens.{enough, its_keeper_opens}
 use Rattle.law_opening.proofs.OfLives.IndexOpens.{index_of}
 

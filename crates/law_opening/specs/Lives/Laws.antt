@@ -12,9 +12,9 @@ use Rattle.fkv_world.specs.Opened.{IsOpenedWorld}
 use Rattle.fkv_world.specs.OwnEvents.{keeper_events}
 use Rattle.fkv_world.specs.World.{Event, Now}
 use Rattle.fkv_core.specs.Openings.{IsOpeningWorld, beginning, newest_commit}
-use Rattle.law_guard.specs.Guarded.OpenedStore.{IsOpenedStore}
-use Rattle.law_parts.specs.Index.Shows as index
-use Rattle.law_parts.specs.Latches.Shows as latch
+use Rattle.law_world.specs.Guarded.OpenedStore.{IsOpenedStore}
+use Rattle.law_refine.specs.Index.Shows as index
+use Rattle.law_refine.specs.Latches.Shows as latch
 use Rattle.law_opening.specs.Lives.Made.{AllMade}
 use Rattle.law_opening.specs.Lives.OpenedFrom.{IsOpenedFrom}
 use Rattle.law_opening.specs.Lives.Reaching.{ReachesFar}

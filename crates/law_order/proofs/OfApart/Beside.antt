@@ -15,7 +15,7 @@ use Rattle.fkv_world.specs.Runs.{run}
 use Rattle.fkv_world.specs.World.{Event, Now, seat_at}
 use Rattle.law_apart.specs.Apart.Rows.{SharesRow, shares_now}
 use Rattle.law_commit.specs.Shares.Tries.{SharesSo, SharesTrying}
-use Rattle.law_guard.specs.Sessions.InPlace.{try_changes}
+use Rattle.law_world.specs.GuardSessions.InPlace.{try_changes}
 use Rattle.law_local.specs.Sessions.Known.{is_attempting}
 use Rattle.law_local.specs.Tries.AttemptRows.{AttemptRow}
 use Rattle.law_local.specs.Tries.AttemptRows as local

@@ -24,8 +24,8 @@ use Rattle.fkv_world.proofs.Shown.{places_stay, session_apart}
 use Rattle.law_apart.specs.Apart.Rows.{AttemptApart, PendingApart, RaisesNone, SessionApart, shares_now}
 use Rattle.law_apart.proofs.OfApart.Sessions.{ApartFacts, call_apart, step_apart}
 use Rattle.law_apart.proofs.OfApart.Stays as stays
-use Rattle.law_changes.proofs.OfSessions.Calm.{calm_known, is_calm, not_calm}
-use Rattle.law_changes.proofs.OfSessions.Comes.{Begins, SessionComes, Stays, Steps, session_comes}
+use Rattle.law_opening.proofs.OfChanges.OfSessions.Calm.{calm_known, is_calm, not_calm}
+use Rattle.law_opening.proofs.OfChanges.OfSessions.Comes.{Begins, SessionComes, Stays, Steps, session_comes}
 use Rattle.law_commit.specs.PhaseVersions.{phase_version}
 use Rattle.law_commit.proofs.OfVersions.Requests.{update_at}
 use Rattle.law_local.specs.Sessions.Known.{attempt_after, is_attempting}

@@ -36,7 +36,7 @@ use Rattle.fkv_world.proofs.Shown.{places_stay, shape_stays}
 use Rattle.fkv_epoch.proofs.Shown.{none_some, some_same}
 use Rattle.law_apart.specs.Apart.Rows.{AttemptApart, CopiesApart, CopiesRow, MovesOn, TryApart}
 use Rattle.law_apart.proofs.OfApart.Raises.{StandsAlready}
-use Rattle.law_changes.proofs.OfSessions.Attempting.{life_attempts}
+use Rattle.law_opening.proofs.OfChanges.OfSessions.Attempting.{life_attempts}
 use Rattle.law_local.specs.Sessions.Inputs.{AttemptsBy, IsTryFor, TriesFor}
 use Rattle.law_local.specs.Sessions.Known.{is_attempting}
 use Rattle.law_local.specs.Tries.AttemptRows.{AttemptRow}
@@ -53,8 +53,8 @@ use Rattle.law_order.specs.Known.Knows.{SessionKnows}
 use Rattle.law_order.proofs.OfApart.Along.{PublishesApart}
 use Rattle.law_order.proofs.OfApart.Moments.{attempt_settled, gone}
 use Rattle.law_order.proofs.OfApart.Sharers.{makes_alone, same_latch}
-use Rattle.law_parts.specs.Latches.InTries.{session_held}
-use Rattle.law_parts.specs.Latches.Latchers.{its_latch}
+use Rattle.law_refine.specs.Latches.InTries.{session_held}
+use Rattle.law_refine.specs.Latches.Latchers.{its_latch}
 use Rattle.law_refine.specs.Events.Effects.{PublishesIt, mover_step}
 use Rattle.law_refine.specs.Events.GhostEvents.{home_in, life_ghosts}
 use Rattle.law_refine.specs.Events.Reservations.{Reservation, append_reserves, attempt_reserves, invalidate_reserves, try_reserves}

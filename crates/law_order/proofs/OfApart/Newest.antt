@@ -37,7 +37,7 @@ use Rattle.fkv_world.proofs.Shown.{shape_stays}
 use Rattle.law_apart.specs.Apart.Rows.{AttemptApart, IsLater, SearchTells, TellsApart, TellsSharer, TryApart, is_linking, is_lost}
 use Rattle.law_apart.proofs.OfApart.Links.{full_links}
 use Rattle.law_apart.proofs.OfApart.Tries.{sharers_pass}
-use Rattle.law_changes.proofs.OfSessions.Attempting.{attempting_is}
+use Rattle.law_opening.proofs.OfChanges.OfSessions.Attempting.{attempting_is}
 use Rattle.law_commit.specs.PhaseVersions.{phase_version}
 use Rattle.law_commit.specs.Shares.Tries.{SharesAttempting, SharesInHand, SharesSo, SharesTrying}
 use Rattle.law_commit.specs.Versions.Laws.{OpensWithLog}
@@ -49,9 +49,9 @@ use Rattle.law_commit.proofs.OfLinked.Lives.{life_meets}
 use Rattle.law_commit.proofs.OfShares.Alone.{tries_share}
 use Rattle.law_commit.proofs.OfVersions.Life.{cells_upto, sees_older}
 use Rattle.law_commit.proofs.Shown.{view_seen}
-use Rattle.law_guard.proofs.OfGuarded.OfLives.{life_in_order}
-use Rattle.law_guard.proofs.OfGuarded.Worlds.{life_shows}
-use Rattle.law_guard.specs.Guarded.Shows.{seen_by_guard}
+use Rattle.law_world.proofs.OfGuarded.OfLives.{life_in_order}
+use Rattle.law_world.proofs.OfGuarded.Worlds.{life_shows}
+use Rattle.law_world.specs.Guarded.Shows.{seen_by_guard}
 use Rattle.law_local.specs.Sessions.Known.{is_attempting}
 use Rattle.law_local.specs.Tries.AttemptRows.{AttemptRow}
 use Rattle.law_local.specs.Tries.AttemptRows as local
@@ -71,11 +71,11 @@ use Rattle.law_order.specs.Known.Told.{reply_in}
 use Rattle.law_order.proofs.OfApart.Heart.{became, seen_in}
 use Rattle.law_order.proofs.OfApart.Moments.{attempt_newest, attempt_prepared, attempt_upto, awake}
 use Rattle.law_order.proofs.OfTruth.Frames.{published_below}
-use Rattle.law_parts.specs.Index.Finders.{Search, Searches, SessionWork, session_part}
-use Rattle.law_parts.specs.Index.Finders as finders
-use Rattle.law_parts.specs.Index.Shows.{IsWork, seen_by_index}
-use Rattle.law_parts.proofs.OfIndex.LifeFacts.{life_asks, life_sound}
-use Rattle.law_parts.proofs.OfIndex.Permitted.{are_permitted}
+use Rattle.law_refine.specs.Index.Finders.{Search, Searches, SessionWork, session_part}
+use Rattle.law_refine.specs.Index.Finders as finders
+use Rattle.law_refine.specs.Index.Shows.{IsWork, seen_by_index}
+use Rattle.law_refine.proofs.OfIndex.LifeFacts.{life_asks, life_sound}
+use Rattle.law_refine.proofs.OfIndex.Permitted.{are_permitted}
 use Rattle.law_refine.specs.Events.GhostEvents.{home_number, life_ghosts, mapped}
 use Rattle.law_refine.specs.Events.Reserved.{tail_at}
 use Rattle.law_refine.specs.Heads.Searches.{IsWorkAt, home_attempted}

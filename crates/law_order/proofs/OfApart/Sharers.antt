@@ -26,8 +26,8 @@ use Rattle.fkv_session.specs.Sessions.{Seat, SessionState, bits_of}
 use Rattle.fkv_session.specs.Shares.{is_sharing, latch_of, sharing}
 use Rattle.law_apart.specs.Apart.Rows.{shares_now}
 use Rattle.law_local.specs.Sessions.Known.{is_attempting}
-use Rattle.law_parts.specs.Latches.InTries.{attempt_held, own_held, session_held}
-use Rattle.law_parts.specs.Latches.Latchers.{attempt_alone, its_latch, session_alone, sitting_alone, try_alone}
+use Rattle.law_refine.specs.Latches.InTries.{attempt_held, own_held, session_held}
+use Rattle.law_refine.specs.Latches.Latchers.{attempt_alone, its_latch, session_alone, sitting_alone, try_alone}
 use Rattle.law_refine.specs.Events.GhostEvents.{home_in}
 use Rattle.law_refine.proofs.OfHeads.Entries.{same_home}
 

@@ -23,12 +23,12 @@ use Rattle.fkv_world.specs.Runs.{World, read_by_keeper, happens, run}
 use Rattle.fkv_world.specs.World.{Event, Calls, Moves, Now, seat_at, near, session_called}
 use Rattle.fkv_world.proofs.Shown.{is_over, same_seat, session_apart, session_written}
 use Rattle.law_world.proofs.OfRuns.Nothing.{none_then}
-use Rattle.law_guard.specs.Guarded.Shows as guard
-use Rattle.law_parts.specs.Mail.MailEvents.{begins, changed_by, asked_by, own_events, begun_events, called_events, moved_events, life_events, mapped}
-use Rattle.law_parts.specs.Mail.Mailers.{session_mailing, IsAsFar}
-use Rattle.law_parts.specs.Mail.Reads.{mail_notes, mail_past}
-use Rattle.law_parts.specs.Mail.Shows.{IsOpened, mail_opening, seen_by_mailbox}
-use Rattle.law_parts.proofs.OfMail.Lives.{life_shows, life_sound}
+use Rattle.law_world.specs.Guarded.Shows as guard
+use Rattle.law_refine.specs.Mail.MailEvents.{begins, changed_by, asked_by, own_events, begun_events, called_events, moved_events, life_events, mapped}
+use Rattle.law_refine.specs.Mail.Mailers.{session_mailing, IsAsFar}
+use Rattle.law_refine.specs.Mail.Reads.{mail_notes, mail_past}
+use Rattle.law_refine.specs.Mail.Shows.{IsOpened, mail_opening, seen_by_mailbox}
+use Rattle.law_refine.proofs.OfMail.Lives.{life_shows, life_sound}
 use Rattle.law_order.specs.Asked.Asked.{AsksForSought, HaveAskedSought, LooksForAsked, outstanding}
 use Rattle.law_order.proofs.OfAsked.Askers.{asker, askers, AllSought}
 use Rattle.law_order.proofs.OfAsked.Facts.{asks_looks, asks_puts, asks_sought}

@@ -28,7 +28,7 @@ use Rattle.fkv_session.specs.declared.sessions.Sitting.TheVariants.{Attempts, Cl
 use Rattle.fkv_session.specs.Sessions.{SessionState, Seat, bits_of, room_of, sitting_ask, session_ask}
 use Rattle.fkv_session.specs.Shares.{HasItsBuckets}
 use Rattle.fkv_world.specs.Moves.{Near, session_gets, session_settled, session_replied, session_asks}
-use Rattle.law_parts.specs.Mail.Mailers.{attempt_mailing, sitting_mailing, session_mailing}
+use Rattle.law_refine.specs.Mail.Mailers.{attempt_mailing, sitting_mailing, session_mailing}
 use Rattle.law_order.proofs.OfAsked.Attempts.{PutsSought, AttemptAt}
 use Rattle.law_order.proofs.OfAsked.Sitting.{IsAttempt, SitsAsking, SessionAsks, given_asks, next_asks}
 use Rattle.law_order.proofs.OfAsked.Told.{IsAt, Told, under_way}

@@ -19,8 +19,8 @@ use Rattle.fkv_pending.specs.Mailbox.{MailNote, MailPast, past_moved, served_not
 use Rattle.fkv_session.specs.Sessions.{SessionState, session_ask}
 use Rattle.fkv_world.specs.Actors.{is_of_session}
 use Rattle.fkv_world.specs.World.{Event, Calls, Moves, KeeperMoves, Now, seat_at}
-use Rattle.law_parts.specs.Mail.MailEvents.{begins, changed_by, own_events, begun_events, called_events, moved_events, served_events, record_read, life_events}
-use Rattle.law_parts.specs.Mail.Servers.{serving_of, is_serving}
+use Rattle.law_refine.specs.Mail.MailEvents.{begins, changed_by, own_events, begun_events, called_events, moved_events, served_events, record_read, life_events}
+use Rattle.law_refine.specs.Mail.Servers.{serving_of, is_serving}
 use Rattle.law_order.specs.Asked.Asked.{outstanding}
 use Rattle.law_order.proofs.OfAsked.Moved.{is_first}
 

@@ -48,7 +48,7 @@ use Rattle.fkv_session.specs.CatchingUp.{CatchState, refresh_begun, wake_begun, 
 use Rattle.fkv_session.specs.OwnTurns.{own_turn_ask, own_turn_begun, own_turn_given}
 use Rattle.fkv_session.specs.Sessions.{SessionState, Seat, bits_of, room_of, is_busy, answers, answers_after_turn, request_in_hand, attempts, polls_request, polls_at, refuses, refusal_of, op_begun, refresh_call, poll_begun, poll_call, sleep_call, wake_call, call_begun, session_begun, session_ask, session_next, session_given, attempt_left, serial_taken, update_done, shifts, ticket_after, is_no_room, with_request, accepts, attempted, attempt_ledto, caught_up, catch_ledto, clear_ledto, is_owed, request_finished, finishes_request, lacks_room, keeps_request, poll_ledto, turn_ledto, leave_ledto, attempt_moved, caught, own_turn_moved, sitting_next, sitting_given, asks_after, is_word_ask}
 use Rattle.fkv_session.specs.Shares.{HasItsBuckets}
-use Rattle.law_parts.specs.Mail.Mailers.{attempt_mailing, sitting_mailing, session_mailing}
+use Rattle.law_refine.specs.Mail.Mailers.{attempt_mailing, sitting_mailing, session_mailing}
 use Rattle.law_order.specs.Asked.Asked.{HasAskedSought}
 use Rattle.law_order.proofs.OfAsked.Askers.{asker, askers, asked_count, asked_most, AllSought, Await, askers_behind, askers_set, askers_left, none_asked, none_sought, all_behind, all_set, all_left, one_of, latched_await, all_then}
 use Rattle.law_order.proofs.OfAsked.Attempts.{EndsSo, asks_on, AttemptTold, AttemptAt, AttemptAsks, begun_asks, attempt_asks}

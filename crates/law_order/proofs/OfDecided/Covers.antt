@@ -12,7 +12,7 @@ use Rattle.fkv_opening.specs.declared.opened_store.Opened.{Opened}
 use Rattle.fkv_record.specs.declared.triples.Triple.{Triple}
 use Rattle.fkv_scan.specs.Log as scan
 use Rattle.fkv_world.specs.World.{Event, Now}
-use Rattle.law_changes.specs.Linked.{ChainsFall, IsFalling}
+use Rattle.law_opening.specs.Changes.Linked.{ChainsFall, IsFalling}
 use Rattle.law_log.specs.Chains.{head_of}
 use Rattle.law_log.specs.Ghosts.{Log}
 use Rattle.law_log.specs.Trace.{IsIn}

@@ -17,7 +17,7 @@ use Rattle.fkv_session.specs.declared.answers.Told.{Told}
 use Rattle.fkv_session.specs.declared.sessions.Sitting.{Sitting}
 use Rattle.fkv_session.specs.declared.sessions.Sitting.TheVariants.{Attempts, Polls}
 use Rattle.fkv_session.specs.Sessions.{SessionState, Seat, session_ask, session_next}
-use Rattle.law_guard.specs.Sessions.InPlace.{attempt_changes, sitting_changes, try_changes}
+use Rattle.law_world.specs.GuardSessions.InPlace.{attempt_changes, sitting_changes, try_changes}
 use Rattle.law_local.specs.Sessions.Inputs.{AttemptsBy}
 use Rattle.law_local.specs.Sessions.Known.{is_attempting}
 use Rattle.law_local.specs.Tries.AttemptRows.{AttemptRow, IsTrueOfAttempt, TriesFor}
@@ -47,7 +47,7 @@ use Rattle.law_refine.proofs.OfRecords.FrameOwners.{sees_safely}
 use Rattle.law_order.specs.Apart.Given.{Given}
 use Rattle.law_order.specs.Apart.Lives.{AllApartBehind, OpensApart}
 use Rattle.law_order.proofs.OfApart.Beside.{changes_none, publishes_none}
-use Rattle.law_changes.proofs.OfSessions.Attempting.{life_attempts}
+use Rattle.law_opening.proofs.OfChanges.OfSessions.Attempting.{life_attempts}
 use Rattle.law_order.proofs.OfKnown.Newest.{known_now}
 use Rattle.law_order.proofs.OfEnabled.InHand.{made_in_hand}
 use Rattle.law_order.proofs.OfEnabled.Ready.{AreTakesEnabled, AllTakeUnborn, behind_enabled, meets_then, takes_enabled, takes_unborn}

@@ -53,8 +53,8 @@ use Rattle.law_local.specs.Tries.TryRows.{IsEntryOf, TryKnows, cell_of}
 use Rattle.law_local.proofs.OfTries.Changes.{cas_enabled, reserve_enabled, swap_enabled}
 use Rattle.fkv_world.specs.Past.{Traced}
 use Rattle.law_refine.specs.Events.Appends.{append_ghosts, entry_made, invalidate_ghosts, publish_ghosts, reserved_ghosts}
-use Rattle.law_guard.specs.Sessions.InPlace.{attempt_changes, sitting_changes, try_changes}
-use Rattle.law_guard.specs.Sessions.Tries.{is_for_entry}
+use Rattle.law_world.specs.GuardSessions.InPlace.{attempt_changes, sitting_changes, try_changes}
+use Rattle.law_world.specs.GuardSessions.Tries.{is_for_entry}
 use Rattle.law_refine.specs.Events.Lines.{read_in_hand, read_waiting}
 use Rattle.law_refine.specs.Events.Sessions.{attempt_ghosts, sitting_ghosts, ticket_of, tried_ghosts, value_ghosts}
 use Rattle.law_refine.specs.Events.Tries.{find_ghosts, found_ghosts, search_ghosts, try_ghosts, walk_ghosts}

@@ -21,12 +21,12 @@ use Rattle.fkv_session.specs.Sessions.{SessionState, is_busy, session_ask}
 use Rattle.fkv_world.specs.Moves.{session_moved}
 use Rattle.fkv_world.specs.Runs.{World, read_by_keeper, run}
 use Rattle.fkv_world.specs.World.{Event, Calls, Moves, Commits, Turns, KeeperMoves, Crashes, Now, seat_at, near, session_called}
-use Rattle.law_parts.specs.Mail.MailEvents.{begins, changed_by, asked_by, own_events, moved_events, begun_events, called_events, served_events, record_read, keeper_events, life_events, mail_events, mapped}
-use Rattle.law_parts.specs.Mail.Mailers.{IsAsFar, session_mailing}
-use Rattle.law_parts.specs.Mail.Reads.{mail_notes, mail_past}
-use Rattle.law_parts.specs.Mail.Servers.{serving_of, is_serving}
-use Rattle.law_parts.specs.Mail.Shows.{IsOpened, mail_opening, seen_by_mailbox}
-use Rattle.law_parts.proofs.OfMail.Lives.{life_shows}
+use Rattle.law_refine.specs.Mail.MailEvents.{begins, changed_by, asked_by, own_events, moved_events, begun_events, called_events, served_events, record_read, keeper_events, life_events, mail_events, mapped}
+use Rattle.law_refine.specs.Mail.Mailers.{IsAsFar, session_mailing}
+use Rattle.law_refine.specs.Mail.Reads.{mail_notes, mail_past}
+use Rattle.law_refine.specs.Mail.Servers.{serving_of, is_serving}
+use Rattle.law_refine.specs.Mail.Shows.{IsOpened, mail_opening, seen_by_mailbox}
+use Rattle.law_refine.proofs.OfMail.Lives.{life_shows}
 use Rattle.law_order.specs.Asked.Asked.{outstanding}
 use Rattle.law_order.proofs.OfLooks.Asking.{NoMoves, others_out, step_out}
 

@@ -4,9 +4,9 @@ use Rattle.std.specs.Prelude.{Some, slice_get}
 use Rattle.fkv_session.specs.Sessions.{SessionState}
 use Rattle.fkv_world.specs.Runs.{run}
 use Rattle.fkv_world.specs.World.{Event}
-use Rattle.law_changes.proofs.OfMails.Life.{its_seat}
+use Rattle.law_opening.proofs.OfChanges.OfMails.Life.{its_seat}
 use Rattle.law_order.specs.Known.Begins.{BegunLife}
-use Rattle.law_parts.specs.Mail.Shows as mail
+use Rattle.law_refine.specs.Mail.Shows as mail
 
 pub its_mailbox : (life : BegunLife) (events : List Event) (session : ℕ) (s : SessionState)
     → slice_get (run life.opening events).now.sessions session ≡ Some s → mail.IsOpened life.opening.now session

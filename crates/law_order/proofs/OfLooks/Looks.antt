@@ -31,12 +31,12 @@ use Rattle.fkv_world.specs.World.{Event, Now, seat_at}
 use Rattle.law_order.specs.Known.Begins.{BegunLife, home_of_world}
 use Rattle.law_order.specs.Known.Knows.{AreKnown}
 use Rattle.law_order.specs.Known.Told.{LookTruly, reply_in}
-use Rattle.law_parts.specs.Mail.Reads.{ReadSince, mail_notes}
-use Rattle.law_parts.specs.Mail.Shows as mail
+use Rattle.law_refine.specs.Mail.Reads.{ReadSince, mail_notes}
+use Rattle.law_refine.specs.Mail.Shows as mail
 use Rattle.law_refine.specs.Events.GhostEvents.{life_ghosts, mapped}
 use Rattle.law_order.specs.Served.Served.{ServedShow}
 use Rattle.law_order.proofs.OfServed.Later.{life_enabled_before}
-use Rattle.law_changes.proofs.OfSessions.Attempting.{attempt_reply}
+use Rattle.law_opening.proofs.OfChanges.OfSessions.Attempting.{attempt_reply}
 use Rattle.law_order.specs.Asked.Asked.{LooksForAsked, outstanding}
 use Rattle.law_order.proofs.OfLooks.LifeMails.{its_mailbox}
 use Rattle.law_order.proofs.OfLooks.Ready.{HasReady, loads_ready, loads_word, look_mailing, ready_read}

@@ -17,12 +17,12 @@ use Rattle.fkv_session.specs.Sessions.{SessionState}
 use Rattle.law_local.specs.Sessions.Known.{is_attempting}
 use Rattle.fkv_world.specs.Runs.{World, run}
 use Rattle.fkv_world.specs.World.{Event, Now}
-use Rattle.law_parts.specs.Mail.Mailers.{IsAsFar, attempt_mailing, session_mailing, sitting_mailing}
-use Rattle.law_parts.specs.Mail.Reads.{ReadSince, mail_notes, mail_past}
-use Rattle.law_parts.specs.Mail.Shows.{IsOpened, seen_by_mailbox}
-use Rattle.law_parts.proofs.OfMail.ReadSteps.{AllRead}
-use Rattle.law_parts.proofs.OfMail.LifeReads.{life_read}
-use Rattle.law_parts.proofs.OfMail.Lives.{life_shows, life_sound}
+use Rattle.law_refine.specs.Mail.Mailers.{IsAsFar, attempt_mailing, session_mailing, sitting_mailing}
+use Rattle.law_refine.specs.Mail.Reads.{ReadSince, mail_notes, mail_past}
+use Rattle.law_refine.specs.Mail.Shows.{IsOpened, seen_by_mailbox}
+use Rattle.law_refine.proofs.OfMail.ReadSteps.{AllRead}
+use Rattle.law_refine.proofs.OfMail.LifeReads.{life_read}
+use Rattle.law_refine.proofs.OfMail.Lives.{life_shows, life_sound}
 
 -- ---- the machine with which an attempt looks for a record
 pub look_mailing : (s : SessionState) (step : Sitting) → is_attempting step ≡ true → s.attempt.step ≡ Looks → sitting_mailing s step ≡ Some s.attempt.mailing

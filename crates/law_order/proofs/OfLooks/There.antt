@@ -27,21 +27,21 @@ use Rattle.fkv_world.specs.Runs.{World, run}
 use Rattle.fkv_world.specs.World.{Event}
 use Rattle.law_order.specs.Known.Begins.{BegunLife, home_of_world}
 use Rattle.law_order.specs.Known.Knows.{AreKnown}
-use Rattle.law_parts.specs.Mail.MailEvents as mail
-use Rattle.law_parts.specs.Mail.Reads.{mail_notes, mail_past}
-use Rattle.law_parts.specs.Mail.Shows as mail_shows
+use Rattle.law_refine.specs.Mail.MailEvents as mail
+use Rattle.law_refine.specs.Mail.Reads.{mail_notes, mail_past}
+use Rattle.law_refine.specs.Mail.Shows as mail_shows
 use Rattle.law_refine.specs.Events.GhostEvents.{life_ghosts, mapped}
 use Rattle.law_refine.proofs.OfEvents.Fixed.{life_rises}
 use Rattle.law_order.proofs.OfServed.Device.{flushed_fixed}
 use Rattle.law_order.proofs.OfServed.Later.{life_enabled_before, life_stays}
-use Rattle.law_changes.proofs.OfSessions.Attempting.{attempting_is}
+use Rattle.law_opening.proofs.OfChanges.OfSessions.Attempting.{attempting_is}
 use Rattle.law_order.proofs.OfTruth.Attempts.{life_seen}
 use Rattle.law_order.proofs.OfKnown.Newest.{known_now}
 use Rattle.law_order.specs.Asked.Asked.{AsksForSought, outstanding}
-use Rattle.law_changes.proofs.OfSessions.Heads.{head_flushed}
+use Rattle.law_opening.proofs.OfChanges.OfSessions.Heads.{head_flushed}
 use Rattle.law_order.proofs.OfLooks.LifeAsks.{IsAboutToAsk, was_or_comes}
-use Rattle.law_changes.proofs.OfMails.Life.{life_mails}
-use Rattle.law_changes.proofs.OfMails.SessionMails.{asks_by_put}
+use Rattle.law_opening.proofs.OfChanges.OfMails.Life.{life_mails}
+use Rattle.law_opening.proofs.OfChanges.OfMails.SessionMails.{asks_by_put}
 
 -- the record at an address is published, and flushed
 pub record IsThere (opening : World) (ghosts : Ghosts) (events : List Event) (a : ℕ) : Type 0 where

@@ -14,7 +14,7 @@ use Rattle.law_order.specs.Ordered.Keeps.{KeepsItsOrder, KeepsOrder}
 use Rattle.law_order.specs.Apart.Given.{Given}
 use Rattle.law_order.specs.Apart.Lives.{OpensApart}
 use Rattle.law_order.specs.Rules.Openings.{OpensItsEnds, OpensItsVersions}
-use Rattle.law_parts.specs.Latches.Shows as latches
+use Rattle.law_refine.specs.Latches.Shows as latches
 use Rattle.law_order.specs.Served.Fits.{CallsFit, CellsFit}
 use Rattle.law_order.proofs.OfTickets.Life.{tickets_apart}
 use Rattle.law_order.specs.OneHistory.EachLife.{InEachLife}

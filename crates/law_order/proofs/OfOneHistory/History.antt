@@ -7,7 +7,7 @@ use Rattle.fkv_world.specs.Opened.{IsOpenedWorld}
 use Rattle.fkv_world.specs.Past as world
 use Rattle.fkv_world.specs.Runs.{World, happens, run}
 use Rattle.fkv_world.specs.World.{Event}
-use Rattle.law_guard.specs.Guarded.Shows as guard
+use Rattle.law_world.specs.Guarded.Shows as guard
 use Rattle.law_log.specs.Chains.{Cell, Dropped, Logged, Published, Reserved, Unborn}
 use Rattle.law_log.specs.Ghosts.{Changes, Drops, GhostEvent, Ghosts, Log, Publishes, changed, dropped, effect_of, ghost_run, ghosts_after, log_after, published}
 use Rattle.law_log.specs.Trace.{Effect}

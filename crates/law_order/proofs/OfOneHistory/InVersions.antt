@@ -43,7 +43,7 @@ use Rattle.fkv_session.specs.Sessions.{SessionState, Seat, bits_of, room_of, ses
 use Rattle.fkv_world.specs.Past.{Traced}
 use Rattle.fkv_world.specs.Runs.{World, happens}
 use Rattle.fkv_world.specs.World.{Event, Moves, seat_at}
-use Rattle.law_guard.specs.Sessions.Tries.{is_for_entry}
+use Rattle.law_world.specs.GuardSessions.Tries.{is_for_entry}
 use Rattle.law_local.specs.Sessions.Known.{is_attempting}
 use Rattle.law_local.specs.Tries.AttemptRows.{AttemptKnows, AttemptRow}
 use Rattle.law_local.specs.Tries.OnWay.{IsFoundAt}

@@ -26,8 +26,8 @@ use Rattle.law_order.proofs.OfShifts.First.{none_first}
 use Rattle.law_order.proofs.OfShifts.Life.{AllShiftSo, none_then, shifts_first, shifts_then}
 use Rattle.law_order.specs.Served.Fits.{CallsFit, CellsFit}
 use Rattle.law_order.specs.Served.Served.{ServedShow}
-use Rattle.law_changes.proofs.OfDevice.There.{CallsLaw}
-use Rattle.law_changes.proofs.OfDevice.Words.{WordsLaw}
+use Rattle.law_opening.proofs.OfChanges.OfDevice.There.{CallsLaw}
+use Rattle.law_opening.proofs.OfChanges.OfDevice.Words.{WordsLaw}
 use Rattle.law_order.proofs.OfServed.Served.{served_show}
 use Rattle.law_order.proofs.OfTold.Enabled.{lines_enabled, mapped_crashed}
 use Rattle.law_order.proofs.OfTruth.Truth.{words_true}

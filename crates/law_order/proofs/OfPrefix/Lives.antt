@@ -7,7 +7,7 @@ use Rattle.fkv_map.specs.declared.history.HistoryEntry.{HistoryEntry}
 use Rattle.fkv_map.specs.Map.{Map}
 use Rattle.fkv_map.specs.History.{AreAtMost, IsLegal, IsWhole, content, kept, point_of}
 use Rattle.fkv_map.proofs.Shown.{content-append, IsLegal-append, kept-append, kept_again, kept_by_more, whole_of_lives}
-use Rattle.law_images.specs.Laws.Read.{ImagesReachFar}
+use Rattle.law_order.specs.Images.Laws.Read.{ImagesReachFar}
 use Rattle.law_order.specs.OneHistory.EachLife.{InEachLife, IsLife, Life}
 use Rattle.law_order.specs.Prefix.Law.{AreLives, BeginsWithKept, HoldsPrefix, IsKeptOf, LivesFollow, LivesReachFar, RecoversPrefix, first_of, history_so_far, kept_of_all, map_of, points_of}
 

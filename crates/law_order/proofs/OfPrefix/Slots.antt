@@ -10,7 +10,7 @@ use Rattle.fkv_index.specs.Slots.{bucket_slots, entry_addr, entry_tag, home_of}
 use Rattle.fkv_index.proofs.Shown.{homes_are_there, listed_taken}
 use Rattle.fkv_plane.specs.declared.places.Places.{Places}
 use Rattle.fkv_world.specs.World.{Now}
-use Rattle.law_changes.specs.Linked.{ChainsFall, IsFalling}
+use Rattle.law_opening.specs.Changes.Linked.{ChainsFall, IsFalling}
 use Rattle.law_log.specs.Chains.{head_of}
 use Rattle.law_log.specs.Ghosts.{Log}
 use Rattle.law_log.specs.Trace.{IsIn}

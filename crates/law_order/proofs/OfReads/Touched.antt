@@ -42,7 +42,7 @@ use Rattle.law_local.specs.Tries.AttemptRows.{AttemptRow}
 use Rattle.law_local.specs.Tries.ReadRows.{HasRead, finds_start, search_starts, walk_starts, try_starts, attempt_starts, tells_value, started, valued, reading_after}
 use Rattle.law_local.specs.Tries.TryRows.{TryRow}
 use Rattle.law_refine.specs.Events.Appends.{reserved_ghosts, publish_ghosts, invalidate_ghosts, append_ghosts}
-use Rattle.law_guard.specs.Sessions.Tries.{is_for_entry}
+use Rattle.law_world.specs.GuardSessions.Tries.{is_for_entry}
 use Rattle.law_refine.specs.Events.Sessions.{value_ghosts, tried_ghosts, attempt_ghosts}
 use Rattle.law_refine.specs.Events.Tries.{found_ghosts, find_ghosts, walk_ghosts, search_ghosts, try_ghosts}
 

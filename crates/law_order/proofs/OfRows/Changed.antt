@@ -43,8 +43,8 @@ use Rattle.fkv_session.specs.Sessions.{SessionState, Seat, bits_of, room_of, ses
 use Rattle.fkv_world.specs.Past.{Traced}
 use Rattle.fkv_world.specs.Runs.{World, happens}
 use Rattle.fkv_world.specs.World.{Event, Moves, seat_at}
-use Rattle.law_guard.specs.Sessions.InPlace.{attempt_changes, sitting_changes, try_changes}
-use Rattle.law_guard.specs.Sessions.Tries.{is_for_entry}
+use Rattle.law_world.specs.GuardSessions.InPlace.{attempt_changes, sitting_changes, try_changes}
+use Rattle.law_world.specs.GuardSessions.Tries.{is_for_entry}
 use Rattle.law_local.specs.Tries.TryRows.{cell_of}
 use Rattle.law_log.specs.Ghosts.{GhostEvent, Changes, Drops, Fixes, Reserves, Tells}
 use Rattle.law_log.specs.Trace.{TraceLine}

@@ -42,10 +42,10 @@ use Rattle.law_order.specs.Known.Knows.{AllKnowBehind, AreKnown, SessionKnows}
 use Rattle.law_order.specs.Known.Told.{AreToldTruly, reply_in}
 use Rattle.law_refine.specs.Events.GhostEvents.{life_ghosts, mapped}
 use Rattle.law_order.proofs.OfKnown.Newest.{known_now}
-use Rattle.law_changes.proofs.OfSessions.Attempting.{life_attempts}
-use Rattle.law_changes.proofs.OfSessions.Calm.{calm_known, is_calm, not_calm}
-use Rattle.law_changes.proofs.OfSessions.Comes.{SessionComes, Stays, Begins, Steps, session_comes}
-use Rattle.law_guard.specs.Sessions.InPlace.{try_changes}
+use Rattle.law_opening.proofs.OfChanges.OfSessions.Attempting.{life_attempts}
+use Rattle.law_opening.proofs.OfChanges.OfSessions.Calm.{calm_known, is_calm, not_calm}
+use Rattle.law_opening.proofs.OfChanges.OfSessions.Comes.{SessionComes, Stays, Begins, Steps, session_comes}
+use Rattle.law_world.specs.GuardSessions.InPlace.{try_changes}
 use Rattle.law_order.specs.Apart.Given.{Given}
 use Rattle.law_order.specs.Apart.Lives.{AllApartBehind, OpensApart}
 use Rattle.law_order.proofs.OfApart.Beside.{spares}

@@ -22,7 +22,7 @@ use Rattle.fkv_session.specs.Sessions.{SessionState}
 use Rattle.fkv_world.specs.World.{Now, seat_at}
 use Rattle.law_commit.specs.Cuts.{IsCutPlace, ShowCuts, ShowsCut, ShowsDurable}
 use Rattle.law_commit.proofs.OfCuts.Serials.{low_said}
-use Rattle.law_changes.proofs.OfDevice.Mailboxes.{are_told, words_told}
+use Rattle.law_opening.proofs.OfChanges.OfDevice.Mailboxes.{are_told, words_told}
 
 module _ (o : Opened) (n : Now) (its : IsOpeningWorld o n) (told : StandAsTold o n.words) where
   stands : (session : ℕ) (there : session < o.shape.sessions) → StandOfSession session (words_told o session there) n.words

@@ -20,7 +20,7 @@ use Rattle.fkv_world.specs.Runs.{World, happens, run}
 use Rattle.fkv_world.specs.World.{Event, Now}
 use Rattle.law_refine.proofs.OfCalls.SameHistory.{same_history}
 use Rattle.law_refine.specs.Calls.Calls.{event_adds}
-use Rattle.law_guard.specs.Guarded.Shows.{IsOpened}
+use Rattle.law_world.specs.Guarded.Shows.{IsOpened}
 use Rattle.law_refine.specs.Events.GhostEvents.{fixed_ghosts, ghost_events, home_in, mapped, own_ghosts, safe_at, serials_in}
 use Rattle.law_refine.specs.Events.Lines.{lines_added}
 use Rattle.law_refine.specs.Records.Changes.{AreChangesPublished}

@@ -9,7 +9,7 @@ use Rattle.fkv_world.specs.Runs.{World, run}
 use Rattle.fkv_world.specs.World.{Event, Now}
 use Rattle.law_refine.proofs.OfCalls.LifeHistory.{life_entries}
 use Rattle.law_refine.specs.Calls.Calls.{entries_of}
-use Rattle.law_guard.specs.Guarded.Shows.{ArePermitted, IsPermitted, IsOpened}
+use Rattle.law_world.specs.Guarded.Shows.{ArePermitted, IsPermitted, IsOpened}
 use Rattle.law_refine.proofs.OfRecords.Meets.{life_meets_published}
 use Rattle.law_refine.specs.Records.Changes.{AreChangesPublished}
 use Rattle.law_order.specs.Rules.Ordered.{effects_so_far}

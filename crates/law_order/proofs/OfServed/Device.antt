@@ -3,10 +3,10 @@ use Rattle.std.proofs.Common.{◌≡◌, ℕ, ◌<◌, ◌≤◌, subst, arith, 
 use Rattle.fkv_flush.specs.GuardLevels.{levels_of}
 use Rattle.fkv_world.specs.Runs.{run}
 use Rattle.fkv_world.specs.World.{Event}
-use Rattle.law_changes.proofs.Openings.{linked_log}
-use Rattle.law_changes.specs.Fits.{CellsFit}
-use Rattle.law_changes.specs.Laws.{BeginsFitting}
-use Rattle.law_guard.proofs.OfGuarded.Worlds.{life_shows}
+use Rattle.law_opening.proofs.OfChanges.Openings.{linked_log}
+use Rattle.law_opening.specs.Changes.Fits.{CellsFit}
+use Rattle.law_opening.specs.Changes.Laws.{BeginsFitting}
+use Rattle.law_world.proofs.OfGuarded.Worlds.{life_shows}
 use Rattle.law_order.specs.Known.Begins.{BegunLife, home_of_world}
 use Rattle.law_refine.proofs.OfEvents.Fixed.{ghost_fixed}
 use Rattle.law_refine.specs.Events.GhostEvents.{life_ghosts, safe_at}

@@ -12,7 +12,7 @@ use Rattle.fkv_session.specs.declared.sessions.Sitting.TheVariants.{Idle, Turns}
 use Rattle.fkv_session.specs.OwnTurns.{own_turn_ask, own_turn_given}
 use Rattle.fkv_session.specs.Sessions.{Seat, SessionState, asks_after, is_word_ask, own_turn_moved, session_ask, session_next, sitting_given, sitting_next, turn_ledto}
 use Rattle.fkv_world.specs.Moves.{Near, session_asks, session_gets, session_moved, session_replied, session_settled}
-use Rattle.law_changes.proofs.OfSessions.Calm.{is_calm}
+use Rattle.law_opening.proofs.OfChanges.OfSessions.Calm.{is_calm}
 
 turned_calm : (s : SessionState) (its : Told) (ask : Ask (Unit {0})) → s.step ≡ Turns its → is_calm (turn_ledto s its ask).step ≡ true
 unfolding turn_ledto

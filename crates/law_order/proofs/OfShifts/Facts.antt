@@ -51,7 +51,7 @@ use Rattle.fkv_world.proofs.Shown.{places_stay, shape_stays}
 use Rattle.law_apart.specs.Apart.Rows.{HasComeTo, HasMet, HasMetFirst, LatchRow, MetIn, SharesRow, TryApart, WalkApart}
 use Rattle.law_apart.proofs.OfApart.Tries.{came_stays}
 use Rattle.law_apart.proofs.OfApart.Walks.{walk_apart, walk_met}
-use Rattle.law_changes.proofs.OfSessions.Attempting.{life_attempts}
+use Rattle.law_opening.proofs.OfChanges.OfSessions.Attempting.{life_attempts}
 use Rattle.law_commit.specs.Phases.Projected.{SitsAwake}
 use Rattle.law_commit.specs.PhaseVersions.{phase_version, version_said}
 use Rattle.law_commit.specs.Floor.Stands.{FloorStands}

@@ -36,9 +36,9 @@ use Rattle.fkv_world.specs.Runs.{World, run}
 use Rattle.fkv_world.specs.World as world
 use Rattle.fkv_world.specs.World.{Calls, Commits, Crashes, Event, KeeperMoves, Moves, Now, near, seat_at}
 use Rattle.fkv_world.proofs.Shown.{same_seat, session_runs, session_runs_on}
-use Rattle.law_changes.proofs.OfSessions.Calm.{is_calm, not_calm}
-use Rattle.law_changes.proofs.OfSessions.Comes.{SessionComes, Stays, Steps, session_comes}
-use Rattle.law_changes.proofs.OfSessions.Comes as comes
+use Rattle.law_opening.proofs.OfChanges.OfSessions.Calm.{is_calm, not_calm}
+use Rattle.law_opening.proofs.OfChanges.OfSessions.Comes.{SessionComes, Stays, Steps, session_comes}
+use Rattle.law_opening.proofs.OfChanges.OfSessions.Comes as comes
 use Rattle.law_commit.specs.Quiet.{rank_now}
 use Rattle.law_commit.specs.Shares.Waiting.{ShareSitting, has_shifted, shifts_at, shifts_by}
 use Rattle.law_commit.proofs.OfQuiet.Ranks.{ranks_rise}

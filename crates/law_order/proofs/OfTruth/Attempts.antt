@@ -10,8 +10,8 @@ use Rattle.fkv_world.specs.Opened.{IsOpenedWorld}
 use Rattle.fkv_world.specs.Runs.{World, run}
 use Rattle.fkv_world.specs.World.{Event, seat_at}
 use Rattle.fkv_world.proofs.Shown.{same_seat}
-use Rattle.law_guard.specs.Guarded.Shows.{IsOpened}
-use Rattle.law_changes.proofs.OfSessions.Attempting.{life_attempts}
+use Rattle.law_world.specs.Guarded.Shows.{IsOpened}
+use Rattle.law_opening.proofs.OfChanges.OfSessions.Attempting.{life_attempts}
 
 -- ---- by what it attempts
 seen_by : (k : Seat) (s : SessionState) (step : Sitting) → is_attempting step ≡ true → AttemptsBy k s step → s.attempt.seen ≡ s.seen

@@ -17,7 +17,7 @@ use Rattle.law_local.specs.Tries.WordsShow.{IsHere}
 use Rattle.fkv_world.specs.Runs.{World, run}
 use Rattle.fkv_world.specs.World.{Event, Now}
 use Rattle.fkv_world.proofs.Shown.{places_stay}
-use Rattle.law_guard.specs.Guarded.Shows.{IsOpened}
+use Rattle.law_world.specs.Guarded.Shows.{IsOpened}
 use Rattle.law_refine.specs.Events.GhostEvents.{life_ghosts}
 use Rattle.law_refine.specs.Events.Reserved.{tail_at, IsUnbornFrom, ReservesNothing}
 use Rattle.law_refine.proofs.OfEvents.Unborn.{ghost_unborn}

@@ -26,9 +26,9 @@ use Rattle.law_local.specs.Tries.MailRows.{IsTrueOfLook}
 use Rattle.law_local.specs.Tries.Replies.{LeadsToHead, EndsAtHead}
 use Rattle.law_local.specs.Tries.TryRows.{TryRow}
 use Rattle.law_local.specs.Tries.WordsShow.{WalkSearches, TrySearches, AttemptMeets}
-use Rattle.law_changes.proofs.OfSessions.Attempting.{FindsBy}
+use Rattle.law_opening.proofs.OfChanges.OfSessions.Attempting.{FindsBy}
 use Rattle.law_refine.specs.Heads.Searches.{IsHeadFound, IsHeadAnswered}
-use Rattle.law_parts.specs.Index.Finders.{attempt_part, try_work, walk_work}
+use Rattle.law_refine.specs.Index.Finders.{attempt_part, try_work, walk_work}
 
 -- ---- what a search finds
 leads_to_head : (head : ℕ) (its : Found) → IsHeadFound head its → LeadsToHead head its

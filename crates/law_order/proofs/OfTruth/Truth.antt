@@ -20,14 +20,14 @@ use Rattle.fkv_world.proofs.Shown.{shape_stays}
 use Rattle.law_refine.specs.Heads.Heads.{head_at}
 use Rattle.law_refine.specs.Heads.Searches.{home_attempted}
 use Rattle.law_refine.proofs.OfHeads.LifeHeads.{life_found}
-use Rattle.law_parts.specs.Index.Finders.{session_part}
+use Rattle.law_refine.specs.Index.Finders.{session_part}
 use Rattle.law_order.specs.Known.Begins.{BegunLife, home_of_world}
 use Rattle.law_order.specs.Known.Knows.{AreKnown}
 use Rattle.law_order.specs.Known.Told.{AreToldTruly, LookTruly, reply_in}
 use Rattle.law_refine.specs.Events.GhostEvents.{home_number, life_ghosts, mapped}
 use Rattle.law_refine.specs.Records.Changes.{AreChangesPublished}
 use Rattle.law_order.proofs.OfKnown.Newest.{known_now}
-use Rattle.law_changes.proofs.OfSessions.Attempting.{FindsBy, attempt_reply, attempting_is, finds_by}
+use Rattle.law_opening.proofs.OfChanges.OfSessions.Attempting.{FindsBy, attempt_reply, attempting_is, finds_by}
 use Rattle.law_order.proofs.OfTruth.Attempts.{life_seen}
 use Rattle.law_order.proofs.OfTruth.Searches.{BeginsFor, attempt_meets}
 use Rattle.law_order.proofs.OfTruth.Words.{words_show}

@@ -4,7 +4,7 @@ use Rattle.fkv_pending.specs.declared.attempting.Attempting.TheVariants.{Tries}
 use Rattle.fkv_session.specs.Sessions.{SessionState}
 use Rattle.fkv_world.specs.Runs.{run}
 use Rattle.fkv_world.specs.World.{Event}
-use Rattle.law_guard.specs.Sessions.InPlace.{try_changes}
+use Rattle.law_world.specs.GuardSessions.InPlace.{try_changes}
 use Rattle.law_local.specs.Sessions.Known.{is_attempting}
 use Rattle.law_local.specs.Tries.TryRows.{key_in}
 use Rattle.law_log.specs.Enabled.{AreEnabled, NoneAbove, NoneCopies}

@@ -11,7 +11,7 @@ use Rattle.law_commit.specs.Shares.Waiting.{has_shifted}
 use Rattle.law_commit.specs.Versions.Cells.{CellsUpto}
 use Rattle.law_log.specs.Ghosts.{Ghosts}
 use Rattle.law_order.specs.Known.Begins.{BegunLife, home_of_world}
-use Rattle.law_parts.specs.Latches.Shows as latches
+use Rattle.law_refine.specs.Latches.Shows as latches
 use Rattle.law_refine.specs.Events.GhostEvents.{life_ghosts}
 
 -- no attempt of a life ends as a shift and isn't made again

@@ -5,9 +5,9 @@ use Rattle.law_local.specs.Sessions.Known.{is_attempting}
 use Rattle.fkv_world.specs.Runs.{World, run}
 use Rattle.fkv_world.specs.World.{Event}
 use Rattle.law_order.specs.Asked.Asked.{AsksForSought, HaveAskedSought, LooksForAsked}
-use Rattle.law_guard.specs.Guarded.Shows as guard
-use Rattle.law_parts.specs.Mail.Reads.{mail_notes, mail_past}
-use Rattle.law_parts.specs.Mail.Shows.{IsOpened}
+use Rattle.law_world.specs.Guarded.Shows as guard
+use Rattle.law_refine.specs.Mail.Reads.{mail_notes, mail_past}
+use Rattle.law_refine.specs.Mail.Shows.{IsOpened}
 
 -- an attempt that looks into the mailbox looks for what was asked for there last
 abbrev pub LooksForWhatIsAsked : Type 0

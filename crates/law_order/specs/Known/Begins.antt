@@ -1,17 +1,17 @@
 -- What a life begins with, beside the log of the order law.
 use Rattle.std.specs.Prelude.{◌≡◌, ℕ, ◌<◌, List}
 use Rattle.fkv_map.specs.Map.{Map}
-use Rattle.law_changes.specs.Images.{IsInImage}
+use Rattle.law_opening.specs.Changes.Images.{IsInImage}
 use Rattle.law_commit.specs.Floor.Stands.{OpensSeen}
 use Rattle.law_log.specs.Chains.{Cell, Published}
 use Rattle.law_log.specs.Ghosts.{Ghosts}
 use Rattle.law_log.specs.Enabled as order
 use Rattle.fkv_world.specs.Opened.{IsOpenedWorld}
 use Rattle.fkv_world.specs.Runs.{World}
-use Rattle.law_guard.specs.Guarded.OpenedStore.{IsOpenedStore}
+use Rattle.law_world.specs.Guarded.OpenedStore.{IsOpenedStore}
 use Rattle.law_refine.specs.Heads.Heads.{LeadToHeads}
-use Rattle.law_parts.specs.Index.Shows as index
-use Rattle.law_parts.specs.Mail.Shows as mail
+use Rattle.law_refine.specs.Index.Shows as index
+use Rattle.law_refine.specs.Mail.Shows as mail
 use Rattle.law_refine.specs.Events.GhostEvents.{home_in, safe_at}
 use Rattle.law_refine.specs.Events.Reserved.{IsUnbornFrom, ReservesNothing, tail_at}
 

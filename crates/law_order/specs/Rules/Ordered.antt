@@ -17,9 +17,9 @@ use Rattle.law_log.specs.Trace.{Effect, OrdersCalls, ReadsAreFresh, TraceLine, h
 use Rattle.fkv_world.specs.Runs.{run}
 use Rattle.fkv_world.specs.World.{Event, Now}
 use Rattle.law_refine.specs.Calls.Calls.{effects_of_life, lines_of_life}
-use Rattle.law_guard.specs.Guarded.KeptGuarded.{ChangesOpenPlaces, OpensNextPage, WritesOpenPlaces}
-use Rattle.law_guard.specs.Guarded.LoadedSince.{HaveLoadedSince}
-use Rattle.law_guard.specs.Guarded.Shows.{ArePermitted, Shows, seen_by_guard}
+use Rattle.law_world.specs.Guarded.KeptGuarded.{ChangesOpenPlaces, OpensNextPage, WritesOpenPlaces}
+use Rattle.law_world.specs.Guarded.LoadedSince.{HaveLoadedSince}
+use Rattle.law_world.specs.Guarded.Shows.{ArePermitted, Shows, seen_by_guard}
 use Rattle.law_refine.specs.Records.Changes.{AreChangesPublished}
 
 -- what has taken effect in a life so far, and what its calls were told, each the newest first

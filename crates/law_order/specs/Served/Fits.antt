@@ -1,2 +1,2 @@
--- Numbers that fit in a word, in the words of `law_changes`.
-pub use Rattle.law_changes.specs.Fits.{CallFits, CallsFit, CellFits, CellsFit, EventFits, ValueFits}
+-- Numbers that fit in a word, in the words of `law_opening`.
+pub use Rattle.law_opening.specs.Changes.Fits.{CallFits, CallsFit, CellFits, CellsFit, EventFits, ValueFits}

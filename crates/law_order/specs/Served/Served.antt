@@ -8,7 +8,7 @@ use Rattle.fkv_pending.specs.declared.mailing.MailRecord.{MailRecord}
 use Rattle.law_local.specs.Tries.MailRows.{IsRecordOf}
 use Rattle.fkv_world.specs.Runs.{World, run}
 use Rattle.fkv_world.specs.World.{Event}
-use Rattle.law_parts.specs.Mail.Reads.{record_there}
+use Rattle.law_refine.specs.Mail.Reads.{record_there}
 use Rattle.law_refine.specs.Events.GhostEvents.{life_ghosts}
 
 -- What it gave at an earlier moment, at an address that was flushed and where a record was published by then, is the record that is there now.

@@ -9,7 +9,7 @@ use Rattle.fkv_world.specs.Opened.{IsOpenedWorld}
 use Rattle.fkv_world.specs.Past as world
 use Rattle.fkv_world.specs.Runs.{World, happens, run}
 use Rattle.fkv_world.specs.World.{Event, Calls, Moves, Commits, Turns, KeeperMoves, Crashes, Now}
-use Rattle.law_guard.specs.Guarded.Shows as guard
+use Rattle.law_world.specs.Guarded.Shows as guard
 use Rattle.law_refine.specs.Events.Effects.{mover_step, step_at, MakesEffect}
 use Rattle.law_refine.specs.Events.GhostEvents.{serials_in, ghost_events, home_in, mapped, life_ghosts}
 use Rattle.law_refine.specs.Events.Published.{AllMeetPublished}

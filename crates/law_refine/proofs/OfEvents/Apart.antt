@@ -23,16 +23,16 @@ use Rattle.fkv_pending.specs.Attempting.{AttemptState}
 use Rattle.fkv_session.specs.declared.sessions.Sitting.{Sitting}
 use Rattle.fkv_session.specs.declared.sessions.Sitting.TheVariants as sitting
 use Rattle.fkv_session.specs.Sessions.{SessionState}
-use Rattle.law_guard.specs.Sessions.Likenesses.{append_undecided, invalidate_undecided, last_seen}
-use Rattle.law_guard.specs.Sessions.Tries.{try_likeness_at}
-use Rattle.law_guard.specs.Sessions.Attempts.{attempt_likeness_at}
-use Rattle.law_guard.specs.Sessions.Sessions.{sitting_likeness}
+use Rattle.law_world.specs.GuardSessions.Likenesses.{append_undecided, invalidate_undecided, last_seen}
+use Rattle.law_world.specs.GuardSessions.Tries.{try_likeness_at}
+use Rattle.law_world.specs.GuardSessions.Attempts.{attempt_likeness_at}
+use Rattle.law_world.specs.GuardSessions.Sessions.{sitting_likeness}
 use Rattle.fkv_world.specs.Runs.{World, run}
 use Rattle.fkv_world.specs.World.{Event, Now}
-use Rattle.law_guard.specs.Guarded.GuardEvents as guard
-use Rattle.law_guard.specs.Guarded.GuardEvents.{keeper_number}
-use Rattle.law_guard.specs.Guarded.Shows.{IsOpened, Shows, guard_opening, seen_by_guard}
-use Rattle.law_guard.proofs.OfGuarded.Worlds.{life_shows}
+use Rattle.law_world.specs.Guarded.GuardEvents as guard
+use Rattle.law_world.specs.Guarded.GuardEvents.{keeper_number}
+use Rattle.law_world.specs.Guarded.Shows.{IsOpened, Shows, guard_opening, seen_by_guard}
+use Rattle.law_world.proofs.OfGuarded.Worlds.{life_shows}
 use Rattle.law_refine.specs.Events.Reservations.{Reservation, invalidate_reserves, append_reserves, try_reserves, attempt_reserves}
 use Rattle.law_refine.specs.Events.Reserved.{HasReserved, ReservationsAreApart, ReservationsAreOpen, sitting_reserves}
 

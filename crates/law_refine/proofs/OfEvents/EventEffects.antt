@@ -20,7 +20,7 @@ use Rattle.fkv_world.specs.World.{Event, Calls, Moves, Commits, Turns, KeeperMov
 use Rattle.law_world.proofs.OfRuns.Added.{history_so}
 use Rattle.fkv_world.proofs.Shown.{is_over}
 use Rattle.law_world.proofs.OfRuns.Nothing.{no_session}
-use Rattle.law_guard.specs.Guarded.Shows.{IsOpened}
+use Rattle.law_world.specs.Guarded.Shows.{IsOpened}
 use Rattle.law_refine.specs.Events.Effects.{AreQuiet, Stepped, TakesEffect, Quietly, Behind, MakesEffect, no_step, mover_step, step_at}
 use Rattle.law_refine.specs.Events.GhostEvents.{moved_ghosts, own_ghosts, safe_at, fixed_ghosts, traced_by, serials_in, ghost_events}
 use Rattle.law_refine.specs.Events.Lines.{lines_added}

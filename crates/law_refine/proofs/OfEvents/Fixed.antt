@@ -12,10 +12,10 @@ use Rattle.fkv_flush.proofs.Shown.{events_calm}
 use Rattle.fkv_world.specs.Runs.{World, happens, run}
 use Rattle.fkv_world.specs.World.{Event}
 use Rattle.fkv_world.proofs.Shown.{is_over}
-use Rattle.law_guard.specs.Guarded.GuardEvents as guard
-use Rattle.law_guard.specs.Guarded.Shows.{IsOpened, seen_by_guard}
-use Rattle.law_guard.proofs.OfGuarded.Outer.{later_write_outer}
-use Rattle.law_guard.proofs.OfGuarded.Worlds.{life_shows, run_shows}
+use Rattle.law_world.specs.Guarded.GuardEvents as guard
+use Rattle.law_world.specs.Guarded.Shows.{IsOpened, seen_by_guard}
+use Rattle.law_world.proofs.OfGuarded.Outer.{later_write_outer}
+use Rattle.law_world.proofs.OfGuarded.Worlds.{life_shows, run_shows}
 use Rattle.law_refine.specs.Events.GhostEvents.{home_in, own_ghosts, safe_at, fixed_ghosts, traced_by, serials_in, ghost_events, mapped, life_ghosts}
 use Rattle.law_refine.specs.Events.Lines.{lines_added}
 use Rattle.law_refine.proofs.OfEvents.Own.{AreOwn, own_own}

@@ -60,7 +60,7 @@ use Rattle.fkv_world.specs.OwnEvents.{session_part_of}
 use Rattle.fkv_world.specs.Runs.{World, happens, run}
 use Rattle.fkv_world.specs.World.{Event, Now, seat_at}
 use Rattle.fkv_world.proofs.Shown.{happens_session}
-use Rattle.law_guard.specs.Guarded.Shows as guard
+use Rattle.law_world.specs.Guarded.Shows as guard
 use Rattle.law_world.proofs.OfRuns.Nothing.{none_then}
 use Rattle.law_refine.specs.Events.Names.{is_read_name, IsNamedSo, AreNamedSo, AttemptsNamedSo, RequestsAreNamed}
 use Rattle.law_refine.proofs.OfEvents.ReadTries.{IsReadTry, try_read, begun_read}

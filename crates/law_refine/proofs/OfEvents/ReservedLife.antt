@@ -21,7 +21,7 @@ use Rattle.fkv_world.specs.Runs.{World, happens, run}
 use Rattle.fkv_world.specs.World.{Event, Calls, Moves, Commits, Turns, KeeperMoves, Crashes, Now, seat_at, near}
 use Rattle.fkv_world.proofs.Shown.{is_over, session_apart, session_written}
 use Rattle.law_world.proofs.OfRuns.Nothing.{no_session}
-use Rattle.law_guard.specs.Guarded.Shows.{IsOpened}
+use Rattle.law_world.specs.Guarded.Shows.{IsOpened}
 use Rattle.law_refine.specs.Events.GhostEvents.{home_in, moved_ghosts, own_ghosts, safe_at, fixed_ghosts, traced_by, serials_in, ghost_events, mapped, life_ghosts}
 use Rattle.law_refine.specs.Events.Lines.{lines_added}
 use Rattle.law_refine.specs.Events.Reservations.{AreStill, Reservation, TakesTail}

@@ -28,9 +28,9 @@ use Rattle.fkv_session.specs.Sessions.{SessionState, Seat, bits_of, room_of, sit
 use Rattle.fkv_world.specs.Past.{Traced}
 use Rattle.fkv_world.specs.Runs.{World, run}
 use Rattle.fkv_world.specs.World.{Event, seat_at}
-use Rattle.law_guard.specs.Sessions.Rows.{SittingKnows}
-use Rattle.law_guard.specs.Guarded.Shows.{IsOpened}
-use Rattle.law_guard.proofs.OfGuarded.Worlds.{life_shows}
+use Rattle.law_world.specs.GuardSessions.Rows.{SittingKnows}
+use Rattle.law_world.specs.Guarded.Shows.{IsOpened}
+use Rattle.law_world.proofs.OfGuarded.Worlds.{life_shows}
 use Rattle.law_refine.specs.Events.Lines.{read_in_hand, read_waiting}
 use Rattle.fkv_base.specs.declared.numbers.Serial.{Serial}
 use Rattle.fkv_map.specs.declared.history.HistoryEntry.{HistoryEntry}

@@ -67,7 +67,7 @@ use Rattle.fkv_index.specs.IndexWorld.{new_entry}
 use Rattle.fkv_index.specs.Publishing.{publish_ask, publish_next, publish_next_ask, published_where}
 use Rattle.fkv_index.specs.Slots.{entry_addr}
 use Rattle.law_refine.specs.Events.Appends.{entry_made, reserved_ghosts, publish_ghosts, invalidate_ghosts, append_ghosts}
-use Rattle.law_guard.specs.Sessions.Tries.{is_for_entry}
+use Rattle.law_world.specs.GuardSessions.Tries.{is_for_entry}
 use Rattle.law_local.specs.Tries.TryRows.{cell_of}
 use Rattle.law_refine.specs.Events.Effects.{AreQuiet, Stepped, stepped, ChangesAt, TakesEffect, Quietly, InPlace, ByRecord}
 use Rattle.law_refine.specs.Events.Reservations.{Reservation, reservation, append_reserves, try_reserves}

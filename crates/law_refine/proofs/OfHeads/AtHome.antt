@@ -31,11 +31,11 @@ use Rattle.fkv_world.specs.Runs.{World, run}
 use Rattle.fkv_world.specs.World.{Event, seat_at}
 use Rattle.fkv_world.proofs.Shown.{same_seat, session_runs}
 use Rattle.law_world.proofs.OfRuns.Nothing.{none_ever}
-use Rattle.law_parts.specs.Index.Finders.{NoWork, KeepsSlot, slot_kept, kept_work, walk_work, append_work, try_work, attempt_part, sitting_part}
-use Rattle.law_parts.specs.Index.Shows.{IsOpened}
-use Rattle.law_parts.proofs.OfIndex.SessionParts.{SittingKnows}
-use Rattle.law_parts.proofs.OfIndex.Permitted.{are_permitted}
-use Rattle.law_parts.proofs.OfIndex.Worlds.{opening_holds, run_holds}
+use Rattle.law_refine.specs.Index.Finders.{NoWork, KeepsSlot, slot_kept, kept_work, walk_work, append_work, try_work, attempt_part, sitting_part}
+use Rattle.law_refine.specs.Index.Shows.{IsOpened}
+use Rattle.law_refine.proofs.OfIndex.SessionParts.{SittingKnows}
+use Rattle.law_refine.proofs.OfIndex.Permitted.{are_permitted}
+use Rattle.law_refine.proofs.OfIndex.Worlds.{opening_holds, run_holds}
 use Rattle.law_refine.specs.Heads.Searches.{TriesFor, AttemptsFor, IsWorkAt, IsAtHome, AreAtHome}
 
 -- ---- by the home of the try

@@ -11,8 +11,8 @@ use Rattle.fkv_index.specs.OneEntry.{IsHome}
 use Rattle.fkv_index.specs.IndexWorld.{index_run, new_entry}
 use Rattle.fkv_world.specs.Runs.{World}
 use Rattle.fkv_world.specs.World.{Now}
-use Rattle.law_parts.specs.Index.IndexEvents.{mapped}
-use Rattle.law_parts.specs.Index.LifeEntries.{lists_seen}
+use Rattle.law_refine.specs.Index.IndexEvents.{mapped}
+use Rattle.law_refine.specs.Index.LifeEntries.{lists_seen}
 use Rattle.law_refine.specs.Events.GhostEvents.{home_number}
 use Rattle.law_refine.specs.Heads.Heads.{entry_to, head_at, LeadToHeads}
 

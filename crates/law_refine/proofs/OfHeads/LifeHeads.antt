@@ -29,15 +29,15 @@ use Rattle.fkv_session.specs.Sessions.{SessionState, session_ask}
 use Rattle.fkv_world.specs.Runs.{World, happens, run}
 use Rattle.fkv_world.specs.World.{Event, Calls, Moves, Commits, Turns, KeeperMoves, Crashes, Now, seat_at}
 use Rattle.fkv_world.proofs.Shown.{places_stay, shape_stays}
-use Rattle.law_guard.specs.Guarded.Shows as guard
-use Rattle.law_parts.specs.Index.Finders.{Search, KeptSlot, SessionWork, NoWork, Searches, KeepsSlot, PublishesEntry, search_in, session_part}
-use Rattle.law_parts.specs.Index.LifeEntries.{lists_seen, AskForThese, entry_won, won_there}
-use Rattle.law_parts.specs.Index.Shows as index
-use Rattle.law_parts.specs.Index.Shows.{IsWork, Shows, seen_by_index}
-use Rattle.law_parts.proofs.OfIndex.Permitted.{are_permitted}
-use Rattle.law_parts.proofs.OfIndex.LifeFacts.{answers_shown, life_asks, life_sound}
-use Rattle.law_parts.proofs.OfIndex.LifeMoves.{life_moves}
-use Rattle.law_parts.proofs.OfIndex.Worlds.{life_shows}
+use Rattle.law_world.specs.Guarded.Shows as guard
+use Rattle.law_refine.specs.Index.Finders.{Search, KeptSlot, SessionWork, NoWork, Searches, KeepsSlot, PublishesEntry, search_in, session_part}
+use Rattle.law_refine.specs.Index.LifeEntries.{lists_seen, AskForThese, entry_won, won_there}
+use Rattle.law_refine.specs.Index.Shows as index
+use Rattle.law_refine.specs.Index.Shows.{IsWork, Shows, seen_by_index}
+use Rattle.law_refine.proofs.OfIndex.Permitted.{are_permitted}
+use Rattle.law_refine.proofs.OfIndex.LifeFacts.{answers_shown, life_asks, life_sound}
+use Rattle.law_refine.proofs.OfIndex.LifeMoves.{life_moves}
+use Rattle.law_refine.proofs.OfIndex.Worlds.{life_shows}
 use Rattle.law_refine.specs.Events.Effects.{Stepped as TheStep, TakesEffect, mover_step, step_at, step_of}
 use Rattle.law_refine.specs.Events.GhostEvents.{fixed_ghosts, ghost_events, home_in, home_number, life_ghosts, mapped, moved_ghosts, own_ghosts, safe_at, serials_in, traced_by}
 use Rattle.law_refine.specs.Events.Lines.{lines_added}

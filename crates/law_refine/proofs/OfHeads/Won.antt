@@ -50,10 +50,10 @@ use Rattle.fkv_session.specs.declared.sessions.Sitting.TheVariants.{Attempts, Po
 use Rattle.fkv_session.specs.Sessions.{SessionState, Seat, bits_of, room_of, session_ask, sitting_ask}
 use Rattle.fkv_world.specs.Past.{Traced}
 use Rattle.fkv_world.specs.World.{Now, seat_at}
-use Rattle.law_parts.specs.Index.Finders.{KeptSlot, SessionWork, NoWork, Searches, KeepsSlot, PublishesEntry, slot_kept, kept_work, walk_work, append_work, try_work, attempt_part, sitting_part, session_part}
-use Rattle.law_parts.specs.Index.LifeEntries.{AsksFor, won_there}
+use Rattle.law_refine.specs.Index.Finders.{KeptSlot, SessionWork, NoWork, Searches, KeepsSlot, PublishesEntry, slot_kept, kept_work, walk_work, append_work, try_work, attempt_part, sitting_part, session_part}
+use Rattle.law_refine.specs.Index.LifeEntries.{AsksFor, won_there}
 use Rattle.law_refine.specs.Events.Appends.{entry_made, reserved_ghosts, publish_ghosts, invalidate_ghosts, append_ghosts}
-use Rattle.law_guard.specs.Sessions.Tries.{is_for_entry}
+use Rattle.law_world.specs.GuardSessions.Tries.{is_for_entry}
 use Rattle.law_refine.specs.Events.Lines.{read_in_hand, read_waiting}
 use Rattle.law_refine.specs.Events.Sessions.{value_ghosts, tried_ghosts, attempt_ghosts, ticket_of, sitting_ghosts, step_ghosts}
 use Rattle.law_refine.specs.Events.Tries.{found_ghosts, find_ghosts, walk_ghosts, search_ghosts, try_ghosts}

@@ -7,8 +7,8 @@ use Rattle.law_log.specs.Ghosts.{Ghosts}
 use Rattle.fkv_session.specs.Sessions.{SessionState}
 use Rattle.fkv_world.specs.Runs.{World, run}
 use Rattle.fkv_world.specs.World.{Event, Moves}
-use Rattle.law_guard.specs.Guarded.Shows.{IsOpened, SessionIsBelowTail, ChangesBelowTail, AreBelowTail, ArePermitted}
-use Rattle.law_guard.proofs.OfGuarded.BelowTail.{below_permitted}
+use Rattle.law_world.specs.Guarded.Shows.{IsOpened, SessionIsBelowTail, ChangesBelowTail, AreBelowTail, ArePermitted}
+use Rattle.law_world.proofs.OfGuarded.BelowTail.{below_permitted}
 use Rattle.law_refine.specs.Events.GhostEvents.{life_ghosts}
 use Rattle.law_refine.specs.Events.Reserved.{tail_at, IsUnbornFrom}
 use Rattle.law_refine.specs.Events.Published.{IsPublished}

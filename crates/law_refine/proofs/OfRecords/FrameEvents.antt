@@ -45,13 +45,13 @@ use Rattle.fkv_session.specs.declared.sessions.Sitting.TheVariants.{Attempts, Ca
 use Rattle.fkv_session.specs.CatchingUp.{CatchState}
 use Rattle.fkv_session.specs.OwnTurns.{OwnTurnState}
 use Rattle.fkv_session.specs.Sessions.{SessionState, Seat, session_ask}
-use Rattle.law_guard.specs.Sessions.Attempts.{attempt_events, attempt_likeness_at}
-use Rattle.law_guard.specs.Sessions.Catches.{catch_events, catch_likeness_at}
-use Rattle.law_guard.specs.Sessions.Likenesses.{append_work, fill_work, invalidate_work, reserve_work}
-use Rattle.law_guard.specs.Sessions.OwnTurns.{own_turn_likeness_at}
-use Rattle.law_guard.specs.Sessions.Sessions.{sitting_events, sitting_likeness, sitting_onward, session_guard_events}
-use Rattle.law_guard.specs.Sessions.Steps.{Onward, Stays, Starts, GoesOn, onward_events, changed_at}
-use Rattle.law_guard.specs.Sessions.Tries.{is_for_entry, reserved_events, publish_events, append_events, try_events, try_likeness_at}
+use Rattle.law_world.specs.GuardSessions.Attempts.{attempt_events, attempt_likeness_at}
+use Rattle.law_world.specs.GuardSessions.Catches.{catch_events, catch_likeness_at}
+use Rattle.law_world.specs.GuardSessions.Likenesses.{append_work, fill_work, invalidate_work, reserve_work}
+use Rattle.law_world.specs.GuardSessions.OwnTurns.{own_turn_likeness_at}
+use Rattle.law_world.specs.GuardSessions.Sessions.{sitting_events, sitting_likeness, sitting_onward, session_guard_events}
+use Rattle.law_world.specs.GuardSessions.Steps.{Onward, Stays, Starts, GoesOn, onward_events, changed_at}
+use Rattle.law_world.specs.GuardSessions.Tries.{is_for_entry, reserved_events, publish_events, append_events, try_events, try_likeness_at}
 use Rattle.law_refine.proofs.OfRecords.FrameWords.{FrameWord, fill_word, invalidate_word, append_word, try_word, attempt_word, sitting_word}
 use Rattle.law_refine.proofs.OfRecords.Writers.{IsFrameWork, frame_work, change_none}
 

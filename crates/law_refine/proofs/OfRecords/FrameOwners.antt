@@ -31,16 +31,16 @@ use Rattle.fkv_pending.specs.Attempting.{AttemptState}
 use Rattle.fkv_session.specs.declared.sessions.Sitting.{Sitting}
 use Rattle.fkv_session.specs.declared.sessions.Sitting.TheVariants.{Attempts, Polls}
 use Rattle.fkv_session.specs.Sessions.{SessionState}
-use Rattle.law_guard.specs.Sessions.Attempts.{attempt_likeness_at}
-use Rattle.law_guard.specs.Sessions.Followed.{Sits}
-use Rattle.law_guard.specs.Sessions.Likenesses.{last_seen}
-use Rattle.law_guard.specs.Sessions.InPlace.{try_changes, attempt_changes, sitting_changes, changed_in_place, SessionMayChange}
-use Rattle.law_guard.specs.Sessions.Sessions.{sitting_likeness, is_protected_at}
-use Rattle.law_guard.specs.Sessions.Tries.{try_likeness_at}
+use Rattle.law_world.specs.GuardSessions.Attempts.{attempt_likeness_at}
+use Rattle.law_world.specs.GuardSessions.Followed.{Sits}
+use Rattle.law_world.specs.GuardSessions.Likenesses.{last_seen}
+use Rattle.law_world.specs.GuardSessions.InPlace.{try_changes, attempt_changes, sitting_changes, changed_in_place, SessionMayChange}
+use Rattle.law_world.specs.GuardSessions.Sessions.{sitting_likeness, is_protected_at}
+use Rattle.law_world.specs.GuardSessions.Tries.{try_likeness_at}
 use Rattle.fkv_world.specs.Runs.{World, run}
 use Rattle.fkv_world.specs.World.{Event, Now}
-use Rattle.law_guard.specs.Guarded.Shows.{IsOpened, seen_by_guard}
-use Rattle.law_guard.proofs.OfGuarded.Worlds.{life_shows}
+use Rattle.law_world.specs.Guarded.Shows.{IsOpened, seen_by_guard}
+use Rattle.law_world.proofs.OfGuarded.Worlds.{life_shows}
 use Rattle.law_refine.specs.Events.GhostEvents.{safe_at}
 use Rattle.law_refine.specs.Events.Reservations.{Reservation, reservation, append_reserves, invalidate_reserves, try_reserves, attempt_reserves}
 use Rattle.law_refine.specs.Events.Reserved.{sitting_reserves, reserved_by}

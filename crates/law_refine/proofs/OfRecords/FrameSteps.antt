@@ -21,22 +21,22 @@ use Rattle.fkv_maintain.specs.declared.maintaining.Maintaining.{Maintaining}
 use Rattle.fkv_maintain.specs.declared.maintaining.Maintaining.TheVariants as maintain
 use Rattle.fkv_maintain.specs.Maintaining.{MaintainState}
 use Rattle.fkv_session.specs.Sessions.{SessionState, is_busy, session_begun}
-use Rattle.law_guard.specs.Sessions.Sessions.{sitting_onward}
-use Rattle.law_guard.specs.Sessions.Steps.{onward_events}
-use Rattle.law_guard.specs.Keeper.KeeperEvents.{keeper_move_events, turn_asked_events}
-use Rattle.law_guard.specs.Keeper.KeeperShown.{keeping_work}
-use Rattle.law_guard.specs.Keeper.MaintainShown.{maintaining_work}
+use Rattle.law_world.specs.GuardSessions.Sessions.{sitting_onward}
+use Rattle.law_world.specs.GuardSessions.Steps.{onward_events}
+use Rattle.law_world.specs.GuardKeeper.KeeperEvents.{keeper_move_events, turn_asked_events}
+use Rattle.law_world.specs.GuardKeeper.KeeperShown.{keeping_work}
+use Rattle.law_world.specs.GuardKeeper.MaintainShown.{maintaining_work}
 use Rattle.fkv_world.specs.Moves.{session_moved}
 use Rattle.fkv_world.specs.Runs.{World, happens, read_by_keeper, run}
 use Rattle.fkv_world.specs.World.{Event, Calls, Moves, Commits, Turns, KeeperMoves, Crashes, Now, seat_at, near}
-use Rattle.law_guard.specs.Guarded.GuardEvents.{called_events, moved_events, keeper_number, life_events, guard_events}
-use Rattle.law_guard.specs.Guarded.Shows.{IsOpened, Shows, seen_by_guard}
-use Rattle.law_guard.proofs.OfGuarded.OneStep.{IsStep}
-use Rattle.law_guard.proofs.OfGuarded.Permitted.{are_permitted}
-use Rattle.law_guard.proofs.OfGuarded.Worlds.{happens_shows, life_shows}
-use Rattle.law_guard.proofs.OfGuarded.Kept.{is_steps}
-use Rattle.law_guard.proofs.OfGuarded.KeeperSteps.{keeper_steps}
-use Rattle.law_guard.proofs.OfGuarded.Outer.{write_outer}
+use Rattle.law_world.specs.Guarded.GuardEvents.{called_events, moved_events, keeper_number, life_events, guard_events}
+use Rattle.law_world.specs.Guarded.Shows.{IsOpened, Shows, seen_by_guard}
+use Rattle.law_world.proofs.OfGuarded.OneStep.{IsStep}
+use Rattle.law_world.proofs.OfGuarded.Permitted.{are_permitted}
+use Rattle.law_world.proofs.OfGuarded.Worlds.{happens_shows, life_shows}
+use Rattle.law_world.proofs.OfGuarded.Kept.{is_steps}
+use Rattle.law_world.proofs.OfGuarded.KeeperSteps.{keeper_steps}
+use Rattle.law_world.proofs.OfGuarded.Outer.{write_outer}
 use Rattle.law_refine.proofs.OfRecords.FrameEvents.{HasWord, IsNoFrame, Writes, onward_none, no_frame, session_frame, writes_none}
 use Rattle.law_refine.proofs.OfRecords.FrameWords.{FrameWord, sitting_word}
 use Rattle.law_refine.proofs.OfRecords.Writers.{IsFrameWork, frame_work, change_none}

@@ -49,10 +49,10 @@ use Rattle.fkv_pending.specs.Attempting.{AttemptState, attempt_ask, attempt_next
 use Rattle.fkv_session.specs.declared.sessions.Sitting.{Sitting}
 use Rattle.fkv_session.specs.declared.sessions.Sitting.TheVariants.{Attempts, Polls}
 use Rattle.fkv_session.specs.Sessions.{SessionState, Seat, bits_of, room_of, sitting_ask}
-use Rattle.law_guard.specs.Sessions.InPlace.{try_changes, attempt_changes, sitting_changes}
+use Rattle.law_world.specs.GuardSessions.InPlace.{try_changes, attempt_changes, sitting_changes}
 use Rattle.fkv_world.specs.Past.{Traced}
 use Rattle.law_refine.specs.Events.Appends.{entry_made, reserved_ghosts, publish_ghosts, invalidate_ghosts, append_ghosts}
-use Rattle.law_guard.specs.Sessions.Tries.{is_for_entry}
+use Rattle.law_world.specs.GuardSessions.Tries.{is_for_entry}
 use Rattle.law_local.specs.Tries.TryRows.{cell_of}
 use Rattle.law_refine.specs.Events.Effects.{AreQuiet}
 use Rattle.law_refine.specs.Events.Lines.{read_in_hand, read_waiting}

@@ -9,8 +9,8 @@ use Rattle.law_log.specs.Chains.{Cell, Logged, Unborn, Published, Dropped}
 use Rattle.law_log.specs.Ghosts.{Ghosts, ghost_run}
 use Rattle.fkv_world.specs.Runs.{World, run}
 use Rattle.fkv_world.specs.World.{Event}
-use Rattle.law_guard.specs.Guarded.Shows.{IsOpened}
-use Rattle.law_guard.proofs.OfGuarded.OfLives.{life_paged}
+use Rattle.law_world.specs.Guarded.Shows.{IsOpened}
+use Rattle.law_world.proofs.OfGuarded.OfLives.{life_paged}
 use Rattle.law_refine.specs.Events.GhostEvents.{ghost_events, mapped, life_ghosts, serials_in}
 use Rattle.law_refine.specs.Events.Reserved.{tail_at, IsUnbornFrom, ReservesNothing}
 use Rattle.law_refine.specs.Records.Cells.{StandsShowLog}

@@ -17,9 +17,9 @@ use Rattle.fkv_world.specs.Runs.{World, happens, run}
 use Rattle.fkv_world.specs.World.{Event, Now}
 use Rattle.law_world.proofs.OfRuns.OneWord.{one_word}
 use Rattle.fkv_world.proofs.Shown.{places_stay}
-use Rattle.law_guard.specs.Guarded.GuardEvents.{mapped}
-use Rattle.law_guard.specs.Guarded.Shows.{IsOpened, guard_opening, seen_by_guard}
-use Rattle.law_guard.proofs.OfGuarded.Worlds.{life_shows}
+use Rattle.law_world.specs.Guarded.GuardEvents.{mapped}
+use Rattle.law_world.specs.Guarded.Shows.{IsOpened, guard_opening, seen_by_guard}
+use Rattle.law_world.proofs.OfGuarded.Worlds.{life_shows}
 use Rattle.law_refine.specs.Events.GhostEvents.{safe_at}
 use Rattle.law_refine.specs.Events.Reserved.{tail_at}
 use Rattle.law_refine.proofs.OfEvents.Fixed.{life_rises}

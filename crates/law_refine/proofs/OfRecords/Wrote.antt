@@ -14,14 +14,14 @@ use Rattle.fkv_flush.specs.GuardLevels.{levels_of}
 use Rattle.fkv_flush.specs.GuardWorld.{GuardWorld}
 use Rattle.fkv_session.specs.declared.answers.Told.{Told}
 use Rattle.fkv_session.specs.Sessions.{SessionState, Seat, session_ask}
-use Rattle.law_guard.specs.Sessions.InPlace.{changed_in_place, SessionMayChange}
+use Rattle.law_world.specs.GuardSessions.InPlace.{changed_in_place, SessionMayChange}
 use Rattle.fkv_world.specs.Runs.{World, happens, run}
 use Rattle.fkv_world.specs.World.{Event, Moves, Now, seat_at}
 use Rattle.fkv_world.proofs.Shown.{is_over, places_stay}
 use Rattle.law_world.proofs.OfRuns.OneWord.{session_writes}
-use Rattle.law_guard.specs.Guarded.Shows.{IsOpened, ArePermitted, IsPermitted, SessionIsPermitted, seen_by_guard}
-use Rattle.law_guard.proofs.OfGuarded.Worlds.{life_shows}
-use Rattle.law_guard.proofs.OfGuarded.Flushed.{life_steady}
+use Rattle.law_world.specs.Guarded.Shows.{IsOpened, ArePermitted, IsPermitted, SessionIsPermitted, seen_by_guard}
+use Rattle.law_world.proofs.OfGuarded.Worlds.{life_shows}
+use Rattle.law_world.proofs.OfGuarded.Flushed.{life_steady}
 use Rattle.law_refine.specs.Events.GhostEvents.{safe_at}
 use Rattle.law_refine.specs.Events.Reserved.{reserved_by, tail_at}
 use Rattle.law_refine.proofs.OfRecords.AppendRows.{Standing}

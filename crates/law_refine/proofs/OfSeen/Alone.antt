@@ -5,10 +5,10 @@ use Rattle.fkv_epoch.specs.EpochWorld.{EpochPast}
 use Rattle.fkv_flush.specs.GuardWorld.{Actor, GuardEvent, GuardNow, GuardWorld, guard_run, put_near}
 use Rattle.fkv_flush.specs.GuardWorld as guard
 use Rattle.fkv_flush.proofs.Shown.{IsSound, put_there, run_now, run_sound}
-use Rattle.law_guard.specs.Sessions.Followed.{SessionFollows, Sits, is_turning, seat_in}
-use Rattle.law_guard.specs.Sessions.Sessions.{SessionWritesOuter}
-use Rattle.law_guard.proofs.OfSessions.Followed.{session_follows}
-use Rattle.law_guard.proofs.OfSessions.Finds.{session_rests}
+use Rattle.law_world.specs.GuardSessions.Followed.{SessionFollows, Sits, is_turning, seat_in}
+use Rattle.law_world.specs.GuardSessions.Sessions.{SessionWritesOuter}
+use Rattle.law_world.proofs.OfGuardSessions.Followed.{session_follows}
+use Rattle.law_world.proofs.OfGuardSessions.Finds.{session_rests}
 use Rattle.fkv_plane.specs.declared.actions.Action.{Action}
 use Rattle.fkv_plane.specs.declared.asks.Ask.{Ask}
 use Rattle.fkv_plane.specs.declared.asks.Ask.TheVariants.{Put, Take, Done}
@@ -28,9 +28,9 @@ use Rattle.fkv_world.specs.OwnEvents.{session_events}
 use Rattle.fkv_world.specs.Runs.{World, run}
 use Rattle.fkv_world.specs.World.{Event, Now, near, seat_at}
 use Rattle.fkv_world.proofs.Shown.{same_seat}
-use Rattle.law_guard.specs.Guarded.Shows.{IsOpened, Shows, seen_by_guard}
-use Rattle.law_guard.proofs.OfGuarded.Worlds.{is_world_of, life_shows, world_of}
-use Rattle.law_guard.proofs.OfGuarded.Outer.{write_outer}
+use Rattle.law_world.specs.Guarded.Shows.{IsOpened, Shows, seen_by_guard}
+use Rattle.law_world.proofs.OfGuarded.Worlds.{is_world_of, life_shows, world_of}
+use Rattle.law_world.proofs.OfGuarded.Outer.{write_outer}
 use Rattle.law_refine.proofs.OfSeen.There.{was_there}
 
 -- ---- a call in hand asks

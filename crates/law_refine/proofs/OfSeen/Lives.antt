@@ -22,8 +22,8 @@ use Rattle.fkv_world.specs.Moves.{Near, session_gets, session_settled, session_r
 use Rattle.fkv_world.specs.Runs.{World, happens, run}
 use Rattle.fkv_world.specs.World.{Event, Calls, Moves, Commits, Turns, KeeperMoves, Crashes, near, seat_at}
 use Rattle.fkv_world.proofs.Shown.{is_over, session_apart, session_written}
-use Rattle.law_guard.specs.Guarded.Shows.{IsOpened, seen_by_guard}
-use Rattle.law_guard.proofs.OfGuarded.Worlds.{life_shows}
+use Rattle.law_world.specs.Guarded.Shows.{IsOpened, seen_by_guard}
+use Rattle.law_world.proofs.OfGuarded.Worlds.{life_shows}
 use Rattle.law_refine.specs.Events.GhostEvents.{life_ghosts, safe_at}
 use Rattle.law_refine.proofs.OfEvents.Fixed.{ghost_fixed, life_rises}
 use Rattle.law_refine.proofs.OfSeen.Heads.{IsBetween, Sees, asks_head, begun_sees, given_sees, loads, next_sees, opened_sees, sees_higher, sees_own}

@@ -37,7 +37,7 @@ use Rattle.fkv_session.specs.Sessions.{SessionState, Seat, is_busy, session_ask,
 use Rattle.fkv_world.specs.OwnEvents.{session_events}
 use Rattle.fkv_world.specs.Runs.{World, run}
 use Rattle.fkv_world.specs.World.{Event, seat_at}
-use Rattle.law_guard.specs.Guarded.Shows.{IsOpened}
+use Rattle.law_world.specs.Guarded.Shows.{IsOpened}
 use Rattle.law_refine.specs.Seen.Ops.{HasPlainOp, OpIsPlain}
 use Rattle.law_refine.proofs.OfSeen.There.{was_there}
 

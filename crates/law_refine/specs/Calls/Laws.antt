@@ -8,7 +8,7 @@ use Rattle.fkv_world.specs.Past.{Effect}
 use Rattle.fkv_world.specs.Runs.{World, run}
 use Rattle.fkv_world.specs.World.{Event}
 use Rattle.law_refine.specs.Calls.Calls.{EachIsEnabled, IsUpdateInHand, IsCallEnabled, effects_of_life, entries_of, event_adds, lines_of_life}
-use Rattle.law_guard.specs.Guarded.Shows as guard
+use Rattle.law_world.specs.Guarded.Shows as guard
 use Rattle.law_refine.specs.Events.GhostEvents.{home_in, life_ghosts, mapped}
 use Rattle.law_refine.specs.Events.Published.{AllMeetPublished}
 use Rattle.law_refine.specs.Events.Reserved.{IsUnbornFrom, ReservesNothing, tail_at}

@@ -7,7 +7,7 @@ use Rattle.fkv_session.specs.Sessions.{SessionState}
 use Rattle.fkv_world.specs.Opened.{IsOpenedWorld}
 use Rattle.fkv_world.specs.Runs.{World, happens, run}
 use Rattle.fkv_world.specs.World.{Event, seat_at}
-use Rattle.law_guard.specs.Guarded.Shows as guard
+use Rattle.law_world.specs.Guarded.Shows as guard
 use Rattle.law_refine.specs.Events.Effects.{AttemptsRead, MakesEffect, TakesItsEffect, TakesNoEffect, step_at}
 use Rattle.law_refine.specs.Events.GhostEvents.{ghost_events, home_in, life_ghosts, mapped, safe_at, serials_in}
 use Rattle.law_refine.specs.Events.Lines.{lines_of}

@@ -3,9 +3,9 @@ use Rattle.std.specs.Prelude.{ℕ, List}
 use Rattle.law_log.specs.Ghosts.{Ghosts}
 use Rattle.fkv_world.specs.Runs.{World, run}
 use Rattle.fkv_world.specs.World.{Event}
-use Rattle.law_guard.specs.Guarded.Shows as guard
-use Rattle.law_parts.specs.Index.LifeEntries.{lists_seen}
-use Rattle.law_parts.specs.Index.Shows as index
+use Rattle.law_world.specs.Guarded.Shows as guard
+use Rattle.law_refine.specs.Index.LifeEntries.{lists_seen}
+use Rattle.law_refine.specs.Index.Shows as index
 use Rattle.law_refine.specs.Events.GhostEvents.{home_in, life_ghosts, mapped}
 use Rattle.law_refine.specs.Events.Reserved.{IsUnbornFrom, ReservesNothing, tail_at}
 use Rattle.law_refine.specs.Heads.Heads.{AllMeetHeads, LeadToHeads}

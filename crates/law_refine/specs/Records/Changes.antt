@@ -1,6 +1,6 @@
 -- What a session changes in place is published, in the log beside the life.
 use Rattle.std.specs.Prelude.{◌≡◌, ⊤, ℕ, List, [], ◌∷◌, Option, Some, None, slice_get}
-use Rattle.law_guard.specs.Sessions.InPlace.{changed_in_place}
+use Rattle.law_world.specs.GuardSessions.InPlace.{changed_in_place}
 use Rattle.law_log.specs.Ghosts.{Log, Ghosts}
 use Rattle.fkv_session.specs.Sessions.{SessionState}
 use Rattle.fkv_world.specs.Runs.{World, run}

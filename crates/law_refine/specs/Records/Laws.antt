@@ -7,10 +7,10 @@ use Rattle.law_log.specs.Ghosts.{Ghosts}
 use Rattle.fkv_session.specs.Sessions.{SessionState}
 use Rattle.fkv_world.specs.Runs.{World, run}
 use Rattle.fkv_world.specs.World.{Event}
-use Rattle.law_guard.specs.Guarded.GuardEvents as guarded
-use Rattle.law_guard.specs.Guarded.OpenedStore.{IsOpenedStore}
-use Rattle.law_guard.specs.Guarded.Shows as guard
-use Rattle.law_guard.specs.Guarded.Shows.{AreBelowTail, ArePermitted, ChangesBelowTail, guard_opening}
+use Rattle.law_world.specs.Guarded.GuardEvents as guarded
+use Rattle.law_world.specs.Guarded.OpenedStore.{IsOpenedStore}
+use Rattle.law_world.specs.Guarded.Shows as guard
+use Rattle.law_world.specs.Guarded.Shows.{AreBelowTail, ArePermitted, ChangesBelowTail, guard_opening}
 use Rattle.law_refine.specs.Events.GhostEvents.{home_in, life_ghosts, mapped}
 use Rattle.law_refine.specs.Events.Reserved.{IsUnbornFrom, ReservesNothing, tail_at}
 use Rattle.law_refine.specs.Events.Published.{AllMeetPublished}

@@ -1,5 +1,5 @@
 -- The law, by the records that the log has.
-use Rattle.law_changes.proofs.OfDevice.Openings.{cells_fit_opened}
+use Rattle.law_opening.proofs.OfChanges.OfDevice.Openings.{cells_fit_opened}
 use Rattle.law_order.proofs.fits.law_opening_fits.Goals as goal
 
 pub returns : goal.returns

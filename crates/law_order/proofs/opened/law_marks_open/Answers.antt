@@ -1,6 +1,6 @@
 -- The laws, by what the words of an opened store show.
 use Rattle.fkv_core.specs.Openings.{beginning}
-use Rattle.law_changes.proofs.OfMails.Life.{its_seat}
+use Rattle.law_opening.proofs.OfChanges.OfMails.Life.{its_seat}
 use Rattle.law_order.proofs.opened.law_marks_open.Goals as goal
 
 pub returns-clause-marks : goal.returns-clause-marks

@@ -7,7 +7,7 @@ use Rattle.fkv_plane.specs.declared.places.Places.{Places}
 use Rattle.fkv_world.specs.Runs.{World, run}
 use Rattle.fkv_world.proofs.Shown.{places_stay}
 use Rattle.law_opening.specs.Log.OpeningLog.{opening_ghosts}
-use Rattle.law_parts.specs.Index.LifeEntries.{lists_seen}
+use Rattle.law_refine.specs.Index.LifeEntries.{lists_seen}
 use Rattle.law_order.proofs.OfPrefix.Slots.{has_slots}
 use Rattle.law_order.specs.Decided.Cut.{log_beside}
 use Rattle.law_order.proofs.prefix.law_slots_open.Goals as goal

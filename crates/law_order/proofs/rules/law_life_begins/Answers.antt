@@ -1,10 +1,10 @@
 -- The law, by those of its parts.
 use Rattle.std.proofs.Common.{sym, subst}
 use Rattle.fkv_base.specs.declared.shapes.Shape.{Shape}
-use Rattle.law_changes.proofs.OfDevice.Image.{in_image}
-use Rattle.law_changes.proofs.OfDevice.Mailboxes.{mailboxes_empty}
+use Rattle.law_opening.proofs.OfChanges.OfDevice.Image.{in_image}
+use Rattle.law_opening.proofs.OfChanges.OfDevice.Mailboxes.{mailboxes_empty}
 use Rattle.law_log.specs.Enabled.{IsOpened}
-use Rattle.law_parts.proofs.OfMail.Openings.{opened_mailbox}
+use Rattle.law_refine.proofs.OfMail.Openings.{opened_mailbox}
 use Rattle.law_refine.specs.Events.GhostEvents.{home_in}
 use Rattle.law_opening.specs.Log.Maps.{opening_map}
 use Rattle.law_opening.specs.Log.OpeningLog.{opening_ghosts}

@@ -13,7 +13,7 @@ use Rattle.law_refine.proofs.OfCalls.SameHistory.{same_history}
 use Rattle.fkv_opening.specs.declared.opened_store.Opened.{Opened}
 use Rattle.fkv_world.specs.Runs.{run}
 use Rattle.fkv_world.specs.World.{Event, Now}
-use Rattle.law_guard.specs.Guarded.Shows.{ArePermitted}
+use Rattle.law_world.specs.Guarded.Shows.{ArePermitted}
 use Rattle.law_refine.specs.Events.GhostEvents.{home_in}
 use Rattle.law_refine.proofs.OfRecords.Below.{published_permitted}
 use Rattle.law_order.specs.Rules.Ordered.{effects_so_far, lines_so_far}

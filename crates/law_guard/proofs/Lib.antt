@@ -1,3 +1,0 @@
-pub mod OfGuarded
-mod OfKeeper
-pub mod OfSessions

@@ -1,6 +1,0 @@
--- The law, by each session's own run.
-use Rattle.law_guard.proofs.OfGuarded.BelowTail.{below_permitted}
-use Rattle.law_guard.proofs.guarded.law_world_permitted.Goals as goal
-
-pub returns : goal.returns
-returns c = λ first start events opened below. below_permitted first start events opened below

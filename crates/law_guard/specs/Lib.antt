@@ -1,3 +1,0 @@
-pub mod Guarded
-pub mod Keeper
-pub mod Sessions

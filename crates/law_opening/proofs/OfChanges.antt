@@ -1,0 +1,16 @@
+pub mod AttemptRows
+pub mod Events
+pub mod Falls
+pub mod Life
+pub mod LifeEvents
+pub mod LifeLogs
+pub mod Logs
+pub mod OfDevice
+pub mod OfFits
+pub mod OfMails
+pub mod OfSessions
+pub mod Openings
+pub mod Rows
+pub mod Told
+pub mod TryRows
+pub mod Walks

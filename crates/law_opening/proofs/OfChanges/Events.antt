@@ -1,0 +1,155 @@
+-- What a step does to the log, by what its session goes by: a record that it makes leads below the tail, and what it changes in place lies above the opening.
+use Rattle.std.proofs.Common.{◌≡◌, ℕ, ◌<◌, ◌≤◌, refl, Bool, true, false, List, [], ◌∷◌, ◌++◌}
+use Rattle.std.specs.Prelude.{⊤, ◌==◌, if◌then◌else◌, Some}
+use Rattle.fkv_index.specs.Finding.{find_next_ask}
+use Rattle.fkv_index.specs.Publishing.{publish_next_ask}
+use Rattle.fkv_index.specs.declared.finding.FindAnswer.{FindAnswer}
+use Rattle.fkv_index.specs.declared.finding.Found.{Found}
+use Rattle.fkv_index.specs.declared.finding.Found.TheVariants.{Slot, NoSlot}
+use Rattle.fkv_index.specs.declared.publishing.PublishAnswer.{PublishAnswer}
+use Rattle.fkv_index.specs.declared.publishing.PublishAnswer.TheVariants.{Won}
+use Rattle.fkv_log.specs.Reserving.{reserve_next_ask}
+use Rattle.fkv_log.specs.declared.invalidating.Invalidating.{Invalidating}
+use Rattle.fkv_log.specs.declared.invalidating.Invalidating.TheVariants as invalidating
+use Rattle.fkv_log.specs.declared.reserving.ReserveAnswer.{ReserveAnswer}
+use Rattle.fkv_log.specs.declared.reserving.ReserveAnswer.TheVariants.{Reserved}
+use Rattle.fkv_map.specs.Keys.{reply_from}
+use Rattle.fkv_map.specs.declared.history.HistoryEntry.{HistoryEntry}
+use Rattle.fkv_map.specs.declared.operations.Op.{Op}
+use Rattle.fkv_map.specs.declared.operations.Op.TheVariants.{Read}
+use Rattle.fkv_ops.specs.Appending.{AppendState}
+use Rattle.fkv_ops.specs.Trying.{TryState}
+use Rattle.fkv_ops.specs.Values.{value_of}
+use Rattle.fkv_ops.specs.Walking.{WalkState}
+use Rattle.fkv_ops.specs.declared.answers.TryAnswer.{TryAnswer}
+use Rattle.fkv_ops.specs.declared.answers.TryAnswer.TheVariants as answer
+use Rattle.fkv_ops.specs.declared.appending.Appending.{Appending}
+use Rattle.fkv_ops.specs.declared.appending.Appending.TheVariants as appending
+use Rattle.fkv_ops.specs.declared.trying.Trying.{Trying}
+use Rattle.fkv_ops.specs.declared.trying.Trying.TheVariants.{Walks, SwapsValue, ChangesValue, Appends}
+use Rattle.fkv_ops.specs.declared.walking.Walking.{Walking}
+use Rattle.fkv_ops.specs.declared.walking.Walking.TheVariants.{Finds}
+use Rattle.fkv_pending.specs.Attempting.{AttemptState, attempt_ask, attempt_next}
+use Rattle.fkv_pending.specs.declared.attempting.Attempting.{Attempting}
+use Rattle.fkv_pending.specs.declared.attempting.Attempting.TheVariants.{Tries}
+use Rattle.fkv_pending.specs.declared.pending_requests.PendingRequest.{PendingRequest}
+use Rattle.fkv_plane.specs.Asked.{reply_to}
+use Rattle.fkv_plane.specs.declared.asks.Ask.{Ask}
+use Rattle.fkv_plane.specs.declared.asks.Ask.TheVariants.{Put, Take, Done}
+use Rattle.fkv_plane.specs.declared.places.Places.{Places}
+use Rattle.fkv_session.specs.Sessions.{Seat, SessionState, bits_of, room_of}
+use Rattle.fkv_session.specs.declared.answers.Told.{Told}
+use Rattle.fkv_session.specs.declared.sessions.Sitting.{Sitting}
+use Rattle.fkv_session.specs.declared.sessions.Sitting.TheVariants.{Attempts, Polls}
+use Rattle.fkv_world.specs.Past.{Traced}
+use Rattle.law_world.specs.GuardSessions.InPlace.{attempt_changes, sitting_changes, try_changes}
+use Rattle.law_local.specs.Sessions.Known.{is_attempting}
+use Rattle.law_refine.specs.Events.Lines.{read_in_hand, read_waiting}
+use Rattle.law_world.specs.GuardSessions.Tries.{is_for_entry}
+use Rattle.law_local.specs.Tries.TryRows.{cell_of}
+use Rattle.law_log.specs.Ghosts.{GhostEvent, Log, Reserves, Drops, Changes}
+use Rattle.law_refine.specs.Events.Appends.{append_ghosts, entry_made, invalidate_ghosts, publish_ghosts, reserved_ghosts}
+use Rattle.law_refine.specs.Events.Sessions.{attempt_ghosts, sitting_ghosts, step_ghosts, ticket_of, tried_ghosts, value_ghosts}
+use Rattle.law_refine.specs.Events.Tries.{find_ghosts, found_ghosts, search_ghosts, try_ghosts, walk_ghosts}
+use Rattle.law_opening.specs.Changes.Linked.{IsLed}
+use Rattle.law_opening.proofs.OfChanges.Rows.{AttemptSo, TrySo, made_previous}
+
+-- a record that is made leads below one address, and what changes in place lies above another
+abbrev pub is_so : ℕ → ℕ → GhostEvent → Type 0
+is_so low high (Reserves a entry cell) = cell.previous < high
+is_so low high (Changes a entry) = low ≤ a
+is_so low high event = ⊤
+
+abbrev pub AllSo : ℕ → ℕ → List GhostEvent → Type 0
+AllSo low high [] = ⊤
+AllSo low high (event ∷ before) = is_so low high event × AllSo low high before
+
+pub both_so : (low high : ℕ) (later before : List GhostEvent) → AllSo low high later → AllSo low high before → AllSo low high (later ++ before)
+both_so low high [] before one other = other
+both_so low high (event ∷ later) before one other = (one.0, both_so low high later before one.1 other)
+
+module _ (low high : ℕ) where
+  -- ---- an append
+  reserved_so : (a : AppendState) (entry : HistoryEntry) (ask : Ask ReserveAnswer) → a.its_words.header.previous.0 < high → AllSo low high (reserved_ghosts a entry ask)
+  reserved_so a entry (Done (Reserved addr)) below = by_test (is_for_entry a addr)
+    where
+      by_test : (b : Bool) → AllSo low high (if b then Reserves addr.0 entry (cell_of a.its_words) ∷ [] else Drops addr.0 ∷ Reserves addr.0 entry (cell_of a.its_words) ∷ [])
+      by_test true = (below, tt)
+      by_test false = (tt, (below, tt))
+  reserved_so a entry ask below = tt
+
+  publish_so : (addr : ℕ) (ask : Ask PublishAnswer) → AllSo low high (publish_ghosts addr ask)
+  publish_so addr (Done Won) = (tt, tt)
+  publish_so addr ask = tt
+
+  invalidate_so : (its : Invalidating) → AllSo low high (invalidate_ghosts its)
+  invalidate_so invalidating.AtRest = tt
+  invalidate_so (invalidating.StoresHeader addr header) = (tt, tt)
+
+  append_so : (room : ℕ) (a : AppendState) (entry : HistoryEntry) (step : Appending) (reply : ℕ) → a.its_words.header.previous.0 < high → AllSo low high (append_ghosts room a entry step reply)
+  append_so room a entry appending.Reserves reply below = reserved_so a entry (reserve_next_ask room a.reserving reply) below
+  append_so room a entry (appending.Publishes addr) reply below = publish_so addr.0 (publish_next_ask a.publishing reply)
+  append_so room a entry appending.Invalidates reply below = invalidate_so a.invalidating
+  append_so room a entry step reply below = tt
+
+  -- ---- a search
+  found_so : (reader : ℕ) (its : Found) → AllSo low high (found_ghosts reader its)
+  found_so reader (Slot place word) = (tt, tt)
+  found_so reader NoSlot = (tt, tt)
+  found_so reader its = tt
+
+  find_so : (reader : ℕ) (ask : Ask FindAnswer) → AllSo low high (find_ghosts reader ask)
+  find_so reader (Done its) = found_so reader its.found
+  find_so reader ask = tt
+
+  walk_so : (p : Places) (reader : ℕ) (w : WalkState) (step : Walking) (reply : ℕ) → AllSo low high (walk_ghosts p reader w step reply)
+  walk_so p reader w Finds reply = find_so reader (find_next_ask p w.finding reply)
+  walk_so p reader w step reply = tt
+
+  search_so : (p : Places) (op : Op) (reader : ℕ) (w : WalkState) (reply : ℕ) → AllSo low high (search_ghosts p op reader w reply)
+  search_so p (Read key) reader w reply = walk_so p reader w w.step reply
+  search_so p op reader w reply = tt
+
+  -- ---- a try
+  module _ (log : Log) (led : (a : ℕ) → IsLed log a → a < high) where
+    try_so : (p : Places) (room session reader : ℕ) (pending : PendingRequest) (t : TryState) (step : Trying) (reply : ℕ) → ((a : ℕ) → try_changes step ≡ Some a → low ≤ a) → TrySo log t.walk (made_previous t) step
+        → AllSo low high (try_ghosts p room session reader pending t step reply)
+    try_so p room session reader pending t Walks reply above so = search_so p pending.request.op reader t.walk reply
+    try_so p room session reader pending t (SwapsValue addr) reply above so = (above addr.0 refl, tt)
+    try_so p room session reader pending t (ChangesValue addr old) reply above so = by_test (reply == old)
+      where
+        by_test : (b : Bool) → AllSo low high (if b then Changes addr.0 (entry_made session pending (reply_from (value_of old) t.request.op)) ∷ [] else [])
+        by_test true = (above addr.0 refl, tt)
+        by_test false = tt
+    try_so p room session reader pending t (Appends its) reply above so = append_so room t.append (entry_made session pending its) t.append.step reply (led (made_previous t) so)
+    try_so p room session reader pending t step reply above so = tt
+
+    -- ---- an attempt
+    value_so : (op : Op) (reader : ℕ) (ask : Ask TryAnswer) → AllSo low high (value_ghosts op reader ask)
+    value_so (Read key) reader (Done (answer.Found value)) = (tt, tt)
+    value_so (Read key) reader (Done answer.Absent) = (tt, tt)
+    value_so op reader ask = tt
+
+    tried_so : (k : Seat) (reader : ℕ) (a : AttemptState) (step : Attempting) (reply : ℕ) → ((i : ℕ) → attempt_changes a step ≡ Some i → low ≤ i) → AttemptSo log a.trial step → AllSo low high (tried_ghosts k reader a step reply)
+    tried_so k reader a Tries reply above so = try_so k.places (room_of k) k.number reader a.pending a.trial a.trial.step reply above so.1
+    tried_so k reader a step reply above so = tt
+
+    attempt_events : (k : Seat) (reader : ℕ) (a : AttemptState) (reply : ℕ) → ((i : ℕ) → attempt_changes a a.step ≡ Some i → low ≤ i) → AttemptSo log a.trial a.step → AllSo low high (attempt_ghosts k reader a reply)
+    attempt_events k reader a reply above so =
+        both_so low high (value_ghosts a.pending.request.op reader (attempt_ask k.places k.number (attempt_next k.places (bits_of k) (room_of k) k.number a reply))) (tried_ghosts k reader a a.step reply)
+        (value_so a.pending.request.op reader (attempt_ask k.places k.number (attempt_next k.places (bits_of k) (room_of k) k.number a reply)))
+        (tried_so k reader a a.step reply above so)
+
+    pub sitting_so : (k : Seat) (trace : List Traced) (s : SessionState) (step : Sitting) (reply : ℕ) → ((i : ℕ) → sitting_changes s step ≡ Some i → low ≤ i) → (is_attempting step ≡ true → AttemptSo log s.attempt.trial s.attempt.step)
+        → AllSo low high (sitting_ghosts k trace s step reply)
+    sitting_so k trace s (Attempts has_shifted) reply above so = attempt_events k (read_in_hand k.number trace) s.attempt reply above (so refl)
+    sitting_so k trace s (Polls index) reply above so = attempt_events k (read_waiting k.number (ticket_of s.attempt.pending.name) trace) s.attempt reply above (so refl)
+    sitting_so k trace s step reply above so = tt
+
+    pub step_so : (k : Seat) (trace : List Traced) (s : SessionState) (words : List ℕ) (ask : Ask Told) → ((i : ℕ) → sitting_changes s s.step ≡ Some i → low ≤ i) → (is_attempting s.step ≡ true → AttemptSo log s.attempt.trial s.attempt.step)
+        → AllSo low high (step_ghosts k trace s words ask)
+    unfolding step_ghosts
+    step_so k trace s words (Done its) above so = tt
+    step_so k trace s words (Put slot action) above so = tt
+    step_so k trace s words (Take slot) above so = tt
+    step_so k trace s words ask above so = sitting_so k trace s s.step (reply_to words ask) above so

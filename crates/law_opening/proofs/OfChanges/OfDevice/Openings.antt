@@ -1,0 +1,20 @@
+-- The numbers of an opened store's log fit in words, since its records stand in the image.
+use Rattle.std.proofs.Common.{ℕ, sym, subst, List}
+use Rattle.fkv_opening.specs.Opened.{IsStoreOf}
+use Rattle.fkv_opening.specs.declared.opened_store.Opened.{Opened}
+use Rattle.fkv_pairs.specs.Pairs.{log_of_store}
+use Rattle.fkv_record.specs.declared.records.Record.{Record}
+use Rattle.law_opening.specs.Log.OpeningLog.{opening_ghosts, opening_log}
+use Rattle.law_opening.specs.Log.Records.{HasWhatCounts, IsCellOf, cell_of}
+use Rattle.law_opening.proofs.OfChanges.OfFits.Numbers.{said_fits}
+use Rattle.law_opening.specs.Changes.Fits.{CellFits, CellsFit}
+
+-- a record as a cell
+record_fits : (version : ℕ) (x : Record) → CellFits (cell_of version x)
+record_fits version x = (x.key_fits, said_fits x.value x.value_fits)
+
+-- where the log has the records of the image that count, and no others
+pub cells_fit_opened : (bytes : List ℕ) (o : Opened) (store : IsStoreOf bytes o) → HasWhatCounts (log_of_store bytes o store) (opening_log bytes o) → CellsFit (opening_ghosts bytes o).log
+cells_fit_opened bytes o store has a cell is =
+    let its : IsCellOf (log_of_store bytes o store) a cell = has.published a cell is in
+    subst CellFits (sym its.its) (record_fits store.newest.slot.number its.held)

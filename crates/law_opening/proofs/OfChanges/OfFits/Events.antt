@@ -1,0 +1,148 @@
+-- What a step makes fits in words, for operations that fit.
+use Rattle.std.proofs.Common.{◌≡◌, ℕ, refl, sym, subst, Bool, true, false, List, [], ◌∷◌}
+use Rattle.std.specs.Prelude.{◌==◌, if◌then◌else◌}
+use Rattle.fkv_index.specs.Finding.{find_next_ask}
+use Rattle.fkv_index.specs.Publishing.{publish_next_ask}
+use Rattle.fkv_index.specs.declared.finding.FindAnswer.{FindAnswer}
+use Rattle.fkv_index.specs.declared.finding.Found.{Found}
+use Rattle.fkv_index.specs.declared.finding.Found.TheVariants.{Slot, NoSlot}
+use Rattle.fkv_index.specs.declared.publishing.PublishAnswer.{PublishAnswer}
+use Rattle.fkv_index.specs.declared.publishing.PublishAnswer.TheVariants.{Won}
+use Rattle.fkv_log.specs.Reserving.{reserve_next_ask}
+use Rattle.fkv_log.specs.declared.invalidating.Invalidating.{Invalidating}
+use Rattle.fkv_log.specs.declared.invalidating.Invalidating.TheVariants as invalidating
+use Rattle.fkv_log.specs.declared.record_words.RecordWords.{RecordWords}
+use Rattle.fkv_log.specs.declared.reserving.ReserveAnswer.{ReserveAnswer}
+use Rattle.fkv_log.specs.declared.reserving.ReserveAnswer.TheVariants.{Reserved}
+use Rattle.fkv_map.specs.Fits.{OpFits}
+use Rattle.fkv_map.specs.Keys.{reply_from}
+use Rattle.fkv_map.specs.declared.history.HistoryEntry.{HistoryEntry}
+use Rattle.fkv_map.specs.declared.operations.Op.{Op}
+use Rattle.fkv_map.specs.declared.operations.Op.TheVariants.{Read}
+use Rattle.fkv_ops.specs.Appending.{AppendState}
+use Rattle.fkv_ops.specs.Trying.{TryState}
+use Rattle.fkv_ops.specs.Values.{value_of}
+use Rattle.fkv_ops.specs.Walking.{WalkState}
+use Rattle.fkv_ops.specs.declared.answers.TryAnswer.{TryAnswer}
+use Rattle.fkv_ops.specs.declared.answers.TryAnswer.TheVariants as answer
+use Rattle.fkv_ops.specs.declared.appending.Appending.{Appending}
+use Rattle.fkv_ops.specs.declared.appending.Appending.TheVariants as appending
+use Rattle.fkv_ops.specs.declared.requests.Request.{Request}
+use Rattle.fkv_ops.specs.declared.trying.Trying.{Trying}
+use Rattle.fkv_ops.specs.declared.trying.Trying.TheVariants.{Walks, ChangesValue, SwapsValue, Appends}
+use Rattle.fkv_ops.specs.declared.walking.Walking.{Walking}
+use Rattle.fkv_ops.specs.declared.walking.Walking.TheVariants.{Finds}
+use Rattle.fkv_pending.specs.Attempting.{AttemptState, attempt_ask, attempt_next}
+use Rattle.fkv_pending.specs.declared.attempting.Attempting.{Attempting}
+use Rattle.fkv_pending.specs.declared.attempting.Attempting.TheVariants.{Tries}
+use Rattle.fkv_pending.specs.declared.pending_requests.PendingRequest.{PendingRequest}
+use Rattle.fkv_plane.specs.Asked.{reply_to}
+use Rattle.fkv_plane.specs.declared.asks.Ask.{Ask}
+use Rattle.fkv_plane.specs.declared.asks.Ask.TheVariants.{Put, Take, Done}
+use Rattle.fkv_plane.specs.declared.places.Places.{Places}
+use Rattle.fkv_session.specs.Sessions.{Seat, SessionState, bits_of, room_of}
+use Rattle.fkv_session.specs.declared.answers.Told.{Told}
+use Rattle.fkv_session.specs.declared.sessions.Sitting.{Sitting}
+use Rattle.fkv_session.specs.declared.sessions.Sitting.TheVariants.{Attempts, Polls}
+use Rattle.fkv_world.specs.Past.{Traced}
+use Rattle.law_opening.proofs.OfChanges.OfFits.Logs.{AllMakeFit, both_make}
+use Rattle.law_opening.proofs.OfChanges.OfFits.Numbers.{said_fits}
+use Rattle.law_opening.proofs.OfChanges.OfFits.Rows.{AttemptOk, TryRow, WordsOk}
+use Rattle.law_opening.proofs.OfChanges.Told.{goes_so}
+use Rattle.law_opening.specs.Changes.Fits.{CellFits}
+use Rattle.law_world.specs.GuardSessions.Tries.{is_for_entry}
+use Rattle.law_local.specs.Sessions.Inputs.{AttemptsBy, TriesFor}
+use Rattle.law_local.specs.Sessions.Known.{is_attempting}
+use Rattle.law_local.specs.Tries.TryRows.{cell_of}
+use Rattle.law_log.specs.Ghosts.{Changes, Drops, Log, Reserves}
+use Rattle.law_refine.specs.Events.Appends.{append_ghosts, entry_made, invalidate_ghosts, publish_ghosts, reserved_ghosts}
+use Rattle.law_refine.specs.Events.Lines.{read_in_hand, read_waiting}
+use Rattle.law_refine.specs.Events.Sessions.{attempt_ghosts, sitting_ghosts, step_ghosts, ticket_of, tried_ghosts, value_ghosts}
+use Rattle.law_refine.specs.Events.Tries.{find_ghosts, found_ghosts, search_ghosts, try_ghosts, walk_ghosts}
+
+-- the record of words that fit
+cell_fits : (words : RecordWords) → WordsOk words → CellFits (cell_of words)
+cell_fits words ok = (ok.0, said_fits words.value ok.1)
+
+-- ---- an append
+reserved_make : (a : AppendState) (entry : HistoryEntry) (ask : Ask ReserveAnswer) → (OpFits entry.op → WordsOk a.its_words) → AllMakeFit (reserved_ghosts a entry ask)
+reserved_make a entry (Done (Reserved addr)) makes = by_test (is_for_entry a addr)
+  where
+    by_test : (b : Bool) → AllMakeFit (if b then Reserves addr.0 entry (cell_of a.its_words) ∷ [] else Drops addr.0 ∷ Reserves addr.0 entry (cell_of a.its_words) ∷ [])
+    by_test true = (λ fits. cell_fits a.its_words (makes fits), tt)
+    by_test false = (tt, (λ fits. cell_fits a.its_words (makes fits), tt))
+reserved_make a entry ask makes = tt
+
+publish_make : (addr : ℕ) (ask : Ask PublishAnswer) → AllMakeFit (publish_ghosts addr ask)
+publish_make addr (Done Won) = (tt, tt)
+publish_make addr ask = tt
+
+invalidate_make : (its : Invalidating) → AllMakeFit (invalidate_ghosts its)
+invalidate_make invalidating.AtRest = tt
+invalidate_make (invalidating.StoresHeader addr header) = (tt, tt)
+
+append_make : (room : ℕ) (a : AppendState) (entry : HistoryEntry) (step : Appending) (reply : ℕ) → (OpFits entry.op → WordsOk a.its_words) → AllMakeFit (append_ghosts room a entry step reply)
+append_make room a entry appending.Reserves reply makes = reserved_make a entry (reserve_next_ask room a.reserving reply) makes
+append_make room a entry (appending.Publishes addr) reply makes = publish_make addr.0 (publish_next_ask a.publishing reply)
+append_make room a entry appending.Invalidates reply makes = invalidate_make a.invalidating
+append_make room a entry step reply makes = tt
+
+-- ---- a search
+found_make : (reader : ℕ) (its : Found) → AllMakeFit (found_ghosts reader its)
+found_make reader (Slot place word) = (tt, tt)
+found_make reader NoSlot = (tt, tt)
+found_make reader its = tt
+
+find_make : (reader : ℕ) (ask : Ask FindAnswer) → AllMakeFit (find_ghosts reader ask)
+find_make reader (Done its) = found_make reader its.found
+find_make reader ask = tt
+
+walk_make : (p : Places) (reader : ℕ) (w : WalkState) (step : Walking) (reply : ℕ) → AllMakeFit (walk_ghosts p reader w step reply)
+walk_make p reader w Finds reply = find_make reader (find_next_ask p w.finding reply)
+walk_make p reader w step reply = tt
+
+search_make : (p : Places) (op : Op) (reader : ℕ) (w : WalkState) (reply : ℕ) → AllMakeFit (search_ghosts p op reader w reply)
+search_make p (Read key) reader w reply = walk_make p reader w w.step reply
+search_make p op reader w reply = tt
+
+-- ---- a try
+module _ (log : Log) (flushed : ℕ) where
+  try_make : (p : Places) (room session reader : ℕ) (pending : PendingRequest) (t : TryState) (step : Trying) (reply : ℕ) → t.request ≡ pending.request → TryRow log flushed t step → AllMakeFit (try_ghosts p room session reader pending t step reply)
+  try_make p room session reader pending t Walks reply same ok = search_make p pending.request.op reader t.walk reply
+  try_make p room session reader pending t (SwapsValue addr) reply same ok = (tt, tt)
+  try_make p room session reader pending t (ChangesValue addr old) reply same ok = by_test (reply == old)
+    where
+      by_test : (b : Bool) → AllMakeFit (if b then Changes addr.0 (entry_made session pending (reply_from (value_of old) t.request.op)) ∷ [] else [])
+      by_test true = (tt, tt)
+      by_test false = tt
+  try_make p room session reader pending t (Appends its) reply same ok =
+      append_make room t.append (entry_made session pending its) t.append.step reply (λ fits. ok (subst (λ (r : Request). OpFits r.op) (sym same) fits))
+  try_make p room session reader pending t step reply same ok = tt
+
+  -- ---- an attempt
+  value_make : (op : Op) (reader : ℕ) (ask : Ask TryAnswer) → AllMakeFit (value_ghosts op reader ask)
+  value_make (Read key) reader (Done (answer.Found value)) = (tt, tt)
+  value_make (Read key) reader (Done answer.Absent) = (tt, tt)
+  value_make op reader ask = tt
+
+  tried_make : (k : Seat) (reader : ℕ) (a : AttemptState) (step : Attempting) (reply : ℕ) → TriesFor (bits_of k) a step → AttemptOk log flushed a → AllMakeFit (tried_ghosts k reader a step reply)
+  tried_make k reader a Tries reply tries ok = try_make k.places (room_of k) k.number reader a.pending a.trial a.trial.step reply tries.its_request ok.1.1.1
+  tried_make k reader a step reply tries ok = tt
+
+  attempt_make : (k : Seat) (reader : ℕ) (a : AttemptState) (reply : ℕ) → TriesFor (bits_of k) a a.step → AttemptOk log flushed a → AllMakeFit (attempt_ghosts k reader a reply)
+  attempt_make k reader a reply tries ok =
+      both_make (value_ghosts a.pending.request.op reader (attempt_ask k.places k.number (attempt_next k.places (bits_of k) (room_of k) k.number a reply))) (tried_ghosts k reader a a.step reply)
+      (value_make a.pending.request.op reader (attempt_ask k.places k.number (attempt_next k.places (bits_of k) (room_of k) k.number a reply)))
+      (tried_make k reader a a.step reply tries ok)
+
+  sitting_make : (k : Seat) (trace : List Traced) (s : SessionState) (step : Sitting) (reply : ℕ) → AttemptsBy k s step → (is_attempting step ≡ true → AttemptOk log flushed s.attempt) → AllMakeFit (sitting_ghosts k trace s step reply)
+  sitting_make k trace s (Attempts has_shifted) reply so ok = attempt_make k (read_in_hand k.number trace) s.attempt reply (goes_so k s (Attempts has_shifted) refl so).tries (ok refl)
+  sitting_make k trace s (Polls index) reply so ok = attempt_make k (read_waiting k.number (ticket_of s.attempt.pending.name) trace) s.attempt reply (goes_so k s (Polls index) refl so).tries (ok refl)
+  sitting_make k trace s step reply so ok = tt
+
+  pub step_make : (k : Seat) (trace : List Traced) (s : SessionState) (words : List ℕ) (ask : Ask Told) → AttemptsBy k s s.step → (is_attempting s.step ≡ true → AttemptOk log flushed s.attempt) → AllMakeFit (step_ghosts k trace s words ask)
+  unfolding step_ghosts
+  step_make k trace s words (Done its) so ok = tt
+  step_make k trace s words (Put slot action) so ok = tt
+  step_make k trace s words (Take slot) so ok = tt
+  step_make k trace s words ask so ok = sitting_make k trace s s.step (reply_to words ask) so ok

@@ -1,0 +1,210 @@
+-- What a session that attempts something knows by its control state of numbers: what it has loaded fits in a word, and what it seeks on the device is there.
+use Rattle.std.proofs.Common.{◌≡◌, ◌⊎◌, inl, inr, ℕ, ◌<◌, ◌≤◌, arith, false, subst, Option, Some, None}
+use Rattle.std.specs.Prelude.{⊤, ◌==◌}
+use Rattle.fkv_log.specs.declared.loading.Loading.{Loading}
+use Rattle.fkv_log.specs.declared.loading.Loading.TheVariants as load
+use Rattle.fkv_log.specs.declared.record_words.RecordWords.{RecordWords}
+use Rattle.fkv_map.specs.Fits.{NumberFits, OpFits}
+use Rattle.fkv_ops.specs.Trying.{TryState}
+use Rattle.fkv_ops.specs.Walking.{WalkState}
+use Rattle.fkv_ops.specs.declared.answers.DiskRecord.{DiskRecord}
+use Rattle.fkv_ops.specs.declared.answers.TryAnswer.{TryAnswer}
+use Rattle.fkv_ops.specs.declared.answers.TryAnswer.TheVariants as answer
+use Rattle.fkv_ops.specs.declared.header_words.HeaderSaid.{HeaderSaid}
+use Rattle.fkv_ops.specs.declared.header_words.HeaderSaid.TheVariants.{Says, Spoiled}
+use Rattle.fkv_ops.specs.declared.requests.HeldRecord.{HeldRecord}
+use Rattle.fkv_ops.specs.declared.trying.OldValue.{OldValue}
+use Rattle.fkv_ops.specs.declared.trying.OldValue.TheVariants.{InMemory, Known}
+use Rattle.fkv_ops.specs.declared.trying.Trying.{Trying}
+use Rattle.fkv_ops.specs.declared.trying.Trying.TheVariants.{Ended, TakesExclusive, Appends, DropsExclusive, DropsShared}
+use Rattle.fkv_ops.specs.declared.walking.WalkAnswer.{WalkAnswer}
+use Rattle.fkv_ops.specs.declared.walking.WalkAnswer.TheVariants as walk
+use Rattle.fkv_ops.specs.declared.walking.Walking.{Walking}
+use Rattle.fkv_ops.specs.declared.walking.Walking.TheVariants as walking
+use Rattle.fkv_pending.specs.Attempting.{AttemptState}
+use Rattle.fkv_pending.specs.declared.mailing.MailRecord.{MailRecord}
+use Rattle.fkv_pending.specs.declared.mailing.MailTask.{MailTask}
+use Rattle.fkv_pending.specs.declared.mailing.MailTask.TheVariants.{Clear, Take, Put}
+use Rattle.fkv_pending.specs.declared.mailing.Mailing.{Mailing}
+use Rattle.fkv_pending.specs.declared.mailing.Mailing.TheVariants as mailing
+use Rattle.fkv_pending.specs.declared.pending_requests.PendingRequest.{PendingRequest}
+use Rattle.law_opening.proofs.OfChanges.Rows.{IsAt, Stays}
+use Rattle.law_log.specs.Ghosts.{Log}
+use Rattle.law_refine.specs.Events.Published.{IsPublished}
+
+-- ---- on the device
+-- a published record is there, below the flushed offset
+abbrev pub IsThere : Log → ℕ → ℕ → Type 0
+IsThere log flushed a = IsPublished (log.cells a) × (a < flushed)
+
+-- and so whatever is led to from there, unless that is none
+abbrev pub IsLedThere : Log → ℕ → ℕ → Type 0
+IsLedThere log flushed a = (a ≡ 0) ⊎ IsThere log flushed a
+
+pub led_on : (log : Log) (flushed a : ℕ) → (a == 0) ≡ false → IsLedThere log flushed a → IsThere log flushed a
+led_on log flushed a other (inl none) = absurd (not_zero a none other)
+  where
+    not_zero : (n : ℕ) → n ≡ 0 → (n == 0) ≡ false → ⊥
+    not_zero n none other = let zero : (0 == 0) ≡ false = subst (λ (x : ℕ). (x == 0) ≡ false) none other in cc
+led_on log flushed a other (inr there) = there
+
+abbrev pub SaysThere : Log → ℕ → HeaderSaid → Type 0
+SaysThere log flushed (Says previous version) = IsLedThere log flushed previous.0
+SaysThere log flushed Spoiled = ⊤
+
+-- ---- a request
+abbrev pub HeldOk : Log → ℕ → Option HeldRecord → Type 0
+HeldOk log flushed None = ⊤
+HeldOk log flushed (Some it) = NumberFits it.value × IsLedThere log flushed it.previous.0
+
+abbrev pub SoughtOk : Log → ℕ → Option DiskRecord → Type 0
+SoughtOk log flushed None = ⊤
+SoughtOk log flushed (Some it) = IsThere log flushed it.addr.0
+
+abbrev pub PendingOk : Log → ℕ → PendingRequest → Type 0
+PendingOk log flushed pending = HeldOk log flushed pending.request.held × SoughtOk log flushed pending.sought
+
+-- ---- a walk
+-- what it loads is of a published record, at or above the head
+abbrev pub LoadsAt : Log → ℕ → Loading → Type 0
+LoadsAt log head (load.LoadsHeader its) = IsAt log head its.0
+LoadsAt log head (load.LoadsKey its header) = IsAt log head its.0
+LoadsAt log head (load.HasKey its header key) = IsAt log head its.0
+LoadsAt log head (load.LoadsValue its header key) = IsAt log head its.0
+LoadsAt log head load.AtRest = ⊤
+
+abbrev pub WalkAnswerOk : Log → ℕ → WalkAnswer → Type 0
+WalkAnswerOk log flushed (walk.OnDisk addr) = IsThere log flushed addr.0
+WalkAnswerOk log flushed (walk.Value value) = NumberFits value
+WalkAnswerOk log flushed its = ⊤
+
+abbrev pub WalkRow : Log → ℕ → ℕ → Loading → Walking → Type 0
+WalkRow log flushed head loading (walking.Ended its) = WalkAnswerOk log flushed its
+WalkRow log flushed head loading walking.Finds = ⊤
+WalkRow log flushed head loading step = LoadsAt log head loading
+
+abbrev pub WalkOk : Log → ℕ → WalkState → Type 0
+WalkOk log flushed w = WalkRow log flushed w.head.0 w.loading w.step
+
+-- ---- a try
+abbrev pub AnswerOk : Log → ℕ → TryAnswer → Type 0
+AnswerOk log flushed (answer.AwaitsDisk it) = IsThere log flushed it.addr.0
+AnswerOk log flushed its = ⊤
+
+abbrev pub OldOk : OldValue → Type 0
+OldOk (Known word) = NumberFits word
+OldOk InMemory = ⊤
+
+-- the words of a record that is made fit
+abbrev pub WordsOk : RecordWords → Type 0
+WordsOk its = NumberFits its.key.0 × NumberFits its.value
+
+abbrev pub TryRow : Log → ℕ → TryState → Trying → Type 0
+TryRow log flushed t (Ended its) = AnswerOk log flushed its
+TryRow log flushed t (DropsExclusive its) = AnswerOk log flushed its
+TryRow log flushed t (DropsShared its) = AnswerOk log flushed its
+TryRow log flushed t (TakesExclusive old) = OldOk old
+TryRow log flushed t (Appends its) = OpFits t.request.op → WordsOk t.append.its_words
+TryRow log flushed t step = ⊤
+
+-- the request and the walk of a try
+abbrev pub BaseOk : Log → ℕ → TryState → Type 0
+BaseOk log flushed t = HeldOk log flushed t.request.held × WalkOk log flushed t.walk
+
+abbrev pub TryOk : Log → ℕ → TryState → Type 0
+TryOk log flushed t = BaseOk log flushed t × TryRow log flushed t t.step
+
+-- ---- an attempt
+abbrev pub TaskOk : Log → ℕ → MailTask → Type 0
+TaskOk log flushed (Put addr) = IsThere log flushed addr.0
+TaskOk log flushed task = ⊤
+
+-- what it asks for in the mailbox is there
+abbrev pub MailingOk : Log → ℕ → Mailing → Type 0
+MailingOk log flushed (mailing.LoadsState task) = TaskOk log flushed task
+MailingOk log flushed (mailing.StoresAddress addr) = IsThere log flushed addr.0
+MailingOk log flushed step = ⊤
+
+abbrev pub AttemptOk : Log → ℕ → AttemptState → Type 0
+AttemptOk log flushed a = PendingOk log flushed a.pending × (MailingOk log flushed a.mailing × TryOk log flushed a.trial)
+
+-- a record that comes by the mailbox
+abbrev pub RecordOk : Log → ℕ → MailRecord → HeaderSaid → Type 0
+RecordOk log flushed its said = NumberFits its.value × SaysThere log flushed said
+
+-- ---- as the log grows and is flushed
+module _ (log log' : Log) (stays : Stays log log') (flushed flushed' : ℕ) (rises : flushed ≤ flushed') where
+  below : (a : ℕ) → a < flushed → a < flushed'
+  below a low = omega (arith, low, rises)
+
+  pub there_grows : (a : ℕ) → IsThere log flushed a → IsThere log' flushed' a
+  there_grows a its = (stays a its.0, below a its.1)
+
+  pub led_there_grows : (a : ℕ) → IsLedThere log flushed a → IsLedThere log' flushed' a
+  led_there_grows a (inl none) = inl none
+  led_there_grows a (inr its) = inr (there_grows a its)
+
+  pub said_there_grows : (said : HeaderSaid) → SaysThere log flushed said → SaysThere log' flushed' said
+  said_there_grows (Says previous version) ok = led_there_grows previous.0 ok
+  said_there_grows Spoiled ok = tt
+
+  held_grows : (held : Option HeldRecord) → HeldOk log flushed held → HeldOk log' flushed' held
+  held_grows None ok = tt
+  held_grows (Some it) ok = (ok.0, led_there_grows it.previous.0 ok.1)
+
+  sought_grows : (sought : Option DiskRecord) → SoughtOk log flushed sought → SoughtOk log' flushed' sought
+  sought_grows None ok = tt
+  sought_grows (Some it) ok = there_grows it.addr.0 ok
+
+  pub pending_grows : (pending : PendingRequest) → PendingOk log flushed pending → PendingOk log' flushed' pending
+  pending_grows pending ok = (held_grows pending.request.held ok.0, sought_grows pending.sought ok.1)
+
+  at_grows : (head a : ℕ) → IsAt log head a → IsAt log' head a
+  at_grows head a at = (stays a at.0, at.1)
+
+  loads_grow : (head : ℕ) (loading : Loading) → LoadsAt log head loading → LoadsAt log' head loading
+  loads_grow head (load.LoadsHeader its) ok = at_grows head its.0 ok
+  loads_grow head (load.LoadsKey its header) ok = at_grows head its.0 ok
+  loads_grow head (load.HasKey its header key) ok = at_grows head its.0 ok
+  loads_grow head (load.LoadsValue its header key) ok = at_grows head its.0 ok
+  loads_grow head load.AtRest ok = tt
+
+  walk_answer_grows : (its : WalkAnswer) → WalkAnswerOk log flushed its → WalkAnswerOk log' flushed' its
+  walk_answer_grows (walk.OnDisk addr) ok = there_grows addr.0 ok
+  walk_answer_grows (walk.Value value) ok = ok
+  walk_answer_grows its ok = tt
+
+  walk_grows : (head : ℕ) (loading : Loading) (step : Walking) → WalkRow log flushed head loading step → WalkRow log' flushed' head loading step
+  walk_grows head loading (walking.Ended its) ok = walk_answer_grows its ok
+  walk_grows head loading walking.Finds ok = tt
+  walk_grows head loading (walking.Meets addr) ok = loads_grow head loading ok
+  walk_grows head loading (walking.HasFound addr version) ok = loads_grow head loading ok
+  walk_grows head loading walking.LoadsValue ok = loads_grow head loading ok
+
+  answer_grows : (its : TryAnswer) → AnswerOk log flushed its → AnswerOk log' flushed' its
+  answer_grows (answer.AwaitsDisk it) ok = there_grows it.addr.0 ok
+  answer_grows its ok = tt
+
+  try_row_grows : (t : TryState) (step : Trying) → TryRow log flushed t step → TryRow log' flushed' t step
+  try_row_grows t (Ended its) ok = answer_grows its ok
+  try_row_grows t (DropsExclusive its) ok = answer_grows its ok
+  try_row_grows t (DropsShared its) ok = answer_grows its ok
+  try_row_grows t (TakesExclusive old) ok = ok
+  try_row_grows t (Appends its) ok = ok
+  try_row_grows t step ok = tt
+
+  try_grows : (t : TryState) → TryOk log flushed t → TryOk log' flushed' t
+  try_grows t ok = ((held_grows t.request.held ok.0.0, walk_grows t.walk.head.0 t.walk.loading t.walk.step ok.0.1), try_row_grows t t.step ok.1)
+
+  pub task_grows : (task : MailTask) → TaskOk log flushed task → TaskOk log' flushed' task
+  task_grows (Put addr) ok = there_grows addr.0 ok
+  task_grows Clear ok = tt
+  task_grows Take ok = tt
+
+  mailing_grows : (step : Mailing) → MailingOk log flushed step → MailingOk log' flushed' step
+  mailing_grows (mailing.LoadsState task) ok = task_grows task ok
+  mailing_grows (mailing.StoresAddress addr) ok = there_grows addr.0 ok
+  mailing_grows step ok = tt
+
+  pub attempt_grows : (a : AttemptState) → AttemptOk log flushed a → AttemptOk log' flushed' a
+  attempt_grows a ok = (pending_grows a.pending ok.0, (mailing_grows a.mailing ok.1.0, try_grows a.trial ok.1.1))

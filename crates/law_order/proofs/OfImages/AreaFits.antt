@@ -1,0 +1,47 @@
+-- The checkpoint that a full commit makes fits into its area.
+use Rattle.std.proofs.Common.{◌≡◌, ℕ, ◌^◌, ◌≤◌, ◌∙◌, arith, sym, ap, subst, List, [], ◌∷◌, length}
+use Rattle.std.specs.Prelude.{Some}
+use Rattle.fkv_base.specs.declared.commits.CommitKind.{CommitKind}
+use Rattle.fkv_base.specs.declared.commits.CommitKind.TheVariants.{Full}
+use Rattle.fkv_base.specs.declared.shapes.Shape.{Shape}
+use Rattle.fkv_checkpoint.specs.Copied.{copied_after}
+use Rattle.fkv_checkpoint.proofs.Shown.{copy_fits}
+use Rattle.fkv_commit.specs.declared.commits.Commit.{Commit}
+use Rattle.fkv_keeper.specs.CheckpointLaws.{IsFullWritten, IsWrittenAs, copy_replies}
+use Rattle.fkv_keeper.specs.Keeping.{KeeperState}
+use Rattle.fkv_keeper.specs.KeeperRun.{IsOpened, KeeperEvent, keeper_run}
+use Rattle.fkv_keeper.specs.declared.keepers.Keeping.TheVariants.{Waits, Writes}
+use Rattle.fkv_keeper.specs.declared.last_commits.Checkpoint.{Checkpoint}
+use Rattle.fkv_keeper.proofs.Shown.{run_writes}
+use Rattle.fkv_plane.specs.declared.places.Places.{Places}
+use Rattle.fkv_record.specs.Places.{most_triples}
+use Rattle.law_commit.specs.BegunCommits.{BegunCommit, commit_opening}
+use Rattle.law_order.proofs.OfImages.NamedNow.{AllGood}
+
+-- so it is of each full commit
+abbrev pub FitsArea : Shape → BegunCommit → Type 0
+FitsArea shape c = c.kind ≡ Full → c.checkpoint.triples ≤ most_triples shape
+
+few_copied : (shape : Shape) (p : Places) (replies : List ℕ) → p.buckets ≡ 2 ^ shape.bucket_bits → p.overflow ≡ shape.overflow → length (copied_after p replies) ≤ most_triples shape
+few_copied shape p replies buckets overflow = let few = copy_fits p replies in omega (arith, few, buckets, overflow)
+
+full_fits : (shape : Shape) (p : Places) (replies : List ℕ) (s a : KeeperState) (c : Commit) (kind : CommitKind) → kind ≡ Full → p.buckets ≡ 2 ^ shape.bucket_bits → p.overflow ≡ shape.overflow → IsWrittenAs kind shape p replies s a c → a.used.triples ≤ most_triples shape
+full_fits shape p replies s a c kind full buckets overflow written =
+    let its : IsFullWritten shape p replies s a c = subst (λ (k : CommitKind). IsWrittenAs k shape p replies s a c) full written in
+    subst (λ (x : Checkpoint). x.triples ≤ most_triples shape) (sym its.used) (few_copied shape p replies buckets overflow)
+
+pub begun_fits : (shape : Shape) (p : Places) (opening : KeeperState) (event : KeeperEvent) (before : List KeeperEvent) (c : Commit) → IsOpened opening → p.buckets ≡ 2 ^ shape.bucket_bits → p.overflow ≡ shape.overflow
+    → (keeper_run shape p opening before).step ≡ Waits → (keeper_run shape p opening (event ∷ before)).step ≡ Writes → (keeper_run shape p opening (event ∷ before)).commit ≡ Some c
+    → FitsArea shape (commit_opening (keeper_run shape p opening (event ∷ before)) c)
+begun_fits shape p opening event before c opened buckets overflow waits writes found = λ full.
+    let its = run_writes shape p opening before event opened waits writes in
+    let same : c ≡ its.commit = (let both : Some c ≡ Some its.commit = sym found ∙ its.stays in cc) in
+    full_fits shape p (copy_replies shape p opening before) (keeper_run shape p opening before) (keeper_run shape p opening (event ∷ before)) its.commit its.commit.kind (ap (λ (x : Commit). x.kind) (sym same) ∙ full) buckets overflow its.written
+
+-- what is so of each commit whose writes begin is so of all
+pub all_good : (shape : Shape) (p : Places) (opening : KeeperState) (Good : BegunCommit → Type 0)
+    → ((event : KeeperEvent) (before : List KeeperEvent) (c : Commit) → (keeper_run shape p opening before).step ≡ Waits → (keeper_run shape p opening (event ∷ before)).step ≡ Writes → (keeper_run shape p opening (event ∷ before)).commit ≡ Some c
+    → Good (commit_opening (keeper_run shape p opening (event ∷ before)) c))
+    → (events : List KeeperEvent) → AllGood shape p opening Good events
+all_good shape p opening Good each [] = tt
+all_good shape p opening Good each (event ∷ before) = (λ c waits writes found. each event before c waits writes found, all_good shape p opening Good each before)

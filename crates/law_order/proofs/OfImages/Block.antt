@@ -1,0 +1,262 @@
+-- The keeper writes nothing below the slots: so the block of the shape is as it was opened.
+use Rattle.std.proofs.Common.{◌≡◌, ℕ, ◌≤◌, ◌∙◌, arith, refl, sym, ap, subst, Bool, true, false, List, [], ◌∷◌}
+use Rattle.std.specs.Prelude.{⊤, ◌==◌, ◌%◌, if◌then◌else◌, Option, Some, None}
+use Rattle.fkv_base.specs.declared.phases.Phase.TheVariants as phase
+use Rattle.fkv_base.specs.declared.shapes.Shape.{Shape}
+use Rattle.fkv_commit.specs.declared.commits.Commit.{Commit}
+use Rattle.fkv_base.specs.declared.commits.CommitKind.{CommitKind}
+use Rattle.fkv_commit.specs.declared.entering.EnterAnswer.{EnterAnswer}
+use Rattle.fkv_commit.specs.declared.entering.EnterAnswer.TheVariants as enter
+use Rattle.fkv_commit.specs.declared.finishing.FinishAnswer.{FinishAnswer}
+use Rattle.fkv_commit.specs.declared.seeking.SeekAnswer.{SeekAnswer}
+use Rattle.fkv_commit.specs.declared.seeking.SeekAnswer.TheVariants as seek
+use Rattle.fkv_commit.specs.declared.starting.StartAnswer.{StartAnswer}
+use Rattle.fkv_commit.specs.declared.starting.StartAnswer.TheVariants as start
+use Rattle.fkv_commit.specs.declared.waiting.WaitAnswer.{WaitAnswer}
+use Rattle.fkv_commit.specs.declared.waiting.WaitAnswer.TheVariants as wait
+use Rattle.fkv_commit.specs.Entering.{enter_ask, enter_next}
+use Rattle.fkv_commit.specs.Finishing.{finish_ask, finish_next}
+use Rattle.fkv_commit.specs.Seeking.{seek_ask, seek_next}
+use Rattle.fkv_commit.specs.Starting.{start_ask, start_next}
+use Rattle.fkv_commit.specs.Waiting.{wait_ask, wait_next}
+use Rattle.fkv_keeper.specs.declared.keepers.Keeping.{Keeping}
+use Rattle.fkv_keeper.specs.declared.keepers.Keeping.TheVariants.{Ended, Starts, Maintains, LoadsPhase, Enters, Copies, Seeks, Waits, Writes, Finishes}
+use Rattle.fkv_keeper.specs.Keeping.{KeeperState, commit_asked, turn_asked, copies, copies_next, copy_asked, copy_driven, copy_ledto, enter_ledto, finish_ledto, finished, keeping_called, keeping_given, keeping_next, maintain_ledto, part_begun, phase_ledto, seek_ledto, start_ledto, turned, wait_ledto, write_ledto, writes_begun, writes_called}
+use Rattle.fkv_keeper.specs.KeeperAsks.{keeping_calls}
+use Rattle.fkv_keeper.specs.KeeperRun.{BeginsCommit, BeginsTurn, Calls, Gets, IsOpened, KeeperEvent, Replies, begins, is_in_hand, keeper_happens, keeper_run}
+use Rattle.fkv_keeper.specs.LastCommits.{slot_place}
+use Rattle.fkv_maintain.specs.declared.maintaining.MaintainAnswer.{MaintainAnswer}
+use Rattle.fkv_maintain.specs.declared.maintaining.MaintainAnswer.TheVariants as maintain
+use Rattle.fkv_maintain.specs.Maintaining.{maintain_ask, maintain_called, maintain_given, maintain_next}
+use Rattle.fkv_manifest.specs.declared.answers.WriteAnswer.{WriteAnswer}
+use Rattle.fkv_manifest.specs.declared.answers.WriteAnswer.TheVariants as write
+use Rattle.fkv_manifest.specs.declared.commits.Committing.{Committing}
+use Rattle.fkv_manifest.specs.declared.commits.Committing.TheVariants.{Broken, PutsSlot, SyncsTriples, WritesTriples}
+use Rattle.fkv_manifest.specs.declared.gates.Gating.{Gating}
+use Rattle.fkv_manifest.specs.declared.gates.Gating.TheVariants as gate
+use Rattle.fkv_manifest.specs.Committing.{CommitWriter, commit_answer, commit_next, commit_step_call, gate_after}
+use Rattle.fkv_manifest.specs.Gating.{GateWriter, gate_step_call}
+use Rattle.fkv_manifest.specs.Made.{with_call}
+use Rattle.fkv_plane.specs.declared.actions.Action.{Action}
+use Rattle.fkv_plane.specs.declared.asks.Ask.{Ask}
+use Rattle.fkv_plane.specs.declared.asks.Ask.TheVariants.{Done}
+use Rattle.fkv_plane.specs.declared.places.Places.{Places}
+use Rattle.fkv_base.specs.declared.numbers.Version.{Version}
+use Rattle.fkv_words.specs.declared.phase_words.PhaseSaid.{PhaseSaid}
+use Rattle.fkv_words.specs.declared.phase_words.PhaseSaid.TheVariants.{Says}
+use Rattle.fkv_words.specs.PhaseWords.{phase_said}
+use Rattle.fkv_world.specs.OwnEvents.{keeper_events}
+use Rattle.fkv_world.specs.Runs.{World, run}
+use Rattle.fkv_world.specs.World.{Event}
+use Rattle.fkv_world.proofs.Shown.{keeper_runs}
+use Rattle.law_order.proofs.OfImages.Untouched.{AreAbove, MakesAbove, flush_calls_above}
+
+-- ---- while a commit is written, its slot and its triples lie above the block
+abbrev WritesHigh : Keeping → CommitWriter → Type 0
+WritesHigh Writes w = (512 ≤ w.area) × (512 ≤ w.gate.place)
+WritesHigh step w = ⊤
+
+abbrev IsHigh : KeeperState → Type 0
+IsHigh s = WritesHigh s.step s.writes
+
+either : (c : Bool) (a b : KeeperState) → IsHigh a → IsHigh b → IsHigh (if c then a else b)
+either true a b one other = one
+either false a b one other = other
+
+still : (s : KeeperState) (step : Keeping) → s.step ≡ step → WritesHigh step s.writes → IsHigh s
+still s step at high = subst (λ (k : Keeping). WritesHigh k s.writes) (sym at) high
+
+-- a call or a turn begins
+turn_high : (s : KeeperState) → IsHigh (turn_asked s)
+turn_high s = either s.is_broken _ _ tt tt
+
+commit_high : (s : KeeperState) (kind : CommitKind) → IsHigh (commit_asked s kind)
+commit_high s kind = either s.is_broken _ _ tt tt
+
+begins_high : (s begun : KeeperState) (busy : Bool) → IsHigh s → IsHigh begun → IsHigh (begins s busy begun)
+begins_high s begun true one other = one
+begins_high s begun false one other = other
+
+-- what each part leads to
+start_high : (s : KeeperState) (ask : Ask StartAnswer) → s.step ≡ Starts → IsHigh (start_ledto s ask)
+unfolding start_ledto
+start_high s (Done (start.Begun number first)) at = tt
+start_high s (Done (start.Refused why)) at = tt
+start_high s (Done start.Idle) at = tt
+start_high s ask at = still s Starts at tt
+
+maintain_high : (s : KeeperState) (ask : Ask MaintainAnswer) → s.step ≡ Maintains → IsHigh (maintain_ledto s ask)
+unfolding maintain_ledto
+maintain_high s (Done maintain.Through) at = tt
+maintain_high s (Done maintain.Spent) at = tt
+maintain_high s (Done maintain.Broken) at = tt
+maintain_high s ask at = still s Maintains at tt
+
+copies_high : (p : Places) (s : KeeperState) (c : Commit) (granted : Bool) (other : KeeperState) → IsHigh other → IsHigh (copies_next p s c granted other)
+copies_high p s c granted other high = either c.is_copied other (copies p s granted) high (either granted _ _ tt tt)
+
+part_high : (p : Places) (s : KeeperState) (c : Commit) (said : PhaseSaid) (granted : Bool) → IsHigh (part_begun p s c said granted)
+part_high p s c (Says phase.InProgress version) granted = either s.has_entered _ _ (copies_high p s c granted (turned s) tt) tt
+part_high p s c (Says phase.WaitPending version) granted = copies_high p s c granted _ tt
+part_high p s c (Says phase.WaitFlush version) granted = either s.has_points _ _ tt tt
+part_high p s c said granted = tt
+
+phase_high : (p : Places) (s : KeeperState) (found : Option Commit) (said : PhaseSaid) (granted : Bool) → IsHigh (phase_ledto p s found said granted)
+unfolding phase_ledto
+phase_high p s None said granted = tt
+phase_high p s (Some c) said granted = part_high p s c said granted
+
+enter_high : (s : KeeperState) (ask : Ask EnterAnswer) → s.step ≡ Enters → IsHigh (enter_ledto s ask)
+unfolding enter_ledto
+enter_high s (Done enter.Entered) at = tt
+enter_high s (Done enter.DrainFull) at = tt
+enter_high s (Done enter.EpochsSpent) at = tt
+enter_high s (Done enter.Idle) at = tt
+enter_high s ask at = still s Enters at tt
+
+copy_high : (s : KeeperState) (ask : Ask (Unit {0})) → s.step ≡ Copies → IsHigh (copy_ledto s ask)
+unfolding copy_ledto
+copy_high s (Done its) at = tt
+copy_high s ask at = still s Copies at tt
+
+seek_high : (s : KeeperState) (ask : Ask SeekAnswer) → s.step ≡ Seeks → IsHigh (seek_ledto s ask)
+unfolding seek_ledto
+seek_high s (Done (seek.Taken end epoch)) at = tt
+seek_high s (Done seek.DrainFull) at = tt
+seek_high s (Done seek.EpochsSpent) at = tt
+seek_high s (Done seek.Owing) at = tt
+seek_high s (Done seek.Idle) at = tt
+seek_high s ask at = still s Seeks at tt
+
+slot_high : (number : Version) → 512 ≤ slot_place number
+slot_high number = by_test (number.0 % 2 == 0)
+  where
+    by_test : (c : Bool) → 512 ≤ (if c then 512 else 1024)
+    by_test true = omega arith
+    by_test false = omega arith
+
+begun_high : (shape : Shape) (s : KeeperState) (found : Option Commit) → IsHigh (writes_begun shape s found)
+begun_high shape s None = tt
+begun_high shape s (Some c) = (omega arith, slot_high c.number)
+
+wait_high : (shape : Shape) (s : KeeperState) (ask : Ask WaitAnswer) → s.step ≡ Waits → IsHigh (wait_ledto shape s ask)
+unfolding wait_ledto
+wait_high shape s (Done wait.Flushed) at = begun_high shape s s.commit
+wait_high shape s (Done wait.NotYet) at = tt
+wait_high shape s (Done wait.Idle) at = tt
+wait_high shape s ask at = still s Waits at tt
+
+finished_high : (s : KeeperState) (found : Option Commit) → IsHigh (finished s found)
+finished_high s None = tt
+finished_high s (Some c) = tt
+
+finish_high : (s : KeeperState) (ask : Ask FinishAnswer) → s.step ≡ Finishes → IsHigh (finish_ledto s ask)
+unfolding finish_ledto
+finish_high s (Done its) at = finished_high s s.commit
+finish_high s ask at = still s Finishes at tt
+
+-- the writes go on in their places
+same_place : (its : GateWriter) (step : Committing) (done : Bool) → (gate_after its step done).place ≡ its.place
+unfolding gate_after
+same_place its PutsSlot done = refl
+same_place its WritesTriples done = refl
+same_place its SyncsTriples done = refl
+same_place its (Broken why) done = refl
+
+next_high : (w : CommitWriter) (done : Bool) → WritesHigh Writes w → WritesHigh Writes (commit_next w done)
+next_high w done high = (high.0, subst (λ (place : ℕ). 512 ≤ place) (sym (same_place w.gate w.step done)) high.1)
+
+written_high : (s : KeeperState) (found : Option Commit) (answer : WriteAnswer) → IsHigh s → IsHigh (write_ledto s found answer)
+unfolding write_ledto
+written_high s None answer high = tt
+written_high s (Some c) write.Written high = tt
+written_high s (Some c) write.Device high = high
+written_high s (Some c) (write.Broken why) high = high
+
+called_writes_high : (s : KeeperState) (done : Bool) → s.step ≡ Writes → WritesHigh Writes s.writes → IsHigh (writes_called s done)
+called_writes_high s true at high = written_high (record s { writes = commit_next s.writes true }) s.commit (commit_answer (commit_next s.writes true)) (still (record s { writes = commit_next s.writes true }) Writes at (next_high s.writes true high))
+called_writes_high s false at high = tt
+
+-- ---- each event of the keeper
+reply_high : (shape : Shape) (p : Places) (s : KeeperState) (step : Keeping) (reply : ℕ) (granted : Bool) → s.step ≡ step → WritesHigh step s.writes → IsHigh (keeping_next shape p s step reply granted)
+unfolding keeping_next
+reply_high shape p s (Ended its) reply granted at high = still s (Ended its) at tt
+reply_high shape p s Starts reply granted at high = start_high _ (start_ask (start_next s.start reply)) at
+reply_high shape p s Maintains reply granted at high = maintain_high _ (maintain_ask shape p (maintain_next shape p s.maintain reply)) at
+reply_high shape p s LoadsPhase reply granted at high = phase_high p s s.commit (phase_said reply) granted
+reply_high shape p s Enters reply granted at high = enter_high _ (enter_ask (enter_next s.enter reply)) at
+reply_high shape p s Copies reply granted at high = copy_high _ (copy_asked (copy_driven s.copy reply)) at
+reply_high shape p s Seeks reply granted at high = seek_high _ (seek_ask (seek_next s.seek reply)) at
+reply_high shape p s Waits reply granted at high = wait_high shape _ (wait_ask (wait_next s.wait reply)) at
+reply_high shape p s Writes reply granted at high = still s Writes at high
+reply_high shape p s Finishes reply granted at high = finish_high _ (finish_ask s.seek.points (finish_next s.finish reply)) at
+
+given_high : (shape : Shape) (p : Places) (s : KeeperState) (step : Keeping) (action : Action) → s.step ≡ step → WritesHigh step s.writes → IsHigh (keeping_given shape p s step action)
+unfolding keeping_given
+given_high shape p s Maintains action at high = maintain_high _ (maintain_ask shape p (maintain_given s.maintain action)) at
+given_high shape p s step action at high = still s step at high
+
+called_high : (shape : Shape) (p : Places) (s : KeeperState) (step : Keeping) (done : Bool) (bytes : List ℕ) → s.step ≡ step → WritesHigh step s.writes → IsHigh (keeping_called shape p s step done bytes)
+unfolding keeping_called
+called_high shape p s Maintains done bytes at high = maintain_high _ (maintain_ask shape p (maintain_called shape p s.maintain done bytes)) at
+called_high shape p s Writes done bytes at high = called_writes_high s done at high
+called_high shape p s step done bytes at high = still s step at high
+
+happens_high : (shape : Shape) (p : Places) (s : KeeperState) (event : KeeperEvent) → IsHigh s → IsHigh (keeper_happens shape p s event)
+unfolding keeper_happens
+happens_high shape p s BeginsTurn high = begins_high s (turn_asked s) (is_in_hand s.step) high (turn_high s)
+happens_high shape p s (BeginsCommit kind) high = begins_high s (commit_asked s kind) (is_in_hand s.step) high (commit_high s kind)
+happens_high shape p s (Replies reply granted) high = reply_high shape p s s.step reply granted refl high
+happens_high shape p s (Gets action) high = given_high shape p s s.step action refl high
+happens_high shape p s (Calls done bytes) high = called_high shape p s s.step done bytes refl high
+
+run_high : (shape : Shape) (p : Places) (opening : KeeperState) (events : List KeeperEvent) → IsHigh opening → IsHigh (keeper_run shape p opening events)
+unfolding keeper_run
+run_high shape p opening [] high = high
+run_high shape p opening (event ∷ before) high = happens_high shape p (keeper_run shape p opening before) event (run_high shape p opening before high)
+
+opened_high : (s : KeeperState) → IsOpened s → IsHigh s
+opened_high s opened = at_rest s.step refl
+  where
+    at_rest : (step : Keeping) → s.step ≡ step → IsHigh s
+    at_rest Writes e = let clash : true ≡ false = sym (ap is_in_hand e) ∙ opened.none_in_hand in absurd (cc)
+    at_rest (Ended its) e = still s (Ended its) e tt
+    at_rest Starts e = still s Starts e tt
+    at_rest Maintains e = still s Maintains e tt
+    at_rest LoadsPhase e = still s LoadsPhase e tt
+    at_rest Enters e = still s Enters e tt
+    at_rest Copies e = still s Copies e tt
+    at_rest Seeks e = still s Seeks e tt
+    at_rest Waits e = still s Waits e tt
+    at_rest Finishes e = still s Finishes e tt
+
+-- ---- its calls
+gate_call_above : (place from : ℕ) (slot : List ℕ) (step : Gating) (done : Bool) → 512 ≤ place → AreAbove 512 (with_call (gate_step_call place from slot step done) [])
+unfolding gate_step_call
+gate_call_above place from slot gate.Closes done high = (high, tt)
+gate_call_above place from slot gate.SyncsClosed done high = tt
+gate_call_above place from slot gate.WritesBody done high = (omega (arith, high), tt)
+gate_call_above place from slot gate.SyncsBody done high = tt
+gate_call_above place from slot gate.Opens done high = (high, tt)
+gate_call_above place from slot gate.SyncsOpen done high = tt
+gate_call_above place from slot gate.Written done high = tt
+gate_call_above place from slot (gate.Broken why) done high = tt
+
+commit_call_above : (w : CommitWriter) (step : Committing) (done : Bool) → WritesHigh Writes w → AreAbove 512 (with_call (commit_step_call w.area w.triples w.gate step done) [])
+unfolding commit_step_call
+commit_call_above w WritesTriples done high = (high.0, tt)
+commit_call_above w SyncsTriples done high = tt
+commit_call_above w PutsSlot done high = gate_call_above w.gate.place w.gate.start w.gate.slot w.gate.step done high.1
+commit_call_above w (Broken why) done high = tt
+
+keeping_calls_above : (shape : Shape) (s : KeeperState) (step : Keeping) (done : Bool) → WritesHigh step s.writes → AreAbove 512 (keeping_calls shape s step done)
+unfolding keeping_calls
+keeping_calls_above shape s Maintains done high = flush_calls_above shape s.maintain s.maintain.step done
+keeping_calls_above shape s Writes done high = commit_call_above s.writes s.writes.step done high
+keeping_calls_above shape s step done high = tt
+
+pub slots_above : (opening : World) (events : List Event) → IsOpened opening.now.keeper → MakesAbove opening 512 events
+slots_above opening [] opened = tt
+slots_above opening (event ∷ before) opened =
+    let high : IsHigh (run opening before).now.keeper = subst IsHigh (sym (keeper_runs opening before)) (run_high opening.now.shape opening.now.places opening.now.keeper (keeper_events opening before) (opened_high opening.now.keeper opened)) in
+    (λ done. keeping_calls_above (run opening before).now.shape (run opening before).now.keeper (run opening before).now.keeper.step done high, slots_above opening before opened)

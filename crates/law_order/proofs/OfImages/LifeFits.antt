@@ -1,0 +1,169 @@
+-- Each commit whose writes begin in a life fits it.
+use Rattle.std.proofs.Common.{◌≡◌, inl, inr, ℕ, ◌<◌, ◌≤◌, arith, refl, sym, ap, subst, Bool, List, [], ◌∷◌, length}
+use Rattle.std.specs.Prelude.{Option, Some, None}
+use Rattle.fkv_base.specs.declared.commits.CommitKind.{CommitKind}
+use Rattle.fkv_base.specs.declared.commits.CommitKind.TheVariants.{Full, Log}
+use Rattle.fkv_base.specs.declared.shapes.Shape.{Shape}
+use Rattle.fkv_commit.specs.declared.commits.Commit.{Commit}
+use Rattle.fkv_keeper.specs.CheckpointLaws.{IsBehindWait}
+use Rattle.fkv_core.specs.Openings.{IsOpeningWorld, beginning}
+use Rattle.fkv_flush.specs.GuardLevels.{Rises, levels_of}
+use Rattle.fkv_keeper.specs.Keeping.{Finality, KeeperState, lost_left}
+use Rattle.fkv_keeper.specs.KeeperRun.{IsOpened, KeeperEvent, keeper_run}
+use Rattle.fkv_keeper.specs.SlotLaws.{CommitHasRoom}
+use Rattle.fkv_keeper.specs.declared.keepers.Keeping.{Keeping}
+use Rattle.fkv_keeper.specs.declared.keepers.Keeping.TheVariants.{Waits, Writes, Finishes}
+use Rattle.fkv_opening.specs.declared.opened_store.Opened.{Opened}
+use Rattle.fkv_keeper.specs.declared.last_commits.Checkpoint.{Checkpoint}
+use Rattle.fkv_plane.specs.declared.places.Places.{Places}
+use Rattle.fkv_plane.specs.declared.places.SharedWord.TheVariants as one
+use Rattle.fkv_plane.specs.Asked.{word_at}
+use Rattle.fkv_plane.specs.Places.{shared_place}
+use Rattle.fkv_record.specs.declared.lost_ranges.LostRange.{LostRange}
+use Rattle.fkv_record.specs.Lost.{max_lost}
+use Rattle.fkv_record.specs.Places.{most_triples}
+use Rattle.fkv_world.specs.OwnEvents.{keeper_events}
+use Rattle.fkv_world.specs.Runs.{World, happens, run}
+use Rattle.fkv_world.specs.World.{Event, Now}
+use Rattle.law_commit.specs.BegunCommits.{BegunCommit, commit_opening}
+use Rattle.law_order.specs.Images.Ends.{CommitEndsBy}
+use Rattle.law_order.specs.Images.Left.{flushed_so_far}
+use Rattle.law_order.specs.Images.Fits.{FitsLife, NamesItsLost, NamesLost}
+use Rattle.law_order.proofs.OfImages.Begun.{plain}
+use Rattle.law_order.proofs.OfImages.EndsFlushed.{Ends, EndsAt}
+use Rattle.law_order.proofs.OfImages.AreaFits.{begun_fits}
+use Rattle.law_order.proofs.OfImages.LifeNamed.{AllOfLife}
+use Rattle.law_order.proofs.OfImages.LifeTails.{IsBelow, IsBelowNow, life_always, life_tails, tail_of}
+use Rattle.law_order.proofs.OfImages.LostHeld.{HandIsNewer, HoldsLost, left_held, run_held, run_uses}
+use Rattle.law_order.proofs.OfImages.NamedNow.{AllGood}
+use Rattle.law_order.proofs.OfImages.WordsRead.{Always, always_map}
+use Rattle.law_order.proofs.OfImages.Tails.{AtTail, Below, Bounds, LastBelow, TakenAbove, UsedBelow}
+use Rattle.law_world.specs.Keeper.Lives.{IsLifeTold}
+
+-- it doesn't matter whether it is sealed or finished
+pub of_plain : (o : Opened) (n : Now) (flushed : ℕ) (c : BegunCommit) → FitsLife o n flushed (plain c) → FitsLife o n flushed c
+of_plain o n flushed c is = record {
+  few = is.few;
+  newer = is.newer;
+  no_newer = is.no_newer;
+  some = is.some;
+  upwards = is.upwards;
+  later = is.later;
+  is_flushed = is.is_flushed;
+  room = is.room;
+  lost = elim is.lost [
+    | inl none ↦ inl (record { none = none.none; newer = none.newer })
+    | inr names ↦ inr (record { lost = names.lost; checkpoint = names.checkpoint; few = names.few })
+  ];
+  as_opened = is.as_opened;
+}
+
+few_left : (kind : CommitKind) (lost : List LostRange) → (kind ≡ Log → length lost ≤ max_lost) → length (lost_left kind lost) ≤ max_lost
+few_left Full lost few = omega arith
+few_left Log lost few = few refl
+
+lost_named : (o : Opened) (n : Now) (a : KeeperState) (c : Commit) → length (lost_left c.kind a.lost) ≤ max_lost → HoldsLost o.number.0 n.keeper.lost n.keeper.last.checkpoint (lost_left c.kind a.lost) a.used → NamesItsLost o n (commit_opening a c)
+lost_named o n a c few (inl none) = inl (record { none = none.0; newer = none.1 })
+lost_named o n a c few (inr its) = inr (record { lost = its.0; checkpoint = its.1; few = few })
+
+-- one that uses the checkpoint with which the store was opened doesn't use a newer one
+pub lost_as_opened : (o : Opened) (n : Now) (c : BegunCommit) → n.keeper.last.checkpoint.number.0 ≤ o.number.0 → NamesItsLost o n c → c.checkpoint ≡ n.keeper.last.checkpoint → NamesLost n c
+lost_as_opened o n c older (inr names) used = names
+lost_as_opened o n c older (inl none) used =
+    let same : c.checkpoint.number.0 ≡ n.keeper.last.checkpoint.number.0 = ap (λ (x : Checkpoint). x.number.0) used in
+    let newer = none.newer in
+    absurd (omega (arith, same, newer, older))
+
+-- each commit that is being written is newer than the one with which the store was opened
+used_newer : (t : Bounds) (s : KeeperState) (step : Keeping) (c : Commit) → AtTail t s step → IsBehindWait step → s.commit ≡ Some c → t.least < c.number.0
+used_newer t s Writes c at behind found = (let used : UsedBelow t s.used (Some c) = subst (λ (x : Option Commit). UsedBelow t s.used x) found at.1 in used.5)
+used_newer t s Finishes c at behind found = (let used : UsedBelow t s.used (Some c) = subst (λ (x : Option Commit). UsedBelow t s.used x) found at.1 in used.5)
+used_newer t s step c at behind found = absurd behind
+
+hand_newer : (base least : ℕ) (s : KeeperState) → IsBelow base least s → HandIsNewer least s
+hand_newer base least s below = λ c found behind. (let newer = used_newer below.bounds s s.step c below.is behind found in let same = below.its_least in omega (arith, newer, same))
+
+-- of the commit that is being written, by the tails that were loaded for it
+module _ (o : Opened) (n : Now) (flushed : ℕ) (shape : Shape) (p : Places) where
+  fits_so : (a : KeeperState) (c : Commit) → a.step ≡ Writes → a.commit ≡ Some c → IsBelow o.tail.0 o.number.0 a → Ends flushed a → CommitHasRoom a → (c.kind ≡ Full → a.used.triples ≤ most_triples n.shape) → n.keeper.last.checkpoint.number.0 ≤ o.number.0
+      → NamesItsLost o n (commit_opening a c) → FitsLife o n flushed (commit_opening a c)
+  fits_so a c writes found below ends room area older lost =
+      let t : Bounds = below.bounds in
+      let at : Below t a.has_points a.last a.commit × UsedBelow t a.used a.commit = subst (λ (k : Keeping). AtTail t a k) writes below.is in
+      let used : UsedBelow t a.used (Some c) = subst (λ (x : Option Commit). UsedBelow t a.used x) found at.1 in
+      let by : CommitEndsBy flushed a = subst (λ (k : Keeping). EndsAt flushed a k) writes ends in
+      let has = room c found in
+      let base = below.its_base in
+      let least = below.its_least in
+      let low = used.4 in
+      let more = used.5 in
+      record {
+        few = has.follows;
+        newer = omega (arith, least, more);
+        no_newer = used.2;
+        some = used.0;
+        upwards = used.3;
+        later = omega (arith, base, low);
+        is_flushed = by c found;
+        room = area;
+        lost = lost;
+        as_opened = λ used. (let names = lost_as_opened o n (commit_opening a c) older lost used in names.lost);
+      }
+
+  pub all_fit : (opening : KeeperState) → opening ≡ n.keeper → n.keeper.last.checkpoint.number.0 ≤ o.number.0 → IsOpened opening → ((events : List KeeperEvent) → CommitHasRoom (keeper_run shape p opening events))
+      → ((event : KeeperEvent) (before : List KeeperEvent) (c : Commit) → (keeper_run shape p opening before).step ≡ Waits → (keeper_run shape p opening (event ∷ before)).step ≡ Writes → (keeper_run shape p opening (event ∷ before)).commit ≡ Some c
+      → c.kind ≡ Full → (keeper_run shape p opening (event ∷ before)).used.triples ≤ most_triples n.shape)
+      → (events : List KeeperEvent) → Always (λ (s : KeeperState). IsBelow o.tail.0 o.number.0 s) shape p opening events → Always (λ (s : KeeperState). Ends flushed s) shape p opening events
+      → AllGood shape p opening (FitsLife o n flushed) events
+  unfolding Always
+  all_fit opening same older opened room area [] below ends = tt
+  all_fit opening same older opened room area (event ∷ before) below ends = (
+    λ c waits writes found.
+        (let a : KeeperState = keeper_run shape p opening (event ∷ before) in
+        let behind : IsBehindWait a.step = subst IsBehindWait (sym writes) tt in
+        let newer : Always (HandIsNewer o.number.0) shape p opening (event ∷ before) =
+        always_map (λ (x : KeeperState). IsBelow o.tail.0 o.number.0 x) (HandIsNewer o.number.0) shape p opening (event ∷ before) (λ x at. hand_newer o.tail.0 o.number.0 x at) below in
+        let held : HoldsLost o.number.0 n.keeper.lost n.keeper.last.checkpoint a.lost a.last.checkpoint =
+        subst (λ (x : KeeperState). HoldsLost o.number.0 x.lost x.last.checkpoint a.lost a.last.checkpoint) same (run_held shape p o.number.0 opening (event ∷ before) opened newer) in
+        let left = left_held o.number.0 n.keeper.lost n.keeper.last.checkpoint c.kind a c held (run_uses shape p opening (event ∷ before) c opened behind found) (hand_newer o.tail.0 o.number.0 a below.0 c found behind) in
+        let has = room (event ∷ before) c found in
+        fits_so a c writes found below.0 ends.0 (room (event ∷ before)) (area event before c waits writes found) older (lost_named o n a c (few_left c.kind a.lost has.lost) left)),
+    all_fit opening same older opened room area before below.1 ends.1,
+  )
+
+-- ---- in a life
+tail_there : (o : Opened) (n : Now) → IsOpeningWorld o n → word_at n.words (shared_place one.Tail) ≡ o.tail.0
+tail_there o n its = ap (λ (all : List ℕ). word_at all (shared_place one.Tail)) its.its_words.whole
+
+last_below : (o : Opened) (n : Now) (t : Bounds) → IsOpeningWorld o n → t.least ≡ o.number.0 → t.tail ≡ o.tail.0 → LastBelow t n.keeper.last
+last_below o n t its least tail =
+    let a = o.upwards in
+    subst (λ (last : Finality). LastBelow t last) (sym its.its_keeper.newest) (o.some_first, omega (arith, a, tail), o.no_newer, omega (arith, least))
+
+opens_below : (o : Opened) (n : Now) (bytes : List ℕ) → IsOpeningWorld o n → IsBelowNow o.tail.0 o.number.0 (tail_of (beginning n bytes)) n.keeper
+opens_below o n bytes its =
+    let there = tail_there o n its in
+    let t : Bounds = record { base = o.tail.0; least = o.number.0; tail = word_at n.words (shared_place one.Tail); some = o.some_tail; up = omega (arith, there) } in
+    let below : Below t n.keeper.has_points n.keeper.last n.keeper.commit =
+    subst (λ (x : Option Commit). Below t n.keeper.has_points n.keeper.last x) (sym its.its_keeper.no_commit)
+    (tt, subst (λ (b : Bool). TakenAbove b n.keeper.last None) (sym its.its_keeper.no_points) tt, last_below o n t its refl there) in
+    record {
+      below = record { bounds = t; its_base = refl; its_least = refl; is = subst (λ (k : Keeping). AtTail t n.keeper k) (sym its.its_keeper.no_call) below };
+      its_tail = refl;
+    }
+
+pub opened_older : (o : Opened) (n : Now) → IsOpeningWorld o n → n.keeper.last.checkpoint.number.0 ≤ o.number.0
+opened_older o n its = subst (λ (last : Finality). last.checkpoint.number.0 ≤ o.number.0) (sym its.its_keeper.newest) o.no_newer
+
+pub life_fits : (o : Opened) (n : Now) (bytes : List ℕ) (events : List Event) → IsOpeningWorld o n → IsLifeTold (beginning n bytes) events
+    → ((shape : Shape) (p : Places) (opening : KeeperState) (past : List KeeperEvent) → IsOpened opening → CommitHasRoom (keeper_run shape p opening past))
+    → ((before : List Event) (event : Event) → Rises (levels_of (run (beginning n bytes) before).now.words) (levels_of (happens (run (beginning n bytes) before) event).now.words))
+    → AllOfLife (beginning n bytes) (FitsLife o n (flushed_so_far n bytes events)) events
+life_fits o n bytes events its life room rises =
+    let opening : World = beginning n bytes in
+    let told = life.told in
+    let opened : IsOpened n.keeper = told.is_opened in
+    let tails = life_tails opening o.tail.0 o.number.0 events (opens_below o n bytes its) (λ before event. (rises before event).tail) life.in_turn in
+    all_fit o n (flushed_so_far n bytes events) n.shape n.places n.keeper refl (opened_older o n its) opened (λ past. room n.shape n.places n.keeper past opened)
+    (λ event before c waits writes found. begun_fits n.shape n.places n.keeper event before c opened told.buckets told.overflow waits writes found)
+    (keeper_events opening events) tails.always (life_always opening events opened (λ before event. (rises before event).flushed))

@@ -1,0 +1,41 @@
+-- A commit that is sealed and not finished is the one whose words are stored. It stands, whole.
+use Rattle.std.proofs.Common.{◌≡◌, ◌⊎◌, inl, inr, ℕ, ◌∙◌, refl, sym, subst, Bool, true, false, List, ◌∷◌}
+use Rattle.fkv_keeper.specs.Keeping.{Finality, KeeperState}
+use Rattle.fkv_keeper.specs.declared.keepers.Keeping.{Keeping}
+use Rattle.fkv_keeper.specs.declared.keepers.Keeping.TheVariants.{Ended, Starts, Maintains, LoadsPhase, Enters, Copies, Seeks, Waits, Writes, Finishes}
+use Rattle.fkv_manifest.specs.Committing.{CommitWriter}
+use Rattle.fkv_manifest.specs.Kept.{NewStands}
+use Rattle.law_commit.specs.BegunCommits.{AreFinished, AtEnd, AtKeeping, BegunCommit, HaveFinished, OneIsOpen}
+use Rattle.law_order.proofs.OfImages.NamedNow.{SealedStands}
+
+clash : {X : Type 0} (b : Bool) → b ≡ true → b ≡ false → X
+clash b e f = cc
+
+all_finished : {X : Type 0} (begun : List BegunCommit) (last : Finality) (d : BegunCommit) (rest : List BegunCommit) → HaveFinished begun last → begun ≡ d ∷ rest → d.is_finished ≡ false → X
+all_finished begun last d rest all e still_open = clash d.is_finished (subst AreFinished e all.finished).1 still_open
+
+one_open : {X : Type 0} (begun : List BegunCommit) (last : Finality) (d : BegunCommit) (rest : List BegunCommit) → OneIsOpen begun last → begun ≡ d ∷ rest → d.is_sealed ≡ true → X
+one_open begun last d rest one e is =
+    let lists : one.newest ∷ one.older ≡ d ∷ rest = sym one.its ∙ e in
+    let same : one.newest ≡ d = cc in
+    clash d.is_sealed is (subst (λ (x : BegunCommit). x.is_sealed ≡ false) same one.unsealed)
+
+none_or_one : (begun : List BegunCommit) (last : Finality) (w : CommitWriter) (image : List ℕ) → HaveFinished begun last ⊎ OneIsOpen begun last → SealedStands begun w image
+none_or_one begun last w image (inl all) = λ d rest e still_open is. all_finished begun last d rest all e still_open
+none_or_one begun last w image (inr one) = λ d rest e still_open is. one_open begun last d rest one e is
+
+at_end : (begun : List BegunCommit) (s : KeeperState) (w : CommitWriter) (image : List ℕ) (broken : Bool) → AtEnd begun s broken → SealedStands begun w image
+at_end begun s w image true its = none_or_one begun s.last w image its
+at_end begun s w image false its = none_or_one begun s.last w image (inl its)
+
+pub sealed_stands : (begun : List BegunCommit) (s : KeeperState) (step : Keeping) (w : CommitWriter) (image : List ℕ) → AtKeeping begun s step → (step ≡ Finishes → NewStands w image) → SealedStands begun w image
+sealed_stands begun s Finishes w image its written = λ d rest e still_open is. written refl
+sealed_stands begun s Writes w image its written = none_or_one begun s.last w image its
+sealed_stands begun s (Ended told) w image its written = at_end begun s w image s.is_broken its
+sealed_stands begun s Starts w image its written = none_or_one begun s.last w image (inl its)
+sealed_stands begun s Maintains w image its written = none_or_one begun s.last w image (inl its)
+sealed_stands begun s LoadsPhase w image its written = none_or_one begun s.last w image (inl its)
+sealed_stands begun s Enters w image its written = none_or_one begun s.last w image (inl its)
+sealed_stands begun s Copies w image its written = none_or_one begun s.last w image (inl its)
+sealed_stands begun s Seeks w image its written = none_or_one begun s.last w image (inl its)
+sealed_stands begun s Waits w image its written = none_or_one begun s.last w image (inl its)

@@ -1,0 +1,4 @@
+pub mod OfHolds
+pub mod OfPoints
+pub mod OfShows
+pub mod OfUses

@@ -1,0 +1,48 @@
+-- What the log and the slot of an image are to `law_paper`.
+use Rattle.std.proofs.Common.{ℕ, ◌<◌, ◌≤◌, arith, ap, List}
+use Rattle.fkv_opening.specs.declared.opened_store.Opened.{Opened}
+use Rattle.fkv_record.specs.Manifest.{SlotSaid}
+use Rattle.fkv_record.specs.declared.triples.Triple.{Triple}
+use Rattle.fkv_scan.specs.Log as scan
+use Rattle.fkv_world.specs.World.{Event, Now}
+use Rattle.law_log.specs.Chains.{Cell}
+use Rattle.law_log.specs.Ghosts.{Log}
+use Rattle.law_order.specs.Decided.Cut.{NamesEnd}
+use Rattle.law_paper.specs.Paper.Images.{ShowsCell, ShowsLog}
+use Rattle.law_order.specs.Recovered.Leaves.{NamesNew, log_named}
+
+-- ---- what an image shows from an address on it shows from a higher one
+shows_cell_from : (least from : ℕ) (image : scan.Log) (a : ℕ) (cell : Cell) → least ≤ from → ShowsCell least image a cell → ShowsCell from image a cell
+shows_cell_from least from image a cell up its = record {
+  held = its.held;
+  stands = its.stands;
+  valid = its.valid;
+  its_key = its.its_key;
+  its_value = its.its_value;
+  leads = its.leads;
+  low = its.low;
+  same = λ high. its.same (omega (arith, up, high));
+}
+
+pub shows_from : (home : ℕ → ℕ) (least from : ℕ) (image : scan.Log) (g : Log) → least ≤ from → ShowsLog home least image g → ShowsLog home from image g
+shows_from home least from image g up its = record {
+  homes = its.homes;
+  published = λ a cell at below. shows_cell_from least from image a cell up (its.published a cell at below);
+  decided = λ a high below. its.decided a (omega (arith, up, high)) below;
+  dropped = λ a cell at high below. its.dropped a cell at (omega (arith, up, high)) below;
+  none_lost = λ a x high stands. its.none_lost a x (omega (arith, up, high)) stands;
+}
+
+-- ---- what the slot says
+pub names_end : (o : Opened) (n : Now) (bytes : List ℕ) (events : List Event) (image : List ℕ) (names : NamesNew o n bytes events image) (triples : List Triple) → NamesEnd (log_named names triples) names.commit
+names_end o n bytes events image names triples =
+    let says = names.says in
+    record { version = ap (λ (s : SlotSaid). s.number) says.said; tail = ap (λ (s : SlotSaid). s.end.0) says.said }
+
+pub starts_some : (o : Opened) (n : Now) (bytes : List ℕ) (events : List Event) (image : List ℕ) (names : NamesNew o n bytes events image) (triples : List Triple) → (let log = log_named names triples in 0 < log.start)
+starts_some o n bytes events image names triples =
+    let says = names.says in
+    let fits = says.fits in
+    let some = fits.some in
+    let first = ap (λ (s : SlotSaid). s.first.0) says.said in
+    omega (arith, some, first)

@@ -1,0 +1,109 @@
+-- A commit that uses a checkpoint of its life: the triples are those of a full commit, which has made it.
+use Rattle.std.proofs.Common.{◌≡◌, inl, inr, ℕ, ◌^◌, ◌<◌, ◌≤◌, ◌∙◌, arith, refl, sym, ap, subst, List}
+use Rattle.fkv_base.specs.declared.numbers.Addr.{Addr}
+use Rattle.fkv_base.specs.declared.numbers.Version.{Version}
+use Rattle.fkv_base.specs.declared.shapes.Shape.{Shape}
+use Rattle.fkv_core.specs.Openings.{IsOpeningWorld}
+use Rattle.fkv_keeper.specs.Keeping.{Finality}
+use Rattle.fkv_keeper.specs.declared.last_commits.Checkpoint.{Checkpoint}
+use Rattle.fkv_newest.specs.declared.newest_slots.Newest.{Newest}
+use Rattle.fkv_opening.specs.Faults.{HasCheckpoint, log_of}
+use Rattle.fkv_opening.specs.declared.opened_store.Opened.{Opened}
+use Rattle.fkv_record.specs.Manifest.{SlotSaid}
+use Rattle.fkv_record.specs.declared.manifest_slots.ManifestSlot.{ManifestSlot}
+use Rattle.fkv_record.specs.declared.triples.Triple.{Triple}
+use Rattle.fkv_world.specs.World.{Event, Now}
+use Rattle.law_commit.specs.BegunCommits.{AreInTurn, BegunCommit}
+use Rattle.law_commit.specs.Decided.Ended.{Span}
+use Rattle.law_order.specs.Images.Fits.{NamesNone}
+use Rattle.law_order.specs.Images.Laws.Held.{TriplesAreReadBack}
+use Rattle.law_order.specs.Images.Left.{flushed_so_far}
+use Rattle.law_order.specs.Images.Named.{IsMadeBy, begun_so_far}
+use Rattle.law_log.specs.Trace.{IsIn}
+use Rattle.law_order.specs.Decided.Cut.{CoversItsChains, IsOldBelow, IsOpenings, StartsAt, WritesCover}
+use Rattle.law_order.specs.Recovered.Leaves.{NamesNew}
+use Rattle.law_order.specs.Recovered.Parts.{UsesNew}
+use Rattle.law_order.proofs.OfRecovered.OfUses.Areas.{area_read, said_area}
+use Rattle.law_order.proofs.OfRecovered.OfUses.Numbers.{ends_by}
+use Rattle.law_world.specs.Standing.Standing.{triples_in}
+
+-- a newer commit ends no lower
+abbrev pub EndRises : List BegunCommit → Type 0
+EndRises begun = (older newer : BegunCommit) → IsIn older begun → IsIn newer begun → older.number.0 < newer.number.0 → older.end.0 ≤ newer.end.0
+
+module _ (o : Opened) (n : Now) (bytes : List ℕ) (events : List Event) (image : List ℕ) (names : NamesNew o n bytes events image) (begins : IsOpeningWorld o n) (none : NamesNone o names.commit)
+    (d : BegunCommit) (is : IsIn d (begun_so_far n bytes events)) (made : (let c = names.commit in IsMadeBy d c.checkpoint (triples_in n.shape image c.checkpoint))) where
+  abbrev c : BegunCommit
+  c = names.commit
+
+  abbrev newest : Newest
+  newest = names.newest
+
+  abbrev slot : ManifestSlot
+  slot = (let found = names.newest in found.slot)
+
+  number : d.number.0 ≡ c.checkpoint.number.0
+  number = sym (ap (λ (v : Version). v.0) made.own) ∙ ap (λ (x : Checkpoint). x.number.0) made.checkpoint
+
+  not_opened : IsOpenings n bytes d → ⊥
+  not_opened first =
+      let same : d.number.0 ≡ n.keeper.last.number.0 = ap (λ (x : Span). x.number.0) first in
+      let was : n.keeper.last.number.0 ≡ o.number.0 = ap (λ (f : Finality). f.number.0) begins.its_keeper.newest in
+      let its = number in
+      let newer = none.newer in
+      omega (arith, same, was, its, newer)
+
+  not_newer : d.number.0 ≤ c.number.0
+  not_newer =
+      let says = names.says in
+      let fits = says.fits in
+      let most = fits.no_newer in
+      let its = number in
+      omega (arith, most, its)
+
+  module _ (turn : AreInTurn (begun_so_far n bytes events)) (rises : EndRises (begun_so_far n bytes events)) where
+    end_below : d.end.0 ≤ slot.end.0
+    end_below =
+        let says = names.says in
+        let end : slot.end.0 ≡ c.end.0 = ap (λ (x : SlotSaid). x.end.0) says.said in
+        let low = ends_by (begun_so_far n bytes events) c d turn rises names.begun is not_newer in
+        omega (arith, end, low)
+
+    starts : (triples : List Triple) → StartsAt (log_of image newest triples) d
+    starts triples =
+        let says = names.says in
+        let said : slot.number ≡ c.number.0 = ap (λ (x : SlotSaid). x.number) says.said in
+        let most = not_newer in
+        record {
+          start = ap (λ (x : SlotSaid). x.first.0) says.said ∙ (sym (ap (λ (x : Checkpoint). x.first.0) made.checkpoint) ∙ ap (λ (a : Addr). a.0) made.first);
+          version = omega (arith, said, most);
+          tail = end_below;
+        }
+
+    module _ (cover : WritesCover o n bytes events d) (read : TriplesAreReadBack) where
+      stored : HasCheckpoint image newest cover.triples
+      stored =
+          let end = end_below in
+          read image newest cover.triples names.its (cover.spelled ∙ (made.triples ∙ sym (area_read n c newest image (said_area o n (flushed_so_far n bytes events) c newest names.says) names.shape))) (record {
+            in_index = λ i x e. subst (λ (s : Shape). x.bucket < 2 ^ s.bucket_bits) (sym names.shape) (cover.in_index i x e);
+            in_log = λ i x e. (let low = cover.below i x e in omega (arith, low, end));
+            apart = cover.apart;
+          })
+
+      pub uses_new : IsOldBelow o n bytes events d → UsesNew o n bytes events image names
+      uses_new old = record {
+        newer = none.newer;
+        triples = cover.triples;
+        checkpoint = stored;
+        covers = cover.covers (log_of image newest cover.triples) refl (starts cover.triples);
+        old_below = λ a cell published low. elim old [
+          | inl before ↦ before (log_of image newest cover.triples) a cell (starts cover.triples) published low
+          | inr first ↦ absurd (not_opened first)
+        ];
+      }
+
+    pub by_cover : CoversItsChains o n bytes events d → IsOldBelow o n bytes events d → TriplesAreReadBack → UsesNew o n bytes events image names
+    by_cover covers old read = elim (covers made.full) [
+      | inl cover ↦ uses_new cover read old
+      | inr first ↦ absurd (not_opened first)
+    ]

@@ -1,0 +1,110 @@
+-- A commit that uses the checkpoint with which the store was opened: recovery meets again what the opening's met.
+use Rattle.std.proofs.Common.{◌≡◌, ℕ, ◌<◌, ◌∙◌, arith, refl, sym, ap, subst, List}
+use Rattle.fkv_base.specs.declared.numbers.Addr.{Addr}
+use Rattle.fkv_base.specs.declared.shapes.Shape.{Shape}
+use Rattle.fkv_disk.specs.Bytes.{bytes_at}
+use Rattle.fkv_keeper.specs.Keeping.{Finality}
+use Rattle.fkv_keeper.specs.LastCommits.{lost_written}
+use Rattle.fkv_keeper.specs.declared.last_commits.Checkpoint.{Checkpoint}
+use Rattle.fkv_newest.specs.declared.newest_slots.Newest.{Newest}
+use Rattle.fkv_opening.specs.Faults.{HasCheckpoint, log_of}
+use Rattle.fkv_opening.specs.Opened.{IsStoreOf}
+use Rattle.fkv_opening.specs.declared.opened_store.Opened.{Opened}
+use Rattle.fkv_pairs.specs.Pairs.{log_of_store}
+use Rattle.fkv_record.specs.Manifest.{SlotSaid}
+use Rattle.fkv_record.specs.Places.{record_place}
+use Rattle.fkv_record.specs.declared.lost_ranges.LostRange.{LostRange}
+use Rattle.fkv_record.specs.declared.manifest_slots.ManifestSlot.{ManifestSlot}
+use Rattle.fkv_world.specs.World.{Event, Now}
+use Rattle.law_commit.specs.BegunCommits.{BegunCommit}
+use Rattle.law_order.specs.Decided.Cut.{log_beside}
+use Rattle.law_paper.specs.Paper.Old.{GoesOnFrom, HasWhatCounted, LosesTheRest, WasSound}
+use Rattle.law_order.specs.Recovered.Leaves.{Leaves, NamesNew}
+use Rattle.law_order.specs.Recovered.Parts.{UsesOld}
+
+-- an image has the records below the opened end as they were
+abbrev KeepsOld : Opened → List ℕ → List ℕ → Type 0
+KeepsOld o bytes image = (a : ℕ) → 0 < a → a < o.tail.0 → bytes_at image (record_place o.shape a) 24 ≡ bytes_at bytes (record_place o.shape a) 24
+
+was_sound : (bytes : List ℕ) (o : Opened) (store : IsStoreOf bytes o) → WasSound (log_of_store bytes o store)
+was_sound bytes o store =
+    let its = store.checkpoint in
+    let suits = its.newest.manifest.suits in
+    let stored = its.stored in
+    record {
+      scan = store.sound.scan;
+      chains = store.sound.chains;
+      apart = its.apart;
+      below = λ i x e. (let one = stored.each i x e in one.in_log);
+      some_start = (let some = suits.log.some in omega (arith, some));
+      upwards = suits.log.upwards;
+    }
+
+module _ (o : Opened) (n : Now) (bytes : List ℕ) (events : List Event) (image : List ℕ) (leaves : Leaves o n bytes events image) (names : NamesNew o n bytes events image) (used : (let c = names.commit in c.checkpoint ≡ n.keeper.last.checkpoint)) where
+  abbrev store : IsStoreOf bytes o
+  store = leaves.store
+
+  abbrev c : BegunCommit
+  c = names.commit
+
+  abbrev newest : Newest
+  newest = names.newest
+
+  abbrev was : Newest
+  was = (let its = leaves.store in its.newest)
+
+  abbrev slot : ManifestSlot
+  slot = (let found = names.newest in found.slot)
+
+  abbrev old : ManifestSlot
+  old = (let its = leaves.store in let found = its.newest in found.slot)
+
+  shape_was : was.shape ≡ o.shape
+  shape_was = sym store.tells.shape
+
+  shape_is : o.shape ≡ newest.shape
+  shape_is = sym (names.shape ∙ leaves.begins.its_shape)
+
+  start : slot.first.0 ≡ old.first.0
+  start =
+      let says = names.says in
+      ap (λ (x : SlotSaid). x.first.0) says.said
+      ∙ (ap (λ (x : Checkpoint). x.first.0) used ∙ (ap (λ (f : Finality). f.checkpoint.first.0) leaves.begins.its_keeper.newest ∙ ap (λ (a : Addr). a.0) store.tells.first))
+
+  same_record : KeepsOld o bytes image → (a : ℕ) → 0 < a → a < old.end.0 → bytes_at bytes (record_place was.shape a) 24 ≡ bytes_at image (record_place newest.shape a) 24
+  same_record keeps a some low =
+      let tail : o.tail.0 ≡ old.end.0 = ap (λ (x : Addr). x.0) store.tells.tail in
+      ap (λ (s : Shape). bytes_at bytes (record_place s a) 24) shape_was
+      ∙ (sym (keeps a some (omega (arith, tail, low))) ∙ ap (λ (s : Shape). bytes_at image (record_place s a) 24) shape_is)
+
+  goes_on : KeepsOld o bytes image → GoesOnFrom (log_of_store bytes o store) (log_of image newest store.triples)
+  goes_on keeps =
+      let says = names.says in
+      let fits = says.fits in
+      let tail : o.tail.0 ≡ old.end.0 = ap (λ (x : Addr). x.0) store.tells.tail in
+      let end : slot.end.0 ≡ c.end.0 = ap (λ (x : SlotSaid). x.end.0) says.said in
+      let number : slot.number ≡ c.number.0 = ap (λ (x : SlotSaid). x.number) says.said in
+      let then = store.tells.number in
+      let later = fits.later in
+      let newer = fits.newer in
+      record {
+        start = start;
+        bits = ap (λ (s : Shape). s.bucket_bits) (sym (shape_was ∙ shape_is));
+        triples = refl;
+        longer = omega (arith, tail, end, later);
+        newer = omega (arith, number, then, newer);
+        bytes = λ a x some low. (let same = same_record keeps a some low in (λ stands. stands ∙ same, λ stands. stands ∙ sym same));
+      }
+
+  pub uses_old : KeepsOld o bytes image → HasCheckpoint image newest store.triples → HasWhatCounted (log_of_store bytes o store) (log_beside o n bytes events)
+      → LosesTheRest (lost_written c.lost) (log_of_store bytes o store) (log_beside o n bytes events) → UsesOld o n bytes events image leaves names
+  uses_old keeps checkpoint before loses =
+      let says = names.says in
+      let lost : slot.lost.ranges.items ≡ lost_written c.lost = ap (λ (x : SlotSaid). x.lost) says.said in
+      record {
+        checkpoint = checkpoint;
+        goes_on = goes_on keeps;
+        opened = was_sound bytes o store;
+        before = before;
+        loses = subst (λ (x : List LostRange). LosesTheRest x (log_of_store bytes o store) (log_beside o n bytes events)) (sym lost) loses;
+      }

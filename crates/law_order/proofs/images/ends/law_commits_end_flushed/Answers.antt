@@ -1,0 +1,29 @@
+-- The law: no commit is written before its log is flushed, and the flushed offset never falls.
+use Rattle.std.proofs.Common.{◌*◌, ◌≤◌, subst, [], ◌∷◌}
+use Rattle.fkv_base.specs.declared.shapes.Shape.{Shape}
+use Rattle.fkv_core.specs.Openings.{beginning}
+use Rattle.fkv_keeper.specs.Keeping.{KeeperState}
+use Rattle.fkv_world.specs.Runs.{World, run}
+use Rattle.law_world.specs.Guarded.OpenedStore.{IsOpenedStore}
+use Rattle.law_order.proofs.OfImages.EndsFlushed.{ends_higher, flushed_at, life_ends, on_device, written}
+use Rattle.law_order.proofs.images.ends.law_commits_end_flushed.Goals as goal
+
+pub returns-clause-flushed : goal.returns-clause-flushed
+unfolding run
+returns-clause-flushed c = λ o n bytes events begins.
+    let opening : World = beginning n bytes in
+    let opened : IsOpenedStore opening o.tail.0 = c.law_guard_opens.ensures o n bytes begins in
+    written (flushed_at (run opening events)) (run opening events).now.keeper (run opening events).now.keeper.step
+    (life_ends opening events opened.now.keeper (λ before event. (c.law_world_is_guarded.ensures.rises opening o.tail.0 before (event ∷ []) opened.now).flushed))
+
+pub returns-clause-on_device : goal.returns-clause-on_device
+returns-clause-on_device c = λ o n bytes events begins.
+    let opening : World = beginning n bytes in
+    let opened : IsOpenedStore opening o.tail.0 = c.law_guard_opens.ensures o n bytes begins in
+    let s : KeeperState = (run opening events).now.keeper in
+    let order = c.law_world_is_guarded.ensures.order opening o.tail.0 events opened.now in
+    let paged = c.law_world_is_guarded.ensures.paged opening o.tail.0 events opened.now in
+    let most : flushed_at (run opening events) ≤ n.shape.disk_pages * n.shape.page =
+    on_device _ _ _ _ _ paged.pages n.shape.page n.shape.disk_pages order.flushed_below order.safe_below order.read_only_below order.tail_below paged.whole paged.on_device in
+    ends_higher (flushed_at (run opening events)) (o.shape.disk_pages * o.shape.page) s s.step (subst (λ (x : Shape). flushed_at (run opening events) ≤ x.disk_pages * x.page) begins.its_shape most)
+    (returns-clause-flushed c o n bytes events begins)

@@ -1,0 +1,20 @@
+-- What the laws of `ends` say.
+use Rattle.std.specs.Prelude.{◌*◌, ℕ, List}
+use Rattle.fkv_core.specs.Openings.{IsOpeningWorld, beginning}
+use Rattle.fkv_opening.specs.declared.opened_store.Opened.{Opened}
+use Rattle.fkv_world.specs.Runs.{run}
+use Rattle.fkv_world.specs.World.{Event, Now}
+use Rattle.law_order.specs.Images.Ends.{WrittenEndsBy}
+use Rattle.law_order.specs.Images.Left.{flushed_so_far}
+
+-- a commit that is being written, or comes to its finish, ends at or below the flushed offset
+abbrev pub CommitsEndFlushed : Type 0
+CommitsEndFlushed =
+    (o : Opened) (n : Now) (bytes : List ℕ) (events : List Event) → IsOpeningWorld o n
+    → (let its = (run (beginning n bytes) events).now.keeper in WrittenEndsBy (flushed_so_far n bytes events) its its.step)
+
+-- and on the device
+abbrev pub CommitsEndOnDevice : Type 0
+CommitsEndOnDevice =
+    (o : Opened) (n : Now) (bytes : List ℕ) (events : List Event) → IsOpeningWorld o n
+    → (let its = (run (beginning n bytes) events).now.keeper in WrittenEndsBy (o.shape.disk_pages * o.shape.page) its its.step)

@@ -1,0 +1,25 @@
+-- What the laws of `records` say.
+use Rattle.std.specs.Prelude.{◌≡◌, ◌<◌, ℕ, List}
+use Rattle.fkv_core.specs.Openings.{IsOpeningWorld}
+use Rattle.fkv_disk.specs.Bytes.{bytes_at}
+use Rattle.fkv_opening.specs.Opened.{IsStoreOf}
+use Rattle.fkv_opening.specs.declared.opened_store.Opened.{Opened}
+use Rattle.fkv_record.specs.Places.{record_place}
+use Rattle.fkv_scan.specs.Log as scan
+use Rattle.fkv_world.specs.World.{Event, Now}
+use Rattle.law_opening.specs.Changes.Fits.{CallsFit}
+use Rattle.law_order.specs.Images.Left.{IsLeft}
+use Rattle.law_order.specs.Images.Records.{ShowsFlushed}
+use Rattle.law_opening.specs.Lives.Reaching.{ReachesFar}
+
+-- records below the flushed offset stand as the log has them
+abbrev pub ImagesShowTheLog : Type 0
+ImagesShowTheLog =
+    (o : Opened) (n : Now) (bytes : List ℕ) (events : List Event) (image : scan.Log) → IsStoreOf bytes o → IsOpeningWorld o n → ReachesFar bytes → CallsFit events
+    → IsLeft n bytes events image.image → image.shape ≡ o.shape → ShowsFlushed o n bytes events image
+
+-- records below the opened end stand as they were
+abbrev pub ImagesKeepTheOldRecords : Type 0
+ImagesKeepTheOldRecords =
+    (o : Opened) (n : Now) (bytes : List ℕ) (events : List Event) (image : List ℕ) (a : ℕ) → IsStoreOf bytes o → IsOpeningWorld o n → ReachesFar bytes → IsLeft n bytes events image
+    → 0 < a → a < o.tail.0 → bytes_at image (record_place o.shape a) 24 ≡ bytes_at bytes (record_place o.shape a) 24

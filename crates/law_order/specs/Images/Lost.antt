@@ -1,0 +1,25 @@
+-- What the lost ranges in a commit's slot lose.
+use Rattle.std.specs.Prelude.{◌≡◌, ◌⊎◌, ℕ, ◌≤◌, List}
+use Rattle.fkv_keeper.specs.LastCommits.{lost_written}
+use Rattle.fkv_opening.specs.Opened.{IsStoreOf}
+use Rattle.fkv_opening.specs.declared.opened_store.Opened.{Opened}
+use Rattle.fkv_pairs.specs.Pairs.{log_of_store}
+use Rattle.fkv_record.specs.declared.lost_ranges.LostRange.{LostRange}
+use Rattle.fkv_record.specs.declared.records.Record.{Record}
+use Rattle.fkv_scan.specs.Records.{losses}
+use Rattle.fkv_world.specs.World.{Now}
+use Rattle.law_commit.specs.BegunCommits.{BegunCommit}
+use Rattle.law_order.specs.Images.Fits.{NamesNone}
+use Rattle.law_opening.specs.Log.OpeningLog.{opening_log}
+use Rattle.law_paper.specs.Paper.Old.{LosesTheRest}
+
+-- These ranges lose no record from an address on.
+abbrev pub LosesNoneFrom : ℕ → List LostRange → Type 0
+LosesNoneFrom from lost = (a : ℕ) (x : Record) → from ≤ a → losses lost a x ≡ 0
+
+-- A commit's slot loses none of its life's records. If the commit uses the checkpoint with which the store was opened, it loses just what the opening left out.
+-- Else its checkpoint is newer than the opening's commit, and it loses nothing.
+pub record LosesAsOpened (o : Opened) (n : Now) (bytes : List ℕ) (store : IsStoreOf bytes o) (c : BegunCommit) : Type 0 where
+  pub none : LosesNoneFrom o.tail.0 (lost_written c.lost)
+  pub rest : c.checkpoint ≡ n.keeper.last.checkpoint → LosesTheRest (lost_written c.lost) (log_of_store bytes o store) (opening_log bytes o)
+  pub uses : (c.checkpoint ≡ n.keeper.last.checkpoint) ⊎ NamesNone o c

@@ -1,0 +1,34 @@
+-- What the points of a commit keep of the life in which it has begun.
+use Rattle.std.specs.Prelude.{◌≡◌, ◌≤◌, ℕ, List}
+use Rattle.fkv_keeper.specs.LastCommits.{points_written}
+use Rattle.fkv_map.specs.History.{AreAtMost, IsWhole, point_of}
+use Rattle.fkv_opening.specs.declared.opened_store.Opened.{Opened}
+use Rattle.fkv_world.specs.World.{Event, Now}
+use Rattle.law_commit.specs.BegunCommits.{BegunCommit}
+use Rattle.law_order.specs.Images.Named.{begun_so_far}
+use Rattle.law_log.specs.Trace.{IsIn}
+use Rattle.law_order.specs.OneHistory.EachLife.{IsLife, Life}
+use Rattle.law_order.specs.Prefix.Law.{history_so_far}
+use Rattle.law_order.specs.Rules.Ordered.{effects_so_far}
+use Rattle.law_paper.specs.Kept.{PointsSplit}
+
+-- What the points of a commit keep of a life.
+pub record KeepsItsPoints (o : Opened) (n : Now) (bytes : List ℕ) (events : List Event) (c : BegunCommit) : Type 0 where
+  -- just the updates of versions up to its number
+  pub split : PointsSplit c.points c.number.0 (effects_so_far n bytes events)
+  -- each session's serials above its point of the opening, up to its point, once
+  pub whole : IsWhole (history_so_far n bytes events) o.points.items c.points
+  -- none has fallen since the opening
+  pub risen : AreAtMost o.points.items c.points
+  -- and a slot has room for each
+  pub fits : (session : ℕ) → point_of (points_written n.shape.sessions c.points) session ≡ point_of c.points session
+
+-- So it is of each commit that has begun in a life, with the opening's.
+abbrev pub CommitsKeepTheirPoints : Type 0
+CommitsKeepTheirPoints = (its : Life) (c : BegunCommit) → IsLife its → IsIn c (begun_so_far its.world its.bytes its.events) → KeepsItsPoints its.opened its.world its.bytes its.events c
+
+-- none is more than that of a newer commit
+abbrev pub PointsRise : Type 0
+PointsRise =
+    (its : Life) (older newer : BegunCommit) → IsLife its → IsIn older (begun_so_far its.world its.bytes its.events) → IsIn newer (begun_so_far its.world its.bytes its.events) → older.number.0 ≤ newer.number.0
+    → AreAtMost older.points newer.points

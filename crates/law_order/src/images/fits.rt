@@ -1,0 +1,26 @@
+//! What the commits of a life name.
+ghost use Rattle.law_order.specs.Images.Laws.Fits.{CommitsFitTheirLife, ImagesNameAFit};
+
+use fkv_keeper::law_of_slots;
+use fkv_manifest::law_gates;
+use law_commit::law_begun;
+use law_opening::{law_guard_opens, law_long_opens, law_told_opens};
+use law_world::{law_world_is_guarded, law_world_one_commit_stands};
+
+/// Each commit that has begun in a life is newer than the opening's, and not of the last version. Its scan begins at a tail that a keeper has loaded in prepare,
+/// for it or for an older checkpoint. Its log ends at a tail that was loaded later. So the first isn't above the second, nor that above the flushed offset.
+/// If a commit uses the checkpoint with which the store was opened, it names all lost ranges of then. Else its checkpoint is newer than the opening's commit,
+/// and it names none. So it is of each commit that an image names, but the opening's. It holds if the opened bytes reach far.
+pub fn law_commits_fit()
+    ensures each { CommitsFitTheirLife }
+    ensures named { ImagesNameAFit }
+{
+    law_of_slots();
+    law_guard_opens();
+    law_told_opens();
+    law_long_opens();
+    law_begun();
+    law_gates();
+    law_world_is_guarded();
+    law_world_one_commit_stands();
+}

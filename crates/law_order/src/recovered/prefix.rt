@@ -1,0 +1,41 @@
+//! The law of prefixes.
+ghost use Rattle.law_order.specs.OneHistory.EachLife.{InEachLife};
+ghost use Rattle.law_order.specs.Prefix.Law.{PrefixLaw, RecoversPrefix};
+
+use crate::recovered::holds::law_images_hold;
+use crate::recovered::points::law_points_keep;
+use crate::{
+    law_commits_in_turn, law_durable_is_sealed, law_finished_is_told, law_history_beside,
+    law_lives, law_lives_keep_rules, law_order, law_points_are_fair, law_replays_kept,
+};
+use law_opening::law_lives_change_published;
+
+/// If a life began with an image that reaches far, each image that a crash may leave of it holds a prefix of it. No fault stands in the image, so recovery finds a
+/// commit there. It is the newest finished one, or the one that is being finished. Its points are no less than what sessions were told as durable. The store's map is
+/// the one with which the life began, behind a replay of just the updates up to each session's point. The replay is legal, with the replies that were given.
+pub fn law_images_recovered()
+    ensures { InEachLife RecoversPrefix }
+{
+    law_images_hold();
+    law_points_keep();
+    law_durable_is_sealed();
+    law_lives_keep_rules();
+    law_lives_change_published();
+    law_history_beside();
+    law_replays_kept();
+}
+
+/// The law of prefixes, in every life of every opened store, with commits and crashes anywhere, and over lives that follow one another. Updates take effect in one
+/// legal order, which all replies tell. What a crash leaves is what one commit keeps of that order, and no finished commit is newer. Commits are told as finished
+/// with their numbers and points, and points are fair. What is told as durable is kept.
+pub fn law_prefix()
+    ensures { PrefixLaw }
+{
+    law_order();
+    law_images_recovered();
+    law_finished_is_told();
+    law_commits_in_turn();
+    law_points_are_fair();
+    law_durable_is_sealed();
+    law_lives();
+}

@@ -1,5 +1,0 @@
-pub mod Footprint
-mod Items
-pub mod OfIndex
-mod OfLatches
-pub mod OfMail

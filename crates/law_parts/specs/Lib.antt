@@ -1,4 +1,0 @@
-pub mod Footprint
-pub mod Index
-pub mod Latches
-pub mod Mail

@@ -1,4 +1,0 @@
-mod OfHolds
-mod OfPoints
-mod OfShows
-mod OfUses

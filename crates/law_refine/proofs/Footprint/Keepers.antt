@@ -1,0 +1,278 @@
+-- The keeper spares each part, but the mailbox that it is at and the durable word that it stores.
+use Rattle.std.proofs.Common.{◌≡◌, ℕ, refl, sym, subst, List, [], ◌∷◌, length, Bool, true, false}
+use Rattle.std.specs.Prelude.{if◌then◌else◌, ⊤, Option, Some, None}
+use Rattle.fkv_base.specs.declared.faults.Fault.TheVariants as fault
+use Rattle.fkv_base.specs.declared.phases.Phase.TheVariants as phase
+use Rattle.fkv_base.specs.declared.shapes.Shape.{Shape}
+use Rattle.fkv_words.specs.declared.phase_words.PhaseSaid.{PhaseSaid}
+use Rattle.fkv_words.specs.declared.phase_words.PhaseSaid.TheVariants.{Says, Spoiled}
+use Rattle.fkv_words.specs.PhaseWords.{phase_said}
+use Rattle.fkv_plane.specs.declared.actions.Action.{Action}
+use Rattle.fkv_plane.specs.declared.asks.Ask.{Ask}
+use Rattle.fkv_plane.specs.declared.asks.Ask.TheVariants.{Done}
+use Rattle.fkv_plane.specs.declared.places.Places.{Places}
+use Rattle.fkv_plane.specs.Passing.{passed}
+use Rattle.fkv_checkpoint.specs.declared.copying.CopyStep.{CopyStep}
+use Rattle.fkv_checkpoint.specs.declared.copying.CopyStep.TheVariants as copy
+use Rattle.fkv_checkpoint.specs.Copying.{Copier, copy_step_ask, copy_begun}
+use Rattle.fkv_commit.specs.declared.commits.Commit.{Commit}
+use Rattle.fkv_base.specs.declared.commits.CommitKind.{CommitKind}
+use Rattle.fkv_commit.specs.declared.entering.EnterAnswer.{EnterAnswer}
+use Rattle.fkv_commit.specs.declared.entering.EnterAnswer.TheVariants as enter
+use Rattle.fkv_commit.specs.declared.finishing.FinishAnswer.{FinishAnswer}
+use Rattle.fkv_commit.specs.declared.seeking.SeekAnswer.{SeekAnswer}
+use Rattle.fkv_commit.specs.declared.seeking.SeekAnswer.TheVariants as seek
+use Rattle.fkv_commit.specs.declared.starting.StartAnswer.{StartAnswer}
+use Rattle.fkv_commit.specs.declared.starting.StartAnswer.TheVariants as start
+use Rattle.fkv_commit.specs.declared.waiting.WaitAnswer.{WaitAnswer}
+use Rattle.fkv_commit.specs.declared.waiting.WaitAnswer.TheVariants as wait
+use Rattle.fkv_commit.specs.Entering.{enter_begun, enter_next}
+use Rattle.fkv_commit.specs.Finishing.{finish_next}
+use Rattle.fkv_commit.specs.Seeking.{seek_begun, seek_next}
+use Rattle.fkv_commit.specs.Starting.{start_begun, start_next}
+use Rattle.fkv_commit.specs.Waiting.{wait_begun, wait_next}
+use Rattle.fkv_manifest.specs.declared.answers.WriteAnswer.{WriteAnswer}
+use Rattle.fkv_manifest.specs.declared.answers.WriteAnswer.TheVariants as write
+use Rattle.fkv_manifest.specs.Committing.{commit_next, commit_answer}
+use Rattle.fkv_maintain.specs.declared.maintaining.MaintainAnswer.{MaintainAnswer}
+use Rattle.fkv_maintain.specs.declared.maintaining.MaintainAnswer.TheVariants as maintain
+use Rattle.fkv_maintain.specs.Maintaining.{maintain_begun, maintain_ask, maintain_next, maintain_given, maintain_called}
+use Rattle.fkv_keeper.specs.declared.answers.KeeperTold.{KeeperTold}
+use Rattle.fkv_keeper.specs.declared.answers.KeeperTold.TheVariants.{TurnRefused, CommitRefused}
+use Rattle.fkv_keeper.specs.declared.keepers.Keeping.{Keeping}
+use Rattle.fkv_keeper.specs.declared.keepers.Keeping.TheVariants.{Ended, Starts, Maintains, LoadsPhase, Enters, Copies, Seeks, Waits, Writes, Finishes}
+use Rattle.fkv_keeper.specs.Keeping.{KeeperState, copy_asked, device_passed, write_asked, keeping_ask, keeper_ask, ended, turned, commit_asked, turn_asked, start_ledto, maintain_ledto, copies, copies_next, part_begun, phase_ledto, enter_ledto, copy_ledto, seek_ledto, writes_begun, wait_ledto, finished, finish_ledto, copy_driven, keeping_next, keeping_given, write_ledto, writes_called, keeping_called}
+use Rattle.fkv_keeper.specs.KeeperRun.{KeeperEvent, BeginsTurn, BeginsCommit, Replies, Gets, Calls, IsOpened, is_in_hand, begins, keeper_happens, keeper_run}
+use Rattle.law_refine.specs.Mail.Servers.{keeper_serving}
+use Rattle.law_refine.specs.Footprint.{Part, ThePhase, HasSeats, Spares}
+use Rattle.law_refine.proofs.Footprint.Latching.{passed_spares}
+use Rattle.law_refine.proofs.Footprint.Serves.{IsServedNot}
+use Rattle.law_refine.proofs.Footprint.Commits.{IsStartSparing, start_stores, start_spares, start_next_spares, start_begun_spares, IsEnterSparing, enter_spares, enter_next_spares, enter_begun_spares, IsSeekSparing, seek_stores, seek_spares, seek_next_spares, seek_begun_spares, wait_spares, FinishBounds, IsStoredNot, finish_stores, finish_spares, finish_next_spares, finish_begun_spares}
+use Rattle.law_refine.proofs.Footprint.Maintains.{IsMaintainSparing, maintain_stores, maintain_spares, maintain_next_spares, maintain_given_spares, maintain_called_spares, maintain_begun_spares}
+
+-- the machine of its step keeps to its bounds
+abbrev pub KeeperBounds : ℕ → KeeperState → Keeping → Type 0
+KeeperBounds n s Starts = IsStartSparing s.start
+KeeperBounds n s Maintains = IsMaintainSparing n s.maintain
+KeeperBounds n s Enters = IsEnterSparing s.enter
+KeeperBounds n s Seeks = IsSeekSparing s.seek
+KeeperBounds n s Finishes = FinishBounds s.finish.sessions s.finish.step
+KeeperBounds n s step = ⊤
+
+-- it finishes commits for so many sessions, and its machines keep to their bounds
+pub record IsKeeperSparing (n count : ℕ) (s : KeeperState) : Type 0 where
+  pub counts : s.finish.sessions ≡ count
+  pub bounds : KeeperBounds n s s.step
+
+-- what its machines ask for
+device_spares : (part : Part) (p : Places) (ask : Ask MaintainAnswer) (told : KeeperTold) → Spares part p ask → Spares part p (device_passed ask told)
+unfolding device_passed passed
+device_spares part p (Done maintain.Device) told spares = tt
+device_spares part p (Done maintain.Through) told spares = tt
+device_spares part p (Done maintain.Spent) told spares = tt
+device_spares part p (Done maintain.Broken) told spares = tt
+device_spares part p ask told spares = spares
+
+copy_step_spares : (part : Part) (p : Places) (base : ℕ) (step : CopyStep) → Spares part p (copy_step_ask base step)
+unfolding copy_step_ask
+copy_step_spares part p base copy.Ended = tt
+copy_step_spares part p base (copy.LoadsSlot slot) = tt
+copy_step_spares part p base copy.LoadsLink = tt
+
+copy_spares : (part : Part) (p : Places) (its : Option Copier) → Spares part p (copy_asked its)
+copy_spares part p None = tt
+copy_spares part p (Some m) = copy_step_spares part p m.copying.base m.copying.step
+
+write_spares : (part : Part) (p : Places) (answer : WriteAnswer) (told : KeeperTold) → Spares part p (write_asked answer told)
+write_spares part p write.Device told = tt
+write_spares part p write.Written told = tt
+write_spares part p (write.Broken why) told = tt
+
+-- it is about to store a phase
+abbrev pub keeper_stores : KeeperState → Keeping → Bool
+keeper_stores s Starts = start_stores s.start.step
+keeper_stores s Maintains = maintain_stores s.maintain s.maintain.step
+keeper_stores s Seeks = seek_stores s.seek.step
+keeper_stores s Finishes = finish_stores s.finish.step
+keeper_stores s step = false
+
+-- what it asks for
+keeping_spares : (part : Part) (shape : Shape) (p : Places) (n : ℕ) (s : KeeperState) (step : Keeping) → (part ≡ ThePhase → keeper_stores s step ≡ false) → HasSeats part p n → HasSeats part p s.finish.sessions → KeeperBounds n s step → IsServedNot part (keeper_serving s step)
+    → (step ≡ Finishes → IsStoredNot part s.finish.step) → Spares part p (keeping_ask shape p s step)
+unfolding keeping_ask
+keeping_spares part shape p n s (Ended its) apart few its_few bounds none other = tt
+keeping_spares part shape p n s Starts apart few its_few bounds none other = passed_spares part p _ _ (start_spares part p s.start apart bounds)
+keeping_spares part shape p n s Maintains apart few its_few bounds none other = device_spares part p (maintain_ask shape p s.maintain) _ (maintain_spares part shape p n s.maintain apart few bounds none)
+keeping_spares part shape p n s LoadsPhase apart few its_few bounds none other = tt
+keeping_spares part shape p n s Enters apart few its_few bounds none other = passed_spares part p _ _ (enter_spares part p s.enter bounds)
+keeping_spares part shape p n s Copies apart few its_few bounds none other = passed_spares part p _ _ (copy_spares part p s.copy)
+keeping_spares part shape p n s Seeks apart few its_few bounds none other = passed_spares part p _ _ (seek_spares part p s.seek apart bounds)
+keeping_spares part shape p n s Waits apart few its_few bounds none other = passed_spares part p _ _ (wait_spares part p s.wait)
+keeping_spares part shape p n s Writes apart few its_few bounds none other = write_spares part p (commit_answer s.writes) _
+keeping_spares part shape p n s Finishes apart few its_few bounds none other = passed_spares part p _ _ (finish_spares part p s.seek.points s.finish apart its_few bounds (other refl))
+
+-- where each session that it serves and finishes commits for has its seat
+pub keeper_asks_spares : (part : Part) (shape : Shape) (p : Places) (count : ℕ) (s : KeeperState) → (part ≡ ThePhase → keeper_stores s s.step ≡ false) → HasSeats part p shape.sessions → HasSeats part p count → IsKeeperSparing shape.sessions count s → IsServedNot part (keeper_serving s s.step)
+    → (s.step ≡ Finishes → IsStoredNot part s.finish.step) → Spares part p (keeper_ask shape p s)
+keeper_asks_spares part shape p count s apart few all its none other = keeping_spares part shape p shape.sessions s s.step apart few (subst (λ (x : ℕ). HasSeats part p x) (sym its.counts) all) its.bounds none other
+
+-- where a reply leads, for commits of so many sessions
+module _ (count : ℕ) where
+  stays_spares : (n : ℕ) (s : KeeperState) (step : Keeping) → s.step ≡ step → s.finish.sessions ≡ count → KeeperBounds n s step → IsKeeperSparing n count s
+  stays_spares n s step at counts bounds = record { counts = counts; bounds = subst (λ x. KeeperBounds n s x) (sym at) bounds }
+
+  ended_spares : (n : ℕ) (s : KeeperState) (told : KeeperTold) → s.finish.sessions ≡ count → IsKeeperSparing n count (ended s told)
+  ended_spares n s told counts = record { counts = counts; bounds = tt }
+
+  either_spares : (c : Bool) (n : ℕ) (a b : KeeperState) → IsKeeperSparing n count a → IsKeeperSparing n count b → IsKeeperSparing n count (if c then a else b)
+  either_spares true n a b one other = one
+  either_spares false n a b one other = other
+
+  started_spares : (n : ℕ) (s : KeeperState) (ask : Ask StartAnswer) → s.step ≡ Starts → s.finish.sessions ≡ count → IsStartSparing s.start → IsKeeperSparing n count (start_ledto s ask)
+  unfolding start_ledto
+  started_spares n s (Done (start.Begun number first)) at counts bounds = record { counts = counts; bounds = tt }
+  started_spares n s (Done (start.Refused why)) at counts bounds = ended_spares n s _ counts
+  started_spares n s (Done start.Idle) at counts bounds = ended_spares n s _ counts
+  started_spares n s ask at counts bounds = stays_spares n s Starts at counts bounds
+
+  maintained_spares : (n : ℕ) (s : KeeperState) (ask : Ask MaintainAnswer) → s.step ≡ Maintains → s.finish.sessions ≡ count → IsMaintainSparing n s.maintain → IsKeeperSparing n count (maintain_ledto s ask)
+  unfolding maintain_ledto
+  maintained_spares n s (Done maintain.Through) at counts bounds = record { counts = counts; bounds = tt }
+  maintained_spares n s (Done maintain.Spent) at counts bounds = ended_spares n s _ counts
+  maintained_spares n s (Done maintain.Broken) at counts bounds = record { counts = counts; bounds = tt }
+  maintained_spares n s ask at counts bounds = stays_spares n s Maintains at counts bounds
+
+  copies_spares : (p : Places) (n : ℕ) (s : KeeperState) (granted : Bool) → s.finish.sessions ≡ count → IsKeeperSparing n count (copies p s granted)
+  copies_spares p n s granted counts = either_spares granted n (record s { copy = Some (copy_begun p); is_granted = true; step = Copies }) (ended (record s { is_granted = false }) (TurnRefused fault.Memory)) (record { counts = counts; bounds = tt }) (record { counts = counts; bounds = tt })
+
+  copies_next_spares : (p : Places) (n : ℕ) (s : KeeperState) (c : Commit) (granted : Bool) (other : KeeperState) → s.finish.sessions ≡ count → IsKeeperSparing n count other → IsKeeperSparing n count (copies_next p s c granted other)
+  copies_next_spares p n s c granted other counts its = either_spares c.is_copied n other (copies p s granted) its (copies_spares p n s granted counts)
+
+  part_spares : (p : Places) (n : ℕ) (s : KeeperState) (c : Commit) (said : PhaseSaid) (granted : Bool) → s.finish.sessions ≡ count → IsKeeperSparing n count (part_begun p s c said granted)
+  part_spares p n s c (Says phase.InProgress version) granted counts =
+      either_spares s.has_entered n (copies_next p s c granted (turned s)) (record s { enter = enter_begun s.enter c.number; step = Enters })
+      (copies_next_spares p n s c granted (turned s) counts (ended_spares n s _ counts)) (record { counts = counts; bounds = enter_begun_spares s.enter c.number })
+  part_spares p n s c (Says phase.WaitPending version) granted counts =
+      copies_next_spares p n s c granted (record s { seek = seek_begun s.seek c.number; has_points = false; step = Seeks }) counts (record { counts = counts; bounds = seek_begun_spares s.seek c.number })
+  part_spares p n s c (Says phase.WaitFlush version) granted counts =
+      either_spares s.has_points n (record s { wait = wait_begun c.end c.epoch; step = Waits }) (turned s) (record { counts = counts; bounds = tt }) (ended_spares n s _ counts)
+  part_spares p n s c (Says phase.Rest version) granted counts = ended_spares n s _ counts
+  part_spares p n s c (Says phase.Prepare version) granted counts = ended_spares n s _ counts
+  part_spares p n s c Spoiled granted counts = ended_spares n s _ counts
+
+  phase_spares : (p : Places) (n : ℕ) (s : KeeperState) (found : Option Commit) (said : PhaseSaid) (granted : Bool) → s.finish.sessions ≡ count → IsKeeperSparing n count (phase_ledto p s found said granted)
+  unfolding phase_ledto
+  phase_spares p n s None said granted counts = ended_spares n s _ counts
+  phase_spares p n s (Some c) said granted counts = part_spares p n s c said granted counts
+
+  entered_spares : (n : ℕ) (s : KeeperState) (ask : Ask EnterAnswer) → s.step ≡ Enters → s.finish.sessions ≡ count → IsEnterSparing s.enter → IsKeeperSparing n count (enter_ledto s ask)
+  unfolding enter_ledto
+  entered_spares n s (Done enter.Entered) at counts bounds = record { counts = counts; bounds = tt }
+  entered_spares n s (Done enter.DrainFull) at counts bounds = record { counts = counts; bounds = tt }
+  entered_spares n s (Done enter.EpochsSpent) at counts bounds = ended_spares n s _ counts
+  entered_spares n s (Done enter.Idle) at counts bounds = ended_spares n s _ counts
+  entered_spares n s ask at counts bounds = stays_spares n s Enters at counts bounds
+
+  copied_spares : (n : ℕ) (s : KeeperState) (ask : Ask (Unit {0})) → s.step ≡ Copies → s.finish.sessions ≡ count → IsKeeperSparing n count (copy_ledto s ask)
+  unfolding copy_ledto
+  copied_spares n s (Done its) at counts = record { counts = counts; bounds = tt }
+  copied_spares n s ask at counts = stays_spares n s Copies at counts tt
+
+  sought_spares : (n : ℕ) (s : KeeperState) (ask : Ask SeekAnswer) → s.step ≡ Seeks → s.finish.sessions ≡ count → IsSeekSparing s.seek → IsKeeperSparing n count (seek_ledto s ask)
+  unfolding seek_ledto
+  sought_spares n s (Done (seek.Taken end epoch)) at counts bounds = record { counts = counts; bounds = tt }
+  sought_spares n s (Done seek.DrainFull) at counts bounds = record { counts = counts; bounds = tt }
+  sought_spares n s (Done seek.EpochsSpent) at counts bounds = ended_spares n s _ counts
+  sought_spares n s (Done seek.Owing) at counts bounds = ended_spares n s _ counts
+  sought_spares n s (Done seek.Idle) at counts bounds = ended_spares n s _ counts
+  sought_spares n s ask at counts bounds = stays_spares n s Seeks at counts bounds
+
+  writes_spares : (shape : Shape) (n : ℕ) (s : KeeperState) (found : Option Commit) → s.finish.sessions ≡ count → IsKeeperSparing n count (writes_begun shape s found)
+  writes_spares shape n s None counts = ended_spares n s _ counts
+  writes_spares shape n s (Some c) counts = record { counts = counts; bounds = tt }
+
+  waited_spares : (shape : Shape) (n : ℕ) (s : KeeperState) (ask : Ask WaitAnswer) → s.step ≡ Waits → s.finish.sessions ≡ count → IsKeeperSparing n count (wait_ledto shape s ask)
+  unfolding wait_ledto
+  waited_spares shape n s (Done wait.Flushed) at counts = writes_spares shape n s s.commit counts
+  waited_spares shape n s (Done wait.NotYet) at counts = ended_spares n s _ counts
+  waited_spares shape n s (Done wait.Idle) at counts = ended_spares n s _ counts
+  waited_spares shape n s ask at counts = stays_spares n s Waits at counts tt
+
+  finished_spares : (n : ℕ) (s : KeeperState) (found : Option Commit) → s.finish.sessions ≡ count → IsKeeperSparing n count (finished s found)
+  finished_spares n s None counts = ended_spares n s _ counts
+  finished_spares n s (Some c) counts = record { counts = counts; bounds = tt }
+
+  finish_ledto_spares : (n : ℕ) (s : KeeperState) (ask : Ask FinishAnswer) → s.step ≡ Finishes → s.finish.sessions ≡ count → FinishBounds s.finish.sessions s.finish.step → IsKeeperSparing n count (finish_ledto s ask)
+  unfolding finish_ledto
+  finish_ledto_spares n s (Done its) at counts bounds = finished_spares n s s.commit counts
+  finish_ledto_spares n s ask at counts bounds = stays_spares n s Finishes at counts bounds
+
+  next_spares : (shape : Shape) (p : Places) (s : KeeperState) (step : Keeping) (reply : ℕ) (granted : Bool) → s.step ≡ step → s.finish.sessions ≡ count → KeeperBounds shape.sessions s step
+      → IsKeeperSparing shape.sessions count (keeping_next shape p s step reply granted)
+  unfolding keeping_next
+  next_spares shape p s (Ended its) reply granted at counts bounds = stays_spares shape.sessions s (Ended its) at counts tt
+  next_spares shape p s Starts reply granted at counts bounds = started_spares shape.sessions (record s { start = start_next s.start reply }) _ at counts (start_next_spares s.start reply bounds)
+  next_spares shape p s Maintains reply granted at counts bounds = maintained_spares shape.sessions (record s { maintain = maintain_next shape p s.maintain reply }) _ at counts (maintain_next_spares shape p s.maintain reply bounds)
+  next_spares shape p s LoadsPhase reply granted at counts bounds = phase_spares p shape.sessions s s.commit (phase_said reply) granted counts
+  next_spares shape p s Enters reply granted at counts bounds = entered_spares shape.sessions (record s { enter = enter_next s.enter reply }) _ at counts (enter_next_spares s.enter reply bounds)
+  next_spares shape p s Copies reply granted at counts bounds = copied_spares shape.sessions (record s { copy = copy_driven s.copy reply }) _ at counts
+  next_spares shape p s Seeks reply granted at counts bounds = sought_spares shape.sessions (record s { seek = seek_next s.seek reply }) _ at counts (seek_next_spares s.seek reply bounds)
+  next_spares shape p s Waits reply granted at counts bounds = waited_spares shape shape.sessions (record s { wait = wait_next s.wait reply }) _ at counts
+  next_spares shape p s Writes reply granted at counts bounds = stays_spares shape.sessions s Writes at counts tt
+  next_spares shape p s Finishes reply granted at counts bounds = finish_ledto_spares shape.sessions (record s { finish = finish_next s.finish reply }) _ at counts (finish_next_spares s.finish reply)
+
+  -- each action, and each call of the device
+  given_spares : (shape : Shape) (p : Places) (n : ℕ) (s : KeeperState) (step : Keeping) (action : Action) → s.step ≡ step → s.finish.sessions ≡ count → KeeperBounds n s step → IsKeeperSparing n count (keeping_given shape p s step action)
+  unfolding keeping_given
+  given_spares shape p n s Maintains action at counts bounds = maintained_spares n (record s { maintain = maintain_given s.maintain action }) _ at counts (maintain_given_spares n s.maintain action bounds)
+  given_spares shape p n s step action at counts bounds = stays_spares n s step at counts bounds
+
+  written_spares : (n : ℕ) (s : KeeperState) (found : Option Commit) (answer : WriteAnswer) → s.step ≡ Writes → s.finish.sessions ≡ count → IsKeeperSparing n count (write_ledto s found answer)
+  unfolding write_ledto
+  written_spares n s None answer at counts = ended_spares n s _ counts
+  written_spares n s (Some c) write.Written at counts = record { counts = counts; bounds = finish_begun_spares s.finish c.number }
+  written_spares n s (Some c) write.Device at counts = stays_spares n s Writes at counts tt
+  written_spares n s (Some c) (write.Broken why) at counts = stays_spares n s Writes at counts tt
+
+  writes_called_spares : (n : ℕ) (s : KeeperState) (done : Bool) → s.step ≡ Writes → s.finish.sessions ≡ count → IsKeeperSparing n count (writes_called s done)
+  writes_called_spares n s true at counts = written_spares n (record s { writes = commit_next s.writes true }) s.commit (commit_answer (commit_next s.writes true)) at counts
+  writes_called_spares n s false at counts = record { counts = counts; bounds = tt }
+
+  called_spares : (shape : Shape) (p : Places) (n : ℕ) (s : KeeperState) (step : Keeping) (done : Bool) (bytes : List ℕ) → s.step ≡ step → s.finish.sessions ≡ count → KeeperBounds n s step → IsKeeperSparing n count (keeping_called shape p s step done bytes)
+  unfolding keeping_called
+  called_spares shape p n s Maintains done bytes at counts bounds = maintained_spares n (record s { maintain = maintain_called shape p s.maintain done bytes }) _ at counts (maintain_called_spares shape p n s.maintain done bytes bounds)
+  called_spares shape p n s Writes done bytes at counts bounds = writes_called_spares n s done at counts
+  called_spares shape p n s step done bytes at counts bounds = stays_spares n s step at counts bounds
+
+  -- what is begun
+  turn_spares : (n : ℕ) (s : KeeperState) → s.finish.sessions ≡ count → IsKeeperSparing n count (turn_asked s)
+  turn_spares n s counts =
+      either_spares s.is_broken n (ended s (TurnRefused fault.Broken)) (record s { maintain = maintain_begun s.maintain; is_drain_full = false; step = Maintains }) (ended_spares n s _ counts)
+      (record { counts = counts; bounds = maintain_begun_spares n s.maintain })
+
+  commit_spares : (n : ℕ) (s : KeeperState) (kind : CommitKind) → s.finish.sessions ≡ count → IsKeeperSparing n count (commit_asked s kind)
+  commit_spares n s kind counts =
+      either_spares s.is_broken n (ended s (CommitRefused fault.Broken)) (record s { start = start_begun s.start kind (length s.lost); step = Starts }) (ended_spares n s _ counts)
+      (record { counts = counts; bounds = start_begun_spares s.start kind (length s.lost) })
+
+  begins_spares : (n : ℕ) (s : KeeperState) (busy : Bool) (begun : KeeperState) → IsKeeperSparing n count s → IsKeeperSparing n count begun → IsKeeperSparing n count (begins s busy begun)
+  begins_spares n s true begun one other = one
+  begins_spares n s false begun one other = other
+
+  happens_spares : (shape : Shape) (p : Places) (s : KeeperState) (event : KeeperEvent) → IsKeeperSparing shape.sessions count s → IsKeeperSparing shape.sessions count (keeper_happens shape p s event)
+  unfolding keeper_happens
+  happens_spares shape p s BeginsTurn its = begins_spares shape.sessions s (is_in_hand s.step) (turn_asked s) its (turn_spares shape.sessions s its.counts)
+  happens_spares shape p s (BeginsCommit kind) its = begins_spares shape.sessions s (is_in_hand s.step) (commit_asked s kind) its (commit_spares shape.sessions s kind its.counts)
+  happens_spares shape p s (Replies reply granted) its = next_spares shape p s s.step reply granted refl its.counts its.bounds
+  happens_spares shape p s (Gets action) its = given_spares shape p shape.sessions s s.step action refl its.counts its.bounds
+  happens_spares shape p s (Calls done bytes) its = called_spares shape p shape.sessions s s.step done bytes refl its.counts its.bounds
+
+  opened_spares : (n : ℕ) (s : KeeperState) (step : Keeping) → is_in_hand step ≡ false → KeeperBounds n s step
+  opened_spares n s (Ended its) idle = tt
+  opened_spares n s step idle = cc
+
+  -- at every moment of a keeper's run
+  pub keeper_run_spares : (shape : Shape) (p : Places) (opening : KeeperState) (events : List KeeperEvent) → IsOpened opening → opening.finish.sessions ≡ count → IsKeeperSparing shape.sessions count (keeper_run shape p opening events)
+  unfolding keeper_run
+  keeper_run_spares shape p opening [] opened few = record { counts = few; bounds = opened_spares shape.sessions opening opening.step opened.none_in_hand }
+  keeper_run_spares shape p opening (event ∷ before) opened few = happens_spares shape p (keeper_run shape p opening before) event (keeper_run_spares shape p opening before opened few)

@@ -1,0 +1,221 @@
+-- In every life the keeper serves what the device gave it since the record was asked for, and the session takes that.
+use Rattle.std.proofs.Common.{◌≡◌, ℕ, ◌^◌, ◌∙◌, refl, sym, ap, subst, arith, List, [], ◌∷◌, ◌++◌, Bool, true, false}
+use Rattle.std.specs.Prelude.{◌==◌, nat_lt, if◌then◌else◌, Option, Some, None, slice_get}
+use Rattle.std.proofs.lemmas.Bool.Decides.{nat_tests}
+use Rattle.fkv_disk.specs.Bytes.{bytes_at}
+use Rattle.fkv_disk.specs.Calls.{reads_as}
+use Rattle.fkv_map.specs.declared.operations.Call.{Call}
+use Rattle.fkv_plane.specs.declared.asks.Ask.{Ask}
+use Rattle.fkv_plane.specs.declared.asks.Ask.TheVariants.{Load, Store, Swap, Cas, Add, Max, Put, Take, Done}
+use Rattle.fkv_flush.specs.declared.serving.Serving.{Serving}
+use Rattle.fkv_flush.specs.declared.serving.Serving.TheVariants as serve
+use Rattle.fkv_flush.specs.Serving.{mail_place}
+use Rattle.fkv_keeper.specs.KeeperRun.{is_in_hand}
+use Rattle.fkv_keeper.specs.Keeping.{KeeperState, keeper_ask}
+use Rattle.fkv_pending.specs.declared.mailing.MailRecord.{MailRecord}
+use Rattle.fkv_pending.specs.declared.mailing.Mailing.{Mailing}
+use Rattle.fkv_pending.specs.declared.mailing.Mailing.TheVariants as mailing
+use Rattle.fkv_pending.specs.Mailing.{mail_asked}
+use Rattle.fkv_pending.specs.MailWorld.{Mailbox, mailbox_of, Keeping, FindsState, FindsAddress, Reads, GivesHeader, GivesKey, GivesValue, GivesReady, MailWorld, MailEvent, Begins, BeginsPut, Moves as MailMoves, Serves, Changes, keeper_next, mail_happens, mail_run}
+use Rattle.fkv_pending.specs.Mailbox.{served_notes, past_of}
+use Rattle.fkv_pending.proofs.Shown.{IsSound, moment_sound}
+use Rattle.fkv_session.specs.Sessions.{SessionState, is_busy, session_ask}
+use Rattle.fkv_world.specs.Moves.{session_moved}
+use Rattle.fkv_world.specs.Runs.{World, read_by_keeper, run}
+use Rattle.fkv_world.specs.World.{Event, Calls, Moves, Commits, Turns, KeeperMoves, Crashes, Now, seat_at, near, session_called}
+use Rattle.law_refine.specs.Mail.MailEvents.{begins, changed_by, asked_by, own_events, moved_events, begun_events, called_events, served_events, record_read, keeper_events, life_events, mail_events, mapped}
+use Rattle.law_refine.specs.Mail.Mailers.{session_mailing}
+use Rattle.law_refine.specs.Mail.Reads.{mail_past, mail_notes, record_there, ReadSince}
+use Rattle.law_refine.specs.Mail.Servers.{serving_of, is_serving, ServesIt}
+use Rattle.law_refine.specs.Mail.Shows.{IsOpened, mail_opening, seen_by_mailbox}
+use Rattle.law_refine.proofs.OfMail.Permitted.{broken_rests}
+use Rattle.law_refine.proofs.OfMail.KeeperServes.{is_at_serve, is_at}
+use Rattle.law_refine.proofs.OfMail.Lives.{life_sound, life_holds}
+use Rattle.law_refine.proofs.OfMail.ReadSteps.{IsRead, later_read, IsQuiet, one_read, NoServes}
+use Rattle.law_refine.proofs.OfMail.Worlds.{own_keeps, last_part}
+
+-- the events of sessions, and those of others, are none of the keeper's
+begins_none : (its : Option Mailing) → NoServes (begins its)
+begins_none None = tt
+begins_none (Some (mailing.LoadsState its)) = tt
+begins_none (Some (mailing.StoresAddress addr)) = tt
+begins_none (Some its) = tt
+
+changed_none : {A : Type 0} (words : List ℕ) (ask : Ask A) → NoServes (changed_by words ask)
+changed_none words (Load place) = tt
+changed_none words (Store place new) = tt
+changed_none words (Swap place new) = tt
+changed_none words (Cas place old new) = tt
+changed_none words (Add place k) = tt
+changed_none words (Max place k) = tt
+changed_none words (Put slot action) = tt
+changed_none words (Take slot) = tt
+changed_none words (Done its) = tt
+
+asked_none : {A : Type 0} (words : List ℕ) (found : Option Mailing) (ask : Ask A) → NoServes (asked_by words found ask)
+asked_none words None ask = changed_none words ask
+asked_none words (Some step) ask = tt
+
+append_none : (later before : List MailEvent) → NoServes later → NoServes before → NoServes (later ++ before)
+append_none [] before one other = other
+append_none (Serves given ∷ later) before one other = absurd one
+append_none (Begins its ∷ later) before one other = append_none later before one other
+append_none (BeginsPut addr ∷ later) before one other = append_none later before one other
+append_none (MailMoves ∷ later) before one other = append_none later before one other
+append_none (Changes place word ∷ later) before one other = append_none later before one other
+
+either_none : (c : Bool) (a b : List MailEvent) → NoServes a → NoServes b → NoServes (if c then a else b)
+either_none true a b one other = one
+either_none false a b one other = other
+
+called_none : (n : Now) (session number : ℕ) (call : Call) (found : Option SessionState) → NoServes (called_events n session number call found)
+called_none n session number call None = tt
+called_none n session number call (Some s) =
+    either_none (number == session) (begun_events n session call s) [] (either_none (is_busy s.step) [] (begins (session_mailing (session_called (seat_at n session) s call))) tt (begins_none _)) tt
+
+moved_none : (n : Now) (session number : ℕ) (found : Option SessionState) → NoServes (moved_events n session number found)
+moved_none n session number None = tt
+moved_none n session number (Some s) =
+    either_none (number == session) (own_events n session s) (changed_by n.words (session_ask (seat_at n number) s))
+    (append_none (begins (session_mailing (session_moved (seat_at n session) (near n s)).machine)) (asked_by n.words (session_mailing s) (session_ask (seat_at n session) s)) (begins_none (session_mailing (session_moved (seat_at n session) (near n s)).machine)) (asked_none n.words (session_mailing s) (session_ask (seat_at n session) s)))
+    (changed_none n.words (session_ask (seat_at n number) s))
+
+quiet_other : (keeping : Keeping) (event : MailEvent) → NoServes (event ∷ []) → IsQuiet keeping event
+quiet_other (Reads addr) (Serves given) none = none
+quiet_other keeping event none = tt
+
+module _ (opening : World) (session : ℕ) (opened : IsOpened opening.now session) where
+  abbrev first : MailWorld
+  first = mail_opening opening session
+
+  sound_at : (before : List MailEvent) → IsSound (mail_run first before) (past_of first before)
+  sound_at before = moment_sound session opening.now.words before opened.mail
+
+  abbrev ReadAt : List Event → List MailEvent → Type 0
+  ReadAt events before = IsRead opening session events (mail_run first before).keeping (past_of first before).notes
+
+  goes_read : (events : List Event) (event : MailEvent) (before : List MailEvent) → IsQuiet (mail_run first before).keeping event → ReadAt events before → ReadAt events (event ∷ before)
+  goes_read events event before quiet read = one_read opening session events first sound_at event before quiet read
+
+  others_read : (events : List Event) (later before : List MailEvent) → NoServes later → ReadAt events before → ReadAt events (later ++ before)
+  others_read events [] before none read = read
+  others_read events (Serves given ∷ later) before none read = absurd none
+  others_read events (Begins its ∷ later) before none read = goes_read events (Begins its) (later ++ before) (quiet_other _ (Begins its) tt) (others_read events later before none read)
+  others_read events (BeginsPut addr ∷ later) before none read = goes_read events (BeginsPut addr) (later ++ before) (quiet_other _ (BeginsPut addr) tt) (others_read events later before none read)
+  others_read events (MailMoves ∷ later) before none read = goes_read events MailMoves (later ++ before) (quiet_other _ MailMoves tt) (others_read events later before none read)
+  others_read events (Changes place word ∷ later) before none read = goes_read events (Changes place word) (later ++ before) (quiet_other _ (Changes place word) tt) (others_read events later before none read)
+
+  -- the keeper's step, where it is at this mailbox
+  quiet_at : (given : MailRecord) (keeping its : Keeping) → keeping ≡ its → IsQuiet its (Serves given) → IsQuiet keeping (Serves given)
+  quiet_at given keeping its same quiet = subst (λ (x : Keeping). IsQuiet x (Serves given)) (sym same) quiet
+
+  abbrev after_state : Bool → Keeping
+  after_state c = if c then FindsAddress else FindsState
+
+  quiet_state : (c : Bool) (given : MailRecord) → IsQuiet (after_state c) (Serves given)
+  quiet_state true given = tt
+  quiet_state false given = tt
+
+  twice_read : (events : List Event) (given : MailRecord) (before : List MailEvent) → (mail_run first before).keeping ≡ FindsState → ReadAt events before → ReadAt events (Serves given ∷ Serves given ∷ before)
+  unfolding mail_run mail_happens
+  twice_read events given before finds read =
+      let w : MailWorld = mail_run first before in
+      let box : Mailbox = mailbox_of w.words w.session in
+      let next : keeper_next box given w.keeping ≡ after_state (box.state == mail_asked) = ap (λ (x : Keeping). keeper_next box given x) finds in
+      goes_read events (Serves given) (Serves given ∷ before) (quiet_at given _ _ next (quiet_state (box.state == mail_asked) given))
+      (goes_read events (Serves given) before (quiet_at given _ FindsState finds tt) read)
+
+  either_read : (c : Bool) (events : List Event) (one other before : List MailEvent) → ReadAt events (one ++ before) → ReadAt events (other ++ before) → ReadAt events ((if c then one else other) ++ before)
+  either_read true events one other before a b = a
+  either_read false events one other before a b = b
+
+  -- what the device gives
+  given_there : (v : World) (number addr : ℕ) → is_at_serve v.now.keeper v.now.keeper.step ≡ true → serving_of v.now.keeper ≡ serve.Reads number addr → record_read (read_by_keeper v) ≡ record_there v addr
+  unfolding mail_place
+  given_there v number addr last at =
+      ap (λ (x : Serving). record_read (bytes_at (reads_as v.past.opened v.past.calls) (mail_place v.now.shape x) 24)) (ap (λ (x : KeeperState). x.maintain.serving) (is_at v.now.keeper last) ∙ at)
+
+  read_now : (granted done : Bool) (before : List Event) (number addr : ℕ) → is_at_serve (run opening before).now.keeper (run opening before).now.keeper.step ≡ true → serving_of (run opening before).now.keeper ≡ serve.Reads number addr → number ≡ session
+      → (seen_by_mailbox opening session before).keeping ≡ Reads (record { 0 = addr }) → ReadAt (KeeperMoves granted done ∷ before) (mapped opening session before)
+      → ReadAt (KeeperMoves granted done ∷ before) (Serves (record_read (read_by_keeper (run opening before))) ∷ mapped opening session before)
+  unfolding mail_run mail_happens past_of
+  read_now granted done before number addr last at same keeps read =
+      let given : MailRecord = record_read (read_by_keeper (run opening before)) in
+      let w : MailWorld = seen_by_mailbox opening session before in
+      let its : ReadSince opening session (KeeperMoves granted done ∷ before) (record { 0 = addr }) given (mail_notes opening session before) = record {
+        earlier = before;
+        later = [];
+        event = KeeperMoves granted done;
+        cut = refl;
+        reads = at ∙ ap (λ (x : ℕ). serve.Reads x addr) same;
+        gives = given_there (run opening before) number addr last at;
+        since = refl;
+      } in
+      subst (λ (x : Keeping). IsRead opening session (KeeperMoves granted done ∷ before) (keeper_next (mailbox_of w.words w.session) given x) (served_notes x (mail_notes opening session before))) (sym keeps)
+      (record { in_hand = its; all = read.all })
+
+  test_same : (number : ℕ) → (number == session) ≡ true → number ≡ session
+  test_same number e = grind (arith, nat_tests, e)
+
+  serve_read : (granted done : Bool) (before : List Event) (step : Serving) → is_at_serve (run opening before).now.keeper (run opening before).now.keeper.step ≡ true → serving_of (run opening before).now.keeper ≡ step → is_serving session step ≡ true
+      → ServesIt step (seen_by_mailbox opening session before).keeping → ReadAt (KeeperMoves granted done ∷ before) (mapped opening session before)
+      → ReadAt (KeeperMoves granted done ∷ before)
+      (served_events (record_read (read_by_keeper (run opening before))) done (mailbox_of (run opening before).now.words session).addr step ++ mapped opening session before)
+  serve_read granted done before serve.AtRest last at own_box keeps read = read
+  serve_read granted done before (serve.LoadsState number) last at own_box keeps read = read
+  serve_read granted done before (serve.LoadsAddress number) last at own_box keeps read =
+      let given : MailRecord = record_read (read_by_keeper (run opening before)) in
+      either_read (nat_lt (mailbox_of (run opening before).now.words session).addr (2 ^ 48)) (KeeperMoves granted done ∷ before) (Serves given ∷ Serves given ∷ []) [] (mapped opening session before)
+      (twice_read (KeeperMoves granted done ∷ before) given (mapped opening session before) keeps read) read
+  serve_read granted true before (serve.Reads number addr) last at own_box keeps read = read_now granted true before number addr last at (test_same number own_box) keeps read
+  serve_read granted false before (serve.Reads number addr) last at own_box keeps read = read
+  serve_read granted done before (serve.StoresHeader number mail) last at own_box keeps read = goes_read (KeeperMoves granted done ∷ before) (Serves _) (mapped opening session before) (quiet_at _ _ (GivesHeader keeps.0 _) keeps.1 tt) read
+  serve_read granted done before (serve.StoresKey number mail) last at own_box keeps read = goes_read (KeeperMoves granted done ∷ before) (Serves _) (mapped opening session before) (quiet_at _ _ (GivesKey keeps.0 _) keeps.1 tt) read
+  serve_read granted done before (serve.StoresValue number mail) last at own_box keeps read = goes_read (KeeperMoves granted done ∷ before) (Serves _) (mapped opening session before) (quiet_at _ _ (GivesValue keeps.0 _) keeps.1 tt) read
+  serve_read granted done before (serve.StoresReady number) last at own_box keeps read = goes_read (KeeperMoves granted done ∷ before) (Serves _) (mapped opening session before) (quiet_at _ _ (GivesReady keeps.0 keeps.1) keeps.2 tt) read
+
+  keeper_read : (granted done : Bool) (before : List Event) → (run opening before).now.crashed ≡ false → ReadAt (KeeperMoves granted done ∷ before) (mapped opening session before)
+      → ReadAt (KeeperMoves granted done ∷ before) (keeper_events (run opening before).now (read_by_keeper (run opening before)) session done ++ mapped opening session before)
+  keeper_read granted done before alive read = by_serving (is_serving session (serving_of v.now.keeper)) refl
+    where
+      v : World
+      v = run opening before
+
+      w : MailWorld
+      w = seen_by_mailbox opening session before
+
+      rests : v.now.keeper.is_broken ≡ true → is_in_hand v.now.keeper.step ≡ false
+      rests broken = broken_rests opening before opened.keeper broken
+
+      by_serving : (c : Bool) → is_serving session (serving_of v.now.keeper) ≡ c
+          → ReadAt (KeeperMoves granted done ∷ before)
+          ((if c then served_events (record_read (read_by_keeper v)) done (mailbox_of v.now.words session).addr (serving_of v.now.keeper) else changed_by v.now.words (keeper_ask v.now.shape v.now.places v.now.keeper)) ++ mapped opening session before)
+      by_serving true e =
+          serve_read granted done before (serving_of v.now.keeper)
+          (last_part v session w (mail_past opening session before) granted done alive rests (life_holds opening session before opened) (life_sound opening session before opened) e) refl e
+          (own_keeps v session w (mail_past opening session before) granted done alive rests (life_holds opening session before opened) (life_sound opening session before opened) e) read
+      by_serving false e = others_read (KeeperMoves granted done ∷ before) (changed_by v.now.words (keeper_ask v.now.shape v.now.places v.now.keeper)) (mapped opening session before) (changed_none v.now.words (keeper_ask v.now.shape v.now.places v.now.keeper)) read
+
+  alive_read : (event : Event) (before : List Event) → (run opening before).now.crashed ≡ false → ReadAt (event ∷ before) (mapped opening session before)
+      → ReadAt (event ∷ before) (life_events (run opening before).now (read_by_keeper (run opening before)) session event ++ mapped opening session before)
+  unfolding life_events
+  alive_read (Calls number call) before alive read = others_read (Calls number call ∷ before) _ (mapped opening session before) (called_none (run opening before).now session number call (slice_get (run opening before).now.sessions number)) read
+  alive_read (Moves number) before alive read = others_read (Moves number ∷ before) _ (mapped opening session before) (moved_none (run opening before).now session number (slice_get (run opening before).now.sessions number)) read
+  alive_read (KeeperMoves granted done) before alive read = keeper_read granted done before alive read
+  alive_read (Commits kind) before alive read = read
+  alive_read Turns before alive read = read
+  alive_read Crashes before alive read = read
+
+  event_read : (event : Event) (before : List Event) → ReadAt (event ∷ before) (mapped opening session before)
+      → ReadAt (event ∷ before) (mail_events (run opening before).now (read_by_keeper (run opening before)) session event ++ mapped opening session before)
+  event_read event before read = by_crash (run opening before).now.crashed refl
+    where
+      by_crash : (c : Bool) → (run opening before).now.crashed ≡ c
+          → ReadAt (event ∷ before) ((if c then [] else life_events (run opening before).now (read_by_keeper (run opening before)) session event) ++ mapped opening session before)
+      by_crash true e = read
+      by_crash false e = alive_read event before e read
+
+  pub life_read : (events : List Event) → IsRead opening session events (seen_by_mailbox opening session events).keeping (mail_notes opening session events)
+  unfolding run mapped mail_run past_of
+  life_read [] = record { in_hand = tt; all = tt }
+  life_read (event ∷ before) = event_read event before (later_read opening session before event _ _ (life_read before))

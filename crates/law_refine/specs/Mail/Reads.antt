@@ -1,0 +1,72 @@
+-- What a session takes from its mailbox, and what the device read for it.
+use Rattle.std.specs.Prelude.{◌≡◌, ◌⊎◌, ℕ, false, List, ◌∷◌, ◌++◌, slice_get, Some}
+use Rattle.fkv_base.specs.declared.numbers.Addr.{Addr}
+use Rattle.fkv_record.specs.Places.{record_place}
+use Rattle.fkv_disk.specs.Bytes.{bytes_at}
+use Rattle.fkv_disk.specs.Calls.{reads_as}
+use Rattle.fkv_plane.specs.declared.asks.Ask.TheVariants.{Done}
+use Rattle.fkv_plane.specs.Asked.{reply_to}
+use Rattle.fkv_flush.specs.declared.serving.Serving.TheVariants as serve
+use Rattle.fkv_pending.specs.declared.mailing.MailAnswer.TheVariants.{Taken}
+use Rattle.fkv_pending.specs.declared.mailing.MailRecord.{MailRecord}
+use Rattle.fkv_pending.specs.declared.mailing.Mailing.{Mailing}
+use Rattle.fkv_pending.specs.Mailing.{mail_ask, mail_next}
+use Rattle.fkv_pending.specs.MailWorld.{Mailbox, mailbox_of}
+use Rattle.fkv_pending.specs.Mailbox.{MailNote, HasAskedFor, WasServed, HasTaken, MailPast, past_of, SessionChanges, KeeperChanges}
+use Rattle.fkv_session.specs.Sessions.{SessionState}
+use Rattle.fkv_world.specs.World.{Event, Moves, KeeperMoves, Now}
+use Rattle.fkv_world.specs.Runs.{World, run}
+use Rattle.law_refine.specs.Mail.MailEvents.{mapped, record_read}
+use Rattle.law_refine.specs.Mail.Mailers.{session_mailing}
+use Rattle.law_refine.specs.Mail.Servers.{serving_of}
+use Rattle.law_refine.specs.Mail.Shows.{IsOpened, mail_opening}
+
+-- what has come to pass in a life, the newest first
+abbrev pub mail_past : World → ℕ → List Event → MailPast
+mail_past opening session events = past_of (mail_opening opening session) (mapped opening session events)
+
+abbrev pub mail_notes : World → ℕ → List Event → List MailNote
+mail_notes opening session events = (mail_past opening session events).notes
+
+-- the three words at the place of an address, as the device reads now
+abbrev pub record_there : World → ℕ → MailRecord
+record_there w addr = record_read (bytes_at (reads_as w.past.opened w.past.calls) (record_place w.now.shape addr) 24)
+
+-- The keeper read for the session at this address, at a moment of the life when this had come to pass in the mailbox, and this is what the device gave.
+pub record ReadSince (opening : World) (session : ℕ) (events : List Event) (addr : Addr) (its : MailRecord) (asked : List MailNote) : Type 0 where
+  pub earlier : List Event
+  pub later : List Event
+  pub event : Event
+  pub cut : events ≡ later ++ (event ∷ earlier)
+  pub reads : serving_of (run opening earlier).now.keeper ≡ serve.Reads session addr.0
+  pub gives : its ≡ record_there (run opening earlier) addr.0
+  pub since : mail_notes opening session earlier ≡ asked
+
+-- the session is at the step with which it takes a record
+pub record IsTaking (n : Now) (session : ℕ) (its : MailRecord) : Type 0 where
+  pub taker : SessionState
+  pub there : slice_get n.sessions session ≡ Some taker
+  pub step : Mailing
+  pub under_way : session_mailing taker ≡ Some step
+  pub takes : mail_ask session (mail_next step (reply_to n.words (mail_ask session step))) ≡ Done (Taken its)
+
+-- The record that it takes was asked for last, at this address, and served once since then; and it is what the device gave there since then.
+pub record HasTakenRead (opening : World) (session : ℕ) (events : List Event) (its : MailRecord) : Type 0 where
+  pub addr : Addr
+  pub before : List MailNote
+  pub notes : mail_notes opening session (Moves session ∷ events) ≡ HasTaken its ∷ WasServed addr its ∷ HasAskedFor addr ∷ before
+  pub read : ReadSince opening session events addr its (HasAskedFor addr ∷ before)
+
+abbrev pub TakesWhatWasRead : Type 0
+TakesWhatWasRead = (opening : World) (session : ℕ) (events : List Event) (its : MailRecord) → IsOpened opening.now session → (run opening events).now.crashed ≡ false
+    → IsTaking (run opening events).now session its → HasTakenRead opening session events its
+
+-- What an event does to the mailbox: its session alone leaves the states empty and ready, and the keeper alone the one between.
+abbrev pub ChangesBy : ℕ → Event → Mailbox → Mailbox → Type 0
+ChangesBy session (Moves number) before after = (after ≡ before) ⊎ ((number ≡ session) × SessionChanges before after)
+ChangesBy session (KeeperMoves granted done) before after = KeeperChanges before after
+ChangesBy session event before after = after ≡ before
+
+abbrev pub EachChangesBy : Type 0
+EachChangesBy = (opening : World) (session : ℕ) (events : List Event) (event : Event) → IsOpened opening.now session
+    → ChangesBy session event (mailbox_of (run opening events).now.words session) (mailbox_of (run opening (event ∷ events)).now.words session)
