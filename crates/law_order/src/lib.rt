@@ -1,4 +1,5 @@
-//! The order law: the induction over events, and each life's one legal history; and the law of prefixes, as it is stated.
+//! The order law: the induction over events, and each life's one legal history. What a crash's image holds of a life (`images`), and so the
+//! law of prefixes (`prefix`, `recovered`).
 #![tactic(auto)]
 
 mod apart;
