@@ -1,3 +1,4 @@
 mod FileReplies
+mod Lives
 mod Replies
 mod ScriptFits

@@ -28,7 +28,7 @@ not_3 (inr e) = omega (arith, e)
 pub zero_is_4 : ◌≡◌ {A = ℕ} 0 4 → ⊥
 zero_is_4 e = omega (arith, e)
 
-none_kept : {A B : Type 0} (f : A → B) (its : Option A) → option_map f its ≡ None → its ≡ None
+pub none_kept : {A B : Type 0} (f : A → B) (its : Option A) → option_map f its ≡ None → its ≡ None
 none_kept f None e = refl
 none_kept f (Some x) e = cc
 

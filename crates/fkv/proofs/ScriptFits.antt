@@ -16,7 +16,7 @@ use Rattle.fkv_map.specs.declared.operations.Op.TheVariants.{Upsert, Delete, Add
 use Rattle.law_program.specs.PlayedCalls.Scripts.{EachFits, SessionOp, op_line}
 
 -- ---- numbers
-one_fits : (session : ℕ) (op : Op) → IsOfWords op → EachFits ((session, op) ∷ [])
+pub one_fits : (session : ℕ) (op : Op) → IsOfWords op → EachFits ((session, op) ∷ [])
 one_fits session (Upsert key value) its = ((its.its_key, its.word), tt)
 one_fits session (Delete key) its = (its.its_key, tt)
 one_fits session (Add key n) its = ((its.its_key, its.word), tt)

@@ -6,8 +6,12 @@ ghost use Rattle.fkv_playing.specs.Players.{EngineStep};
 ghost use Rattle.fkv_runs.specs.Beginnings.{BreaksOff};
 ghost use Rattle.fkv_runs.specs.Openings.{Holds, medium_of};
 ghost use Rattle.fkv_cli.specs.Output.{IsOutputOf};
+ghost use Rattle.law_program.specs.PlayedCalls.CrashReports.{CrashesTakeWhatIsKept};
 ghost use Rattle.law_program.specs.PlayedCalls.EachLine.{EachLineGoesOn};
 ghost use Rattle.law_program.specs.PlayedCalls.Lives.{ArmingGoesOn, LivesGoOn};
+ghost use Rattle.fkv_runs.specs.declared.settings.Settings.{Settings};
+ghost use Rattle.law_program.specs.PlayedCalls.Runs.{RunsGoOn};
+ghost use Rattle.fkv.specs.Lives.{PrintsInLives};
 ghost use Rattle.fkv.specs.Replies.{PrintsMapOfFileScript, PrintsMapOfScript, ReplyLineByLine};
 
 use fkv_cli::Lockable;
@@ -15,7 +19,8 @@ use fkv_disk::{Device, FileDisk, Fuse, MemDisk};
 use fkv_playing::Breaks;
 use fkv_runs::Crashes;
 use law_program::{
-    law_arming, law_each_life, law_each_line, law_new_files, law_played_calls, law_played_scripts,
+    law_arming, law_crash_reports, law_each_life, law_each_line, law_lives_joined, law_new_files,
+    law_played_calls, law_played_scripts,
 };
 use std::alloc::Global;
 use std::io::{Read, Write};
@@ -28,7 +33,10 @@ use std::rt::Files;
 /// that shows the world (`lines`, `file_lines`). The life of a new store is such a one as it begins (`law_new_files`).
 /// In memory a life goes on by each line of a call too, by the keeper's and by each finish, and shows the device behind it (`each_line`).
 /// What a poll has finished is as the history says. Each life begins so, the first one and each behind a crash (`lives`). A line by which
-/// a call of the device is to fail, or a crash to strike, leaves it (`armed`).
+/// a call of the device is to fail, or a crash to strike, leaves it (`armed`). So the pieces of a script that are played in memory go on,
+/// each in the life in hand, or behind a crash in the next one (`runs`). A script for a new store in memory, of which no call is interleaved
+/// with another, has printed so (`in_lives`). The report of a crash is of the store that
+/// one current commit keeps of such a life, and no image of a crash is refused but by the device (`kept`).
 pub fn run<H: Files, R: Read + Drop, W: Write, E: Write>(
     rt: &H,
     alloc: Global,
@@ -46,7 +54,10 @@ where
     ensures lines { ReplyLineByLine (EngineStep ⟦<Fuse<MemDisk> as Device>⟧.honest ⟦<Fuse<MemDisk> as Device>⟧.seen ⟦<Fuse<MemDisk> as Device>⟧.may_leave ⟦<Fuse<MemDisk> as Device>⟧.failed ⟦<Fuse<MemDisk> as Device>⟧.refuses ⟦<Fuse<MemDisk> as Breaks>⟧.broken) }
     ensures each_line { EachLineGoesOn ⟦<Fuse<MemDisk> as Device>⟧.seen ⟦<Fuse<MemDisk> as Device>⟧.may_leave (EngineStep ⟦<Fuse<MemDisk> as Device>⟧.honest ⟦<Fuse<MemDisk> as Device>⟧.seen ⟦<Fuse<MemDisk> as Device>⟧.may_leave ⟦<Fuse<MemDisk> as Device>⟧.failed ⟦<Fuse<MemDisk> as Device>⟧.refuses ⟦<Fuse<MemDisk> as Breaks>⟧.broken) }
     ensures lives { LivesGoOn ⟦<Fuse<MemDisk> as Device>⟧.seen ⟦<Fuse<MemDisk> as Device>⟧.may_leave (Holds ⟦<Fuse<MemDisk> as Device>⟧.honest ⟦<Fuse<MemDisk> as Device>⟧.seen ⟦<Fuse<MemDisk> as Device>⟧.may_leave ⟦<Fuse<MemDisk> as Device>⟧.refuses) }
+    ensures kept { CrashesTakeWhatIsKept ⟦<Fuse<MemDisk> as Device>⟧.seen (medium_of ⟦<Fuse<MemDisk> as Device>⟧.honest ⟦<Fuse<MemDisk> as Device>⟧.seen ⟦<Fuse<MemDisk> as Device>⟧.may_leave ⟦<Fuse<MemDisk> as Device>⟧.failed ⟦<Fuse<MemDisk> as Device>⟧.refuses ⟦<Fuse<MemDisk> as Breaks>⟧.broken ⟦<Fuse<MemDisk> as Crashes>⟧.image ⟦<Fuse<MemDisk> as Crashes>⟧.armed) }
     ensures armed { ArmingGoesOn ⟦<MemDisk as Device>⟧.seen ⟦<MemDisk as Device>⟧.may_leave }
+    ensures runs { (settings : Settings) → RunsGoOn ⟦<Fuse<MemDisk> as Device>⟧.seen ⟦<Fuse<MemDisk> as Device>⟧.may_leave (medium_of ⟦<Fuse<MemDisk> as Device>⟧.honest ⟦<Fuse<MemDisk> as Device>⟧.seen ⟦<Fuse<MemDisk> as Device>⟧.may_leave ⟦<Fuse<MemDisk> as Device>⟧.failed ⟦<Fuse<MemDisk> as Device>⟧.refuses ⟦<Fuse<MemDisk> as Breaks>⟧.broken ⟦<Fuse<MemDisk> as Crashes>⟧.image ⟦<Fuse<MemDisk> as Crashes>⟧.armed) settings }
+    ensures in_lives { result ≢ 4 → Writes (PrintsInLives ⟦<Fuse<MemDisk> as Device>⟧.seen ⟦<Fuse<MemDisk> as Device>⟧.may_leave (medium_of ⟦<Fuse<MemDisk> as Device>⟧.honest ⟦<Fuse<MemDisk> as Device>⟧.seen ⟦<Fuse<MemDisk> as Device>⟧.may_leave ⟦<Fuse<MemDisk> as Device>⟧.failed ⟦<Fuse<MemDisk> as Device>⟧.refuses ⟦<Fuse<MemDisk> as Breaks>⟧.broken ⟦<Fuse<MemDisk> as Crashes>⟧.image ⟦<Fuse<MemDisk> as Crashes>⟧.armed) (texts words.now) (R.remaining input) result) (W.contents output.old) (W.contents output.new) }
     ensures file_lines { ReplyLineByLine (EngineStep ⟦<FileDisk<H::File> as Device>⟧.honest ⟦<FileDisk<H::File> as Device>⟧.seen ⟦<FileDisk<H::File> as Device>⟧.may_leave ⟦<FileDisk<H::File> as Device>⟧.failed ⟦<FileDisk<H::File> as Device>⟧.refuses ⟦<FileDisk<H::File> as Breaks>⟧.broken) }
 {
     law_played_scripts::<Fuse<MemDisk>, FileDisk<H::File>>();
@@ -54,7 +65,9 @@ where
     law_played_calls::<Fuse<MemDisk>>();
     law_each_line::<Fuse<MemDisk>>();
     law_each_life::<Fuse<MemDisk>>();
+    law_crash_reports::<Fuse<MemDisk>>();
     law_arming::<MemDisk>();
+    law_lives_joined::<Fuse<MemDisk>>();
     law_played_calls::<FileDisk<H::File>>();
     fkv_cli::run(rt, alloc, words, input, output, complaints)
 }

@@ -32,17 +32,18 @@ pub record Holds {D : Type 0} (honest : D → Type 0) (seen : D → List ℕ) (m
   pub synced : LeavesOnly image (may_leave device)
   pub sound : RefusesNoCall refuses device
 
--- What a run goes by of the device of a store: what a step of the engine over it is, the image that a crash leaves of it, which is set to this byte where it
--- isn't synced, when it holds an image, whether it has failed for good, and how it is made to fail behind so many calls.
+-- What a run goes by of the device of a store: what a step of the engine over it is, which images a crash may leave of it, and the one that it leaves, which is set
+-- to this byte where it isn't synced, when it holds an image, whether it has failed for good, and how it is made to fail behind so many calls.
 pub record Medium (D : Type 0) : Type 1 where
   pub engine : Event → WorldModel D → WorldModel D → Option Told → Bool → Type 0
+  pub may_leave : D → List ℕ → Type 0
   pub image : D → ℕ → List ℕ
   pub holds : List ℕ → D → Type 0
   pub broken : D → Bool
   pub armed : ℕ → Waits → PlayerState D → PlayerState D → Type 0
 
 abbrev pub medium_of : {D : Type 0} → (D → Type 0) → (D → List ℕ) → (D → List ℕ → Type 0) → (D → ℕ) → (D → ℕ → Bool) → (D → Bool) → (D → ℕ → List ℕ) → (ℕ → Waits → PlayerState D → PlayerState D → Type 0) → Medium D
-medium_of honest seen may_leave failed refuses broken image armed = record { engine = EngineStep honest seen may_leave failed refuses broken; image = image; holds = Holds honest seen may_leave refuses; broken = broken; armed = armed }
+medium_of honest seen may_leave failed refuses broken image armed = record { engine = EngineStep honest seen may_leave failed refuses broken; may_leave = may_leave; image = image; holds = Holds honest seen may_leave refuses; broken = broken; armed = armed }
 
 -- A player begins with the world of this opened store over this device: all sessions are awake, nothing is to come of the device, and these updates are kept.
 pub record Begins {D : Type 0} (opened : Opened) (device : D) (history : List HistoryEntry) (keeps_history : Bool) (player : PlayerState D) : Type 0 where

@@ -41,7 +41,7 @@ pub(crate) fn take_crash<D: Crashes, W: Write>(
     player: Player<D>,
     settings: Settings,
 ) -> io::Result<Option<NextLife<D>>>
-    ensures { IfOk result (λ next. MatchOption next
+    ensures { IfOk result (λ next. D.may_leave player.world.device (D.image player.world.device settings.torn) × MatchOption next
         (Writes (IsRefusal (D.image player.world.device settings.torn)) (W.contents output.old) (W.contents output.new))
         (λ life. Writes (IsCrash (Holds D.honest D.seen D.may_leave D.refuses) (D.image player.world.device settings.torn) settings.checks player life.player life.agrees) (W.contents output.old) (W.contents output.new))) }
 {

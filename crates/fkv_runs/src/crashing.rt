@@ -24,6 +24,7 @@ pub trait Crashes: Breaks + Drop {
     fn crash(self, torn: u8) -> Result<Self, Fault>
         ensures honest { IfOk result (λ next. Self.honest next) }
         ensures image { IfOk result (λ next. Self.seen next ≡ image self torn) }
+        ensures allowed { IfOk result (λ next. Self.may_leave self (image self torn)) }
         ensures sound { IfOk result (RefusesNoCall Self.refuses) };
 
     /// So many calls of the device pass from now on, and then each fails.

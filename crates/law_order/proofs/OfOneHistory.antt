@@ -1,3 +1,6 @@
+pub mod CommittedLives
+mod CommittedRun
+mod CommittedWorld
 pub mod EachLife
 pub mod History
 pub mod InVersions

@@ -1,3 +1,4 @@
+pub mod OfCrashed
 pub mod OfHolds
 pub mod OfPoints
 pub mod OfShows

@@ -1,3 +1,4 @@
 pub mod Beside
+pub mod Committed
 pub mod EachLife
 pub mod NewLives

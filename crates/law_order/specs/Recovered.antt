@@ -1,3 +1,4 @@
+pub mod Crashed
 pub mod Holds
 pub mod Leaves
 pub mod Parts

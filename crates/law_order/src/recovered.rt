@@ -1,11 +1,13 @@
 //! The law of prefixes: each image that a crash may leave holds what one current commit keeps of the life.
 
+mod crashed;
 mod holds;
 mod points;
 mod prefix;
 mod shows;
 mod uses;
 
+pub use crashed::law_crash_keeps_first;
 pub use holds::{law_images_hold, law_named_hold};
 pub use points::law_points_keep;
 pub use prefix::{law_images_recovered, law_prefix};

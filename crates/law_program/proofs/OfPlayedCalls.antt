@@ -1,7 +1,9 @@
 mod Beats
 mod Calm
+pub mod CrashReports
 pub mod EachLine
 mod InLife
+pub mod Interleaved
 mod Keeper
 pub mod Led
 pub mod Lives
@@ -13,6 +15,7 @@ mod Polled
 mod PolledReads
 mod ReadCalls
 pub mod Replies
+pub mod Runs
 pub mod Scripts
 pub mod Steps
 mod Waiting

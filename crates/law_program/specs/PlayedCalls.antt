@@ -1,7 +1,10 @@
+pub mod CrashReports
 pub mod EachLine
 pub mod Finished
+pub mod Interleaved
 pub mod Lives
 pub mod NewFiles
 pub mod PlayedCalls
+pub mod Runs
 pub mod Scripts
 pub mod Waiting

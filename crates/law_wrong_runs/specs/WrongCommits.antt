@@ -2,22 +2,26 @@
 use Rattle.std.specs.Prelude.{true, replicate, List, [], ◌∷◌, ◌++◌}
 use Rattle.fkv_base.specs.declared.commits.CommitKind.TheVariants.{Full}
 use Rattle.fkv_base.specs.declared.shapes.Shape.{Shape}
+use Rattle.fkv_base.specs.declared.numbers.Serial.{Serial}
 use Rattle.fkv_keeper.specs.Keeping.{KeeperState}
 use Rattle.fkv_keeper.specs.NewKeepers.{ArePlacesOfStore}
+use Rattle.fkv_map.specs.History.{IsLegal, kept}
 use Rattle.fkv_map.specs.declared.operations.Call.TheVariants as call
 use Rattle.fkv_opening.specs.declared.opened_store.Opened.{Opened}
 use Rattle.fkv_plane.specs.declared.places.Places.{Places}
 use Rattle.fkv_session.specs.Sessions.{SessionState}
 use Rattle.fkv_world.specs.Opened.{IsOpenedWorld}
-use Rattle.fkv_world.specs.Runs.{World}
+use Rattle.fkv_world.specs.Runs.{World, run}
 use Rattle.fkv_world.specs.World.{Calls, Commits, Event, KeeperMoves, Moves}
 use Rattle.law_commit.specs.BegunCommits.{BegunCommit}
 use Rattle.law_commit.specs.PrefixPast.{PrefixPast, prefix_past}
 use Rattle.law_commit.specs.ToldPoints.{ToldPoint, points_told}
-use Rattle.law_log.specs.Trace.{IsIn}
+use Rattle.law_log.specs.Trace.{IsIn, history_of}
+use Rattle.law_log.specs.Worked.{no_map}
 use Rattle.law_order.specs.Prefix.Law.{IsCurrent, IsToldDurable, TakesFairPoints}
-use Rattle.law_wrong_runs.specs.Tables.{Tables, commit_keeps_nothing, right_tables, run_by, serial_is_told_as_durable}
-use Rattle.law_wrong_runs.specs.WrongLives.{gives_events, opened_world}
+use Rattle.law_refine.specs.Calls.Calls.{effects_in_log}
+use Rattle.law_wrong_runs.specs.Tables.{Tables, add_copies_in_fuzzy_region, commit_keeps_nothing, right_tables, run_by, serial_is_told_as_durable}
+use Rattle.law_wrong_runs.specs.WrongLives.{fuzzy_events, gives_events, opened_world}
 
 -- ---- what a life leaves
 -- its commits are those of the keeper's own events, and sessions are told this by the table
@@ -36,6 +40,10 @@ LeavesCurrent t opening events = (c : BegunCommit) × IsCurrent (past_by t openi
 abbrev pub TakesFair : Tables → World → List Event → Type 0
 TakesFair t opening events = TakesFairPoints (run_by t opening events).now (prefix_past opening events)
 
+-- what these points keep of it is legal from an empty map, as it has to be where a next life begins
+abbrev pub KeepsLegal : List Serial → World → Type 0
+KeepsLegal points w = IsLegal no_map (kept (history_of (effects_in_log w.past.history)) points)
+
 -- ---- the beginning: a store that was just opened, of which nothing is kept yet
 abbrev pub with_nothing_kept : KeeperState → KeeperState
 with_nothing_kept k = record k { last = record k.last { points = [] }; lost = [] }
@@ -51,9 +59,13 @@ asks_durable = replicate 2 (Moves 0) ++ Calls 0 call.Durable ∷ gives_events
 abbrev pub begins_commit : List Event
 begins_commit = replicate 8 (KeeperMoves true true) ++ Commits Full ∷ gives_events
 
+-- points that keep all updates of both sessions
+abbrev pub all_points : List Serial
+all_points = record { 0 = 4 } ∷ record { 0 = 1 } ∷ []
+
 -- In a store of this shape, with its places: if session 0 is told its last serial as durable, no commit has that as its point, and so none is current. By the
 -- right table it is told its point in the commit with which the store was opened. If a commit keeps nothing, its point is below what session 0 had given as
--- it was asked for.
+-- it was asked for. If a record is copied that session 0 may still change, no life can begin with all that was done; by the right table one can.
 pub record AreWrongCommits (keeper : KeeperState) (one other : SessionState) : Type 0 where
   pub shape : Shape
   pub places : Places
@@ -63,3 +75,5 @@ pub record AreWrongCommits (keeper : KeeperState) (one other : SessionState) : T
   pub durable_right : (o : Opened) → LeavesDurable o right_tables (new_world shape places keeper one other) asks_durable
   pub uncurrent : LeavesCurrent serial_is_told_as_durable (new_world shape places keeper one other) asks_durable → ⊥
   pub unfair : TakesFair commit_keeps_nothing (new_world shape places keeper one other) begins_commit → ⊥
+  pub unkept : KeepsLegal all_points (run_by add_copies_in_fuzzy_region (opened_world shape places keeper one other) fuzzy_events) → ⊥
+  pub kept_right : KeepsLegal all_points (run (opened_world shape places keeper one other) fuzzy_events)

@@ -29,7 +29,7 @@ pub record OrderLaw : Type 0 where
   pub guarded : InEachLife IsGuarded
   pub once : InEachLife RunsActionsOnce
 
-ordered_life : OrderLaw → (its : Life) → IsLife its → IsOrderedLife its
+pub ordered_life : OrderLaw → (its : Life) → IsLife its → IsOrderedLife its
 ordered_life law its is = record {
   legal = law.legal its is;
   ordered = law.ordered its is;
@@ -43,10 +43,10 @@ ordered_life law its is = record {
 reads_fit : OpFits (Read (record { 0 = 5 }))
 reads_fit = omega arith
 
-adds_fit : OpFits adds_5
+pub adds_fit : OpFits adds_5
 adds_fit = (omega arith, omega arith)
 
-gives_fit : OpFits gives_70
+pub gives_fit : OpFits gives_70
 gives_fit = (omega arith, omega arith)
 
 fits : CallsFit worked_events
@@ -60,7 +60,7 @@ some_session : (sessions : List SessionState) → 1 ≤ length sessions → Sess
 some_session [] some = absurd (omega (arith, some))
 some_session (s ∷ sessions) some = s
 
-has_session : (o : Opened) (n : Now) → IsNewStore shape o → IsOpeningWorld o n → SessionState
+pub has_session : (o : Opened) (n : Now) → IsNewStore shape o → IsOpeningWorld o n → SessionState
 has_session o n new its = some_session n.sessions (omega (arith, its.seats, o.shape.limits.some_session))
 
 as_worked : (its : Life) → IsLife its → IsCreated shape its.bytes → IsNewStore shape its.opened → (k : KeeperState) (s : SessionState) → its.world ≡ worked_now (resting_keeper k) s s → BeginsAsWorked its

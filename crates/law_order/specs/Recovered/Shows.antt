@@ -1,7 +1,4 @@
 -- What the log beside a life is to the commit with which the store was opened.
-use Rattle.std.specs.Prelude.{ℕ, List}
-use Rattle.fkv_opening.specs.declared.opened_store.Opened.{Opened}
-use Rattle.fkv_world.specs.World.{Event, Now}
 use Rattle.law_order.specs.Decided.Cut.{log_beside}
 use Rattle.law_paper.specs.Paper.Opened.{StandsAsOpened}
 use Rattle.law_order.specs.Recovered.Leaves.{SaidOfLeft, homes_of, log_then}

@@ -57,16 +57,13 @@ pub record IsPlayedGroup {D : Type 0} (engine : events.Event → WorldModel D �
   pub left : List QueueState
   pub group : IsGroup engine (record { player = before; queues = queues }) (record { player = after; queues = left }) false text
 
--- such a group has ended, so nothing is played behind it
-module _ {D : Type 0} (medium : Medium D) (settings : Settings) (calls : List ActorCall) (before after : RunState D) (over : Bool) (text : List ℕ) (calm : before.player.waits ≡ Nothing) (its : IsGroupPlayed medium settings calls before after over text) where
-  its_calm : StaysCalm its.leg.struck its.leg.player.waits
-  its_calm = group_calm medium.engine (record { player = before.player; queues = its.queues }) (record { player = its.leg.player; queues = its.left }) its.leg.struck its.leg.said calm its.leg.part
-
+-- A group in which no crash strikes has ended, so nothing is played behind it.
+module _ {D : Type 0} (medium : Medium D) (settings : Settings) (calls : List ActorCall) (before after : RunState D) (over : Bool) (text : List ℕ) (its : IsGroupPlayed medium settings calls before after over text) (none : its.leg.struck ≡ false) where
   leg_over : IsCrashedWhere false medium settings (record before { player = its.leg.player }) its.between over its.leg.reported
-  leg_over = subst (λ (x : Bool). IsCrashedWhere x medium settings (record before { player = its.leg.player }) its.between over its.leg.reported) its_calm.0 its.leg.crashed
+  leg_over = subst (λ (x : Bool). IsCrashedWhere x medium settings (record before { player = its.leg.player }) its.between over its.leg.reported) none its.leg.crashed
 
   none_left : NobodyHasSteps its.left
-  none_left = subst NobodyHasSteps (sym (its.leg.part.queues ∙ ap (λ (x : Bool). queues_behind x its.leg.part.last) its_calm.0)) (its.leg.part.over its_calm.0)
+  none_left = subst NobodyHasSteps (sym (its.leg.part.queues ∙ ap (λ (x : Bool). queues_behind x its.leg.part.last) none)) (its.leg.part.over none)
 
   nothing_behind : (◌≡◌ {A = PlayerState D} its.between.player after.player) × (its.rest ≡ [])
   nothing_behind =
@@ -74,24 +71,32 @@ module _ {D : Type 0} (medium : Medium D) (settings : Settings) (calls : List Ac
       let ended = none_played medium.engine behind.1.picks (record { player = its.between.player; queues = its.left }) (record { player = after.player; queues = behind.1.last }) its.rest none_left behind.1.played in
       (sym (ap (λ (x : GroupState D). x.player) ended.0), ended.1)
 
-  its_player : its.leg.player ≡ after.player
-  its_player = ap (λ (x : RunState D). x.player) (sym leg_over.0) ∙ nothing_behind.0
+  pub unstruck_player : its.leg.player ≡ after.player
+  unstruck_player = ap (λ (x : RunState D). x.player) (sym leg_over.0) ∙ nothing_behind.0
 
   its_text : its.leg.said ≡ text
   its_text =
       sym (its.says ∙ (ap (λ (x : List ℕ). its.first ++ x) nothing_behind.1 ∙ (append-nil its.first ∙ (its.leg.says ∙ (ap (λ (x : List ℕ). its.leg.said ++ x) leg_over.2 ∙ append-nil its.leg.said)))))
 
-  pub played_group : IsPlayedGroup medium.engine calls before.player after.player over text
-  played_group = record {
+  pub unstruck_group : IsPlayedGroup medium.engine calls before.player after.player over text
+  unstruck_group = record {
     goes_on = leg_over.1;
     queues = its.queues;
     are_queues = its.are_queues;
     left = its.left;
     group =
         subst (λ (x : List ℕ). IsGroup medium.engine (record { player = before.player; queues = its.queues }) (record { player = after.player; queues = its.left }) false x) its_text
-        (subst (λ (x : PlayerState D). IsGroup medium.engine (record { player = before.player; queues = its.queues }) (record { player = x; queues = its.left }) false its.leg.said) its_player
-        (subst (λ (x : Bool). IsGroup medium.engine (record { player = before.player; queues = its.queues }) (record { player = its.leg.player; queues = its.left }) x its.leg.said) its_calm.0 its.leg.part));
+        (subst (λ (x : PlayerState D). IsGroup medium.engine (record { player = before.player; queues = its.queues }) (record { player = x; queues = its.left }) false its.leg.said) unstruck_player
+        (subst (λ (x : Bool). IsGroup medium.engine (record { player = before.player; queues = its.queues }) (record { player = its.leg.player; queues = its.left }) x its.leg.said) none its.leg.part));
   }
 
+-- so it is where nothing is to come of the device
+module _ {D : Type 0} (medium : Medium D) (settings : Settings) (calls : List ActorCall) (before after : RunState D) (over : Bool) (text : List ℕ) (calm : before.player.waits ≡ Nothing) (its : IsGroupPlayed medium settings calls before after over text) where
+  its_calm : StaysCalm its.leg.struck its.leg.player.waits
+  its_calm = group_calm medium.engine (record { player = before.player; queues = its.queues }) (record { player = its.leg.player; queues = its.left }) its.leg.struck its.leg.said calm its.leg.part
+
+  pub played_group : IsPlayedGroup medium.engine calls before.player after.player over text
+  played_group = unstruck_group medium settings calls before after over text its its_calm.0
+
   pub stays_calm : after.player.waits ≡ Nothing
-  stays_calm = ap (λ (x : PlayerState D). x.waits) (sym its_player) ∙ its_calm.1
+  stays_calm = ap (λ (x : PlayerState D). x.waits) (sym (unstruck_player medium settings calls before after over text its its_calm.0)) ∙ its_calm.1

@@ -76,7 +76,7 @@ calls_counted (Commit kind) (event ∷ moves) life are = ap (λ (x : Event). cal
 calls_counted Turn (event ∷ moves) life are = ap (λ (x : Event). calls_in (x ∷ (moves ++ begun_by Turn ∷ life))) are.0.2 ∙ calls_counted Turn moves life are.1
 
 -- no more than one
-begun_counted : (its : ActorCall) (life : List Event) → calls_in (begun_by its ∷ life) ≤ suc (calls_in life)
+pub begun_counted : (its : ActorCall) (life : List Event) → calls_in (begun_by its ∷ life) ≤ suc (calls_in life)
 begun_counted (Session number asked) life = omega arith
 begun_counted (Commit kind) life = omega arith
 begun_counted Turn life = omega arith
@@ -292,7 +292,7 @@ module _ {D : Type 0} (legal : InEachLife HasLegalHistory) (ordered : InEachLife
   pub struck_says_nothing : StruckCallsSayNothing seen may_leave engine
   struck_says_nothing its queues left before after text are group =
       let one = first_call its queues are in
-      struck_silent engine its group.picks stage.Begins one.0 (record { player = before; queues = queues }) (record { player = after; queues = group.last }) text one.1 group.played
+      (struck_silent engine its group.picks stage.Begins one.0 (record { player = before; queues = queues }) (record { player = after; queues = group.last }) text one.1 group.played).silent
 
   -- ---- a finish
   -- where the life goes by these calls, one behind the other

@@ -165,7 +165,7 @@ module _ {D : Type 0} (seen : D → List ℕ) (may_leave : D → List ℕ → Ty
         seats = λ keeper. rest.seats keeper ∙ seats;
       }
 
-  one_on : (opening : World) → IsOpenedWorld opening → (at : Stage) (life : List Event) (before after : PlayerState D) (outcome : Outcome) (text : List ℕ) → ShowsBoth seen may_leave opening life before.world
+  pub one_on : (opening : World) → IsOpenedWorld opening → (at : Stage) (life : List Event) (before after : PlayerState D) (outcome : Outcome) (text : List ℕ) → ShowsBoth seen may_leave opening life before.world
       → IsBeat engine telling its at before after outcome text → IsLedTo seen may_leave its opening at life after.world
   one_on opening opened at life before after outcome text was beat =
       let led = leads (event_of at its) before.world after.world beat.its beat.broken beat.step in

@@ -212,9 +212,9 @@ module _ {D : Type 0} (engine : events.Event → WorldModel D → WorldModel D �
 
   -- ---- a call in which a crash strikes
   -- no step is left, struck or not
-  none_left : (picked : ℕ) (later : List ℕ) (before after : GroupState D) (struck : Bool) (text : List ℕ) → NobodyHasSteps before.queues → InTurn (IsPick engine) false (picked ∷ later) before after struck text → ⊥
-  none_left picked [] before after struck text nobody played = none_picked engine picked before after struck text nobody played
-  none_left picked (next ∷ later) before after struck text nobody played = none_picked engine picked before played.0 false played.1 nobody played.3
+  none_then : (picked : ℕ) (later : List ℕ) (before after : GroupState D) (struck : Bool) (text : List ℕ) → NobodyHasSteps before.queues → InTurn (IsPick engine) false (picked ∷ later) before after struck text → ⊥
+  none_then picked [] before after struck text nobody played = none_picked engine picked before after struck text nobody played
+  none_then picked (next ∷ later) before after struck text nobody played = none_picked engine picked before played.0 false played.1 nobody played.3
 
   -- in the beat in which it strikes nobody hears what was told
   struck_beat : (at : Stage) (before after : PlayerState D) (outcome : Outcome) (text : List ℕ) (missing : Option ℕ) → true ≡ is_struck_by outcome → IsBeatOf engine call at before after outcome text missing → text ≡ []
@@ -228,10 +228,26 @@ module _ {D : Type 0} (engine : events.Event → WorldModel D → WorldModel D �
       beat.says ∙ ap (text_heard Whole (asked_of call) before.seats after.world.now) (unheard (is_struck before.waits beat.broken) beat.its (sym goes ∙ beat.ends))
   silent_before at before after outcome text (Some number) goes beat = let never : GoesOn ≡ Answered = sym goes ∙ beat.1 in cc
 
-  pub struck_silent : (picks : List ℕ) (at : Stage) (place : ℕ) (before after : GroupState D) (text : List ℕ) → HasOneCall at call place before.queues → InTurn (IsPick engine) false picks before after true text → text ≡ []
+  struck_outcome : (outcome : Outcome) → true ≡ is_struck_by outcome → outcome ≡ Struck
+  struck_outcome Struck struck = refl
+  struck_outcome GoesOn struck = cc
+  struck_outcome Answered struck = cc
+  struck_outcome Closed struck = cc
+
+  -- so the group prints nothing, and nobody has a step left
+  pub record EndsSilently (after : GroupState D) (text : List ℕ) : Type 0 where
+    pub silent : text ≡ []
+    pub none_left : NobodyHasSteps after.queues
+
+  pub struck_silent : (picks : List ℕ) (at : Stage) (place : ℕ) (before after : GroupState D) (text : List ℕ) → HasOneCall at call place before.queues → InTurn (IsPick engine) false picks before after true text → EndsSilently after text
   struck_silent [] at place before after text its played = let never : true ≡ false = played.1 in cc
   struck_silent (picked ∷ []) at place before after text its played =
-      let one = its_pick at place picked before after true text its played in struck_beat at before.player after.player one.outcome text (missing_session before.player.seats call) one.ends one.beat
+      let one = its_pick at place picked before after true text its played in
+      record {
+        silent = struck_beat at before.player after.player one.outcome text (missing_session before.player.seats call) one.ends one.beat;
+        none_left =
+            over_so at call place before.queues after.queues its (one.queues ∙ ap (λ (x : Outcome). slice_set before.queues place (queue_behind x (taken its.queue call))) (struck_outcome one.outcome one.ends));
+      }
   struck_silent (picked ∷ next ∷ later) at place before after text its played = by_outcome one.outcome refl (λ stands. struck_silent (next ∷ later) stage.Moves place played.0 after played.2 stands played.4)
     where
       one : IsItsPick at place before played.0 its.queue false played.1
@@ -240,13 +256,13 @@ module _ {D : Type 0} (engine : events.Event → WorldModel D → WorldModel D �
       queues_so : (outcome : Outcome) → one.outcome ≡ outcome → played.0.queues ≡ slice_set before.queues place (queue_behind outcome (taken its.queue call))
       queues_so outcome e = one.queues ∙ ap (λ (x : Outcome). slice_set before.queues place (queue_behind x (taken its.queue call))) e
 
-      by_outcome : (outcome : Outcome) → one.outcome ≡ outcome → (HasOneCall stage.Moves call place played.0.queues → played.2 ≡ []) → text ≡ []
+      by_outcome : (outcome : Outcome) → one.outcome ≡ outcome → (HasOneCall stage.Moves call place played.0.queues → EndsSilently after played.2) → EndsSilently after text
       by_outcome GoesOn e goes_on =
           let silent : played.1 ≡ [] = silent_before at before.player played.0.player one.outcome played.1 (missing_session before.player.seats call) e one.beat in
-          let rest : played.2 ≡ [] = goes_on (goes_on_so at call place before.queues played.0.queues its (queues_so GoesOn e)) in
-          played.5 ∙ (ap (λ (x : List ℕ). x ++ played.2) silent ∙ rest)
-      by_outcome Answered e goes_on = absurd (none_left next later played.0 after true played.2 (over_so at call place before.queues played.0.queues its (queues_so Answered e)) played.4)
-      by_outcome Closed e goes_on = absurd (none_left next later played.0 after true played.2 (over_so at call place before.queues played.0.queues its (queues_so Closed e)) played.4)
+          let rest = goes_on (goes_on_so at call place before.queues played.0.queues its (queues_so GoesOn e)) in
+          record { silent = played.5 ∙ (ap (λ (x : List ℕ). x ++ played.2) silent ∙ rest.silent); none_left = rest.none_left }
+      by_outcome Answered e goes_on = absurd (none_then next later played.0 after true played.2 (over_so at call place before.queues played.0.queues its (queues_so Answered e)) played.4)
+      by_outcome Closed e goes_on = absurd (none_then next later played.0 after true played.2 (over_so at call place before.queues played.0.queues its (queues_so Closed e)) played.4)
       by_outcome Struck e goes_on = let never : false ≡ true = one.ends ∙ ap is_struck_by e in cc
 
 -- ---- the queues of a group of one call

@@ -1,4 +1,5 @@
 use Rattle.fkv.proofs.FileReplies.{writes_file_map}
+use Rattle.fkv.proofs.Lives.{writes_in_lives}
 use Rattle.fkv.proofs.Replies.{writes_map}
 use Rattle.fkv.proofs.programs.run.Goals as goal
 
@@ -10,3 +11,12 @@ returns-clause-file_replies g c = writes_file_map _ _ _ c.run.result _ _ c.run.e
 
 pub returns-clause-each_line : goal.returns-clause-each_line
 returns-clause-each_line g c = c.law_each_line.ensures (λ device. tt)
+
+pub returns-clause-runs : goal.returns-clause-runs
+returns-clause-runs g c =
+    c.law_lives_joined.ensures (λ device. tt) (λ count waits its before after armed shown. c.law_arming.ensures count waits its.bytes its.opened its.first its.events before after armed shown)
+
+pub returns-clause-in_lives : goal.returns-clause-in_lives
+returns-clause-in_lives g c =
+    writes_in_lives _ _ _ _ _ c.run.result _ _ c.run.ensures.whole c.law_each_life.ensures.begin
+    (c.law_lives_joined.ensures (λ device. tt) (λ count waits its before after armed shown. c.law_arming.ensures count waits its.bytes its.opened its.first its.events before after armed shown))

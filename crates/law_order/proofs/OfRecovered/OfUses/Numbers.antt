@@ -5,7 +5,7 @@ use Rattle.law_commit.specs.BegunCommits.{AreInTurn, BegunCommit}
 use Rattle.law_log.specs.Trace.{IsIn}
 
 -- the newest has the greatest number
-newest_most : (c : BegunCommit) (before : List BegunCommit) (d : BegunCommit) → AreInTurn (c ∷ before) → IsIn d before → d.number.0 < c.number.0
+pub newest_most : (c : BegunCommit) (before : List BegunCommit) (d : BegunCommit) → AreInTurn (c ∷ before) → IsIn d before → d.number.0 < c.number.0
 newest_most c [] d turn is = absurd is
 newest_most c (e ∷ before) d turn (inl same) =
     let next = turn.0 in

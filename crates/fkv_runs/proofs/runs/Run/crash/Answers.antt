@@ -13,4 +13,4 @@ returns g c =
       | else-agrees w ↦ (let is = w.result-is in let off = w.if-agrees.false in cc)
     ] in
     run_crashed medium c.args.self c.self.inside.settings (record { player = c.self.inside.player; agrees = c.self.inside.agrees }) c.in-Some.next.player c.in-Some.next.agrees c.if-agrees.result
-    (g.W.Write.contents c.args.output.now) (g.W.Write.contents c.take_crash.new.output) c.self.view_is both (rw c.in-Some.is at c.in_ok-next.ensures)
+    (g.W.Write.contents c.args.output.now) (g.W.Write.contents c.take_crash.new.output) c.self.view_is both c.in_ok-next.ensures.0 (rw c.in-Some.is at c.in_ok-next.ensures.1)

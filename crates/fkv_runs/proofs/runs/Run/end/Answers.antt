@@ -1,6 +1,6 @@
 use Rattle.std.proofs.Common.{◌≡◌, true, false, refl, subst}
 use Rattle.fkv_runs.specs.Openings.{medium_of}
-use Rattle.fkv_runs.proofs.Legs.{run_ends_quiet, run_ends_due}
+use Rattle.fkv_runs.proofs.Legs.{end_due, run_ends_due, run_ends_quiet}
 use Rattle.fkv_runs.proofs.Breaking.{due_breaks}
 use Rattle.fkv_runs.proofs.Told.{on_err}
 use Rattle.fkv_runs.proofs.runs.Run.end.Goals as goal
@@ -37,3 +37,17 @@ returns-in_err-run-clause-part g c =
     let still = subst (λ (its : RunModel g.row.D.Denot). is_due its.state.player.waits ≡ true) c.self.view_is due in
     on_err c.from_residual.result
     (due_breaks medium c.args.self.settings c.args.self.state (is_due c.args.self.state.player.waits) (g.W.Write.contents c.args.output.now) (g.W.Write.contents c.tell_crash.new.output) still c.in_err-run.ensures.part)
+
+pub returns-in_default-clause-whole : goal.returns-in_default-clause-whole
+returns-in_default-clause-whole g c =
+    let medium = medium_of g.D.Device.honest g.D.Device.seen g.D.Device.may_leave g.D.Device.failed g.D.Device.refuses g.D.Breaks.broken g.D.Crashes.image g.D.Crashes.armed in
+    let on = c.if-not-is_due.false in
+    let is = c.is_due.ensures in
+    let waits = c.waits.ensures in
+    let due : is_due c.self.inside.player.waits ≡ true = cc in
+    let still = subst (λ (its : RunModel g.row.D.Denot). is_due its.state.player.waits ≡ true) c.self.view_is due in (
+      true,
+      c.args.self.state,
+      refl,
+      end_due (is_due c.args.self.state.player.waits) medium c.args.self.settings c.args.self.state c.args.self.state true (g.W.Write.contents c.args.output.now) (g.W.Write.contents c.tell_crash.new.output) still (rw c.in_default.is at c.in_ok-run.ensures.whole).1,
+    )

@@ -1,0 +1,205 @@
+-- Beat by beat, whoever makes it.
+use Rattle.std.proofs.Common.{◌≡◌, ℕ, zero, suc, List, [], ◌∷◌, ◌++◌, Bool, true, false, ap, cond, map, refl, replicate, sym, subst, take}
+use Rattle.std.specs.Prelude.{Option, Some, None, filter, slice_get, slice_set}
+use Rattle.fkv_core.specs.Openings.{beginning}
+use Rattle.fkv_core.specs.Worlds.{WorldModel}
+use Rattle.fkv_core.specs.declared.events.Event as events
+use Rattle.fkv_core.specs.declared.events.Told as tells
+use Rattle.fkv_epoch.proofs.Shown.{some_same}
+use Rattle.fkv_opening.specs.declared.opened_store.Opened.{Opened}
+use Rattle.fkv_playing.specs.Beats.{IsBeat}
+use Rattle.fkv_base.specs.declared.phases.Phase.{Phase}
+use Rattle.fkv_base.specs.declared.phases.Phase.TheVariants as phase
+use Rattle.fkv_playing.specs.Finishes.{IsFinishIn, IsPlayedAlone, calls_of_seat, calls_of_seats, most_rounds, round_of, rounds}
+use Rattle.fkv_playing.specs.Groups.{GroupState, IsBeatOf, IsPick, missing_session, queues_behind}
+use Rattle.fkv_playing.specs.InTurn.{InTurn}
+use Rattle.fkv_playing.specs.Players.{PlayerState}
+use Rattle.fkv_playing.specs.Queues.{AreQueuesOf, QueueState, given_up, held, held_by, is_of, queue_behind, step_of}
+use Rattle.fkv_playing.specs.declared.calls.ActorCall.{ActorCall}
+use Rattle.fkv_playing.specs.declared.calls.ActorCall.TheVariants.{Commit, Session, Turn}
+use Rattle.fkv_playing.specs.declared.calls.Outcome.{Outcome}
+use Rattle.fkv_playing.specs.declared.calls.Outcome.TheVariants.{Answered, GoesOn}
+use Rattle.fkv_playing.specs.declared.calls.Stage.{Stage}
+use Rattle.fkv_playing.specs.declared.calls.Stage.TheVariants as stage
+use Rattle.fkv_playing.specs.Seats.{SeatState}
+use Rattle.fkv_playing.specs.Texts.{phase_shown}
+use Rattle.fkv_playing.specs.declared.calls.Telling.{Telling}
+use Rattle.fkv_playing.specs.declared.calls.Telling.TheVariants.{Finished, Whole}
+use Rattle.fkv_world.specs.World.{Event, Now}
+use Rattle.law_order.specs.Served.Fits.{EventFits}
+use Rattle.law_program.specs.PlayedCalls.EachLine.{ItsNumbersFit}
+use Rattle.law_program.specs.PlayedCalls.Interleaved.{AreFitting, FinishesGoOn, GroupsGoOn, HandFits, IsLifeShown, QueuesFit, QuietLivesAreShown}
+use Rattle.law_program.proofs.OfPlayedCalls.Led.{IsEventAt, IsLedTo, LeadsLives, one_on}
+use Rattle.law_order.proofs.OfRules.Beginning.{world_opens}
+
+-- ---- calls that fit
+abbrev QueueFits : QueueState → Type 0
+QueueFits queue = HandFits queue.hand × AreFitting queue.left
+
+queue_at : (queues : List QueueState) (at : ℕ) (queue : QueueState) → QueuesFit queues → slice_get queues at ≡ Some queue → QueueFits queue
+queue_at [] at queue fit got = cc
+queue_at (x ∷ rest) zero queue fit got = let same : x ≡ queue = cc in subst QueueFits same fit.0
+queue_at (x ∷ rest) (suc at) queue fit got = queue_at rest at queue fit.1 got
+
+queues_set : (queues : List QueueState) (at : ℕ) (queue : QueueState) → QueuesFit queues → QueueFits queue → QueuesFit (slice_set queues at queue)
+queues_set [] at queue fit its = tt
+queues_set (x ∷ rest) zero queue fit its = (its, fit.1)
+queues_set (x ∷ rest) (suc at) queue fit its = (fit.0, queues_set rest at queue fit.1 its)
+
+queues_given_up : (queues : List QueueState) → QueuesFit queues → QueuesFit (map given_up queues)
+queues_given_up [] fit = tt
+queues_given_up (x ∷ rest) fit = ((tt, fit.0.1), queues_given_up rest fit.1)
+
+pub queues_left : (struck : Bool) (queues : List QueueState) → QueuesFit queues → QueuesFit (queues_behind struck queues)
+queues_left true queues fit = queues_given_up queues fit
+queues_left false queues fit = fit
+
+held_fits : (rank : ℕ) (hand : Option ActorCall) (left : List ActorCall) → HandFits hand → AreFitting left → QueueFits (held_by rank hand left)
+held_fits rank None [] hand left = (tt, tt)
+held_fits rank None (call ∷ later) hand left = (left.0, left.1)
+held_fits rank (Some call) left hand fit = (hand, fit)
+
+behind_fits : (outcome : Outcome) (queue : QueueState) → QueueFits queue → QueueFits (queue_behind outcome queue)
+behind_fits GoesOn queue fit = fit
+behind_fits other queue fit = (tt, fit.1)
+
+step_fits : (hand : Option ActorCall) (left : List ActorCall) (call : ActorCall) (at : Stage) → HandFits hand → AreFitting left → step_of hand left ≡ Some (call, at) → ItsNumbersFit call
+step_fits (Some its) left call at hand fit e = subst ItsNumbersFit (ap (λ (x : ActorCall × Stage). x.0) (some_same (its, stage.Moves) (call, at) e)) hand
+step_fits None [] call at hand fit e = cc
+step_fits None (its ∷ later) call at hand fit e = subst ItsNumbersFit (ap (λ (x : ActorCall × Stage). x.0) (some_same (its, stage.Begins) (call, at) e)) fit.0
+
+-- the event of a beat fits where its call does
+event_fits : (at : Stage) (its : ActorCall) (event : Event) → ItsNumbersFit its → IsEventAt at its event → EventFits event
+event_fits stage.Begins (Session number asked) event fit is = subst EventFits (sym is) fit
+event_fits stage.Begins (Commit kind) event fit is = subst EventFits (sym is) tt
+event_fits stage.Begins Turn event fit is = subst EventFits (sym is) tt
+event_fits stage.Moves (Session number asked) event fit is = subst EventFits (sym is) tt
+event_fits stage.Moves (Commit kind) event fit is = subst EventFits (sym is.2) tt
+event_fits stage.Moves Turn event fit is = subst EventFits (sym is.2) tt
+
+-- ---- the queues of a group
+filter_fits : (rank : ℕ) (calls : List ActorCall) → AreFitting calls → AreFitting (filter (is_of rank) calls)
+filter_fits rank [] fit = tt
+filter_fits rank (call ∷ later) fit = by_test (is_of rank call) (filter_fits rank later fit.1)
+  where
+    by_test : (c : Bool) → AreFitting (filter (is_of rank) later) → AreFitting (cond c (call ∷ filter (is_of rank) later) (filter (is_of rank) later))
+    by_test true rest = (fit.0, rest)
+    by_test false rest = rest
+
+queues_by_place : (queues : List QueueState) → ((at : ℕ) (queue : QueueState) → slice_get queues at ≡ Some queue → QueueFits queue) → QueuesFit queues
+queues_by_place [] each = tt
+queues_by_place (x ∷ rest) each = (each 0 x refl, queues_by_place rest (λ at queue got. each (suc at) queue got))
+
+pub queues_fit : (calls : List ActorCall) (queues : List QueueState) → AreFitting calls → AreQueuesOf calls queues → QueuesFit queues
+queues_fit calls queues fit are = queues_by_place queues (λ at queue got.
+    (subst HandFits (sym (are.idle at queue got)) tt, subst AreFitting (sym (are.each at queue got)) (filter_fits queue.rank calls fit)))
+
+-- ---- the calls of a finish
+append_fits : (xs ys : List ActorCall) → AreFitting xs → AreFitting ys → AreFitting (xs ++ ys)
+append_fits [] ys one other = other
+append_fits (x ∷ xs) ys one other = (one.0, append_fits xs ys one.1 other)
+
+take_fits : (count : ℕ) (calls : List ActorCall) → AreFitting calls → AreFitting (take count calls)
+take_fits zero calls fit = tt
+take_fits (suc count) [] fit = tt
+take_fits (suc count) (x ∷ xs) fit = (fit.0, take_fits count xs fit.1)
+
+rounds_fit : (count : ℕ) (round : List ActorCall) → AreFitting round → AreFitting (rounds count round)
+rounds_fit zero round fit = tt
+rounds_fit (suc count) round fit = append_fits (rounds count round) round (rounds_fit count round fit) fit
+
+seat_fits : (number : ℕ) (awake : Bool) → AreFitting (calls_of_seat number awake)
+seat_fits number true = (tt, (tt, tt))
+seat_fits number false = tt
+
+seats_fit : (number : ℕ) (seats : List SeatState) → AreFitting (calls_of_seats number seats)
+seats_fit number [] = tt
+seats_fit number (seat ∷ later) = append_fits (calls_of_seat number seat.is_awake) (calls_of_seats (suc number) later) (seat_fits number seat.is_awake) (seats_fit (suc number) later)
+
+round_fits : (seats : List SeatState) → AreFitting (round_of seats)
+round_fits seats = append_fits (calls_of_seats 0 seats) (Turn ∷ []) (seats_fit 0 seats) (tt, tt)
+
+-- ---- a group
+module _ {D : Type 0} (seen : D → List ℕ) (may_leave : D → List ℕ → Type 0) (engine : events.Event → WorldModel D → WorldModel D → Option tells.Told → Bool → Type 0) (leads : LeadsLives seen may_leave engine)
+    (bytes : List ℕ) (o : Opened) (first : Now) where
+  abbrev Shown : List Event → PlayerState D → Type 0
+  Shown life player = IsLifeShown seen may_leave bytes o first life player
+
+  record IsOn (player : PlayerState D) : Type 0 where
+    later : List Event
+    shown : Shown later player
+
+  beat_on : (telling : Telling) (life : List Event) (call : ActorCall) (at : Stage) (before after : PlayerState D) (outcome : Outcome) (text : List ℕ) → Shown life before → ItsNumbersFit call → IsBeat engine telling call at before after outcome text → IsOn after
+  beat_on telling life call at before after outcome text was fit beat =
+      let led : IsLedTo seen may_leave call (beginning first bytes) at life after.world =
+      one_on seen may_leave engine leads telling call (beginning first bytes) (world_opens o first bytes was.opening) at life before after outcome text (record { shows = was.shows; device = was.device }) beat in
+      let shows = led.shows in
+      record {
+        later = led.event ∷ life;
+        shown = record { store = was.store; opening = was.opening; fits = (event_fits at call led.event fit led.is_at, was.fits); shows = shows.shows; device = shows.device };
+      }
+
+  beat_of_on : (life : List Event) (call : ActorCall) (at : Stage) (before after : PlayerState D) (outcome : Outcome) (text : List ℕ) (missing : Option ℕ) → Shown life before → ItsNumbersFit call
+      → IsBeatOf engine call at before after outcome text missing → IsOn after
+  beat_of_on life call at before after outcome text (Some number) was fit refused = record { later = life; shown = subst (Shown life) (sym refused.0) was }
+  beat_of_on life call at before after outcome text None was fit beat = beat_on Whole life call at before after outcome text was fit beat
+
+  record GoneOn (state : GroupState D) : Type 0 where
+    on : IsOn state.player
+    fit : QueuesFit state.queues
+
+  pick_on : (life : List Event) (at : ℕ) (before after : GroupState D) (struck : Bool) (text : List ℕ) → Shown life before.player → QueuesFit before.queues → IsPick engine at before after struck text → GoneOn after
+  pick_on life at before after struck text was fit pick =
+      let its = queue_at before.queues at pick.queue fit pick.stands in
+      record {
+        on = beat_of_on life pick.call pick.stage before.player after.player pick.outcome text (missing_session before.player.seats pick.call) was
+            (step_fits pick.queue.hand pick.queue.left pick.call pick.stage its.0 its.1 pick.has_step) pick.beat;
+        fit = subst QueuesFit (sym pick.queues)
+            (queues_set before.queues at (queue_behind pick.outcome (held pick.queue)) fit (behind_fits pick.outcome (held pick.queue) (held_fits pick.queue.rank pick.queue.hand pick.queue.left its.0 its.1)));
+      }
+
+  picks_on : (picks : List ℕ) (life : List Event) (before after : GroupState D) (struck : Bool) (text : List ℕ) → Shown life before.player → QueuesFit before.queues → InTurn (IsPick engine) false picks before after struck text → GoneOn after
+  picks_on [] life before after struck text was fit played = record { on = record { later = life; shown = subst (λ (x : GroupState D). Shown life x.player) (sym played.0) was }; fit = subst (λ (x : GroupState D). QueuesFit x.queues) (sym played.0) fit }
+  picks_on (at ∷ []) life before after struck text was fit played = pick_on life at before after struck text was fit played
+  picks_on (at ∷ next ∷ later) life before after struck text was fit played =
+      let one : GoneOn played.0 = pick_on life at before played.0 false played.1 was fit played.3 in
+      let on = one.on in
+      picks_on (next ∷ later) on.later played.0 after struck played.2 on.shown one.fit played.4
+
+  -- ---- a finish
+  beats_gone : (telling : Telling) (count : ℕ) (life : List Event) (call : ActorCall) (at : Stage) (before after : PlayerState D) (outcome : Outcome) (text : List ℕ) → Shown life before → ItsNumbersFit call
+      → InTurn (IsBeat engine telling call) GoesOn (at ∷ replicate count stage.Moves) before after outcome text → IsOn after
+  beats_gone telling zero life call at before after outcome text was fit beat = beat_on telling life call at before after outcome text was fit beat
+  beats_gone telling (suc count) life call at before after outcome text was fit beats =
+      let one : IsOn beats.0 = beat_on telling life call at before beats.0 GoesOn beats.1 was fit beats.3 in
+      beats_gone telling count one.later call stage.Moves beats.0 after outcome beats.2 one.shown fit beats.4
+
+  calls_gone : (calls : List ActorCall) (life : List Event) (before after : PlayerState D) (outcome : Outcome) (text : List ℕ) → Shown life before → AreFitting calls → InTurn (IsPlayedAlone engine Finished) Answered calls before after outcome text → IsOn after
+  calls_gone [] life before after outcome text was fit played = record { later = life; shown = subst (Shown life) (sym played.0) was }
+  calls_gone (call ∷ []) life before after outcome text was fit played = beats_gone Finished played.moves life call stage.Begins before after outcome text was fit.0 played.beats
+  calls_gone (call ∷ next ∷ later) life before after outcome text was fit played =
+      let first_one = played.3 in
+      let one : IsOn played.0 = beats_gone Finished first_one.moves life call stage.Begins before played.0 Answered played.1 was fit.0 first_one.beats in
+      calls_gone (next ∷ later) one.later played.0 after outcome played.2 one.shown fit.1 played.4
+
+  finish_gone : (its : Phase) (life : List Event) (before after : PlayerState D) (outcome : Outcome) (text : List ℕ) → Shown life before → IsFinishIn engine its before after outcome text → IsOn after
+  finish_gone phase.Rest life before after outcome text was finish = record { later = life; shown = subst (Shown life) (sym finish.0) was }
+  finish_gone other life before after outcome text was finish =
+      calls_gone (take finish.count (rounds most_rounds (round_of before.seats))) life before after outcome finish.said was
+      (take_fits finish.count (rounds most_rounds (round_of before.seats)) (rounds_fit most_rounds (round_of before.seats) (round_fits before.seats))) finish.calls
+
+pub finishes_go_on : {D : Type 0} (seen : D → List ℕ) (may_leave : D → List ℕ → Type 0) (engine : events.Event → WorldModel D → WorldModel D → Option tells.Told → Bool → Type 0) → LeadsLives seen may_leave engine → FinishesGoOn seen may_leave engine
+finishes_go_on seen may_leave engine leads bytes o first life before after outcome text was finish =
+    let on = finish_gone seen may_leave engine leads bytes o first (phase_shown before.world.now).0 life before after outcome text was finish in
+    record { later = on.later; shown = on.shown; fit = tt }
+
+pub groups_go_on : {D : Type 0} (seen : D → List ℕ) (may_leave : D → List ℕ → Type 0) (engine : events.Event → WorldModel D → WorldModel D → Option tells.Told → Bool → Type 0) → LeadsLives seen may_leave engine → GroupsGoOn seen may_leave engine
+groups_go_on seen may_leave engine leads bytes o first life before after queues left struck text was fit group =
+    let gone = picks_on seen may_leave engine leads bytes o first group.picks life (record { player = before; queues = queues }) (record { player = after; queues = group.last }) struck text was fit group.played in
+    let on = gone.on in
+    record { later = on.later; shown = on.shown; fit = subst QueuesFit (sym group.queues) (queues_left struck group.last gone.fit) }
+
+pub quiet_shown : {D : Type 0} (seen : D → List ℕ) (may_leave : D → List ℕ → Type 0) → QuietLivesAreShown seen may_leave
+quiet_shown seen may_leave bytes o first life player over =
+    let quiet = over.quiet in
+    (record { store = quiet.store; opening = quiet.opening; fits = quiet.fits; shows = quiet.shows; device = over.device }, quiet.few)

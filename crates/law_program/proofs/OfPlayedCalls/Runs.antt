@@ -1,0 +1,231 @@
+-- A run goes on piece by piece, in the life in hand or behind a crash in the next one.
+use Rattle.std.proofs.Common.{◌≡◌, ◌∙◌, ◌⊎◌, ◌+◌, ◌-◌, ◌^◌, ◌<◌, ℕ, zero, suc, List, [], ◌∷◌, ◌++◌, Bool, true, false, ap, arith, inl, inr, length, map, refl, sym, subst}
+use Rattle.std.specs.Prelude.{Option, Some, None, slice_get}
+use Rattle.std.proofs.lemmas.List.{append-nil}
+use Rattle.fkv_epoch.proofs.Shown.{none_some, some_same}
+use Rattle.fkv_playing.specs.Finishes.{most_rounds, round_of, rounds}
+use Rattle.fkv_playing.specs.Groups.{GroupState, IsGroup, is_struck_by}
+use Rattle.fkv_playing.specs.Players.{PlayerState}
+use Rattle.fkv_playing.specs.Queues.{AreQueuesOf, NobodyHasSteps, QueueState, given_up, next_step, step_of}
+use Rattle.fkv_playing.specs.declared.calls.ActorCall.{ActorCall}
+use Rattle.fkv_playing.specs.declared.calls.ActorCall.TheVariants.{Session, Commit, Turn}
+use Rattle.fkv_playing.specs.declared.calls.Outcome.{Outcome}
+use Rattle.fkv_playing.specs.declared.calls.Outcome.TheVariants.{Answered, Closed, GoesOn, Struck}
+use Rattle.fkv_playing.specs.declared.calls.Stage.TheVariants as stage
+use Rattle.fkv_playing.specs.declared.calls.Telling.TheVariants.{Whole}
+use Rattle.fkv_runs.specs.Crashes.{IsRefusal}
+use Rattle.fkv_runs.specs.Openings.{Medium}
+use Rattle.fkv_runs.specs.Runs.{IsCrashed, IsCrashedWhere, IsFinishStruck, IsGroupPlayed, IsLegOf, IsPiece, Prepares, RunState, is_struck_at}
+use Rattle.fkv_runs.specs.declared.pieces.Piece.{Piece}
+use Rattle.fkv_runs.specs.declared.pieces.Piece.TheVariants.{Group, Finish, Crash, CrashAt, FailAt}
+use Rattle.fkv_runs.specs.declared.settings.Settings.{Settings}
+use Rattle.fkv_playing.specs.declared.players.Waits.{Waits}
+use Rattle.fkv_world.specs.World.{Event}
+use Rattle.law_order.specs.Tickets.Few.{calls_in}
+use Rattle.law_program.specs.PlayedCalls.EachLine.{EachLineGoesOn, IsFinishInLife, IsLineInLife, IsPlayedInLife, IsRefusedLine, ItsNumbersFit}
+use Rattle.law_program.specs.PlayedCalls.Lives.{CrashesGoOn}
+use Rattle.law_program.specs.PlayedCalls.Runs.{ArmsInLife, HasFewWith, IsPieceInLives, IsPlain, IsReported, IsShown, LifeInHand, RunsGoOn}
+use Rattle.law_program.proofs.OfPlayedCalls.Calm.{unstruck_group}
+use Rattle.law_program.proofs.OfPlayedCalls.EachLine.{begun_counted}
+use Rattle.law_program.proofs.OfPlayedCalls.OneCall.{EndsSilently, HasOneCall, first_call, none_played, struck_silent}
+
+-- ---- the queues that a crash gives up
+step_given_up : (hand : Option ActorCall) (left : List ActorCall) → step_of hand left ≡ None → step_of None left ≡ None
+step_given_up None left none = none
+step_given_up (Some call) left none = none_some (call, stage.Moves) (sym none)
+
+mapped : (queues : List QueueState) (at : ℕ) (queue : QueueState) → slice_get (map given_up queues) at ≡ Some queue → (was : QueueState) × (slice_get queues at ≡ Some was) × (queue ≡ given_up was)
+mapped [] at queue found = cc
+mapped (was ∷ later) zero queue found = (was, refl, sym (some_same _ _ found))
+mapped (was ∷ later) (suc at) queue found = mapped later at queue found
+
+none_given_up : (queues : List QueueState) → NobodyHasSteps queues → NobodyHasSteps (map given_up queues)
+none_given_up queues nobody = λ at queue found. let was = mapped queues at queue found in ap next_step was.2 ∙ step_given_up was.0.hand was.0.left (nobody at was.0 was.1)
+
+same_struck : (outcome : Outcome) → is_struck_at outcome ≡ is_struck_by outcome
+same_struck Struck = refl
+same_struck GoesOn = refl
+same_struck Answered = refl
+same_struck Closed = refl
+
+-- a line that is refused leaves the player
+refused_same : {D : Type 0} (one : ActorCall) (before after : PlayerState D) (text : List ℕ) → IsRefusedLine one before after text → after ≡ before
+refused_same (Session number asked) before after text refused = refused.0
+refused_same (Commit kind) before after text refused = absurd refused
+refused_same Turn before after text refused = absurd refused
+
+both_ways : {X : Type 0} (over : Bool) → over ≡ false → over ≡ true → X
+both_ways over goes stops = let never : false ≡ true = sym goes ∙ stops in cc
+
+module _ {D : Type 0} (seen : D → List ℕ) (may_leave : D → List ℕ → Type 0) (medium : Medium D) (settings : Settings) (each : EachLineGoesOn seen may_leave medium.engine) (crashes : CrashesGoOn seen may_leave medium.holds)
+    (arms : ArmsInLife seen may_leave medium.armed) where
+  -- ---- a crash is reported
+  record IsCrashSeen (after : PlayerState D) (over : Bool) (text : List ℕ) : Type 0 where
+    next : LifeInHand
+    crash : IsReported seen may_leave medium settings next after over text
+
+  crash_seen : (its : LifeInHand) (before after : RunState D) (over : Bool) (text : List ℕ) → IsCrashed medium settings before after over text → IsCrashSeen after.player over text
+  crash_seen its before after over text crashed = by_over over refl
+    where
+      by_over : (c : Bool) → over ≡ c → IsCrashSeen after.player over text
+      by_over true e = record {
+        next = its;
+        crash = record { device = before.player.world.device; goes_on = λ goes. both_ways over goes e; ends = λ stops. crashed.refusal stops };
+      }
+      by_over false e =
+          let crash = crashed.crash e in
+          let report = crashes (medium.image before.player.world.device settings.torn) settings.checks crash.0 before.player after.player text crash.1 in
+          record {
+            next = record { bytes = medium.image before.player.world.device settings.torn; opened = report.opened; first = after.player.world.now; events = [] };
+            crash = record { device = before.player.world.device; goes_on = λ goes. (crash.0, report, refl); ends = λ stops. both_ways over e stops };
+          }
+
+  -- ---- a group of one call
+  record GroupGoesOn (one : ActorCall) (its : LifeInHand) (before after : PlayerState D) (over : Bool) (text : List ℕ) : Type 0 where
+    goes_on : over ≡ false
+    events : List Event
+    says : ((events ≡ its.events) × IsRefusedLine one before after text) ⊎ IsPlayedInLife seen may_leave Whole one its.bytes its.opened its.first its.events events before after text
+    shown : IsShown seen may_leave (record { bytes = its.bytes; opened = its.opened; first = its.first; events = events }) after
+
+  group_unstruck : (items : List ActorCall) (one : ActorCall) → items ≡ one ∷ [] → ItsNumbersFit one → (its : LifeInHand) (before after : RunState D) (over : Bool) (text : List ℕ) → IsShown seen may_leave its before.player
+      → calls_in its.events + 1 < 2 ^ 64 - 1 → (played : IsGroupPlayed medium settings items before after over text) → played.leg.struck ≡ false → GroupGoesOn one its before.player after.player over text
+  group_unstruck items one is fit its before after over text shown few played none =
+      let group = unstruck_group medium settings items before after over text played none in
+      let more = begun_counted one its.events in
+      by_line group.goes_on
+      (each.calls its.bytes its.opened its.first its.events one group.queues group.left before.player after.player text shown fit (omega (arith, few, more)) (subst (λ (x : List ActorCall). AreQueuesOf x group.queues) is group.are_queues) group.group)
+    where
+      by_line : over ≡ false → IsRefusedLine one before.player after.player text ⊎ IsLineInLife seen may_leave one its.bytes its.opened its.first its.events before.player after.player text → GroupGoesOn one its before.player after.player over text
+      by_line goes (inl refused) =
+          record { goes_on = goes; events = its.events; says = inl (refl, refused); shown = subst (IsShown seen may_leave its) (sym (refused_same one before.player after.player text refused)) shown }
+      by_line goes (inr line) = record { goes_on = goes; events = line.later; says = inr line.played; shown = line.played.goes_on }
+
+  group_struck : (items : List ActorCall) (one : ActorCall) → items ≡ one ∷ [] → (its : LifeInHand) (before after : RunState D) (over : Bool) (text : List ℕ)
+      → (played : IsGroupPlayed medium settings items before after over text) → played.leg.struck ≡ true → IsCrashSeen after.player over text
+  group_struck items one is its before after over text played struck = by_over over refl
+    where
+      part : IsGroup medium.engine (record { player = before.player; queues = played.queues }) (record { player = played.leg.player; queues = played.left }) true played.leg.said
+      part = subst (λ (x : Bool). IsGroup medium.engine (record { player = before.player; queues = played.queues }) (record { player = played.leg.player; queues = played.left }) x played.leg.said) struck played.leg.part
+
+      place : (at : ℕ) × HasOneCall stage.Begins one at played.queues
+      place = first_call one played.queues (subst (λ (x : List ActorCall). AreQueuesOf x played.queues) is played.are_queues)
+
+      ends : EndsSilently medium.engine one (record { player = played.leg.player; queues = part.last }) played.leg.said
+      ends = struck_silent medium.engine one part.picks stage.Begins place.0 (record { player = before.player; queues = played.queues }) (record { player = played.leg.player; queues = part.last }) played.leg.said place.1 part.played
+
+      nobody : NobodyHasSteps played.left
+      nobody = subst NobodyHasSteps (sym part.queues) (none_given_up part.last ends.none_left)
+
+      crashed : IsCrashed medium settings (record before { player = played.leg.player }) played.between over played.leg.reported
+      crashed = subst (λ (x : Bool). IsCrashedWhere x medium settings (record before { player = played.leg.player }) played.between over played.leg.reported) struck played.leg.crashed
+
+      says : played.rest ≡ [] → text ≡ played.leg.reported
+      says none =
+          played.says ∙ (ap (λ (x : List ℕ). played.first ++ x) none ∙ (append-nil played.first ∙ (played.leg.says ∙ ap (λ (x : List ℕ). x ++ played.leg.reported) ends.silent)))
+
+      by_over : (c : Bool) → over ≡ c → IsCrashSeen after.player over text
+      by_over true e = record {
+        next = its;
+        crash = record {
+          device = played.leg.player.world.device;
+          goes_on = λ goes. both_ways over goes e;
+          ends = λ stops. subst (IsRefusal (medium.image played.leg.player.world.device settings.torn)) (sym (says (played.ends e))) (crashed.refusal e);
+        };
+      }
+      by_over false e =
+          let behind = played.goes_on e in
+          let stays = none_played medium.engine behind.1.picks (record { player = played.between.player; queues = played.left }) (record { player = after.player; queues = behind.1.last }) played.rest nobody behind.1.played in
+          let there = crash_seen its (record before { player = played.leg.player }) played.between over played.leg.reported crashed in
+          record {
+            next = there.next;
+            crash =
+                subst (IsReported seen may_leave medium settings there.next after.player over) (sym (says stays.1))
+                (subst (λ (x : PlayerState D). IsReported seen may_leave medium settings there.next x over played.leg.reported) (sym (ap (λ (x : GroupState D). x.player) stays.0)) there.crash);
+          }
+
+  -- ---- a piece
+  -- where it goes, and what it says
+  record PieceGoesOn (piece : Piece) (its : LifeInHand) (before after : RunState D) (over : Bool) (text : List ℕ) : Type 0 where
+    next : LifeInHand
+    says : IsPieceInLives seen may_leave medium settings piece its next before after over text
+
+  finish_unstruck : (its : LifeInHand) (before after : RunState D) (over : Bool) (text : List ℕ) → IsShown seen may_leave its before.player → calls_in its.events + length (rounds most_rounds (round_of before.player.seats)) < 2 ^ 64 - 1
+      → (leg : IsLegOf (IsFinishStruck medium) medium settings before after over text) → leg.struck ≡ false → PieceGoesOn Finish its before after over text
+  finish_unstruck its before after over text shown few leg none =
+      let stays = subst (λ (x : Bool). IsCrashedWhere x medium settings (record before { player = leg.player }) after over leg.reported) none leg.crashed in
+      let calm : is_struck_by leg.part.0 ≡ false = sym (same_struck leg.part.0) ∙ (sym leg.part.2 ∙ none) in
+      let finish = each.finishes its.bytes its.opened its.first its.events before.player leg.player leg.part.0 leg.said shown few leg.part.1 calm in
+      let text_so : leg.said ≡ text = sym (leg.says ∙ (ap (λ (x : List ℕ). leg.said ++ x) stays.2 ∙ append-nil leg.said)) in
+      let here : IsFinishInLife seen may_leave its.bytes its.opened its.first its.events before.player after.player text
+      = subst (IsFinishInLife seen may_leave its.bytes its.opened its.first its.events before.player after.player) text_so
+      (subst (λ (x : PlayerState D). IsFinishInLife seen may_leave its.bytes its.opened its.first its.events before.player x leg.said) (ap (λ (x : RunState D). x.player) (sym stays.0)) finish) in
+      record {
+        next = record { bytes = its.bytes; opened = its.opened; first = its.first; events = here.later };
+        says = inl (record { goes_on = stays.1; events = here.later; same_life = refl; says = (here, refl); shown = here.goes_on });
+      }
+
+  finish_struck : (its : LifeInHand) (before after : RunState D) (over : Bool) (text : List ℕ) → IsShown seen may_leave its before.player → calls_in its.events + length (rounds most_rounds (round_of before.player.seats)) < 2 ^ 64 - 1
+      → (leg : IsLegOf (IsFinishStruck medium) medium settings before after over text) → leg.struck ≡ true → PieceGoesOn Finish its before after over text
+  finish_struck its before after over text shown few leg struck =
+      let crashed = subst (λ (x : Bool). IsCrashedWhere x medium settings (record before { player = leg.player }) after over leg.reported) struck leg.crashed in
+      let strikes : is_struck_by leg.part.0 ≡ true = sym (same_struck leg.part.0) ∙ (sym leg.part.2 ∙ struck) in
+      let there = crash_seen its (record before { player = leg.player }) after over leg.reported crashed in
+      record {
+        next = there.next;
+        says =
+            inr (record {
+              said = leg.said;
+              reported = leg.reported;
+              up_to = each.struck_finishes its.bytes its.opened its.first its.events before.player leg.player leg.part.0 leg.said shown few leg.part.1 strikes;
+              crash = there.crash;
+              says = leg.says;
+            });
+      }
+
+  prepared : (piece : Piece) (its : LifeInHand) (before after : RunState D) (count : ℕ) (waits : Waits) (over : Bool) (text : List ℕ) → IsShown seen may_leave its before.player → Prepares medium count waits before after over text
+      → IsShown seen may_leave its after.player
+  prepared piece its before after count waits over text shown its_line = arms count waits its before.player after.player its_line.armed shown
+
+  piece_goes_on : (piece : Piece) (its : LifeInHand) (before after : RunState D) (over : Bool) (text : List ℕ) → IsShown seen may_leave its before.player → IsPlain piece → HasFewWith piece its before.player
+      → IsPiece medium settings piece before after over text → PieceGoesOn piece its before after over text
+  piece_goes_on (Group calls) its before after over text shown plain few played = by_struck played.leg.struck refl
+    where
+      by_struck : (c : Bool) → played.leg.struck ≡ c → PieceGoesOn (Group calls) its before after over text
+      by_struck false none =
+          let group = group_unstruck calls.items plain.0 plain.1 plain.2 its before after over text shown few played none in
+          record {
+            next = record { bytes = its.bytes; opened = its.opened; first = its.first; events = group.events };
+            says = inl (record { goes_on = group.goes_on; events = group.events; same_life = refl; says = (plain.0, plain.1, group.says); shown = group.shown });
+          }
+      by_struck true struck =
+          let there = group_struck calls.items plain.0 plain.1 its before after over text played struck in
+          record { next = there.next; says = inr (record { said = []; reported = text; up_to = refl; crash = there.crash; says = refl }) }
+  piece_goes_on Finish its before after over text shown plain few leg = by_struck leg.struck refl
+    where
+      by_struck : (c : Bool) → leg.struck ≡ c → PieceGoesOn Finish its before after over text
+      by_struck false none = finish_unstruck its before after over text shown few leg none
+      by_struck true struck = finish_struck its before after over text shown few leg struck
+  piece_goes_on Crash its before after over text shown plain few crashed =
+      let there = crash_seen its before after over text crashed in
+      record { next = there.next; says = inr (record { said = []; reported = text; up_to = refl; crash = there.crash; says = refl }) }
+  piece_goes_on (CrashAt count) its before after over text shown plain few line = record {
+    next = record { bytes = its.bytes; opened = its.opened; first = its.first; events = its.events };
+    says = inl (record { goes_on = line.goes_on; events = its.events; same_life = refl; says = (refl, line.silent); shown = prepared (CrashAt count) its before after _ _ over text shown line });
+  }
+  piece_goes_on (FailAt count) its before after over text shown plain few line = record {
+    next = record { bytes = its.bytes; opened = its.opened; first = its.first; events = its.events };
+    says = inl (record { goes_on = line.goes_on; events = its.events; same_life = refl; says = (refl, line.silent); shown = prepared (FailAt count) its before after _ _ over text shown line });
+  }
+
+  -- ---- one behind the other
+  shown_behind : (piece : Piece) (its next : LifeInHand) (before after : RunState D) (text : List ℕ) → IsPieceInLives seen may_leave medium settings piece its next before after false text → IsShown seen may_leave next after.player
+  shown_behind piece its next before after text (inl goes) = goes.shown
+  shown_behind piece its next before after text (inr ends) =
+      let crash = ends.crash.goes_on refl in subst (λ (x : LifeInHand). IsShown seen may_leave x after.player) (sym crash.2) crash.1.begins
+
+  pub runs_go_on : RunsGoOn seen may_leave medium settings
+  runs_go_on [] its before after over text shown plain played = played
+  runs_go_on (piece ∷ []) its before after over text shown plain played = λ few. let one = piece_goes_on piece its before after over text shown plain.0 few played in (one.next, one.says)
+  runs_go_on (piece ∷ other ∷ later) its before after over text shown plain played = λ few.
+      let one = piece_goes_on piece its before played.0 false played.1 shown plain.0 few played.3 in
+      (one.next, played.0, played.1, played.2, one.says, runs_go_on (other ∷ later) one.next played.0 after over played.2 (shown_behind piece its one.next before played.0 played.1 one.says) plain.1 played.4, played.5)

@@ -1,0 +1,71 @@
+-- A life goes on by whatever beats of calls, interleaved ones too.
+use Rattle.std.specs.Prelude.{◌≡◌, ⊤, ℕ, Bool, List, [], ◌∷◌, Option, Some, None}
+use Rattle.fkv_core.specs.Openings.{IsOpeningWorld, beginning}
+use Rattle.fkv_core.specs.Worlds.{WorldModel}
+use Rattle.fkv_core.specs.declared.events.Event as events
+use Rattle.fkv_core.specs.declared.events.Told as tells
+use Rattle.fkv_disk.specs.Device.{IsAfter}
+use Rattle.fkv_opening.specs.Opened.{IsStoreOf}
+use Rattle.fkv_opening.specs.declared.opened_store.Opened.{Opened}
+use Rattle.fkv_playing.specs.Finishes.{IsFinish}
+use Rattle.fkv_playing.specs.Groups.{IsGroup}
+use Rattle.fkv_playing.specs.Players.{PlayerState}
+use Rattle.fkv_playing.specs.Queues.{AreQueuesOf, QueueState}
+use Rattle.fkv_playing.specs.declared.calls.ActorCall.{ActorCall}
+use Rattle.fkv_playing.specs.declared.calls.Outcome.{Outcome}
+use Rattle.fkv_world.specs.Runs.{run}
+use Rattle.fkv_world.specs.World.{Event, Now}
+use Rattle.law_order.specs.Served.Fits.{CallsFit}
+use Rattle.law_order.specs.Tickets.Few.{HasFewCalls}
+use Rattle.law_program.specs.PlayedCalls.EachLine.{IsLifeOver, ItsNumbersFit}
+
+-- A life of a store that these bytes hold shows the player's world and its device, whatever calls are in hand.
+pub record IsLifeShown {D : Type 0} (seen : D → List ℕ) (may_leave : D → List ℕ → Type 0) (bytes : List ℕ) (o : Opened) (first : Now) (life : List Event) (player : PlayerState D) : Type 0 where
+  pub store : IsStoreOf bytes o
+  pub opening : IsOpeningWorld o first
+  pub fits : CallsFit life
+  pub shows : (run (beginning first bytes) life).now ≡ player.world.now
+  pub device : IsAfter (run (beginning first bytes) life).past.opened (run (beginning first bytes) life).past.calls (seen player.world.device) (may_leave player.world.device)
+
+-- so does one in which no call is in hand
+abbrev pub QuietLivesAreShown : {D : Type 0} → (D → List ℕ) → (D → List ℕ → Type 0) → Type 0
+QuietLivesAreShown {D} seen may_leave =
+    (bytes : List ℕ) (o : Opened) (first : Now) (life : List Event) (player : PlayerState D) → IsLifeOver seen may_leave bytes o first life player → IsLifeShown seen may_leave bytes o first life player × HasFewCalls life
+
+-- these calls are of numbers below 2^64
+abbrev pub AreFitting : List ActorCall → Type 0
+AreFitting [] = ⊤
+AreFitting (call ∷ later) = ItsNumbersFit call × AreFitting later
+
+abbrev pub HandFits : Option ActorCall → Type 0
+HandFits None = ⊤
+HandFits (Some call) = ItsNumbersFit call
+
+-- so are those that queues have in hand and left
+abbrev pub QueuesFit : List QueueState → Type 0
+QueuesFit [] = ⊤
+QueuesFit (queue ∷ others) = (HandFits queue.hand × AreFitting queue.left) × QueuesFit others
+
+-- The life has gone on, and shows the player behind the beats. The calls that are left fit as well.
+pub record HasGoneOn {D : Type 0} (seen : D → List ℕ) (may_leave : D → List ℕ → Type 0) (bytes : List ℕ) (o : Opened) (first : Now) (after : PlayerState D) (left : List QueueState) : Type 0 where
+  pub later : List Event
+  pub shown : IsLifeShown seen may_leave bytes o first later after
+  pub fit : QueuesFit left
+
+-- so it does by a group of calls, up to its end or to a crash
+abbrev pub GroupsGoOn : {D : Type 0} → (D → List ℕ) → (D → List ℕ → Type 0) → (events.Event → WorldModel D → WorldModel D → Option tells.Told → Bool → Type 0) → Type 0
+GroupsGoOn {D} seen may_leave engine =
+    (bytes : List ℕ) (o : Opened) (first : Now) (life : List Event) (before after : PlayerState D) (queues left : List QueueState) (struck : Bool) (text : List ℕ)
+    → IsLifeShown seen may_leave bytes o first life before → QueuesFit queues
+    → IsGroup engine (record { player = before; queues = queues }) (record { player = after; queues = left }) struck text
+    → HasGoneOn seen may_leave bytes o first after left
+
+-- the queues with which a group begins
+abbrev pub FittingCallsMakeQueues : Type 0
+FittingCallsMakeQueues = (calls : List ActorCall) (queues : List QueueState) → AreFitting calls → AreQueuesOf calls queues → QueuesFit queues
+
+-- and by each finish
+abbrev pub FinishesGoOn : {D : Type 0} → (D → List ℕ) → (D → List ℕ → Type 0) → (events.Event → WorldModel D → WorldModel D → Option tells.Told → Bool → Type 0) → Type 0
+FinishesGoOn {D} seen may_leave engine =
+    (bytes : List ℕ) (o : Opened) (first : Now) (life : List Event) (before after : PlayerState D) (outcome : Outcome) (text : List ℕ)
+    → IsLifeShown seen may_leave bytes o first life before → IsFinish engine before after outcome text → HasGoneOn seen may_leave bytes o first after []
