@@ -1,0 +1,51 @@
+-- The numbers that a call goes by, as those of its course.
+use Rattle.std.proofs.Common.{◌≡◌, ℕ, ◌+◌, ◌<◌, ◌≤◌, ◌*◌, ◌^◌, refl, sym, ap, ◌∙◌, subst, arith, Bool, true, false}
+use Rattle.std.specs.Prelude.{◌&&◌, not, nat_le, nat_lt, Option, None}
+use Rattle.std.proofs.lemmas.Bool.Decides.{nat_tests}
+use Rattle.fkv_base.specs.declared.faults.Fault.{Fault}
+use Rattle.fkv_base.specs.declared.numbers.Key.{Key}
+use Rattle.fkv_map.specs.declared.operations.Op.{Op}
+use Rattle.fkv_map.specs.Keys.{key_of}
+use Rattle.fkv_plane.specs.declared.asks.Ask.{Ask}
+use Rattle.fkv_plane.specs.declared.places.Places.{Places}
+use Rattle.fkv_plane.specs.declared.places.RecordWord.{RecordWord}
+use Rattle.fkv_plane.specs.Places.{bucket_place, record_place}
+use Rattle.fkv_index.specs.declared.homes.Home.{Home}
+use Rattle.fkv_index.specs.Finding.{spare_of}
+use Rattle.fkv_index.specs.Slots.{home_of}
+use Rattle.fkv_ops.specs.Requests.{is_read}
+use Rattle.fkv_session.specs.declared.answers.Told.{Told}
+use Rattle.fkv_session.specs.Sessions.{Seat, SessionState, refusal_of, bits_of}
+use Rattle.fkv_session.specs.Alike.{lasting}
+use Rattle.fkv_straight.specs.declared.going.Going.{Going}
+use Rattle.fkv_straight.specs.Course.{Course, course_of, home_in, head_in, refusal_in, Goes}
+use Rattle.fkv_straight.specs.Memory.{is_in_memory}
+use Rattle.fkv_straight.specs.Met.{IsInMemory}
+use Rattle.fkv_straight.specs.Standing.{asked, leads}
+
+-- the seat of a line is that of the course
+pub asks_at : (c : Course) (q : Seat) (s : SessionState) (ask : Ask Told) → c.seat ≡ q → asked c.seat s ≡ ask → asked q s ≡ ask
+asks_at c q s ask e h = subst (λ (x : Seat). asked x s ≡ ask) e h
+
+pub leads_at : (c : Course) (q : Seat) (s u : SessionState) (reply : ℕ) → c.seat ≡ q → u ≡ leads q s reply → u ≡ leads c.seat s reply
+leads_at c q s u reply e h = h ∙ ap (λ (x : Seat). leads x s reply) (sym e)
+
+pub refusal_is : (k : Seat) (s : SessionState) (op : Op) → refusal_of s op ≡ refusal_in (course_of k s op)
+unfolding lasting
+refusal_is k s op = refl
+
+pub spare_same : (p : Places) (spare : ℕ) → spare ≤ p.overflow → spare_of p spare ≡ spare
+spare_same p spare fits = let h : nat_le spare p.overflow ≡ true = grind (arith, nat_tests) in rw h refl
+
+pub home_is : (c : Course) (k : Seat) (op : Op) (g : Going) (h : Home) (key : Key) → Goes c k op g → key ≡ key_of op → h ≡ home_of g.bits key → h ≡ home_in c
+home_is c k op g h key goes its e = e ∙ (ap (λ (x : Key). home_of g.bits x) (its ∙ ap (λ (x : Op). key_of x) (sym goes.its_op)) ∙ ap (λ (b : ℕ). home_of b (key_of c.op)) (sym goes.its_bits))
+
+pub bucket_is : (c : Course) (k : Seat) (op : Op) (g : Going) (h : Home) (key : Key) (base : ℕ) → Goes c k op g → key ≡ key_of op → h ≡ home_of g.bits key → base ≡ bucket_place g.places h.bucket 0 → bucket_place c.seat.places (home_in c).bucket 0 ≡ base
+bucket_is c k op g h key base goes its e b =
+    ap (λ (p : Places). bucket_place p (home_in c).bucket 0) goes.its_places ∙ (ap (λ (x : Home). bucket_place g.places x.bucket 0) (sym (home_is c k op g h key goes its e)) ∙ sym b)
+
+pub record_is : (c : Course) (k : Seat) (op : Op) (g : Going) (addr at : ℕ) (word : RecordWord) → Goes c k op g → at ≡ record_place g.places addr word → record_place c.seat.places addr word ≡ at
+record_is c k op g addr at word goes e = ap (λ (p : Places). record_place p addr word) goes.its_places ∙ sym e
+
+pub memory_is : (c : Course) (k : Seat) (op : Op) (g : Going) (addr : ℕ) (b : Bool) → Goes c k op g → b ≡ is_in_memory g.places.ring g.head addr → b ≡ true → IsInMemory c addr
+memory_is c k op g addr b goes e holds = ap (λ (p : Places). is_in_memory p.ring (head_in c) addr) goes.its_places ∙ (ap (λ (n : ℕ). is_in_memory g.places.ring n addr) goes.its_head ∙ (sym e ∙ holds))

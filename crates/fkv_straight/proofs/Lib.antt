@@ -1,0 +1,10 @@
+mod Appends
+mod Changes
+mod Copies
+mod Goings
+mod Moves
+mod Reads
+mod Replays
+mod Seeks
+mod Tests
+mod Walks
