@@ -3,7 +3,7 @@ mod Changes
 mod Copies
 mod Goings
 mod Moves
-mod Reads
+mod ReadEnds
 mod Replays
 mod Seeks
 mod Tests

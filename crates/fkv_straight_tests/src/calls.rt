@@ -1,0 +1,141 @@
+//! Seeded calls of all five operations, in every phase, with full buckets, long chains, and records below each of the offsets.
+use crate::pairs::{PHASE, Pair, TAIL};
+use fkv_base::{Fault, Key, Shape, Value};
+use fkv_index::home_of;
+use fkv_map::{Call, Op};
+use std::alloc::Global;
+use std::process::Abort;
+use std::test::Fail;
+
+/// Numbers from a seed.
+#[derive(Drop)]
+struct Seeded(u64);
+
+impl Seeded {
+    fn next(&mut self) -> u64 {
+        self.0 = self
+            .0
+            .wrapping_mul(6364136223846793005)
+            .wrapping_add(1442695040888963407);
+        self.0 >> 33
+    }
+
+    fn below(&mut self, count: u64) -> u64 {
+        if count == 0 {
+            return 0;
+        }
+        self.next() % count
+    }
+
+    fn op(&mut self, key: Key) -> Op {
+        let n = self.below(50);
+        match self.below(10) {
+            0 | 1 => Op::Upsert(key, Value(n)),
+            2 => Op::Delete(key),
+            3 | 4 => Op::Add(key, n),
+            5 => Op::Max(key, n),
+            _ => Op::Read(key),
+        }
+    }
+}
+
+/// Keys of one home, where the index has so many bits.
+fn keys_of_one_home(alloc: Global, bits: u64, count: usize) -> Result<Vec<Key>, Fault> {
+    let mut keys = Vec::new(alloc);
+    let home = home_of(Key(0), bits);
+    for n in 0..2000000 {
+        if keys.len() >= count {
+            return Ok(keys);
+        }
+        if home_of(Key(n), bits) == home {
+            keys.push(Key(n))?;
+        }
+    }
+    Ok(keys)
+}
+
+/// The phases of a commit in order, with the version that a session is in.
+fn phase_word(round: u64) -> u64 {
+    let version = 1 + round / 5 % 1000;
+    match round % 5 {
+        0 => version,
+        1 => version + (1 << 16),
+        2 => version + 1 + (2 << 16),
+        3 => version + 1 + (3 << 16),
+        _ => version + 1 + (4 << 16),
+    }
+}
+
+/// The offsets move on behind the tail, as far as a ring of 256 records lets them, and so does the phase, every 120 calls.
+fn moves_on(rt: &impl Abort, pair: &mut Pair, calls: u64) {
+    let tail = pair.words.word(TAIL);
+    let read_only = tail.saturating_sub(20).max(1);
+    let safe = tail.saturating_sub(30).max(1);
+    let head = tail.saturating_sub(100).max(1);
+    let limit = head.saturating_add(200);
+    let phase = phase_word(calls / 120);
+    pair.store(&[
+        (PHASE, phase),
+        (4, limit),
+        (5, read_only),
+        (6, safe),
+        (7, safe),
+        (8, head),
+        (9, head),
+    ]);
+    let alone = pair.alone(Call::Refresh);
+    let beside = pair.begun(Call::Refresh);
+    assert!(rt; alone == beside);
+    assert!(rt; pair.agrees());
+}
+
+fn calls_agree(rt: &impl Abort, pair: &mut Pair, keys: &[Key], seed: u64, count: u64) {
+    let mut seeded = Seeded(seed);
+    for calls in 0..count {
+        if calls % 15 == 0 {
+            moves_on(rt, pair, calls);
+        }
+        let other = Key(1000 + seeded.below(40));
+        let key = match seeded.below(2) {
+            0 => match keys.get(seeded.below(8) as usize) {
+                Some(key) => *key,
+                None => other,
+            },
+            _ => other,
+        };
+        let op = seeded.op(key);
+        let alone = pair.alone(Call::Op(op));
+        let straight = pair.straight(op);
+        assert!(rt; alone == straight, "{op:?} after {calls} calls of {seed}");
+        assert!(rt; alone.is_some());
+        if pair.machine.pending() >= 12 {
+            return;
+        }
+    }
+}
+
+fn stores_agree(rt: &impl Abort, alloc: Global, bits: u64, overflow: u64) -> Result<(), Fault> {
+    let keys = keys_of_one_home(alloc, bits, 8)?;
+    let mut through = 0u64;
+    for seed in 0..60 {
+        let shape = Shape::new(bits, 16, 16, 4, 1, overflow, 60000)?;
+        let mut pair = Pair::new(alloc, shape)?;
+        calls_agree(rt, &mut pair, &keys, seed, 3000);
+        assert!(rt; pair.agrees());
+        through = through.saturating_add(pair.through);
+    }
+    assert!(rt; through > 3000, "{through}");
+    Ok(())
+}
+
+#[test]
+fn calls_in_one_bucket_agree(rt: HostRuntime) -> Result<(), Fail> {
+    stores_agree(&rt, rt.alloc(), 0, 5)?;
+    Ok(())
+}
+
+#[test]
+fn calls_in_many_buckets_agree(rt: HostRuntime) -> Result<(), Fail> {
+    stores_agree(&rt, rt.alloc(), 6, 2)?;
+    Ok(())
+}
