@@ -2,6 +2,7 @@
 use Rattle.std.proofs.Common.{◌≡◌, ℕ, ◌<◌, ◌≤◌, refl, sym, ap, ◌∙◌, subst, arith, Bool, true, false}
 use Rattle.std.specs.Prelude.{◌==◌, ◌&&◌, not, nat_lt, nat_le, if◌then◌else◌, Option, Some, None}
 use Rattle.std.proofs.lemmas.Bool.Decides.{nat_tests}
+use Rattle.fkv_map.specs.declared.operations.Op.{Op}
 use Rattle.fkv_map.specs.Keys.{key_of, reply_from}
 use Rattle.fkv_plane.specs.declared.asks.Ask.TheVariants.{Load}
 use Rattle.fkv_plane.specs.declared.places.RecordWord.TheVariants as rec
@@ -28,9 +29,10 @@ use Rattle.fkv_ops.specs.Values.{value_of}
 use Rattle.fkv_ops.specs.Appending.{AppendState, appending_ask}
 use Rattle.fkv_ops.specs.Trying.{TryState, trying_ask, trying_next, walk_ledto, old_ledto, copies, copies_from, appends, is_moving_on}
 use Rattle.fkv_ops.specs.Walking.{WalkState, reached, walking_ask, walking_next, load_ledto, value_ledto, walking_on}
-use Rattle.fkv_session.specs.Sessions.{SessionState}
+use Rattle.fkv_session.specs.Sessions.{Seat, SessionState}
+use Rattle.fkv_straight.specs.declared.going.Going.{Going}
 use Rattle.fkv_straight.specs.declared.searching.Record.{Record}
-use Rattle.fkv_straight.specs.Course.{Course, head_in, request_in, shares}
+use Rattle.fkv_straight.specs.Course.{Course, head_in, request_in, shares, Goes}
 use Rattle.fkv_straight.specs.Met.{Trail, trying, meeting, holding, finding, walking, judged, append_at, HasKey, IsMet, IsReached, IsAtSafe, HasSafe, IsCopied, IsAtOld, IsAtReserve}
 use Rattle.fkv_straight.specs.Standing.{asked, leads, Tries, IsLed, next_try}
 use Rattle.fkv_straight.proofs.Changes.{MetBy}
@@ -160,3 +162,16 @@ disk_reserves c place entry addr s at some low calm updates blind still =
     let w = ended_at c at.0 place entry at.1 (walked.OnDisk (record { 0 = addr })) in
     (w, stays c (reserving c w place entry None) s
       (subst (λ (t : TryState). IsLed c t s) (leaves_memory c at.0 place entry addr at.1 at.2 (grind (arith, nat_tests)) (grind (arith, nat_tests)) calm updates blind still) at.3) refl refl)
+
+-- ---- the tests, by the numbers that a call goes by
+pub is_high : (c : Course) (k : Seat) (op : Op) (g : Going) (r : Record) → Goes c k op g → g.read_only ≤ r.addr → nat_le c.lasts.seen.offsets.read_only.0 r.addr ≡ true
+is_high c k op g r goes high = let h : c.lasts.seen.offsets.read_only.0 ≤ r.addr = subst (λ (n : ℕ). n ≤ r.addr) (sym goes.its_read_only) high in grind (arith, nat_tests)
+
+pub is_low : (c : Course) (k : Seat) (op : Op) (g : Going) (r : Record) → Goes c k op g → r.addr < g.read_only → nat_le c.lasts.seen.offsets.read_only.0 r.addr ≡ false
+is_low c k op g r goes low = let h : r.addr < c.lasts.seen.offsets.read_only.0 = subst (λ (n : ℕ). r.addr < n) (sym goes.its_read_only) low in grind (arith, nat_tests)
+
+pub is_other : (c : Course) (k : Seat) (op : Op) (g : Going) (r : Record) → Goes c k op g → ¬ (r.version ≡ g.version) → (r.version == (request_in c).version.0) ≡ false
+is_other c k op g r goes other = let h : ¬ (r.version ≡ (request_in c).version.0) = (λ e. other (e ∙ goes.its_version)) in grind (arith, nat_tests, h)
+
+pub is_own : (c : Course) (k : Seat) (op : Op) (g : Going) (r : Record) → Goes c k op g → r.version ≡ g.version → (r.version == (request_in c).version.0) ≡ true
+is_own c k op g r goes own = let h : r.version ≡ (request_in c).version.0 = own ∙ sym goes.its_version in grind (arith, nat_tests)

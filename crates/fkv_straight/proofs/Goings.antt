@@ -1,6 +1,6 @@
 -- The numbers that a call goes by, as those of its course.
 use Rattle.std.proofs.Common.{◌≡◌, ℕ, ◌+◌, ◌<◌, ◌≤◌, ◌*◌, ◌^◌, refl, sym, ap, ◌∙◌, subst, arith, Bool, true, false}
-use Rattle.std.specs.Prelude.{◌&&◌, not, nat_le, nat_lt, Option, None}
+use Rattle.std.specs.Prelude.{◌&&◌, not, nat_le, nat_lt, Option, Some, None, IfSome}
 use Rattle.std.proofs.lemmas.Bool.Decides.{nat_tests}
 use Rattle.fkv_base.specs.declared.faults.Fault.{Fault}
 use Rattle.fkv_base.specs.declared.numbers.Key.{Key}
@@ -13,7 +13,7 @@ use Rattle.fkv_plane.specs.Places.{bucket_place, record_place}
 use Rattle.fkv_index.specs.declared.homes.Home.{Home}
 use Rattle.fkv_index.specs.Finding.{spare_of}
 use Rattle.fkv_index.specs.Slots.{home_of}
-use Rattle.fkv_ops.specs.Requests.{is_read}
+use Rattle.fkv_ops.specs.Requests.{is_read, is_blind}
 use Rattle.fkv_session.specs.declared.answers.Told.{Told}
 use Rattle.fkv_session.specs.Sessions.{Seat, SessionState, refusal_of, bits_of}
 use Rattle.fkv_session.specs.Alike.{lasting}
@@ -49,3 +49,26 @@ record_is c k op g addr at word goes e = ap (λ (p : Places). record_place p add
 
 pub memory_is : (c : Course) (k : Seat) (op : Op) (g : Going) (addr : ℕ) (b : Bool) → Goes c k op g → b ≡ is_in_memory g.places.ring g.head addr → b ≡ true → IsInMemory c addr
 memory_is c k op g addr b goes e holds = ap (λ (p : Places). is_in_memory p.ring (head_in c) addr) goes.its_places ∙ (ap (λ (n : ℕ). is_in_memory g.places.ring n addr) goes.its_head ∙ (sym e ∙ holds))
+
+-- ---- what a line of the same seat is asked for, and where it is led
+pub record_asks : (c : Course) (k : Seat) (op : Op) (g : Going) (addr at : ℕ) (word : RecordWord) (q : Seat) (s : SessionState) (ask : ℕ → Ask Told) → Goes c k op g → q ≡ k → at ≡ record_place g.places addr word
+    → asked c.seat s ≡ ask (record_place c.seat.places addr word) → asked q s ≡ ask at
+record_asks c k op g addr at word q s ask goes same e h = asks_at c q s (ask at) (goes.its_seat ∙ sym same) (h ∙ ap ask (record_is c k op g addr at word goes e))
+
+pub place_asks : (c : Course) (k : Seat) (op : Op) (g : Going) (place at : ℕ) (q : Seat) (s : SessionState) (ask : ℕ → Ask Told) → Goes c k op g → q ≡ k → place ≡ at → asked c.seat s ≡ ask place → asked q s ≡ ask at
+place_asks c k op g place at q s ask goes same e h = asks_at c q s (ask at) (goes.its_seat ∙ sym same) (h ∙ ap ask e)
+
+pub leads_on : (c : Course) (k : Seat) (op : Op) (g : Going) (q : Seat) (s u : SessionState) (reply : ℕ) → Goes c k op g → q ≡ k → u ≡ leads q s reply → u ≡ leads c.seat s reply
+leads_on c k op g q s u reply goes same e = leads_at c q s u reply (goes.its_seat ∙ sym same) e
+
+pub updates_in : (c : Course) (k : Seat) (op : Op) (g : Going) (b : Bool) → Goes c k op g → is_read op ≡ b → is_read c.op ≡ b
+updates_in c k op g b goes e = ap (λ (x : Op). is_read x) goes.its_op ∙ e
+
+pub blind_in : (c : Course) (k : Seat) (op : Op) (g : Going) (b : Bool) → Goes c k op g → is_blind op ≡ b → is_blind c.op ≡ b
+blind_in c k op g b goes e = ap (λ (x : Op). is_blind x) goes.its_op ∙ e
+
+pub goes_at : (c : Course) (k : Seat) (op : Op) (g : Going) (q : Seat) → Goes c k op g → q ≡ k → Goes c q op g
+goes_at c k op g q goes same = subst (λ (x : Seat). Goes c x op g) (sym same) goes
+
+pub some_of : {A : Type 0} (P : A → Type 0) (found : Option A) (x : A) → found ≡ Some x → IfSome found P → P x
+some_of P found x e h = subst (λ (o : Option _). IfSome o P) e h
