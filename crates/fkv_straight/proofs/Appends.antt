@@ -82,9 +82,11 @@ has_taken c w place entry old tail won above fits = rw (won, above, fits) refl
 pub take_comes : (c : Course) (place entry : ℕ) (old : Option ℕ) (tail found : ℕ) (s u : SessionState) → IsAtReserve c place entry old (reserve.TakesTail tail) s → u ≡ leads c.seat s found → found ≡ tail → entry_addr entry < tail → tail < 2 ^ 48
     → IsReserved c place entry old tail u
 unfolding IsAtReserve IsAtFill trying_ask appending_ask fill_ask passed
-take_comes c place entry old tail found s u at e won above fits =
-    (at.0, steps c (reserving c at.0 place entry old (reserve.TakesTail tail)) (filling c at.0 place entry old tail (fill.StoresValue (record { 0 = tail }) (words_of (request_in c) entry old))) tail s u at.1
-      (e ∙ ap (λ (n : ℕ). leads c.seat s n) won) (has_taken c at.0 place entry old tail (same tail) (grind (arith, nat_tests)) (grind (arith, nat_tests))) refl refl)
+take_comes c place entry old tail found s u at e won above fits = (
+  at.0,
+  steps c (reserving c at.0 place entry old (reserve.TakesTail tail)) (filling c at.0 place entry old tail (fill.StoresValue (record { 0 = tail }) (words_of (request_in c) entry old))) tail s u at.1
+      (e ∙ ap (λ (n : ℕ). leads c.seat s n) won) (has_taken c at.0 place entry old tail (same tail) (grind (arith, nat_tests)) (grind (arith, nat_tests))) refl refl,
+)
 
 -- ---- its words are stored
 pub value_asks : (c : Course) (place entry : ℕ) (old : Option ℕ) (addr : ℕ) (s : SessionState) → IsReserved c place entry old addr s → asked c.seat s ≡ Store (record_place c.seat.places addr rec.Value) (word_of (value_applied old c.op))
@@ -99,9 +101,11 @@ has_value c w place entry old addr found = refl
 
 pub value_comes : (c : Course) (place entry : ℕ) (old : Option ℕ) (addr found : ℕ) (s u : SessionState) → IsReserved c place entry old addr s → u ≡ leads c.seat s found → IsAtFill c place entry old addr (fill.StoresKey (record { 0 = addr }) (words_of (request_in c) entry old)) u
 unfolding IsAtFill trying_ask appending_ask fill_ask passed
-value_comes c place entry old addr found s u at e =
-    (at.0, steps c (filling c at.0 place entry old addr (fill.StoresValue (record { 0 = addr }) (words_of (request_in c) entry old))) (filling c at.0 place entry old addr (fill.StoresKey (record { 0 = addr }) (words_of (request_in c) entry old))) found s u at.1 e
-      (has_value c at.0 place entry old addr found) refl refl)
+value_comes c place entry old addr found s u at e = (
+  at.0,
+  steps c (filling c at.0 place entry old addr (fill.StoresValue (record { 0 = addr }) (words_of (request_in c) entry old))) (filling c at.0 place entry old addr (fill.StoresKey (record { 0 = addr }) (words_of (request_in c) entry old))) found s u at.1 e
+      (has_value c at.0 place entry old addr found) refl refl,
+)
 
 pub key_stores : (c : Course) (place entry : ℕ) (old : Option ℕ) (addr : ℕ) (s : SessionState) → IsAtFill c place entry old addr (fill.StoresKey (record { 0 = addr }) (words_of (request_in c) entry old)) s
     → asked c.seat s ≡ Store (record_place c.seat.places addr rec.Key) (key_of c.op).0
@@ -117,9 +121,11 @@ has_key c w place entry old addr found = refl
 pub key_stored : (c : Course) (place entry : ℕ) (old : Option ℕ) (addr found : ℕ) (s u : SessionState) → IsAtFill c place entry old addr (fill.StoresKey (record { 0 = addr }) (words_of (request_in c) entry old)) s → u ≡ leads c.seat s found
     → IsAtFill c place entry old addr (fill.StoresHeader (record { 0 = addr }) (words_of (request_in c) entry old)) u
 unfolding IsAtFill trying_ask appending_ask fill_ask passed
-key_stored c place entry old addr found s u at e =
-    (at.0, steps c (filling c at.0 place entry old addr (fill.StoresKey (record { 0 = addr }) (words_of (request_in c) entry old))) (filling c at.0 place entry old addr (fill.StoresHeader (record { 0 = addr }) (words_of (request_in c) entry old))) found s u at.1 e
-      (has_key c at.0 place entry old addr found) refl refl)
+key_stored c place entry old addr found s u at e = (
+  at.0,
+  steps c (filling c at.0 place entry old addr (fill.StoresKey (record { 0 = addr }) (words_of (request_in c) entry old))) (filling c at.0 place entry old addr (fill.StoresHeader (record { 0 = addr }) (words_of (request_in c) entry old))) found s u at.1 e
+      (has_key c at.0 place entry old addr found) refl refl,
+)
 
 pub header_stores : (c : Course) (place entry : ℕ) (old : Option ℕ) (addr : ℕ) (s : SessionState) → IsAtFill c place entry old addr (fill.StoresHeader (record { 0 = addr }) (words_of (request_in c) entry old)) s
     → asked c.seat s ≡ Store (record_place c.seat.places addr rec.Header) (header_word (header_of (request_in c) entry))
@@ -158,4 +164,4 @@ pub publish_ends : (c : Course) (place entry : ℕ) (old : Option ℕ) (addr fou
 unfolding IsAtPublish
 publish_ends c place entry old addr found s u at updates won e =
     ends_done c (next_try c (publishing c at.0 place entry old addr) entry) (reply_from old c.op) u (led_on c (publishing c at.0 place entry old addr) entry s u at.1 (e ∙ ap (λ (n : ℕ). leads c.seat s n) won))
-      (published c at.0 place entry old addr (same entry)) (publish_spares c at.0 place entry old addr (same entry)) updates
+    (published c at.0 place entry old addr (same entry)) (publish_spares c at.0 place entry old addr (same entry)) updates

@@ -43,13 +43,13 @@ pub record MetBy (c : Course) (r : Record) : Type 0 where
 
 pub met_by : (c : Course) (r : Record) (s : SessionState) → IsMet c r s → shares c ≡ false → is_read c.op ≡ false → MetBy c r
 met_by c r s met calm updates = record {
-    said = met.said;
-    below = (let h = met.below in grind (arith, nat_tests));
-    mine = same (key_of c.op).0;
-    calm = calm;
-    updates = updates;
-    above = (here c.seat.places.ring (head_in c) r.addr met.here).above;
-  }
+  said = met.said;
+  below = (let h = met.below in grind (arith, nat_tests));
+  mine = same (key_of c.op).0;
+  calm = calm;
+  updates = updates;
+  above = (here c.seat.places.ring (head_in c) r.addr met.here).above;
+}
 
 -- and where the session may change it
 pub record MayChange (c : Course) (r : Record) : Type 0 where
@@ -58,9 +58,9 @@ pub record MayChange (c : Course) (r : Record) : Type 0 where
 
 pub may_change : (c : Course) (k : Seat) (op : Op) (g : Going) (r : Record) → Goes c k op g → g.read_only ≤ r.addr → r.version ≡ g.version → MayChange c r
 may_change c k op g r goes high own = record {
-    mutable = (let h : c.lasts.seen.offsets.read_only.0 ≤ r.addr = subst (λ (n : ℕ). n ≤ r.addr) (sym goes.its_read_only) high in grind (arith, nat_tests));
-    own = (let h : r.version ≡ (request_in c).version.0 = own ∙ sym goes.its_version in grind (arith, nat_tests));
-  }
+  mutable = (let h : c.lasts.seen.offsets.read_only.0 ≤ r.addr = subst (λ (n : ℕ). n ≤ r.addr) (sym goes.its_read_only) high in grind (arith, nat_tests));
+  own = (let h : r.version ≡ (request_in c).version.0 = own ∙ sym goes.its_version in grind (arith, nat_tests));
+}
 
 -- where the walk stands then
 abbrev at_record : Course → Trail → Record → WalkState

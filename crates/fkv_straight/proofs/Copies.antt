@@ -55,16 +55,18 @@ later_copied c r s met by mutable other still =
 -- ---- a record below the read-only offset: the safe one is loaded
 turns_to_safe : (c : Course) (trail : Trail) (r : Record) → MetBy c r → nat_le c.lasts.seen.offsets.read_only.0 r.addr ≡ false
     → next_try c (meeting c trail r.place r.entry r.addr (load.LoadsKey (record { 0 = r.addr }) r.header)) (key_of c.op).0
-      ≡ finding c (past trail (record { 0 = r.version })) r (LoadsSafe (record { 0 = r.addr }) (record { 0 = r.version }))
+    ≡ finding c (past trail (record { 0 = r.version })) r (LoadsSafe (record { 0 = r.addr }) (record { 0 = r.version }))
 unfolding trying_next walk_ledto walking_ask walking_next load_ledto load_ask load_next load_next_ask passed
 turns_to_safe c trail r met low = rw (met.said, met.below, met.mine, met.calm, met.updates, met.above, low) refl
 
 pub met_safe : (c : Course) (r : Record) (s : SessionState) → IsMet c r s → MetBy c r → nat_le c.lasts.seen.offsets.read_only.0 r.addr ≡ false → IsAtSafe c r s
 unfolding HasKey IsAtSafe trying_ask
 met_safe c r s met by low =
-    let has = met.key in
-    (past has.0 (record { 0 = r.version }), stays c (finding c (past has.0 (record { 0 = r.version })) r (LoadsSafe (record { 0 = r.addr }) (record { 0 = r.version }))) s
-      (subst (λ (t : TryState). IsLed c t s) (turns_to_safe c has.0 r by low) has.1) refl refl)
+    let has = met.key in (
+      past has.0 (record { 0 = r.version }),
+      stays c (finding c (past has.0 (record { 0 = r.version })) r (LoadsSafe (record { 0 = r.addr }) (record { 0 = r.version }))) s
+          (subst (λ (t : TryState). IsLed c t s) (turns_to_safe c has.0 r by low) has.1) refl refl,
+    )
 
 pub safe_asks : (c : Course) (r : Record) (s : SessionState) → IsAtSafe c r s → asked c.seat s ≡ Load (shared_place one.SafeReadOnly)
 unfolding IsAtSafe trying_ask
@@ -159,9 +161,11 @@ pub disk_reserves : (c : Course) (place entry addr : ℕ) (s : SessionState) →
     → IsAtReserve c place entry None reserve.LoadsLimit s
 unfolding IsReached IsAtReserve trying_ask appending_ask reserve_ask passed
 disk_reserves c place entry addr s at some low calm updates blind still =
-    let w = ended_at c at.0 place entry at.1 (walked.OnDisk (record { 0 = addr })) in
-    (w, stays c (reserving c w place entry None) s
-      (subst (λ (t : TryState). IsLed c t s) (leaves_memory c at.0 place entry addr at.1 at.2 (grind (arith, nat_tests)) (grind (arith, nat_tests)) calm updates blind still) at.3) refl refl)
+    let w = ended_at c at.0 place entry at.1 (walked.OnDisk (record { 0 = addr })) in (
+      w,
+      stays c (reserving c w place entry None) s
+          (subst (λ (t : TryState). IsLed c t s) (leaves_memory c at.0 place entry addr at.1 at.2 (grind (arith, nat_tests)) (grind (arith, nat_tests)) calm updates blind still) at.3) refl refl,
+    )
 
 -- ---- the tests, by the numbers that a call goes by
 pub is_high : (c : Course) (k : Seat) (op : Op) (g : Going) (r : Record) → Goes c k op g → g.read_only ≤ r.addr → nat_le c.lasts.seen.offsets.read_only.0 r.addr ≡ true

@@ -1,6 +1,7 @@
 mod Appends
 mod Changes
 mod Copies
+mod Endings
 mod Goings
 mod Moves
 mod ReadEnds

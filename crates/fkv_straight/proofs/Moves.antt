@@ -85,23 +85,23 @@ steps c t after reply s u at e leads_to none word = stays c after u (subst (λ (
 pub ends_found : (c : Course) (t : TryState) (value : Value) (s : SessionState) → IsLed c t s → t.step ≡ Ended (tried.Found value) → t.spare ≡ c.lasts.spare → IsEnded c.lasts (told.Found value) s
 unfolding IsLed lasting trying_ask try_ledto attempt_ledto attempting_ask passed with_latch
 ends_found c t value s led ends spare = record {
-    ended = rw led.1 (rw ends refl);
-    lasts = rw led.1 (rw (ends, spare, or_false c.lasts.is_orphaned) refl);
-  }
+  ended = rw led.1 (rw ends refl);
+  lasts = rw led.1 (rw (ends, spare, or_false c.lasts.is_orphaned) refl);
+}
 
 pub ends_absent : (c : Course) (t : TryState) (s : SessionState) → IsLed c t s → t.step ≡ Ended tried.Absent → t.spare ≡ c.lasts.spare → IsEnded c.lasts told.Absent s
 unfolding IsLed lasting trying_ask try_ledto attempt_ledto attempting_ask passed with_latch
 ends_absent c t s led ends spare = record {
-    ended = rw led.1 (rw ends refl);
-    lasts = rw led.1 (rw (ends, spare, or_false c.lasts.is_orphaned) refl);
-  }
+  ended = rw led.1 (rw ends refl);
+  lasts = rw led.1 (rw (ends, spare, or_false c.lasts.is_orphaned) refl);
+}
 
 pub ends_done : (c : Course) (t : TryState) (its : Reply) (s : SessionState) → IsLed c t s → t.step ≡ Ended (tried.Done its) → t.spare ≡ c.lasts.spare → is_read c.op ≡ false → IsDone c.lasts its s
 unfolding IsLed lasting trying_ask try_ledto attempt_ledto attempting_ask passed with_latch
 ends_done c t its s led ends spare updates = record {
-    ended = rw led.1 (rw (ends, updates) refl);
-    lasts = rw led.1 (rw (ends, spare, updates, or_false c.lasts.is_orphaned) refl);
-  }
+  ended = rw led.1 (rw (ends, updates) refl);
+  lasts = rw led.1 (rw (ends, spare, updates, or_false c.lasts.is_orphaned) refl);
+}
 
 -- what a session asks whose call has ended
 pub asks_none : (k : Seat) (s : SessionState) (its : Told) → s.step ≡ Idle its → session_ask k s ≡ Done its

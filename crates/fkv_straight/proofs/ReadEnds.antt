@@ -40,9 +40,11 @@ met_answers : (c : Course) (r : Record) (s : SessionState) → IsMet c r s → s
 unfolding HasKey IsAtAnswer trying_ask walking_ask load_ask passed
 met_answers c r s met calm reads =
     let below : nat_lt r.previous r.addr ≡ true = (let h = met.below in grind (arith, nat_tests)) in
-    let has = met.key in
-    (past has.0 (record { 0 = r.version }), stays c (holding c (past has.0 (record { 0 = r.version })) r LoadsAnswer) s
-      (subst (λ (t : TryState). IsLed c t s) (reads_on c has.0 r met.said below (same (key_of c.op).0) calm reads) has.1) refl refl)
+    let has = met.key in (
+      past has.0 (record { 0 = r.version }),
+      stays c (holding c (past has.0 (record { 0 = r.version })) r LoadsAnswer) s
+          (subst (λ (t : TryState). IsLed c t s) (reads_on c has.0 r met.said below (same (key_of c.op).0) calm reads) has.1) refl refl,
+    )
 
 pub answer_asks : (c : Course) (r : Record) (s : SessionState) → IsMet c r s → shares c ≡ false → is_read c.op ≡ true → asked c.seat s ≡ Load (record_place c.seat.places r.addr rec.Value)
 unfolding IsAtAnswer trying_ask walking_ask load_ask passed

@@ -21,22 +21,43 @@ use Rattle.fkv_ops.specs.Walking.{reached, walking_ask, walking_next, find_ledto
 use Rattle.fkv_session.specs.Alike.{lasting}
 use Rattle.fkv_session.specs.Sessions.{Seat, SessionState, op_begun, attempts, refusal_of}
 use Rattle.fkv_straight.specs.declared.going.Going.{Going}
-use Rattle.fkv_straight.specs.Course.{Course, course_of, home_in, shares, Goes}
+use Rattle.fkv_straight.specs.Course.{Course, course_of, home_in, refusal_in, shares, Goes}
 use Rattle.fkv_straight.specs.Met.{Trail, seeking, walking, judged, IsAtSlot, HasSlot, IsAtLink, HasLink, IsReached}
-use Rattle.fkv_straight.specs.Standing.{asked, leads, begins, Tries, IsLed, next_try}
+use Rattle.fkv_straight.specs.Standing.{asked, leads, begins, attempting, sitting, Tries, IsLed, next_try}
 use Rattle.fkv_straight.proofs.Goings.{refusal_is, spare_same, bucket_is, home_is}
 use Rattle.fkv_straight.proofs.Moves.{asks_load, led_on, stays}
 use Rattle.fkv_straight.proofs.Tests.{same}
 
 -- ---- a call begins at the first slot of its home's bucket
-begins_at : (k : Seat) (s : SessionState) (op : Op) → refusal_of s op ≡ None → (is_prepare s.seen.phase && not (is_read op)) ≡ false → spare_of k.places s.spare ≡ s.spare
-    → IsAtSlot (course_of k s op) (bucket_place k.places (home_in (course_of k s op)).bucket 0) k.places.overflow 0 (begins k s op)
-unfolding IsAtSlot Tries begins op_begun attempts lasting
-begins_at k s op allowed calm spare = (0, rw (allowed, calm, spare) refl)
+-- where that is, by the course alone
+abbrev pub begun_in : Course → SessionState
+begun_in c = sitting c 0 (attempting c (seeking c (bucket_place c.seat.places (home_in c).bucket 0) c.seat.places.overflow (LoadsSlot 0)))
+
+begins_at : (k : Seat) (s : SessionState) (op : Op) → refusal_of s op ≡ None → (is_prepare s.seen.phase && not (is_read op)) ≡ false → spare_of k.places s.spare ≡ s.spare → begins k s op ≡ begun_in (course_of k s op)
+unfolding begins op_begun attempts lasting
+begins_at k s op allowed calm spare = rw (allowed, calm, spare) refl
+
+begins_in : (k : Seat) (s : SessionState) (op : Op) → refusal_in (course_of k s op) ≡ None → shares (course_of k s op) ≡ false → (course_of k s op).lasts.spare ≤ k.places.overflow → begins k s op ≡ begun_in (course_of k s op)
+unfolding lasting
+begins_in k s op allowed calm fits = begins_at k s op (refusal_is k s op ∙ allowed) calm (spare_same k.places s.spare fits)
 
 pub begun : (k : Seat) (s : SessionState) (op : Op) (g : Going) → Goes (course_of k s op) k op g → IsAtSlot (course_of k s op) (bucket_place k.places (home_in (course_of k s op)).bucket 0) k.places.overflow 0 (begins k s op)
-unfolding lasting
-begun k s op g goes = begins_at k s op (refusal_is k s op ∙ goes.allowed) goes.unlatched (spare_same k.places s.spare goes.spare_fits)
+unfolding IsAtSlot Tries
+begun k s op g goes = (0, begins_in k s op goes.allowed goes.unlatched goes.spare_fits)
+
+-- so sessions of which the same lasts begin in one and the same state
+pub begins_same : (k q : Seat) (r s : SessionState) (op : Op) (g : Going) → Goes (course_of k r op) k op g → k ≡ q → lasting r ≡ lasting s → begins q s op ≡ begins k r op
+begins_same k q r s op g goes same alike =
+    let e : course_of k r op ≡ course_of q s op = (λ i. record { seat = same i; lasts = alike i; op = op }) in
+    let there : Goes (course_of q s op) k op g = subst (λ (c : Course). Goes c k op g) e goes in
+    begins_in q s op there.allowed there.unlatched there.spare_fits ∙ (ap begun_in (sym e) ∙ sym (begins_in k r op goes.allowed goes.unlatched goes.spare_fits))
+
+-- the same by the numbers that the call goes by
+pub begun_at : (k : Seat) (s : SessionState) (op : Op) (g : Going) (h : Home) (key : Key) (base links : ℕ) → Goes (course_of k s op) k op g → key ≡ key_of op → h ≡ home_of g.bits key → base ≡ bucket_place g.places h.bucket 0 → links ≡ g.places.overflow
+    → IsAtSlot (course_of k s op) base links 0 (begins k s op)
+begun_at k s op g h key base links goes its e b l =
+    subst (λ (n : ℕ). IsAtSlot (course_of k s op) base n 0 (begins k s op)) (ap (λ (p : Places). p.overflow) goes.its_places ∙ sym l)
+    (subst (λ (n : ℕ). IsAtSlot (course_of k s op) n k.places.overflow 0 (begins k s op)) (bucket_is (course_of k s op) k op g h key base goes its e b) (begun k s op g goes))
 
 -- ---- a slot is loaded
 pub slot_asks : (c : Course) (base links slot : ℕ) (s : SessionState) → IsAtSlot c base links slot s → asked c.seat s ≡ Load (base + slot)
@@ -90,7 +111,7 @@ pub link_followed : (c : Course) (base links word : ℕ) (s : SessionState) → 
 unfolding HasLink IsAtSlot trying_ask walking_ask find_step_ask passed
 link_followed c base links word s has some few within =
     stays c (seeking c (overflow_place c.seat.places (link_of word) 0) (links - 1) (LoadsSlot 0)) s
-      (subst (λ (t : TryState). IsLed c t s) (follows c base links word (grind (arith, nat_tests)) (grind (arith, nat_tests)) (grind (arith, nat_tests))) has) refl refl
+    (subst (λ (t : TryState). IsLed c t s) (follows c base links word (grind (arith, nat_tests)) (grind (arith, nat_tests)) (grind (arith, nat_tests))) has) refl refl
 
 -- ---- the search has come to its slot
 finds_entry : (c : Course) (base links slot word : ℕ) → is_entry word ≡ true → (word == 0) ≡ false → (entry_tag word == (home_in c).tag) ≡ true
@@ -117,3 +138,27 @@ empty_slot c base links slot s has =
 pub empty_found : (c : Course) (base links slot word : ℕ) (s : SessionState) → HasSlot c base links slot word s → word ≡ 0 → IsReached c (base + slot) word (entry_addr word) s
 empty_found c base links slot word s has zero =
     subst (λ (n : ℕ). IsReached c (base + slot) n (entry_addr n) s) (sym zero) (empty_slot c base links slot s (subst (λ (n : ℕ). HasSlot c base links slot n s) zero has))
+
+-- ---- the tests, by the numbers that the call goes by
+pub is_some : (word : ℕ) → ¬ (word ≡ 0) → (word == 0) ≡ false
+is_some word h = grind (arith, nat_tests, h)
+
+pub is_other : (c : Course) (k : Seat) (op : Op) (g : Going) (h : Home) (key : Key) (word : ℕ) → Goes c k op g → key ≡ key_of op → h ≡ home_of g.bits key → ¬ (word / 2 ^ 48 ≡ h.tag) → (entry_tag word == (home_in c).tag) ≡ false
+is_other c k op g h key word goes its e other =
+    let t : ¬ (word / 2 ^ 48 ≡ (home_in c).tag) = (λ same. other (same ∙ ap (λ (x : Home). x.tag) (sym (home_is c k op g h key goes its e)))) in
+    grind (arith, nat_tests, t)
+
+pub is_mine : (c : Course) (k : Seat) (op : Op) (g : Going) (h : Home) (key : Key) (word : ℕ) → Goes c k op g → key ≡ key_of op → h ≡ home_of g.bits key → word / 2 ^ 48 ≡ h.tag → (entry_tag word == (home_in c).tag) ≡ true
+is_mine c k op g h key word goes its e mine =
+    let t : word / 2 ^ 48 ≡ (home_in c).tag = mine ∙ ap (λ (x : Home). x.tag) (home_is c k op g h key goes its e) in
+    grind (arith, nat_tests, t)
+
+-- a link that is followed, by the number of the bucket
+pub link_goes_on : (c : Course) (k : Seat) (op : Op) (g : Going) (base links word number next : ℕ) (s : SessionState) → Goes c k op g → HasLink c base (g.places.overflow - links) word s → number ≡ entry_addr word → ¬ (number ≡ 0) → number ≤ g.places.overflow → links < g.places.overflow
+    → next ≡ overflow_place g.places number 0 → IsAtSlot c next (g.places.overflow - (links + 1)) 0 s
+link_goes_on c k op g base links word number next s goes has e some within fewer n =
+    let there : number ≤ c.seat.places.overflow = subst (λ (p : Places). number ≤ p.overflow) (sym goes.its_places) within in
+    let at = link_followed c base (g.places.overflow - links) word s has (λ z. some (e ∙ z)) (omega arith) (subst (λ (m : ℕ). m ≤ c.seat.places.overflow) e there) in
+    let place : overflow_place c.seat.places (link_of word) 0 ≡ next = ap (λ (p : Places). overflow_place p (link_of word) 0) goes.its_places ∙ (ap (λ (m : ℕ). overflow_place g.places m 0) (sym e) ∙ sym n) in
+    let left : (g.places.overflow - links) - 1 ≡ g.places.overflow - (links + 1) = omega arith in
+    subst (λ (m : ℕ). IsAtSlot c m (g.places.overflow - (links + 1)) 0 s) place (subst (λ (m : ℕ). IsAtSlot c (overflow_place c.seat.places (link_of word) 0) m 0 s) left at)

@@ -37,9 +37,11 @@ meets c trail place entry addr loading step h = rw (h.some, h.above, h.within) r
 
 pub reached_here : (c : Course) (place entry addr : ℕ) (s : SessionState) → IsReached c place entry addr s → IsInMemory c addr → IsAtHeader c place entry addr s
 unfolding IsReached IsAtHeader trying_ask walking_ask load_ask passed
-reached_here c place entry addr s at in_memory =
-    (at.0, stays c (meeting c at.0 place entry addr (load.LoadsHeader (record { 0 = addr }))) s
-      (subst (λ (t : TryState). IsLed c t s) (meets c at.0 place entry addr at.1 at.2 (here c.seat.places.ring (head_in c) addr in_memory)) at.3) refl refl)
+reached_here c place entry addr s at in_memory = (
+  at.0,
+  stays c (meeting c at.0 place entry addr (load.LoadsHeader (record { 0 = addr }))) s
+      (subst (λ (t : TryState). IsLed c t s) (meets c at.0 place entry addr at.1 at.2 (here c.seat.places.ring (head_in c) addr in_memory)) at.3) refl refl,
+)
 
 pub header_asks : (c : Course) (place entry addr : ℕ) (s : SessionState) → IsAtHeader c place entry addr s → asked c.seat s ≡ Load (record_place c.seat.places addr rec.Header)
 unfolding IsAtHeader trying_ask walking_ask load_ask passed
@@ -66,13 +68,16 @@ key_comes c place entry addr header key s u at e = (at.0, led_on c (meeting c at
 -- ---- another key's record: on to the one before it
 passes_record : (c : Course) (trail : Trail) (place entry addr header key : ℕ) (previous : Addr) (version : Version) → header_said header ≡ Says previous version → nat_lt previous.0 addr ≡ true → (key == (key_of c.op).0) ≡ false
     → next_try c (meeting c trail place entry addr (load.LoadsKey (record { 0 = addr }) header)) key
-      ≡ judged c (reached c.seat.places (walking c (past trail version) place entry (load.HasKey (record { 0 = addr }) header key) (Meets (record { 0 = addr }))) previous.0)
+    ≡ judged c (reached c.seat.places (walking c (past trail version) place entry (load.HasKey (record { 0 = addr }) header key) (Meets (record { 0 = addr }))) previous.0)
 unfolding trying_next walking_next load_ledto load_ask load_next load_next_ask
 passes_record c trail place entry addr header key previous version said below other = rw (said, below, other) refl
 
 pub key_passed : (c : Course) (place entry addr header key : ℕ) (previous : Addr) (version : Version) (s : SessionState) → HasKey c place entry addr header key s → header_said header ≡ Says previous version → previous.0 < addr
     → ¬ (key ≡ (key_of c.op).0) → IsReached c place entry previous.0 s
 unfolding HasKey IsReached
-key_passed c place entry addr header key previous version s has said below other =
-    (past has.0 version, load.HasKey (record { 0 = addr }) header key, Meets (record { 0 = addr }),
-      subst (λ (t : TryState). IsLed c t s) (passes_record c has.0 place entry addr header key previous version said (grind (arith, nat_tests)) (grind (arith, nat_tests))) has.1)
+key_passed c place entry addr header key previous version s has said below other = (
+  past has.0 version,
+  load.HasKey (record { 0 = addr }) header key,
+  Meets (record { 0 = addr }),
+  subst (λ (t : TryState). IsLed c t s) (passes_record c has.0 place entry addr header key previous version said (grind (arith, nat_tests)) (grind (arith, nat_tests))) has.1,
+)

@@ -1,5 +1,5 @@
 -- What a call of an operation goes by, from its begin to its end.
-use Rattle.std.specs.Prelude.{◌≡◌, ℕ, ◌==◌, ◌&&◌, ◌≤◌, not, if◌then◌else◌, Bool, true, false, Option, Some, None}
+use Rattle.std.specs.Prelude.{◌≡◌, ℕ, ◌==◌, ◌&&◌, ◌<◌, ◌≤◌, not, if◌then◌else◌, Bool, true, false, Option, Some, None}
 use Rattle.fkv_base.specs.Limits.{last_serial}
 use Rattle.fkv_base.specs.declared.faults.Fault.{Fault}
 use Rattle.fkv_base.specs.declared.faults.Fault.TheVariants as fault
@@ -43,8 +43,8 @@ refusal_in c =
 abbrev pub shares : Course → Bool
 shares c = is_prepare c.lasts.seen.phase && not (is_read c.op)
 
--- The numbers that a straight call goes by are those of its course. It isn't refused and shares no latch, and its session's spare bucket
--- is one that there is.
+-- The numbers that a straight call goes by are those of its course. It isn't refused and shares no latch, an update has a serial left, and
+-- the session's spare bucket is one that there is.
 pub record Goes (c : Course) (k : Seat) (op : Op) (g : Going) : Type 0 where
   pub its_seat : c.seat ≡ k
   pub its_op : c.op ≡ op
@@ -55,5 +55,6 @@ pub record Goes (c : Course) (k : Seat) (op : Op) (g : Going) : Type 0 where
   pub its_version : (request_in c).version.0 ≡ g.version
   pub moves_on : is_moving_on c.lasts.seen.phase ≡ g.is_moving_on
   pub allowed : refusal_in c ≡ None
+  pub serial_left : is_read c.op ≡ false → c.lasts.serial < last_serial
   pub unlatched : shares c ≡ false
   pub spare_fits : c.lasts.spare ≤ c.seat.places.overflow

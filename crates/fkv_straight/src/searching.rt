@@ -65,10 +65,16 @@ fn seek<L: Line>(line: &mut L, going: &Going, op: Op) -> Option<Slot>
     let mut word = line.first(op, first);
     let mut slot = 0;
     let mut links = 0;
-    'slots: while word >> 48 != home.tag as u64 && word != 0 {
-        let other = is_entry(word);
-        if !other {
+    'slots: while word != 0 {
+        let entry = is_entry(word);
+        if !entry {
             return None;
+        }
+        if word >> 48 == home.tag as u64 {
+            return Some(Slot {
+                place: base + slot,
+                entry: word,
+            });
         }
         if slot < 6 {
             slot += 1;
@@ -88,15 +94,10 @@ fn seek<L: Line>(line: &mut L, going: &Going, op: Op) -> Option<Slot>
             word = line.load(base);
         }
     }
-    let its = is_entry(word);
-    if word == 0 || its {
-        Some(Slot {
-            place: base + slot,
-            entry: word,
-        })
-    } else {
-        None
-    }
+    Some(Slot {
+        place: base + slot,
+        entry: word,
+    })
 }
 
 /// Walks from the slot's entry to the record of the key, as far as the chain lies in memory.

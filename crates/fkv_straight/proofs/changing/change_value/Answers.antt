@@ -35,10 +35,10 @@ cas-found-requires-clause-asked g c =
     let at = met_currents its c.args.its s c.requires.at.2 (met_by its c.args.its s c.requires.at.2 goes.unlatched updates) (may_change its k c.args.op c.args.going.now c.args.its goes c.requires.mutable c.requires.own) seeing in
     let comes = current_comes its c.args.its c.load-old.result s u at (leads_on its k c.args.op c.args.going.now k s u c.load-old.result goes refl c.load-old.ensures.next) in
     let new : word_of (value_applied (value_of c.load-old.result) its.op) ≡ c.word_of_value-new.result =
-      ap (λ (x : Op). word_of (value_applied (value_of c.load-old.result) x)) goes.its_op
-      ∙ sym (c.word_of_value-new.ensures ∙ ap word_of (c.value_applied-made.ensures ∙ ap (λ (v : Option ℕ). value_applied v c.args.op) c.value_of_word-value.ensures)) in
+    ap (λ (x : Op). word_of (value_applied (value_of c.load-old.result) x)) goes.its_op
+    ∙ sym (c.word_of_value-new.ensures ∙ ap word_of (c.value_applied-made.ensures ∙ ap (λ (v : Option ℕ). value_applied v c.args.op) c.value_of_word-value.ensures)) in
     record_asks its k c.args.op c.args.going.now c.args.its.addr c.record-place.result rec.Value (g.L.Line.seat c.load-old.new.self) u (λ (n : ℕ). Cas n c.load-old.result c.word_of_value-new.result) goes c.load-old.ensures.seat c.record-place.ensures
-      (change_asks its c.args.its.addr c.load-old.result u comes ∙ ap (λ (n : ℕ). Cas (record_place its.seat.places c.args.its.addr rec.Value) c.load-old.result n) new)
+    (change_asks its c.args.its.addr c.load-old.result u comes ∙ ap (λ (n : ℕ). Cas (record_place its.seat.places c.args.its.addr rec.Value) c.load-old.result n) new)
 
 pub returns-then-found-old-clause-done : goal.returns-then-found-old-clause-done
 returns-then-found-old-clause-done g c = λ its goes met.
@@ -51,5 +51,5 @@ returns-then-found-old-clause-done g c = λ its goes met.
     let at = met_currents its c.args.its s met (met_by its c.args.its s met goes.unlatched updates) (may_change its k c.args.op c.args.going.now c.args.its goes c.requires.mutable c.requires.own) seeing in
     let comes = current_comes its c.args.its c.load-old.result s u at (leads_on its k c.args.op c.args.going.now k s u c.load-old.result goes refl c.load-old.ensures.next) in
     subst (λ (x : Reply). IsDone its.lasts x v) (ap (λ (x : Op). reply_from (value_of c.load-old.result) x) goes.its_op ∙ (ap (λ (w : Option ℕ). reply_from w c.args.op) (sym c.value_of_word-value.ensures) ∙ sym c.reply_from.ensures))
-      (change_ends its c.args.its.addr c.load-old.result c.cas-found.result u v comes updates c.if-found-old.true
-        (leads_on its k c.args.op c.args.going.now (g.L.Line.seat c.load-old.new.self) u v c.cas-found.result goes c.load-old.ensures.seat c.cas-found.ensures.next))
+    (change_ends its c.args.its.addr c.load-old.result c.cas-found.result u v comes updates c.if-found-old.true
+    (leads_on its k c.args.op c.args.going.now (g.L.Line.seat c.load-old.new.self) u v c.cas-found.result goes c.load-old.ensures.seat c.cas-found.ensures.next))

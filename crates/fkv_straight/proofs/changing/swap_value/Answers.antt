@@ -22,9 +22,9 @@ swap-requires-clause-asked g c =
     let blind = blind_in its k c.args.op c.args.going.now _ goes c.requires.blind in
     let at = met_swaps its c.args.its s c.requires.at.2 (met_by its c.args.its s c.requires.at.2 goes.unlatched updates) (may_change its k c.args.op c.args.going.now c.args.its goes c.requires.mutable c.requires.own) blind in
     let new : word_of (value_applied None its.op) ≡ c.word_of_value-new.result =
-      ap (λ (x : Op). word_of (value_applied None x)) goes.its_op ∙ sym (c.word_of_value-new.ensures ∙ ap word_of c.value_applied-made.ensures) in
+    ap (λ (x : Op). word_of (value_applied None x)) goes.its_op ∙ sym (c.word_of_value-new.ensures ∙ ap word_of c.value_applied-made.ensures) in
     record_asks its k c.args.op c.args.going.now c.args.its.addr c.record-place.result rec.Value k s (λ (n : ℕ). Swap n c.word_of_value-new.result) goes refl c.record-place.ensures
-      (swap_asks its c.args.its.addr s at ∙ ap (λ (n : ℕ). Swap (record_place its.seat.places c.args.its.addr rec.Value) n) new)
+    (swap_asks its c.args.its.addr s at ∙ ap (λ (n : ℕ). Swap (record_place its.seat.places c.args.its.addr rec.Value) n) new)
 
 pub returns-clause-done : goal.returns-clause-done
 returns-clause-done g c = λ its goes met.
@@ -35,4 +35,4 @@ returns-clause-done g c = λ its goes met.
     let blind = blind_in its k c.args.op c.args.going.now _ goes c.requires.blind in
     let at = met_swaps its c.args.its s met (met_by its c.args.its s met goes.unlatched updates) (may_change its k c.args.op c.args.going.now c.args.its goes c.requires.mutable c.requires.own) blind in
     subst (λ (x : Reply). IsDone its.lasts x u) (ap (λ (x : Op). reply_from None x) goes.its_op ∙ sym c.reply_from.ensures)
-      (swap_ends its c.args.its.addr c.swap.result s u at updates (leads_on its k c.args.op c.args.going.now k s u c.swap.result goes refl c.swap.ensures.next))
+    (swap_ends its c.args.its.addr c.swap.result s u at updates (leads_on its k c.args.op c.args.going.now k s u c.swap.result goes refl c.swap.ensures.next))

@@ -36,9 +36,11 @@ append-requires-else-blind-clause-at g c =
     let goes = c.requires.at.1 in
     let so : c.is_blind-blind.result ≡ false = search rules in
     let at = copied_loads its c.args.its s c.requires.at.2 (blind_in its k c.args.op c.args.going.now _ goes (sym c.is_blind-blind.ensures ∙ so)) in
-    let comes = old_comes its c.args.its c.load-word.result s u at (leads_on its k c.args.op c.args.going.now k s u c.load-word.result goes refl c.load-word.ensures.next) in
-    (its, goes_at its k c.args.op c.args.going.now (g.L.Line.seat c.load-word.new.self) goes c.load-word.ensures.seat,
-      subst (λ (old : Option ℕ). IsAtReserve its c.args.its.place c.args.its.entry old LoadsLimit u) (sym c.value_of_word-old.ensures) comes)
+    let comes = old_comes its c.args.its c.load-word.result s u at (leads_on its k c.args.op c.args.going.now k s u c.load-word.result goes refl c.load-word.ensures.next) in (
+      its,
+      goes_at its k c.args.op c.args.going.now (g.L.Line.seat c.load-word.new.self) goes c.load-word.ensures.seat,
+      subst (λ (old : Option ℕ). IsAtReserve its c.args.its.place c.args.its.entry old LoadsLimit u) (sym c.value_of_word-old.ensures) comes,
+    )
 
 pub returns-then-blind-clause-done : goal.returns-then-blind-clause-done
 returns-then-blind-clause-done g c = λ its goes copied.
@@ -55,4 +57,4 @@ returns-else-blind-clause-done g c = λ its goes copied.
     let at = copied_loads its c.args.its s copied (blind_in its k c.args.op c.args.going.now _ goes (sym c.is_blind-blind.ensures ∙ so)) in
     let comes = old_comes its c.args.its c.load-word.result s u at (leads_on its k c.args.op c.args.going.now k s u c.load-word.result goes refl c.load-word.ensures.next) in
     c.append-else-blind.ensures.done its (goes_at its k c.args.op c.args.going.now (g.L.Line.seat c.load-word.new.self) goes c.load-word.ensures.seat)
-      (subst (λ (old : Option ℕ). IsAtReserve its c.args.its.place c.args.its.entry old LoadsLimit u) (sym c.value_of_word-old.ensures) comes)
+    (subst (λ (old : Option ℕ). IsAtReserve its c.args.its.place c.args.its.entry old LoadsLimit u) (sym c.value_of_word-old.ensures) comes)

@@ -1,0 +1,4 @@
+use Rattle.fkv_straight.proofs.going.Going.of.Goals as goal
+
+pub returns : goal.returns
+returns c = ?
