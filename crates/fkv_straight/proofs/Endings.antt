@@ -19,9 +19,9 @@ ended_idle s its e = rw e refl
 
 pub read_caught_up : (m u : SessionState) (l : Lasting) (its : Told) → lasting m ≡ l → IsEnded l its u → IsCaughtUp m u
 read_caught_up m u l its alike ended = record {
-    lasts = alike ∙ sym ended.lasts;
-    same = λ busy. absurd (let h : false ≡ true = sym (ended_idle u its ended.ended) ∙ busy in cc h);
-  }
+  lasts = alike ∙ sym ended.lasts;
+  same = λ busy. absurd (let h : false ≡ true = sym (ended_idle u its ended.ended) ∙ busy in cc h);
+}
 
 -- the machine has taken the serial of an update
 taken_lasts : (m : SessionState) → lasting (record m { serial = m.serial + 1; step = Idle told.Slept }) ≡ record (lasting m) { serial = (lasting m).serial + 1 }
@@ -30,9 +30,9 @@ taken_lasts m = refl
 
 pub update_caught_up : (m n u : SessionState) (l : Lasting) (reply : Reply) → lasting m ≡ l → n ≡ record m { serial = m.serial + 1; step = Idle told.Slept } → IsDone l reply u → IsCaughtUp n u
 update_caught_up m n u l reply alike e done = record {
-    lasts = ap (λ (s : SessionState). lasting s) e ∙ (taken_lasts m ∙ (ap (λ (x : Lasting). record x { serial = x.serial + 1 }) alike ∙ sym done.lasts));
-    same = λ busy. absurd (let h : false ≡ true = sym (ended_idle u (told.Done (record { 0 = l.serial + 1 }) reply) done.ended) ∙ busy in cc h);
-  }
+  lasts = ap (λ (s : SessionState). lasting s) e ∙ (taken_lasts m ∙ (ap (λ (x : Lasting). record x { serial = x.serial + 1 }) alike ∙ sym done.lasts));
+  same = λ busy. absurd (let h : false ≡ true = sym (ended_idle u (told.Done (record { 0 = l.serial + 1 }) reply) done.ended) ∙ busy in cc h);
+}
 
 serial_lasts : (m : SessionState) → m.serial ≡ (lasting m).serial
 unfolding lasting

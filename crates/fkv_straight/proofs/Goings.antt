@@ -2,7 +2,7 @@
 use Rattle.std.proofs.Common.{◌≡◌, ℕ, ◌+◌, ◌<◌, ◌≤◌, ◌*◌, ◌^◌, refl, sym, ap, ◌∙◌, subst, arith, Bool, true, false}
 use Rattle.std.specs.Prelude.{◌&&◌, not, nat_le, nat_lt, Option, Some, None, IfSome}
 use Rattle.std.proofs.lemmas.Bool.Decides.{nat_tests}
-use Rattle.fkv_base.specs.declared.faults.Fault.{Fault}
+use Rattle.fkv_base.specs.Limits.{last_serial, last_version}
 use Rattle.fkv_base.specs.declared.numbers.Key.{Key}
 use Rattle.fkv_map.specs.declared.operations.Op.{Op}
 use Rattle.fkv_map.specs.Keys.{key_of}
@@ -13,9 +13,11 @@ use Rattle.fkv_plane.specs.Places.{bucket_place, record_place}
 use Rattle.fkv_index.specs.declared.homes.Home.{Home}
 use Rattle.fkv_index.specs.Finding.{spare_of}
 use Rattle.fkv_index.specs.Slots.{home_of}
+use Rattle.fkv_ops.specs.declared.requests.Seen.{Seen}
 use Rattle.fkv_ops.specs.Requests.{is_read, is_blind}
+use Rattle.fkv_ops.specs.Trying.{is_prepare, is_moving_on}
 use Rattle.fkv_session.specs.declared.answers.Told.{Told}
-use Rattle.fkv_session.specs.Sessions.{Seat, SessionState, refusal_of, bits_of}
+use Rattle.fkv_session.specs.Sessions.{Seat, SessionState, refusal_of, bits_of, version_within}
 use Rattle.fkv_session.specs.Alike.{lasting}
 use Rattle.fkv_straight.specs.declared.going.Going.{Going}
 use Rattle.fkv_straight.specs.Course.{Course, course_of, home_in, head_in, refusal_in, Goes}
@@ -72,3 +74,31 @@ goes_at c k op g q goes same = subst (λ (x : Seat). Goes c x op g) (sym same) g
 
 pub some_of : {A : Type 0} (P : A → Type 0) (found : Option A) (x : A) → found ≡ Some x → IfSome found P → P x
 some_of P found x e h = subst (λ (o : Option _). IfSome o P) e h
+
+pub met_of : {A : Type 0} (P : A → Type 0) (found : Option A) (met x : A) → found ≡ Some met → met ≡ x → IfSome found P → P x
+met_of P found met x e f h = subst P f (some_of P found met e h)
+
+pub shares_at : (op : Op) (one other : Seen) → other ≡ one → (is_prepare other.phase && not (is_read op)) ≡ (is_prepare one.phase && not (is_read op))
+shares_at op one other e = ap (λ (x : Seen). is_prepare x.phase && not (is_read op)) e
+
+-- ---- what a session shows of itself is what a call of it goes by
+version_same : (v : ℕ) → ¬ (v ≡ 0) → v ≤ last_version → version_within v ≡ v
+version_same v some fits = omega (arith, some, fits)
+
+pub goes_of : (k : Seat) (s : SessionState) (op : Op) (g : Going) → k.places ≡ g.places → bits_of k ≡ g.bits → s.seen.offsets.head.0 ≡ g.head → s.seen.offsets.read_only.0 ≡ g.read_only → s.seen.version.0 ≡ g.version → ¬ (g.version ≡ 0) → g.version ≤ last_version
+    → is_moving_on s.seen.phase ≡ g.is_moving_on → refusal_of s op ≡ None → (is_read op ≡ false → s.serial < last_serial) → (is_prepare s.seen.phase && not (is_read op)) ≡ false → s.spare ≤ g.places.overflow → Goes (course_of k s op) k op g
+unfolding lasting
+goes_of k s op g places bits head read_only version some fits moving allowed serial calm spare = record {
+  its_seat = refl;
+  its_op = refl;
+  its_places = places;
+  its_bits = bits;
+  its_head = head;
+  its_read_only = read_only;
+  its_version = ap (λ (v : ℕ). version_within v) version ∙ version_same g.version some fits;
+  moves_on = moving;
+  allowed = sym (refusal_is k s op) ∙ allowed;
+  serial_left = serial;
+  unlatched = calm;
+  spare_fits = subst (λ (p : Places). s.spare ≤ p.overflow) (sym places) spare;
+}

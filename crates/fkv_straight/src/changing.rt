@@ -99,10 +99,12 @@ pub(crate) fn update<L: Line>(line: &mut L, going: &Going, op: Op) -> Option<Rep
     ensures done { IfSome result (λ reply. IsDone (lasting (L.stands line.old)) reply (L.stands line.new)) }
 {
     let met = search(line, going, op);
-    match met {
-        Some(Met::Found(its)) => update_record(line, going, op, its),
-        Some(Met::Nowhere(slot)) => append_first(line, going, op, slot),
-        Some(Met::OnDisk(slot)) => append_past(line, going, op, slot),
-        None => None,
+    let Some(its) = met else {
+        return None;
+    };
+    match its {
+        Met::Found(record) => update_record(line, going, op, record),
+        Met::Nowhere(slot) => append_first(line, going, op, slot),
+        Met::OnDisk(slot) => append_past(line, going, op, slot),
     }
 }

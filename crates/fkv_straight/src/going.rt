@@ -1,8 +1,8 @@
 //! What a straight call goes by.
 ghost use Rattle.std.specs.Prelude.{◌≡◌, ◌^◌, ◌<◌};
 
-use crate::words::is_read;
-use fkv_base::{Phase, Version};
+use crate::words::{is_moving_on, shares_latch};
+use fkv_base::Version;
 use fkv_map::Op;
 use fkv_plane::Places;
 use fkv_session::Session;
@@ -39,9 +39,10 @@ impl Going {
             return None;
         }
         let places = machine.places();
+        let shape = machine.shape();
         let seen = machine.seen();
-        let reads = is_read(op);
-        if matches!(seen.phase, Phase::Prepare) && !reads {
+        let shares = shares_latch(seen.phase, op);
+        if shares {
             return None;
         }
         let version = seen.version.0;
@@ -52,20 +53,21 @@ impl Going {
         if spare > places.overflow as u64 {
             return None;
         }
+        let moves_on = is_moving_on(seen.phase);
         Some(Going {
             places,
-            bits: machine.shape().bucket_bits,
+            bits: shape.bucket_bits,
             head: seen.offsets.head.0,
             read_only: seen.offsets.read_only.0,
             version,
-            is_moving_on: matches!(seen.phase, Phase::InProgress | Phase::WaitPending),
+            is_moving_on: moves_on,
         })
     }
 
     /// Whether the address of a chain lies within a ring from the head on.
     #[inline(always)]
     #[tactic(auto, unfolding(crate::specs::Memory::is_in_memory))]
-    pub fn is_in_memory(&self, addr: u64) -> bool
+    pub(crate) fn is_in_memory(&self, addr: u64) -> bool
         ensures { result ≡ is_in_memory self.now.places.ring self.now.head addr }
     {
         addr != 0 && addr >= self.head && addr - self.head < self.places.ring as u64

@@ -25,9 +25,12 @@ pub(crate) fn read<L: Line>(line: &mut L, going: &Going, op: Op) -> Option<Told>
     ensures ended { IfSome result (λ its. IsEnded (lasting (L.stands line.old)) its (L.stands line.new)) }
 {
     let met = search(line, going, op);
-    match met {
-        Some(Met::Found(its)) => {
-            let place = going.places.record(Addr(its.addr), RecordWord::Value);
+    let Some(its) = met else {
+        return None;
+    };
+    match its {
+        Met::Found(record) => {
+            let place = going.places.record(Addr(record.addr), RecordWord::Value);
             let value = line.load(place);
             if value == Value::ABSENT {
                 Some(Told::Absent)
@@ -35,7 +38,7 @@ pub(crate) fn read<L: Line>(line: &mut L, going: &Going, op: Op) -> Option<Told>
                 Some(Told::Found(Value(value)))
             }
         }
-        Some(Met::Nowhere(_)) => Some(Told::Absent),
-        _ => None,
+        Met::Nowhere(_) => Some(Told::Absent),
+        Met::OnDisk(_) => None,
     }
 }

@@ -22,3 +22,8 @@ next_is k s reply = refl
 pub begun_is : (k : Seat) (s : SessionState) (op : Op) → session_begun k s (call.Op op) ≡ begins k s op
 unfolding begins
 begun_is k s op = refl
+
+pub led_first : (m n : Sitter) (all : List ℕ) (reply : ℕ) → n ≡ record m { state = leads m.seat m.state reply } → all ≡ [] ++ reply ∷ [] → n.state ≡ replayed n.seat m.state all
+unfolding replayed
+led_first m n all reply e more =
+    ap (λ (x : Sitter). x.state) e ∙ (ap (λ (l : List ℕ). replayed m.seat m.state l) (sym more) ∙ ap (λ (x : Sitter). replayed x.seat m.state all) (sym e))

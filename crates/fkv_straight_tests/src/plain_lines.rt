@@ -34,6 +34,7 @@ impl PlainLine {
     }
 
     /// Makes the step, and keeps its reply.
+    #[tactic(auto, using(crate::proofs::Led::next_is))]
     fn step(&mut self, ask: &Ask<Told>) -> u64
         requires room { length self.old.replies.items < 64 }
         ensures machine { self.new.machine ≡ record self.old.machine { state = leads self.old.machine.seat self.old.machine.state result } }
@@ -61,24 +62,29 @@ impl Line for PlainLine {
 
     ghost kept = { λ l. length l.replies.items };
 
+    #[tactic(auto, using(crate::proofs::Led::begun_is, crate::proofs::Led::led_first))]
     fn first(&mut self, op: Op, place: usize) -> u64 {
         self.replies.clear();
         let _ = self.machine.begin(Call::Op(op));
         self.step(&Ask::Load(place))
     }
 
+    #[tactic(auto, using(crate::proofs::Led::led_more))]
     fn load(&mut self, place: usize) -> u64 {
         self.step(&Ask::Load(place))
     }
 
+    #[tactic(auto, using(crate::proofs::Led::led_more))]
     fn store(&mut self, place: usize, new: u64) -> u64 {
         self.step(&Ask::Store(place, new))
     }
 
+    #[tactic(auto, using(crate::proofs::Led::led_more))]
     fn swap(&mut self, place: usize, new: u64) -> u64 {
         self.step(&Ask::Swap(place, new))
     }
 
+    #[tactic(auto, using(crate::proofs::Led::led_more))]
     fn cas(&mut self, place: usize, expected: u64, new: u64) -> u64 {
         self.step(&Ask::Cas(place, expected, new))
     }

@@ -11,7 +11,7 @@ pub catch_up-requires-clause-led : goal.catch_up-requires-clause-led
 catch_up-requires-clause-led g c =
     let m = c.args.machine.now in
     subst (λ (s : SessionState). g.L.Line.led c.read-straight.new.line s)
-      (begins_same m.seat (g.L.Line.seat c.args.line.now) m.state (g.L.Line.stands c.args.line.now) c.args.op c.args.going.now c.requires.goes c.requires.seat c.requires.alike) c.read-straight.ensures.led
+    (begins_same m.seat (g.L.Line.seat c.args.line.now) m.state (g.L.Line.stands c.args.line.now) c.args.op c.args.going.now c.requires.goes c.requires.seat c.requires.alike) c.read-straight.ensures.led
 
 pub take_serial-serial-requires : goal.take_serial-serial-requires
 take_serial-serial-requires g c =
@@ -25,7 +25,7 @@ catch_up-requires-in-None-straight g c =
     record {
       seat = c.requires.seat ∙ sym c.update-straight.ensures.seat;
       led = subst (λ (s : SessionState). g.L.Line.led c.update-straight.new.line s)
-        (begins_same m.seat (g.L.Line.seat c.args.line.now) m.state (g.L.Line.stands c.args.line.now) c.args.op c.args.going.now c.requires.goes c.requires.seat c.requires.alike) c.update-straight.ensures.led;
+          (begins_same m.seat (g.L.Line.seat c.args.line.now) m.state (g.L.Line.stands c.args.line.now) c.args.op c.args.going.now c.requires.goes c.requires.seat c.requires.alike) c.update-straight.ensures.led;
     }
 
 pub returns-in-Some-clause-ask : goal.returns-in-Some-clause-ask

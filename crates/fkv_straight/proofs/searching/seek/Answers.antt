@@ -108,7 +108,7 @@ load-word-requires-else-slot-lt6-clause-asked g c =
     let has = link_comes its c.slots.base links c.load-link.result now then at (leads_on its k c.args.op c.args.going.now (g.L.Line.seat c.slots.line) now then c.load-link.result c.requires.goes c.slots.invariant.seat c.load-link.ensures.next) in
     let on = link_goes_on its k c.args.op c.args.going.now c.slots.base c.slots.links c.load-link.result c.addr_of-number.result next then c.requires.goes has c.addr_of-number.ensures c.if-number-eq0.false c.if-number-going.false c.if-links-going.false c.overflow-base.ensures in
     place_asks its k c.args.op c.args.going.now next next (g.L.Line.seat c.load-link.new.self) then (λ (n : ℕ). Load n) c.requires.goes (c.load-link.ensures.seat ∙ c.slots.invariant.seat) refl
-      (slot_asks its next (c.args.going.now.places.overflow - (c.slots.links + 1)) 0 then on ∙ ap (λ (n : ℕ). Load n) (add-zero next))
+    (slot_asks its next (c.args.going.now.places.overflow - (c.slots.links + 1)) 0 then on ∙ ap (λ (n : ℕ). Load n) (add-zero next))
 
 pub slots-preserved : goal.slots-preserved
 slots-preserved g c =
@@ -134,7 +134,7 @@ slots-preserved g c =
       led = c.load-word-else-slot-lt6.ensures.led (begins k s c.args.op) (c.load-link.ensures.led (begins k s c.args.op) c.slots.invariant.led);
       kept = (let e = c.load-word-else-slot-lt6.ensures.kept in let f = c.load-link.ensures.kept in let i = c.slots.invariant.kept in let j = c.slots.invariant.slot in omega (arith, e, f, i, j));
       stands = slot_comes its next (c.args.going.now.places.overflow - (c.slots.links + 1)) 0 c.load-word-else-slot-lt6.result then last on
-        (leads_on its k c.args.op c.args.going.now (g.L.Line.seat c.load-link.new.self) then last c.load-word-else-slot-lt6.result c.requires.goes (c.load-link.ensures.seat ∙ c.slots.invariant.seat) c.load-word-else-slot-lt6.ensures.next);
+          (leads_on its k c.args.op c.args.going.now (g.L.Line.seat c.load-link.new.self) then last c.load-word-else-slot-lt6.result c.requires.goes (c.load-link.ensures.seat ∙ c.slots.invariant.seat) c.load-word-else-slot-lt6.ensures.next);
     }
 
 pub returns-clause-found : goal.returns-clause-found
