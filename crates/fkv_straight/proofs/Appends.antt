@@ -1,6 +1,6 @@
 -- How a new record is appended and published.
-use Rattle.std.proofs.Common.{◌≡◌, ℕ, ◌+◌, ◌*◌, ◌%◌, ◌^◌, ◌<◌, ◌≤◌, refl, sym, ap, ◌∙◌, subst, arith, Bool, true, false}
-use Rattle.std.specs.Prelude.{◌==◌, ◌&&◌, not, nat_lt, nat_le, if◌then◌else◌, Option, Some, None}
+use Rattle.std.proofs.Common.{◌≡◌, ℕ, ◌+◌, ◌*◌, ◌^◌, ◌<◌, refl, ap, ◌∙◌, arith, true, false}
+use Rattle.std.specs.Prelude.{◌==◌, nat_lt, Option}
 use Rattle.std.proofs.lemmas.Bool.Decides.{nat_tests}
 use Rattle.fkv_map.specs.Keys.{key_of, value_applied, reply_from}
 use Rattle.fkv_words.specs.Layout.{header_word}
@@ -30,7 +30,7 @@ use Rattle.fkv_ops.specs.Walking.{WalkState}
 use Rattle.fkv_session.specs.Sessions.{SessionState}
 use Rattle.fkv_straight.specs.Course.{Course, home_in, request_in}
 use Rattle.fkv_straight.specs.Met.{trying, append_at, IsAtReserve, IsAtFill, IsReserved, IsAtPublish}
-use Rattle.fkv_straight.specs.Standing.{asked, leads, Tries, IsLed, next_try, IsDone}
+use Rattle.fkv_straight.specs.Standing.{asked, leads, next_try, IsDone}
 use Rattle.fkv_straight.proofs.Moves.{asks_load, asks_store, asks_cas, led_on, steps, ends_done}
 use Rattle.fkv_straight.proofs.Tests.{same}
 

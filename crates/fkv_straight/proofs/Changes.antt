@@ -1,6 +1,6 @@
 -- How an update changes its record in place.
-use Rattle.std.proofs.Common.{◌≡◌, ℕ, ◌<◌, ◌≤◌, refl, sym, ap, ◌∙◌, subst, arith, Bool, true, false}
-use Rattle.std.specs.Prelude.{◌==◌, ◌&&◌, not, nat_lt, nat_le, if◌then◌else◌, Option, Some, None}
+use Rattle.std.proofs.Common.{◌≡◌, ℕ, ◌≤◌, refl, sym, ap, ◌∙◌, subst, arith, true, false}
+use Rattle.std.specs.Prelude.{◌==◌, nat_lt, nat_le, None}
 use Rattle.std.proofs.lemmas.Bool.Decides.{nat_tests}
 use Rattle.fkv_map.specs.declared.operations.Op.{Op}
 use Rattle.fkv_map.specs.Keys.{key_of, value_applied, reply_from}
@@ -26,8 +26,8 @@ use Rattle.fkv_session.specs.Sessions.{Seat, SessionState}
 use Rattle.fkv_straight.specs.declared.going.Going.{Going}
 use Rattle.fkv_straight.specs.declared.searching.Record.{Record}
 use Rattle.fkv_straight.specs.Course.{Course, head_in, request_in, shares, Goes}
-use Rattle.fkv_straight.specs.Met.{Trail, trying, meeting, holding, finding, walking, HasKey, IsMet, IsAtSwap, IsAtCurrent, IsAtChange}
-use Rattle.fkv_straight.specs.Standing.{asked, leads, Tries, IsLed, next_try, IsDone}
+use Rattle.fkv_straight.specs.Met.{Trail, trying, meeting, holding, walking, HasKey, IsMet, IsAtSwap, IsAtCurrent, IsAtChange}
+use Rattle.fkv_straight.specs.Standing.{asked, leads, IsLed, next_try, IsDone}
 use Rattle.fkv_straight.proofs.Moves.{asks_load, asks_swap, asks_cas, led_on, stays, steps, ends_done}
 use Rattle.fkv_straight.proofs.Tests.{same, here}
 use Rattle.fkv_straight.proofs.Walks.{past}

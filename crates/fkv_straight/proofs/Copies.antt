@@ -1,6 +1,6 @@
 -- How an update comes to a new record: by a copy of the one that was met, at the chain's end, or where the chain leaves memory.
-use Rattle.std.proofs.Common.{◌≡◌, ℕ, ◌<◌, ◌≤◌, refl, sym, ap, ◌∙◌, subst, arith, Bool, true, false}
-use Rattle.std.specs.Prelude.{◌==◌, ◌&&◌, not, nat_lt, nat_le, if◌then◌else◌, Option, Some, None}
+use Rattle.std.proofs.Common.{◌≡◌, ℕ, ◌<◌, ◌≤◌, refl, sym, ◌∙◌, subst, arith, true, false}
+use Rattle.std.specs.Prelude.{◌==◌, ◌&&◌, nat_lt, nat_le, Option, None}
 use Rattle.std.proofs.lemmas.Bool.Decides.{nat_tests}
 use Rattle.fkv_map.specs.declared.operations.Op.{Op}
 use Rattle.fkv_map.specs.Keys.{key_of, reply_from}
@@ -26,7 +26,7 @@ use Rattle.fkv_ops.specs.declared.walking.Walking.{Walking}
 use Rattle.fkv_ops.specs.declared.walking.Walking.TheVariants as walk
 use Rattle.fkv_ops.specs.Requests.{is_read, is_blind}
 use Rattle.fkv_ops.specs.Values.{value_of}
-use Rattle.fkv_ops.specs.Appending.{AppendState, appending_ask}
+use Rattle.fkv_ops.specs.Appending.{appending_ask}
 use Rattle.fkv_ops.specs.Trying.{TryState, trying_ask, trying_next, walk_ledto, old_ledto, copies, copies_from, appends, is_moving_on}
 use Rattle.fkv_ops.specs.Walking.{WalkState, reached, walking_ask, walking_next, load_ledto, value_ledto, walking_on}
 use Rattle.fkv_session.specs.Sessions.{Seat, SessionState}
@@ -34,7 +34,7 @@ use Rattle.fkv_straight.specs.declared.going.Going.{Going}
 use Rattle.fkv_straight.specs.declared.searching.Record.{Record}
 use Rattle.fkv_straight.specs.Course.{Course, head_in, request_in, shares, Goes}
 use Rattle.fkv_straight.specs.Met.{Trail, trying, meeting, holding, finding, walking, judged, append_at, HasKey, IsMet, IsReached, IsAtSafe, HasSafe, IsCopied, IsAtOld, IsAtReserve}
-use Rattle.fkv_straight.specs.Standing.{asked, leads, Tries, IsLed, next_try}
+use Rattle.fkv_straight.specs.Standing.{asked, leads, IsLed, next_try}
 use Rattle.fkv_straight.proofs.Changes.{MetBy}
 use Rattle.fkv_straight.proofs.Moves.{asks_load, led_on, stays, steps}
 use Rattle.fkv_straight.proofs.Tests.{and_false}

@@ -1,6 +1,6 @@
 -- How a session goes on whose try is led on by a reply.
-use Rattle.std.proofs.Common.{◌≡◌, ℕ, refl, sym, ap, ◌∙◌, subst, Bool, true, false}
-use Rattle.std.specs.Prelude.{◌||◌, if◌then◌else◌, Option, None}
+use Rattle.std.proofs.Common.{◌≡◌, ℕ, refl, sym, ap, ◌∙◌, subst, true, false}
+use Rattle.std.specs.Prelude.{None}
 use Rattle.fkv_base.specs.declared.numbers.Value.{Value}
 use Rattle.fkv_map.specs.declared.operations.Reply.{Reply}
 use Rattle.fkv_plane.specs.declared.asks.Ask.{Ask}
@@ -12,12 +12,12 @@ use Rattle.fkv_ops.specs.declared.trying.Trying.TheVariants.{Ended}
 use Rattle.fkv_ops.specs.Requests.{is_read}
 use Rattle.fkv_ops.specs.Trying.{TryState, trying_ask, try_ask}
 use Rattle.fkv_pending.specs.Pending.{with_latch}
-use Rattle.fkv_pending.specs.Attempting.{AttemptState, attempting_ask, attempting_next, attempt_ask, try_ledto}
+use Rattle.fkv_pending.specs.Attempting.{AttemptState, attempting_ask, attempting_next, try_ledto}
 use Rattle.fkv_session.specs.declared.answers.Told.{Told}
 use Rattle.fkv_session.specs.declared.answers.Told.TheVariants as told
 use Rattle.fkv_session.specs.declared.sessions.Sitting.TheVariants.{Idle}
 use Rattle.fkv_session.specs.Alike.{lasting}
-use Rattle.fkv_session.specs.Sessions.{Seat, SessionState, sitting_ask, sitting_next, session_ask, attempt_ledto, asks_after, entry_of, is_word_ask}
+use Rattle.fkv_session.specs.Sessions.{Seat, SessionState, sitting_ask, sitting_next, session_ask, attempt_ledto, asks_after, is_word_ask}
 use Rattle.fkv_straight.specs.Course.{Course}
 use Rattle.fkv_straight.specs.Standing.{asked, leads, attempting, sitting, led_attempt, resumed, Tries, IsLed, next_try, IsEnded, IsDone}
 use Rattle.fkv_straight.proofs.Tests.{or_false}

@@ -1,6 +1,6 @@
 -- How a read ends.
-use Rattle.std.proofs.Common.{◌≡◌, ℕ, ◌<◌, refl, sym, ap, ◌∙◌, subst, arith, Bool, true, false}
-use Rattle.std.specs.Prelude.{◌==◌, ◌&&◌, not, nat_lt, if◌then◌else◌, Option, Some, None}
+use Rattle.std.proofs.Common.{◌≡◌, ℕ, refl, subst, arith, true, false}
+use Rattle.std.specs.Prelude.{◌==◌, nat_lt}
 use Rattle.std.proofs.lemmas.Bool.Decides.{nat_tests}
 use Rattle.fkv_map.specs.Keys.{key_of}
 use Rattle.fkv_map.specs.Map.{absent_word}
@@ -24,7 +24,7 @@ use Rattle.fkv_session.specs.Sessions.{SessionState}
 use Rattle.fkv_straight.specs.declared.searching.Record.{Record}
 use Rattle.fkv_straight.specs.Course.{Course, shares}
 use Rattle.fkv_straight.specs.Met.{Trail, meeting, holding, walking, judged, IsReached, HasKey, IsMet, IsAtAnswer}
-use Rattle.fkv_straight.specs.Standing.{asked, leads, Tries, IsLed, next_try, IsEnded}
+use Rattle.fkv_straight.specs.Standing.{asked, leads, IsLed, next_try, IsEnded}
 use Rattle.fkv_straight.proofs.Moves.{asks_load, led_on, stays, ends_found, ends_absent}
 use Rattle.fkv_straight.proofs.Tests.{same}
 use Rattle.fkv_straight.proofs.Walks.{past}

@@ -1,6 +1,6 @@
 -- How the slot of a home is sought.
-use Rattle.std.proofs.Common.{◌≡◌, ℕ, ◌+◌, ◌-◌, ◌*◌, ◌/◌, ◌^◌, ◌<◌, ◌≤◌, refl, sym, ap, ◌∙◌, subst, arith, Bool, true, false, add-zero}
-use Rattle.std.specs.Prelude.{◌==◌, ◌&&◌, not, nat_lt, nat_le, if◌then◌else◌, Option, None}
+use Rattle.std.proofs.Common.{◌≡◌, ℕ, ◌+◌, ◌-◌, ◌/◌, ◌^◌, ◌<◌, ◌≤◌, refl, sym, ap, ◌∙◌, subst, arith, true, false}
+use Rattle.std.specs.Prelude.{◌==◌, ◌&&◌, not, nat_lt, nat_le, None}
 use Rattle.std.proofs.lemmas.Bool.Decides.{nat_tests}
 use Rattle.fkv_base.specs.declared.numbers.Key.{Key}
 use Rattle.fkv_map.specs.declared.operations.Op.{Op}
@@ -22,7 +22,7 @@ use Rattle.fkv_session.specs.Alike.{lasting}
 use Rattle.fkv_session.specs.Sessions.{Seat, SessionState, op_begun, attempts, refusal_of}
 use Rattle.fkv_straight.specs.declared.going.Going.{Going}
 use Rattle.fkv_straight.specs.Course.{Course, course_of, home_in, refusal_in, shares, Goes}
-use Rattle.fkv_straight.specs.Met.{Trail, seeking, walking, judged, IsAtSlot, HasSlot, IsAtLink, HasLink, IsReached}
+use Rattle.fkv_straight.specs.Met.{seeking, walking, judged, IsAtSlot, HasSlot, IsAtLink, HasLink, IsReached}
 use Rattle.fkv_straight.specs.Standing.{asked, leads, begins, attempting, sitting, Tries, IsLed, next_try}
 use Rattle.fkv_straight.proofs.Goings.{refusal_is, spare_same, bucket_is, home_is}
 use Rattle.fkv_straight.proofs.Moves.{asks_load, led_on, stays}

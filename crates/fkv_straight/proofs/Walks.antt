@@ -1,6 +1,6 @@
 -- How the chain is walked from an address that was reached.
-use Rattle.std.proofs.Common.{◌≡◌, ℕ, ◌-◌, ◌<◌, refl, sym, ap, ◌∙◌, subst, arith, Bool, true, false}
-use Rattle.std.specs.Prelude.{◌==◌, ◌&&◌, not, nat_lt, if◌then◌else◌, Option, None}
+use Rattle.std.proofs.Common.{◌≡◌, ℕ, ◌<◌, refl, subst, arith, true, false}
+use Rattle.std.specs.Prelude.{◌==◌, nat_lt}
 use Rattle.std.proofs.lemmas.Bool.Decides.{nat_tests}
 use Rattle.fkv_base.specs.declared.numbers.Addr.{Addr}
 use Rattle.fkv_base.specs.declared.numbers.Version.{Version}
@@ -21,7 +21,7 @@ use Rattle.fkv_ops.specs.Walking.{reached, first_met, walking_ask, walking_next,
 use Rattle.fkv_session.specs.Sessions.{SessionState}
 use Rattle.fkv_straight.specs.Course.{Course, head_in}
 use Rattle.fkv_straight.specs.Met.{Trail, IsInMemory, meeting, walking, judged, IsReached, IsAtHeader, IsAtKey, HasKey}
-use Rattle.fkv_straight.specs.Standing.{asked, leads, Tries, IsLed, next_try}
+use Rattle.fkv_straight.specs.Standing.{asked, leads, IsLed, next_try}
 use Rattle.fkv_straight.proofs.Moves.{asks_load, led_on, stays, steps}
 use Rattle.fkv_straight.proofs.Tests.{Here, here}
 

@@ -1,7 +1,6 @@
 -- Where a try stands on the ways of a straight call: along its bucket, along its chain, at the record that is changed, and at the record
 -- that is appended.
-use Rattle.std.specs.Prelude.{◌≡◌, ◌<◌, ℕ, true, false, Option, Some, None}
-use Rattle.fkv_base.specs.declared.numbers.Addr.{Addr}
+use Rattle.std.specs.Prelude.{◌≡◌, ◌<◌, ℕ, true, false, Option, None}
 use Rattle.fkv_base.specs.declared.numbers.Version.{Version}
 use Rattle.fkv_map.specs.Keys.{key_of, reply_from}
 use Rattle.fkv_latch.specs.declared.latching.Latching.TheVariants as latch

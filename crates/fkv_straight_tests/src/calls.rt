@@ -66,65 +66,74 @@ fn phase_word(round: u64) -> u64 {
     }
 }
 
-/// The offsets move on behind the tail, as far as a ring of 256 records lets them, and so does the phase, every 120 calls.
+/// Both sessions make a call by the machine alone.
+fn both_call(rt: &impl Abort, pair: &mut Pair, call: Call) {
+    let alone = pair.alone(call);
+    let beside = pair.begun(call);
+    assert!(rt; alone == beside, "{call:?}");
+    assert!(rt; alone.is_some());
+    assert!(rt; pair.agrees(), "{call:?}");
+}
+
+/// The offsets move on behind the tail, as far as a ring of 256 records lets them, and so does the phase, every 45 calls. What waits is
+/// tried again.
 fn moves_on(rt: &impl Abort, pair: &mut Pair, calls: u64) {
     let tail = pair.words.word(TAIL);
     let read_only = tail.saturating_sub(20).max(1);
     let safe = tail.saturating_sub(30).max(1);
     let head = tail.saturating_sub(100).max(1);
-    let limit = head.saturating_add(200);
-    let phase = phase_word(calls / 120);
     pair.store(&[
-        (PHASE, phase),
-        (4, limit),
+        (PHASE, phase_word(calls / 45)),
+        (4, head.saturating_add(200)),
         (5, read_only),
         (6, safe),
         (7, safe),
         (8, head),
         (9, head),
     ]);
-    let alone = pair.alone(Call::Refresh);
-    let beside = pair.begun(Call::Refresh);
-    assert!(rt; alone == beside);
-    assert!(rt; pair.agrees());
+    pair.serve();
+    both_call(rt, pair, Call::Refresh);
+    both_call(rt, pair, Call::Poll);
 }
 
-fn calls_agree(rt: &impl Abort, pair: &mut Pair, keys: &[Key], seed: u64, count: u64) {
+/// A key of the one home, or one of forty others.
+fn some_key(seeded: &mut Seeded, keys: &[Key]) -> Key {
+    let other = Key(1000 + seeded.below(40));
+    if seeded.below(2) == 0 {
+        return other;
+    }
+    match keys.get(seeded.below(8) as usize) {
+        Some(key) => *key,
+        None => other,
+    }
+}
+
+fn calls_agree(rt: &impl Abort, pair: &mut Pair, keys: &[Key], seed: u64) {
     let mut seeded = Seeded(seed);
-    for calls in 0..count {
+    for calls in 0..1000 {
         if calls % 15 == 0 {
             moves_on(rt, pair, calls);
         }
-        let other = Key(1000 + seeded.below(40));
-        let key = match seeded.below(2) {
-            0 => match keys.get(seeded.below(8) as usize) {
-                Some(key) => *key,
-                None => other,
-            },
-            _ => other,
-        };
+        let key = some_key(&mut seeded, keys);
         let op = seeded.op(key);
         let alone = pair.alone(Call::Op(op));
         let straight = pair.straight(op);
         assert!(rt; alone == straight, "{op:?} after {calls} calls of {seed}");
         assert!(rt; alone.is_some());
-        if pair.machine.pending() >= 12 {
-            return;
-        }
     }
 }
 
 fn stores_agree(rt: &impl Abort, alloc: Global, bits: u64, overflow: u64) -> Result<(), Fault> {
     let keys = keys_of_one_home(alloc, bits, 8)?;
     let mut through = 0u64;
-    for seed in 0..60 {
+    for seed in 0..50 {
         let shape = Shape::new(bits, 16, 16, 4, 1, overflow, 60000)?;
         let mut pair = Pair::new(alloc, shape)?;
-        calls_agree(rt, &mut pair, &keys, seed, 3000);
+        calls_agree(rt, &mut pair, &keys, seed);
         assert!(rt; pair.agrees());
         through = through.saturating_add(pair.through);
     }
-    assert!(rt; through > 3000, "{through}");
+    assert!(rt; through > 25000, "{through}");
     Ok(())
 }
 

@@ -12,6 +12,8 @@ use std::alloc::Global;
 pub(crate) const PHASE: usize = 2;
 
 pub(crate) const TAIL: usize = 3;
+/// The first of the five words of the session's mailbox, its state.
+const MAIL: usize = 29;
 
 /// The words of a new store of one session in version 1: its tail is at 1, and its limit at 5.
 const NEW_STORE: [(usize, u64); 10] = [
@@ -126,7 +128,7 @@ impl Pair {
     /// What the machine alone is told.
     pub(crate) fn alone(&mut self, call: Call) -> Option<Told> {
         let mut ask = self.machine.begin(call);
-        for _ in 0..4000 {
+        for _ in 0..50000 {
             ask = match ask {
                 Ask::Done(told) => return Some(told),
                 other => go_on(&mut self.words, &mut self.machine, other),
@@ -138,7 +140,7 @@ impl Pair {
     /// Where the call of the line has come to, it goes on by the machine.
     fn ends(&mut self, first: Ask<Told>) -> Option<Told> {
         let mut ask = first;
-        for _ in 0..4000 {
+        for _ in 0..50000 {
             ask = match ask {
                 Ask::Done(told) => return Some(told),
                 other => go_on_beside(&mut self.line, &mut self.straight, other),
@@ -172,6 +174,18 @@ impl Pair {
     pub(crate) fn store(&mut self, wanted: &[(usize, u64)]) {
         store(&mut self.words, wanted);
         store(&mut self.line.words, wanted);
+    }
+
+    /// Where the session has asked for a record it gets one, in both stores: the end of a chain, of the key 1000.
+    pub(crate) fn serve(&mut self) {
+        if self.words.word(MAIL) == 1 {
+            self.store(&[
+                (MAIL + 2, 1 << 48),
+                (MAIL + 3, 1000),
+                (MAIL + 4, 7),
+                (MAIL, 2),
+            ]);
+        }
     }
 
     /// The words are the same, and what sessions show of themselves.

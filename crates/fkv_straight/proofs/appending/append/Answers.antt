@@ -1,5 +1,4 @@
-use Rattle.std.proofs.Common.{◌≡◌, ℕ, refl, sym, ap, ◌∙◌, subst}
-use Rattle.fkv_base.specs.declared.numbers.Key.{Key}
+use Rattle.std.proofs.Common.{ℕ, refl, sym, ap, ◌∙◌, subst}
 use Rattle.fkv_map.specs.Keys.{as_number, reply_from}
 use Rattle.fkv_map.specs.declared.operations.Op.{Op}
 use Rattle.fkv_map.specs.declared.operations.Reply.{Reply}

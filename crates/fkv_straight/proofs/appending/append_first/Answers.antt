@@ -1,4 +1,4 @@
-use Rattle.std.proofs.Common.{◌≡◌, refl, sym, ◌∙◌}
+use Rattle.std.proofs.Common.{◌∙◌}
 use Rattle.fkv_straight.proofs.Copies.{nowhere_reserves}
 use Rattle.fkv_straight.proofs.Goings.{updates_in}
 use Rattle.fkv_straight.proofs.appending.append_first.Goals as goal

@@ -1,4 +1,4 @@
-use Rattle.std.proofs.Common.{◌≡◌, refl, sym, ◌∙◌, rules, true}
+use Rattle.std.proofs.Common.{◌≡◌, sym, ◌∙◌, rules, true}
 use Rattle.fkv_straight.proofs.Copies.{disk_reserves}
 use Rattle.fkv_straight.proofs.Goings.{updates_in, blind_in}
 use Rattle.fkv_straight.proofs.appending.append_past.Goals as goal

@@ -1,12 +1,10 @@
 use Rattle.std.proofs.Common.{◌≡◌, ℕ, ◌+◌, ◌*◌, ◌^◌, refl, sym, ap, ◌∙◌}
-use Rattle.std.specs.Prelude.{Option}
 use Rattle.fkv_map.specs.Keys.{as_number, key_of, value_applied}
 use Rattle.fkv_map.specs.declared.operations.Op.{Op}
 use Rattle.fkv_base.specs.declared.numbers.Key.{Key}
 use Rattle.fkv_plane.specs.declared.asks.Ask.TheVariants.{Store}
 use Rattle.fkv_plane.specs.declared.places.RecordWord.TheVariants as rec
 use Rattle.fkv_plane.specs.Places.{record_place}
-use Rattle.fkv_index.specs.Slots.{entry_addr}
 use Rattle.fkv_ops.specs.Values.{word_of}
 use Rattle.fkv_straight.proofs.Appends.{value_asks, value_comes, key_stores, key_stored, header_is, header_stores, header_stored}
 use Rattle.fkv_straight.proofs.Goings.{record_asks, leads_on}

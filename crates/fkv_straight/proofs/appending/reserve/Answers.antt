@@ -1,4 +1,4 @@
-use Rattle.std.proofs.Common.{◌≡◌, ℕ, ◌+◌, ◌<◌, ◌^◌, refl, sym, ap, ◌∙◌, subst, arith}
+use Rattle.std.proofs.Common.{ℕ, ◌+◌, ◌<◌, refl, sym, ◌∙◌, subst}
 use Rattle.fkv_map.specs.Keys.{as_number}
 use Rattle.fkv_plane.specs.declared.asks.Ask.TheVariants.{Load, Cas}
 use Rattle.fkv_plane.specs.declared.places.SharedWord.TheVariants as one

@@ -1,8 +1,7 @@
 use Rattle.std.proofs.Common.{◌≡◌, refl, sym, ap, ◌∙◌, rules, subst, false}
 use Rattle.fkv_ops.specs.Requests.{is_read}
 use Rattle.fkv_session.specs.Alike.{lasting}
-use Rattle.fkv_session.specs.Sessions.{Seat, SessionState, Sitter}
-use Rattle.fkv_straight.specs.Standing.{begins}
+use Rattle.fkv_session.specs.Sessions.{SessionState, Sitter}
 use Rattle.fkv_straight.proofs.Endings.{read_asks, serial_fits, update_asks, update_caught_up}
 use Rattle.fkv_straight.proofs.Seeks.{begins_same}
 use Rattle.fkv_straight.proofs.calls.run.Goals as goal

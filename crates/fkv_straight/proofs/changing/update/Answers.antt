@@ -1,5 +1,3 @@
-use Rattle.std.proofs.Common.{◌≡◌, ap, ◌∙◌}
-use Rattle.std.specs.Prelude.{Option, Some, IfSome}
 use Rattle.fkv_straight.specs.declared.searching.Met.{Met}
 use Rattle.fkv_straight.specs.declared.searching.Met.TheVariants.{Found, Nowhere, OnDisk}
 use Rattle.fkv_straight.specs.Met.{HasMet}

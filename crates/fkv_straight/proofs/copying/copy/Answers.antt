@@ -1,6 +1,5 @@
 use Rattle.std.proofs.Common.{◌≡◌, ℕ, refl, sym, ◌∙◌, rules, subst, true, false}
 use Rattle.std.specs.Prelude.{Option}
-use Rattle.fkv_map.specs.Keys.{as_number}
 use Rattle.fkv_plane.specs.declared.asks.Ask.TheVariants.{Load}
 use Rattle.fkv_plane.specs.declared.places.RecordWord.TheVariants as rec
 use Rattle.fkv_log.specs.declared.reserving.Reserving.TheVariants.{LoadsLimit}

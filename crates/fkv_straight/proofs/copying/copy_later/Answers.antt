@@ -1,4 +1,4 @@
-use Rattle.std.proofs.Common.{◌≡◌, refl, sym, ◌∙◌}
+use Rattle.std.proofs.Common.{◌∙◌}
 use Rattle.fkv_straight.proofs.Changes.{met_by}
 use Rattle.fkv_straight.proofs.Copies.{later_copied, is_high, is_other}
 use Rattle.fkv_straight.proofs.Goings.{updates_in}

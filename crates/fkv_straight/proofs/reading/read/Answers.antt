@@ -1,7 +1,6 @@
-use Rattle.std.proofs.Common.{◌≡◌, ℕ, refl, sym, ap, ◌∙◌}
+use Rattle.std.proofs.Common.{ℕ}
 use Rattle.fkv_plane.specs.declared.asks.Ask.TheVariants.{Load}
 use Rattle.fkv_plane.specs.declared.places.RecordWord.TheVariants as rec
-use Rattle.std.specs.Prelude.{Option, Some, IfSome}
 use Rattle.fkv_straight.specs.declared.searching.Met.{Met}
 use Rattle.fkv_straight.specs.declared.searching.Met.TheVariants.{Found, Nowhere}
 use Rattle.fkv_straight.specs.Course.{course_of}

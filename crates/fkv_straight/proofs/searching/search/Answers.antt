@@ -1,5 +1,3 @@
-use Rattle.std.proofs.Common.{◌≡◌, refl, sym, ap, ◌∙◌, subst}
-use Rattle.std.specs.Prelude.{Option, IfSome}
 use Rattle.fkv_index.specs.Slots.{entry_addr}
 use Rattle.fkv_straight.specs.declared.searching.Slot.{Slot}
 use Rattle.fkv_straight.specs.Course.{course_of}

@@ -1,16 +1,8 @@
-use Rattle.std.proofs.Common.{◌≡◌, ℕ, ◌+◌, ◌-◌, ◌*◌, ◌/◌, ◌^◌, ◌<◌, ◌≤◌, refl, sym, ap, ◌∙◌, subst, arith, rules, Bool, true, false, add-zero}
-use Rattle.std.specs.Prelude.{◌==◌}
-use Rattle.std.proofs.lemmas.Bool.Decides.{nat_tests}
+use Rattle.std.proofs.Common.{◌≡◌, ℕ, ◌+◌, ◌-◌, ◌<◌, refl, sym, ap, ◌∙◌, arith, rules, true, add-zero}
 use Rattle.fkv_plane.specs.declared.asks.Ask.TheVariants.{Load}
-use Rattle.fkv_plane.specs.declared.places.Places.{Places}
-use Rattle.fkv_plane.specs.Places.{overflow_place}
-use Rattle.fkv_index.specs.declared.homes.Home.{Home}
-use Rattle.fkv_index.specs.Slots.{entry_tag, link_of}
-use Rattle.fkv_session.specs.Sessions.{Seat}
-use Rattle.fkv_straight.specs.Course.{course_of, home_in}
-use Rattle.fkv_straight.specs.Met.{IsAtSlot}
+use Rattle.fkv_straight.specs.Course.{course_of}
 use Rattle.fkv_straight.specs.Standing.{begins}
-use Rattle.fkv_straight.proofs.Goings.{home_is, leads_on, place_asks}
+use Rattle.fkv_straight.proofs.Goings.{leads_on, place_asks}
 use Rattle.fkv_straight.proofs.Seeks.{begun_at, slot_asks, slot_comes, slot_passed, last_passed, link_asks, link_comes, link_goes_on, entry_found, empty_found, is_other, is_mine, is_some}
 use Rattle.fkv_straight.proofs.searching.seek.Goals as goal
 

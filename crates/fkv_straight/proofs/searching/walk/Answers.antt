@@ -1,11 +1,10 @@
-use Rattle.std.proofs.Common.{◌≡◌, ℕ, ◌<◌, ◌≤◌, ◌*◌, ◌+◌, refl, sym, ap, ◌∙◌, subst, arith, rules, true, false}
+use Rattle.std.proofs.Common.{◌≡◌, ℕ, sym, ap, ◌∙◌, subst, arith}
 use Rattle.fkv_base.specs.declared.numbers.Key.{Key}
 use Rattle.fkv_map.specs.Keys.{key_of}
 use Rattle.fkv_map.specs.declared.operations.Op.{Op}
 use Rattle.fkv_plane.specs.declared.asks.Ask.TheVariants.{Load}
 use Rattle.fkv_plane.specs.declared.places.RecordWord.TheVariants as rec
-use Rattle.fkv_index.specs.Slots.{entry_addr}
-use Rattle.fkv_straight.specs.Met.{IsReached, HasKey}
+use Rattle.fkv_straight.specs.Met.{HasKey}
 use Rattle.fkv_straight.proofs.Goings.{record_asks, leads_on, memory_is}
 use Rattle.fkv_straight.proofs.Walks.{reached_here, header_asks, header_comes, key_asks, key_comes, key_passed}
 use Rattle.fkv_straight.proofs.searching.walk.Goals as goal
