@@ -1,7 +1,6 @@
 //! Seeded calls of all five operations, in every phase, with full buckets, long chains, and records below each of the offsets.
 use crate::pairs::{PHASE, Pair, TAIL};
 use fkv_base::{Fault, Key, Shape, Value};
-use fkv_index::home_of;
 use fkv_map::{Call, Op};
 use std::alloc::Global;
 use std::process::Abort;
@@ -37,21 +36,6 @@ impl Seeded {
             _ => Op::Read(key),
         }
     }
-}
-
-/// Keys of one home, where the index has so many bits.
-fn keys_of_one_home(alloc: Global, bits: u64, count: usize) -> Result<Vec<Key>, Fault> {
-    let mut keys = Vec::new(alloc);
-    let home = home_of(Key(0), bits);
-    for n in 0..2000000 {
-        if keys.len() >= count {
-            return Ok(keys);
-        }
-        if home_of(Key(n), bits) == home {
-            keys.push(Key(n))?;
-        }
-    }
-    Ok(keys)
 }
 
 /// The phases of a commit in order, with the version that a session is in.
@@ -96,25 +80,22 @@ fn moves_on(rt: &impl Abort, pair: &mut Pair, calls: u64) {
     both_call(rt, pair, Call::Poll);
 }
 
-/// A key of the one home, or one of forty others.
-fn some_key(seeded: &mut Seeded, keys: &[Key]) -> Key {
-    let other = Key(1000 + seeded.below(40));
+/// One of eight keys of one home, or of forty others. Bucket and tag are low bits of the key, so multiples of 2^21 have one home.
+fn some_key(seeded: &mut Seeded) -> Key {
     if seeded.below(2) == 0 {
-        return other;
-    }
-    match keys.get(seeded.below(8) as usize) {
-        Some(key) => *key,
-        None => other,
+        Key(seeded.below(8) << 21)
+    } else {
+        Key(1000 + seeded.below(40))
     }
 }
 
-fn calls_agree(rt: &impl Abort, pair: &mut Pair, keys: &[Key], seed: u64) {
+fn calls_agree(rt: &impl Abort, pair: &mut Pair, seed: u64) {
     let mut seeded = Seeded(seed);
     for calls in 0..1000 {
         if calls % 15 == 0 {
             moves_on(rt, pair, calls);
         }
-        let key = some_key(&mut seeded, keys);
+        let key = some_key(&mut seeded);
         let op = seeded.op(key);
         let alone = pair.alone(Call::Op(op));
         let straight = pair.straight(op);
@@ -124,12 +105,11 @@ fn calls_agree(rt: &impl Abort, pair: &mut Pair, keys: &[Key], seed: u64) {
 }
 
 fn stores_agree(rt: &impl Abort, alloc: Global, bits: u64, overflow: u64) -> Result<(), Fault> {
-    let keys = keys_of_one_home(alloc, bits, 8)?;
     let mut through = 0u64;
     for seed in 0..50 {
         let shape = Shape::new(bits, 16, 16, 4, 1, overflow, 60000)?;
         let mut pair = Pair::new(alloc, shape)?;
-        calls_agree(rt, &mut pair, &keys, seed);
+        calls_agree(rt, &mut pair, seed);
         assert!(rt; pair.agrees());
         through = through.saturating_add(pair.through);
     }
