@@ -1,4 +1,6 @@
 //! Seeded calls of all five operations, in every phase, with full buckets, long chains, and records below each of the offsets.
+ghost use Rattle.std.specs.Prelude.{◌<◌};
+
 use crate::pairs::{PHASE, Pair, TAIL};
 use fkv_base::{Fault, Key, Shape, Value};
 use fkv_map::{Call, Op};
@@ -19,10 +21,10 @@ impl Seeded {
         self.0 >> 33
     }
 
-    fn below(&mut self, count: u64) -> u64 {
-        if count == 0 {
-            return 0;
-        }
+    fn below(&mut self, count: u64) -> u64
+        requires { 0 < count }
+        ensures { result < count }
+    {
         self.next() % count
     }
 
@@ -59,7 +61,7 @@ fn both_call(rt: &impl Abort, pair: &mut Pair, call: Call) {
     assert!(rt; pair.agrees(), "{call:?}");
 }
 
-/// The offsets move on behind the tail, as far as a ring of 256 records lets them, and so does the phase, every 45 calls. What waits is
+/// The offsets move on behind the tail, as far as a ring of 256 records lets them, and so does the phase, every 120 calls. What waits is
 /// tried again.
 fn moves_on(rt: &impl Abort, pair: &mut Pair, calls: u64) {
     let tail = pair.words.word(TAIL);
@@ -67,7 +69,7 @@ fn moves_on(rt: &impl Abort, pair: &mut Pair, calls: u64) {
     let safe = tail.saturating_sub(30).max(1);
     let head = tail.saturating_sub(100).max(1);
     pair.store(&[
-        (PHASE, phase_word(calls / 45)),
+        (PHASE, phase_word(calls / 120)),
         (4, head.saturating_add(200)),
         (5, read_only),
         (6, safe),
@@ -83,7 +85,7 @@ fn moves_on(rt: &impl Abort, pair: &mut Pair, calls: u64) {
 /// One of eight keys of one home, or of forty others. Bucket and tag are low bits of the key, so multiples of 2^21 have one home.
 fn some_key(seeded: &mut Seeded) -> Key {
     if seeded.below(2) == 0 {
-        Key(seeded.below(8) << 21)
+        Key(seeded.below(8) * 2097152)
     } else {
         Key(1000 + seeded.below(40))
     }
