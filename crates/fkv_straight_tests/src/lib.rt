@@ -1,11 +1,8 @@
-//! Tests of straight calls: the machine alone and the straight calls, over two stores of plain words, call by call. The line of the
-//! straight calls runs a machine beside them, which says what may be asked at each step.
+//! A line over plain words, by which straight calls are tried outside of any thread: its machine runs beside them and says what may be asked.
 #![tactic(auto)]
 
 #[cfg(test)]
-mod calls;
-#[cfg(test)]
-mod pairs;
+mod goings;
 mod plain_lines;
 
 pub use plain_lines::PlainLine;
