@@ -35,7 +35,7 @@ use Rattle.fkv_straight.proofs.Moves.{asks_load, asks_store, asks_cas, led_on, s
 use Rattle.fkv_straight.proofs.Tests.{same}
 
 -- ---- its address is reserved
-abbrev reserving : Course → WalkState → ℕ → ℕ → Option ℕ → Reserving → TryState
+abbrev pub reserving : Course → WalkState → ℕ → ℕ → Option ℕ → Reserving → TryState
 reserving c w place entry old step = trying c w (append_at c place entry old step fill.AtRest publish.AtRest Reserves) (Appends (reply_from old c.op))
 
 abbrev filling : Course → WalkState → ℕ → ℕ → Option ℕ → ℕ → Filling → TryState

@@ -113,7 +113,7 @@ unfolding IsAtCurrent trying_ask walking_ask load_ask passed
 current_asks c r s at = asks_load c (holding c at.0 r (LoadsCurrent (record { 0 = r.addr }))) (record_place c.seat.places r.addr rec.Value) s at.1 refl
 
 -- the walk that has loaded the value
-abbrev has_value : Course → Trail → Record → ℕ → WalkState
+abbrev pub has_value : Course → Trail → Record → ℕ → WalkState
 has_value c trail r old = walking c trail r.place r.entry load.AtRest (walk.Ended (walked.Value old))
 
 turns_to_change : (c : Course) (trail : Trail) (r : Record) (old : ℕ)

@@ -35,7 +35,8 @@ use Rattle.fkv_straight.specs.declared.searching.Record.{Record}
 use Rattle.fkv_straight.specs.Course.{Course, head_in, request_in, shares, Goes}
 use Rattle.fkv_straight.specs.Met.{Trail, trying, meeting, holding, finding, walking, judged, append_at, HasKey, IsMet, IsReached, IsAtSafe, HasSafe, IsCopied, IsAtOld, IsAtReserve}
 use Rattle.fkv_straight.specs.Standing.{asked, leads, IsLed, next_try}
-use Rattle.fkv_straight.proofs.Changes.{MetBy}
+use Rattle.fkv_straight.proofs.Appends.{reserving}
+use Rattle.fkv_straight.proofs.Changes.{MetBy, has_value}
 use Rattle.fkv_straight.proofs.Moves.{asks_load, led_on, stays, steps}
 use Rattle.fkv_straight.proofs.Tests.{and_false}
 use Rattle.fkv_straight.proofs.Walks.{past}
@@ -97,11 +98,8 @@ own_copied c r safe s has below own =
     (has.0, LoadsSafe (record { 0 = r.addr }) (record { 0 = r.version }), subst (λ (t : TryState). IsLed c t s) (copies_own c has.0 r safe below own) has.1)
 
 -- ---- the copy's old value
-abbrev reserving : Course → WalkState → ℕ → ℕ → Option ℕ → TryState
-reserving c w place entry old = trying c w (append_at c place entry old reserve.LoadsLimit fill.AtRest publish.AtRest Reserves) (Appends (reply_from old c.op))
-
 copies_blindly : (c : Course) (trail : Trail) (r : Record) (step : Trying) → is_blind c.op ≡ true
-    → copies_from (finding c trail r step) InMemory ≡ reserving c (walking c trail r.place r.entry (load.HasKey (record { 0 = r.addr }) r.header (key_of c.op).0) (walk.HasFound (record { 0 = r.addr }) (record { 0 = r.version }))) r.place r.entry None
+    → copies_from (finding c trail r step) InMemory ≡ reserving c (walking c trail r.place r.entry (load.HasKey (record { 0 = r.addr }) r.header (key_of c.op).0) (walk.HasFound (record { 0 = r.addr }) (record { 0 = r.version }))) r.place r.entry None reserve.LoadsLimit
 unfolding copies_from appends
 copies_blindly c trail r step blind = rw blind refl
 
@@ -109,7 +107,7 @@ pub copied_reserves : (c : Course) (r : Record) (s : SessionState) → IsCopied 
 unfolding IsCopied IsAtReserve trying_ask appending_ask reserve_ask passed
 copied_reserves c r s at blind =
     let w = walking c at.0 r.place r.entry (load.HasKey (record { 0 = r.addr }) r.header (key_of c.op).0) (walk.HasFound (record { 0 = r.addr }) (record { 0 = r.version })) in
-    (w, stays c (reserving c w r.place r.entry None) s (subst (λ (t : TryState). IsLed c t s) (copies_blindly c at.0 r at.1 blind) at.2) refl refl)
+    (w, stays c (reserving c w r.place r.entry None reserve.LoadsLimit) s (subst (λ (t : TryState). IsLed c t s) (copies_blindly c at.0 r at.1 blind) at.2) refl refl)
 
 copies_seeing : (c : Course) (trail : Trail) (r : Record) (step : Trying) → is_blind c.op ≡ false → copies_from (finding c trail r step) InMemory ≡ holding c trail r LoadsOld
 unfolding copies_from walking_on load_on
@@ -123,24 +121,21 @@ pub old_asks : (c : Course) (r : Record) (s : SessionState) → IsAtOld c r s �
 unfolding IsAtOld trying_ask walking_ask load_ask passed
 old_asks c r s at = asks_load c (holding c at.0 r LoadsOld) (record_place c.seat.places r.addr rec.Value) s at.1 refl
 
-abbrev has_old : Course → Trail → Record → ℕ → WalkState
-has_old c trail r old = walking c trail r.place r.entry load.AtRest (walk.Ended (walked.Value old))
-
-turns_to_append : (c : Course) (trail : Trail) (r : Record) (old : ℕ) → next_try c (holding c trail r LoadsOld) old ≡ reserving c (has_old c trail r old) r.place r.entry (value_of old)
+turns_to_append : (c : Course) (trail : Trail) (r : Record) (old : ℕ) → next_try c (holding c trail r LoadsOld) old ≡ reserving c (has_value c trail r old) r.place r.entry (value_of old) reserve.LoadsLimit
 unfolding trying_next walking_ask walking_next load_ask load_next load_next_ask value_ledto old_ledto appends passed
 turns_to_append c trail r old = refl
 
 pub old_comes : (c : Course) (r : Record) (old : ℕ) (s u : SessionState) → IsAtOld c r s → u ≡ leads c.seat s old → IsAtReserve c r.place r.entry (value_of old) reserve.LoadsLimit u
 unfolding IsAtOld IsAtReserve trying_ask appending_ask reserve_ask passed
 old_comes c r old s u at e =
-    (has_old c at.0 r old, steps c (holding c at.0 r LoadsOld) (reserving c (has_old c at.0 r old) r.place r.entry (value_of old)) old s u at.1 e (turns_to_append c at.0 r old) refl refl)
+    (has_value c at.0 r old, steps c (holding c at.0 r LoadsOld) (reserving c (has_value c at.0 r old) r.place r.entry (value_of old) reserve.LoadsLimit) old s u at.1 e (turns_to_append c at.0 r old) refl refl)
 
 -- ---- the chain's end
 abbrev ended_at : Course → Trail → ℕ → ℕ → Loading → WalkAnswer → WalkState
 ended_at c trail place entry loading its = walking c trail place entry loading (walk.Ended its)
 
 ends_nowhere : (c : Course) (trail : Trail) (place entry : ℕ) (loading : Loading) (step : Walking) → shares c ≡ false → is_read c.op ≡ false → is_moving_on c.lasts.seen.phase ≡ false
-    → judged c (reached c.seat.places (walking c trail place entry loading step) 0) ≡ reserving c (ended_at c trail place entry loading walked.Nowhere) place entry None
+    → judged c (reached c.seat.places (walking c trail place entry loading step) 0) ≡ reserving c (ended_at c trail place entry loading walked.Nowhere) place entry None reserve.LoadsLimit
 unfolding walk_ledto walking_ask copies copies_from appends
 ends_nowhere c trail place entry loading step calm updates still = rw (calm, updates, still) refl
 
@@ -148,12 +143,12 @@ pub nowhere_reserves : (c : Course) (place entry : ℕ) (s : SessionState) → I
 unfolding IsReached IsAtReserve trying_ask appending_ask reserve_ask passed
 nowhere_reserves c place entry s at calm updates still =
     let w = ended_at c at.0 place entry at.1 walked.Nowhere in
-    (w, stays c (reserving c w place entry None) s (subst (λ (t : TryState). IsLed c t s) (ends_nowhere c at.0 place entry at.1 at.2 calm updates still) at.3) refl refl)
+    (w, stays c (reserving c w place entry None reserve.LoadsLimit) s (subst (λ (t : TryState). IsLed c t s) (ends_nowhere c at.0 place entry at.1 at.2 calm updates still) at.3) refl refl)
 
 -- ---- the chain leaves memory, and the new value doesn't depend on the old one
 leaves_memory : (c : Course) (trail : Trail) (place entry addr : ℕ) (loading : Loading) (step : Walking) → (addr == 0) ≡ false → nat_lt addr (head_in c) ≡ true → shares c ≡ false → is_read c.op ≡ false → is_blind c.op ≡ true
     → is_moving_on c.lasts.seen.phase ≡ false
-    → judged c (reached c.seat.places (walking c trail place entry loading step) addr) ≡ reserving c (ended_at c trail place entry loading (walked.OnDisk (record { 0 = addr }))) place entry None
+    → judged c (reached c.seat.places (walking c trail place entry loading step) addr) ≡ reserving c (ended_at c trail place entry loading (walked.OnDisk (record { 0 = addr }))) place entry None reserve.LoadsLimit
 unfolding walk_ledto walking_ask copies copies_from appends
 leaves_memory c trail place entry addr loading step some low calm updates blind still = rw (some, low, calm, updates, blind, still) refl
 
@@ -163,7 +158,7 @@ unfolding IsReached IsAtReserve trying_ask appending_ask reserve_ask passed
 disk_reserves c place entry addr s at some low calm updates blind still =
     let w = ended_at c at.0 place entry at.1 (walked.OnDisk (record { 0 = addr })) in (
       w,
-      stays c (reserving c w place entry None) s
+      stays c (reserving c w place entry None reserve.LoadsLimit) s
           (subst (λ (t : TryState). IsLed c t s) (leaves_memory c at.0 place entry addr at.1 at.2 (grind (arith, nat_tests)) (grind (arith, nat_tests)) calm updates blind still) at.3) refl refl,
     )
 
