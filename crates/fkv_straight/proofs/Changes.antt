@@ -1,0 +1,145 @@
+-- How an update changes its record in place.
+use Rattle.std.proofs.Common.{◌≡◌, ℕ, ◌≤◌, refl, sym, ap, ◌∙◌, subst, arith, true, false}
+use Rattle.std.specs.Prelude.{◌==◌, nat_lt, nat_le, None}
+use Rattle.std.proofs.lemmas.Bool.Decides.{nat_tests}
+use Rattle.fkv_map.specs.declared.operations.Op.{Op}
+use Rattle.fkv_map.specs.Keys.{key_of, value_applied, reply_from}
+use Rattle.fkv_plane.specs.declared.asks.Ask.TheVariants.{Load, Swap, Cas}
+use Rattle.fkv_plane.specs.declared.places.RecordWord.TheVariants as rec
+use Rattle.fkv_plane.specs.Passing.{passed}
+use Rattle.fkv_plane.specs.Places.{record_place}
+use Rattle.fkv_log.specs.declared.loading.Loading.TheVariants as load
+use Rattle.fkv_log.specs.Loading.{load_ask, load_next, load_next_ask, load_on}
+use Rattle.fkv_ops.specs.declared.answers.TryAnswer.TheVariants as tried
+use Rattle.fkv_ops.specs.declared.header_words.HeaderSaid.TheVariants.{Says}
+use Rattle.fkv_ops.specs.declared.trying.Trying.TheVariants.{SwapsValue, LoadsCurrent, ChangesValue, Ended}
+use Rattle.fkv_ops.specs.declared.walking.WalkAnswer.TheVariants as walked
+use Rattle.fkv_ops.specs.declared.walking.Walking.TheVariants.{HasFound}
+use Rattle.fkv_ops.specs.declared.walking.Walking.TheVariants as walk
+use Rattle.fkv_ops.specs.HeaderWords.{header_said}
+use Rattle.fkv_ops.specs.Requests.{is_read, is_blind}
+use Rattle.fkv_ops.specs.Values.{value_of, word_of}
+use Rattle.fkv_ops.specs.Appending.{append_rested}
+use Rattle.fkv_ops.specs.Trying.{TryState, trying_ask, trying_next, walk_ledto, current_ledto, ends}
+use Rattle.fkv_ops.specs.Walking.{WalkState, walking_ask, walking_next, load_ledto, value_ledto, walking_on}
+use Rattle.fkv_session.specs.Sessions.{Seat, SessionState}
+use Rattle.fkv_straight.specs.declared.going.Going.{Going}
+use Rattle.fkv_straight.specs.declared.searching.Record.{Record}
+use Rattle.fkv_straight.specs.Course.{Course, head_in, request_in, shares, Goes}
+use Rattle.fkv_straight.specs.Met.{Trail, trying, meeting, holding, walking, HasKey, IsMet, IsAtSwap, IsAtCurrent, IsAtChange}
+use Rattle.fkv_straight.specs.Standing.{asked, leads, IsLed, next_try, IsDone}
+use Rattle.fkv_straight.proofs.Moves.{asks_load, asks_swap, asks_cas, led_on, stays, steps, ends_done}
+use Rattle.fkv_straight.proofs.Tests.{same, here}
+use Rattle.fkv_straight.proofs.Walks.{past}
+
+-- what the table tests of the record that an update has met
+pub record MetBy (c : Course) (r : Record) : Type 0 where
+  pub said : header_said r.header ≡ Says (record { 0 = r.previous }) (record { 0 = r.version })
+  pub below : nat_lt r.previous r.addr ≡ true
+  pub mine : ((key_of c.op).0 == (key_of c.op).0) ≡ true
+  pub calm : shares c ≡ false
+  pub updates : is_read c.op ≡ false
+  pub above : nat_lt r.addr (head_in c) ≡ false
+
+pub met_by : (c : Course) (r : Record) (s : SessionState) → IsMet c r s → shares c ≡ false → is_read c.op ≡ false → MetBy c r
+met_by c r s met calm updates = record {
+  said = met.said;
+  below = (let h = met.below in grind (arith, nat_tests));
+  mine = same (key_of c.op).0;
+  calm = calm;
+  updates = updates;
+  above = (here c.seat.places.ring (head_in c) r.addr met.here).above;
+}
+
+-- and where the session may change it
+pub record MayChange (c : Course) (r : Record) : Type 0 where
+  pub mutable : nat_le c.lasts.seen.offsets.read_only.0 r.addr ≡ true
+  pub own : (r.version == (request_in c).version.0) ≡ true
+
+pub may_change : (c : Course) (k : Seat) (op : Op) (g : Going) (r : Record) → Goes c k op g → g.read_only ≤ r.addr → r.version ≡ g.version → MayChange c r
+may_change c k op g r goes high own = record {
+  mutable = (let h : c.lasts.seen.offsets.read_only.0 ≤ r.addr = subst (λ (n : ℕ). n ≤ r.addr) (sym goes.its_read_only) high in grind (arith, nat_tests));
+  own = (let h : r.version ≡ (request_in c).version.0 = own ∙ sym goes.its_version in grind (arith, nat_tests));
+}
+
+-- where the walk stands then
+abbrev at_record : Course → Trail → Record → WalkState
+at_record c trail r = walking c (past trail (record { 0 = r.version })) r.place r.entry (load.HasKey (record { 0 = r.addr }) r.header (key_of c.op).0) (HasFound (record { 0 = r.addr }) (record { 0 = r.version }))
+
+-- ---- by one Swap
+turns_to_swap : (c : Course) (trail : Trail) (r : Record) → MetBy c r → MayChange c r → is_blind c.op ≡ true
+    → next_try c (meeting c trail r.place r.entry r.addr (load.LoadsKey (record { 0 = r.addr }) r.header)) (key_of c.op).0 ≡ trying c (at_record c trail r) append_rested (SwapsValue (record { 0 = r.addr }))
+unfolding trying_next walk_ledto walking_ask walking_next load_ledto load_ask load_next load_next_ask passed
+turns_to_swap c trail r met may blind = rw (met.said, met.below, met.mine, met.calm, met.updates, met.above, may.mutable, may.own, blind) refl
+
+pub met_swaps : (c : Course) (r : Record) (s : SessionState) → IsMet c r s → MetBy c r → MayChange c r → is_blind c.op ≡ true → IsAtSwap c r.addr s
+unfolding HasKey IsAtSwap trying_ask
+met_swaps c r s met by may blind =
+    let has = met.key in
+    (at_record c has.0 r, stays c (trying c (at_record c has.0 r) append_rested (SwapsValue (record { 0 = r.addr }))) s (subst (λ (t : TryState). IsLed c t s) (turns_to_swap c has.0 r by may blind) has.1) refl refl)
+
+pub swap_asks : (c : Course) (addr : ℕ) (s : SessionState) → IsAtSwap c addr s → asked c.seat s ≡ Swap (record_place c.seat.places addr rec.Value) (word_of (value_applied None c.op))
+unfolding IsAtSwap trying_ask
+swap_asks c addr s at = asks_swap c (trying c at.0 append_rested (SwapsValue (record { 0 = addr }))) (record_place c.seat.places addr rec.Value) (word_of (value_applied None c.op)) s at.1 refl
+
+swapped : (c : Course) (w : WalkState) (addr reply : ℕ) → (next_try c (trying c w append_rested (SwapsValue (record { 0 = addr }))) reply).step ≡ Ended (tried.Done (reply_from None c.op))
+unfolding trying_next ends
+swapped c w addr reply = refl
+
+swap_spares : (c : Course) (w : WalkState) (addr reply : ℕ) → (next_try c (trying c w append_rested (SwapsValue (record { 0 = addr }))) reply).spare ≡ c.lasts.spare
+unfolding trying_next ends
+swap_spares c w addr reply = refl
+
+pub swap_ends : (c : Course) (addr reply : ℕ) (s u : SessionState) → IsAtSwap c addr s → is_read c.op ≡ false → u ≡ leads c.seat s reply → IsDone c.lasts (reply_from None c.op) u
+unfolding IsAtSwap
+swap_ends c addr reply s u at updates e =
+    let t = trying c at.0 append_rested (SwapsValue (record { 0 = addr })) in
+    ends_done c (next_try c t reply) (reply_from None c.op) u (led_on c t reply s u at.1 e) (swapped c at.0 addr reply) (swap_spares c at.0 addr reply) updates
+
+-- ---- by a load and a Cas
+turns_to_load : (c : Course) (trail : Trail) (r : Record) → MetBy c r → MayChange c r → is_blind c.op ≡ false
+    → next_try c (meeting c trail r.place r.entry r.addr (load.LoadsKey (record { 0 = r.addr }) r.header)) (key_of c.op).0 ≡ holding c (past trail (record { 0 = r.version })) r (LoadsCurrent (record { 0 = r.addr }))
+unfolding trying_next walk_ledto walking_ask walking_next load_ledto load_ask load_next load_next_ask load_on walking_on passed
+turns_to_load c trail r met may seeing = rw (met.said, met.below, met.mine, met.calm, met.updates, met.above, may.mutable, may.own, seeing) refl
+
+pub met_currents : (c : Course) (r : Record) (s : SessionState) → IsMet c r s → MetBy c r → MayChange c r → is_blind c.op ≡ false → IsAtCurrent c r s
+unfolding HasKey IsAtCurrent trying_ask walking_ask load_ask passed
+met_currents c r s met by may seeing =
+    let has = met.key in
+    (past has.0 (record { 0 = r.version }), stays c (holding c (past has.0 (record { 0 = r.version })) r (LoadsCurrent (record { 0 = r.addr }))) s (subst (λ (t : TryState). IsLed c t s) (turns_to_load c has.0 r by may seeing) has.1) refl refl)
+
+pub current_asks : (c : Course) (r : Record) (s : SessionState) → IsAtCurrent c r s → asked c.seat s ≡ Load (record_place c.seat.places r.addr rec.Value)
+unfolding IsAtCurrent trying_ask walking_ask load_ask passed
+current_asks c r s at = asks_load c (holding c at.0 r (LoadsCurrent (record { 0 = r.addr }))) (record_place c.seat.places r.addr rec.Value) s at.1 refl
+
+-- the walk that has loaded the value
+abbrev pub has_value : Course → Trail → Record → ℕ → WalkState
+has_value c trail r old = walking c trail r.place r.entry load.AtRest (walk.Ended (walked.Value old))
+
+turns_to_change : (c : Course) (trail : Trail) (r : Record) (old : ℕ)
+    → next_try c (holding c trail r (LoadsCurrent (record { 0 = r.addr }))) old ≡ trying c (has_value c trail r old) append_rested (ChangesValue (record { 0 = r.addr }) old)
+unfolding trying_next walking_ask walking_next load_ask load_next load_next_ask value_ledto current_ledto passed
+turns_to_change c trail r old = refl
+
+pub current_comes : (c : Course) (r : Record) (old : ℕ) (s u : SessionState) → IsAtCurrent c r s → u ≡ leads c.seat s old → IsAtChange c r.addr old u
+unfolding IsAtCurrent IsAtChange trying_ask
+current_comes c r old s u at e =
+    (has_value c at.0 r old, steps c (holding c at.0 r (LoadsCurrent (record { 0 = r.addr }))) (trying c (has_value c at.0 r old) append_rested (ChangesValue (record { 0 = r.addr }) old)) old s u at.1 e (turns_to_change c at.0 r old) refl refl)
+
+pub change_asks : (c : Course) (addr old : ℕ) (s : SessionState) → IsAtChange c addr old s → asked c.seat s ≡ Cas (record_place c.seat.places addr rec.Value) old (word_of (value_applied (value_of old) c.op))
+unfolding IsAtChange trying_ask
+change_asks c addr old s at = asks_cas c (trying c at.0 append_rested (ChangesValue (record { 0 = addr }) old)) (record_place c.seat.places addr rec.Value) old (word_of (value_applied (value_of old) c.op)) s at.1 refl
+
+changed : (c : Course) (w : WalkState) (addr old : ℕ) → (old == old) ≡ true → (next_try c (trying c w append_rested (ChangesValue (record { 0 = addr }) old)) old).step ≡ Ended (tried.Done (reply_from (value_of old) c.op))
+unfolding trying_next ends
+changed c w addr old won = rw won refl
+
+change_spares : (c : Course) (w : WalkState) (addr old : ℕ) → (old == old) ≡ true → (next_try c (trying c w append_rested (ChangesValue (record { 0 = addr }) old)) old).spare ≡ c.lasts.spare
+unfolding trying_next ends
+change_spares c w addr old won = rw won refl
+
+pub change_ends : (c : Course) (addr old found : ℕ) (s u : SessionState) → IsAtChange c addr old s → is_read c.op ≡ false → found ≡ old → u ≡ leads c.seat s found → IsDone c.lasts (reply_from (value_of old) c.op) u
+unfolding IsAtChange
+change_ends c addr old found s u at updates won e =
+    let t = trying c at.0 append_rested (ChangesValue (record { 0 = addr }) old) in
+    ends_done c (next_try c t old) (reply_from (value_of old) c.op) u (led_on c t old s u at.1 (e ∙ ap (λ (n : ℕ). leads c.seat s n) won)) (changed c at.0 addr old (same old)) (change_spares c at.0 addr old (same old)) updates

@@ -1,0 +1,104 @@
+-- The numbers that a call goes by, as those of its course.
+use Rattle.std.proofs.Common.{◌≡◌, ℕ, ◌<◌, ◌≤◌, refl, sym, ap, ◌∙◌, subst, arith, Bool, true, false}
+use Rattle.std.specs.Prelude.{◌&&◌, not, nat_le, Option, Some, None, IfSome}
+use Rattle.std.proofs.lemmas.Bool.Decides.{nat_tests}
+use Rattle.fkv_base.specs.Limits.{last_serial, last_version}
+use Rattle.fkv_base.specs.declared.numbers.Key.{Key}
+use Rattle.fkv_map.specs.declared.operations.Op.{Op}
+use Rattle.fkv_map.specs.Keys.{key_of}
+use Rattle.fkv_plane.specs.declared.asks.Ask.{Ask}
+use Rattle.fkv_plane.specs.declared.places.Places.{Places}
+use Rattle.fkv_plane.specs.declared.places.RecordWord.{RecordWord}
+use Rattle.fkv_plane.specs.Places.{bucket_place, record_place}
+use Rattle.fkv_index.specs.declared.homes.Home.{Home}
+use Rattle.fkv_index.specs.Finding.{spare_of}
+use Rattle.fkv_index.specs.Slots.{home_of}
+use Rattle.fkv_ops.specs.declared.requests.Seen.{Seen}
+use Rattle.fkv_ops.specs.Requests.{is_read, is_blind}
+use Rattle.fkv_ops.specs.Trying.{is_prepare, is_moving_on}
+use Rattle.fkv_session.specs.declared.answers.Told.{Told}
+use Rattle.fkv_session.specs.Sessions.{Seat, SessionState, refusal_of, bits_of, version_within}
+use Rattle.fkv_session.specs.Alike.{lasting}
+use Rattle.fkv_straight.specs.declared.going.Going.{Going}
+use Rattle.fkv_straight.specs.Course.{Course, course_of, home_in, head_in, refusal_in, Goes}
+use Rattle.fkv_straight.specs.Memory.{is_in_memory}
+use Rattle.fkv_straight.specs.Met.{IsInMemory}
+use Rattle.fkv_straight.specs.Standing.{asked, leads}
+
+-- the seat of a line is that of the course
+pub asks_at : (c : Course) (q : Seat) (s : SessionState) (ask : Ask Told) → c.seat ≡ q → asked c.seat s ≡ ask → asked q s ≡ ask
+asks_at c q s ask e h = subst (λ (x : Seat). asked x s ≡ ask) e h
+
+pub leads_at : (c : Course) (q : Seat) (s u : SessionState) (reply : ℕ) → c.seat ≡ q → u ≡ leads q s reply → u ≡ leads c.seat s reply
+leads_at c q s u reply e h = h ∙ ap (λ (x : Seat). leads x s reply) (sym e)
+
+pub refusal_is : (k : Seat) (s : SessionState) (op : Op) → refusal_of s op ≡ refusal_in (course_of k s op)
+unfolding lasting
+refusal_is k s op = refl
+
+pub spare_same : (p : Places) (spare : ℕ) → spare ≤ p.overflow → spare_of p spare ≡ spare
+spare_same p spare fits = let h : nat_le spare p.overflow ≡ true = grind (arith, nat_tests) in rw h refl
+
+pub home_is : (c : Course) (k : Seat) (op : Op) (g : Going) (h : Home) (key : Key) → Goes c k op g → key ≡ key_of op → h ≡ home_of g.bits key → h ≡ home_in c
+home_is c k op g h key goes its e = e ∙ (ap (λ (x : Key). home_of g.bits x) (its ∙ ap (λ (x : Op). key_of x) (sym goes.its_op)) ∙ ap (λ (b : ℕ). home_of b (key_of c.op)) (sym goes.its_bits))
+
+pub bucket_is : (c : Course) (k : Seat) (op : Op) (g : Going) (h : Home) (key : Key) (base : ℕ) → Goes c k op g → key ≡ key_of op → h ≡ home_of g.bits key → base ≡ bucket_place g.places h.bucket 0 → bucket_place c.seat.places (home_in c).bucket 0 ≡ base
+bucket_is c k op g h key base goes its e b =
+    ap (λ (p : Places). bucket_place p (home_in c).bucket 0) goes.its_places ∙ (ap (λ (x : Home). bucket_place g.places x.bucket 0) (sym (home_is c k op g h key goes its e)) ∙ sym b)
+
+pub record_is : (c : Course) (k : Seat) (op : Op) (g : Going) (addr at : ℕ) (word : RecordWord) → Goes c k op g → at ≡ record_place g.places addr word → record_place c.seat.places addr word ≡ at
+record_is c k op g addr at word goes e = ap (λ (p : Places). record_place p addr word) goes.its_places ∙ sym e
+
+pub memory_is : (c : Course) (k : Seat) (op : Op) (g : Going) (addr : ℕ) (b : Bool) → Goes c k op g → b ≡ is_in_memory g.places.ring g.head addr → b ≡ true → IsInMemory c addr
+memory_is c k op g addr b goes e holds = ap (λ (p : Places). is_in_memory p.ring (head_in c) addr) goes.its_places ∙ (ap (λ (n : ℕ). is_in_memory g.places.ring n addr) goes.its_head ∙ (sym e ∙ holds))
+
+-- ---- what a line of the same seat is asked for, and where it is led
+pub record_asks : (c : Course) (k : Seat) (op : Op) (g : Going) (addr at : ℕ) (word : RecordWord) (q : Seat) (s : SessionState) (ask : ℕ → Ask Told) → Goes c k op g → q ≡ k → at ≡ record_place g.places addr word
+    → asked c.seat s ≡ ask (record_place c.seat.places addr word) → asked q s ≡ ask at
+record_asks c k op g addr at word q s ask goes same e h = asks_at c q s (ask at) (goes.its_seat ∙ sym same) (h ∙ ap ask (record_is c k op g addr at word goes e))
+
+pub place_asks : (c : Course) (k : Seat) (op : Op) (g : Going) (place at : ℕ) (q : Seat) (s : SessionState) (ask : ℕ → Ask Told) → Goes c k op g → q ≡ k → place ≡ at → asked c.seat s ≡ ask place → asked q s ≡ ask at
+place_asks c k op g place at q s ask goes same e h = asks_at c q s (ask at) (goes.its_seat ∙ sym same) (h ∙ ap ask e)
+
+pub leads_on : (c : Course) (k : Seat) (op : Op) (g : Going) (q : Seat) (s u : SessionState) (reply : ℕ) → Goes c k op g → q ≡ k → u ≡ leads q s reply → u ≡ leads c.seat s reply
+leads_on c k op g q s u reply goes same e = leads_at c q s u reply (goes.its_seat ∙ sym same) e
+
+pub updates_in : (c : Course) (k : Seat) (op : Op) (g : Going) (b : Bool) → Goes c k op g → is_read op ≡ b → is_read c.op ≡ b
+updates_in c k op g b goes e = ap (λ (x : Op). is_read x) goes.its_op ∙ e
+
+pub blind_in : (c : Course) (k : Seat) (op : Op) (g : Going) (b : Bool) → Goes c k op g → is_blind op ≡ b → is_blind c.op ≡ b
+blind_in c k op g b goes e = ap (λ (x : Op). is_blind x) goes.its_op ∙ e
+
+pub goes_at : (c : Course) (k : Seat) (op : Op) (g : Going) (q : Seat) → Goes c k op g → q ≡ k → Goes c q op g
+goes_at c k op g q goes same = subst (λ (x : Seat). Goes c x op g) (sym same) goes
+
+pub some_of : {A : Type 0} (P : A → Type 0) (found : Option A) (x : A) → found ≡ Some x → IfSome found P → P x
+some_of P found x e h = subst (λ (o : Option _). IfSome o P) e h
+
+pub met_of : {A : Type 0} (P : A → Type 0) (found : Option A) (met x : A) → found ≡ Some met → met ≡ x → IfSome found P → P x
+met_of P found met x e f h = subst P f (some_of P found met e h)
+
+pub shares_at : (op : Op) (one other : Seen) → other ≡ one → (is_prepare other.phase && not (is_read op)) ≡ (is_prepare one.phase && not (is_read op))
+shares_at op one other e = ap (λ (x : Seen). is_prepare x.phase && not (is_read op)) e
+
+-- ---- what a session shows of itself is what a call of it goes by
+version_same : (v : ℕ) → ¬ (v ≡ 0) → v ≤ last_version → version_within v ≡ v
+version_same v some fits = omega (arith, some, fits)
+
+pub goes_of : (k : Seat) (s : SessionState) (op : Op) (g : Going) → k.places ≡ g.places → bits_of k ≡ g.bits → s.seen.offsets.head.0 ≡ g.head → s.seen.offsets.read_only.0 ≡ g.read_only → s.seen.version.0 ≡ g.version → ¬ (g.version ≡ 0) → g.version ≤ last_version
+    → is_moving_on s.seen.phase ≡ g.is_moving_on → refusal_of s op ≡ None → (is_read op ≡ false → s.serial < last_serial) → (is_prepare s.seen.phase && not (is_read op)) ≡ false → s.spare ≤ g.places.overflow → Goes (course_of k s op) k op g
+unfolding lasting
+goes_of k s op g places bits head read_only version some fits moving allowed serial calm spare = record {
+  its_seat = refl;
+  its_op = refl;
+  its_places = places;
+  its_bits = bits;
+  its_head = head;
+  its_read_only = read_only;
+  its_version = ap (λ (v : ℕ). version_within v) version ∙ version_same g.version some fits;
+  moves_on = moving;
+  allowed = sym (refusal_is k s op) ∙ allowed;
+  serial_left = serial;
+  unlatched = calm;
+  spare_fits = subst (λ (p : Places). s.spare ≤ p.overflow) (sym places) spare;
+}

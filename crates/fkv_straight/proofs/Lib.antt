@@ -1,0 +1,11 @@
+mod Appends
+mod Changes
+mod Copies
+mod Endings
+mod Goings
+mod Moves
+mod ReadEnds
+mod Replays
+mod Seeks
+mod Tests
+mod Walks

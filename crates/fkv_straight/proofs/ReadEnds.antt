@@ -1,0 +1,94 @@
+-- How a read ends.
+use Rattle.std.proofs.Common.{◌≡◌, ℕ, refl, subst, arith, true, false}
+use Rattle.std.specs.Prelude.{◌==◌, nat_lt}
+use Rattle.std.proofs.lemmas.Bool.Decides.{nat_tests}
+use Rattle.fkv_map.specs.Keys.{key_of}
+use Rattle.fkv_map.specs.Map.{absent_word}
+use Rattle.fkv_plane.specs.declared.asks.Ask.TheVariants.{Load}
+use Rattle.fkv_plane.specs.declared.places.RecordWord.TheVariants as rec
+use Rattle.fkv_plane.specs.Passing.{passed}
+use Rattle.fkv_plane.specs.Places.{record_place}
+use Rattle.fkv_log.specs.declared.loading.Loading.{Loading}
+use Rattle.fkv_log.specs.declared.loading.Loading.TheVariants as load
+use Rattle.fkv_log.specs.Loading.{load_ask, load_next, load_next_ask, load_on}
+use Rattle.fkv_ops.specs.declared.answers.TryAnswer.TheVariants as tried
+use Rattle.fkv_ops.specs.declared.header_words.HeaderSaid.TheVariants.{Says}
+use Rattle.fkv_ops.specs.declared.trying.Trying.TheVariants.{LoadsAnswer, Ended}
+use Rattle.fkv_ops.specs.declared.walking.Walking.{Walking}
+use Rattle.fkv_ops.specs.HeaderWords.{header_said}
+use Rattle.fkv_ops.specs.Requests.{is_read}
+use Rattle.fkv_ops.specs.Trying.{TryState, trying_ask, trying_next, walk_ledto, answer_ledto, ends}
+use Rattle.fkv_ops.specs.Walking.{reached, walking_ask, walking_next, load_ledto, value_ledto, walking_on}
+use Rattle.fkv_session.specs.declared.answers.Told.TheVariants as told
+use Rattle.fkv_session.specs.Sessions.{SessionState}
+use Rattle.fkv_straight.specs.declared.searching.Record.{Record}
+use Rattle.fkv_straight.specs.Course.{Course, shares}
+use Rattle.fkv_straight.specs.Met.{Trail, meeting, holding, walking, judged, IsReached, HasKey, IsMet, IsAtAnswer}
+use Rattle.fkv_straight.specs.Standing.{asked, leads, IsLed, next_try, IsEnded}
+use Rattle.fkv_straight.proofs.Moves.{asks_load, led_on, stays, ends_found, ends_absent}
+use Rattle.fkv_straight.proofs.Tests.{same}
+use Rattle.fkv_straight.proofs.Walks.{past}
+
+-- ---- the record was met: its value is loaded
+reads_on : (c : Course) (trail : Trail) (r : Record) → header_said r.header ≡ Says (record { 0 = r.previous }) (record { 0 = r.version }) → nat_lt r.previous r.addr ≡ true → ((key_of c.op).0 == (key_of c.op).0) ≡ true
+    → shares c ≡ false → is_read c.op ≡ true
+    → next_try c (meeting c trail r.place r.entry r.addr (load.LoadsKey (record { 0 = r.addr }) r.header)) (key_of c.op).0 ≡ holding c (past trail (record { 0 = r.version })) r LoadsAnswer
+unfolding trying_next walk_ledto walking_ask walking_next load_ledto load_ask load_next load_next_ask load_on walking_on passed
+reads_on c trail r said below mine calm reads = rw (said, below, mine, calm, reads) refl
+
+met_answers : (c : Course) (r : Record) (s : SessionState) → IsMet c r s → shares c ≡ false → is_read c.op ≡ true → IsAtAnswer c r s
+unfolding HasKey IsAtAnswer trying_ask walking_ask load_ask passed
+met_answers c r s met calm reads =
+    let below : nat_lt r.previous r.addr ≡ true = (let h = met.below in grind (arith, nat_tests)) in
+    let has = met.key in (
+      past has.0 (record { 0 = r.version }),
+      stays c (holding c (past has.0 (record { 0 = r.version })) r LoadsAnswer) s
+          (subst (λ (t : TryState). IsLed c t s) (reads_on c has.0 r met.said below (same (key_of c.op).0) calm reads) has.1) refl refl,
+    )
+
+pub answer_asks : (c : Course) (r : Record) (s : SessionState) → IsMet c r s → shares c ≡ false → is_read c.op ≡ true → asked c.seat s ≡ Load (record_place c.seat.places r.addr rec.Value)
+unfolding IsAtAnswer trying_ask walking_ask load_ask passed
+answer_asks c r s met calm reads =
+    let at = met_answers c r s met calm reads in
+    asks_load c (holding c at.0 r LoadsAnswer) (record_place c.seat.places r.addr rec.Value) s at.1 refl
+
+-- ---- the value has come
+finds : (c : Course) (trail : Trail) (r : Record) (value : ℕ) → (value == absent_word) ≡ false → (next_try c (holding c trail r LoadsAnswer) value).step ≡ Ended (tried.Found (record { 0 = value }))
+unfolding trying_next walking_ask walking_next load_ask load_next load_next_ask value_ledto answer_ledto ends passed
+finds c trail r value some = rw some refl
+
+finds_none : (c : Course) (trail : Trail) (r : Record) (value : ℕ) → (value == absent_word) ≡ true → (next_try c (holding c trail r LoadsAnswer) value).step ≡ Ended tried.Absent
+unfolding trying_next walking_ask walking_next load_ask load_next load_next_ask value_ledto answer_ledto ends passed
+finds_none c trail r value none = rw none refl
+
+spares : (c : Course) (trail : Trail) (r : Record) (value : ℕ) → (next_try c (holding c trail r LoadsAnswer) value).spare ≡ c.lasts.spare
+unfolding trying_next walking_ask walking_next load_ask load_next load_next_ask value_ledto answer_ledto ends passed
+spares c trail r value = refl
+
+pub found_ends : (c : Course) (r : Record) (value : ℕ) (s u : SessionState) → IsMet c r s → shares c ≡ false → is_read c.op ≡ true → u ≡ leads c.seat s value → ¬ (value ≡ absent_word) → IsEnded c.lasts (told.Found (record { 0 = value })) u
+unfolding IsAtAnswer
+found_ends c r value s u met calm reads e some =
+    let at = met_answers c r s met calm reads in
+    ends_found c (next_try c (holding c at.0 r LoadsAnswer) value) (record { 0 = value }) u (led_on c (holding c at.0 r LoadsAnswer) value s u at.1 e) (finds c at.0 r value (grind (arith, nat_tests))) (spares c at.0 r value)
+
+pub absent_ends : (c : Course) (r : Record) (value : ℕ) (s u : SessionState) → IsMet c r s → shares c ≡ false → is_read c.op ≡ true → u ≡ leads c.seat s value → value ≡ absent_word → IsEnded c.lasts told.Absent u
+unfolding IsAtAnswer
+absent_ends c r value s u met calm reads e none =
+    let at = met_answers c r s met calm reads in
+    ends_absent c (next_try c (holding c at.0 r LoadsAnswer) value) u (led_on c (holding c at.0 r LoadsAnswer) value s u at.1 e) (finds_none c at.0 r value (grind (arith, nat_tests))) (spares c at.0 r value)
+
+-- ---- the chain ends
+ends_chain : (c : Course) (trail : Trail) (place entry : ℕ) (loading : Loading) (step : Walking) → shares c ≡ false → is_read c.op ≡ true
+    → (judged c (reached c.seat.places (walking c trail place entry loading step) 0)).step ≡ Ended tried.Absent
+unfolding walk_ledto walking_ask ends
+ends_chain c trail place entry loading step calm reads = rw (calm, reads) refl
+
+chain_spares : (c : Course) (trail : Trail) (place entry : ℕ) (loading : Loading) (step : Walking) → shares c ≡ false → is_read c.op ≡ true
+    → (judged c (reached c.seat.places (walking c trail place entry loading step) 0)).spare ≡ c.lasts.spare
+unfolding walk_ledto walking_ask ends
+chain_spares c trail place entry loading step calm reads = rw (calm, reads) refl
+
+pub nowhere_ends : (c : Course) (place entry : ℕ) (s : SessionState) → IsReached c place entry 0 s → shares c ≡ false → is_read c.op ≡ true → IsEnded c.lasts told.Absent s
+unfolding IsReached
+nowhere_ends c place entry s at calm reads =
+    ends_absent c (judged c (reached c.seat.places (walking c at.0 place entry at.1 at.2) 0)) s at.3 (ends_chain c at.0 place entry at.1 at.2 calm reads) (chain_spares c at.0 place entry at.1 at.2 calm reads)

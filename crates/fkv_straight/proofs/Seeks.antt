@@ -1,0 +1,164 @@
+-- How the slot of a home is sought.
+use Rattle.std.proofs.Common.{◌≡◌, ℕ, ◌+◌, ◌-◌, ◌/◌, ◌^◌, ◌<◌, ◌≤◌, refl, sym, ap, ◌∙◌, subst, arith, true, false}
+use Rattle.std.specs.Prelude.{◌==◌, ◌&&◌, not, nat_lt, nat_le, None}
+use Rattle.std.proofs.lemmas.Bool.Decides.{nat_tests}
+use Rattle.fkv_base.specs.declared.numbers.Key.{Key}
+use Rattle.fkv_map.specs.declared.operations.Op.{Op}
+use Rattle.fkv_map.specs.Keys.{key_of}
+use Rattle.fkv_plane.specs.declared.asks.Ask.TheVariants.{Load}
+use Rattle.fkv_plane.specs.declared.places.Places.{Places}
+use Rattle.fkv_plane.specs.Passing.{passed}
+use Rattle.fkv_plane.specs.Places.{bucket_place, overflow_place}
+use Rattle.fkv_log.specs.declared.loading.Loading.TheVariants as load
+use Rattle.fkv_index.specs.declared.finding.FindStep.TheVariants.{LoadsSlot, LoadsLink}
+use Rattle.fkv_index.specs.declared.homes.Home.{Home}
+use Rattle.fkv_index.specs.Finding.{spare_of, find_step_ask, find_led}
+use Rattle.fkv_index.specs.Slots.{home_of, entry_addr, entry_tag, is_entry, slot_word, link_of}
+use Rattle.fkv_ops.specs.declared.walking.Walking.TheVariants.{Finds}
+use Rattle.fkv_ops.specs.Requests.{is_read}
+use Rattle.fkv_ops.specs.Trying.{TryState, trying_ask, trying_next, walk_ledto, is_prepare}
+use Rattle.fkv_ops.specs.Walking.{reached, walking_ask, walking_next, find_ledto}
+use Rattle.fkv_session.specs.Alike.{lasting}
+use Rattle.fkv_session.specs.Sessions.{Seat, SessionState, op_begun, attempts, refusal_of}
+use Rattle.fkv_straight.specs.declared.going.Going.{Going}
+use Rattle.fkv_straight.specs.Course.{Course, course_of, home_in, refusal_in, shares, Goes}
+use Rattle.fkv_straight.specs.Met.{seeking, walking, judged, IsAtSlot, HasSlot, IsAtLink, HasLink, IsReached}
+use Rattle.fkv_straight.specs.Standing.{asked, leads, begins, attempting, sitting, Tries, IsLed, next_try}
+use Rattle.fkv_straight.proofs.Goings.{refusal_is, spare_same, bucket_is, home_is}
+use Rattle.fkv_straight.proofs.Moves.{asks_load, led_on, stays}
+use Rattle.fkv_straight.proofs.Tests.{same}
+
+-- ---- a call begins at the first slot of its home's bucket
+-- where that is, by the course alone
+abbrev pub begun_in : Course → SessionState
+begun_in c = sitting c 0 (attempting c (seeking c (bucket_place c.seat.places (home_in c).bucket 0) c.seat.places.overflow (LoadsSlot 0)))
+
+begins_at : (k : Seat) (s : SessionState) (op : Op) → refusal_of s op ≡ None → (is_prepare s.seen.phase && not (is_read op)) ≡ false → spare_of k.places s.spare ≡ s.spare → begins k s op ≡ begun_in (course_of k s op)
+unfolding begins op_begun attempts lasting
+begins_at k s op allowed calm spare = rw (allowed, calm, spare) refl
+
+begins_in : (k : Seat) (s : SessionState) (op : Op) → refusal_in (course_of k s op) ≡ None → shares (course_of k s op) ≡ false → (course_of k s op).lasts.spare ≤ k.places.overflow → begins k s op ≡ begun_in (course_of k s op)
+unfolding lasting
+begins_in k s op allowed calm fits = begins_at k s op (refusal_is k s op ∙ allowed) calm (spare_same k.places s.spare fits)
+
+pub begun : (k : Seat) (s : SessionState) (op : Op) (g : Going) → Goes (course_of k s op) k op g → IsAtSlot (course_of k s op) (bucket_place k.places (home_in (course_of k s op)).bucket 0) k.places.overflow 0 (begins k s op)
+unfolding IsAtSlot Tries
+begun k s op g goes = (0, begins_in k s op goes.allowed goes.unlatched goes.spare_fits)
+
+-- so sessions of which the same lasts begin in one and the same state
+pub begins_same : (k q : Seat) (r s : SessionState) (op : Op) (g : Going) → Goes (course_of k r op) k op g → k ≡ q → lasting r ≡ lasting s → begins q s op ≡ begins k r op
+begins_same k q r s op g goes same alike =
+    let e : course_of k r op ≡ course_of q s op = (λ i. record { seat = same i; lasts = alike i; op = op }) in
+    let there : Goes (course_of q s op) k op g = subst (λ (c : Course). Goes c k op g) e goes in
+    begins_in q s op there.allowed there.unlatched there.spare_fits ∙ (ap begun_in (sym e) ∙ sym (begins_in k r op goes.allowed goes.unlatched goes.spare_fits))
+
+-- the same by the numbers that the call goes by
+pub begun_at : (k : Seat) (s : SessionState) (op : Op) (g : Going) (h : Home) (key : Key) (base links : ℕ) → Goes (course_of k s op) k op g → key ≡ key_of op → h ≡ home_of g.bits key → base ≡ bucket_place g.places h.bucket 0 → links ≡ g.places.overflow
+    → IsAtSlot (course_of k s op) base links 0 (begins k s op)
+begun_at k s op g h key base links goes its e b l =
+    subst (λ (n : ℕ). IsAtSlot (course_of k s op) base n 0 (begins k s op)) (ap (λ (p : Places). p.overflow) goes.its_places ∙ sym l)
+    (subst (λ (n : ℕ). IsAtSlot (course_of k s op) n k.places.overflow 0 (begins k s op)) (bucket_is (course_of k s op) k op g h key base goes its e b) (begun k s op g goes))
+
+-- ---- a slot is loaded
+pub slot_asks : (c : Course) (base links slot : ℕ) (s : SessionState) → IsAtSlot c base links slot s → asked c.seat s ≡ Load (base + slot)
+unfolding IsAtSlot trying_ask walking_ask find_step_ask passed
+slot_asks c base links slot s at = asks_load c (seeking c base links (LoadsSlot slot)) (base + slot) s at refl
+
+pub slot_comes : (c : Course) (base links slot word : ℕ) (s u : SessionState) → IsAtSlot c base links slot s → u ≡ leads c.seat s word → HasSlot c base links slot word u
+unfolding IsAtSlot HasSlot
+slot_comes c base links slot word s u at e = led_on c (seeking c base links (LoadsSlot slot)) word s u at e
+
+-- another home's entry: on to the next slot, and behind the last one to the link
+passes_slot : (c : Course) (base links slot word : ℕ) → is_entry word ≡ true → (word == 0) ≡ false → (entry_tag word == (home_in c).tag) ≡ false → nat_lt (slot + 1) 7 ≡ true
+    → next_try c (seeking c base links (LoadsSlot slot)) word ≡ seeking c base links (LoadsSlot (slot + 1))
+unfolding trying_next walk_ledto walking_ask walking_next find_ledto find_step_ask find_led slot_word passed
+passes_slot c base links slot word its some other few = rw (some, its, other, few) refl
+
+passes_last : (c : Course) (base links slot word : ℕ) → is_entry word ≡ true → (word == 0) ≡ false → (entry_tag word == (home_in c).tag) ≡ false → nat_lt (slot + 1) 7 ≡ false
+    → next_try c (seeking c base links (LoadsSlot slot)) word ≡ seeking c base links LoadsLink
+unfolding trying_next walk_ledto walking_ask walking_next find_ledto find_step_ask find_led slot_word passed
+passes_last c base links slot word its some other few = rw (some, its, other, few) refl
+
+pub slot_passed : (c : Course) (base links slot word : ℕ) (s : SessionState) → HasSlot c base links slot word s → is_entry word ≡ true → (word == 0) ≡ false → (entry_tag word == (home_in c).tag) ≡ false → slot < 6
+    → IsAtSlot c base links (slot + 1) s
+unfolding HasSlot IsAtSlot trying_ask walking_ask find_step_ask passed
+slot_passed c base links slot word s has its some other few =
+    stays c (seeking c base links (LoadsSlot (slot + 1))) s (subst (λ (t : TryState). IsLed c t s) (passes_slot c base links slot word its some other (grind (arith, nat_tests))) has) refl refl
+
+pub last_passed : (c : Course) (base links slot word : ℕ) (s : SessionState) → HasSlot c base links slot word s → is_entry word ≡ true → (word == 0) ≡ false → (entry_tag word == (home_in c).tag) ≡ false → 6 ≤ slot
+    → IsAtLink c base links s
+unfolding HasSlot IsAtLink trying_ask walking_ask find_step_ask passed
+last_passed c base links slot word s has its some other few =
+    stays c (seeking c base links LoadsLink) s (subst (λ (t : TryState). IsLed c t s) (passes_last c base links slot word its some other (grind (arith, nat_tests))) has) refl refl
+
+-- ---- the word that leads on is loaded
+pub link_asks : (c : Course) (base links : ℕ) (s : SessionState) → IsAtLink c base links s → asked c.seat s ≡ Load (base + 7)
+unfolding IsAtLink trying_ask walking_ask find_step_ask passed
+link_asks c base links s at = asks_load c (seeking c base links LoadsLink) (base + 7) s at refl
+
+pub link_comes : (c : Course) (base links word : ℕ) (s u : SessionState) → IsAtLink c base links s → u ≡ leads c.seat s word → HasLink c base links word u
+unfolding IsAtLink HasLink
+link_comes c base links word s u at e = led_on c (seeking c base links LoadsLink) word s u at e
+
+-- on to the first slot of the overflow bucket
+follows : (c : Course) (base links word : ℕ) → (link_of word == 0) ≡ false → nat_lt 0 links ≡ true → nat_le (link_of word) c.seat.places.overflow ≡ true
+    → next_try c (seeking c base links LoadsLink) word ≡ seeking c (overflow_place c.seat.places (link_of word) 0) (links - 1) (LoadsSlot 0)
+unfolding trying_next walk_ledto walking_ask walking_next find_ledto find_step_ask find_led passed
+follows c base links word some few within = rw (some, few, within) refl
+
+pub link_followed : (c : Course) (base links word : ℕ) (s : SessionState) → HasLink c base links word s → ¬ (link_of word ≡ 0) → 0 < links → link_of word ≤ c.seat.places.overflow
+    → IsAtSlot c (overflow_place c.seat.places (link_of word) 0) (links - 1) 0 s
+unfolding HasLink IsAtSlot trying_ask walking_ask find_step_ask passed
+link_followed c base links word s has some few within =
+    stays c (seeking c (overflow_place c.seat.places (link_of word) 0) (links - 1) (LoadsSlot 0)) s
+    (subst (λ (t : TryState). IsLed c t s) (follows c base links word (grind (arith, nat_tests)) (grind (arith, nat_tests)) (grind (arith, nat_tests))) has) refl refl
+
+-- ---- the search has come to its slot
+finds_entry : (c : Course) (base links slot word : ℕ) → is_entry word ≡ true → (word == 0) ≡ false → (entry_tag word == (home_in c).tag) ≡ true
+    → next_try c (seeking c base links (LoadsSlot slot)) word ≡ judged c (reached c.seat.places (walking c (record { base = base; links = links; first = None }) (base + slot) word load.AtRest Finds) (entry_addr word))
+unfolding trying_next walking_next find_ledto find_led slot_word
+finds_entry c base links slot word its some mine = rw (some, its, mine) refl
+
+finds_empty : (c : Course) (base links slot : ℕ)
+    → next_try c (seeking c base links (LoadsSlot slot)) 0 ≡ judged c (reached c.seat.places (walking c (record { base = base; links = links; first = None }) (base + slot) 0 load.AtRest Finds) (entry_addr 0))
+unfolding trying_next walking_next find_ledto find_led slot_word
+finds_empty c base links slot = refl
+
+pub entry_found : (c : Course) (base links slot word : ℕ) (s : SessionState) → HasSlot c base links slot word s → is_entry word ≡ true → (word == 0) ≡ false → (entry_tag word == (home_in c).tag) ≡ true
+    → IsReached c (base + slot) word (entry_addr word) s
+unfolding HasSlot IsReached
+entry_found c base links slot word s has its some mine =
+    (record { base = base; links = links; first = None }, load.AtRest, Finds, subst (λ (t : TryState). IsLed c t s) (finds_entry c base links slot word its some mine) has)
+
+empty_slot : (c : Course) (base links slot : ℕ) (s : SessionState) → HasSlot c base links slot 0 s → IsReached c (base + slot) 0 (entry_addr 0) s
+unfolding HasSlot IsReached
+empty_slot c base links slot s has =
+    (record { base = base; links = links; first = None }, load.AtRest, Finds, subst (λ (t : TryState). IsLed c t s) (finds_empty c base links slot) has)
+
+pub empty_found : (c : Course) (base links slot word : ℕ) (s : SessionState) → HasSlot c base links slot word s → word ≡ 0 → IsReached c (base + slot) word (entry_addr word) s
+empty_found c base links slot word s has zero =
+    subst (λ (n : ℕ). IsReached c (base + slot) n (entry_addr n) s) (sym zero) (empty_slot c base links slot s (subst (λ (n : ℕ). HasSlot c base links slot n s) zero has))
+
+-- ---- the tests, by the numbers that the call goes by
+pub is_some : (word : ℕ) → ¬ (word ≡ 0) → (word == 0) ≡ false
+is_some word h = grind (arith, nat_tests, h)
+
+pub is_other : (c : Course) (k : Seat) (op : Op) (g : Going) (h : Home) (key : Key) (word : ℕ) → Goes c k op g → key ≡ key_of op → h ≡ home_of g.bits key → ¬ (word / 2 ^ 48 ≡ h.tag) → (entry_tag word == (home_in c).tag) ≡ false
+is_other c k op g h key word goes its e other =
+    let t : ¬ (word / 2 ^ 48 ≡ (home_in c).tag) = (λ same. other (same ∙ ap (λ (x : Home). x.tag) (sym (home_is c k op g h key goes its e)))) in
+    grind (arith, nat_tests, t)
+
+pub is_mine : (c : Course) (k : Seat) (op : Op) (g : Going) (h : Home) (key : Key) (word : ℕ) → Goes c k op g → key ≡ key_of op → h ≡ home_of g.bits key → word / 2 ^ 48 ≡ h.tag → (entry_tag word == (home_in c).tag) ≡ true
+is_mine c k op g h key word goes its e mine =
+    let t : word / 2 ^ 48 ≡ (home_in c).tag = mine ∙ ap (λ (x : Home). x.tag) (home_is c k op g h key goes its e) in
+    grind (arith, nat_tests, t)
+
+-- a link that is followed, by the number of the bucket
+pub link_goes_on : (c : Course) (k : Seat) (op : Op) (g : Going) (base links word number next : ℕ) (s : SessionState) → Goes c k op g → HasLink c base (g.places.overflow - links) word s → number ≡ entry_addr word → ¬ (number ≡ 0) → number ≤ g.places.overflow → links < g.places.overflow
+    → next ≡ overflow_place g.places number 0 → IsAtSlot c next (g.places.overflow - (links + 1)) 0 s
+link_goes_on c k op g base links word number next s goes has e some within fewer n =
+    let there : number ≤ c.seat.places.overflow = subst (λ (p : Places). number ≤ p.overflow) (sym goes.its_places) within in
+    let at = link_followed c base (g.places.overflow - links) word s has (λ z. some (e ∙ z)) (omega arith) (subst (λ (m : ℕ). m ≤ c.seat.places.overflow) e there) in
+    let place : overflow_place c.seat.places (link_of word) 0 ≡ next = ap (λ (p : Places). overflow_place p (link_of word) 0) goes.its_places ∙ (ap (λ (m : ℕ). overflow_place g.places m 0) (sym e) ∙ sym n) in
+    let left : (g.places.overflow - links) - 1 ≡ g.places.overflow - (links + 1) = omega arith in
+    subst (λ (m : ℕ). IsAtSlot c m (g.places.overflow - (links + 1)) 0 s) place (subst (λ (m : ℕ). IsAtSlot c (overflow_place c.seat.places (link_of word) 0) m 0 s) left at)

@@ -1,0 +1,32 @@
+-- Tests as a call makes them and as the table does.
+use Rattle.std.proofs.Common.{◌≡◌, ℕ, ◌-◌, refl, arith, Bool, true, false}
+use Rattle.std.specs.Prelude.{◌==◌, ◌&&◌, ◌||◌, not, nat_lt}
+use Rattle.std.proofs.lemmas.Bool.Decides.{nat_tests}
+use Rattle.fkv_straight.specs.Memory.{is_in_memory}
+
+pub same : (n : ℕ) → (n == n) ≡ true
+same n = grind (arith, nat_tests)
+
+pub or_false : (b : Bool) → (b || false) ≡ b
+or_false true = refl
+or_false false = refl
+
+pub and_false : (b : Bool) → (b && false) ≡ false
+and_false true = refl
+and_false false = refl
+
+-- an address in memory, test by test
+pub record Here (ring head addr : ℕ) : Type 0 where
+  pub some : (addr == 0) ≡ false
+  pub above : nat_lt addr head ≡ false
+  pub within : nat_lt (addr - head) ring ≡ true
+
+pub here : (ring head addr : ℕ) → is_in_memory ring head addr ≡ true → Here ring head addr
+unfolding is_in_memory
+here ring head addr = by (addr == 0) (nat_lt addr head) (nat_lt (addr - head) ring) refl refl refl
+  where
+    by : (a b d : Bool) → (addr == 0) ≡ a → nat_lt addr head ≡ b → nat_lt (addr - head) ring ≡ d → (not a && not b && d) ≡ true → Here ring head addr
+    by false false true x y z h = record { some = x; above = y; within = z }
+    by true b d x y z h = absurd (cc h)
+    by false true d x y z h = absurd (cc h)
+    by false false false x y z h = absurd (cc h)

@@ -1,0 +1,4 @@
+pub mod Course
+pub mod Memory
+pub mod Met
+pub mod Standing

@@ -1,0 +1,175 @@
+-- Where a try stands on the ways of a straight call: along its bucket, along its chain, at the record that is changed, and at the record
+-- that is appended.
+use Rattle.std.specs.Prelude.{◌≡◌, ◌<◌, ℕ, true, false, Option, None}
+use Rattle.fkv_base.specs.declared.numbers.Version.{Version}
+use Rattle.fkv_map.specs.Keys.{key_of, reply_from}
+use Rattle.fkv_latch.specs.declared.latching.Latching.TheVariants as latch
+use Rattle.fkv_log.specs.declared.filling.Filling.{Filling}
+use Rattle.fkv_log.specs.declared.filling.Filling.TheVariants as fill
+use Rattle.fkv_log.specs.declared.invalidating.Invalidating.TheVariants as invalidate
+use Rattle.fkv_log.specs.declared.loading.Loading.{Loading}
+use Rattle.fkv_log.specs.declared.loading.Loading.TheVariants as load
+use Rattle.fkv_log.specs.declared.reserving.Reserving.{Reserving}
+use Rattle.fkv_log.specs.declared.reserving.Reserving.TheVariants as reserve
+use Rattle.fkv_index.specs.declared.finding.Finding.{Finding}
+use Rattle.fkv_index.specs.declared.finding.FindStep.{FindStep}
+use Rattle.fkv_index.specs.declared.finding.FindStep.TheVariants.{AtRest, LoadsSlot, LoadsLink}
+use Rattle.fkv_index.specs.declared.publishing.Publishing.{Publishing}
+use Rattle.fkv_index.specs.declared.publishing.Publishing.TheVariants as publish
+use Rattle.fkv_index.specs.Finding.{linking_for}
+use Rattle.fkv_index.specs.IndexWorld.{new_entry}
+use Rattle.fkv_ops.specs.declared.appending.Appending.{Appending}
+use Rattle.fkv_ops.specs.declared.appending.Appending.TheVariants as append
+use Rattle.fkv_ops.specs.declared.header_words.HeaderSaid.TheVariants.{Says}
+use Rattle.fkv_ops.specs.declared.requests.Occasion.TheVariants.{Call}
+use Rattle.fkv_ops.specs.declared.trying.OldValue.TheVariants.{InMemory}
+use Rattle.fkv_ops.specs.declared.trying.Trying.{Trying}
+use Rattle.fkv_ops.specs.declared.trying.Trying.TheVariants.{Walks, LoadsSafe, SwapsValue, LoadsCurrent, ChangesValue, LoadsAnswer, LoadsOld, Appends}
+use Rattle.fkv_ops.specs.declared.walking.Walking.{Walking}
+use Rattle.fkv_ops.specs.declared.walking.Walking.TheVariants.{Finds, Meets, HasFound, LoadsValue}
+use Rattle.fkv_ops.specs.HeaderWords.{header_said}
+use Rattle.fkv_ops.specs.Requests.{purpose_of}
+use Rattle.fkv_ops.specs.Walking.{WalkState, reached, walk_ask}
+use Rattle.fkv_ops.specs.Appending.{AppendState, append_rested}
+use Rattle.fkv_ops.specs.Trying.{TryState, words_of, walk_ledto, copies_from}
+use Rattle.fkv_session.specs.Sessions.{SessionState}
+use Rattle.fkv_straight.specs.declared.searching.Met.{Met}
+use Rattle.fkv_straight.specs.declared.searching.Met.TheVariants.{Found, Nowhere, OnDisk}
+use Rattle.fkv_straight.specs.declared.searching.Record.{Record}
+use Rattle.fkv_straight.specs.Course.{Course, home_in, head_in, request_in}
+use Rattle.fkv_straight.specs.Memory.{is_in_memory}
+use Rattle.fkv_straight.specs.Standing.{Tries, IsLed, next_try}
+
+-- an address of the chain lies in memory
+abbrev pub IsInMemory : Course → ℕ → Type 0
+IsInMemory c addr = is_in_memory c.seat.places.ring (head_in c) addr ≡ true
+
+-- the try of the operation, with its walk and its append. No latch is held
+abbrev pub trying : Course → WalkState → AppendState → Trying → TryState
+trying c walk a step = record { request = request_in c; seen = c.lasts.seen; occasion = Call; home = home_in c; has_shared = false; has_exclusive = false; effect = None; spare = c.lasts.spare; walk = walk; latching = latch.AtRest; append = a; step = step }
+
+-- ---- along the bucket
+-- the search among the slots from this place on, which may still follow so many links
+abbrev pub finding_at : Course → ℕ → ℕ → FindStep → Finding
+finding_at c base links step = record { home = home_in c; base = base; links = links; linking = linking_for (purpose_of c.op); spare = c.lasts.spare; step = step }
+
+abbrev pub seeking : Course → ℕ → ℕ → FindStep → TryState
+seeking c base links step =
+    trying c (record { key = key_of c.op; head = c.lasts.seen.offsets.head; place = 0; entry = 0; first = None; spare = c.lasts.spare; finding = finding_at c base links step; loading = load.AtRest; step = Finds }) append_rested Walks
+
+-- a slot is loaded; its word has come and isn't judged yet. The same of the word that leads to an overflow bucket
+unfoldable pub IsAtSlot : Course → ℕ → ℕ → ℕ → SessionState → Type 0
+IsAtSlot c base links slot s = Tries c (seeking c base links (LoadsSlot slot)) s
+
+unfoldable pub HasSlot : Course → ℕ → ℕ → ℕ → ℕ → SessionState → Type 0
+HasSlot c base links slot word s = IsLed c (next_try c (seeking c base links (LoadsSlot slot)) word) s
+
+unfoldable pub IsAtLink : Course → ℕ → ℕ → SessionState → Type 0
+IsAtLink c base links s = Tries c (seeking c base links LoadsLink) s
+
+unfoldable pub HasLink : Course → ℕ → ℕ → ℕ → SessionState → Type 0
+HasLink c base links word s = IsLed c (next_try c (seeking c base links LoadsLink) word) s
+
+-- ---- along the chain
+-- what of the walk no later word goes by but for its table: where the search has ended, and the version of the first record
+pub record Trail : Type 0 where
+  pub base : ℕ
+  pub links : ℕ
+  pub first : Option Version
+
+abbrev pub walking : Course → Trail → ℕ → ℕ → Loading → Walking → WalkState
+walking c trail place entry loading step =
+    record { key = key_of c.op; head = c.lasts.seen.offsets.head; place = place; entry = entry; first = trail.first; spare = c.lasts.spare; finding = finding_at c trail.base trail.links AtRest; loading = loading; step = step }
+
+abbrev pub meeting : Course → Trail → ℕ → ℕ → ℕ → Loading → TryState
+meeting c trail place entry addr loading = trying c (walking c trail place entry loading (Meets (record { 0 = addr }))) append_rested Walks
+
+-- what a walk that stands so makes of its try
+abbrev pub judged : Course → WalkState → TryState
+judged c walk = walk_ledto c.seat.places (trying c walk append_rested Walks) (walk_ask c.seat.places walk)
+
+-- The walk from the entry at this place has come to an address, which isn't judged yet.
+unfoldable pub IsReached : Course → ℕ → ℕ → ℕ → SessionState → Type 0
+IsReached c place entry addr s = (trail : Trail) × (loading : Loading) × (step : Walking) × IsLed c (judged c (reached c.seat.places (walking c trail place entry loading step) addr)) s
+
+-- the header of the record is loaded, then its key, and then both have come and aren't judged yet
+unfoldable pub IsAtHeader : Course → ℕ → ℕ → ℕ → SessionState → Type 0
+IsAtHeader c place entry addr s = (trail : Trail) × Tries c (meeting c trail place entry addr (load.LoadsHeader (record { 0 = addr }))) s
+
+unfoldable pub IsAtKey : Course → ℕ → ℕ → ℕ → ℕ → SessionState → Type 0
+IsAtKey c place entry addr header s = (trail : Trail) × Tries c (meeting c trail place entry addr (load.LoadsKey (record { 0 = addr }) header)) s
+
+unfoldable pub HasKey : Course → ℕ → ℕ → ℕ → ℕ → ℕ → SessionState → Type 0
+HasKey c place entry addr header key s = (trail : Trail) × IsLed c (next_try c (meeting c trail place entry addr (load.LoadsKey (record { 0 = addr }) header)) key) s
+
+-- the record of the operation's key was met in memory
+pub record IsMet (c : Course) (r : Record) (s : SessionState) : Type 0 where
+  pub key : HasKey c r.place r.entry r.addr r.header (key_of c.op).0 s
+  pub said : header_said r.header ≡ Says (record { 0 = r.previous }) (record { 0 = r.version })
+  pub below : r.previous < r.addr
+  pub here : IsInMemory c r.addr
+
+-- what a search has met: its key's record; the chain's end; or where the chain leaves memory
+abbrev pub HasMet : Course → Met → SessionState → Type 0
+HasMet c (Found r) s = IsMet c r s
+HasMet c (Nowhere slot) s = IsReached c slot.place slot.entry 0 s
+HasMet c (OnDisk slot) s = (addr : ℕ) × (0 < addr) × (addr < head_in c) × IsReached c slot.place slot.entry addr s
+
+-- ---- at the record
+abbrev pub holding : Course → Trail → Record → Trying → TryState
+holding c trail r step = trying c (walking c trail r.place r.entry (load.LoadsValue (record { 0 = r.addr }) r.header (key_of c.op).0) LoadsValue) append_rested step
+
+-- the value is loaded that a read is told
+unfoldable pub IsAtAnswer : Course → Record → SessionState → Type 0
+IsAtAnswer c r s = (trail : Trail) × Tries c (holding c trail r LoadsAnswer) s
+
+-- the value is swapped; or it is loaded, and then changed by a Cas
+unfoldable pub IsAtSwap : Course → ℕ → SessionState → Type 0
+IsAtSwap c addr s = (walk : WalkState) × Tries c (trying c walk append_rested (SwapsValue (record { 0 = addr }))) s
+
+unfoldable pub IsAtCurrent : Course → Record → SessionState → Type 0
+IsAtCurrent c r s = (trail : Trail) × Tries c (holding c trail r (LoadsCurrent (record { 0 = r.addr }))) s
+
+unfoldable pub IsAtChange : Course → ℕ → ℕ → SessionState → Type 0
+IsAtChange c addr old s = (walk : WalkState) × Tries c (trying c walk append_rested (ChangesValue (record { 0 = addr }) old)) s
+
+-- the try that has found the record, and goes by neither its region nor its version yet
+abbrev pub finding : Course → Trail → Record → Trying → TryState
+finding c trail r step = trying c (walking c trail r.place r.entry (load.HasKey (record { 0 = r.addr }) r.header (key_of c.op).0) (HasFound (record { 0 = r.addr }) (record { 0 = r.version }))) append_rested step
+
+-- the safe read-only offset is loaded; the word has come and isn't judged yet
+unfoldable pub IsAtSafe : Course → Record → SessionState → Type 0
+IsAtSafe c r s = (trail : Trail) × Tries c (finding c trail r (LoadsSafe (record { 0 = r.addr }) (record { 0 = r.version }))) s
+
+unfoldable pub HasSafe : Course → Record → ℕ → SessionState → Type 0
+HasSafe c r safe s = (trail : Trail) × IsLed c (next_try c (finding c trail r (LoadsSafe (record { 0 = r.addr }) (record { 0 = r.version }))) safe) s
+
+-- the record is copied; its value is loaded, where it counts
+unfoldable pub IsCopied : Course → Record → SessionState → Type 0
+IsCopied c r s = (trail : Trail) × (step : Trying) × IsLed c (copies_from (finding c trail r step) InMemory) s
+
+unfoldable pub IsAtOld : Course → Record → SessionState → Type 0
+IsAtOld c r s = (trail : Trail) × Tries c (holding c trail r LoadsOld) s
+
+-- ---- at the record that is appended
+-- A new record of the key, made of this old value. Its entry takes the place of the one in the slot at this place
+abbrev pub append_at : Course → ℕ → ℕ → Option ℕ → Reserving → Filling → Publishing → Appending → AppendState
+append_at c place entry old reserving filling publishing step =
+    record { slot = record { place = place; entry = entry; tag = (home_in c).tag }; its_words = words_of (request_in c) entry old; reserving = reserving; filling = filling; publishing = publishing; invalidating = invalidate.AtRest; step = step }
+
+abbrev pub Appending_at : Course → AppendState → Option ℕ → SessionState → Type 0
+Appending_at c a old s = (walk : WalkState) × Tries c (trying c walk a (Appends (reply_from old c.op))) s
+
+-- its address is reserved, it is written, and its entry is published
+unfoldable pub IsAtReserve : Course → ℕ → ℕ → Option ℕ → Reserving → SessionState → Type 0
+IsAtReserve c place entry old step s = Appending_at c (append_at c place entry old step fill.AtRest publish.AtRest append.Reserves) old s
+
+unfoldable pub IsAtFill : Course → ℕ → ℕ → Option ℕ → ℕ → Filling → SessionState → Type 0
+IsAtFill c place entry old addr step s = Appending_at c (append_at c place entry old reserve.AtRest step publish.AtRest (append.Fills (record { 0 = addr }))) old s
+
+-- its address is reserved, and none of its words is stored yet
+abbrev pub IsReserved : Course → ℕ → ℕ → Option ℕ → ℕ → SessionState → Type 0
+IsReserved c place entry old addr s = IsAtFill c place entry old addr (fill.StoresValue (record { 0 = addr }) (words_of (request_in c) entry old)) s
+
+unfoldable pub IsAtPublish : Course → ℕ → ℕ → Option ℕ → ℕ → SessionState → Type 0
+IsAtPublish c place entry old addr s = Appending_at c (append_at c place entry old reserve.AtRest fill.AtRest (publish.SwapsEntry place entry (new_entry addr (home_in c).tag)) (append.Publishes (record { 0 = addr }))) old s

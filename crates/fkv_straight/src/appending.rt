@@ -1,0 +1,171 @@
+//! A new record of a key, appended and published.
+ghost use Rattle.std.specs.Prelude.{◌≡◌, ◌<◌, ◌≤◌, ◌+◌, ◌*◌, ◌^◌, IfSome, Some, None, false};
+ghost use Rattle.fkv_map.specs.Keys.{as_number};
+ghost use Rattle.fkv_log.specs.declared.reserving.Reserving.TheVariants.{LoadsLimit};
+ghost use Rattle.fkv_index.specs.Slots.{entry_addr};
+ghost use Rattle.fkv_index.specs.IndexWorld.{new_entry};
+ghost use Rattle.fkv_ops.specs.Requests.{is_read};
+ghost use Rattle.fkv_session.specs.Sessions.{SessionState};
+ghost use Rattle.fkv_straight.specs.Course.{Course, home_in, Goes};
+ghost use Rattle.fkv_straight.specs.Met.{HasMet, IsAtReserve, IsReserved, IsAtPublish};
+ghost use Rattle.fkv_straight.specs.Standing.{IsDone};
+ghost use Rattle.fkv_straight.specs.declared.searching.Met.TheVariants.{Nowhere, OnDisk};
+
+use crate::going::Going;
+use crate::lines::Line;
+use crate::searching::Slot;
+use crate::words::{addr_of, is_blind};
+use fkv_base::{Addr, Value};
+use fkv_index::home_of;
+use fkv_map::{Op, Reply};
+use fkv_ops::word_of_value;
+use fkv_plane::{RecordWord, SharedWord};
+
+/// The word of a header of this version.
+#[inline(always)]
+fn header_of(previous: u64, version: u64) -> u64
+    requires previous { previous < 2 ^ 48 }
+    requires version { version < 2 ^ 13 }
+    ensures { result ≡ previous + version * 2 ^ 48 }
+{
+    previous + (version << 48)
+}
+
+/// The word of an entry.
+#[inline(always)]
+fn entry_of(addr: u64, tag: u16) -> u64
+    requires addr { addr < 2 ^ 48 }
+    requires tag { tag < 2 ^ 15 }
+    ensures { result ≡ new_entry addr tag }
+{
+    addr + (u64::from(tag) << 48)
+}
+
+/// Reserves an address at the tail, above that of the slot's entry.
+#[inline(always)]
+fn reserve<L: Line>(
+    line: &mut L,
+    going: &Going,
+    op: Op,
+    slot: Slot,
+    old: Option<Value>,
+) -> Option<u64>
+    requires at { (c : Course) × Goes c (L.seat line.old) op going.now × IsAtReserve c slot.place slot.entry (as_number old) LoadsLimit (L.stands line.old) }
+    requires room { L.kept line.old ≤ 50 }
+    ensures seat { L.seat line.new ≡ L.seat line.old }
+    ensures led { (start : SessionState) → L.led line.old start → L.led line.new start }
+    ensures kept { L.kept line.new ≤ 53 }
+    ensures addr { IfSome result (λ addr. addr < 2 ^ 48) }
+    ensures fills { (c : Course) → Goes c (L.seat line.old) op going.now → IsAtReserve c slot.place slot.entry (as_number old) LoadsLimit (L.stands line.old)
+        → IfSome result (λ addr. IsReserved c slot.place slot.entry (as_number old) addr (L.stands line.new)) }
+{
+    let limit_place = SharedWord::Limit.place();
+    let limit = line.load(limit_place);
+    let tail_place = SharedWord::Tail.place();
+    let tail = line.load(tail_place);
+    if tail >= limit {
+        return None;
+    }
+    let previous = addr_of(slot.entry);
+    if tail <= previous || tail >= 1 << 48 {
+        return None;
+    }
+    let found = line.cas(tail_place, tail, tail + 1);
+    if found == tail { Some(tail) } else { None }
+}
+
+/// Writes the record at the address: its value, its key, and then its header.
+#[inline(always)]
+fn fill<L: Line>(line: &mut L, going: &Going, op: Op, slot: Slot, old: Option<Value>, addr: u64)
+    requires at { (c : Course) × Goes c (L.seat line.old) op going.now × IsReserved c slot.place slot.entry (as_number old) addr (L.stands line.old) }
+    requires room { L.kept line.old ≤ 53 }
+    ensures seat { L.seat line.new ≡ L.seat line.old }
+    ensures led { (start : SessionState) → L.led line.old start → L.led line.new start }
+    ensures kept { L.kept line.new ≤ 56 }
+    ensures publishes { (c : Course) → Goes c (L.seat line.old) op going.now → IsReserved c slot.place slot.entry (as_number old) addr (L.stands line.old) → IsAtPublish c slot.place slot.entry (as_number old) addr (L.stands line.new) }
+{
+    let value_place = going.places.record(Addr(addr), RecordWord::Value);
+    let made = op.value_applied(old);
+    let value = word_of_value(made);
+    let _ = line.store(value_place, value);
+    let key_place = going.places.record(Addr(addr), RecordWord::Key);
+    let key = op.key();
+    let _ = line.store(key_place, key.0);
+    let header_place = going.places.record(Addr(addr), RecordWord::Header);
+    let previous = addr_of(slot.entry);
+    let header = header_of(previous, going.version);
+    let _ = line.store(header_place, header);
+}
+
+/// Appends a record that is made of this old value, and publishes its entry in the slot, if no other is quicker.
+#[inline(always)]
+pub(crate) fn append<L: Line>(
+    line: &mut L,
+    going: &Going,
+    op: Op,
+    slot: Slot,
+    old: Option<Value>,
+) -> Option<Reply>
+    requires at { (c : Course) × Goes c (L.seat line.old) op going.now × IsAtReserve c slot.place slot.entry (as_number old) LoadsLimit (L.stands line.old) }
+    requires room { L.kept line.old ≤ 50 }
+    requires updates { is_read op ≡ false }
+    ensures seat { L.seat line.new ≡ L.seat line.old }
+    ensures led { (start : SessionState) → L.led line.old start → L.led line.new start }
+    ensures done { (c : Course) → Goes c (L.seat line.old) op going.now → IsAtReserve c slot.place slot.entry (as_number old) LoadsLimit (L.stands line.old)
+        → IfSome result (λ reply. IsDone c.lasts reply (L.stands line.new)) }
+{
+    let reserved = reserve(line, going, op, slot, old);
+    let Some(addr) = reserved else {
+        return None;
+    };
+    fill(line, going, op, slot, old, addr);
+    let home = home_of(op.key(), going.bits);
+    let entry = entry_of(addr, home.tag);
+    let found = line.cas(slot.place, slot.entry, entry);
+    if found == slot.entry {
+        Some(op.reply_from(old))
+    } else {
+        None
+    }
+}
+
+/// Appends the first record of a key, at the end of its chain.
+#[inline(always)]
+pub(crate) fn append_first<L: Line>(
+    line: &mut L,
+    going: &Going,
+    op: Op,
+    slot: Slot,
+) -> Option<Reply>
+    requires at { (c : Course) × Goes c (L.seat line.old) op going.now × HasMet c (Nowhere slot) (L.stands line.old) }
+    requires room { L.kept line.old ≤ 48 }
+    requires updates { is_read op ≡ false }
+    ensures seat { L.seat line.new ≡ L.seat line.old }
+    ensures led { (start : SessionState) → L.led line.old start → L.led line.new start }
+    ensures done { (c : Course) → Goes c (L.seat line.old) op going.now → HasMet c (Nowhere slot) (L.stands line.old) → IfSome result (λ reply. IsDone c.lasts reply (L.stands line.new)) }
+{
+    if going.is_moving_on {
+        return None;
+    }
+    append(line, going, op, slot, None)
+}
+
+/// Appends a record whose value doesn't depend on what the device has of the chain.
+#[inline(always)]
+pub(crate) fn append_past<L: Line>(line: &mut L, going: &Going, op: Op, slot: Slot) -> Option<Reply>
+    requires at { (c : Course) × Goes c (L.seat line.old) op going.now × HasMet c (OnDisk slot) (L.stands line.old) }
+    requires room { L.kept line.old ≤ 48 }
+    requires updates { is_read op ≡ false }
+    ensures seat { L.seat line.new ≡ L.seat line.old }
+    ensures led { (start : SessionState) → L.led line.old start → L.led line.new start }
+    ensures done { (c : Course) → Goes c (L.seat line.old) op going.now → HasMet c (OnDisk slot) (L.stands line.old) → IfSome result (λ reply. IsDone c.lasts reply (L.stands line.new)) }
+{
+    let blind = is_blind(op);
+    if !blind {
+        return None;
+    }
+    if going.is_moving_on {
+        return None;
+    }
+    append(line, going, op, slot, None)
+}

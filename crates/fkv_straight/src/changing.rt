@@ -1,0 +1,110 @@
+//! An update, straight: in place, or by a new record.
+ghost use Rattle.std.specs.Prelude.{◌≡◌, ◌<◌, ◌≤◌, IfSome, true, false};
+ghost use Rattle.fkv_ops.specs.Requests.{is_read, is_blind};
+ghost use Rattle.fkv_session.specs.Alike.{lasting};
+ghost use Rattle.fkv_session.specs.Sessions.{SessionState, is_busy};
+ghost use Rattle.fkv_straight.specs.Course.{Course, course_of, Goes};
+ghost use Rattle.fkv_straight.specs.Met.{IsMet};
+ghost use Rattle.fkv_straight.specs.Standing.{begins, IsDone};
+
+use crate::appending::{append_first, append_past};
+use crate::copying::{copy_below, copy_later};
+use crate::going::Going;
+use crate::lines::Line;
+use crate::searching::{Met, Record, search};
+use crate::words::is_blind;
+use fkv_base::Addr;
+use fkv_map::{Op, Reply};
+use fkv_ops::{value_of_word, word_of_value};
+use fkv_plane::RecordWord;
+
+/// The value becomes one that doesn't depend on it, by one Swap.
+#[inline(always)]
+fn swap_value<L: Line>(line: &mut L, going: &Going, op: Op, its: Record) -> Reply
+    requires at { (c : Course) × Goes c (L.seat line.old) op going.now × IsMet c its (L.stands line.old) }
+    requires room { L.kept line.old ≤ 48 }
+    requires updates { is_read op ≡ false }
+    requires blind { is_blind op ≡ true }
+    requires mutable { going.now.read_only ≤ its.addr }
+    requires own { its.version ≡ going.now.version }
+    ensures seat { L.seat line.new ≡ L.seat line.old }
+    ensures led { (start : SessionState) → L.led line.old start → L.led line.new start }
+    ensures done { (c : Course) → Goes c (L.seat line.old) op going.now → IsMet c its (L.stands line.old) → IsDone c.lasts result (L.stands line.new) }
+{
+    let place = going.places.record(Addr(its.addr), RecordWord::Value);
+    let made = op.value_applied(None);
+    let new = word_of_value(made);
+    let _ = line.swap(place, new);
+    op.reply_from(None)
+}
+
+/// The value becomes what the operation makes of it, by one Cas, if no other is quicker.
+#[inline(always)]
+fn change_value<L: Line>(line: &mut L, going: &Going, op: Op, its: Record) -> Option<Reply>
+    requires at { (c : Course) × Goes c (L.seat line.old) op going.now × IsMet c its (L.stands line.old) }
+    requires room { L.kept line.old ≤ 48 }
+    requires updates { is_read op ≡ false }
+    requires seeing { is_blind op ≡ false }
+    requires mutable { going.now.read_only ≤ its.addr }
+    requires own { its.version ≡ going.now.version }
+    ensures seat { L.seat line.new ≡ L.seat line.old }
+    ensures led { (start : SessionState) → L.led line.old start → L.led line.new start }
+    ensures done { (c : Course) → Goes c (L.seat line.old) op going.now → IsMet c its (L.stands line.old) → IfSome result (λ reply. IsDone c.lasts reply (L.stands line.new)) }
+{
+    let place = going.places.record(Addr(its.addr), RecordWord::Value);
+    let old = line.load(place);
+    let value = value_of_word(old);
+    let made = op.value_applied(value);
+    let new = word_of_value(made);
+    let found = line.cas(place, old, new);
+    if found == old {
+        Some(op.reply_from(value))
+    } else {
+        None
+    }
+}
+
+/// An update of the record that was met: in place where the session may change it, and else by a copy.
+#[inline(always)]
+fn update_record<L: Line>(line: &mut L, going: &Going, op: Op, its: Record) -> Option<Reply>
+    requires at { (c : Course) × Goes c (L.seat line.old) op going.now × IsMet c its (L.stands line.old) }
+    requires room { L.kept line.old ≤ 48 }
+    requires updates { is_read op ≡ false }
+    ensures seat { L.seat line.new ≡ L.seat line.old }
+    ensures led { (start : SessionState) → L.led line.old start → L.led line.new start }
+    ensures done { (c : Course) → Goes c (L.seat line.old) op going.now → IsMet c its (L.stands line.old) → IfSome result (λ reply. IsDone c.lasts reply (L.stands line.new)) }
+{
+    if its.addr < going.read_only {
+        return copy_below(line, going, op, its);
+    }
+    if its.version != going.version {
+        return copy_later(line, going, op, its);
+    }
+    let blind = is_blind(op);
+    if blind {
+        Some(swap_value(line, going, op, its))
+    } else {
+        change_value(line, going, op, its)
+    }
+}
+
+/// What an update is told that its session may make at once.
+#[inline(always)]
+pub(crate) fn update<L: Line>(line: &mut L, going: &Going, op: Op) -> Option<Reply>
+    requires idle { is_busy (L.stands line.old).step ≡ false }
+    requires goes { Goes (course_of (L.seat line.old) (L.stands line.old) op) (L.seat line.old) op going.now }
+    requires updates { is_read op ≡ false }
+    ensures seat { L.seat line.new ≡ L.seat line.old }
+    ensures led { L.led line.new (begins (L.seat line.old) (L.stands line.old) op) }
+    ensures done { IfSome result (λ reply. IsDone (lasting (L.stands line.old)) reply (L.stands line.new)) }
+{
+    let met = search(line, going, op);
+    let Some(its) = met else {
+        return None;
+    };
+    match its {
+        Met::Found(record) => update_record(line, going, op, record),
+        Met::Nowhere(slot) => append_first(line, going, op, slot),
+        Met::OnDisk(slot) => append_past(line, going, op, slot),
+    }
+}

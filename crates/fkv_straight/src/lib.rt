@@ -1,0 +1,19 @@
+//! The operations of a session as straight functions. Each step on a word is the one that the session machine's table asks for, and where
+//! anything unusual is met the machine takes over.
+#![tactic(auto)]
+
+mod appending;
+mod calls;
+mod changing;
+mod copying;
+mod going;
+mod handing;
+mod lines;
+mod reading;
+mod searching;
+mod words;
+
+pub use calls::run;
+pub use going::Going;
+pub use handing::catch_up;
+pub use lines::Line;

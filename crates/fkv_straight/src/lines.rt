@@ -1,0 +1,72 @@
+//! The words of a store, as one session steps at them.
+ghost use Rattle.std.specs.Prelude.{◌≡◌, ◌<◌, ◌+◌, ℕ, false};
+ghost use Rattle.fkv_plane.specs.declared.asks.Ask.TheVariants.{Load, Store, Swap, Cas};
+ghost use Rattle.fkv_session.specs.Sessions.{Seat, SessionState, is_busy};
+ghost use Rattle.fkv_straight.specs.Standing.{asked, leads, begins, replayed};
+
+use fkv_map::Op;
+
+/// The shared words, for the session of which it keeps where the machine stands. It lets the session make just the step that the machine
+/// asks for there, and keeps up to 64 replies of a call.
+pub trait Line {
+    /// Whose machine it is, in which store.
+    ghost seat: { Self → Seat };
+
+    /// Where the machine stands by the steps that were made.
+    ghost stands: { Self → SessionState };
+
+    /// The replies that are kept lead from this state to where the machine stands.
+    ghost led: { Self → SessionState → Type 0 };
+
+    /// How many replies are kept.
+    ghost kept: { Self → ℕ };
+
+    /// Begins a call of an operation, and makes its first step, a load. The replies of the call before are kept no more.
+    fn first(&mut self, op: Op, place: usize) -> u64
+        requires idle { is_busy (stands self.old).step ≡ false }
+        requires asked { asked (seat self.old) (begins (seat self.old) (stands self.old) op) ≡ Load place }
+        ensures next { stands self.new ≡ leads (seat self.old) (begins (seat self.old) (stands self.old) op) result }
+        ensures led { led self.new (begins (seat self.old) (stands self.old) op) }
+        ensures kept { kept self.new ≡ 1 }
+        ensures seat { seat self.new ≡ seat self.old };
+
+    /// The word at a place.
+    fn load(&mut self, place: usize) -> u64
+        requires asked { asked (seat self.old) (stands self.old) ≡ Load place }
+        requires room { kept self.old < 64 }
+        ensures next { stands self.new ≡ leads (seat self.old) (stands self.old) result }
+        ensures led { (start : SessionState) → led self.old start → led self.new start }
+        ensures kept { kept self.new ≡ kept self.old + 1 }
+        ensures seat { seat self.new ≡ seat self.old };
+
+    /// The word becomes the number; gives the word as it was, as the three below do.
+    fn store(&mut self, place: usize, new: u64) -> u64
+        requires asked { asked (seat self.old) (stands self.old) ≡ Store place new }
+        requires room { kept self.old < 64 }
+        ensures next { stands self.new ≡ leads (seat self.old) (stands self.old) result }
+        ensures led { (start : SessionState) → led self.old start → led self.new start }
+        ensures kept { kept self.new ≡ kept self.old + 1 }
+        ensures seat { seat self.new ≡ seat self.old };
+
+    /// The word becomes the number.
+    fn swap(&mut self, place: usize, new: u64) -> u64
+        requires asked { asked (seat self.old) (stands self.old) ≡ Swap place new }
+        requires room { kept self.old < 64 }
+        ensures next { stands self.new ≡ leads (seat self.old) (stands self.old) result }
+        ensures led { (start : SessionState) → led self.old start → led self.new start }
+        ensures kept { kept self.new ≡ kept self.old + 1 }
+        ensures seat { seat self.new ≡ seat self.old };
+
+    /// Where the word is the expected one it becomes the new one.
+    fn cas(&mut self, place: usize, expected: u64, new: u64) -> u64
+        requires asked { asked (seat self.old) (stands self.old) ≡ Cas place expected new }
+        requires room { kept self.old < 64 }
+        ensures next { stands self.new ≡ leads (seat self.old) (stands self.old) result }
+        ensures led { (start : SessionState) → led self.old start → led self.new start }
+        ensures kept { kept self.new ≡ kept self.old + 1 }
+        ensures seat { seat self.new ≡ seat self.old };
+
+    /// The replies that are kept, in order.
+    fn replies(&self) -> &[u64]
+        ensures led { (start : SessionState) → led self.now start → stands self.now ≡ replayed (seat self.now) start result.now };
+}

@@ -1,0 +1,44 @@
+//! A read, straight.
+ghost use Rattle.std.specs.Prelude.{◌≡◌, IfSome, true, false};
+ghost use Rattle.fkv_ops.specs.Requests.{is_read};
+ghost use Rattle.fkv_session.specs.Alike.{lasting};
+ghost use Rattle.fkv_session.specs.Sessions.{is_busy};
+ghost use Rattle.fkv_straight.specs.Course.{course_of, Goes};
+ghost use Rattle.fkv_straight.specs.Standing.{begins, IsEnded};
+
+use crate::going::Going;
+use crate::lines::Line;
+use crate::searching::{Met, search};
+use fkv_base::{Addr, Value};
+use fkv_map::Op;
+use fkv_plane::RecordWord;
+use fkv_session::Told;
+
+/// What a read is told whose key's record, or chain's end, is in memory.
+#[inline(always)]
+pub(crate) fn read<L: Line>(line: &mut L, going: &Going, op: Op) -> Option<Told>
+    requires idle { is_busy (L.stands line.old).step ≡ false }
+    requires goes { Goes (course_of (L.seat line.old) (L.stands line.old) op) (L.seat line.old) op going.now }
+    requires reads { is_read op ≡ true }
+    ensures seat { L.seat line.new ≡ L.seat line.old }
+    ensures led { L.led line.new (begins (L.seat line.old) (L.stands line.old) op) }
+    ensures ended { IfSome result (λ its. IsEnded (lasting (L.stands line.old)) its (L.stands line.new)) }
+{
+    let met = search(line, going, op);
+    let Some(its) = met else {
+        return None;
+    };
+    match its {
+        Met::Found(record) => {
+            let place = going.places.record(Addr(record.addr), RecordWord::Value);
+            let value = line.load(place);
+            if value == Value::ABSENT {
+                Some(Told::Absent)
+            } else {
+                Some(Told::Found(Value(value)))
+            }
+        }
+        Met::Nowhere(_) => Some(Told::Absent),
+        Met::OnDisk(_) => None,
+    }
+}

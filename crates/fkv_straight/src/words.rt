@@ -1,0 +1,50 @@
+//! What words, operations and phases say, as short as a straight call wants it.
+ghost use Rattle.std.specs.Prelude.{◌≡◌, ◌&&◌, not};
+ghost use Rattle.fkv_index.specs.Slots.{entry_addr, is_entry};
+ghost use Rattle.fkv_ops.specs.Requests.{is_read, is_blind};
+ghost use Rattle.fkv_ops.specs.Trying.{is_prepare, is_moving_on};
+
+use fkv_base::Phase;
+use fkv_map::Op;
+
+const ADDR_MASK: u64 = (1 << 48) - 1;
+
+/// The address in the word of an entry, of a header or of a link.
+#[inline(always)]
+pub(crate) fn addr_of(word: u64) -> u64
+    ensures { result ≡ entry_addr word }
+{
+    word & ADDR_MASK
+}
+
+/// Whether the word of a slot is an entry.
+#[inline(always)]
+pub(crate) fn is_entry(word: u64) -> bool
+    ensures { result ≡ is_entry word }
+{
+    word & ADDR_MASK != 0 && word >> 48 < 1 << 15
+}
+
+/// Whether the operation shares the latch of its bucket.
+#[inline(always)]
+pub(crate) fn shares_latch(phase: Phase, op: Op) -> bool
+    ensures { result ≡ (is_prepare phase && not (is_read op)) }
+{
+    matches!(phase, Phase::Prepare) && !matches!(op, Op::Read(_))
+}
+
+/// Whether a commit's sessions go on to the next version.
+#[inline(always)]
+pub(crate) fn is_moving_on(phase: Phase) -> bool
+    ensures { result ≡ is_moving_on phase }
+{
+    matches!(phase, Phase::InProgress | Phase::WaitPending)
+}
+
+/// Whether the new value doesn't depend on the old one.
+#[inline(always)]
+pub(crate) fn is_blind(op: Op) -> bool
+    ensures { result ≡ is_blind op }
+{
+    matches!(op, Op::Upsert(_, _) | Op::Delete(_))
+}

@@ -1,0 +1,58 @@
+//! What may go straight, and a new line.
+use crate::plain_lines::PlainLine;
+use fkv_base::{Addr, Fault, Key, Phase, Serial, Shape, Value, Version};
+use fkv_log::SeenOffsets;
+use fkv_map::Op;
+use fkv_ops::Seen;
+use fkv_plane::{Places, PlainWords};
+use fkv_session::Session;
+use fkv_straight::{Going, Line};
+use std::test::Fail;
+
+const UPSERT: Op = Op::Upsert(Key(3), Value(40));
+
+const READ: Op = Op::Read(Key(3));
+
+fn shape() -> Result<Shape, Fault> {
+    Shape::new(4, 4, 2, 1, 1, 0, 64)
+}
+
+/// A session that has seen this phase of version 1.
+fn session(phase: Phase) -> Result<Session, Fault> {
+    let seen = Seen {
+        phase,
+        version: Version(1),
+        offsets: SeenOffsets {
+            head: Addr(1),
+            read_only: Addr(3),
+        },
+    };
+    Ok(Session::new(shape()?, 0, seen, Serial(0)))
+}
+
+#[test]
+fn a_call_at_rest_goes_straight(rt: HostRuntime) -> Result<(), Fail> {
+    let session = session(Phase::Rest)?;
+    let going = Going::of(&session, UPSERT);
+    assert!(rt; going.map(|its| (its.head, its.read_only, its.version)) == Some((1, 3, 1)));
+    assert!(rt; going.map(|its| its.is_moving_on) == Some(false));
+    assert!(rt; Going::of(&session, READ).is_some());
+    Ok(())
+}
+
+#[test]
+fn an_update_in_prepare_is_the_machine_s(rt: HostRuntime) -> Result<(), Fail> {
+    let session = session(Phase::Prepare)?;
+    assert!(rt; Going::of(&session, UPSERT).is_none());
+    assert!(rt; Going::of(&session, READ).is_some());
+    Ok(())
+}
+
+#[test]
+fn a_new_line_keeps_no_reply(rt: HostRuntime) -> Result<(), Fail> {
+    let words = PlainWords::new(rt.alloc(), Places::of(&shape()?).word_count())?;
+    let line = PlainLine::new(words, session(Phase::Rest)?);
+    assert!(rt; line.replies().is_empty());
+    assert!(rt; !line.has_strayed);
+    Ok(())
+}

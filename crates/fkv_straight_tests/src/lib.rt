@@ -1,0 +1,8 @@
+//! A line over plain words, by which straight calls are tried outside of any thread: its machine runs beside them and says what may be asked.
+#![tactic(auto)]
+
+#[cfg(test)]
+mod goings;
+mod plain_lines;
+
+pub use plain_lines::PlainLine;
