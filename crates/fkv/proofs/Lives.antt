@@ -1,7 +1,7 @@
 -- What is written of a script for a new store in memory is played in lives, by what is written of any script.
 use Rattle.std.proofs.Common.{◌≡◌, ◌≢◌, ◌∙◌, ◌⊎◌, ℕ, zero, suc, List, [], ◌∷◌, ◌++◌, Bool, true, false, All, ap, inl, inr, length, map, refl, subst, sym, take}
 use Rattle.std.specs.List.{flat_map}
-use Rattle.std.specs.Prelude.{IfSome, Option, Some, None, Ok, Result, is_some, option_map, slice_get, string_bytes, ⊤}
+use Rattle.std.specs.Prelude.{IfSome, Option, Some, None, Ok, Result, is_some, slice_get, string_bytes}
 use Rattle.std.proofs.lemmas.List.Elements.{All-head, All-tail}
 use Rattle.fkv_base.specs.declared.faults.Fault.TheVariants as fault
 use Rattle.fkv_base.specs.declared.shapes.Shape.{Shape}
