@@ -38,12 +38,14 @@ pub fn law_chains_open()
     law_chains_below();
 }
 
-/// Each commit that has begun in such a life cuts the log beside it, from then on and for good, as an image wants that names the commit: what is published of
-/// versions up to its own lies below its end, and nothing that is published below that is of a version past the next one. (`law_commits_cut` says both of each
-/// record, of those that were given up too.) From the opened tail on each record below its end is published or was given up. A newer commit ends no lower. If
-/// this life has begun the commit, what is published below its first address is of no later version than its own. If it is a full one besides, it has written
-/// triples that an image can read back, and in an image that has them these cover the chains.
+/// Each commit that has begun in such a life cuts the log beside it, from then on and for good. From its end on each record is of a later version. Below its end
+/// none is of a version past the next one. Records that were given up count, too. So it cuts the log as an image wants that names it: what is published of versions
+/// up to its own lies below its end. From the opened tail on each record below its end is published or was given up. A newer commit ends no lower. If this life has
+/// begun the commit, what is published below its first address is of no later version than its own. If it is a full one besides, it has written triples that an
+/// image can read back, and in an image that has them these cover the chains.
 pub fn law_cut_opens()
+    ensures later { cut.OfEachBegun cut.IsLaterFromEnd }
+    ensures young { cut.OfEachBegun cut.IsYoungBelowEnd }
     ensures cut { cut.OfEachBegun cut.CutsItsLog }
     ensures decided { cut.OfEachBegun cut.DecidesItsLog }
     ensures ends { cut.EndsRise }
