@@ -17,7 +17,7 @@ use Rattle.law_paper.specs.Paper.Images.{IsCut, IsDecided}
 use Rattle.law_paper.specs.Paper.Stands.{CoversChains}
 use Rattle.law_commit.specs.BegunCommits.{BegunCommit, life_begun}
 use Rattle.law_commit.specs.Decided.Below.{CellsBelow}
-use Rattle.law_commit.specs.Decided.Ended.{span_of, span_opened}
+use Rattle.law_commit.specs.Decided.Ended.{HasEnded, span_of, span_opened}
 use Rattle.law_commit.specs.Versions.Cells.{CellsFrom}
 
 -- the log beside a life
@@ -32,6 +32,10 @@ OfEachBegun P =
 -- the commit is the opening's
 abbrev pub IsOpenings : Now → List ℕ → BegunCommit → Type 0
 IsOpenings n bytes c = span_of c ≡ span_opened (beginning n bytes)
+
+-- the commit has come through its three moments: the tail was its first address, then its end, and then it was written
+abbrev pub HasComeToItsEnd : Opened → Now → List ℕ → List Event → BegunCommit → Type 0
+HasComeToItsEnd o n bytes events c = HasEnded (beginning n bytes) events (span_of c) ⊎ IsOpenings n bytes c
 
 -- from its end on each record is of a later version, one that was given up too
 abbrev pub IsLaterFromEnd : Opened → Now → List ℕ → List Event → BegunCommit → Type 0
