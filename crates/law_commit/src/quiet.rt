@@ -28,8 +28,9 @@ pub fn law_versions_end()
     law_floor_stands();
 }
 
-/// While the phase is wait-pending, a session's two cut words show its point of the commit's number. If it has left that version, or has told so as it wakes, its
-/// first word says where. If it sleeps since an earlier one, the later of its two words does.
+/// While the phase is wait-pending, a session's two cut words show its point of the commit's number. Either the first is the cut of that version at the point: the
+/// session has left it, or has told so as it wakes. Or one of the two is the cut of an earlier version at the point, and the other that of the version before
+/// it, at no later serial: the session sleeps since then.
 pub fn law_cuts_show_points()
     ensures { CutsShowPoints }
 {

@@ -15,3 +15,4 @@ pub mod Rules
 pub mod Served
 pub mod Shares
 pub mod Tickets
+pub mod Versions

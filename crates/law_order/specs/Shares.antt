@@ -1,6 +1,7 @@
 -- What the law of `shares` says.
-use Rattle.std.specs.Prelude.{◌≡◌, ◌⊎◌, ◌<◌, ℕ, List, true, false}
+use Rattle.std.specs.Prelude.{◌≡◌, ◌⊎◌, ◌<◌, ℕ, List, Some, slice_get, true, false}
 use Rattle.fkv_core.specs.Openings.{IsOpeningWorld, beginning}
+use Rattle.fkv_latch.specs.Latched.{AreCounted, AreLatchesApart}
 use Rattle.fkv_latch.specs.Latching.{is_exclusive}
 use Rattle.fkv_latch.specs.LatchWorld.{times}
 use Rattle.fkv_opening.specs.Opened.{IsStoreOf}
@@ -18,7 +19,9 @@ use Rattle.fkv_world.specs.OwnEvents.{session_events}
 use Rattle.fkv_world.specs.Runs.{World, run}
 use Rattle.fkv_world.specs.World.{Event, Now, seat_at}
 use Rattle.law_local.specs.Sessions.Known.{is_attempting}
+use Rattle.law_refine.specs.Latches.InTries.{HasItsShares, session_held}
 use Rattle.law_refine.specs.Latches.Latchers.{session_alone}
+use Rattle.law_refine.specs.Latches.Shows.{AreApart, Shows, seen_by_latches}
 use Rattle.law_commit.specs.Shares.Leaving.{HasLoaded}
 use Rattle.law_commit.specs.Shares.Since.{AllShareSo, SharesJust, SharesOnly, SharesSince, seen_by}
 use Rattle.law_commit.specs.Shares.Tries.{SharesInHand}
@@ -104,3 +107,30 @@ OlderComesSharing opening events session first its =
 -- and each shares its latch just if it has come there, as long as it takes up no other phase
 abbrev pub ShareJustSincePrepare : World → List Event → ℕ → SessionState → SessionState → Type 0
 ShareJustSincePrepare opening events session first its = seen_by its its.step ≡ its.seen → AllShareSo (SharesJust its.seen) its
+
+-- ---- what the latches keep apart, in each life of an opened store
+-- its latches are those of their own world, where each session's actor is as far as the session and holds what it holds
+abbrev pub ShowsItsLatches : World → List Event → Type 0
+ShowsItsLatches opening events = Shows (run opening events).now (seen_by_latches opening events)
+
+-- a latch that a session holds alone no other holds alone, and no waiting request of an idle session shares
+abbrev pub HoldsApart : World → List Event → Type 0
+HoldsApart opening events = AreApart (run opening events).now
+
+-- so it is of the actors
+abbrev pub KeepsLatchesApart : World → List Event → Type 0
+KeepsLatchesApart opening events = AreLatchesApart (seen_by_latches opening events)
+
+-- the word of a latch counts just those who share it
+abbrev pub CountsItsShares : World → List Event → Type 0
+CountsItsShares opening events = AreCounted (seen_by_latches opening events)
+
+-- a session's actor shares just what the session's requests share, in tries too, and what is being dropped or given back
+abbrev pub SharesWithTries : World → List Event → Type 0
+SharesWithTries opening events = (session : ℕ) (s : SessionState) → slice_get (run opening events).now.sessions session ≡ Some s → HasItsShares (run opening events).now (seen_by_latches opening events) session s
+
+-- where a session holds a latch alone, no request shares it, in a try or waiting
+abbrev pub HoldsBesideNone : World → List Event → Type 0
+HoldsBesideNone opening events =
+    (place i j : ℕ) (s t : SessionState) → slice_get (run opening events).now.sessions i ≡ Some s → slice_get (run opening events).now.sessions j ≡ Some t
+    → 0 < times place (session_alone (run opening events).now.places s) → session_held (seat_at (run opening events).now j) place t t.step ≡ 0

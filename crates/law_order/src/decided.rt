@@ -6,7 +6,7 @@ ghost use Rattle.law_order.specs.Decided.Old as old;
 use crate::in_turn::{law_ends_open, law_versions_open};
 use crate::rules::law_life_begins;
 use law_commit::{
-    law_addresses_taken, law_chains_below, law_commits_cut, law_commits_decided,
+    law_addresses_taken, law_chains_below, law_commits_cut, law_commits_decided, law_commits_ended,
     law_commits_settled, law_versions_bounded,
 };
 use law_opening::{law_lives_change_published, law_log_counted};
@@ -38,11 +38,16 @@ pub fn law_chains_open()
     law_chains_below();
 }
 
-/// Each commit that has begun in such a life cuts the log beside it, from then on and for good, as an image wants that names the commit: what is published of
-/// versions up to its own lies below its end, and below that nothing is of a version past the next one. From the opened tail on each record below its end is
-/// published or was given up. A newer commit ends no lower. If the commit is a full one of this life, what is published below its first address is of no later version than its own. It has
-/// written triples that an image can read back, and in an image that has them these cover the chains.
+/// Each commit that has begun in such a life cuts the log beside it, from then on and for good. But for the opening's, its first address was the tail as it started,
+/// and its end was the tail before it was written. From its end on each record is of a later version. Below its end none is of a version past the next one. Records
+/// that were given up count, too. So it cuts the log as an image wants that names it: what is published of versions up to its own lies below its end. From the opened
+/// tail on each record below its end is published or was given up. A newer commit ends no lower. If this life has begun the commit, what is published below its
+/// first address is of no later version than its own. If it is a full one besides, it has written triples that an image can read back, and in an image that has them
+/// these cover the chains.
 pub fn law_cut_opens()
+    ensures ended { cut.OfEachBegun cut.HasComeToItsEnd }
+    ensures later { cut.OfEachBegun cut.IsLaterFromEnd }
+    ensures young { cut.OfEachBegun cut.IsYoungBelowEnd }
     ensures cut { cut.OfEachBegun cut.CutsItsLog }
     ensures decided { cut.OfEachBegun cut.DecidesItsLog }
     ensures ends { cut.EndsRise }
@@ -52,6 +57,7 @@ pub fn law_cut_opens()
     law_life_begins();
     law_ends_open();
     law_versions_open();
+    law_commits_ended();
     law_commits_cut();
     law_lives_change_published();
 }

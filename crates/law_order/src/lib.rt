@@ -25,6 +25,7 @@ mod shares;
 mod tickets;
 mod told;
 mod truth;
+mod versions;
 
 pub use apart::law_versions_apart;
 pub use asked::law_world_asked;
@@ -63,7 +64,8 @@ pub use recovered::{
 pub use rows::{law_requests_asked, law_rows_go_on, law_waits_stay};
 pub use rules::{law_cuts_open, law_life_begins, law_order_of_rules};
 pub use served::law_world_served;
-pub use shares::{law_shares_open, law_updates_share};
+pub use shares::{law_lives_count_shares, law_shares_open, law_updates_share};
 pub use tickets::law_tickets_apart;
 pub use told::law_world_told;
 pub use truth::law_world_truth;
+pub use versions::{law_lives_bound_versions, law_lives_end_versions, law_lives_take_points};

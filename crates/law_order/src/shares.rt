@@ -1,11 +1,14 @@
 //! Shares of latches in the lives of opened stores.
 ghost use Rattle.law_order.specs.OneHistory.EachLife.{InEachLife};
+ghost use Rattle.law_order.specs.Opened.{OfItsLives};
 ghost use Rattle.law_order.specs.Shares as shares;
+ghost use Rattle.law_refine.specs.Latches.Shows.{ArePermitted};
 
 use crate::one_history::law_lives_keep_order;
 use crate::rules::law_life_begins;
 use law_commit::law_shares_not_missed;
 use law_opening::law_latches_open;
+use law_refine::{law_latched_in_tries, law_world_latched};
 
 /// In each life of an opened store, with commits too, a session holds a latch alone only between two versions, and a try of an update in prepare shares its
 /// latch. No share is missed that a session adds as it takes up prepare, and a live session leaves a version from its prepare alone. So in prepare each update
@@ -41,4 +44,21 @@ pub fn law_updates_share()
 {
     law_shares_open();
     law_lives_keep_order();
+}
+
+/// In each life of an opened store a latch counts the requests that share it, as `law_world_latched` and `law_latched_in_tries` say. So it is with commits, crashes
+/// and failing calls of the device. Only who works on a latch changes its bits. A session shares what its requests share, in tries too, and what it is dropping
+/// or giving back. Where a session holds a latch alone, no other does, and no request shares it, in a try or waiting.
+pub fn law_lives_count_shares()
+    ensures permitted { OfItsLives ArePermitted }
+    ensures shows { OfItsLives shares.ShowsItsLatches }
+    ensures apart { OfItsLives shares.HoldsApart }
+    ensures latched { OfItsLives shares.KeepsLatchesApart }
+    ensures counted { OfItsLives shares.CountsItsShares }
+    ensures shares { OfItsLives shares.SharesWithTries }
+    ensures beside_none { OfItsLives shares.HoldsBesideNone }
+{
+    law_latches_open();
+    law_world_latched();
+    law_latched_in_tries();
 }

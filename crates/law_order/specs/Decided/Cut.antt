@@ -1,6 +1,6 @@
 -- What `law_paper` wants of a commit that a life has begun, where an image names it: how it cuts the log, and what its triples are to the chains.
 use Rattle.std.specs.List.{flat_map}
-use Rattle.std.specs.Prelude.{◌≡◌, ◌⊎◌, ◌<◌, ◌≤◌, ◌^◌, ℕ, List, Some, slice_get}
+use Rattle.std.specs.Prelude.{◌≡◌, ◌⊎◌, ◌<◌, ◌≤◌, ◌+◌, ◌^◌, ℕ, List, Some, slice_get}
 use Rattle.fkv_base.specs.declared.commits.CommitKind.TheVariants.{Full}
 use Rattle.fkv_core.specs.Openings.{IsOpeningWorld, beginning}
 use Rattle.fkv_opening.specs.Opened.{IsStoreOf}
@@ -16,7 +16,9 @@ use Rattle.law_opening.specs.Log.Lives.{ghosts_beside}
 use Rattle.law_paper.specs.Paper.Images.{IsCut, IsDecided}
 use Rattle.law_paper.specs.Paper.Stands.{CoversChains}
 use Rattle.law_commit.specs.BegunCommits.{BegunCommit, life_begun}
-use Rattle.law_commit.specs.Decided.Ended.{span_of, span_opened}
+use Rattle.law_commit.specs.Decided.Below.{CellsBelow}
+use Rattle.law_commit.specs.Decided.Ended.{HasEnded, span_of, span_opened}
+use Rattle.law_commit.specs.Versions.Cells.{CellsFrom}
 
 -- the log beside a life
 abbrev pub log_beside : Opened → Now → List ℕ → List Event → Log
@@ -30,6 +32,18 @@ OfEachBegun P =
 -- the commit is the opening's
 abbrev pub IsOpenings : Now → List ℕ → BegunCommit → Type 0
 IsOpenings n bytes c = span_of c ≡ span_opened (beginning n bytes)
+
+-- the commit has come through its three moments: the tail was its first address, then its end, and then it was written
+abbrev pub HasComeToItsEnd : Opened → Now → List ℕ → List Event → BegunCommit → Type 0
+HasComeToItsEnd o n bytes events c = HasEnded (beginning n bytes) events (span_of c) ⊎ IsOpenings n bytes c
+
+-- from its end on each record is of a later version, one that was given up too
+abbrev pub IsLaterFromEnd : Opened → Now → List ℕ → List Event → BegunCommit → Type 0
+IsLaterFromEnd o n bytes events c = CellsFrom c.end.0 (c.number.0 + 1) (log_beside o n bytes events)
+
+-- below its end none is of a version past the next one
+abbrev pub IsYoungBelowEnd : Opened → Now → List ℕ → List Event → BegunCommit → Type 0
+IsYoungBelowEnd o n bytes events c = CellsBelow c.end.0 (c.number.0 + 1) (log_beside o n bytes events)
 
 -- The image names the number and the end of a commit.
 pub record NamesEnd (image : scan.Log) (c : BegunCommit) : Type 0 where

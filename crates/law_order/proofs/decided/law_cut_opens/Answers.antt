@@ -10,6 +10,19 @@ use Rattle.law_order.proofs.OfRules.Decided.{opens_taken}
 use Rattle.law_order.specs.Decided.Cut.{log_beside}
 use Rattle.law_order.proofs.decided.law_cut_opens.Goals as goal
 
+pub returns-clause-ended : goal.returns-clause-ended
+returns-clause-ended c = λ bytes o n events d store its begun. c.law_commits_ended.ensures (beginning n bytes) o.tail.0 events d (c.law_ends_open.ensures bytes o n store its) begun
+
+pub returns-clause-later : goal.returns-clause-later
+returns-clause-later c = λ bytes o n events d store its begun.
+    let opens = opens_whole c.law_life_begins.ensures c.law_ends_open.ensures c.law_versions_open.ensures bytes o n store its in
+    c.law_commits_cut.ensures.later (beginning n bytes) o.tail.0 (opening_ghosts bytes o) events d opens begun
+
+pub returns-clause-young : goal.returns-clause-young
+returns-clause-young c = λ bytes o n events d store its begun.
+    let opens = opens_whole c.law_life_begins.ensures c.law_ends_open.ensures c.law_versions_open.ensures bytes o n store its in
+    c.law_commits_cut.ensures.young (beginning n bytes) o.tail.0 (opening_ghosts bytes o) events d opens begun
+
 pub returns-clause-cut : goal.returns-clause-cut
 returns-clause-cut c = λ bytes o n events d store its begun image names.
     let opens = opens_whole c.law_life_begins.ensures c.law_ends_open.ensures c.law_versions_open.ensures bytes o n store its in
