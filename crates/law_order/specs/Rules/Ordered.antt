@@ -1,5 +1,5 @@
 -- The order law of an opened store's life, in the words of the life itself.
-use Rattle.std.specs.Prelude.{◌≡◌, ℕ, ◌+◌, List, ◌∷◌, ◌++◌}
+use Rattle.std.specs.Prelude.{◌≡◌, ℕ, List, ◌∷◌, ◌++◌}
 use Rattle.fkv_core.specs.Openings.{IsOpeningWorld, beginning}
 use Rattle.fkv_epoch.specs.EpochWorld.{Claimed, Ran}
 use Rattle.fkv_epoch.specs.Once.{Among, HasRunOnce}

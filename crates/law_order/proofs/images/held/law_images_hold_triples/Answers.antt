@@ -1,26 +1,13 @@
 -- The law, by what the slot says of the checkpoint.
-use Rattle.std.proofs.Common.{◌≡◌, inl, inr, ℕ, ◌+◌, ◌*◌, ◌^◌, ◌<◌, ◌≤◌, ◌∙◌, arith, refl, sym, ap, subst, List, length}
+use Rattle.std.proofs.Common.{◌≡◌, inl, inr, ◌≤◌, ◌∙◌, arith, sym, ap, length}
 use Rattle.fkv_base.specs.declared.numbers.Addr.{Addr}
-use Rattle.fkv_base.specs.declared.shapes.Shape.{Shape}
-use Rattle.fkv_core.specs.Openings.{IsOpeningWorld}
-use Rattle.fkv_disk.specs.Bytes.{bytes_at}
-use Rattle.fkv_keeper.specs.Keeping.{Finality}
-use Rattle.fkv_keeper.specs.LastCommits.{area_number}
-use Rattle.fkv_keeper.specs.declared.last_commits.Checkpoint.{Checkpoint}
-use Rattle.fkv_newest.specs.Newest.{IsNewestOf}
-use Rattle.fkv_newest.specs.declared.newest_slots.Newest.{Newest}
-use Rattle.fkv_opening.specs.Faults.{HasCheckpoint}
-use Rattle.fkv_opening.specs.Opened.{IsStoreOf}
-use Rattle.fkv_opening.specs.declared.opened_store.Opened.{Opened}
 use Rattle.fkv_record.specs.Places.{area_place}
 use Rattle.fkv_record.specs.declared.manifest_slots.ManifestSlot.{ManifestSlot}
-use Rattle.fkv_world.specs.World.{Now}
 use Rattle.law_commit.specs.BegunCommits.{BegunCommit}
 use Rattle.law_order.specs.Images.Left.{flushed_so_far}
 use Rattle.law_order.specs.Images.Read.{ReadsBack}
 use Rattle.law_order.proofs.OfImages.Areas.{NamesArea, area_read, opened_area, opened_triples, said_area}
 use Rattle.law_order.proofs.OfImages.TripleBytes.{counted, in_list, one_triple}
-use Rattle.law_world.specs.Standing.Standing.{triples_in}
 use Rattle.law_order.proofs.images.held.law_images_hold_triples.Goals as goal
 
 pub returns-clause-read : goal.returns-clause-read
@@ -61,6 +48,6 @@ returns-clause-held c = λ o n bytes events image store begins long left.
       held = elim named.triples [
         | inl made ↦ inl (made.0, made.1, (let by = made.2 in record { full = by.full; own = by.own; first = by.first; checkpoint = by.checkpoint; triples = by.triples ∙ sym read }))
         | inr old ↦ inr (opened_triples o n bytes image store it r.newest store.checkpoint begins area r.shape old.0 later
-            (read ∙ old.1) r.its)
+            old.1 r.its)
       ];
     }
