@@ -1,4 +1,5 @@
 pub mod AreaFits
+pub mod Areas
 pub mod AtRest
 pub mod Begun
 pub mod BegunRun

@@ -23,7 +23,7 @@ use Rattle.law_log.specs.Trace.{IsIn}
 use Rattle.law_order.specs.Decided.Cut.{CoversItsChains, IsOldBelow, IsOpenings, StartsAt, WritesCover}
 use Rattle.law_order.specs.Recovered.Leaves.{NamesNew}
 use Rattle.law_order.specs.Recovered.Parts.{UsesNew}
-use Rattle.law_order.proofs.OfRecovered.OfUses.Areas.{area_read, said_area}
+use Rattle.law_order.proofs.OfImages.Areas.{area_read, said_area}
 use Rattle.law_order.proofs.OfRecovered.OfUses.Numbers.{ends_by}
 use Rattle.law_world.specs.Standing.Standing.{triples_in}
 

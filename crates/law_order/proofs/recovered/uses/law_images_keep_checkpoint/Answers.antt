@@ -7,7 +7,8 @@ use Rattle.fkv_record.specs.Manifest.{SlotSaid}
 use Rattle.fkv_record.specs.declared.manifest_slots.ManifestSlot.{ManifestSlot}
 use Rattle.law_commit.specs.BegunCommits.{BegunCommit}
 use Rattle.law_order.specs.Images.Left.{flushed_so_far}
-use Rattle.law_order.proofs.OfRecovered.OfUses.Areas.{NamesArea, opened_area, opened_triples, said_area, same_triples}
+use Rattle.law_order.proofs.OfImages.Areas.{NamesArea, opened_area, opened_triples, said_area}
+use Rattle.law_order.proofs.OfRecovered.OfUses.Areas.{same_triples}
 use Rattle.law_order.proofs.recovered.uses.law_images_keep_checkpoint.Goals as goal
 
 pub returns : goal.returns

@@ -14,7 +14,8 @@ use Rattle.law_order.specs.Images.Fits.{FitsLife}
 use Rattle.law_order.specs.Images.Left.{flushed_so_far}
 use Rattle.law_order.specs.Decided.Cut.{log_beside}
 use Rattle.law_paper.specs.Paper.Old.{LosesTheRest}
-use Rattle.law_order.proofs.OfRecovered.OfUses.Areas.{opened_older, opened_triples, said_area, same_triples}
+use Rattle.law_order.proofs.OfImages.Areas.{opened_triples, said_area}
+use Rattle.law_order.proofs.OfRecovered.OfUses.Areas.{opened_older, same_triples}
 use Rattle.law_order.proofs.OfRecovered.OfUses.New.{by_cover}
 use Rattle.law_order.proofs.OfRecovered.OfUses.Old.{uses_old}
 use Rattle.law_order.proofs.recovered.uses.law_images_use_checkpoints.Goals as goal
