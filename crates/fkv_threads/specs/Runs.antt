@@ -1,20 +1,14 @@
 -- The thread law of one call.
-use Rattle.std.specs.Prelude.{◌≡◌, ℕ, List, Option}
-use Rattle.fkv_base.specs.declared.numbers.Key.{Key}
-use Rattle.fkv_base.specs.declared.numbers.Value.{Value}
+use Rattle.std.specs.Prelude.{◌≡◌, ℕ, List}
 use Rattle.fkv_map.specs.declared.operations.Call.{Call}
 use Rattle.fkv_opening.specs.declared.opened_store.Opened.{Opened}
 use Rattle.fkv_session.specs.declared.answers.Answer.{Answer}
 use Rattle.fkv_world.specs.Runs.{World}
 use Rattle.fkv_world.specs.World.{Event, Now}
-use Rattle.law_opening.specs.Log.Maps.{opening_map}
-use Rattle.law_order.specs.Rules.InTime.{IsInTime}
-use Rattle.law_order.specs.Tickets.Few.{HasFewCalls}
-use Rattle.law_refine.specs.Events.Lines.{read_reply}
 use Rattle.fkv_table.specs.declared.happenings.Happening.{Happening}
 use Rattle.law_threads.specs.Calls.{CallRun, HasRun, IsOver, events_of}
-use Rattle.law_threads.specs.Polls.{FinishedIsSeen, IsPolledRead}
-use Rattle.law_threads.specs.Threads.{DoneIsSeen, ReadsWhatWasSeen, StandsInOneHistory, history_seen}
+use Rattle.law_threads.specs.Polls.{AnswersInTime, FinishedIsSeen}
+use Rattle.law_threads.specs.Threads.{DoneIsSeen, ReadsWhatWasSeen, StandsInOneHistory}
 
 -- a call, its answer, and what its pass had seen before and has seen behind it
 abbrev pub run_of : ℕ → Call → Answer → List Happening → List Happening → CallRun
@@ -31,8 +25,7 @@ module _ {K : Type 0} (at : K → World) (key : K) (its : CallRun) where
 
   -- If the call is a poll, a read that it answers gives its key's value after some beginning of the history that holds what the pass had seen when the read was called.
   abbrev pub PollsInTime : (Opened → Now → List ℕ → List Event → Type 0) → Type 0
-  PollsInTime If = (o : Opened) (n : Now) (bytes : List ℕ) (asked : CallRun) → IsOver at key o n bytes → HasRun at key asked → If o n bytes (events_of its.behind) → HasFewCalls (events_of its.behind)
-      → (k : Key) (value : Option Value) → IsPolledRead asked its k value → IsInTime (opening_map bytes o) (history_seen n bytes asked.before) (history_seen n bytes its.behind) k.0 (read_reply value)
+  PollsInTime If = (o : Opened) (n : Now) (bytes : List ℕ) (asked : CallRun) → IsOver at key o n bytes → HasRun at key asked → If o n bytes (events_of its.behind) → AnswersInTime o n bytes asked its
 
   -- What the thread law says of the call, in lives of which this is so.
   pub record IsLawful (If : Opened → Now → List ℕ → List Event → Type 0) : Type 0 where

@@ -45,7 +45,11 @@ pub record IsPolledRead (asked poll : CallRun) (key : Key) (value : Option Value
   pub behind : poll.before ≡ later ++ asked.behind
 
 -- Such a read too gives its key's value after some beginning of the history that holds what its pass had seen when it was called, if few calls begin.
+abbrev pub AnswersInTime : Opened → Now → List ℕ → CallRun → CallRun → Type 0
+AnswersInTime o n bytes asked poll = HasFewCalls (events_of poll.behind) → (k : Key) (value : Option Value) → IsPolledRead asked poll k value
+    → IsInTime (opening_map bytes o) (history_seen n bytes asked.before) (history_seen n bytes poll.behind) k.0 (read_reply value)
+
+-- so does each poll at a table, in lives of which this is so
 abbrev pub PollsWhatWasSeen : {K : Type 0} → (K → World) → (Opened → Now → List ℕ → List Event → Type 0) → Type 0
 PollsWhatWasSeen {K} at If = (key : K) (o : Opened) (n : Now) (bytes : List ℕ) (asked poll : CallRun) → IsOver at key o n bytes → HasRun at key asked → HasRun at key poll
-    → If o n bytes (events_of poll.behind) → HasFewCalls (events_of poll.behind) → (k : Key) (value : Option Value) → IsPolledRead asked poll k value
-    → IsInTime (opening_map bytes o) (history_seen n bytes asked.before) (history_seen n bytes poll.behind) k.0 (read_reply value)
+    → If o n bytes (events_of poll.behind) → AnswersInTime o n bytes asked poll
