@@ -8,8 +8,8 @@ ghost use Rattle.fkv_runs.specs.Openings.{medium_of};
 ghost use Rattle.fkv_cli.specs.Output.{IsOutputOf};
 ghost use Rattle.fkv.specs.Replies.{PrintsMapOfFileScript, PrintsMapOfScript, ReplyLineByLine};
 
-use fkv_cli::Lockable;
 use fkv_disk::{Device, FileDisk, Fuse, MemDisk};
+use fkv_files::Lockable;
 use fkv_playing::Breaks;
 use fkv_runs::Crashes;
 use law_program::{law_new_files, law_played_calls, law_played_scripts};

@@ -4,14 +4,12 @@ use clap::{Arg, ArgAction, Command, value_parser};
 use std::alloc::{AllocError, Global};
 
 /// What the words ask for.
-#[derive(Clone, Copy)]
+#[derive(Drop)]
 pub enum Asked {
     /// No threads.
     NoThreads,
-    /// Threads, over a store in memory.
-    Threads,
-    /// Threads over a store in a file, which isn't served.
-    ThreadsInFile,
+    /// Threads, over a store in the file of this path, or in memory.
+    Threads(Option<String>),
     /// Threads, and a seed that picks who is next.
     SeedAndThreads,
     /// Threads, by words that are refused.
@@ -36,21 +34,20 @@ pub fn asked_of(alloc: Global, words: &[&str]) -> Result<Asked, AllocError> {
 fn parse(alloc: Global, words: &[&str]) -> Result<Asked, clap::Error> {
     let command = command_of(alloc)?;
     let matches = command.try_get_matches_from(words)?;
-    let has_threads = matches.get_one::<bool>("threads").unwrap_or(false);
-    let has_seed = matches.get_one::<u64>("seed").is_some();
-    let has_file = matches.get_str("file").is_some();
-    Ok(what_is_asked(has_threads, has_seed, has_file))
+    if !matches.get_one::<bool>("threads").unwrap_or(false) {
+        return Ok(Asked::NoThreads);
+    }
+    if matches.get_one::<u64>("seed").is_some() {
+        return Ok(Asked::SeedAndThreads);
+    }
+    Ok(Asked::Threads(owned(alloc, matches.get_str("file"))?))
 }
 
-fn what_is_asked(has_threads: bool, has_seed: bool, has_file: bool) -> Asked {
-    if !has_threads {
-        Asked::NoThreads
-    } else if has_seed {
-        Asked::SeedAndThreads
-    } else if has_file {
-        Asked::ThreadsInFile
-    } else {
-        Asked::Threads
+/// The text in memory of its own, where there is one.
+fn owned(alloc: Global, text: Option<&str>) -> Result<Option<String>, AllocError> {
+    match text {
+        Some(text) => Ok(Some(String::from_str(alloc, text)?)),
+        None => Ok(None),
     }
 }
 
