@@ -1,8 +1,9 @@
 //! A device that is kept in memory too.
-ghost use Rattle.std.specs.Prelude.{◌≡◌, ◌≤◌, ◌+◌, ◌-◌, ◌^◌, ◌↔◌, [], length, min, true, false, ⊤, is_ok, IfOk, IfErr, OnOk, OnErr, IsOk};
-ghost use Rattle.fkv_disk.specs.Bytes.{bytes_at};
-ghost use Rattle.fkv_disk.specs.Device.{Writes, LeavesNoMore, LeavesTorn, LeavesOnly, Elapses, HasCause, MakesCalls, IsAfter};
+ghost use Rattle.std.specs.Prelude.{◌≡◌, ◌≤◌, ◌+◌, ◌-◌, ◌^◌, [], length, min, false, ⊤, IfOk};
+ghost use Rattle.fkv_disk.specs.Device.{IsAfter};
+ghost use Rattle.fkv_disk.specs.Done.{calls_of, counts_now, only_now};
 ghost use Rattle.fkv_disk.specs.Memory.{disk_calls, disk_opening};
+ghost use Rattle.fkv_disk.specs.Stays.{seen_left};
 ghost use Rattle.std.proofs.Props.{props};
 
 use fkv_base::Fault;
@@ -86,13 +87,13 @@ impl<D: Device> Device for Mirror<D> {
 
     ghost expects = { λ _ _. false };
 
-    ghost counts_now = { λ mirror. ⟦<MemDisk as Device>⟧.counts_now mirror.memory };
+    ghost counts_now = { λ mirror t image claim le left. counts_now mirror.memory.forgotten mirror.memory.opening.items (calls_of mirror.memory.done.items) t image le left };
 
-    ghost only_now = { λ mirror. ⟦<MemDisk as Device>⟧.only_now mirror.memory };
+    ghost only_now = { λ mirror image claim left. only_now mirror.memory.forgotten mirror.memory.opening.items (calls_of mirror.memory.done.items) image left };
 
-    ghost leaves_seen = { λ mirror. ⟦<MemDisk as Device>⟧.leaves_seen mirror.memory };
+    ghost leaves_seen = { λ mirror claim. seen_left mirror.memory.opening.items (calls_of mirror.memory.done.items) mirror.memory.bytes.items mirror.memory.is_replayed mirror.memory.are_bytes };
 
-    ghost leaves_bytes = { λ mirror. ⟦<MemDisk as Device>⟧.leaves_bytes mirror.memory };
+    ghost leaves_bytes = { λ mirror image claim left. left.are_bytes };
 
     fn read(&mut self, at: u64, into: &mut [u8]) -> Result<(), Fault> {
         self.memory.read(at, into)
@@ -102,29 +103,35 @@ impl<D: Device> Device for Mirror<D> {
         if self.is_lost {
             return Err(refuse(&mut self.failures));
         }
-        // Where memory is refused nothing has happened.
-        if self.memory.write(at, bytes).is_err() {
-            return Err(refuse(&mut self.failures));
+        match self.memory.write(at, bytes) {
+            Ok(()) => {}
+            // Memory is refused, and nothing has happened.
+            Err(_) => return Err(refuse(&mut self.failures)),
         }
-        if self.device.write(at, bytes).is_err() {
-            self.is_lost = true;
-            return Err(refuse(&mut self.failures));
+        match self.device.write(at, bytes) {
+            Ok(()) => Ok(()),
+            Err(_) => {
+                self.is_lost = true;
+                Err(refuse(&mut self.failures))
+            }
         }
-        Ok(())
     }
 
     fn sync(&mut self) -> Result<(), Fault> {
         if self.is_lost {
             return Err(refuse(&mut self.failures));
         }
-        if self.device.sync().is_err() {
-            self.is_lost = true;
-            return Err(refuse(&mut self.failures));
+        match self.device.sync() {
+            Ok(()) => {}
+            Err(_) => {
+                self.is_lost = true;
+                return Err(refuse(&mut self.failures));
+            }
         }
-        if self.memory.sync().is_err() {
-            return Err(refuse(&mut self.failures));
+        match self.memory.sync() {
+            Ok(()) => Ok(()),
+            Err(_) => Err(refuse(&mut self.failures)),
         }
-        Ok(())
     }
 
     fn failures(&self) -> u64 {

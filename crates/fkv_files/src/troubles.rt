@@ -1,5 +1,6 @@
 //! Why no store can be made or opened in a file.
 use fkv_base::Fault;
+use std::alloc::AllocError;
 use std::{fmt, io};
 
 /// Why no store can be made or opened in a file.
@@ -24,6 +25,12 @@ pub enum Trouble {
 impl From<Fault> for Trouble {
     fn from(fault: Fault) -> Trouble {
         Trouble::Fault(fault)
+    }
+}
+
+impl From<AllocError> for Trouble {
+    fn from(_error: AllocError) -> Trouble {
+        Trouble::Fault(Fault::Memory)
     }
 }
 
