@@ -1,5 +1,6 @@
 -- What a session's log has, by the answers that the session was given.
 use Rattle.std.specs.Prelude.{ℕ, ◌+◌, ◌-◌, List, [], ◌∷◌, nat_lt, if◌then◌else◌, Option, None, slice_get}
+use Rattle.std.specs.List.{flat_map}
 use Rattle.fkv_base.specs.declared.numbers.Serial.{Serial}
 use Rattle.fkv_map.specs.declared.operations.Call.{Call}
 use Rattle.fkv_map.specs.declared.operations.Call.TheVariants as call
@@ -20,11 +21,14 @@ accepted_by its (answer.Done serial reply) = operations_of its
 accepted_by its (answer.Pending serial reason) = operations_of its
 accepted_by its given = []
 
--- the serials of the updates that a poll has finished, in its order
+-- the serial of an update that a poll has finished
+abbrev pub update_in : Finished → List Serial
+update_in (Update serial reply) = serial ∷ []
+update_in (Read ticket value) = []
+
+-- those of all of them, in the poll's order
 abbrev pub updates_in : List Finished → List Serial
-updates_in [] = []
-updates_in (Update serial reply ∷ later) = serial ∷ updates_in later
-updates_in (Read ticket value ∷ later) = updates_in later
+updates_in finished = flat_map update_in finished
 
 -- the serials of the updates whose results an answer tells
 abbrev pub told_by : Answer → List Serial

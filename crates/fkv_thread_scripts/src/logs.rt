@@ -1,7 +1,7 @@
 //! What a session was told of its updates.
 ghost use Rattle.std.specs.Prelude.{◌≡◌, ◌++◌, [], Err, OnErr, OnOk};
 ghost use Rattle.fkv_base.specs.declared.faults.Fault.TheVariants.{Memory};
-ghost use Rattle.fkv_thread_scripts.specs.Logs.{accepted_by, durable_by, operations_of, told_by, update_of, updates_in};
+ghost use Rattle.fkv_thread_scripts.specs.Logs.{accepted_by, durable_by, operations_of, told_by, update_in, update_of, updates_in};
 
 use fkv_base::{Fault, Serial};
 use fkv_map::{Call, Op};
@@ -51,7 +51,7 @@ impl Log {
                 self.told.push(*serial)?;
             }
             Answer::Pending(_, _) => self.accept(call)?,
-            Answer::Polled(finished, _) => self.note_finished(finished.as_slice())?,
+            Answer::Polled(finished, _) => note_finished(&mut self.told, finished.as_slice())?,
             Answer::Durable(serial) => self.durable = *serial,
             _ => {}
         }
@@ -71,21 +71,6 @@ impl Log {
         Ok(())
     }
 
-    fn note_finished(&mut self, finished: &[Finished]) -> Result<(), Fault>
-        ensures first { self.new.first ≡ self.old.first }
-        ensures accepted { self.new.accepted ≡ self.old.accepted }
-        ensures told { OnOk result (self.new.told.items ≡ self.old.told.items ++ updates_in finished.now) }
-        ensures durable { self.new.durable ≡ self.old.durable }
-        ensures err { OnErr result (result ≡ Err Memory) }
-    {
-        for one in finished {
-            if let Finished::Update(serial, _) = *one {
-                self.told.push(serial)?;
-            }
-        }
-        Ok(())
-    }
-
     /// The update of this serial.
     pub fn update(&self, serial: Serial) -> Option<Op>
         ensures { result ≡ update_of self.now.first self.now.accepted.items serial }
@@ -96,4 +81,25 @@ impl Log {
         let place = serial.0 - (self.first + 1);
         self.accepted.get(place as usize).copied()
     }
+}
+
+/// Notes the updates that a poll has finished.
+fn note_finished(told: &mut Vec<Serial>, finished: &[Finished]) -> Result<(), Fault>
+    ensures told { OnOk result (told.new.items ≡ told.old.items ++ updates_in finished.now) }
+    ensures err { OnErr result (result ≡ Err Memory) }
+{
+    for one in finished {
+        note_one(told, *one)?;
+    }
+    Ok(())
+}
+
+fn note_one(told: &mut Vec<Serial>, one: Finished) -> Result<(), Fault>
+    ensures told { OnOk result (told.new.items ≡ told.old.items ++ update_in one) }
+    ensures err { OnErr result (result ≡ Err Memory) }
+{
+    if let Finished::Update(serial, _) = one {
+        told.push(serial)?;
+    }
+    Ok(())
 }
