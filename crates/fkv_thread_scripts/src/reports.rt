@@ -1,7 +1,7 @@
 //! What is told of a script that ran on threads, behind the crash that ends it.
-ghost use Rattle.std.specs.Prelude.{◌≡◌, OnOk};
+ghost use Rattle.std.specs.Prelude.{◌≡◌, ◌↔◌, IfOk, IsTrue, OnOk};
 ghost use Rattle.std.specs.Io.KnownBytes.{Appends};
-ghost use Rattle.fkv_thread_scripts.specs.Reports.{agrees, keys_text, points_text, threads_report_text};
+ghost use Rattle.fkv_thread_scripts.specs.Reports.{IsLast, agrees, keys_text, points_text, threads_report_text};
 
 use crate::logs::Log;
 use fkv_base::{Fault, Key, Serial, Value, Version};
@@ -34,7 +34,9 @@ pub struct Report {
 
 impl Report {
     /// Whether nothing differs.
-    pub fn agrees(&self) -> bool {
+    pub fn agrees(&self) -> bool
+        ensures { result ≡ agrees self.now }
+    {
         let Report {
             points_agree,
             keys,
@@ -78,7 +80,10 @@ pub fn report_of(
     finished: &Option<Finished>,
     opened: &Opened,
     pairs: &[(Key, Value)],
-) -> Result<Report, Fault> {
+) -> Result<Report, Fault>
+    ensures number { IfOk result (λ report. report.number ≡ opened.now.number) }
+    ensures points { IfOk result (λ report. IsTrue report.points_agree ↔ IsLast finished.now opened.now) }
+{
     let mut claims = claims_of(alloc, lines)?;
     for (number, log) in logs.iter().enumerate() {
         if let Some(point) = opened.points.get(number) {
@@ -93,7 +98,9 @@ pub fn report_of(
 }
 
 /// Whether the recovered commit is the last that was told as finished; of none, commit 0 with points that are 0.
-fn is_last(finished: &Option<Finished>, opened: &Opened) -> bool {
+fn is_last(finished: &Option<Finished>, opened: &Opened) -> bool
+    ensures { IsTrue result ↔ IsLast finished.now opened.now }
+{
     match finished {
         Some(its) => {
             its.number == opened.number && its.points.as_slice() == opened.points.as_slice()

@@ -1,4 +1,8 @@
 //! A script on threads, from the line that makes its store to its report.
+ghost use Rattle.std.specs.Prelude.{◌≡◌, IfOk, OnOk};
+ghost use Rattle.std.specs.Io.KnownBytes.{Appends};
+ghost use Rattle.fkv_threading.specs.Written.{IsRunOnThreads, reported_status, reported_text};
+
 use crate::gates::Gate;
 use crate::keepers::KeeperEnd;
 use crate::playing::{Played, play};
@@ -27,7 +31,9 @@ pub fn run_threads<G: Gate + Sync, W: Write, R: Threads + Wait + Sync>(
     script: &Script,
     output: &mut W,
     gate: &G,
-) -> io::Result<u8> {
+) -> io::Result<u8>
+    ensures { IfOk result (IsRunOnThreads script.now.opening (Appends (W.contents output.old) (W.contents output.new))) }
+{
     let sizes = match script.opening {
         Some(Opening::Shape(sizes)) => sizes,
         _ => return Ok(0),
@@ -57,6 +63,7 @@ pub fn run_threads_in_file<
 ) -> io::Result<(u8, Option<Trouble>)>
 where
     H::File: Lockable + Send,
+    ensures { IfOk result (λ end. IsRunOnThreads script.now.opening (Appends (W.contents output.old) (W.contents output.new)) end.0) }
 {
     let sizes = match script.opening {
         Some(Opening::Shape(sizes)) => sizes,
@@ -81,7 +88,10 @@ fn write_reported<W: Write>(
     alloc: Global,
     output: &mut W,
     reported: Result<Report, Fault>,
-) -> io::Result<u8> {
+) -> io::Result<u8>
+    ensures text { OnOk result (Appends (W.contents output.old) (W.contents output.new) (reported_text reported)) }
+    ensures status { IfOk result (λ status. status ≡ reported_status reported) }
+{
     let mut text = Vec::new(alloc);
     let status = match reported {
         Ok(report) => {
