@@ -1,7 +1,9 @@
 //! A script on threads, from the line that makes its store to its report.
-ghost use Rattle.std.specs.Prelude.{◌≡◌, IfOk, OnOk};
+ghost use Rattle.std.specs.Prelude.{◌≡◌, IfOk, OnOk, if◌then◌else◌};
 ghost use Rattle.std.specs.Io.KnownBytes.{Appends};
-ghost use Rattle.fkv_threading.specs.Written.{IsRunOnThreads, reported_status, reported_text};
+ghost use Rattle.fkv_texts.specs.Refusals.{last_refusal};
+ghost use Rattle.fkv_thread_scripts.specs.Reports.{agrees, threads_report_text};
+ghost use Rattle.fkv_threading.specs.Written.{IsRunOnThreads, refused_status, reported_status, reported_text};
 
 use crate::gates::Gate;
 use crate::keepers::KeeperEnd;
@@ -25,6 +27,7 @@ use std::thread::Threads;
 /// Runs a script for threads over a new store in memory, and writes its report: each session's lines on a thread of its own, and the keeper's on the
 /// caller's. The status: 0; 1 where something differs; 2 where the sizes are no shape's; 3 where a store or a turn was refused. An `Err`
 /// is memory, a thread or the output.
+#[tactic(auto, using(fkv_texts::proofs::Shown::appends_nothing))]
 pub fn run_threads<G: Gate + Sync, W: Write, R: Threads + Wait + Sync>(
     rt: &R,
     alloc: Global,
@@ -47,6 +50,7 @@ pub fn run_threads<G: Gate + Sync, W: Write, R: Threads + Wait + Sync>(
 
 /// The same over a new store in the file of this path, which is opened again for the report. Behind the status stands what is wrong with the
 /// file, if that is why it is 3.
+#[tactic(auto, using(fkv_texts::proofs::Shown::appends_nothing))]
 pub fn run_threads_in_file<
     G: Gate + Sync,
     W: Write,
@@ -92,20 +96,36 @@ fn write_reported<W: Write>(
     ensures text { OnOk result (Appends (W.contents output.old) (W.contents output.new) (reported_text reported)) }
     ensures status { IfOk result (λ status. status ≡ reported_status reported) }
 {
+    match reported {
+        Ok(report) => write_report(alloc, output, report),
+        Err(Fault::Memory) => Err(io::ErrorKind::OutOfMemory.into()),
+        Err(fault) => refuse(alloc, output, fault),
+    }
+}
+
+/// Writes a report, at once.
+fn write_report<W: Write>(alloc: Global, output: &mut W, report: Report) -> io::Result<u8>
+    ensures text { OnOk result (Appends (W.contents output.old) (W.contents output.new) (threads_report_text report)) }
+    ensures status { IfOk result (λ status. status ≡ (if agrees report then 0 else 1)) }
+{
     let mut text = Vec::new(alloc);
-    let status = match reported {
-        Ok(report) => {
-            write_threads_report(&mut text, report)?;
-            if report.agrees() { 0 } else { 1 }
-        }
-        Err(Fault::Memory) => return Err(io::ErrorKind::OutOfMemory.into()),
-        Err(fault) => {
-            write_refusal(&mut text, fault)?;
-            if fault == Fault::BadShape { 2 } else { 3 }
-        }
-    };
+    write_threads_report(&mut text, report)?;
     output.write_all(text.as_slice())?;
-    Ok(status)
+    Ok(if report.agrees() { 0 } else { 1 })
+}
+
+/// Writes a refusal, at once.
+fn refuse<W: Write>(alloc: Global, output: &mut W, fault: Fault) -> io::Result<u8>
+    ensures text { OnOk result (Appends (W.contents output.old) (W.contents output.new) (last_refusal fault)) }
+    ensures status { IfOk result (λ status. status ≡ refused_status fault) }
+{
+    let mut text = Vec::new(alloc);
+    write_refusal(&mut text, fault)?;
+    output.write_all(text.as_slice())?;
+    Ok(match fault {
+        Fault::BadShape => 2,
+        _ => 3,
+    })
 }
 
 /// The report of these lines over a new store in memory of this shape, whose device is crashed as all have ended.
