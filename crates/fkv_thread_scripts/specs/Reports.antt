@@ -1,9 +1,6 @@
 -- What is told of a script that ran on threads.
-use Rattle.std.specs.Prelude.{◌≡◌, ℕ, List, [], ◌∷◌, ◌++◌, Bool, true, false, codes, if◌then◌else◌, Option, Some, None}
-use Rattle.std.specs.List.{All}
+use Rattle.std.specs.Prelude.{ℕ, List, [], ◌∷◌, ◌++◌, Bool, true, false, codes, if◌then◌else◌}
 use Rattle.std.specs.Fmt.{decimal}
-use Rattle.fkv_keeper.specs.declared.answers.Finished.{Finished}
-use Rattle.fkv_opening.specs.declared.opened_store.Opened.{Opened}
 use Rattle.fkv_thread_scripts.specs.declared.reports.Keys.{Keys}
 use Rattle.fkv_thread_scripts.specs.declared.reports.Keys.TheVariants.{Agree, Differs}
 use Rattle.fkv_thread_scripts.specs.declared.reports.Report.{Report}
@@ -31,8 +28,3 @@ keys_text (Differs key) = ended (codes "key " ++ (decimal key.0 ++ codes " diffe
 -- `commit 3`, `points agree`, `keys agree 4`
 abbrev pub threads_report_text : Report → List ℕ
 threads_report_text report = ended (codes "commit " ++ decimal report.number.0) ++ (points_text report.points_agree ++ keys_text report.keys)
-
--- The opened commit is the last that was told as finished, with its points; of none it is commit 0, with points that are 0.
-abbrev pub IsLast : Option Finished → Opened → Type 0
-IsLast (Some its) opened = (its.number ≡ opened.number) × (its.points.items ≡ opened.points.items)
-IsLast None opened = (opened.number.0 ≡ 0) × All (λ point. point.0 ≡ 0) opened.points.items
