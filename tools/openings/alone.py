@@ -25,10 +25,14 @@ def need(name, got, wanted):
         sys.exit(f"{name}: {got!r}; it should be {wanted!r}")
 
 
-def ran(path, script):
+def run_of(path, script, *words):
     """The status, what is written, and the complaint."""
-    run = subprocess.run([PROGRAM, "--file", path], input=script, capture_output=True, text=True, timeout=SECONDS)
+    run = subprocess.run([PROGRAM, *words, "--file", path], input=script, capture_output=True, text=True, timeout=SECONDS)
     return run.returncode, run.stdout, run.stderr
+
+
+def ran(path, script):
+    return run_of(path, script)
 
 
 def held(path):
@@ -56,6 +60,8 @@ def one_alone(path):
             refused = (status, output, complaint.endswith("is in use by another process\n"))
             need(f"{script.split()[0]} in a second process", refused, (3, REFUSED, True))
             need("the file behind it", held(path), before)
+        status, output, complaint = run_of(path, SHAPE, "--threads")
+        need("threads in a second process", (status, output, complaint.endswith("is in use by another process\n")), (3, REFUSED, True))
     finally:
         first.kill()
         first.wait()

@@ -5,7 +5,7 @@ from rows import Row
 from samples import NEW, ONE, Sample, changed
 from shapes import ONE as SHAPE
 
-WORDS = "; the words are --seed N, --check, --torn B and --file PATH"
+WORDS = "; the words are --seed N, --threads, --check, --torn B and --file PATH, and the first two don't go together"
 MOST = 2**64 - 1
 
 OPTIONS = [

@@ -1,5 +1,5 @@
 """Scripts whose sessions and keeper run on threads. What they write is the same for every schedule."""
-from rows import Row, whole
+from rows import STORE, Row, whole
 
 SMALL, THREE, TIGHT = "shape 4 16 4 2 2 0 64", "shape 1 4 2 1 3 6 256", "shape 0 4 2 1 1 6 256"
 
@@ -52,12 +52,19 @@ FAULTS = [
     ([SMALL, "crash 0"], "2 Number"),
 ]
 
+FILE = ("--threads", "--file", STORE)
+TEXT = b"not a store\n"
+
+TOGETHER = "--seed and --threads don't go together; those that --threads goes with are --check, --torn B and --file PATH"
+KNOWN = "; the words are --seed N, --threads, --check, --torn B and --file PATH, and the first two don't go together"
 WORDS = [
-    (("--threads", "--seed", "1"), "options seed and threads\n"),
-    (("--seed=1", "--threads", "--check"), "options seed and threads\n"),
-    (("--threads", "--threads"), "options\n"),
-    (("--threads=1",), "options\n"),
-    (("--threads", "x"), "options\n"),
+    (("--threads", "--seed", "1"), "options seed and threads\n", TOGETHER),
+    (("--seed=1", "--threads", "--check"), "options seed and threads\n", TOGETHER),
+    (("--threads", "--threads"), "options\n", f"--threads stands twice{KNOWN}"),
+    (("--threads=1",), "options\n", f"--threads takes no value{KNOWN}"),
+    (("--threads", "x"), "options\n", f'the word "x" is unknown{KNOWN}'),
+    (("--threads", "--file"), "options\n", f"--file needs a value{KNOWN}"),
+    (("--thread",), "options\n", f'the word "--thread" is unknown{KNOWN}'),
 ]
 
 
@@ -67,4 +74,9 @@ def threads():
     rows += [Row(f"threads, line {wanted}", whole(lines), f"script line {wanted}\n", 2, ("--threads",)) for lines, wanted in FAULTS]
     rows += [Row("threads, an empty script", "", "", words=("--threads",))]
     rows += [Row("threads, sizes of no shape", "shape 4 6 4 2 1 0 64\n", "refused 1 BadShape\n", 2, ("--threads",))]
-    return rows + [Row(f"threads, {' '.join(words)}", whole([SMALL]), wanted, 2, words) for words, wanted in WORDS]
+    rows += [Row(f"{name}, in a file", whole(lines), wanted, words=FILE) for name, lines, wanted in RUNS]
+    rows += [Row("threads, a faulty line makes no file", whole([SMALL, "crash"]), "script line 2 Mode\n", 2, FILE, left=None)]
+    rows += [Row("threads, sizes of no shape make no file", "shape 4 6 4 2 1 0 64\n", "refused 1 BadShape\n", 2, FILE, left=None)]
+    foreign = f'fkv: the file "{STORE}" holds something that is no store, and is left as it is\n'
+    rows += [Row("threads over a foreign file", whole([SMALL]), "refused 14 Device\n", 3, FILE, image=TEXT, left=TEXT, complaint=foreign)]
+    return rows + [Row(f"threads, {' '.join(words)}", whole([SMALL]), wanted, 2, words, complaint=f"fkv: {why}\n") for words, wanted, why in WORDS]

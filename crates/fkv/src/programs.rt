@@ -14,8 +14,8 @@ ghost use Rattle.law_program.specs.PlayedCalls.Runs.{RunsGoOn};
 ghost use Rattle.fkv.specs.Lives.{PrintsInLives};
 ghost use Rattle.fkv.specs.Replies.{PrintsMapOfFileScript, PrintsMapOfScript, ReplyLineByLine};
 
-use fkv_cli::Lockable;
 use fkv_disk::{Device, FileDisk, Fuse, MemDisk};
+use fkv_files::Lockable;
 use fkv_playing::Breaks;
 use fkv_runs::Crashes;
 use law_program::{

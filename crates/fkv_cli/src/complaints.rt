@@ -4,10 +4,9 @@ mod options;
 mod quoted;
 mod sizes;
 
-use crate::store_files::Trouble;
+use fkv_files::{FileTrouble, Trouble};
 pub(crate) use lines::LineFault;
 pub(crate) use options::WordFault;
-use quoted::QuotedPath;
 pub(crate) use sizes::SizeFault;
 use std::fmt;
 use std::io::{self, Cursor, Write};
@@ -54,8 +53,11 @@ impl fmt::Display for Complaint<'_> {
             ),
             Complaint::SizesRefused => f.write_str("a size is outside its limits"),
             Complaint::File { path, trouble } => {
-                let path = QuotedPath(path.as_bytes());
-                write!(f, "the file {path} {trouble}")
+                let fault = FileTrouble {
+                    path: *path,
+                    trouble: *trouble,
+                };
+                write!(f, "{fault}")
             }
             Complaint::NoStoreInMemory => f.write_str(
                 "no store could be made: the device in memory refused a call",

@@ -8,10 +8,10 @@ ghost use Rattle.fkv_cli.specs.Output.{IsRunInFile, IsRunInNewFile, Refuses};
 
 use crate::complaints::{Complaint, complain};
 use crate::scripts::refuse;
-use crate::store_files::{Lockable, Trouble, make_alone, open_alone};
 use fkv_base::{Fault, Key, Shape, Value};
 use fkv_creating::create_opened;
 use fkv_disk::{Device, FileDisk, PageSize, Pages, ReadAhead};
+use fkv_files::{Lockable, Trouble, make_alone, open_alone};
 use fkv_opening::{Opened, recover};
 use fkv_pairs::content;
 use fkv_playing::{Breaks, Picks};
@@ -38,7 +38,7 @@ where
     ensures part { OnErr result (BreaksOff (λ text. IsRunInNewFile (EngineStep ⟦<FileDisk<H::File> as Device>⟧.honest ⟦<FileDisk<H::File> as Device>⟧.seen ⟦<FileDisk<H::File> as Device>⟧.may_leave ⟦<FileDisk<H::File> as Device>⟧.failed ⟦<FileDisk<H::File> as Device>⟧.refuses ⟦<FileDisk<H::File> as Breaks>⟧.broken) shape pieces.now 4 text ⊎ Refuses Device 3 4 text) (W.contents output.old) (W.contents output.new)) }
 {
     let mut device = match make_alone(rt, path) {
-        Ok(device) => device,
+        Ok((device, _)) => device,
         Err(trouble) => {
             complain(complaints, Complaint::File { path, trouble });
             return refuse(alloc, output, Fault::Device, 3);

@@ -6,9 +6,7 @@ mod file_runs;
 mod memory_runs;
 mod programs;
 mod scripts;
-mod store_files;
 mod watched;
 
 pub use programs::{complain_of_stop, refuse_unread, run};
-pub use store_files::Lockable;
 pub use watched::Watched;

@@ -11,9 +11,9 @@ ghost use Rattle.fkv_cli.specs.Output.{AreUnreadWords, IsOutputOf, IsRunOfText, 
 
 use crate::complaints::{Complaint, LineFault, WordFault, complain};
 use crate::scripts::run_script;
-use crate::store_files::Lockable;
 use fkv_base::{Fault, ScriptFault};
 use fkv_disk::{Device, FileDisk, Fuse, MemDisk};
+use fkv_files::Lockable;
 use fkv_lines::{Mode, script_of};
 use fkv_options::{Options, RunFault, options_of};
 use fkv_playing::Breaks;

@@ -10,9 +10,9 @@ ghost use Rattle.fkv_cli.specs.Output.{AreSizes, HasSizes, IsRunOfOldStore, IsRu
 use crate::complaints::{Complaint, SizeFault, complain};
 use crate::file_runs::{play_new_file, play_old_file};
 use crate::memory_runs::play_memory;
-use crate::store_files::Lockable;
 use fkv_base::{Fault, Shape};
 use fkv_disk::{Device, FileDisk};
+use fkv_files::Lockable;
 use fkv_lines::{Class, Opening, Script, Sizes};
 use fkv_options::Options;
 use fkv_playing::{Breaks, Picks};

@@ -11,6 +11,7 @@ use Rattle.clap.specs.declared.builder.command.Command.TheOpen.{Command-F}
 use Rattle.clap.specs.declared.builder.command.Command.TheViews.{out-Command}
 use Rattle.clap.specs.declared.builder.value_parser.ValueParser.{ValueParser}
 use Rattle.fkv_options.specs.CommandLine.{command_line, long_rule, value_rule, without_name_or_help}
+use Rattle.fkv_options.specs.Threads.{threads_line}
 
 -- an argument with a long name, from its builders
 pub long_rule_is : (name : Text) (new named : Arg) (long : Bor Text) → rule_of new ≡ new_rule name → named ≡ record new { long = Some long } → long.now ≡ name → rule_of named ≡ long_rule name
@@ -37,3 +38,12 @@ simple = refl
 pub simple_and_free : is_simple_and_free command_line ≡ true
 unfolding clap_on_literals
 simple_and_free = refl
+
+-- and with `--threads`
+pub threads_simple : is_simple threads_line ≡ true
+unfolding clap_on_literals
+threads_simple = refl
+
+pub threads_simple_and_free : is_simple_and_free threads_line ≡ true
+unfolding clap_on_literals
+threads_simple_and_free = refl

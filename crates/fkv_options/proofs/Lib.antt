@@ -1,2 +1,3 @@
 mod CommandLine
+mod Flags
 mod Values

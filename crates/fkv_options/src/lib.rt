@@ -3,6 +3,8 @@
 
 mod endings;
 mod options;
+mod threads;
 
 pub use endings::RunFault;
 pub use options::{Options, options_of};
+pub use threads::{Asked, asked_of};

@@ -54,7 +54,7 @@ fn parse(alloc: Global, words: &[&str]) -> Result<Options, clap::Error>
 }
 
 /// The command line.
-fn command_of<'a>(alloc: Global) -> Result<Command<'a>, AllocError>
+pub(crate) fn command_of<'a>(alloc: Global) -> Result<Command<'a>, AllocError>
     ensures { IfOk result (λ command. app_of command ≡ command_line) }
 {
     let seed = Arg::new(alloc, "seed")
@@ -77,7 +77,7 @@ fn command_of<'a>(alloc: Global) -> Result<Command<'a>, AllocError>
 }
 
 /// The text in memory of its own, where there is one.
-fn owned(alloc: Global, text: Option<&str>) -> Result<Option<String>, AllocError>
+pub(crate) fn owned(alloc: Global, text: Option<&str>) -> Result<Option<String>, AllocError>
     ensures { IfOk result (λ copy. option_map string_bytes copy ≡ option_map (λ t. t.now) text.entry) }
 {
     match text {

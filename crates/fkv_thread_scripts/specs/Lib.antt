@@ -1,2 +1,3 @@
+pub mod Logs
 pub mod Reports
 pub mod Served

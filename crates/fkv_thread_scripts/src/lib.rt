@@ -2,11 +2,9 @@
 #![tactic(auto)]
 
 mod logs;
-mod options;
 mod reports;
 mod scripts;
 
 pub use logs::Log;
-pub use options::{Asked, asked_of};
 pub use reports::{Keys, Report, report_of, write_threads_report};
 pub use scripts::threads_script_of;

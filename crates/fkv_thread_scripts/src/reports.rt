@@ -1,5 +1,5 @@
 //! What is told of a script that ran on threads, behind the crash that ends it.
-ghost use Rattle.std.specs.Prelude.{◌≡◌, OnOk};
+ghost use Rattle.std.specs.Prelude.{◌≡◌, IfOk, OnOk};
 ghost use Rattle.std.specs.Io.KnownBytes.{Appends};
 ghost use Rattle.fkv_thread_scripts.specs.Reports.{agrees, keys_text, points_text, threads_report_text};
 
@@ -34,7 +34,9 @@ pub struct Report {
 
 impl Report {
     /// Whether nothing differs.
-    pub fn agrees(&self) -> bool {
+    pub fn agrees(&self) -> bool
+        ensures { result ≡ agrees self.now }
+    {
         let Report {
             points_agree,
             keys,
@@ -78,7 +80,9 @@ pub fn report_of(
     finished: &Option<Finished>,
     opened: &Opened,
     pairs: &[(Key, Value)],
-) -> Result<Report, Fault> {
+) -> Result<Report, Fault>
+    ensures number { IfOk result (λ report. report.number ≡ opened.now.number) }
+{
     let mut claims = claims_of(alloc, lines)?;
     for (number, log) in logs.iter().enumerate() {
         if let Some(point) = opened.points.get(number) {

@@ -14,5 +14,5 @@ mod sitting;
 pub use gates::{Gate, Open};
 pub use keepers::KeeperEnd;
 pub use playing::{Played, play};
-pub use programs::run_threads;
-pub use runs::run;
+pub use programs::{run_threads, run_threads_in_file};
+pub use runs::{refuse_seed, run};

@@ -1,29 +1,42 @@
 //! A script on threads, from the line that makes its store to its report.
+ghost use Rattle.std.specs.Prelude.{◌≡◌, IfOk, OnOk, if◌then◌else◌};
+ghost use Rattle.std.specs.Io.KnownBytes.{Appends};
+ghost use Rattle.fkv_texts.specs.Refusals.{last_refusal};
+ghost use Rattle.fkv_thread_scripts.specs.Reports.{agrees, threads_report_text};
+ghost use Rattle.fkv_threading.specs.Written.{IsRunOnThreads, refused_status, reported_status, reported_text};
+
 use crate::gates::Gate;
+use crate::keepers::KeeperEnd;
 use crate::playing::{Played, play};
 use fkv_base::{Fault, Shape};
 use fkv_creating::create_opened;
-use fkv_disk::{Fuse, MemDisk};
+use fkv_disk::{Device, Fuse, MemDisk, PageSize, Pages, ReadAhead};
+use fkv_files::{Lockable, Mirror, Trouble, make_alone, open_alone};
+use fkv_keeper::Finished;
 use fkv_lines::{Class, Line, Opening, Script, Sizes};
 use fkv_opening::recover;
 use fkv_pairs::content;
 use fkv_texts::write_refusal;
-use fkv_thread_scripts::{Report, report_of, write_threads_report};
+use fkv_thread_scripts::{Log, Report, report_of, write_threads_report};
 use std::alloc::Global;
 use std::io::{self, Write};
+use std::rt::Files;
 use std::sync::Wait;
 use std::thread::Threads;
 
 /// Runs a script for threads over a new store in memory, and writes its report: each session's lines on a thread of its own, and the keeper's on the
 /// caller's. The status: 0; 1 where something differs; 2 where the sizes are no shape's; 3 where a store or a turn was refused. An `Err`
 /// is memory, a thread or the output.
+#[tactic(auto, using(fkv_texts::proofs::Shown::appends_nothing))]
 pub fn run_threads<G: Gate + Sync, W: Write, R: Threads + Wait + Sync>(
     rt: &R,
     alloc: Global,
     script: &Script,
     output: &mut W,
     gate: &G,
-) -> io::Result<u8> {
+) -> io::Result<u8>
+    ensures { IfOk result (IsRunOnThreads script.now.opening (Appends (W.contents output.old) (W.contents output.new))) }
+{
     let sizes = match script.opening {
         Some(Opening::Shape(sizes)) => sizes,
         _ => return Ok(0),
@@ -32,20 +45,87 @@ pub fn run_threads<G: Gate + Sync, W: Write, R: Threads + Wait + Sync>(
         Ok(shape) => report_in_memory(rt, alloc, shape, &script.lines, gate),
         Err(fault) => Err(fault),
     };
-    let mut text = Vec::new(alloc);
-    let status = match reported {
-        Ok(report) => {
-            write_threads_report(&mut text, report)?;
-            if report.agrees() { 0 } else { 1 }
-        }
-        Err(Fault::Memory) => return Err(io::ErrorKind::OutOfMemory.into()),
-        Err(fault) => {
-            write_refusal(&mut text, fault)?;
-            if fault == Fault::BadShape { 2 } else { 3 }
-        }
+    write_reported(alloc, output, reported)
+}
+
+/// The same over a new store in the file of this path, which is opened again for the report. Behind the status stands what is wrong with the
+/// file, if that is why it is 3.
+#[tactic(auto, using(fkv_texts::proofs::Shown::appends_nothing))]
+pub fn run_threads_in_file<
+    G: Gate + Sync,
+    W: Write,
+    R: Threads + Wait + Sync,
+    H: Files,
+>(
+    rt: &R,
+    files: &H,
+    alloc: Global,
+    path: &str,
+    script: &Script,
+    output: &mut W,
+    gate: &G,
+) -> io::Result<(u8, Option<Trouble>)>
+where
+    H::File: Lockable + Send,
+    ensures { IfOk result (λ end. IsRunOnThreads script.now.opening (Appends (W.contents output.old) (W.contents output.new)) end.0) }
+{
+    let sizes = match script.opening {
+        Some(Opening::Shape(sizes)) => sizes,
+        _ => return Ok((0, None)),
     };
+    let reported = match shape_of(sizes) {
+        Ok(shape) => report_in_file(rt, files, alloc, path, shape, &script.lines, gate),
+        Err(fault) => Err(Trouble::Fault(fault)),
+    };
+    match reported {
+        Ok(report) => Ok((write_reported(alloc, output, Ok(report))?, None)),
+        Err(Trouble::Fault(fault)) => Ok((write_reported(alloc, output, Err(fault))?, None)),
+        Err(trouble) => Ok((
+            write_reported(alloc, output, Err(Fault::Device))?,
+            Some(trouble),
+        )),
+    }
+}
+
+/// Writes a report, or the refusal that stands in its place.
+fn write_reported<W: Write>(
+    alloc: Global,
+    output: &mut W,
+    reported: Result<Report, Fault>,
+) -> io::Result<u8>
+    ensures text { OnOk result (Appends (W.contents output.old) (W.contents output.new) (reported_text reported)) }
+    ensures status { IfOk result (λ status. status ≡ reported_status reported) }
+{
+    match reported {
+        Ok(report) => write_report(alloc, output, report),
+        Err(Fault::Memory) => Err(io::ErrorKind::OutOfMemory.into()),
+        Err(fault) => refuse(alloc, output, fault),
+    }
+}
+
+/// Writes a report, at once.
+fn write_report<W: Write>(alloc: Global, output: &mut W, report: Report) -> io::Result<u8>
+    ensures text { OnOk result (Appends (W.contents output.old) (W.contents output.new) (threads_report_text report)) }
+    ensures status { IfOk result (λ status. status ≡ (if agrees report then 0 else 1)) }
+{
+    let mut text = Vec::new(alloc);
+    write_threads_report(&mut text, report)?;
     output.write_all(text.as_slice())?;
-    Ok(status)
+    Ok(if report.agrees() { 0 } else { 1 })
+}
+
+/// Writes a refusal, at once.
+fn refuse<W: Write>(alloc: Global, output: &mut W, fault: Fault) -> io::Result<u8>
+    ensures text { OnOk result (Appends (W.contents output.old) (W.contents output.new) (last_refusal fault)) }
+    ensures status { IfOk result (λ status. status ≡ refused_status fault) }
+{
+    let mut text = Vec::new(alloc);
+    write_refusal(&mut text, fault)?;
+    output.write_all(text.as_slice())?;
+    Ok(match fault {
+        Fault::BadShape => 2,
+        _ => 3,
+    })
 }
 
 /// The report of these lines over a new store in memory of this shape, whose device is crashed as all have ended.
@@ -56,16 +136,79 @@ fn report_in_memory<G: Gate + Sync, R: Threads + Wait + Sync>(
     lines: &[Line],
     gate: &G,
 ) -> Result<Report, Fault> {
-    let mut device = Fuse::new(MemDisk::new(alloc));
+    let device = Fuse::new(MemDisk::new(alloc));
+    let Played { logs, keeper } = play_new(rt, alloc, device, shape, lines, gate)?;
+    let KeeperEnd {
+        device, finished, ..
+    } = keeper;
+    let mut image = device.crash(0)?;
+    report_on(alloc, lines, &logs, &finished, &mut image)
+}
+
+/// How many pages of 4 KiB are kept while the file is read: 1 MiB.
+const PAGES: usize = 256;
+
+/// The report of these lines over a new store in a file of this shape. The file is closed as all have ended, and opened again.
+fn report_in_file<G: Gate + Sync, R: Threads + Wait + Sync, H: Files>(
+    rt: &R,
+    files: &H,
+    alloc: Global,
+    path: &str,
+    shape: Shape,
+    lines: &[Line],
+    gate: &G,
+) -> Result<Report, Trouble>
+where
+    H::File: Lockable + Send,
+{
+    let (file, length) = make_alone(files, path)?;
+    let Some(length) = length else {
+        return Err(Trouble::Irregular);
+    };
+    let device = Mirror::new(alloc, file, length)?;
+    let Played { logs, keeper } = play_new(rt, alloc, device, shape, lines, gate)?;
+    let KeeperEnd {
+        device, finished, ..
+    } = keeper;
+    drop(device);
+    let (file, _) = open_alone(files, path)?;
+    let pages = Pages::new(alloc, PageSize::Kib4, PAGES)?;
+    let mut ahead = ReadAhead::new(file, pages);
+    let report = report_on(alloc, lines, &logs, &finished, &mut ahead)?;
+    Ok(report)
+}
+
+/// Plays lines over a new store of this shape on a device. A refusal that ended the run is its answer.
+fn play_new<D: Device + Drop + Send, G: Gate + Sync, R: Threads + Wait + Sync>(
+    rt: &R,
+    alloc: Global,
+    device: D,
+    shape: Shape,
+    lines: &[Line],
+    gate: &G,
+) -> Result<Played<D>, Fault>
+    requires honest { D.honest device }
+{
+    let mut device = device;
     let opened = create_opened(alloc, &mut device, shape)?;
-    let Played { logs, keeper } = play(rt, alloc, opened, device, lines, gate)?;
-    if let Some(fault) = keeper.fault {
-        return Err(fault);
+    let played = play(rt, alloc, opened, device, lines, gate)?;
+    match played.keeper.fault {
+        Some(fault) => Err(fault),
+        None => Ok(played),
     }
-    let mut image = keeper.device.crash(0)?;
-    let opened = recover(alloc, &mut image)?;
-    let pairs = content(alloc, &opened, &mut image)?;
-    report_of(alloc, lines, &logs, &keeper.finished, &opened, &pairs)
+}
+
+/// The report of these lines, by what sessions and keeper were told, and by the store that the device holds.
+fn report_on<D: Device>(
+    alloc: Global,
+    lines: &[Line],
+    logs: &[Log],
+    finished: &Option<Finished>,
+    device: &mut D,
+) -> Result<Report, Fault> {
+    let opened = recover(alloc, device)?;
+    let pairs = content(alloc, &opened, device)?;
+    report_of(alloc, lines, logs, finished, &opened, &pairs)
 }
 
 /// The shape of these sizes.

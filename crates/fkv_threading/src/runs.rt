@@ -1,89 +1,94 @@
 //! Runs of the program whose words ask for threads.
 use crate::gates::Open;
-use crate::programs::run_threads;
+use crate::programs::{run_threads, run_threads_in_file};
 use fkv_base::{Fault, ScriptFault};
-use fkv_thread_scripts::{Asked, threads_script_of};
+use fkv_files::{FileTrouble, Lockable};
+use fkv_lines::Script;
+use fkv_thread_scripts::threads_script_of;
 use std::alloc::Global;
 use std::fmt;
 use std::io::{self, Cursor, Read, Write};
+use std::rt::Files;
 use std::sync::Wait;
 use std::thread::Threads;
 
 /// A longer script has its first faulty line among its first so many bytes.
 const SCRIPT_LIMIT: u64 = 65536 * 201 + 1;
 
-/// Runs the program as its words ask, which ask for threads: writes the report of the script that the input gives. The status: 0; 1 where something
-/// differs; 2 where the words, the script or its shape are refused; 3 where a store or a turn is. Where it is above 0, a line of complaint
-/// says in words what it means. An `Err` is memory, a thread, or a stream that failed.
-pub fn run<R: Threads + Wait + Sync, I: Read + Drop, W: Write, E: Write>(
+/// Runs the program, whose words ask for threads over a store in memory, or in the file of this path: writes the report of the script that the
+/// input gives. The status: 0; 1 where something differs; 2 where the script or its shape is refused; 3 where a store or a turn is.
+/// Where it is above 0, a line of complaint says in words what it means. An `Err` is memory, a thread, or a stream that failed.
+pub fn run<
+    R: Threads + Wait + Sync,
+    H: Files,
+    I: Read + Drop,
+    W: Write,
+    E: Write,
+>(
     rt: &R,
+    files: &H,
     alloc: Global,
-    asked: Asked,
+    file: Option<&str>,
     input: I,
     output: &mut W,
     complaints: &mut E,
-) -> io::Result<u8> {
-    let status = match asked {
-        Asked::NoThreads => 0,
-        Asked::Threads => run_bytes(rt, alloc, input, output, complaints)?,
-        Asked::SeedAndThreads => refuse(
-            output,
-            complaints,
-            "options seed and threads\n",
-            "--seed and --threads don't go together",
-        )?,
-        Asked::ThreadsInFile => refuse(
-            output,
-            complaints,
-            "options\n",
-            "--threads with --file isn't served",
-        )?,
-        Asked::Refused => refuse(
-            output,
-            complaints,
-            "options\n",
-            "these words are refused; those that --threads goes with are --check, --torn B and --file PATH",
-        )?,
+) -> io::Result<u8>
+where
+    H::File: Lockable + Send,
+{
+    let mut bytes = Vec::new(alloc);
+    let status = match input.take(SCRIPT_LIMIT).read_to_end(&mut bytes) {
+        Ok(_) => run_bytes(rt, files, alloc, file, &bytes, output, complaints)?,
+        Err(error) => {
+            complain(complaints, &"standard input could not be read");
+            if error.kind() == io::ErrorKind::OutOfMemory {
+                return Err(error);
+            }
+            4
+        }
     };
     output.flush()?;
     Ok(status)
 }
 
-/// Words that are refused.
-fn refuse<W: Write, E: Write>(
-    output: &mut W,
-    complaints: &mut E,
-    line: &str,
-    why: &str,
-) -> io::Result<u8> {
-    output.write_all(line.as_bytes())?;
-    complain(complaints, &why);
+/// Refuses words that ask for threads and have a seed. The status: 2.
+pub fn refuse_seed<W: Write, E: Write>(output: &mut W, complaints: &mut E) -> io::Result<u8> {
+    output.write_all(b"options seed and threads\n")?;
+    output.flush()?;
+    complain(
+        complaints,
+        &"--seed and --threads don't go together; those that --threads goes with are --check, --torn B and --file PATH",
+    );
     Ok(2)
 }
 
-/// The script that the input gives.
-fn run_bytes<R: Threads + Wait + Sync, I: Read + Drop, W: Write, E: Write>(
+/// Runs the script of these bytes, or writes its first faulty line.
+fn run_bytes<
+    R: Threads + Wait + Sync,
+    H: Files,
+    W: Write,
+    E: Write,
+>(
     rt: &R,
+    files: &H,
     alloc: Global,
-    input: I,
+    file: Option<&str>,
+    bytes: &[u8],
     output: &mut W,
     complaints: &mut E,
-) -> io::Result<u8> {
-    let mut bytes = Vec::new(alloc);
-    if let Err(error) = input.take(SCRIPT_LIMIT).read_to_end(&mut bytes) {
-        complain(complaints, &"standard input could not be read");
-        return if error.kind() == io::ErrorKind::OutOfMemory {
-            Err(error)
-        } else {
-            Ok(4)
-        };
-    }
-    match threads_script_of(alloc, &bytes) {
-        Ok(script) => {
-            let status = run_threads(rt, alloc, &script, output, &Open)?;
-            complain_of_status(complaints, status);
-            Ok(status)
-        }
+) -> io::Result<u8>
+where
+    H::File: Lockable + Send,
+{
+    match threads_script_of(alloc, bytes) {
+        Ok(script) => match file {
+            Some(path) => run_in_file(rt, files, alloc, path, &script, output, complaints),
+            None => {
+                let status = run_threads(rt, alloc, &script, output, &Open)?;
+                complain_of_status(complaints, status);
+                Ok(status)
+            }
+        },
         Err(Fault::Script(line, kind)) => {
             write_line_fault(alloc, output, line, kind)?;
             complain(complaints, &Faulty { line, kind });
@@ -91,6 +96,32 @@ fn run_bytes<R: Threads + Wait + Sync, I: Read + Drop, W: Write, E: Write>(
         }
         Err(_) => Err(io::ErrorKind::OutOfMemory.into()),
     }
+}
+
+/// Runs a script over a new store in the file of this path.
+fn run_in_file<
+    R: Threads + Wait + Sync,
+    H: Files,
+    W: Write,
+    E: Write,
+>(
+    rt: &R,
+    files: &H,
+    alloc: Global,
+    path: &str,
+    script: &Script,
+    output: &mut W,
+    complaints: &mut E,
+) -> io::Result<u8>
+where
+    H::File: Lockable + Send,
+{
+    let (status, trouble) = run_threads_in_file(rt, files, alloc, path, script, output, &Open)?;
+    match trouble {
+        Some(trouble) => complain(complaints, &FileTrouble { path, trouble }),
+        None => complain_of_status(complaints, status),
+    }
+    Ok(status)
 }
 
 /// The first faulty line of a script: `script line 7 Count`.
@@ -133,7 +164,7 @@ fn complain_of_status<E: Write>(complaints: &mut E, status: u8) {
 }
 
 /// No complaint is longer: its words are cut.
-const LONGEST: usize = 256;
+const LONGEST: usize = 1024;
 
 /// Writes a complaint as one line, at once. Where its writer fails the line is lost, and nothing else comes of that.
 fn complain<E: Write, D: fmt::Display>(complaints: &mut E, why: &D) {

@@ -91,8 +91,8 @@ fn read_option(word: &str) -> Reading<'_> {
     };
     match (name, value) {
         ("--", None) => Reading::End,
-        ("--check", None) => Reading::Whole,
-        ("--check", Some(_)) => Reading::Faulty(WordFault::NeedlessValue(name)),
+        ("--check" | "--threads", None) => Reading::Whole,
+        ("--check" | "--threads", Some(_)) => Reading::Faulty(WordFault::NeedlessValue(name)),
         ("--seed" | "--torn" | "--file", None) => Reading::Waits,
         ("--seed" | "--torn" | "--file", Some(value)) => match faulty_value(name, value) {
             Some(fault) => Reading::Faulty(fault),
@@ -121,7 +121,7 @@ fn faulty_value<'a>(option: &'a str, value: &'a str) -> Option<WordFault<'a>> {
 
 /// The option that stands twice.
 fn repeated_option<'a>(words: &[&'a str]) -> WordFault<'a> {
-    for option in ["--seed", "--check", "--torn", "--file"] {
+    for option in ["--seed", "--threads", "--check", "--torn", "--file"] {
         if words.iter().filter(|word| is_option(word, option)).count() > 1 {
             return WordFault::Twice(option);
         }
@@ -164,6 +164,8 @@ impl fmt::Display for WordFault<'_> {
             WordFault::NoText => f.write_str("a word is no UTF-8 text")?,
             WordFault::Other => f.write_str("these words don't go together")?,
         }
-        f.write_str("; the words are --seed N, --check, --torn B and --file PATH")
+        f.write_str(
+            "; the words are --seed N, --threads, --check, --torn B and --file PATH, and the first two don't go together",
+        )
     }
 }

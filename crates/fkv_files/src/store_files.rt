@@ -1,9 +1,8 @@
 //! The file of a store: one process alone has it open, and no other file is written over.
-use fkv_base::Fault;
+use crate::troubles::Trouble;
 use fkv_disk::{Device, FileDisk};
-use std::fs::{File, OpenFile, OpenOptions, TryLockError};
+use std::fs::{File, Metadata, OpenFile, OpenOptions, TryLockError};
 use std::rt::Files;
-use std::{fmt, io};
 
 // Both are copies: `fkv_record` has them in its own code alone, and isn't opened for this.
 /// The bytes of a store before its first area: the shape's block and two slots.
@@ -24,26 +23,9 @@ impl Lockable for File {
     }
 }
 
-/// Why no store can be made or opened in a file.
-#[derive(Clone, Copy)]
-pub(crate) enum Trouble {
-    /// The system didn't open it.
-    Refused(io::Error),
-    /// The system didn't lock it, for something else than another process that has it open.
-    Unlocked(io::Error),
-    /// Another process has it open.
-    InUse,
-    /// It holds something else than a store.
-    Foreign,
-    /// The folder of a new file could not be synced.
-    Folder(io::Error),
-    /// The file is open, and what was done with it met this fault.
-    Fault(Fault),
-}
-
 /// Opens the file of a store that is there, for this process alone, and tells how many bytes it has. That is known of a regular file
 /// alone: the system says 0 of a block device.
-pub(crate) fn open_alone<H: Files>(
+pub fn open_alone<H: Files>(
     rt: &H,
     path: &str,
 ) -> Result<(FileDisk<H::File>, Option<u64>), Trouble>
@@ -52,17 +34,28 @@ where
 {
     let file = open_locked(rt, OpenOptions::new().read(true).write(true), path)?;
     let length = match file.metadata() {
-        Ok(known) if known.is_file() => Some(known.len()),
-        Ok(_) => None,
+        Ok(known) => length_of(&known),
         Err(error) => return Err(Trouble::Refused(error)),
     };
     Ok((FileDisk::new(file), length))
 }
 
+/// How many bytes a regular file has.
+fn length_of(known: &Metadata) -> Option<u64> {
+    if known.is_file() {
+        Some(known.len())
+    } else {
+        None
+    }
+}
+
 /// Opens a file that a new store is to lie in, for this process alone, and makes it where there is none. The bytes of one that is
 /// there stay as they are; it is refused unless it is empty, its front is all zeros, or it begins as a store does. Behind this call
-/// the folder of a new file is synced.
-pub(crate) fn make_alone<H: Files>(rt: &H, path: &str) -> Result<FileDisk<H::File>, Trouble>
+/// the folder of a new file is synced. Tells how many bytes a regular file has.
+pub fn make_alone<H: Files>(
+    rt: &H,
+    path: &str,
+) -> Result<(FileDisk<H::File>, Option<u64>), Trouble>
 where
     H::File: Lockable,
 {
@@ -75,15 +68,16 @@ where
         Ok(known) => known,
         Err(error) => return Err(Trouble::Refused(error)),
     };
+    let length = length_of(&known);
     // Nobody has written to it, so nobody may have synced its folder.
-    if known.is_file() && known.len() == 0 {
+    if length == Some(0) {
         sync_folder(rt, folder_of(path))?;
     }
     let mut disk = FileDisk::new(file);
     if !may_hold_store(&mut disk)? {
         return Err(Trouble::Foreign);
     }
-    Ok(disk)
+    Ok((disk, length))
 }
 
 fn open_locked<H: Files>(rt: &H, how: &OpenOptions, path: &str) -> Result<H::File, Trouble>
@@ -135,21 +129,4 @@ fn may_hold_store<D: Device>(disk: &mut D) -> Result<bool, Trouble> {
 
 fn begins_store(front: &[u8]) -> bool {
     front.starts_with(STORE_TEXTS[0]) || front.starts_with(STORE_TEXTS[1])
-}
-
-impl fmt::Display for Trouble {
-    fn fmt<W: fmt::Write>(&self, f: &mut fmt::Formatter<W>) -> fmt::Result {
-        match self {
-            Trouble::Refused(error) => write!(f, "can't be opened: {error}"),
-            Trouble::Unlocked(error) => write!(f, "can't be locked: {error}"),
-            Trouble::InUse => f.write_str("is in use by another process"),
-            Trouble::Foreign => f.write_str(
-                "holds something that is no store, and is left as it is",
-            ),
-            Trouble::Folder(error) => write!(f, "is new, and its folder can't be synced: {error}"),
-            Trouble::Fault(Fault::NotAStore) => f.write_str("holds no store"),
-            Trouble::Fault(Fault::Device) => f.write_str("could not be read or written"),
-            Trouble::Fault(fault) => write!(f, "can't be used: {fault}"),
-        }
-    }
 }
