@@ -9,9 +9,6 @@ use Rattle.fkv_map.specs.declared.operations.Call.{Call}
 use Rattle.fkv_map.specs.History.{point_of}
 use Rattle.fkv_opening.specs.Opened.{IsStoreOf}
 use Rattle.fkv_opening.specs.declared.opened_store.Opened.{Opened}
-use Rattle.fkv_plane.specs.declared.places.SessionWord.TheVariants as word
-use Rattle.fkv_plane.specs.Asked.{word_at}
-use Rattle.fkv_plane.specs.Places.{session_place}
 use Rattle.fkv_seats.specs.Rule.{led}
 use Rattle.fkv_session.specs.declared.answers.Answer.TheVariants as answer
 use Rattle.fkv_session.specs.declared.answers.Finished.{Finished}
@@ -29,7 +26,6 @@ use Rattle.law_opening.specs.Lives.Reaching.{ReachesFar}
 use Rattle.law_order.specs.OneHistory.EachLife.{InEachLife, IsLife}
 use Rattle.law_order.specs.Prefix.Durable.{ToldNeverFalls}
 use Rattle.law_order.specs.Prefix.Law.{HoldsPrefix, IsKeptOf, PrefixLaw, RecoversPrefix, TellsDurable, calls_so_far, past_so_far, trace_so_far}
-use Rattle.law_order.specs.Rules.Ordered.{now_after}
 use Rattle.law_order.proofs.OfReads.Numbers.{is_other}
 use Rattle.law_refine.proofs.OfCalls.InHand.{WasOpened, was_opened}
 use Rattle.fkv_table.specs.declared.happenings.Happening.{Happening}
@@ -114,6 +110,9 @@ none_more most (it ∷ before) x falls (inr more) =
     let one = falls.0 in
     omega (arith, rest, one)
 
+older_at_most : (most : ℕ) (x newest : ToldPoint) (points all : List ToldPoint) → NoneFalls most all → all ≡ newest ∷ points → IsIn x points → x.point ≤ newest.point
+older_at_most most x newest points all falls so is_in = none_more newest.point points x (subst (λ (its : List ToldPoint). NoneFalls most its) so falls).1 is_in
+
 module _ {K : Type 0} (at : K → World) (key : K) (o : Opened) (n : Now) (bytes : List ℕ) (its : CallRun) (over : IsOver at key o n bytes) (run_so : HasRun at key its) (serial : Serial) (given : its.answer ≡ answer.Durable serial) where
   abbrev opening : World
   opening = beginning n bytes
@@ -174,9 +173,8 @@ module _ {K : Type 0} (at : K → World) (key : K) (o : Opened) (n : Now) (bytes
       let earlier_there : IsIn x (points_told number (trace_at (earlier at key its run_so))) =
       subst (λ (t : List Traced). IsIn x (points_told number t)) (sym seen_before.whole) (points_more number x seen_before.later (trace_at its.before) is_in) in
       let there : IsIn x (points_told number called_so) = points_more number x its_telling.more (seen_called its_telling.began number its.call (trace_at (earlier at key its run_so))) earlier_there in
-      let falls = subst (λ (points : List ToldPoint). NoneFalls (word_at (now_after n bytes (events_of its.behind)).words (session_place number word.Durable)) points)
-      (ap (points_told number) so ∙ own_points number its_telling.effects serial its_telling.finished called_so) (law number is_session) in
-      none_more serial.0 (points_told number called_so) x falls.1 there
+      older_at_most _ x (record { point = serial.0; finished = finishes_at_call number called_so }) (points_told number called_so) (points_told number (trace_at its.behind)) (law number is_session)
+      (ap (points_told number) so ∙ own_points number its_telling.effects serial its_telling.finished called_so) there
 
   pub recovered_at : (later : List Happening) → RecoversPrefix o n bytes (events_of later ++ events_of its.behind) → ReachesFar bytes → (image : List ℕ) (r : Opened) → MayLeave bytes (calls_so_far n bytes (events_of (later ++ its.behind))) image → IsStoreOf image r
       → serial.0 ≤ point_of r.points.items number
