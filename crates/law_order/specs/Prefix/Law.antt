@@ -92,7 +92,7 @@ HasCommitsInTurn o n bytes events = AreInTurn (past_so_far n bytes events).begun
 
 -- ---- fair
 -- A session's point is fair. It is at least the last serial that the session had given as the commit was asked for. It is at most the last that it has given,
--- and no less than its point in the keeper's record of its last commit. That this is the commit before, `rising` tells.
+-- and no less than its point in the commit that the keeper has as its last one. Of any two commits that have begun, `rising` says the like.
 pub record IsFairPoint (asked given before point : ℕ) : Type 0 where
   pub since_asked : asked ≤ point
   pub till_now : point ≤ given
