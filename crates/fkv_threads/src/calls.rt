@@ -3,7 +3,7 @@ ghost use Rattle.std.specs.Prelude.{◌≡◌};
 ghost use Rattle.fkv_table.specs.Calls.{IsReady};
 ghost use Rattle.fkv_table.specs.Planes.{opening_of};
 ghost use Rattle.fkv_threads.specs.Runs.{IsLawful, IsRun, OfThisRun, run_of};
-ghost use Rattle.law_threads.specs.Durable.{RecoversItsDurable, TellsItsDurable};
+ghost use Rattle.law_threads.specs.Durable.{ItsDurableNeverFalls, RecoversItsDurable, TellsItsDurable};
 ghost use Rattle.law_threads.specs.Laws.{IsOrdered, IsWithin};
 
 use fkv_core::World;
@@ -17,8 +17,8 @@ use std::snapshot::Snapshot;
 /// Runs a call of a session to its end, in any thread, and waits for no other one. Pass and session belong together, between two calls. It has
 /// no error of its own: a refusal is one of the answers. A done update has taken effect by what the pass then has seen. A read gives its key's
 /// value after some beginning of the history that holds what the pass had seen. The calls stand in one legal history. A point that is told as durable is
-/// a sealed commit's, and each image that is left then or later recovers a point at or above it. This is so of the table of each opened store, in all lives, with
-/// commits too.
+/// a sealed commit's. It is no less than what the session was told before, and each image that is left then or later recovers a point at or above it.
+/// This is so of the table of each opened store, in all lives, with commits too.
 pub fn run<D: Device>(
     session: &mut Session,
     table: &Table<D>,
@@ -32,6 +32,7 @@ pub fn run<D: Device>(
     ensures by_order { IsLawful (opening_of D.seen) table.now.table.shared.key (run_of session.old.machine.seat.number call result.1 pass.seat.me.0.seen result.0.seat.me.0.seen) IsOrdered }
     ensures in_lives { IsLawful (opening_of D.seen) table.now.table.shared.key (run_of session.old.machine.seat.number call result.1 pass.seat.me.0.seen result.0.seat.me.0.seen) IsWithin }
     ensures durable { OfThisRun (opening_of D.seen) table.now.table.shared.key (run_of session.old.machine.seat.number call result.1 pass.seat.me.0.seen result.0.seat.me.0.seen) IsWithin TellsItsDurable }
+    ensures never_falls { OfThisRun (opening_of D.seen) table.now.table.shared.key (run_of session.old.machine.seat.number call result.1 pass.seat.me.0.seen result.0.seat.me.0.seen) IsWithin ItsDurableNeverFalls }
     ensures recovered { OfThisRun (opening_of D.seen) table.now.table.shared.key (run_of session.old.machine.seat.number call result.1 pass.seat.me.0.seen result.0.seat.me.0.seen) IsWithin RecoversItsDurable }
 {
     law_threads::<Snapshot<World<D>>>();

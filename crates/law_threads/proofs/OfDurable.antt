@@ -1,6 +1,6 @@
 -- What a session was told as durable, by the clauses of the law of prefixes.
-use Rattle.std.proofs.Common.{◌≡◌, inl, inr, ℕ, ◌≤◌, ◌∙◌, refl, sym, ap, subst, arith, Bool, true, false, List, [], ◌∷◌, ◌++◌, length, append_assoc}
-use Rattle.std.specs.Prelude.{◌==◌, if◌then◌else◌}
+use Rattle.std.proofs.Common.{◌≡◌, inl, inr, ℕ, ◌<◌, ◌≤◌, ◌∙◌, refl, sym, ap, subst, arith, Bool, true, false, List, [], ◌∷◌, ◌++◌, length, append_assoc}
+use Rattle.std.specs.Prelude.{◌==◌, if◌then◌else◌, slice_get}
 use Rattle.fkv_base.specs.declared.numbers.Serial.{Serial}
 use Rattle.fkv_core.specs.Openings.{beginning}
 use Rattle.fkv_disk.specs.Calls.{MayLeave}
@@ -17,24 +17,27 @@ use Rattle.fkv_session.specs.declared.answers.Told.TheVariants as told
 use Rattle.fkv_world.specs.Past.{Traced, TraceEvent, Called, Answered, KeeperAnswered}
 use Rattle.fkv_world.specs.Runs.{World, happens, run}
 use Rattle.fkv_world.specs.World.{Event, Now}
+use Rattle.law_commit.specs.ToldDurable.{NoneFalls}
 use Rattle.law_commit.specs.ToldPoints.{ToldPoint, and_one_finished, at_call_by, finishes_at_call, finishes_told, points_told, with_durable, with_point}
 use Rattle.law_log.specs.Trace.{IsIn}
 use Rattle.law_world.specs.Runs.Added.{told_at, told_by}
 use Rattle.law_world.proofs.OfRuns.Added.{trace_so}
 use Rattle.law_opening.specs.Lives.Reaching.{ReachesFar}
-use Rattle.law_order.specs.OneHistory.EachLife.{IsLife}
+use Rattle.law_order.specs.OneHistory.EachLife.{InEachLife, IsLife}
+use Rattle.law_order.specs.Prefix.Durable.{ToldNeverFalls}
 use Rattle.law_order.specs.Prefix.Law.{HoldsPrefix, IsKeptOf, PrefixLaw, RecoversPrefix, TellsDurable, calls_so_far, past_so_far, trace_so_far}
 use Rattle.law_order.proofs.OfReads.Numbers.{is_other}
+use Rattle.law_refine.proofs.OfCalls.InHand.{WasOpened, was_opened}
 use Rattle.fkv_table.specs.declared.happenings.Happening.{Happening}
 use Rattle.fkv_table.specs.Events.{event_of}
 use Rattle.fkv_table.specs.Planes.{plane}
 use Rattle.fkv_table.proofs.Lives.{led_run}
 use Rattle.law_threads.specs.Calls.{CallRun, HasRun, IsOver, events_of}
-use Rattle.law_threads.specs.Durable.{IsDurable, RecoversItsDurable, TellsItsDurable}
+use Rattle.law_threads.specs.Durable.{IsDurable, ItsDurableNeverFalls, RecoversItsDurable, TellsItsDurable}
 use Rattle.law_threads.specs.Laws.{IsWithin}
 use Rattle.law_threads.proofs.Course.{OfOthers, seen_answered, seen_called}
 use Rattle.law_threads.proofs.Histories.{events_both}
-use Rattle.law_threads.proofs.OfRuns.{IsToldIn, earlier, is_told, same_number, same_told, since_call, told_with}
+use Rattle.law_threads.proofs.OfRuns.{IsToldIn, earlier, first, is_told, same_number, same_told, since_call, told_with, was}
 
 -- ---- points that were told stay
 more_finished : (event : TraceEvent) (n : ℕ) → n ≤ and_one_finished event n
@@ -89,11 +92,26 @@ call_kept number (it ∷ since) before others = other_call number it.its (finish
 own_call : (number effects : ℕ) (its : Call) (before : List Traced) → finishes_at_call number (seen_called effects number its before) ≡ finishes_told before
 own_call number effects its before = rw (same_number number) refl
 
+own_points : (number effects : ℕ) (serial : Serial) (list : List Finished) (before : List Traced)
+    → points_told number (seen_answered effects number (told.Durable serial) list before) ≡ record { point = serial.0; finished = finishes_at_call number before } ∷ points_told number before
+own_points number effects serial list before =
+    ap (λ (c : Bool). if c then record { point = serial.0; finished = finishes_at_call number before } ∷ points_told number before else points_told number before) (same_number number)
+
 own_point : (number effects : ℕ) (serial : Serial) (list : List Finished) (before : List Traced)
     → IsIn (record { point = serial.0; finished = finishes_at_call number before }) (points_told number (seen_answered effects number (told.Durable serial) list before))
 own_point number effects serial list before =
-    subst (λ (c : Bool). IsIn (record { point = serial.0; finished = finishes_at_call number before }) (if c then record { point = serial.0; finished = finishes_at_call number before } ∷ points_told number before else points_told number before))
-    (sym (same_number number)) (inl refl)
+    subst (λ (points : List ToldPoint). IsIn (record { point = serial.0; finished = finishes_at_call number before }) points) (sym (own_points number effects serial list before)) (inl refl)
+
+none_more : (most : ℕ) (points : List ToldPoint) (x : ToldPoint) → NoneFalls most points → IsIn x points → x.point ≤ most
+none_more most [] x falls is_in = absurd is_in
+none_more most (it ∷ before) x falls (inl same) = subst (λ (y : ToldPoint). y.point ≤ most) same falls.0
+none_more most (it ∷ before) x falls (inr more) =
+    let rest = none_more it.point before x falls.1 more in
+    let one = falls.0 in
+    omega (arith, rest, one)
+
+older_at_most : (most : ℕ) (x newest : ToldPoint) (points all : List ToldPoint) → NoneFalls most all → all ≡ newest ∷ points → IsIn x points → x.point ≤ newest.point
+older_at_most most x newest points all falls so is_in = none_more newest.point points x (subst (λ (its : List ToldPoint). NoneFalls most its) so falls).1 is_in
 
 module _ {K : Type 0} (at : K → World) (key : K) (o : Opened) (n : Now) (bytes : List ℕ) (its : CallRun) (over : IsOver at key o n bytes) (run_so : HasRun at key its) (serial : Serial) (given : its.answer ≡ answer.Durable serial) where
   abbrev opening : World
@@ -119,24 +137,44 @@ module _ {K : Type 0} (at : K → World) (key : K) (o : Opened) (n : Now) (bytes
   abbrev point : ToldPoint
   point = record { point = serial.0; finished = finishes_told (trace_at (earlier at key its run_so)) }
 
+  abbrev called_so : List Traced
+  called_so = its_telling.more ++ seen_called its_telling.began number its.call (trace_at (earlier at key its run_so))
+
   is_there : IsIn point ((past_so_far n bytes (events_of its.behind)).told number)
   is_there =
-      let before : List Traced = its_telling.more ++ seen_called its_telling.began number its.call (trace_at (earlier at key its run_so)) in
-      let at_call : finishes_at_call number before ≡ finishes_told (trace_at (earlier at key its run_so)) =
+      let at_call : finishes_at_call number called_so ≡ finishes_told (trace_at (earlier at key its run_so)) =
       call_kept number its_telling.more _ its_telling.others ∙ own_call number its_telling.began its.call (trace_at (earlier at key its run_so)) in
       subst (λ (x : List Traced). IsIn point (points_told number x)) (sym so)
-      (subst (λ (x : ℕ). IsIn (record { point = serial.0; finished = x }) (points_told number (seen_answered its_telling.effects number (told.Durable serial) its_telling.finished before))) at_call
-      (own_point number its_telling.effects serial its_telling.finished before))
+      (subst (λ (x : ℕ). IsIn (record { point = serial.0; finished = x }) (points_told number (seen_answered its_telling.effects number (told.Durable serial) its_telling.finished called_so))) at_call
+      (own_point number its_telling.effects serial its_telling.finished called_so))
+
+  seen_before : IsTraceBehind (trace_at its.before) (trace_at (earlier at key its run_so))
+  seen_before =
+      let behind = trace_behind opening run_so.called.others (events_of its.before) in
+      record { later = behind.later; whole = ap (λ (es : List Event). (run opening es).past.trace) (events_both run_so.called.others its.before) ∙ behind.whole }
 
   pub durable_at : TellsDurable o n bytes (events_of its.behind) → IsDurable o n bytes its serial
   durable_at law = record {
     finished = finishes_told (trace_at (earlier at key its run_so));
-    seen =
-        let behind = trace_behind opening run_so.called.others (events_of its.before) in
-        let same : trace_at (earlier at key its run_so) ≡ behind.later ++ trace_at its.before = ap (λ (es : List Event). (run opening es).past.trace) (events_both run_so.called.others its.before) ∙ behind.whole in
-        subst (λ (x : List Traced). finishes_told (trace_at its.before) ≤ finishes_told x) (sym same) (finishes_more behind.later (trace_at its.before));
+    seen = subst (λ (x : List Traced). finishes_told (trace_at its.before) ≤ finishes_told x) (sym seen_before.whole) (finishes_more seen_before.later (trace_at its.before));
     durable = law number point is_there;
   }
+
+  -- the store has a session of this number
+  was_there : WasOpened (at key) (events_of (earlier at key its run_so)) number (first at key its run_so)
+  was_there = was_opened (at key) (events_of (earlier at key its run_so)) number (first at key its run_so) run_so.ready.opened.opening.opened
+      (ap (λ (w : World). slice_get w.now.sessions number) (sym (led_run at (at key) (earlier at key its run_so))) ∙ was at key its run_so)
+
+  is_session : number < n.places.sessions
+  is_session = subst (λ (w : World). number < w.now.places.sessions) over.same (run_so.ready.opened.opening.guarded.seats number was_there.first was_there.became.was)
+
+  pub none_falls_at : ToldNeverFalls o n bytes (events_of its.behind) → (x : ToldPoint) → IsIn x (points_told number (trace_at its.before)) → x.point ≤ serial.0
+  none_falls_at law x is_in =
+      let earlier_there : IsIn x (points_told number (trace_at (earlier at key its run_so))) =
+      subst (λ (t : List Traced). IsIn x (points_told number t)) (sym seen_before.whole) (points_more number x seen_before.later (trace_at its.before) is_in) in
+      let there : IsIn x (points_told number called_so) = points_more number x its_telling.more (seen_called its_telling.began number its.call (trace_at (earlier at key its run_so))) earlier_there in
+      older_at_most _ x (record { point = serial.0; finished = finishes_at_call number called_so }) (points_told number called_so) (points_told number (trace_at its.behind)) (law number is_session)
+      (ap (points_told number) so ∙ own_points number its_telling.effects serial its_telling.finished called_so) there
 
   pub recovered_at : (later : List Happening) → RecoversPrefix o n bytes (events_of later ++ events_of its.behind) → ReachesFar bytes → (image : List ℕ) (r : Opened) → MayLeave bytes (calls_so_far n bytes (events_of (later ++ its.behind))) image → IsStoreOf image r
       → serial.0 ≤ point_of r.points.items number
@@ -155,6 +193,10 @@ is_life at key o n bytes events over within = record { store = over.store; begin
 pub tells_durable : {K : Type 0} (at : K → World) → PrefixLaw → (key : K) (o : Opened) (n : Now) (bytes : List ℕ) (its : CallRun) → IsOver at key o n bytes → HasRun at key its → IsWithin o n bytes (events_of its.behind) → TellsItsDurable o n bytes its
 tells_durable at prefix key o n bytes its over run within serial given =
     durable_at at key o n bytes its over run serial given (prefix.durable (record { bytes = bytes; opened = o; world = n; events = events_of its.behind }) (is_life at key o n bytes (events_of its.behind) over within))
+
+pub durable_never_falls : {K : Type 0} (at : K → World) → InEachLife ToldNeverFalls → (key : K) (o : Opened) (n : Now) (bytes : List ℕ) (its : CallRun) → IsOver at key o n bytes → HasRun at key its → IsWithin o n bytes (events_of its.behind) → ItsDurableNeverFalls o n bytes its
+durable_never_falls at law key o n bytes its over run within serial given =
+    none_falls_at at key o n bytes its over run serial given (law (record { bytes = bytes; opened = o; world = n; events = events_of its.behind }) (is_life at key o n bytes (events_of its.behind) over within))
 
 pub recovers_durable : {K : Type 0} (at : K → World) → PrefixLaw → (key : K) (o : Opened) (n : Now) (bytes : List ℕ) (its : CallRun) → IsOver at key o n bytes → HasRun at key its → IsWithin o n bytes (events_of its.behind) → RecoversItsDurable o n bytes its
 recovers_durable at prefix key o n bytes its over run here serial given far later image r within left store =

@@ -7,7 +7,8 @@ use Rattle.fkv_opening.specs.Opened.{IsStoreOf}
 use Rattle.fkv_opening.specs.declared.opened_store.Opened.{Opened}
 use Rattle.fkv_session.specs.declared.answers.Answer.TheVariants.{Durable}
 use Rattle.fkv_world.specs.World.{Now}
-use Rattle.law_commit.specs.ToldPoints.{finishes_told}
+use Rattle.law_commit.specs.ToldPoints.{ToldPoint, finishes_told}
+use Rattle.law_log.specs.Trace.{IsIn}
 use Rattle.law_opening.specs.Lives.Reaching.{ReachesFar}
 use Rattle.law_order.specs.Prefix.Law.{IsToldDurable, calls_so_far, past_so_far, trace_so_far}
 use Rattle.fkv_table.specs.declared.happenings.Happening.{Happening}
@@ -23,6 +24,11 @@ pub record IsDurable (o : Opened) (n : Now) (bytes : List ℕ) (its : CallRun) (
 
 abbrev pub TellsItsDurable : Opened → Now → List ℕ → CallRun → Type 0
 TellsItsDurable o n bytes its = (serial : Serial) → its.answer ≡ Durable serial → IsDurable o n bytes its serial
+
+-- It is no less than each point that the session was told before the call, by what its pass had seen then.
+abbrev pub ItsDurableNeverFalls : Opened → Now → List ℕ → CallRun → Type 0
+ItsDurableNeverFalls o n bytes its = (serial : Serial) → its.answer ≡ Durable serial
+    → (told : ToldPoint) → IsIn told ((past_so_far n bytes (events_of its.before)).told its.number) → told.point ≤ serial.0
 
 -- Each image that a crash may leave then or later recovers a point of the session at or above it, if the life began with an image that reaches far and keeps to
 -- the premises of the law of prefixes.

@@ -221,7 +221,7 @@ not_absent : Absent ≡ Found (record { 0 = 70 }) → ⊥
 unfolding number_in
 not_absent is = let same : 0 ≡ 70 = ap number_in is in omega (arith, same)
 
-gives_value : value_in no_map (effect_70 ∷ []) 5 ≡ Some 70
+pub gives_value : value_in no_map (effect_70 ∷ []) 5 ≡ Some 70
 unfolding effect_70
 gives_value = content_one_more no_map [] (entry_of 0 1 gives_70 Nothing) 5
 

@@ -1,10 +1,12 @@
 -- The lives in which a clause of the law of prefixes fails, by computing them.
-use Rattle.std.proofs.Common.{◌≡◌, inl, inr, ◌≤◌, ◌∙◌, List, [], ◌∷◌, refl, sym, ap, subst, arith, true}
+use Rattle.std.proofs.Common.{◌≡◌, inl, inr, ℕ, ◌≤◌, ◌∙◌, List, [], ◌∷◌, refl, sym, ap, subst, arith, true}
 use Rattle.std.specs.Prelude.{Option, Some, None, IsSome}
+use Rattle.std.specs.FinMap.{get, get-empty}
+use Rattle.std.specs.Ordering.{nat_cmp}
 use Rattle.fkv_base.specs.declared.numbers.Serial.{Serial}
 use Rattle.fkv_commit.specs.declared.commits.Commit.{Commit}
 use Rattle.fkv_keeper.specs.Keeping.{KeeperState}
-use Rattle.fkv_map.specs.History.{IsLegal, kept, point_of}
+use Rattle.fkv_map.specs.History.{IsLegal, content, kept, point_of}
 use Rattle.fkv_map.specs.declared.history.HistoryEntry.{HistoryEntry}
 use Rattle.fkv_map.specs.declared.operations.Reply.TheVariants.{Nothing, Number}
 use Rattle.fkv_map.proofs.Shown.{legal_each}
@@ -15,15 +17,15 @@ use Rattle.fkv_world.specs.World.{Now}
 use Rattle.law_commit.specs.BegunCommits.{BegunCommit, commit_opened, life_begun}
 use Rattle.law_commit.specs.PrefixPast.{PrefixPast, prefix_past, serials_asked}
 use Rattle.law_commit.specs.ToldPoints.{ToldPoint}
-use Rattle.law_log.specs.Trace.{IsIn, history_of}
+use Rattle.law_log.specs.Trace.{Effect, IsIn, history_of, upto, value_in}
 use Rattle.law_log.specs.Worked.{entry_of, no_map}
 use Rattle.law_refine.specs.Events.Worked.{adds_5, gives_70}
 use Rattle.law_order.specs.Prefix.Law.{IsToldDurable, TakesFairPoints}
 use Rattle.law_refine.specs.Calls.Calls.{effects_in_log}
 use Rattle.law_wrong_runs.specs.Tables.{add_copies_in_fuzzy_region, commit_keeps_nothing, right_tables, run_by, serial_is_told_as_durable}
-use Rattle.law_wrong_runs.specs.WrongCommits.{AreWrongCommits, KeepsLegal, all_points, LeavesCurrent, LeavesDurable, TakesFair, asks_durable, begins_commit, new_world, past_by, with_nothing_kept}
+use Rattle.law_wrong_runs.specs.WrongCommits.{AreWrongCommits, KeepsItsValues, KeepsLegal, KeepsValues, all_points, given_point, LeavesCurrent, LeavesDurable, TakesFair, asks_durable, begins_commit, new_world, past_by, with_nothing_kept}
 use Rattle.law_wrong_runs.specs.WrongLives.{fuzzy_events, gives_1, opened_world}
-use Rattle.law_wrong_runs.proofs.Computed.{fuzzy_history, is_fuzzy_history, not_80, places, places_fit, right_copied, shape, world_opened}
+use Rattle.law_wrong_runs.proofs.Computed.{effect_70, fuzzy_history, gives_value, is_fuzzy_history, not_80, places, places_fit, right_copied, shape, world_opened}
 use Rattle.fkv_session.specs.Sessions as session_u
 use Rattle.fkv_session.specs.CatchingUp as catching_u
 use Rattle.fkv_pending.specs.Attempting as attempting_u
@@ -157,6 +159,62 @@ pub wrong_fair : (its : KeeperState) (one other : SessionState) → TakesFair co
 wrong_fair its one other fair =
     not_fair (run_by commit_keeps_nothing (world its one other) begins_commit).now (prefix_past (world its one other) begins_commit) _ refl (has_begun its one other) (has_taken its one other) (has_asked its one other) (keeps_none its one other) fair
 
+-- an image of it has the value that was given
+number_of : Option Commit → Option ℕ
+number_of None = None
+number_of (Some c) = Some c.number.0
+
+its_number : (its : KeeperState) (one other : SessionState) → number_of (run_by commit_keeps_nothing (world its one other) begins_commit).now.keeper.commit ≡ Some 1
+unfolding places shape session_u.sitting_ask session_u.attempts session_u.polls_at session_u.op_begun session_u.refresh_call session_u.poll_call session_u.sleep_call session_u.wake_call session_u.accepts session_u.shifts session_u.attempt_ledto session_u.catch_ledto session_u.clear_ledto session_u.finishes_request session_u.keeps_request session_u.poll_ledto session_u.turn_ledto session_u.leave_ledto session_u.sitting_next session_u.sitting_given catching_u.catching_ask catching_u.refresh_ledto catching_u.protect_ledto catching_u.latch_ledto catching_u.finish_ledto catching_u.latch_marked catching_u.catching_requests catching_u.catching_next attempting_u.attempting_ask attempting_u.look_ledto attempting_u.try_ledto attempting_u.put_ledto attempting_u.attempting_next pending_u.with_sought pending_u.with_held pending_u.with_latch pending_u.with_asked mailing_u.mail_ask mailing_u.mail_next trying_u.trying_ask trying_u.ends trying_u.shared_ledto trying_u.appends trying_u.copies_from trying_u.copies trying_u.held_used trying_u.walk_ledto trying_u.current_ledto trying_u.answer_ledto trying_u.exclusive_ledto trying_u.old_ledto trying_u.append_ledto trying_u.exclusive_dropped trying_u.shared_dropped trying_u.trying_next walking_u.walking_ask walking_u.find_ledto walking_u.load_ledto walking_u.value_ledto walking_u.walking_next walking_u.walking_on appending_u.appending_ask appending_u.reserve_ledto appending_u.fill_ledto appending_u.publish_ledto appending_u.invalidate_ledto appending_u.appending_next header_words_u.header_said finding_u.find_step_ask finding_u.find_led publishing_u.publish_ask publishing_u.publish_next publishing_u.publish_next_ask slots_u.slot_word reserving_u.reserve_ask reserving_u.reserve_next reserving_u.reserve_next_ask filling_u.fill_ask filling_u.fill_next loading_u.load_ask loading_u.load_next loading_u.load_next_ask loading_u.load_on invalidating_u.invalidate_ask invalidating_u.invalidate_next moving_u.moving_ask moving_u.raise_led moving_u.arm_led moving_u.moving_next moving_u.raise_told moving_u.moving_next_ask shifting_u.shifting_ask shifting_u.shift_led shifting_u.shifting_next shifting_u.move_told shifting_u.shifting_next_ask turning_u.turning_ask turning_u.turn_led turning_u.turning_next turning_u.turn_told turning_u.turning_next_ask refreshing_u.refresh_ask refreshing_u.refresh_next refreshing_u.refresh_finish scanning_u.scan_ask scanning_u.sessions_from scanning_u.least_of scanning_u.scan_next claiming_u.claim_ask claiming_u.slot_after claiming_u.slot_armed claiming_u.claim_next claiming_u.claim_given raising_u.raise_ask raising_u.free_after raising_u.raise_next raising_u.raise_next_ask raising_u.raise_on arming_u.arm_ask arming_u.arm_next passing_u.passed maintaining_u.device_asked maintaining_u.maintaining_ask maintaining_u.scan_ledto maintaining_u.claim_ledto maintaining_u.flush_ledto maintaining_u.shift_ledto maintaining_u.serve_ledto maintaining_u.turn_ledto maintaining_u.maintaining_next maintaining_u.maintaining_given maintaining_u.maintaining_called maintaining_u.maintaining_calls maintaining_u.maintaining_made keeping_u.device_passed keeping_u.keeping_ask keeping_u.start_ledto keeping_u.maintain_ledto keeping_u.phase_ledto keeping_u.keeping_next keeping_u.keeping_given keeping_u.keeping_called keeper_asks_u.keeping_made keeper_asks_u.keeping_calls flushing_u.flush_ask flushing_u.flush_next flushing_u.bytes_next flushing_u.flush_calls flushing_u.flush_done flushing_u.bytes_done flushing_u.count_next flushing_u.count_done serving_u.serve_ask serving_u.mailbox_from serving_u.serve_next serving_u.serve_read serving_u.mail_place world_u.life_goes moves_u.session_settled moves_u.session_asks moves_u.keeper_settled moves_u.keeper_asks past_u.history_after past_u.life_past runs_u.run phase_words_u.phase_said run_by defer_u.deferring_ask defer_u.seek_ledto defer_u.raise_ledto defer_u.arm_ledto defer_u.deferring_next defer_u.deferring_on start_u.starting_ask start_u.seek_led start_u.defer_led start_u.starting_next keeper_run_u.keeper_happens keeper_run_u.keeper_run own_u.keeper_slots own_u.keeper_steps own_u.keeper_part own_u.keeper_events begun_u.commits_begun asked_u.serials_asked number_of
+its_number its one other = refl
+
+has_given : (its : KeeperState) (one other : SessionState) → effects_in_log (run_by commit_keeps_nothing (world its one other) begins_commit).past.history ≡ effect_70 ∷ []
+unfolding places shape session_u.sitting_ask session_u.attempts session_u.polls_at session_u.op_begun session_u.refresh_call session_u.poll_call session_u.sleep_call session_u.wake_call session_u.accepts session_u.shifts session_u.attempt_ledto session_u.catch_ledto session_u.clear_ledto session_u.finishes_request session_u.keeps_request session_u.poll_ledto session_u.turn_ledto session_u.leave_ledto session_u.sitting_next session_u.sitting_given catching_u.catching_ask catching_u.refresh_ledto catching_u.protect_ledto catching_u.latch_ledto catching_u.finish_ledto catching_u.latch_marked catching_u.catching_requests catching_u.catching_next attempting_u.attempting_ask attempting_u.look_ledto attempting_u.try_ledto attempting_u.put_ledto attempting_u.attempting_next pending_u.with_sought pending_u.with_held pending_u.with_latch pending_u.with_asked mailing_u.mail_ask mailing_u.mail_next trying_u.trying_ask trying_u.ends trying_u.shared_ledto trying_u.appends trying_u.copies_from trying_u.copies trying_u.held_used trying_u.walk_ledto trying_u.current_ledto trying_u.answer_ledto trying_u.exclusive_ledto trying_u.old_ledto trying_u.append_ledto trying_u.exclusive_dropped trying_u.shared_dropped trying_u.trying_next walking_u.walking_ask walking_u.find_ledto walking_u.load_ledto walking_u.value_ledto walking_u.walking_next walking_u.walking_on appending_u.appending_ask appending_u.reserve_ledto appending_u.fill_ledto appending_u.publish_ledto appending_u.invalidate_ledto appending_u.appending_next header_words_u.header_said finding_u.find_step_ask finding_u.find_led publishing_u.publish_ask publishing_u.publish_next publishing_u.publish_next_ask slots_u.slot_word reserving_u.reserve_ask reserving_u.reserve_next reserving_u.reserve_next_ask filling_u.fill_ask filling_u.fill_next loading_u.load_ask loading_u.load_next loading_u.load_next_ask loading_u.load_on invalidating_u.invalidate_ask invalidating_u.invalidate_next moving_u.moving_ask moving_u.raise_led moving_u.arm_led moving_u.moving_next moving_u.raise_told moving_u.moving_next_ask shifting_u.shifting_ask shifting_u.shift_led shifting_u.shifting_next shifting_u.move_told shifting_u.shifting_next_ask turning_u.turning_ask turning_u.turn_led turning_u.turning_next turning_u.turn_told turning_u.turning_next_ask refreshing_u.refresh_ask refreshing_u.refresh_next refreshing_u.refresh_finish scanning_u.scan_ask scanning_u.sessions_from scanning_u.least_of scanning_u.scan_next claiming_u.claim_ask claiming_u.slot_after claiming_u.slot_armed claiming_u.claim_next claiming_u.claim_given raising_u.raise_ask raising_u.free_after raising_u.raise_next raising_u.raise_next_ask raising_u.raise_on arming_u.arm_ask arming_u.arm_next passing_u.passed maintaining_u.device_asked maintaining_u.maintaining_ask maintaining_u.scan_ledto maintaining_u.claim_ledto maintaining_u.flush_ledto maintaining_u.shift_ledto maintaining_u.serve_ledto maintaining_u.turn_ledto maintaining_u.maintaining_next maintaining_u.maintaining_given maintaining_u.maintaining_called maintaining_u.maintaining_calls maintaining_u.maintaining_made keeping_u.device_passed keeping_u.keeping_ask keeping_u.start_ledto keeping_u.maintain_ledto keeping_u.phase_ledto keeping_u.keeping_next keeping_u.keeping_given keeping_u.keeping_called keeper_asks_u.keeping_made keeper_asks_u.keeping_calls flushing_u.flush_ask flushing_u.flush_next flushing_u.bytes_next flushing_u.flush_calls flushing_u.flush_done flushing_u.bytes_done flushing_u.count_next flushing_u.count_done serving_u.serve_ask serving_u.mailbox_from serving_u.serve_next serving_u.serve_read serving_u.mail_place world_u.life_goes moves_u.session_settled moves_u.session_asks moves_u.keeper_settled moves_u.keeper_asks past_u.history_after past_u.life_past runs_u.run phase_words_u.phase_said run_by defer_u.deferring_ask defer_u.seek_ledto defer_u.raise_ledto defer_u.arm_ledto defer_u.deferring_next defer_u.deferring_on start_u.starting_ask start_u.seek_led start_u.defer_led start_u.starting_next keeper_run_u.keeper_happens keeper_run_u.keeper_run own_u.keeper_slots own_u.keeper_steps own_u.keeper_part own_u.keeper_events begun_u.commits_begun asked_u.serials_asked effect_70
+has_given its one other = refl
+
+has_given_right : (its : KeeperState) (one other : SessionState) → effects_in_log (run (world its one other) begins_commit).past.history ≡ effect_70 ∷ []
+unfolding places shape session_u.sitting_ask session_u.attempts session_u.polls_at session_u.op_begun session_u.refresh_call session_u.poll_call session_u.sleep_call session_u.wake_call session_u.accepts session_u.shifts session_u.attempt_ledto session_u.catch_ledto session_u.clear_ledto session_u.finishes_request session_u.keeps_request session_u.poll_ledto session_u.turn_ledto session_u.leave_ledto session_u.sitting_next session_u.sitting_given catching_u.catching_ask catching_u.refresh_ledto catching_u.protect_ledto catching_u.latch_ledto catching_u.finish_ledto catching_u.latch_marked catching_u.catching_requests catching_u.catching_next attempting_u.attempting_ask attempting_u.look_ledto attempting_u.try_ledto attempting_u.put_ledto attempting_u.attempting_next pending_u.with_sought pending_u.with_held pending_u.with_latch pending_u.with_asked mailing_u.mail_ask mailing_u.mail_next trying_u.trying_ask trying_u.ends trying_u.shared_ledto trying_u.appends trying_u.copies_from trying_u.copies trying_u.held_used trying_u.walk_ledto trying_u.current_ledto trying_u.answer_ledto trying_u.exclusive_ledto trying_u.old_ledto trying_u.append_ledto trying_u.exclusive_dropped trying_u.shared_dropped trying_u.trying_next walking_u.walking_ask walking_u.find_ledto walking_u.load_ledto walking_u.value_ledto walking_u.walking_next walking_u.walking_on appending_u.appending_ask appending_u.reserve_ledto appending_u.fill_ledto appending_u.publish_ledto appending_u.invalidate_ledto appending_u.appending_next header_words_u.header_said finding_u.find_step_ask finding_u.find_led publishing_u.publish_ask publishing_u.publish_next publishing_u.publish_next_ask slots_u.slot_word reserving_u.reserve_ask reserving_u.reserve_next reserving_u.reserve_next_ask filling_u.fill_ask filling_u.fill_next loading_u.load_ask loading_u.load_next loading_u.load_next_ask loading_u.load_on invalidating_u.invalidate_ask invalidating_u.invalidate_next moving_u.moving_ask moving_u.raise_led moving_u.arm_led moving_u.moving_next moving_u.raise_told moving_u.moving_next_ask shifting_u.shifting_ask shifting_u.shift_led shifting_u.shifting_next shifting_u.move_told shifting_u.shifting_next_ask turning_u.turning_ask turning_u.turn_led turning_u.turning_next turning_u.turn_told turning_u.turning_next_ask refreshing_u.refresh_ask refreshing_u.refresh_next refreshing_u.refresh_finish scanning_u.scan_ask scanning_u.sessions_from scanning_u.least_of scanning_u.scan_next claiming_u.claim_ask claiming_u.slot_after claiming_u.slot_armed claiming_u.claim_next claiming_u.claim_given raising_u.raise_ask raising_u.free_after raising_u.raise_next raising_u.raise_next_ask raising_u.raise_on arming_u.arm_ask arming_u.arm_next passing_u.passed maintaining_u.device_asked maintaining_u.maintaining_ask maintaining_u.scan_ledto maintaining_u.claim_ledto maintaining_u.flush_ledto maintaining_u.shift_ledto maintaining_u.serve_ledto maintaining_u.turn_ledto maintaining_u.maintaining_next maintaining_u.maintaining_given maintaining_u.maintaining_called maintaining_u.maintaining_calls maintaining_u.maintaining_made keeping_u.device_passed keeping_u.keeping_ask keeping_u.start_ledto keeping_u.maintain_ledto keeping_u.phase_ledto keeping_u.keeping_next keeping_u.keeping_given keeping_u.keeping_called keeper_asks_u.keeping_made keeper_asks_u.keeping_calls flushing_u.flush_ask flushing_u.flush_next flushing_u.bytes_next flushing_u.flush_calls flushing_u.flush_done flushing_u.bytes_done flushing_u.count_next flushing_u.count_done serving_u.serve_ask serving_u.mailbox_from serving_u.serve_next serving_u.serve_read serving_u.mail_place world_u.life_goes moves_u.session_settled moves_u.session_asks moves_u.keeper_settled moves_u.keeper_asks past_u.history_after past_u.life_past runs_u.run phase_words_u.phase_said run_by defer_u.deferring_ask defer_u.seek_ledto defer_u.raise_ledto defer_u.arm_ledto defer_u.deferring_next defer_u.deferring_on start_u.starting_ask start_u.seek_led start_u.defer_led start_u.starting_next keeper_run_u.keeper_happens keeper_run_u.keeper_run own_u.keeper_slots own_u.keeper_steps own_u.keeper_part own_u.keeper_events begun_u.commits_begun asked_u.serials_asked effect_70
+has_given_right its one other = refl
+
+is_upto : upto 1 (effect_70 ∷ []) ≡ effect_70 ∷ []
+unfolding effect_70
+is_upto = refl
+
+keeps_given : kept (history_of (effect_70 ∷ [])) given_point ≡ history_of (effect_70 ∷ [])
+unfolding effect_70
+keeps_given = refl
+
+keeps_nothing : kept (history_of (effect_70 ∷ [])) [] ≡ []
+unfolding effect_70
+keeps_nothing = refl
+
+none_given : ◌≡◌ {A = Option ℕ} (Some 70) None → ⊥
+none_given e = cc
+
+some_number : (n m : ℕ) → Some n ≡ Some m → n ≡ m
+some_number n m e = cc
+
+-- the values differ from what points keep that keep nothing
+not_paired : (w : World) (found : Option Commit) → w.now.keeper.commit ≡ found → number_of found ≡ Some 1 → w.now.keeper.seek.points ≡ [] → effects_in_log w.past.history ≡ effect_70 ∷ [] → KeepsItsValues w → ⊥
+unfolding number_of
+not_paired w None in_hand number none given pairs = cc
+not_paired w (Some c) in_hand number none given pairs =
+    let one : c.number.0 ≡ 1 = some_number c.number.0 1 number in
+    let its : value_in no_map (upto c.number.0 (effects_in_log w.past.history)) 5 ≡ get (content no_map (kept (history_of (effects_in_log w.past.history)) w.now.keeper.seek.points)) 5 = pairs c in_hand 5 in
+    let now : value_in no_map (upto 1 (effect_70 ∷ [])) 5 ≡ get (content no_map (kept (history_of (effect_70 ∷ [])) [])) 5 =
+    subst (λ (n : ℕ). value_in no_map (upto n (effect_70 ∷ [])) 5 ≡ get (content no_map (kept (history_of (effect_70 ∷ [])) [])) 5) one
+    (subst (λ (points : List Serial). value_in no_map (upto c.number.0 (effect_70 ∷ [])) 5 ≡ get (content no_map (kept (history_of (effect_70 ∷ [])) points)) 5) none
+    (subst (λ (effects : List Effect). value_in no_map (upto c.number.0 effects) 5 ≡ get (content no_map (kept (history_of effects) w.now.keeper.seek.points)) 5) given its)) in
+    none_given (sym gives_value ∙ (ap (λ (effects : List Effect). value_in no_map effects 5) (sym is_upto) ∙ (now ∙ (ap (λ (h : List HistoryEntry). get (content no_map h) 5) keeps_nothing ∙ get-empty nat_cmp 5))))
+
+pub wrong_pairs : (its : KeeperState) (one other : SessionState) → KeepsItsValues (run_by commit_keeps_nothing (world its one other) begins_commit) → ⊥
+wrong_pairs its one other pairs = not_paired (run_by commit_keeps_nothing (world its one other) begins_commit) _ refl (its_number its one other) (keeps_none its one other) (has_given its one other) pairs
+
+pub right_pairs : (its : KeeperState) (one other : SessionState) → KeepsValues 1 given_point (run (world its one other) begins_commit)
+right_pairs its one other key =
+    subst (λ (effects : List Effect). value_in no_map (upto 1 effects) key ≡ get (content no_map (kept (history_of effects) given_point)) key) (sym (has_given_right its one other))
+    (ap (λ (effects : List Effect). value_in no_map effects key) is_upto ∙ ap (λ (h : List HistoryEntry). get (content no_map h) key) (sym keeps_given))
+
 -- ---- what is kept
 abbrev copied : KeeperState → SessionState → SessionState → World
 copied its one other = run_by add_copies_in_fuzzy_region (opened_world shape places its one other) fuzzy_events
@@ -199,6 +257,8 @@ wrong_commits its one other = record {
   durable_right = right_durable its one other;
   uncurrent = wrong_current its one other;
   unfair = wrong_fair its one other;
+  unpaired = wrong_pairs its one other;
+  paired_right = right_pairs its one other;
   unkept = wrong_kept its one other;
   kept_right = right_kept its one other;
 }

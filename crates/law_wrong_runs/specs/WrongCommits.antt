@@ -1,11 +1,13 @@
 -- Lives by wrong tables in which a clause of the law of prefixes fails: of what is told as durable, and of the points of commits.
-use Rattle.std.specs.Prelude.{true, replicate, List, [], ◌∷◌, ◌++◌}
+use Rattle.std.specs.Prelude.{◌≡◌, ℕ, true, replicate, List, [], ◌∷◌, ◌++◌, Some}
+use Rattle.std.specs.FinMap.{get}
+use Rattle.fkv_commit.specs.declared.commits.Commit.{Commit}
 use Rattle.fkv_base.specs.declared.commits.CommitKind.TheVariants.{Full}
 use Rattle.fkv_base.specs.declared.shapes.Shape.{Shape}
 use Rattle.fkv_base.specs.declared.numbers.Serial.{Serial}
 use Rattle.fkv_keeper.specs.Keeping.{KeeperState}
 use Rattle.fkv_keeper.specs.NewKeepers.{ArePlacesOfStore}
-use Rattle.fkv_map.specs.History.{IsLegal, kept}
+use Rattle.fkv_map.specs.History.{IsLegal, content, kept}
 use Rattle.fkv_map.specs.declared.operations.Call.TheVariants as call
 use Rattle.fkv_opening.specs.declared.opened_store.Opened.{Opened}
 use Rattle.fkv_plane.specs.declared.places.Places.{Places}
@@ -16,7 +18,7 @@ use Rattle.fkv_world.specs.World.{Calls, Commits, Event, KeeperMoves, Moves}
 use Rattle.law_commit.specs.BegunCommits.{BegunCommit}
 use Rattle.law_commit.specs.PrefixPast.{PrefixPast, prefix_past}
 use Rattle.law_commit.specs.ToldPoints.{ToldPoint, points_told}
-use Rattle.law_log.specs.Trace.{IsIn, history_of}
+use Rattle.law_log.specs.Trace.{IsIn, history_of, upto, value_in}
 use Rattle.law_log.specs.Worked.{no_map}
 use Rattle.law_order.specs.Prefix.Law.{IsCurrent, IsToldDurable, TakesFairPoints}
 use Rattle.law_refine.specs.Calls.Calls.{effects_in_log}
@@ -44,6 +46,15 @@ TakesFair t opening events = TakesFairPoints (run_by t opening events).now (pref
 abbrev pub KeepsLegal : List Serial → World → Type 0
 KeepsLegal points w = IsLegal no_map (kept (history_of (effects_in_log w.past.history)) points)
 
+-- An image of a commit has for each key the value that the updates of versions up to its number leave. These points keep just that, from an empty map.
+abbrev pub KeepsValues : ℕ → List Serial → World → Type 0
+KeepsValues number points w =
+    (key : ℕ) → value_in no_map (upto number (effects_in_log w.past.history)) key ≡ get (content no_map (kept (history_of (effects_in_log w.past.history)) points)) key
+
+-- so do the points of the commit in hand
+abbrev pub KeepsItsValues : World → Type 0
+KeepsItsValues w = (c : Commit) → w.now.keeper.commit ≡ Some c → KeepsValues c.number.0 w.now.keeper.seek.points w
+
 -- ---- the beginning: a store that was just opened, of which nothing is kept yet
 abbrev pub with_nothing_kept : KeeperState → KeeperState
 with_nothing_kept k = record k { last = record k.last { points = [] }; lost = [] }
@@ -59,13 +70,17 @@ asks_durable = replicate 2 (Moves 0) ++ Calls 0 call.Durable ∷ gives_events
 abbrev pub begins_commit : List Event
 begins_commit = replicate 8 (KeeperMoves true true) ++ Commits Full ∷ gives_events
 
+-- points that keep its update
+abbrev pub given_point : List Serial
+given_point = record { 0 = 1 } ∷ []
+
 -- points that keep all updates of both sessions
 abbrev pub all_points : List Serial
 all_points = record { 0 = 4 } ∷ record { 0 = 1 } ∷ []
 
 -- In a store of this shape, with its places: if session 0 is told its last serial as durable, no commit has that as its point, and so none is current. By the
 -- right table it is told its point in the commit with which the store was opened. If a commit keeps nothing, its point is below what session 0 had given as
--- it was asked for. If a record is copied that session 0 may still change, no life can begin with all that was done; by the right table one can.
+-- it was asked for. Nor do its points keep what an image of it has; a point that keeps session 0's update does. If a record is copied that session 0 may still change, no life can begin with all that was done; by the right table one can.
 pub record AreWrongCommits (keeper : KeeperState) (one other : SessionState) : Type 0 where
   pub shape : Shape
   pub places : Places
@@ -75,5 +90,7 @@ pub record AreWrongCommits (keeper : KeeperState) (one other : SessionState) : T
   pub durable_right : (o : Opened) → LeavesDurable o right_tables (new_world shape places keeper one other) asks_durable
   pub uncurrent : LeavesCurrent serial_is_told_as_durable (new_world shape places keeper one other) asks_durable → ⊥
   pub unfair : TakesFair commit_keeps_nothing (new_world shape places keeper one other) begins_commit → ⊥
+  pub unpaired : KeepsItsValues (run_by commit_keeps_nothing (new_world shape places keeper one other) begins_commit) → ⊥
+  pub paired_right : KeepsValues 1 given_point (run (new_world shape places keeper one other) begins_commit)
   pub unkept : KeepsLegal all_points (run_by add_copies_in_fuzzy_region (opened_world shape places keeper one other) fuzzy_events) → ⊥
   pub kept_right : KeepsLegal all_points (run (opened_world shape places keeper one other) fuzzy_events)

@@ -16,7 +16,8 @@ pub fn law_of_wrong_lives()
 
 /// Two sessions of the same store, of which nothing is kept yet. Session 0 has given a key a value. If it is told its last serial as durable, that is its point
 /// in no commit. So no commit is current either, as one has to be that an image holds. By the right table it is told its point in the opening's commit. A
-/// commit that keeps nothing has a point below what session 0 had given as the commit was asked for. If a record is copied that another session may still
+/// commit that keeps nothing has a point below what session 0 had given as the commit was asked for. An image of it has the value that was given, and that isn't
+/// what its points keep. If a record is copied that another session may still
 /// change, what is kept of the life isn't legal, so no life can begin with it.
 pub fn law_of_wrong_commits()
     ensures { (keeper : KeeperState) (one other : SessionState) → AreWrongCommits keeper one other }

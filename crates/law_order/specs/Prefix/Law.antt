@@ -92,7 +92,7 @@ HasCommitsInTurn o n bytes events = AreInTurn (past_so_far n bytes events).begun
 
 -- ---- fair
 -- A session's point is fair. It is at least the last serial that the session had given as the commit was asked for. It is at most the last that it has given,
--- and no less than its point in the commit before.
+-- and no less than its point in the commit that the keeper has as its last one. Of any two commits that have begun, `rising` says the like.
 pub record IsFairPoint (asked given before point : ℕ) : Type 0 where
   pub since_asked : asked ≤ point
   pub till_now : point ≤ given
@@ -120,6 +120,11 @@ BeginsWithTaken now (c ∷ older) = c.is_finished ≡ false → IsInHandAsTaken 
 abbrev pub HasFairPoints : Opened → Now → List ℕ → List Event → Type 0
 HasFairPoints o n bytes events = (later before : List Event) → events ≡ later ++ before
     → TakesFairPoints (now_after n bytes before) (past_so_far n bytes before) × BeginsWithTaken (now_after n bytes before) (past_so_far n bytes before).begun
+
+-- No point of a commit that has begun, or of the opening's, is more than that of a newer one.
+abbrev pub HasRisingPoints : Opened → Now → List ℕ → List Event → Type 0
+HasRisingPoints o n bytes events =
+    (older newer : BegunCommit) → IsIn older (past_so_far n bytes events).begun → IsIn newer (past_so_far n bytes events).begun → older.number.0 ≤ newer.number.0 → AreAtMost older.points newer.points
 
 -- ---- durable
 -- A commit has one of so many numbers behind the opening's. If numbers are in turn (`in_turn`), these are the commits that were told as finished first.
@@ -183,9 +188,9 @@ LivesFollow = (its : Life) (before : List Life) → AreLives (its ∷ before) �
 abbrev pub LivesReachFar : Type 0
 LivesReachFar = (its : Life) (before : List Life) → AreLives (its ∷ before) → ReachesFar its.bytes
 
--- ---- The law of prefixes, by its twelve clauses
+-- ---- The law of prefixes, by its thirteen clauses
 -- All are of lives with commits, crashes and failing calls of the device. `law_order` shows the first six. `law_finished_is_told` shows `told`,
--- `law_commits_in_turn` `in_turn`, `law_points_are_fair` `fair`, and `law_durable_is_sealed` `durable`. `law_lives` shows the last, by `recovered`.
+-- `law_commits_in_turn` `in_turn`, `law_points_are_fair` `fair`, `law_points_keep` `rising`, and `law_durable_is_sealed` `durable`. `law_lives` shows the last, by `recovered`.
 pub record PrefixLaw : Type 0 where
   -- the updates of a life take effect in one order, legal with the replies that were given, and reads are answered from it
   pub legal : InEachLife HasLegalHistory
@@ -200,7 +205,8 @@ pub record PrefixLaw : Type 0 where
   -- finished commits are those that the keeper has told as finished, with these numbers and points, and numbers are in turn
   pub told : InEachLife TellsFinished
   pub in_turn : InEachLife HasCommitsInTurn
-  -- and points are what sessions had given, and were told
+  -- and points are what sessions had given, never fall from a commit to a newer one, and are what sessions were told
   pub fair : InEachLife HasFairPoints
+  pub rising : InEachLife HasRisingPoints
   pub durable : InEachLife TellsDurable
   pub lives : LivesFollow

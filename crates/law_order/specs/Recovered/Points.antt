@@ -1,5 +1,5 @@
 -- What the points of a commit keep of the life in which it has begun.
-use Rattle.std.specs.Prelude.{◌≡◌, ◌≤◌, ℕ, List}
+use Rattle.std.specs.Prelude.{◌≡◌, ℕ, List}
 use Rattle.fkv_keeper.specs.LastCommits.{points_written}
 use Rattle.fkv_map.specs.History.{AreAtMost, IsWhole, point_of}
 use Rattle.fkv_opening.specs.declared.opened_store.Opened.{Opened}
@@ -26,9 +26,3 @@ pub record KeepsItsPoints (o : Opened) (n : Now) (bytes : List ℕ) (events : Li
 -- So it is of each commit that has begun in a life, with the opening's.
 abbrev pub CommitsKeepTheirPoints : Type 0
 CommitsKeepTheirPoints = (its : Life) (c : BegunCommit) → IsLife its → IsIn c (begun_so_far its.world its.bytes its.events) → KeepsItsPoints its.opened its.world its.bytes its.events c
-
--- none is more than that of a newer commit
-abbrev pub PointsRise : Type 0
-PointsRise =
-    (its : Life) (older newer : BegunCommit) → IsLife its → IsIn older (begun_so_far its.world its.bytes its.events) → IsIn newer (begun_so_far its.world its.bytes its.events) → older.number.0 ≤ newer.number.0
-    → AreAtMost older.points newer.points

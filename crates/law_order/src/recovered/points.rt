@@ -1,5 +1,7 @@
 //! What the points of commits keep.
-ghost use Rattle.law_order.specs.Recovered.Points.{CommitsKeepTheirPoints, PointsRise};
+ghost use Rattle.law_order.specs.OneHistory.EachLife.{InEachLife};
+ghost use Rattle.law_order.specs.Prefix.Law.{HasRisingPoints};
+ghost use Rattle.law_order.specs.Recovered.Points.{CommitsKeepTheirPoints};
 
 use crate::{law_order, law_points_open};
 use law_commit::{law_points_between, law_points_split, law_points_taken, law_versions_end};
@@ -12,7 +14,7 @@ use law_world::{
 /// No point has fallen since the opening, nor from a commit to a newer one. A slot has room for each.
 pub fn law_points_keep()
     ensures kept { CommitsKeepTheirPoints }
-    ensures rise { PointsRise }
+    ensures rise { InEachLife HasRisingPoints }
 {
     law_order();
     law_points_open();

@@ -27,7 +27,7 @@ pub fn law_images_recovered()
 
 /// The law of prefixes, in every life of every opened store, with commits and crashes anywhere, and over lives that follow one another. Updates take effect in one
 /// legal order, which all replies tell. What a crash leaves is what one commit keeps of that order, and no finished commit is newer. Commits are told as finished
-/// with their numbers and points, and points are fair. What is told as durable is kept.
+/// with their numbers and points, and points are fair and never fall. What is told as durable is kept.
 pub fn law_prefix()
     ensures { PrefixLaw }
 {
@@ -36,6 +36,7 @@ pub fn law_prefix()
     law_finished_is_told();
     law_commits_in_turn();
     law_points_are_fair();
+    law_points_keep();
     law_durable_is_sealed();
     law_lives();
 }

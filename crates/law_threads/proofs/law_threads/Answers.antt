@@ -1,7 +1,7 @@
 -- The law, by clauses of the order law and of the law of prefixes.
 use Rattle.fkv_seats.proofs.Seats.{in_order}
 use Rattle.fkv_table.specs.Planes.{plane}
-use Rattle.law_threads.proofs.OfDurable.{recovers_durable, tells_durable}
+use Rattle.law_threads.proofs.OfDurable.{durable_never_falls, recovers_durable, tells_durable}
 use Rattle.law_threads.proofs.OfImages.{recovers_within}
 use Rattle.law_threads.proofs.OfLaws.{in_lives, shares, thread_law}
 use Rattle.law_threads.proofs.law_threads.Goals as goal
@@ -14,6 +14,9 @@ returns-clause-in_lives g c = λ at. in_lives at c.law_order.ensures.legal c.law
 
 pub returns-clause-durable : goal.returns-clause-durable
 returns-clause-durable g c = λ at. tells_durable at c.law_prefix.ensures
+
+pub returns-clause-never_falls : goal.returns-clause-never_falls
+returns-clause-never_falls g c = λ at. durable_never_falls at c.law_durable_never_falls.ensures
 
 pub returns-clause-recovered : goal.returns-clause-recovered
 returns-clause-recovered g c = λ at. recovers_durable at c.law_prefix.ensures

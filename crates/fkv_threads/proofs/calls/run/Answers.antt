@@ -1,7 +1,7 @@
 -- The call is one that the session has run, so the thread law speaks of it.
 use Rattle.std.proofs.Common.{refl}
 use Rattle.fkv_table.specs.Planes.{opening_of}
-use Rattle.law_threads.specs.Durable.{RecoversItsDurable, TellsItsDurable}
+use Rattle.law_threads.specs.Durable.{ItsDurableNeverFalls, RecoversItsDurable, TellsItsDurable}
 use Rattle.law_threads.specs.Laws.{IsWithin}
 use Rattle.fkv_threads.proofs.Lawful.{answered_to, lawful, of_this}
 use Rattle.fkv_threads.proofs.calls.run.Goals as goal
@@ -28,6 +28,9 @@ returns-clause-in_lives g c = lawful (opening_of g.D.Device.seen) _ _ _ (returns
 
 pub returns-clause-durable : goal.returns-clause-durable
 returns-clause-durable g c = of_this (opening_of g.D.Device.seen) _ _ IsWithin TellsItsDurable (returns-clause-called g c) (c.law_threads.ensures.durable (opening_of g.D.Device.seen))
+
+pub returns-clause-never_falls : goal.returns-clause-never_falls
+returns-clause-never_falls g c = of_this (opening_of g.D.Device.seen) _ _ IsWithin ItsDurableNeverFalls (returns-clause-called g c) (c.law_threads.ensures.never_falls (opening_of g.D.Device.seen))
 
 pub returns-clause-recovered : goal.returns-clause-recovered
 returns-clause-recovered g c = of_this (opening_of g.D.Device.seen) _ _ IsWithin RecoversItsDurable (returns-clause-called g c) (c.law_threads.ensures.recovered (opening_of g.D.Device.seen))

@@ -48,7 +48,7 @@ returns-clause-kept c = λ its d is there.
     }
 
 pub returns-clause-rise : goal.returns-clause-rise
-returns-clause-rise c = λ its older newer is one other up session.
+returns-clause-rise c = λ its is older newer one other up session.
     let opening : World = beginning its.world its.bytes in
     let opens : OpensPointed opening its.opened.tail.0 = c.law_points_open.ensures its.bytes its.opened its.world is.store is.begins in
     let given : Given = given_of c in

@@ -58,7 +58,7 @@ returns c = λ its is reaches image left.
         durable = λ session told there.
             let sealed = c.law_durable_is_sealed.ensures its is session told there in
             let point = sealed.point in
-            let up = c.law_points_keep.ensures.rise its sealed.commit it is sealed.begun named.begun (named.sealed sealed.commit sealed.begun sealed.is_sealed) session in
+            let up = c.law_points_keep.ensures.rise its is sealed.commit it sealed.begun named.begun (named.sealed sealed.commit sealed.begun sealed.is_sealed) session in
             omega (arith, point, up);
       };
       faultless = held.holds.faultless;

@@ -13,6 +13,7 @@ returns c = record {
   told = c.law_finished_is_told.ensures;
   in_turn = c.law_commits_in_turn.ensures;
   fair = c.law_points_are_fair.ensures;
+  rising = c.law_points_keep.ensures.rise;
   durable = c.law_durable_is_sealed.ensures;
   lives = c.law_lives.ensures.follow c.law_images_recovered.ensures;
 }
