@@ -9,7 +9,7 @@ use crate::each_life::law_each_life;
 use crate::interleaved::law_interleaved;
 use fkv_disk::Device;
 use fkv_runs::Crashes;
-use law_opening::law_log_opened;
+use law_opening::{law_log_opened, law_long_opens};
 use law_order::{law_lives, law_prefix};
 use law_world::law_of_the_past;
 
@@ -23,6 +23,7 @@ pub fn law_all_lives<M: Crashes>()
     law_each_life::<M>();
     law_interleaved::<M>();
     law_log_opened();
+    law_long_opens();
     law_prefix();
     law_lives();
     law_of_the_past();

@@ -23,11 +23,11 @@ use Rattle.fkv_runs.specs.declared.settings.Settings.{Settings}
 use Rattle.fkv_texts.specs.Refusals.{last_refusal}
 use Rattle.fkv_world.specs.Runs.{World, run}
 use Rattle.fkv_world.specs.World.{Event}
-use Rattle.law_opening.specs.Log.Records as records
+use Rattle.law_opening.specs.Lives.Laws.{CreatedReachesFar}
 use Rattle.law_order.specs.OneHistory.EachLife.{InEachLife, IsLife, Life}
 use Rattle.law_order.specs.Prefix.Law.{AreLives, BeginsBehind, BeginsWithKept, HoldsPrefix, LivesFollow, LivesReachFar, RecoversPrefix, calls_so_far, map_of}
 use Rattle.law_order.specs.Tickets.Few.{HasFewCalls}
-use Rattle.law_program.specs.PlayedCalls.AllLives.{AreShown, ArePlayedOverLives, ArmsShown, CrashTaken, CrashesEndLives, EndsLife, EndsLifeWhere, HaveFewCalls, IsPieceOverLives, PieceFits, PiecesFit, ReportsAllKept, ReportsOverLives, RunInLives, RunsOverLives, Shows, StaysInLife, crash_in, struck_in, with_events}
+use Rattle.law_program.specs.PlayedCalls.AllLives.{AreShown, ArePlayedOverLives, ArmsShown, CrashTaken, CrashesEndLives, EndsLife, EndsLifeWhere, HaveFewCalls, IsPieceOverLives, NewStoresAreShown, PieceFits, PiecesFit, ReportsAllKept, ReportsOverLives, RunInLives, RunsOverLives, Shows, StaysInLife, crash_in, struck_in, with_events}
 use Rattle.law_program.specs.PlayedCalls.EachLine.{IsLifeOver}
 use Rattle.law_program.specs.PlayedCalls.Interleaved.{AreFitting, FinishesGoOn, FittingCallsMakeQueues, GroupsGoOn, HasGoneOn, IsLifeShown, QueuesFit, QuietLivesAreShown}
 use Rattle.law_program.specs.PlayedCalls.Lives.{LivesBegin, fuse_may_leave, fuse_seen}
@@ -307,14 +307,19 @@ module _ {D : Type 0} (seen : D → List ℕ) (medium : Medium D) (settings : Se
       record { its = rest.its; lives = rest.lives; played = (mid, played.1, played.2, one.says, rest.played, played.5); shown = rest.shown }
 
   crashes_end : CrashesEndLives seen medium.may_leave medium settings
-  crashes_end before behind over text were crashed = let end = ended before before.its.events before.run behind over text were were.shown crashed in (end.its, end.ends)
+  crashes_end before behind over text were crashed = let end = ended before before.its.events before.run behind over text were were.shown crashed in (end.its, end.lives, end.ends)
+
+  begin_shown : CreatedReachesFar → NewStoresAreShown seen medium.may_leave medium settings
+  begin_shown far shape image opened device history keeps_history player created store holds begins =
+      let quiet = laws.quiet image opened player.world.now [] player (laws.begin image opened device history keeps_history player store holds begins) in
+      record { shown = quiet.0; begins = λ few. (far shape image created, tt) }
 
 pub all_lives : {D : Type 0} (seen : D → List ℕ) (medium : Medium D) (settings : Settings) → GroupsGoOn seen medium.may_leave medium.engine → FinishesGoOn seen medium.may_leave medium.engine → FittingCallsMakeQueues
-    → QuietLivesAreShown seen medium.may_leave → LivesBegin seen medium.may_leave medium.holds → PairsAreMap → InEachLife RecoversPrefix → LivesFollow → LivesReachFar
+    → QuietLivesAreShown seen medium.may_leave → LivesBegin seen medium.may_leave medium.holds → PairsAreMap → InEachLife RecoversPrefix → LivesFollow → LivesReachFar → CreatedReachesFar
     → ((opening : World) (events : List Event) → (run opening events).past.opened ≡ opening.past.opened) → ArmsShown seen medium.may_leave medium.armed → ReportsOverLives seen medium.may_leave medium settings
-all_lives seen medium settings groups finishes queues quiet begin pairs recovers follow reach past arms =
+all_lives seen medium settings groups finishes queues quiet begin pairs recovers follow reach far past arms =
     let laws : ByLaws seen medium = record { groups = groups; finishes = finishes; queues = queues; quiet = quiet; begin = begin; pairs = pairs; recovers = recovers; follow = follow; reach = reach; past = past; arms = arms } in
-    record { runs = runs_over seen medium settings laws; crashes = crashes_end seen medium settings laws }
+    record { begin = begin_shown seen medium settings laws far; runs = runs_over seen medium settings laws; crashes = crashes_end seen medium settings laws }
 
 -- ---- a fuse that is armed
 pub arming_shown : {D : Type 0} (seen : D → List ℕ) (may_leave : D → List ℕ → Type 0) → ArmsShown (fuse_seen seen) (fuse_may_leave may_leave) IsArmed

@@ -1,17 +1,21 @@
 -- Runs of a store in memory over all their lives, whatever calls are interleaved: what each crash reports is what its points keep of all lives before it.
 use Rattle.std.specs.Prelude.{◌≡◌, ◌&&◌, ⊤, ℕ, Bool, true, false, List, [], ◌∷◌}
 use Rattle.fkv_base.specs.declared.faults.Fault.TheVariants.{Device}
+use Rattle.fkv_creating.specs.Created.{IsCreated}
 use Rattle.fkv_map.specs.History.{content}
+use Rattle.fkv_map.specs.declared.history.HistoryEntry.{HistoryEntry}
+use Rattle.fkv_opening.specs.Opened.{IsStoreOf}
+use Rattle.fkv_opening.specs.declared.opened_store.Opened.{Opened}
 use Rattle.fkv_playing.specs.InTurn.{InTurn}
 use Rattle.fkv_playing.specs.Players.{PlayerState}
 use Rattle.fkv_playing.specs.declared.players.Waits.{Waits}
-use Rattle.fkv_runs.specs.Openings.{Medium}
+use Rattle.fkv_runs.specs.Openings.{Begins, Medium}
 use Rattle.fkv_runs.specs.Runs.{IsCrashed, IsPiece, RunState}
 use Rattle.fkv_runs.specs.declared.pieces.Piece.{Piece}
 use Rattle.fkv_runs.specs.declared.pieces.Piece.TheVariants.{Group, Finish, Crash}
 use Rattle.fkv_runs.specs.declared.settings.Settings.{Settings}
 use Rattle.fkv_texts.specs.Refusals.{last_refusal}
-use Rattle.fkv_world.specs.World.{Event}
+use Rattle.fkv_world.specs.World.{Event, Now}
 use Rattle.law_opening.specs.Log.Records as records
 use Rattle.law_order.specs.OneHistory.EachLife.{Life}
 use Rattle.law_order.specs.Prefix.Law.{AreLives, BeginsBehind, BeginsWithKept, first_of, kept_of_all, map_of}
@@ -25,6 +29,14 @@ pub record RunInLives (D : Type 0) : Type 0 where
   pub its : Life
   pub before : List Life
   pub run : RunState D
+
+-- a life as it begins
+abbrev pub first_life : List ℕ → Opened → Now → Life
+first_life image opened first = record { bytes = image; opened = opened; world = first; events = [] }
+
+-- a run as it begins with this player, in its first life
+abbrev pub first_run : {D : Type 0} → List ℕ → Opened → PlayerState D → RunInLives D
+first_run image opened player = record { its = first_life image opened player.world.now; before = []; run = record { player = player; agrees = true } }
 
 -- the same life, with these events
 abbrev pub with_events : Life → List Event → Life
@@ -132,12 +144,28 @@ module _ {D : Type 0} (seen : D → List ℕ) (may_leave : D → List ℕ → Ty
         → InTurn (IsPiece medium settings) false pieces before.run last over text → ArePlayedOverLives pieces before last over text
 
     -- And so is a crash that is taken then.
+    abbrev pub CrashEndsLives : RunInLives D → RunState D → Bool → List ℕ → Type 0
+    CrashEndsLives before behind over text =
+        (next : Life) × (lives : List Life) × EndsLife before (record { its = next; before = lives; run = behind }) over (record { struck = before.run; behind = behind; report = text })
+
     abbrev pub CrashesEndLives : Type 0
     CrashesEndLives =
         (before : RunInLives D) (behind : RunState D) (over : Bool) (text : List ℕ) → AreShown before.its before.before before.run.player → IsCrashed medium settings before.run behind over text
-        → (next : Life) × EndsLife before (record { its = next; before = with_events before.its before.its.events ∷ before.before; run = behind }) over (record { struck = before.run; behind = behind; report = text })
+        → CrashEndsLives before behind over text
+
+    -- one that still is to come behind the last piece
+    abbrev pub EndsLivesWhere : Bool → RunInLives D → RunState D → Bool → List ℕ → Type 0
+    EndsLivesWhere true before behind over text = CrashEndsLives before behind over text
+    EndsLivesWhere false before behind over text = ⊤
+
+    -- The first life of a new store is shown, over a device that holds it.
+    abbrev pub NewStoresAreShown : Type 0
+    NewStoresAreShown =
+        (shape : Shape) (image : List ℕ) (opened : Opened) (device : D) (history : List HistoryEntry) (keeps_history : Bool) (player : PlayerState D)
+        → IsCreated shape image → IsStoreOf image opened → medium.holds image device → Begins opened device history keeps_history player → AreShown (first_life image opened player.world.now) [] player
 
     -- so it is over all lives
     pub record ReportsOverLives : Type 0 where
+      pub begin : NewStoresAreShown
       pub runs : RunsOverLives
       pub crashes : CrashesEndLives
