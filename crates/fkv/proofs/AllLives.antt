@@ -55,7 +55,7 @@ fitting_taken (suc count) (piece ∷ later) fit = (fit.0, fitting_taken count la
 -- ---- its run
 module _ {M F : Type 0} (devices : Devices M F) (seen : M → List ℕ) (may_leave : M → List ℕ → Type 0) (laws : (settings : Settings) → ReportsOverLives seen may_leave devices.memory settings)
     (options : Options) (sizes : Sizes) (lines : List Line) (words : All IsLineOfWords lines) (status : ℕ) (ends : status ≢ 4) (text : List ℕ) where
-  Reported : Bool → Type 0
+  abbrev Reported : Bool → Type 0
   Reported interleaved = IsRefusedRun text ⊎ ((settings : Settings) × IsRunOverLives seen may_leave devices.memory settings interleaved lines status text)
 
   in_memory : (interleaved : Bool) (shape : Shape) (pieces : List Piece) → ArePieces interleaved lines pieces → IsRunInMemory devices.memory options shape pieces status text

@@ -57,7 +57,7 @@ record ByLaws {D : Type 0} (seen : D → List ℕ) (medium : Medium D) : Type 0 
 
 module _ {D : Type 0} (seen : D → List ℕ) (medium : Medium D) (settings : Settings) (laws : ByLaws seen medium) where
   -- ---- a crash
-  Ends : RunInLives D → RunInLives D → Bool → CrashTaken D → Type 0
+  abbrev Ends : RunInLives D → RunInLives D → Bool → CrashTaken D → Type 0
   Ends before after over crash = EndsLife seen medium.may_leave medium settings before after over crash
 
   life_of : (its : Life) (player : PlayerState D) → Shows seen medium.may_leave its player → HasFewCalls its.events → IsLife its
@@ -154,7 +154,7 @@ module _ {D : Type 0} (seen : D → List ℕ) (medium : Medium D) (settings : Se
     says : IsPieceOverLives seen medium.may_leave medium settings piece before (record { its = its; before = lives; run = behind }) over text
     shown : over ≡ false → AreShown seen medium.may_leave its lives behind.player
 
-  AreNow : RunInLives D → Type 0
+  abbrev AreNow : RunInLives D → Type 0
   AreNow before = AreShown seen medium.may_leave before.its before.before before.run.player
 
   stays : (piece : Piece) (before : RunInLives D) (behind : RunState D) (over : Bool) (text : List ℕ) (played : IsPiece medium settings piece before.run behind over text) → AreNow before
@@ -220,7 +220,7 @@ module _ {D : Type 0} (seen : D → List ℕ) (medium : Medium D) (settings : Se
         (on.later, on.shown)
 
     -- where one strikes, in the next one
-    its_crash : CrashTaken D
+    abbrev its_crash : CrashTaken D
     its_crash = record { struck = record { player = played.leg.player; agrees = before.run.agrees }; behind = played.between; report = played.leg.reported }
 
     group_ends : played.leg.struck ≡ true → Ended before behind over its_crash

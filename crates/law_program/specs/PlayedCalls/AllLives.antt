@@ -1,6 +1,7 @@
 -- Runs of a store in memory over all their lives, whatever calls are interleaved: what each crash reports is what its points keep of all lives before it.
 use Rattle.std.specs.Prelude.{◌≡◌, ◌&&◌, ⊤, ℕ, Bool, true, false, List, [], ◌∷◌}
 use Rattle.fkv_base.specs.declared.faults.Fault.TheVariants.{Device}
+use Rattle.fkv_base.specs.declared.shapes.Shape.{Shape}
 use Rattle.fkv_creating.specs.Created.{IsCreated}
 use Rattle.fkv_map.specs.History.{content}
 use Rattle.fkv_map.specs.declared.history.HistoryEntry.{HistoryEntry}
