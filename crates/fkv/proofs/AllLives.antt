@@ -12,17 +12,16 @@ use Rattle.fkv_lines.specs.declared.scripts.Mode.TheVariants as mode
 use Rattle.fkv_lines.specs.declared.scripts.Opening.TheVariants as opening
 use Rattle.fkv_lines.specs.declared.scripts.Sizes.{Sizes}
 use Rattle.fkv_lines.proofs.Shown.{IsLineOfWords, script_words}
-use Rattle.fkv_options.specs.Options.{seed_in}
 use Rattle.fkv_options.specs.declared.options.Options.{Options}
-use Rattle.fkv_playing.specs.InTurn.{InTurn, Writes}
+use Rattle.fkv_playing.specs.InTurn.{Writes}
 use Rattle.fkv_playing.specs.declared.calls.ActorCall.{ActorCall}
 use Rattle.fkv_runs.specs.Pieces.{ArePieces, line_of, lines_of}
-use Rattle.fkv_runs.specs.Runs.{IsCrashedWhere, IsRun, RunState, is_due}
+use Rattle.fkv_runs.specs.Runs.{IsCrashed, IsCrashedWhere, RunState, is_due}
 use Rattle.fkv_runs.specs.declared.pieces.Piece.{Piece}
 use Rattle.fkv_runs.specs.declared.pieces.Piece.TheVariants.{Group, Finish, Crash, CrashAt, FailAt}
 use Rattle.fkv_runs.specs.declared.settings.Settings.{Settings}
 use Rattle.fkv_cli.specs.Output.{AreLives, Devices, IsOutputOf, IsRunInMemory, IsRunOfScript, IsRunOfShape, IsRunOfStore, IsRunOfText, mode_of, script_limit, settings_of}
-use Rattle.law_program.specs.PlayedCalls.AllLives.{EndsLivesWhere, PieceFits, PiecesFit, ReportsOverLives, RunInLives, first_run}
+use Rattle.law_program.specs.PlayedCalls.AllLives.{CrashEndsLives, EndsLivesWhere, PieceFits, PiecesFit, ReportsOverLives, RunInLives, first_run}
 use Rattle.law_program.specs.PlayedCalls.Interleaved.{AreFitting}
 use Rattle.fkv.specs.AllLives.{IsRunOverLives, ReportsOfAllLives}
 use Rattle.fkv.specs.Lives.{IsRefusedRun}
@@ -58,6 +57,12 @@ module _ {M F : Type 0} (devices : Devices M F) (seen : M → List ℕ) (may_lea
   abbrev Reported : Bool → Type 0
   Reported interleaved = IsRefusedRun text ⊎ ((settings : Settings) × IsRunOverLives seen may_leave devices.memory settings interleaved lines status text)
 
+  due : (settings : Settings) (is : Bool) (last : RunInLives M) (after : RunState M) (over : Bool) (report : List ℕ)
+      → (IsCrashed devices.memory settings last.run after over report → CrashEndsLives seen may_leave devices.memory settings last after over report)
+      → IsCrashedWhere is devices.memory settings last.run after over report → EndsLivesWhere seen may_leave devices.memory settings is last after over report
+  due settings true last after over report law crashed = law crashed
+  due settings false last after over report law crashed = tt
+
   in_memory : (interleaved : Bool) (shape : Shape) (pieces : List Piece) → ArePieces interleaved lines pieces → IsRunInMemory devices.memory options shape pieces status text
       → IsRunOverLives seen may_leave devices.memory (settings_of options) interleaved lines status text
   in_memory interleaved shape pieces are its = by_end its.lives
@@ -78,18 +83,12 @@ module _ {M F : Type 0} (devices : Devices M F) (seen : M → List ℕ) (may_lea
             opened = its.opened;
             player = its.player;
             shown = shown;
-            run = run;
-            last = last;
+            is_run = run;
+            lives = last;
             ends = refl;
             played = over.played;
-            crashed = λ all. due (is_due run.last.player.waits) last run.after run.over run.reported (λ crashed. law.crashes last run.after run.over run.reported (over.shown all) crashed) (run.crashed all);
+            crashed = λ all. due (settings_of options) (is_due run.last.player.waits) last run.after run.over run.reported (λ crashed. law.crashes last run.after run.over run.reported (over.shown all) crashed) (run.crashed all);
           }
-        where
-          due : (is : Bool) (last : RunInLives M) (after : RunState M) (over : Bool) (report : List ℕ)
-              → (IsCrashedWhere true devices.memory (settings_of options) last.run after over report → EndsLivesWhere seen may_leave devices.memory (settings_of options) true last after over report)
-              → IsCrashedWhere is devices.memory (settings_of options) last.run after over report → EndsLivesWhere seen may_leave devices.memory (settings_of options) is last after over report
-          due true last after over report law crashed = law crashed
-          due false last after over report law crashed = tt
       by_end (inr off) = absurd (ends off.0)
 
   of_store : (interleaved : Bool) (shape : Shape) (pieces : List Piece) (in_file : Bool) → in_file ≡ false → ArePieces interleaved lines pieces → IsRunOfStore devices options (Some shape) pieces status text in_file → Reported interleaved
@@ -115,7 +114,7 @@ reports_all_lives : {M F : Type 0} (devices : Devices M F) (seen : M → List �
     → (words : List (List ℕ)) (known : Option (List ℕ)) (status : ℕ) (text : List ℕ) → status ≢ 4 → IsOutputOf devices words known status text → ReportsOfAllLives seen may_leave devices.memory words known status text
 reports_all_lives devices seen may_leave laws words known status text ends (inl refused) plain bytes sizes lines is script = inl (inl refused.says)
 reports_all_lives devices seen may_leave laws words known status text ends (inr its) plain bytes sizes lines is script =
-    subst (λ (x : Option ℕ). IsRefusedRun text ⊎ ((settings : Settings) × IsRunOverLives seen may_leave devices.memory settings (is_some x) lines status text)) its.asked.seed
+    subst (λ (x : Option _). IsRefusedRun text ⊎ ((settings : Settings) × IsRunOverLives seen may_leave devices.memory settings (is_some x) lines status text)) its.asked.seed
     (of_text devices seen may_leave laws its.options sizes lines (script_words mode.Memory (take script_limit bytes) (record { opening = Some (opening.Shape sizes); lines = lines }) script).lines status ends text bytes script
     (none_kept string_bytes its.options.file (its.asked.file ∙ plain))
     (subst (λ (x : Option (List ℕ)). IfSome x (λ (y : List ℕ). IsRunOfText devices its.options (script_of (mode_of (is_some its.options.file)) (take script_limit y)) status text)) is its.run))

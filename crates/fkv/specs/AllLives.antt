@@ -30,12 +30,12 @@ module _ {M : Type 0} (seen : M → List ℕ) (may_leave : M → List ℕ → Ty
     pub image : List ℕ
     pub opened : Opened
     pub player : PlayerState M
-    pub shown : (let its = player in AreShown seen may_leave (first_life image opened its.world.now) [] its)
-    pub run : IsRun medium settings pieces (record { player = player; agrees = true }) status text
-    pub last : RunInLives M
-    pub ends : last.run ≡ run.last
-    pub played : InTurn (IsPieceOverLives seen may_leave medium settings) false (take run.count pieces) (first_run image opened player) last run.refused run.said
-    pub crashed : run.refused ≡ false → EndsLivesWhere seen may_leave medium settings (is_due run.last.player.waits) last run.after run.over run.reported
+    pub shown : AreShown seen may_leave (first_life image opened player.world.now) [] player
+    pub is_run : IsRun medium settings pieces (record { player = player; agrees = true }) status text
+    pub lives : RunInLives M
+    pub ends : lives.run ≡ is_run.last
+    pub played : InTurn (IsPieceOverLives seen may_leave medium settings) false (take is_run.count pieces) (first_run image opened player) lives is_run.refused is_run.said
+    pub crashed : is_run.refused ≡ false → EndsLivesWhere seen may_leave medium settings (is_due is_run.last.player.waits) lives is_run.after is_run.over is_run.reported
 
   -- So it is of each script that comes to its end, by words without a file.
   abbrev pub ReportsOfAllLives : List (List ℕ) → Option (List ℕ) → ℕ → List ℕ → Type 0
