@@ -1,3 +1,4 @@
+mod AllLives
 mod FileReplies
 mod Lives
 mod Replies

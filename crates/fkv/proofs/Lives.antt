@@ -35,7 +35,7 @@ call_fits : (number : ℕ) (asked : Call) → IsCallOfWords asked → ItsNumbers
 call_fits number (call.Op op) its = (one_fits 0 op its).0
 call_fits number asked its = tt
 
-fits_words : (one : ActorCall) → IsLineOfWords (line_of one) → ItsNumbersFit one
+pub fits_words : (one : ActorCall) → IsLineOfWords (line_of one) → ItsNumbersFit one
 fits_words (Session number asked) its = call_fits number asked its.1
 fits_words (Commit kind) its = tt
 fits_words Turn its = tt

@@ -1,2 +1,3 @@
+pub mod AllLives
 pub mod Lives
 pub mod Replies

@@ -11,6 +11,7 @@ ghost use Rattle.law_program.specs.PlayedCalls.EachLine.{EachLineGoesOn};
 ghost use Rattle.law_program.specs.PlayedCalls.Lives.{ArmingGoesOn, LivesGoOn};
 ghost use Rattle.fkv_runs.specs.declared.settings.Settings.{Settings};
 ghost use Rattle.law_program.specs.PlayedCalls.Runs.{RunsGoOn};
+ghost use Rattle.fkv.specs.AllLives.{ReportsOfAllLives};
 ghost use Rattle.fkv.specs.Lives.{PrintsInLives};
 ghost use Rattle.fkv.specs.Replies.{PrintsMapOfFileScript, PrintsMapOfScript, ReplyLineByLine};
 
@@ -19,8 +20,8 @@ use fkv_files::Lockable;
 use fkv_playing::Breaks;
 use fkv_runs::Crashes;
 use law_program::{
-    law_arming, law_crash_reports, law_each_life, law_each_line, law_lives_joined, law_new_files,
-    law_played_calls, law_played_scripts,
+    law_all_lives, law_arming, law_arming_shown, law_crash_reports, law_each_life, law_each_line,
+    law_lives_joined, law_new_files, law_played_calls, law_played_scripts,
 };
 use std::alloc::Global;
 use std::io::{Read, Write};
@@ -36,7 +37,8 @@ use std::rt::Files;
 /// a call of the device is to fail, or a crash to strike, leaves it (`armed`). So the pieces of a script that are played in memory go on,
 /// each in the life in hand, or behind a crash in the next one (`runs`). A script for a new store in memory, of which no call is interleaved
 /// with another, has printed so (`in_lives`). The report of a crash is of the store that
-/// one current commit keeps of such a life, and no image of a crash is refused but by the device (`kept`).
+/// one current commit keeps of such a life, and no image of a crash is refused but by the device (`kept`). Take a script for a new store in memory, with a seed or without.
+/// Each of its crashes reports what its points keep of all lives before, if few calls begin in each life (`all_lives`).
 pub fn run<H: Files, R: Read + Drop, W: Write, E: Write>(
     rt: &H,
     alloc: Global,
@@ -58,6 +60,7 @@ where
     ensures armed { ArmingGoesOn ⟦<MemDisk as Device>⟧.seen ⟦<MemDisk as Device>⟧.may_leave }
     ensures runs { (settings : Settings) → RunsGoOn ⟦<Fuse<MemDisk> as Device>⟧.seen ⟦<Fuse<MemDisk> as Device>⟧.may_leave (medium_of ⟦<Fuse<MemDisk> as Device>⟧.honest ⟦<Fuse<MemDisk> as Device>⟧.seen ⟦<Fuse<MemDisk> as Device>⟧.may_leave ⟦<Fuse<MemDisk> as Device>⟧.failed ⟦<Fuse<MemDisk> as Device>⟧.refuses ⟦<Fuse<MemDisk> as Breaks>⟧.broken ⟦<Fuse<MemDisk> as Crashes>⟧.image ⟦<Fuse<MemDisk> as Crashes>⟧.armed) settings }
     ensures in_lives { result ≢ 4 → Writes (PrintsInLives ⟦<Fuse<MemDisk> as Device>⟧.seen ⟦<Fuse<MemDisk> as Device>⟧.may_leave (medium_of ⟦<Fuse<MemDisk> as Device>⟧.honest ⟦<Fuse<MemDisk> as Device>⟧.seen ⟦<Fuse<MemDisk> as Device>⟧.may_leave ⟦<Fuse<MemDisk> as Device>⟧.failed ⟦<Fuse<MemDisk> as Device>⟧.refuses ⟦<Fuse<MemDisk> as Breaks>⟧.broken ⟦<Fuse<MemDisk> as Crashes>⟧.image ⟦<Fuse<MemDisk> as Crashes>⟧.armed) (texts words.now) (R.remaining input) result) (W.contents output.old) (W.contents output.new) }
+    ensures all_lives { result ≢ 4 → Writes (ReportsOfAllLives ⟦<Fuse<MemDisk> as Device>⟧.seen ⟦<Fuse<MemDisk> as Device>⟧.may_leave (medium_of ⟦<Fuse<MemDisk> as Device>⟧.honest ⟦<Fuse<MemDisk> as Device>⟧.seen ⟦<Fuse<MemDisk> as Device>⟧.may_leave ⟦<Fuse<MemDisk> as Device>⟧.failed ⟦<Fuse<MemDisk> as Device>⟧.refuses ⟦<Fuse<MemDisk> as Breaks>⟧.broken ⟦<Fuse<MemDisk> as Crashes>⟧.image ⟦<Fuse<MemDisk> as Crashes>⟧.armed) (texts words.now) (R.remaining input) result) (W.contents output.old) (W.contents output.new) }
     ensures file_lines { ReplyLineByLine (EngineStep ⟦<FileDisk<H::File> as Device>⟧.honest ⟦<FileDisk<H::File> as Device>⟧.seen ⟦<FileDisk<H::File> as Device>⟧.may_leave ⟦<FileDisk<H::File> as Device>⟧.failed ⟦<FileDisk<H::File> as Device>⟧.refuses ⟦<FileDisk<H::File> as Breaks>⟧.broken) }
 {
     law_played_scripts::<Fuse<MemDisk>, FileDisk<H::File>>();
@@ -68,6 +71,8 @@ where
     law_crash_reports::<Fuse<MemDisk>>();
     law_arming::<MemDisk>();
     law_lives_joined::<Fuse<MemDisk>>();
+    law_all_lives::<Fuse<MemDisk>>();
+    law_arming_shown::<MemDisk>();
     law_played_calls::<FileDisk<H::File>>();
     fkv_cli::run(rt, alloc, words, input, output, complaints)
 }

@@ -60,6 +60,7 @@ memory_at_4 devices options shape pieces status text run =
       opened = run.opened;
       is_new = run.is_new;
       image = run.image;
+      created = run.created;
       store = run.store;
       device = run.device;
       reads = run.reads;

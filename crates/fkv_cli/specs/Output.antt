@@ -7,7 +7,7 @@ use Rattle.fkv_base.specs.Limits.{IsShape, IsSmall}
 use Rattle.fkv_base.specs.declared.faults.Fault.{Fault}
 use Rattle.fkv_base.specs.declared.faults.Fault.TheVariants.{BadShape, Device}
 use Rattle.fkv_base.specs.declared.shapes.Shape.{Shape}
-use Rattle.fkv_creating.specs.Created.{IsNewStore}
+use Rattle.fkv_creating.specs.Created.{IsCreated, IsNewStore}
 use Rattle.fkv_core.specs.Worlds.{WorldModel}
 use Rattle.fkv_core.specs.declared.events.Event.{Event}
 use Rattle.fkv_core.specs.declared.events.Told.{Told}
@@ -92,6 +92,7 @@ pub record IsRunInMemory {M : Type 0} (medium : Medium M) (options : Options) (s
   pub opened : Opened
   pub is_new : IsNewStore shape opened
   pub image : List ℕ
+  pub created : IsCreated shape image
   pub store : IsStoreOf image opened
   pub device : M
   pub reads : medium.holds image device

@@ -9,7 +9,7 @@ ghost use Rattle.fkv_cli.specs.Output.{IsRunInMemory, Refuses};
 use crate::complaints::{Complaint, complain};
 use crate::scripts::refuse;
 use fkv_base::{Fault, Shape};
-use fkv_creating::create_opened;
+use fkv_creating::{create_opened, law_new_stores};
 use fkv_options::Options;
 use fkv_playing::Picks;
 use fkv_runs::{Crashes, Piece, Settings, play_lives};
@@ -37,6 +37,7 @@ pub(crate) fn play_memory<M: Crashes, W: Write, E: Write>(
         checks: options.check,
     };
     let mut device = memory;
+    law_new_stores();
     match create_opened(alloc, &mut device, shape) {
         Ok(opened) => {
             let ended = play_lives(alloc, output, opened, device, pieces, picks, settings);

@@ -1,3 +1,4 @@
+pub mod AllLives
 mod Beats
 mod Calm
 pub mod CrashReports

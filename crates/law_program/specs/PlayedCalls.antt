@@ -1,3 +1,4 @@
+pub mod AllLives
 pub mod CrashReports
 pub mod EachLine
 pub mod Finished

@@ -1,6 +1,7 @@
 //! What scripts print.
 #![tactic(auto)]
 
+mod all_lives;
 mod crash_reports;
 mod each_life;
 mod each_line;
@@ -9,6 +10,7 @@ mod new_files;
 mod played_calls;
 mod whole_calls;
 
+pub use all_lives::{law_all_lives, law_arming_shown};
 pub use crash_reports::law_crash_reports;
 pub use each_life::{law_arming, law_each_life, law_lives_joined};
 pub use each_line::law_each_line;

@@ -22,7 +22,7 @@ use Rattle.law_program.specs.PlayedCalls.Lives.{LivesBegin}
 use Rattle.law_program.proofs.OfPlayedCalls.NewStores.{PairsAreMap}
 
 -- of all causes only the device's is left
-only_device : (image : List ℕ) (text : List ℕ) (why : Fault) → ((x : Fault) → IsFaultOf image x → ⊥) → (why ≡ fault.Memory → ⊥) → IsCause image why → text ≡ last_refusal why → text ≡ last_refusal fault.Device
+pub only_device : (image : List ℕ) (text : List ℕ) (why : Fault) → ((x : Fault) → IsFaultOf image x → ⊥) → (why ≡ fault.Memory → ⊥) → IsCause image why → text ≡ last_refusal why → text ≡ last_refusal fault.Device
 only_device image text fault.Memory none not_memory cause says = absurd (not_memory refl)
 only_device image text fault.Device none not_memory cause says = says
 only_device image text other none not_memory cause says = absurd (none other cause)

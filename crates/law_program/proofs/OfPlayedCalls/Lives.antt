@@ -73,7 +73,7 @@ module _ {D : Type 0} (honest : D → Type 0) (seen : D → List ℕ) (may_leave
 
 -- ---- a fuse that is armed
 -- a crash may leave no more of it
-armed_leaves : (count : ℕ) (state : FuseState) (leaves : List ℕ → Type 0) (image : List ℕ) → FuseLeaves (armed count state) leaves image → FuseLeaves state leaves image
+pub armed_leaves : (count : ℕ) (state : FuseState) (leaves : List ℕ → Type 0) (image : List ℕ) → FuseLeaves (armed count state) leaves image → FuseLeaves state leaves image
 armed_leaves count Sound leaves image left = left
 armed_leaves count (Armed before) leaves image left = left
 armed_leaves count Blown leaves image left = left

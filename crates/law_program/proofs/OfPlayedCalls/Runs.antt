@@ -55,7 +55,7 @@ refused_same (Session number asked) before after text refused = refused.0
 refused_same (Commit kind) before after text refused = absurd refused
 refused_same Turn before after text refused = absurd refused
 
-both_ways : {X : Type 0} (over : Bool) → over ≡ false → over ≡ true → X
+pub both_ways : {X : Type 0} (over : Bool) → over ≡ false → over ≡ true → X
 both_ways over goes stops = let never : false ≡ true = sym goes ∙ stops in cc
 
 module _ {D : Type 0} (seen : D → List ℕ) (may_leave : D → List ℕ → Type 0) (medium : Medium D) (settings : Settings) (each : EachLineGoesOn seen may_leave medium.engine) (crashes : CrashesGoOn seen may_leave medium.holds)

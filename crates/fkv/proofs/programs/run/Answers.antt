@@ -1,3 +1,4 @@
+use Rattle.fkv.proofs.AllLives.{writes_all_lives}
 use Rattle.fkv.proofs.FileReplies.{writes_file_map}
 use Rattle.fkv.proofs.Lives.{writes_in_lives}
 use Rattle.fkv.proofs.Replies.{writes_map}
@@ -20,3 +21,7 @@ pub returns-clause-in_lives : goal.returns-clause-in_lives
 returns-clause-in_lives g c =
     writes_in_lives _ _ _ _ _ c.run.result _ _ c.run.ensures.whole c.law_each_life.ensures.begin
     (c.law_lives_joined.ensures (λ device. tt) (λ count waits its before after armed shown. c.law_arming.ensures count waits its.bytes its.opened its.first its.events before after armed shown))
+
+pub returns-clause-all_lives : goal.returns-clause-all_lives
+returns-clause-all_lives g c =
+    writes_all_lives _ _ _ _ _ c.run.result _ _ c.run.ensures.whole (c.law_all_lives.ensures (λ device. tt) (λ count waits its before after armed shown. c.law_arming_shown.ensures count waits its before after armed shown))
