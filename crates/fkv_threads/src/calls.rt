@@ -4,7 +4,7 @@ ghost use Rattle.fkv_table.specs.Calls.{IsReady};
 ghost use Rattle.fkv_table.specs.Planes.{opening_of};
 ghost use Rattle.fkv_threads.specs.Runs.{IsLawful, IsRun, OfThisRun, run_of};
 ghost use Rattle.law_threads.specs.Durable.{RecoversItsDurable, TellsItsDurable};
-ghost use Rattle.law_threads.specs.Laws.{IsOrdered, IsWithin};
+ghost use Rattle.law_threads.specs.Laws.{IsWithin};
 
 use fkv_core::World;
 use fkv_disk::Device;
@@ -29,7 +29,6 @@ pub fn run<D: Device>(
     ensures ready { IsReady (opening_of D.seen) table.now.table.shared.key table.now.table.shared.table_id result.0.seat.table_id result.0.seat.me session.new.machine session.new.desk }
     ensures number { session.new.machine.seat.number ≡ session.old.machine.seat.number }
     ensures called { IsRun (opening_of D.seen) table.now.table.shared.key (run_of session.old.machine.seat.number call result.1 pass.seat.me.0.seen result.0.seat.me.0.seen) }
-    ensures by_order { IsLawful (opening_of D.seen) table.now.table.shared.key (run_of session.old.machine.seat.number call result.1 pass.seat.me.0.seen result.0.seat.me.0.seen) IsOrdered }
     ensures in_lives { IsLawful (opening_of D.seen) table.now.table.shared.key (run_of session.old.machine.seat.number call result.1 pass.seat.me.0.seen result.0.seat.me.0.seen) IsWithin }
     ensures durable { OfThisRun (opening_of D.seen) table.now.table.shared.key (run_of session.old.machine.seat.number call result.1 pass.seat.me.0.seen result.0.seat.me.0.seen) IsWithin TellsItsDurable }
     ensures recovered { OfThisRun (opening_of D.seen) table.now.table.shared.key (run_of session.old.machine.seat.number call result.1 pass.seat.me.0.seen result.0.seat.me.0.seen) IsWithin RecoversItsDurable }

@@ -5,6 +5,7 @@ ghost use Rattle.law_program.specs.PlayedCalls.Lives.{ArmingGoesOn, LivesGoOn};
 ghost use Rattle.law_program.specs.PlayedCalls.Runs.{ArmsInLife, RunsGoOn};
 
 use crate::each_line::law_each_line;
+use crate::interleaved::law_interleaved;
 use fkv_disk::Device;
 use fkv_runs::Crashes;
 use law_opening::law_log_opened;
@@ -25,10 +26,12 @@ pub fn law_arming<D: Device>()
 
 /// So the pieces of a run go on, each in the life in hand, or behind a crash in the next one. Calls aren't interleaved, each device is honest, and a line that
 /// fails or crashes a device leaves each life. A piece prints what `law_each_line` says, or a report follows of the store with which the next life begins.
+/// The image of a crash is one that may be left of the life before. So it is of a crash that still is to come behind the last piece.
 pub fn law_lives_joined<M: Crashes>()
     ensures { ((device : M) → M.honest device) → ArmsInLife M.seen M.may_leave M.armed → (settings : Settings)
         → RunsGoOn M.seen M.may_leave (medium_of M.honest M.seen M.may_leave M.failed M.refuses M.broken M.image M.armed) settings }
 {
     law_each_line::<M>();
     law_each_life::<M>();
+    law_interleaved::<M>();
 }

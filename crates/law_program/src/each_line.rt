@@ -8,8 +8,9 @@ use law_order::law_order;
 
 /// Over honest devices, as those in memory are, a life goes on by each line of a call and by each finish. The keeper's lines are among them. Behind each the
 /// life shows the world and the device. An operation is answered by the map of the history so far, an update that a poll has finished by the map at its
-/// effect. A read that a poll has finished has its key's value at some moment since its call. A turn and a begun commit leave the map. A call in which a crash
-/// strikes prints nothing of its own, and a finish in which one strikes has printed what its calls before that have finished.
+/// effect. A read that a poll has finished has its key's value at some moment since its own call. Seats keep the key of each ticket that was told. A turn and a
+/// begun commit leave the map. A call in which a crash strikes prints nothing of its own, and a finish in which one strikes has printed what its calls before
+/// that have finished.
 pub fn law_each_line<D: Breaks>()
     ensures { ((device : D) → D.honest device) → EachLineGoesOn D.seen D.may_leave (EngineStep D.honest D.seen D.may_leave D.failed D.refuses D.broken) }
 {

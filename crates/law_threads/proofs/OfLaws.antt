@@ -13,7 +13,7 @@ use Rattle.law_order.specs.Rules.Ordered.{HasLegalHistory, OrdersItsCalls}
 use Rattle.fkv_table.specs.declared.happenings.Happening.{Happening}
 use Rattle.fkv_table.specs.Planes.{plane}
 use Rattle.law_threads.specs.Calls.{events_of}
-use Rattle.law_threads.specs.Laws.{IsOrdered, IsSeenIn, IsThreadLaw, IsWithin, SharesOneHistory}
+use Rattle.law_threads.specs.Laws.{IsSeenIn, IsThreadLaw, IsWithin, SharesOneHistory}
 use Rattle.law_threads.specs.Threads.{IsBeginning, history_seen}
 use Rattle.law_threads.proofs.Histories.{begins_with}
 use Rattle.law_threads.proofs.OfDone.{GivesSerialsInTurn, done_so}
@@ -21,6 +21,12 @@ use Rattle.law_threads.proofs.OfPolls.{finished_so, polls_so}
 use Rattle.law_threads.proofs.OfReads.{reads_so}
 use Rattle.law_threads.proofs.OfTickets.{GivesTicketsInTurn}
 use Rattle.law_threads.proofs.OfRuns.{begins_so}
+
+-- the order law's clauses of which the thread law makes use
+pub record IsOrdered (o : Opened) (n : Now) (bytes : List ℕ) (events : List Event) : Type 0 where
+  pub legal : HasLegalHistory o n bytes events
+  pub ordered : OrdersItsCalls o n bytes events
+  pub in_time : ReadsInTime o n bytes events
 
 pub thread_law : GivesSerialsInTurn → GivesTicketsInTurn → {K : Type 0} (at : K → World) → IsThreadLaw at IsOrdered
 thread_law in_turn tickets at = record {

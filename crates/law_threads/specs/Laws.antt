@@ -7,8 +7,6 @@ use Rattle.fkv_opening.specs.declared.opened_store.Opened.{Opened}
 use Rattle.fkv_seats.specs.Rule.{IsSeenBy, Ruled}
 use Rattle.fkv_world.specs.Runs.{World}
 use Rattle.fkv_world.specs.World.{Event, Now}
-use Rattle.law_order.specs.Rules.InTime.{ReadsInTime}
-use Rattle.law_order.specs.Rules.Ordered.{HasLegalHistory, OrdersItsCalls}
 use Rattle.law_order.specs.Served.Fits.{CallsFit}
 use Rattle.law_order.specs.Tickets.Few.{HasFewCalls}
 use Rattle.fkv_table.specs.declared.happenings.Happening.{Happening}
@@ -18,13 +16,7 @@ use Rattle.law_threads.specs.Calls.{IsOver, OfEachRun}
 use Rattle.law_threads.specs.Polls.{FinishedIsSeen, PollsWhatWasSeen}
 use Rattle.law_threads.specs.Threads.{DoneIsSeen, IsBeginning, ReadsWhatWasSeen, StandsInOneHistory, history_seen}
 
--- the order law's clauses of which the thread law makes use
-pub record IsOrdered (o : Opened) (n : Now) (bytes : List ℕ) (events : List Event) : Type 0 where
-  pub legal : HasLegalHistory o n bytes events
-  pub ordered : OrdersItsCalls o n bytes events
-  pub in_time : ReadsInTime o n bytes events
-
--- its premises, and those of the law of prefixes: numbers below 2^64, and fewer than 2^64 - 1 calls
+-- the premises of the order law, and of the law of prefixes: numbers below 2^64, and fewer than 2^64 - 1 calls
 pub record IsWithin (o : Opened) (n : Now) (bytes : List ℕ) (events : List Event) : Type 0 where
   pub fits : CallsFit events
   pub few : HasFewCalls events

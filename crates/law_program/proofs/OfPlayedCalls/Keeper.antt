@@ -21,9 +21,9 @@ use Rattle.fkv_map.specs.History.{content}
 use Rattle.law_opening.specs.Log.Maps.{opening_map}
 use Rattle.law_program.specs.PlayedCalls.EachLine.{AreMovesOf, IsMoveOf, begun_by}
 use Rattle.law_program.specs.WholeCalls.WholeCalls.{map_after}
-use Rattle.law_program.specs.PlayedCalls.Waiting.{SeatsKeepKeys}
+use Rattle.law_program.specs.PlayedCalls.Waiting.{SeatsKeepKeys, key_told}
 use Rattle.law_program.proofs.OfPlayedCalls.Led.{IsKeepers}
-use Rattle.law_program.proofs.OfPlayedCalls.Waiting.{stands_on}
+use Rattle.law_program.proofs.OfPlayedCalls.Waiting.{other_told, stands_on}
 use Rattle.law_order.proofs.OfReads.Numbers.{is_other, other_waiting}
 use Rattle.law_refine.specs.Events.Lines.{read_waiting}
 use Rattle.fkv_playing.specs.Seats.{SeatState}
@@ -37,9 +37,10 @@ pub record IsQuietPast (before after : Past) : Type 0 where
   pub added : List Traced
   pub so : after.trace ≡ added ++ before.trace
   pub still : (number ticket : ℕ) (trace : List Traced) → read_waiting number ticket (added ++ trace) ≡ read_waiting number ticket trace
+  pub keys : (number ticket : ℕ) (trace : List Traced) → key_told number ticket (added ++ trace) ≡ key_told number ticket trace
 
 quiet_none : (p : Past) → IsQuietPast p p
-quiet_none p = record { history = refl; added = []; so = refl; still = λ number ticket trace. refl }
+quiet_none p = record { history = refl; added = []; so = refl; still = λ number ticket trace. refl; keys = λ number ticket trace. refl }
 
 quiet_one : (p : Past) (its : TraceEvent) → ((number : ℕ) → is_other number its) → IsQuietPast p (traced p its)
 quiet_one p its others = record {
@@ -47,6 +48,7 @@ quiet_one p its others = record {
   added = record { its = its; effects = length p.history } ∷ [];
   so = refl;
   still = λ number ticket trace. other_waiting number ticket (record { its = its; effects = length p.history }) trace (others number);
+  keys = λ number ticket trace. other_told number ticket (record { its = its; effects = length p.history }) trace (others number);
 }
 
 pub quiet_both : (p between after : Past) → IsQuietPast p between → IsQuietPast between after → IsQuietPast p after
@@ -55,6 +57,7 @@ quiet_both p between after one other = record {
   added = other.added ++ one.added;
   so = other.so ∙ (ap (λ (x : List Traced). other.added ++ x) one.so ∙ sym (append_assoc other.added one.added p.trace));
   still = λ number ticket trace. ap (read_waiting number ticket) (append_assoc other.added one.added trace) ∙ (other.still number ticket (one.added ++ trace) ∙ one.still number ticket trace);
+  keys = λ number ticket trace. ap (key_told number ticket) (append_assoc other.added one.added trace) ∙ (other.keys number ticket (one.added ++ trace) ∙ one.keys number ticket trace);
 }
 
 ends_quietly : (was_busy : Bool) (step : Keeping) (last : Finality) (p : Past) → IsQuietPast p (keeper_answered was_busy step last p)
@@ -73,7 +76,7 @@ adds_quietly n after (Commits kind) p e = begins_quietly (is_in_hand n.keeper.st
 adds_quietly n after Turns p e = begins_quietly (is_in_hand n.keeper.step) TurnAsked after.keeper.step after.keeper.last p (λ number. tt)
 adds_quietly n after (KeeperMoves granted done) p e =
     let called : Past = record p { calls = calls_after (keeper_ask n.shape n.places n.keeper) (keeper_calls n.shape n.keeper done) p.calls } in
-    quiet_both p called (keeper_answered (is_in_hand n.keeper.step) after.keeper.step after.keeper.last called) (record { history = refl; added = []; so = refl; still = λ number ticket trace. refl })
+    quiet_both p called (keeper_answered (is_in_hand n.keeper.step) after.keeper.step after.keeper.last called) (record { history = refl; added = []; so = refl; still = λ number ticket trace. refl; keys = λ number ticket trace. refl })
     (ends_quietly (is_in_hand n.keeper.step) after.keeper.step after.keeper.last called)
 adds_quietly n after Crashes p e = cc
 
@@ -144,7 +147,12 @@ map_stays bytes o first its keeper moves life are =
 -- and the tickets that seats keep stand for the same keys
 pub seats_still : (bytes : List ℕ) (first : Now) (its : ActorCall) → IsKeepers its → (moves life : List Event) → AreMovesOf its moves → (seats : List SeatState) → SeatsKeepKeys bytes first life seats
     → SeatsKeepKeys bytes first (moves ++ begun_by its ∷ life) seats
-seats_still bytes first its keeper moves life are seats keeps = λ number seat there ticket key kept.
+seats_still bytes first its keeper moves life are seats keeps =
     let past = call_quietly (beginning first bytes) its keeper moves life are in
-    stands_on bytes first life (moves ++ begun_by its ∷ life) (moves ++ begun_by its ∷ []) past.added number ticket key (sym (append_assoc moves (begun_by its ∷ []) life)) past.so
-    (ap (read_waiting number ticket.0) past.so ∙ past.still number ticket.0 (run (beginning first bytes) life).past.trace) (keeps number seat there ticket key kept)
+    let trace : List Traced = (run (beginning first bytes) life).past.trace in
+    record {
+      told = λ number seat there ticket. keeps.told number seat there ticket ∙ sym (ap (key_told number ticket.0) past.so ∙ past.keys number ticket.0 trace);
+      stand = λ number seat there ticket key kept.
+          stands_on bytes first life (moves ++ begun_by its ∷ life) (moves ++ begun_by its ∷ []) past.added number ticket key (sym (append_assoc moves (begun_by its ∷ []) life)) past.so
+          (ap (read_waiting number ticket.0) past.so ∙ past.still number ticket.0 trace) (keeps.stand number seat there ticket key kept);
+    }

@@ -40,8 +40,11 @@ module _ {D : Type 0} (honest : D → Type 0) (seen : D → List ℕ) (may_leave
 
   -- no seat keeps a ticket yet
   none_kept : (image : List ℕ) (first : Now) (sessions : ℕ) → SeatsKeepKeys image first [] (replicate sessions first_seat)
-  none_kept image first sessions number seat there ticket key kept =
-      let empty : seat ≡ first_seat = first_one sessions number seat there in none_some key (ap (λ (x : SeatState). key_of_ticket x.waiting ticket) (sym empty) ∙ kept)
+  unfolding run
+  none_kept image first sessions = record {
+    told = λ number seat there ticket. ap (λ (x : SeatState). key_of_ticket x.waiting ticket) (first_one sessions number seat there);
+    stand = λ number seat there ticket key kept. let empty : seat ≡ first_seat = first_one sessions number seat there in none_some key (ap (λ (x : SeatState). key_of_ticket x.waiting ticket) (sym empty) ∙ kept);
+  }
 
   over_device : (image : List ℕ) (opened : Opened) (player : PlayerState D) → IsStoreOf image opened → IsOpeningWorld opened player.world.now → IsAfter image [] (seen player.world.device) (may_leave player.world.device)
       → player.seats ≡ replicate opened.shape.sessions first_seat → IsLifeOver seen may_leave image opened player.world.now [] player

@@ -70,7 +70,7 @@ module _ (fresh : InEachLife ReadsFreshly) (in_time : InEachLife ReadsInTime) (b
       (subst (λ (x : Told). IsIn (AnswersRead (reader_of bytes first life number ticket) (read_reply value)) (event_lines (serials_in first) (call ∷ (run (beginning first bytes) life).past.trace) (Answered number (telling x list)))) (sym is.polled)
       (finished_in number (call ∷ (run (beginning first bytes) life).past.trace) (finished.Read ticket value) list is.is_in))
 
-  read_in_time : (ticket : Ticket) (value : Option Value) (key : Key) → IsPolled its list (finished.Read ticket value) → StandsForKey bytes first life number ticket key → IsReadInTime bytes o first life later number key value
+  read_in_time : (ticket : Ticket) (value : Option Value) (key : Key) → IsPolled its list (finished.Read ticket value) → StandsForKey bytes first life number ticket key → IsReadInTime bytes o first life later number ticket key value
   read_in_time ticket value key is stands =
       let read = called_so ticket value key is stands in
       let calls : Event = Calls number (call.Op (Read key)) in
@@ -79,9 +79,7 @@ module _ (fresh : InEachLife ReadsFreshly) (in_time : InEachLife ReadsInTime) (b
       = ap (λ (x : List Event). given.between ++ x) read.called ∙ sym (append_assoc given.between read.since (calls ∷ read.earlier)) in
       let whole : later ≡ given.behind ++ given.answer ∷ ((given.between ++ read.since) ++ calls ∷ read.earlier) = given.so ∙ ap (λ (x : List Event). given.behind ++ given.answer ∷ x) mid in
       record {
-        since = read.since;
-        earlier = read.earlier;
-        called = read.called;
+        read = read;
         behind = given.behind;
         answered = given.answer ∷ ((given.between ++ read.since) ++ calls ∷ read.earlier);
         within = whole;
@@ -93,4 +91,4 @@ module _ (fresh : InEachLife ReadsFreshly) (in_time : InEachLife ReadsInTime) (b
   pub reads_answered : (seats : List SeatState) (given : Answer) → IsAnswerTold its list given → SeatsKeepKeys bytes first life seats → (seat : SeatState) → slice_get seats number ≡ Some seat
       → AreReadInTime bytes o first life later number seat.waiting given
   reads_answered seats given is_told keeps seat there ticket value key is_in kept =
-      read_in_time ticket value key (polled its list given (finished.Read ticket value) is_told is_in) (keeps number seat there ticket key kept)
+      read_in_time ticket value key (polled its list given (finished.Read ticket value) is_told is_in) (keeps.stand number seat there ticket key kept)

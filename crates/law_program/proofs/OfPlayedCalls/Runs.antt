@@ -24,7 +24,8 @@ use Rattle.fkv_world.specs.World.{Event}
 use Rattle.law_order.specs.Tickets.Few.{calls_in}
 use Rattle.law_program.specs.PlayedCalls.EachLine.{EachLineGoesOn, IsFinishInLife, IsLineInLife, IsPlayedInLife, IsRefusedLine, ItsNumbersFit}
 use Rattle.law_program.specs.PlayedCalls.Lives.{CrashesGoOn}
-use Rattle.law_program.specs.PlayedCalls.Runs.{ArmsInLife, HasFewWith, IsPieceInLives, IsPlain, IsReported, IsShown, LifeInHand, RunsGoOn}
+use Rattle.law_program.specs.PlayedCalls.Interleaved.{AreFitting, FinishesGoOn, FittingCallsMakeQueues, GroupsGoOn, HasGoneOn, IsLifeShown, QuietLivesAreShown}
+use Rattle.law_program.specs.PlayedCalls.Runs.{ArmsInLife, DueIsReported, HasFewWith, IsPieceInLives, IsPlain, IsReported, IsShown, LifeInHand, RunsGoOn}
 use Rattle.law_program.proofs.OfPlayedCalls.Calm.{unstruck_group}
 use Rattle.law_program.proofs.OfPlayedCalls.EachLine.{begun_counted}
 use Rattle.law_program.proofs.OfPlayedCalls.OneCall.{EndsSilently, HasOneCall, first_call, none_played, struck_silent}
@@ -58,26 +59,36 @@ both_ways : {X : Type 0} (over : Bool) → over ≡ false → over ≡ true → 
 both_ways over goes stops = let never : false ≡ true = sym goes ∙ stops in cc
 
 module _ {D : Type 0} (seen : D → List ℕ) (may_leave : D → List ℕ → Type 0) (medium : Medium D) (settings : Settings) (each : EachLineGoesOn seen may_leave medium.engine) (crashes : CrashesGoOn seen may_leave medium.holds)
-    (arms : ArmsInLife seen may_leave medium.armed) where
+    (arms : ArmsInLife seen may_leave medium.armed) (groups : GroupsGoOn seen may_leave medium.engine) (finishes : FinishesGoOn seen may_leave medium.engine) (quiet : QuietLivesAreShown seen may_leave)
+    (fitting : FittingCallsMakeQueues) (leaves : (device : D) (image : List ℕ) → medium.may_leave device image → may_leave device image) where
   -- ---- a crash is reported
-  record IsCrashSeen (after : PlayerState D) (over : Bool) (text : List ℕ) : Type 0 where
+  record IsCrashSeen (its : LifeInHand) (after : PlayerState D) (over : Bool) (text : List ℕ) : Type 0 where
     next : LifeInHand
-    crash : IsReported seen may_leave medium settings next after over text
+    crash : IsReported seen may_leave medium settings its next after over text
 
-  crash_seen : (its : LifeInHand) (before after : RunState D) (over : Bool) (text : List ℕ) → IsCrashed medium settings before after over text → IsCrashSeen after.player over text
-  crash_seen its before after over text crashed = by_over over refl
+  abbrev ShowsStruck : LifeInHand → List Event → PlayerState D → Type 0
+  ShowsStruck its events player = IsLifeShown seen may_leave its.bytes its.opened its.first events player
+
+  still_shown : (its : LifeInHand) (player : PlayerState D) → IsShown seen may_leave its player → ShowsStruck its its.events player
+  still_shown its player shown = (quiet its.bytes its.opened its.first its.events player shown).0
+
+  crash_seen : (its : LifeInHand) (events : List Event) (before after : RunState D) (over : Bool) (text : List ℕ) → ShowsStruck its events before.player → IsCrashed medium settings before after over text → IsCrashSeen its after.player over text
+  crash_seen its events before after over text shown crashed = by_over over refl
     where
-      by_over : (c : Bool) → over ≡ c → IsCrashSeen after.player over text
+      left : may_leave before.player.world.device (medium.image before.player.world.device settings.torn)
+      left = leaves before.player.world.device (medium.image before.player.world.device settings.torn) crashed.left
+
+      by_over : (c : Bool) → over ≡ c → IsCrashSeen its after.player over text
       by_over true e = record {
         next = its;
-        crash = record { device = before.player.world.device; goes_on = λ goes. both_ways over goes e; ends = λ stops. crashed.refusal stops };
+        crash = record { struck = before.player; events = events; shown = shown; left = left; goes_on = λ goes. both_ways over goes e; ends = λ stops. crashed.refusal stops };
       }
       by_over false e =
           let crash = crashed.crash e in
           let report = crashes (medium.image before.player.world.device settings.torn) settings.checks crash.0 before.player after.player text crash.1 in
           record {
             next = record { bytes = medium.image before.player.world.device settings.torn; opened = report.opened; first = after.player.world.now; events = [] };
-            crash = record { device = before.player.world.device; goes_on = λ goes. (crash.0, report, refl); ends = λ stops. both_ways over e stops };
+            crash = record { struck = before.player; events = events; shown = shown; left = left; goes_on = λ goes. (crash.0, report, refl); ends = λ stops. both_ways over e stops };
           }
 
   -- ---- a group of one call
@@ -100,9 +111,9 @@ module _ {D : Type 0} (seen : D → List ℕ) (may_leave : D → List ℕ → Ty
           record { goes_on = goes; events = its.events; says = inl (refl, refused); shown = subst (IsShown seen may_leave its) (sym (refused_same one before.player after.player text refused)) shown }
       by_line goes (inr line) = record { goes_on = goes; events = line.later; says = inr line.played; shown = line.played.goes_on }
 
-  group_struck : (items : List ActorCall) (one : ActorCall) → items ≡ one ∷ [] → (its : LifeInHand) (before after : RunState D) (over : Bool) (text : List ℕ)
-      → (played : IsGroupPlayed medium settings items before after over text) → played.leg.struck ≡ true → IsCrashSeen after.player over text
-  group_struck items one is its before after over text played struck = by_over over refl
+  group_struck : (items : List ActorCall) (one : ActorCall) → items ≡ one ∷ [] → ItsNumbersFit one → (its : LifeInHand) (before after : RunState D) (over : Bool) (text : List ℕ) → IsShown seen may_leave its before.player
+      → (played : IsGroupPlayed medium settings items before after over text) → played.leg.struck ≡ true → IsCrashSeen its after.player over text
+  group_struck items one is fit its before after over text shown played struck = by_over over refl
     where
       part : IsGroup medium.engine (record { player = before.player; queues = played.queues }) (record { player = played.leg.player; queues = played.left }) true played.leg.said
       part = subst (λ (x : Bool). IsGroup medium.engine (record { player = before.player; queues = played.queues }) (record { player = played.leg.player; queues = played.left }) x played.leg.said) struck played.leg.part
@@ -119,15 +130,24 @@ module _ {D : Type 0} (seen : D → List ℕ) (may_leave : D → List ℕ → Ty
       crashed : IsCrashed medium settings (record before { player = played.leg.player }) played.between over played.leg.reported
       crashed = subst (λ (x : Bool). IsCrashedWhere x medium settings (record before { player = played.leg.player }) played.between over played.leg.reported) struck played.leg.crashed
 
+      -- the life goes on to the crash
+      gone : HasGoneOn seen may_leave its.bytes its.opened its.first played.leg.player played.left
+      gone =
+          groups its.bytes its.opened its.first its.events before.player played.leg.player played.queues played.left true played.leg.said (still_shown its before.player shown)
+          (fitting items played.queues (subst AreFitting (sym is) (fit, tt)) played.are_queues) part
+
       says : played.rest ≡ [] → text ≡ played.leg.reported
       says none =
           played.says ∙ (ap (λ (x : List ℕ). played.first ++ x) none ∙ (append-nil played.first ∙ (played.leg.says ∙ ap (λ (x : List ℕ). x ++ played.leg.reported) ends.silent)))
 
-      by_over : (c : Bool) → over ≡ c → IsCrashSeen after.player over text
+      by_over : (c : Bool) → over ≡ c → IsCrashSeen its after.player over text
       by_over true e = record {
         next = its;
         crash = record {
-          device = played.leg.player.world.device;
+          struck = played.leg.player;
+          events = gone.later;
+          shown = gone.shown;
+          left = leaves played.leg.player.world.device (medium.image played.leg.player.world.device settings.torn) crashed.left;
           goes_on = λ goes. both_ways over goes e;
           ends = λ stops. subst (IsRefusal (medium.image played.leg.player.world.device settings.torn)) (sym (says (played.ends e))) (crashed.refusal e);
         };
@@ -135,12 +155,12 @@ module _ {D : Type 0} (seen : D → List ℕ) (may_leave : D → List ℕ → Ty
       by_over false e =
           let behind = played.goes_on e in
           let stays = none_played medium.engine behind.1.picks (record { player = played.between.player; queues = played.left }) (record { player = after.player; queues = behind.1.last }) played.rest nobody behind.1.played in
-          let there = crash_seen its (record before { player = played.leg.player }) played.between over played.leg.reported crashed in
+          let there = crash_seen its gone.later (record before { player = played.leg.player }) played.between over played.leg.reported gone.shown crashed in
           record {
             next = there.next;
             crash =
-                subst (IsReported seen may_leave medium settings there.next after.player over) (sym (says stays.1))
-                (subst (λ (x : PlayerState D). IsReported seen may_leave medium settings there.next x over played.leg.reported) (sym (ap (λ (x : GroupState D). x.player) stays.0)) there.crash);
+                subst (IsReported seen may_leave medium settings its there.next after.player over) (sym (says stays.1))
+                (subst (λ (x : PlayerState D). IsReported seen may_leave medium settings its there.next x over played.leg.reported) (sym (ap (λ (x : GroupState D). x.player) stays.0)) there.crash);
           }
 
   -- ---- a piece
@@ -169,7 +189,8 @@ module _ {D : Type 0} (seen : D → List ℕ) (may_leave : D → List ℕ → Ty
   finish_struck its before after over text shown few leg struck =
       let crashed = subst (λ (x : Bool). IsCrashedWhere x medium settings (record before { player = leg.player }) after over leg.reported) struck leg.crashed in
       let strikes : is_struck_by leg.part.0 ≡ true = sym (same_struck leg.part.0) ∙ (sym leg.part.2 ∙ struck) in
-      let there = crash_seen its (record before { player = leg.player }) after over leg.reported crashed in
+      let gone = finishes its.bytes its.opened its.first its.events before.player leg.player leg.part.0 leg.said (still_shown its before.player shown) leg.part.1 in
+      let there = crash_seen its gone.later (record before { player = leg.player }) after over leg.reported gone.shown crashed in
       record {
         next = there.next;
         says =
@@ -198,7 +219,7 @@ module _ {D : Type 0} (seen : D → List ℕ) (may_leave : D → List ℕ → Ty
             says = inl (record { goes_on = group.goes_on; events = group.events; same_life = refl; says = (plain.0, plain.1, group.says); shown = group.shown });
           }
       by_struck true struck =
-          let there = group_struck calls.items plain.0 plain.1 its before after over text played struck in
+          let there = group_struck calls.items plain.0 plain.1 plain.2 its before after over text shown played struck in
           record { next = there.next; says = inr (record { said = []; reported = text; up_to = refl; crash = there.crash; says = refl }) }
   piece_goes_on Finish its before after over text shown plain few leg = by_struck leg.struck refl
     where
@@ -206,7 +227,7 @@ module _ {D : Type 0} (seen : D → List ℕ) (may_leave : D → List ℕ → Ty
       by_struck false none = finish_unstruck its before after over text shown few leg none
       by_struck true struck = finish_struck its before after over text shown few leg struck
   piece_goes_on Crash its before after over text shown plain few crashed =
-      let there = crash_seen its before after over text crashed in
+      let there = crash_seen its its.events before after over text (still_shown its before.player shown) crashed in
       record { next = there.next; says = inr (record { said = []; reported = text; up_to = refl; crash = there.crash; says = refl }) }
   piece_goes_on (CrashAt count) its before after over text shown plain few line = record {
     next = record { bytes = its.bytes; opened = its.opened; first = its.first; events = its.events };
@@ -223,9 +244,16 @@ module _ {D : Type 0} (seen : D → List ℕ) (may_leave : D → List ℕ → Ty
   shown_behind piece its next before after text (inr ends) =
       let crash = ends.crash.goes_on refl in subst (λ (x : LifeInHand). IsShown seen may_leave x after.player) (sym crash.2) crash.1.begins
 
+  due_reported : (its : LifeInHand) (last : RunState D) → IsShown seen may_leave its last.player → DueIsReported seen may_leave medium settings its last
+  due_reported its last shown after over text crashed = let there = crash_seen its its.events last after over text (still_shown its last.player shown) crashed in (there.next, there.crash)
+
   pub runs_go_on : RunsGoOn seen may_leave medium settings
-  runs_go_on [] its before after over text shown plain played = played
-  runs_go_on (piece ∷ []) its before after over text shown plain played = λ few. let one = piece_goes_on piece its before after over text shown plain.0 few played in (one.next, one.says)
+  runs_go_on [] its before after over text shown plain played =
+      (played.0, played.1, played.2, due_reported its after (subst (λ (x : RunState D). IsShown seen may_leave its x.player) (sym played.0) shown))
+  runs_go_on (piece ∷ []) its before after over text shown plain played = λ few.
+      let one = piece_goes_on piece its before after over text shown plain.0 few played in
+      (one.next, one.says, λ on. due_reported one.next after
+      (shown_behind piece its one.next before after text (subst (λ (x : Bool). IsPieceInLives seen may_leave medium settings piece its one.next before after x text) on one.says)))
   runs_go_on (piece ∷ other ∷ later) its before after over text shown plain played = λ few.
       let one = piece_goes_on piece its before played.0 false played.1 shown plain.0 few played.3 in
       (one.next, played.0, played.1, played.2, one.says, runs_go_on (other ∷ later) one.next played.0 after over played.2 (shown_behind piece its one.next before played.0 played.1 one.says) plain.1 played.4, played.5)

@@ -22,16 +22,16 @@ use Rattle.fkv_session.specs.declared.answers.Told.TheVariants as told
 use Rattle.fkv_texts.specs.Polls.{has_ticket, key_of_ticket}
 use Rattle.fkv_texts.specs.Sessions.{key_of_call}
 use Rattle.fkv_texts.specs.declared.polls.WaitingRead.{WaitingRead}
-use Rattle.fkv_world.specs.Past.{Answered, Called, Traced}
+use Rattle.fkv_world.specs.Past.{Answered, Called, TraceEvent, Traced}
 use Rattle.fkv_world.specs.Runs.{run}
 use Rattle.fkv_world.specs.World.{Calls, Event, Moves, Now}
 use Rattle.law_log.specs.Trace.{CallsRead, IsIn}
 use Rattle.law_order.specs.Rules.Ordered.{lines_so_far}
-use Rattle.law_order.proofs.OfReads.Numbers.{called_hand, other_waiting}
+use Rattle.law_order.proofs.OfReads.Numbers.{called_hand, is_other, other_waiting, same_number}
 use Rattle.law_refine.specs.Events.GhostEvents.{serials_in}
-use Rattle.law_refine.specs.Events.Lines.{gives_ticket, lines_of, read_in_hand, read_waiting}
+use Rattle.law_refine.specs.Events.Lines.{gives_ticket, last_call, lines_of, read_in_hand, read_waiting}
 use Rattle.law_program.specs.PlayedCalls.PlayedCalls.{called_alone}
-use Rattle.law_program.specs.PlayedCalls.Waiting.{IsReadCalled, SeatsKeepKeys, StandsForKey, reader_of}
+use Rattle.law_program.specs.PlayedCalls.Waiting.{IsReadCalled, SeatsKeepKeys, StandsForKey, key_made, key_or, key_told, reader_of}
 use Rattle.law_program.proofs.OfPlayedCalls.Polled.{IsTraced, trace_of_call}
 use Rattle.law_program.proofs.OfPlayedCalls.ReadCalls.{IsReadOf, called_before, called_now}
 
@@ -45,6 +45,14 @@ key_behind : (waiting : List WaitingRead) (read : WaitingRead) (ticket : Ticket)
 key_behind waiting read ticket =
     ap (λ (xs : List WaitingRead). option_map (λ (x : WaitingRead). x.key) (find (has_ticket ticket) xs)) (reverse-append waiting (read ∷ []))
     ∙ one_mapped (has_ticket ticket read) read (find (has_ticket ticket) (reverse waiting))
+
+-- what isn't the session's tells it no ticket
+gives_none : (number ticket : ℕ) (event : TraceEvent) → is_other number event → gives_ticket number ticket event ≡ false
+gives_none number ticket (Answered session its) other = rw other refl
+gives_none number ticket event other = refl
+
+pub other_told : (number ticket : ℕ) (it : Traced) (trace : List Traced) → is_other number it.its → key_told number ticket (it ∷ trace) ≡ key_told number ticket trace
+other_told number ticket it trace other = rw (gives_none number ticket it.its other) refl
 
 -- ---- a ticket goes on to stand for its call
 -- where the life has gone on, and the ticket was not told again
@@ -83,10 +91,10 @@ stands_on bytes first life later front added number ticket key so grown same sta
 abbrev waits_still : ℕ → ℕ → Told → List Finished → Type 0
 waits_still number ticket its list = gives_ticket number ticket (Answered number (telling its list)) ≡ false
 
-if_still : (c : Bool) (x y : ℕ) → c ≡ false → (if c then x else y) ≡ y
+if_still : {A : Type 0} (c : Bool) (x y : A) → c ≡ false → (if c then x else y) ≡ y
 if_still c x y e = ap (λ (b : Bool). if b then x else y) e
 
-if_now : (c : Bool) (x y : ℕ) → c ≡ true → (if c then x else y) ≡ x
+if_now : {A : Type 0} (c : Bool) (x y : A) → c ≡ true → (if c then x else y) ≡ x
 if_now c x y e = ap (λ (b : Bool). if b then x else y) e
 
 both_so : (c d : Bool) → c ≡ true → (c && d) ≡ d
@@ -119,6 +127,28 @@ module _ (bytes : List ℕ) (first : Now) (life : List Event) (number count : �
         ap (read_waiting other ticket.0) at.so
         ∙ (other_waiting other ticket.0 (record { its = Answered number (telling its list); effects = at.later }) (record { its = Called number asked; effects = at.e } ∷ trace) apart
         ∙ other_waiting other ticket.0 (record { its = Called number asked; effects = at.e }) trace apart)
+
+    abbrev with_call : List Traced
+    with_call = record { its = Called number asked; effects = at.e } ∷ trace
+
+    -- nor does the session's own answer, but for a read that goes pending
+    keys_still : (ticket : Ticket) → waits_still number ticket.0 its list → key_told number ticket.0 (run (beginning first bytes) later).past.trace ≡ key_told number ticket.0 trace
+    keys_still ticket still =
+        ap (key_told number ticket.0) at.so
+        ∙ if_still (gives_ticket number ticket.0 (Answered number (telling its list))) (key_made (last_call number with_call) (key_told number ticket.0 trace)) (key_told number ticket.0 trace) still
+
+    keys_now : (ticket : Ticket) → gives_ticket number ticket.0 (Answered number (telling its list)) ≡ true
+        → key_told number ticket.0 (run (beginning first bytes) later).past.trace ≡ key_or (key_of_call asked) (key_told number ticket.0 trace)
+    keys_now ticket gives =
+        ap (key_told number ticket.0) at.so
+        ∙ (if_now (gives_ticket number ticket.0 (Answered number (telling its list))) (key_made (last_call number with_call) (key_told number ticket.0 trace)) (key_told number ticket.0 trace) gives
+        ∙ ap (λ (b : Bool). key_made (if b then Some (record { call = asked; number = length trace }) else last_call number trace) (key_told number ticket.0 trace)) (same_number number))
+
+    other_keys : (other : ℕ) (ticket : Ticket) → (number == other) ≡ false → key_told other ticket.0 (run (beginning first bytes) later).past.trace ≡ key_told other ticket.0 trace
+    other_keys other ticket apart =
+        ap (key_told other ticket.0) at.so
+        ∙ (other_told other ticket.0 (record { its = Answered number (telling its list); effects = at.later }) with_call apart
+        ∙ other_told other ticket.0 (record { its = Called number asked; effects = at.e }) trace apart)
 
     -- the ticket that is told now stands for this call
     own_now : (ticket : Ticket) → gives_ticket number ticket.0 (Answered number (telling its list)) ≡ true → reader_of bytes first later number ticket ≡ length trace
@@ -157,7 +187,8 @@ module _ (bytes : List ℕ) (first : Now) (life : List Event) (number count : �
   own_number = grind (arith, nat_tests)
 
   -- what waits, by what the session was told
-  module _ (given : Answer) (waiting : List WaitingRead) (keeps : (ticket : Ticket) (key : Key) → key_of_ticket waiting ticket ≡ Some key → StandsForKey bytes first life number ticket key) where
+  module _ (given : Answer) (waiting : List WaitingRead) (were : (ticket : Ticket) → key_of_ticket waiting ticket ≡ key_told number ticket.0 trace)
+      (keeps : (ticket : Ticket) (key : Key) → key_of_ticket waiting ticket ≡ Some key → StandsForKey bytes first life number ticket key) where
     kept_so : (its : Told) (list : List Finished) → IsTraced bytes first life number count asked its list → (ticket : Ticket) (key : Key) → waits_still number ticket.0 its list → waiting_behind asked given waiting ≡ waiting
         → key_of_ticket (waiting_behind asked given waiting) ticket ≡ Some key → StandsForKey bytes first later number ticket key
     kept_so its list at ticket key still same found =
@@ -208,6 +239,44 @@ module _ (bytes : List ℕ) (first : Now) (life : List Event) (number count : �
     own_kept (told.Durable serial) list at is ticket key found = kept_so (told.Durable serial) list at ticket key (no_ticket false refl) (same_waiting (answer.Durable serial) is) found
     own_kept (told.Refused why) list at is ticket key found = kept_so (told.Refused why) list at ticket key (no_ticket false refl) (same_waiting (answer.Refused why) is) found
 
+    -- and it keeps just the keys of the tickets that were told
+    same_so : (its : Told) (list : List Finished) → IsTraced bytes first life number count asked its list → (ticket : Ticket) → waits_still number ticket.0 its list → waiting_behind asked given waiting ≡ waiting
+        → key_of_ticket (waiting_behind asked given waiting) ticket ≡ key_told number ticket.0 (run (beginning first bytes) later).past.trace
+    same_so its list at ticket still stays = ap (λ (x : List WaitingRead). key_of_ticket x ticket) stays ∙ (were ticket ∙ sym (keys_still its list at ticket still))
+
+    key_now : (told_now : Ticket) (asked_key : Option Key) (ticket : Ticket) → nat_eq told_now.0 ticket.0 ≡ true → key_of_ticket (waiting ++ read_of told_now asked_key) ticket ≡ key_or asked_key (key_told number ticket.0 trace)
+    key_now told_now None ticket same = ap (λ (x : List WaitingRead). key_of_ticket x ticket) (append-nil waiting) ∙ were ticket
+    key_now told_now (Some k) ticket same = key_behind waiting (record { ticket = told_now; key = k }) ticket ∙ ap (λ (c : Bool). cond c (Some k) (key_of_ticket waiting ticket)) same
+
+    key_before : (told_now : Ticket) (asked_key : Option Key) (ticket : Ticket) → nat_eq told_now.0 ticket.0 ≡ false → key_of_ticket (waiting ++ read_of told_now asked_key) ticket ≡ key_told number ticket.0 trace
+    key_before told_now None ticket other = ap (λ (x : List WaitingRead). key_of_ticket x ticket) (append-nil waiting) ∙ were ticket
+    key_before told_now (Some k) ticket other =
+        key_behind waiting (record { ticket = told_now; key = k }) ticket ∙ (ap (λ (c : Bool). cond c (Some k) (key_of_ticket waiting ticket)) other ∙ were ticket)
+
+    same_told : (told_now : Ticket) (list : List Finished) → IsTraced bytes first life number count asked (told.PendingRead told_now) list → (ticket : Ticket) (c : Bool) → (told_now.0 == ticket.0) ≡ c
+        → key_of_ticket (waiting ++ read_of told_now (key_of_call asked)) ticket ≡ key_told number ticket.0 (run (beginning first bytes) later).past.trace
+    same_told told_now list at ticket true e =
+        let same : nat_eq told_now.0 ticket.0 ≡ true = grind (arith, nat_tests, e) in
+        key_now told_now (key_of_call asked) ticket same ∙ sym (keys_now (told.PendingRead told_now) list at ticket (both_so (number == number) (told_now.0 == ticket.0) own_number ∙ e))
+    same_told told_now list at ticket false e =
+        let other : nat_eq told_now.0 ticket.0 ≡ false = grind (arith, nat_tests, e) in
+        key_before told_now (key_of_call asked) ticket other ∙ sym (keys_still (told.PendingRead told_now) list at ticket (both_so (number == number) (told_now.0 == ticket.0) own_number ∙ e))
+
+    pub own_told : (its : Told) (list : List Finished) → IsTraced bytes first life number count asked its list → IsAnswerTold its list given → (ticket : Ticket)
+        → key_of_ticket (waiting_behind asked given waiting) ticket ≡ key_told number ticket.0 (run (beginning first bytes) later).past.trace
+    own_told (told.PendingRead told_now) list at is ticket =
+        ap (λ (x : List WaitingRead). key_of_ticket x ticket) (same_waiting (answer.PendingRead told_now) is) ∙ same_told told_now list at ticket (told_now.0 == ticket.0) refl
+    own_told (told.Polled left) list at is ticket = same_so (told.Polled left) list at ticket (no_ticket false refl) (polled_waiting list left given refl is)
+    own_told (told.Done serial reply) list at is ticket = same_so (told.Done serial reply) list at ticket (no_ticket false refl) (same_waiting (answer.Done serial reply) is)
+    own_told (told.Pending serial why) list at is ticket = same_so (told.Pending serial why) list at ticket (no_ticket false refl) (same_waiting (answer.Pending serial why) is)
+    own_told (told.Found value) list at is ticket = same_so (told.Found value) list at ticket (no_ticket false refl) (same_waiting (answer.Found value) is)
+    own_told told.Absent list at is ticket = same_so told.Absent list at ticket (no_ticket false refl) (same_waiting answer.Absent is)
+    own_told (told.Refreshed phase version) list at is ticket = same_so (told.Refreshed phase version) list at ticket (no_ticket false refl) (same_waiting (answer.Refreshed phase version) is)
+    own_told (told.Woken phase version) list at is ticket = same_so (told.Woken phase version) list at ticket (no_ticket false refl) (same_waiting (answer.Woken phase version) is)
+    own_told told.Slept list at is ticket = same_so told.Slept list at ticket (no_ticket false refl) (same_waiting answer.Slept is)
+    own_told (told.Durable serial) list at is ticket = same_so (told.Durable serial) list at ticket (no_ticket false refl) (same_waiting (answer.Durable serial) is)
+    own_told (told.Refused why) list at is ticket = same_so (told.Refused why) list at ticket (no_ticket false refl) (same_waiting (answer.Refused why) is)
+
   -- ---- all seats
   -- a seat behind the answer is another's, or the session's
   data IsSeatBehind (given : Answer) (seats : List SeatState) (other : ℕ) (seat : SeatState) : Type 0 where
@@ -229,12 +298,23 @@ module _ (bytes : List ℕ) (first : Now) (life : List Event) (number count : �
 
   pub seats_kept : (given : Answer) (seats : List SeatState) (its : Told) (list : List Finished) → IsTraced bytes first life number count asked its list → IsAnswerTold its list given → SeatsKeepKeys bytes first life seats
       → SeatsKeepKeys bytes first later (seats_answered number asked given seats)
-  seats_kept given seats its list at is keeps other seat found ticket key kept = by_seat (seat_behind_so given seats other seat (slice_get seats number) refl found)
+  seats_kept given seats its list at is keeps = record {
+    told = λ other seat found ticket. told_by other seat ticket (seat_behind_so given seats other seat (slice_get seats number) refl found);
+    stand = λ other seat found ticket key kept. stands_by other seat ticket key kept (seat_behind_so given seats other seat (slice_get seats number) refl found);
+  }
     where
-      by_seat : IsSeatBehind given seats other seat → StandsForKey bytes first later other ticket key
-      by_seat (Others apart there) =
+      told_by : (other : ℕ) (seat : SeatState) (ticket : Ticket) → IsSeatBehind given seats other seat → key_of_ticket seat.waiting ticket ≡ key_told other ticket.0 (run (beginning first bytes) later).past.trace
+      told_by other seat ticket (Others apart there) =
           let other_one : (number == other) ≡ false = grind (arith, nat_tests) in
-          goes_on its list at other ticket key (other_still its list at other ticket other_one) (keeps other seat there ticket key kept)
-      by_seat (Own was same there behind) =
+          keeps.told other seat there ticket ∙ sym (other_keys its list at other ticket other_one)
+      told_by other seat ticket (Own was same there behind) =
+          subst (λ (n : ℕ). key_of_ticket seat.waiting ticket ≡ key_told n ticket.0 (run (beginning first bytes) later).past.trace) (sym same)
+          (ap (λ (x : SeatState). key_of_ticket x.waiting ticket) behind ∙ own_told given was.waiting (keeps.told number was there) (keeps.stand number was there) its list at is ticket)
+
+      stands_by : (other : ℕ) (seat : SeatState) (ticket : Ticket) (key : Key) → key_of_ticket seat.waiting ticket ≡ Some key → IsSeatBehind given seats other seat → StandsForKey bytes first later other ticket key
+      stands_by other seat ticket key kept (Others apart there) =
+          let other_one : (number == other) ≡ false = grind (arith, nat_tests) in
+          goes_on its list at other ticket key (other_still its list at other ticket other_one) (keeps.stand other seat there ticket key kept)
+      stands_by other seat ticket key kept (Own was same there behind) =
           subst (λ (n : ℕ). StandsForKey bytes first later n ticket key) (sym same)
-          (own_kept given was.waiting (λ t k e. keeps number was there t k e) its list at is ticket key (ap (λ (x : SeatState). key_of_ticket x.waiting ticket) (sym behind) ∙ kept))
+          (own_kept given was.waiting (keeps.told number was there) (keeps.stand number was there) its list at is ticket key (ap (λ (x : SeatState). key_of_ticket x.waiting ticket) (sym behind) ∙ kept))

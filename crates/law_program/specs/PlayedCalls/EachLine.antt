@@ -97,7 +97,7 @@ IsEndOfFinish text = (text ≡ []) ⊎ (text ≡ not_finished) ⊎ (text ≡ not
 -- ---- over a device
 module _ {D : Type 0} (seen : D → List ℕ) (may_leave : D → List ℕ → Type 0) where
   -- A life of a store that these bytes hold shows the player's world. It shows the device too, which reads as, and may leave, what the life's calls of it give.
-  -- No session has a call in hand. Each ticket that a seat keeps stands for its key.
+  -- No session has a call in hand. Seats keep the keys of the tickets that were told.
   pub record IsLifeOver (bytes : List ℕ) (o : Opened) (first : Now) (life : List Event) (player : PlayerState D) : Type 0 where
     pub quiet : IsQuietLife bytes o first life player.world.now
     pub device : IsAfter (run (beginning first bytes) life).past.opened (run (beginning first bytes) life).past.calls (seen player.world.device) (may_leave player.world.device)

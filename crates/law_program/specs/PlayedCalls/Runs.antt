@@ -9,13 +9,14 @@ use Rattle.fkv_playing.specs.declared.calls.Telling.TheVariants.{Whole}
 use Rattle.fkv_playing.specs.declared.players.Waits.{Waits}
 use Rattle.fkv_runs.specs.Crashes.{IsRefusal}
 use Rattle.fkv_runs.specs.Openings.{Medium}
-use Rattle.fkv_runs.specs.Runs.{IsPiece, RunState}
+use Rattle.fkv_runs.specs.Runs.{IsCrashed, IsPiece, RunState}
 use Rattle.fkv_runs.specs.declared.pieces.Piece.{Piece}
 use Rattle.fkv_runs.specs.declared.pieces.Piece.TheVariants.{Group, Finish}
 use Rattle.fkv_runs.specs.declared.settings.Settings.{Settings}
 use Rattle.fkv_world.specs.World.{Event, Now}
 use Rattle.law_order.specs.Tickets.Few.{calls_in}
 use Rattle.law_program.specs.PlayedCalls.EachLine.{IsFinishCutShort, IsFinishInLife, IsLifeOver, IsPlayedInLife, IsRefusedLine, ItsNumbersFit}
+use Rattle.law_program.specs.PlayedCalls.Interleaved.{IsLifeShown}
 use Rattle.law_program.specs.PlayedCalls.Lives.{IsNextLife}
 
 -- the life in hand: the bytes with which it began, the store that they hold, its first world, and its events so far
@@ -72,27 +73,36 @@ module _ {D : Type 0} (seen : D → List ℕ) (may_leave : D → List ℕ → Ty
   SaysUpTo other its before text = text ≡ []
 
   module _ (medium : Medium D) (settings : Settings) where
-    -- The report is of the store that an image of the crash holds, and the next life begins with it; or the run ends with a refusal.
-    pub record IsReported (next : LifeInHand) (after : PlayerState D) (over : Bool) (text : List ℕ) : Type 0 where
-      pub device : D
-      pub goes_on : over ≡ false → (agrees : Bool) × (its : IsNextLife seen may_leave medium.holds (medium.image device settings.torn) settings.checks agrees after text)
-          × (next ≡ record { bytes = medium.image device settings.torn; opened = its.opened; first = after.world.now; events = [] })
-      pub ends : over ≡ true → IsRefusal (medium.image device settings.torn) text
+    -- The life in hand shows the player as the crash strikes, whatever call is in hand, and the image is one that a crash may leave of its device. The report is
+    -- of the store that the image holds, and the next life begins with it; or the run ends with a refusal.
+    pub record IsReported (its next : LifeInHand) (after : PlayerState D) (over : Bool) (text : List ℕ) : Type 0 where
+      pub struck : PlayerState D
+      pub events : List Event
+      pub shown : IsLifeShown seen may_leave its.bytes its.opened its.first events struck
+      pub left : may_leave struck.world.device (medium.image struck.world.device settings.torn)
+      pub goes_on : over ≡ false → (agrees : Bool) × (report : IsNextLife seen may_leave medium.holds (medium.image struck.world.device settings.torn) settings.checks agrees after text)
+          × (next ≡ record { bytes = medium.image struck.world.device settings.torn; opened = report.opened; first = after.world.now; events = [] })
+      pub ends : over ≡ true → IsRefusal (medium.image struck.world.device settings.torn) text
 
     pub record EndsInCrash (piece : Piece) (its next : LifeInHand) (before after : RunState D) (over : Bool) (text : List ℕ) : Type 0 where
       pub said : List ℕ
       pub reported : List ℕ
       pub up_to : SaysUpTo piece its before.player said
-      pub crash : IsReported next after.player over reported
+      pub crash : IsReported its next after.player over reported
       pub says : text ≡ said ++ reported
 
     abbrev pub IsPieceInLives : Piece → LifeInHand → LifeInHand → RunState D → RunState D → Bool → List ℕ → Type 0
     IsPieceInLives piece its next before after over text = GoesOnInLife piece its next before after over text ⊎ EndsInCrash piece its next before after over text
 
+    -- a crash that still is to come behind the last piece is reported so, of the life in hand
+    abbrev pub DueIsReported : LifeInHand → RunState D → Type 0
+    DueIsReported its last = (after : RunState D) (over : Bool) (text : List ℕ) → IsCrashed medium settings last after over text → (next : LifeInHand) × IsReported its next after.player over text
+
     -- one behind the other, as long as few calls begin
     abbrev pub ArePlayedInLives : List Piece → LifeInHand → RunState D → RunState D → Bool → List ℕ → Type 0
-    ArePlayedInLives [] its before after over text = (after ≡ before) × (over ≡ false) × (text ≡ [])
-    ArePlayedInLives (piece ∷ []) its before after over text = HasFewWith piece its before.player → (next : LifeInHand) × IsPieceInLives piece its next before after over text
+    ArePlayedInLives [] its before after over text = (after ≡ before) × (over ≡ false) × (text ≡ []) × DueIsReported its after
+    ArePlayedInLives (piece ∷ []) its before after over text =
+        HasFewWith piece its before.player → (next : LifeInHand) × IsPieceInLives piece its next before after over text × (over ≡ false → DueIsReported next after)
     ArePlayedInLives (piece ∷ other ∷ later) its before after over text =
         HasFewWith piece its before.player → (next : LifeInHand) × (between : RunState D) × (one : List ℕ) × (rest : List ℕ) × IsPieceInLives piece its next before between false one
         × ArePlayedInLives (other ∷ later) next between after over rest × (text ≡ one ++ rest)

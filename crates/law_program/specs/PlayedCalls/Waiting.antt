@@ -1,5 +1,5 @@
 -- Reads that wait: what a seat keeps of them, and the value that a poll gives.
-use Rattle.std.specs.Prelude.{◌≡◌, ◌<◌, ℕ, List, ◌∷◌, ◌++◌, length, Option, Some, slice_get}
+use Rattle.std.specs.Prelude.{◌≡◌, ◌<◌, ℕ, List, [], ◌∷◌, ◌++◌, length, if◌then◌else◌, Option, None, Some, slice_get}
 use Rattle.fkv_base.specs.declared.numbers.Key.{Key}
 use Rattle.fkv_base.specs.declared.numbers.Value.{Value}
 use Rattle.fkv_core.specs.Openings.{beginning}
@@ -11,8 +11,9 @@ use Rattle.fkv_playing.specs.Seats.{SeatState}
 use Rattle.fkv_session.specs.declared.answers.Answer.{Answer}
 use Rattle.fkv_session.specs.declared.answers.Finished.TheVariants as finished
 use Rattle.fkv_texts.specs.Polls.{key_of_ticket}
-use Rattle.fkv_texts.specs.Sessions.{finished_by}
+use Rattle.fkv_texts.specs.Sessions.{finished_by, key_of_call}
 use Rattle.fkv_texts.specs.declared.polls.WaitingRead.{WaitingRead}
+use Rattle.fkv_world.specs.Past.{Traced}
 use Rattle.fkv_world.specs.Runs.{run}
 use Rattle.fkv_world.specs.World.{Calls, Event, Now}
 use Rattle.law_log.specs.Trace.{CallsRead, IsIn, history_of}
@@ -20,7 +21,7 @@ use Rattle.law_opening.specs.Log.Maps.{opening_map}
 use Rattle.law_order.specs.Rules.InTime.{IsInTime}
 use Rattle.law_order.specs.Rules.Ordered.{effects_so_far, lines_so_far}
 use Rattle.law_refine.specs.Calls.Calls.{event_adds}
-use Rattle.law_refine.specs.Events.Lines.{read_reply, read_waiting}
+use Rattle.law_refine.specs.Events.Lines.{CallMade, gives_ticket, last_call, read_reply, read_waiting}
 
 -- the session called a read of this key in the life, and the read has this number
 pub record IsReadCalled (bytes : List ℕ) (first : Now) (life : List Event) (number reader : ℕ) (key : Key) : Type 0 where
@@ -38,23 +39,36 @@ pub record StandsForKey (bytes : List ℕ) (first : Now) (life : List Event) (nu
   pub before : reader_of bytes first life number ticket < length (run (beginning first bytes) life).past.trace
   pub read : (its : ℕ) → IsIn (CallsRead (reader_of bytes first life number ticket) its) (lines_so_far first bytes life) → (its ≡ key.0) × IsReadCalled bytes first life number (reader_of bytes first life number ticket) key
 
--- so does each ticket with a key that a seat keeps
-abbrev pub SeatsKeepKeys : List ℕ → Now → List Event → List SeatState → Type 0
-SeatsKeepKeys bytes first life seats =
-    (number : ℕ) (seat : SeatState) → slice_get seats number ≡ Some seat → (ticket : Ticket) (key : Key) → key_of_ticket seat.waiting ticket ≡ Some key → StandsForKey bytes first life number ticket key
+-- the key of a call, if it has one, and else this one
+abbrev pub key_or : Option Key → Option Key → Option Key
+key_or None before = before
+key_or (Some key) before = Some key
+
+abbrev pub key_made : Option CallMade → Option Key → Option Key
+key_made None before = before
+key_made (Some made) before = key_or (key_of_call made.call) before
+
+-- the key of the call for which a session was told this ticket last
+abbrev pub key_told : ℕ → ℕ → List Traced → Option Key
+key_told number ticket [] = None
+key_told number ticket (it ∷ before) = if gives_ticket number ticket it.its then key_made (last_call number before) (key_told number ticket before) else key_told number ticket before
+
+-- Seats keep the key of each ticket that their sessions were told in the life, and no other. It stands for that key.
+pub record SeatsKeepKeys (bytes : List ℕ) (first : Now) (life : List Event) (seats : List SeatState) : Type 0 where
+  pub told : (number : ℕ) (seat : SeatState) → slice_get seats number ≡ Some seat → (ticket : Ticket) → key_of_ticket seat.waiting ticket ≡ key_told number ticket.0 (run (beginning first bytes) life).past.trace
+  pub stand : (number : ℕ) (seat : SeatState) → slice_get seats number ≡ Some seat → (ticket : Ticket) (key : Key) → key_of_ticket seat.waiting ticket ≡ Some key → StandsForKey bytes first life number ticket key
 
 -- ---- a poll's value
--- The session called a read of this key in the life. This is the value of the key at some moment between that call and the answer, in the life's one history.
-pub record IsReadInTime (bytes : List ℕ) (o : Opened) (first : Now) (life later : List Event) (number : ℕ) (key : Key) (value : Option Value) : Type 0 where
-  pub since : List Event
-  pub earlier : List Event
-  pub called : life ≡ since ++ Calls number (call.Op (Read key)) ∷ earlier
+-- The ticket is of a read of this key that the session called in the life. This is the value of the key at some moment between that call and the answer, in the
+-- life's one history.
+pub record IsReadInTime (bytes : List ℕ) (o : Opened) (first : Now) (life later : List Event) (number : ℕ) (ticket : Ticket) (key : Key) (value : Option Value) : Type 0 where
+  pub read : IsReadCalled bytes first life number (reader_of bytes first life number ticket) key
   pub behind : List Event
   pub answered : List Event
   pub within : later ≡ behind ++ answered
-  pub in_time : IsInTime (opening_map bytes o) (history_of (effects_so_far first bytes (Calls number (call.Op (Read key)) ∷ earlier))) (history_of (effects_so_far first bytes answered)) key.0 (read_reply value)
+  pub in_time : IsInTime (opening_map bytes o) (history_of (effects_so_far first bytes (Calls number (call.Op (Read key)) ∷ read.earlier))) (history_of (effects_so_far first bytes answered)) key.0 (read_reply value)
 
 -- so is each read that an answer says is finished, with the key that is kept for its ticket
 abbrev pub AreReadInTime : List ℕ → Opened → Now → List Event → List Event → ℕ → List WaitingRead → Answer → Type 0
 AreReadInTime bytes o first life later number waiting answer =
-    (ticket : Ticket) (value : Option Value) (key : Key) → IsIn (finished.Read ticket value) (finished_by answer) → key_of_ticket waiting ticket ≡ Some key → IsReadInTime bytes o first life later number key value
+    (ticket : Ticket) (value : Option Value) (key : Key) → IsIn (finished.Read ticket value) (finished_by answer) → key_of_ticket waiting ticket ≡ Some key → IsReadInTime bytes o first life later number ticket key value

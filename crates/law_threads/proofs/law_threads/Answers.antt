@@ -6,9 +6,6 @@ use Rattle.law_threads.proofs.OfImages.{recovers_within}
 use Rattle.law_threads.proofs.OfLaws.{in_lives, shares, thread_law}
 use Rattle.law_threads.proofs.law_threads.Goals as goal
 
-pub returns-clause-by_order : goal.returns-clause-by_order
-returns-clause-by_order g c = λ at. thread_law c.law_world_sessions.ensures.serials c.law_world_requests.ensures.tickets at
-
 pub returns-clause-in_lives : goal.returns-clause-in_lives
 returns-clause-in_lives g c = λ at. in_lives at c.law_order.ensures.legal c.law_order.ensures.ordered c.law_order.ensures.in_time (thread_law c.law_world_sessions.ensures.serials c.law_world_requests.ensures.tickets at)
 

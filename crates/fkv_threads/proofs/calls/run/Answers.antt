@@ -20,9 +20,6 @@ returns-clause-called g c = record {
   answered = answered_to (opening_of g.D.Device.seen) _ _ _ _ _ c.run.ensures.number c.run.ensures.answer;
 }
 
-pub returns-clause-by_order : goal.returns-clause-by_order
-returns-clause-by_order g c = lawful (opening_of g.D.Device.seen) _ _ _ (returns-clause-called g c) (c.law_threads.ensures.by_order (opening_of g.D.Device.seen))
-
 pub returns-clause-in_lives : goal.returns-clause-in_lives
 returns-clause-in_lives g c = lawful (opening_of g.D.Device.seen) _ _ _ (returns-clause-called g c) (c.law_threads.ensures.in_lives (opening_of g.D.Device.seen))
 
