@@ -1,6 +1,5 @@
 pub mod Copied
 pub mod Ends
-pub mod First
 pub mod Fits
 pub mod Held
 pub mod Laws

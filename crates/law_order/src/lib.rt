@@ -2,7 +2,6 @@
 //! law of prefixes (`prefix`, `recovered`).
 #![tactic(auto)]
 
-mod apart;
 mod asked;
 mod decided;
 mod enabled;
@@ -27,17 +26,15 @@ mod told;
 mod truth;
 mod versions;
 
-pub use apart::law_versions_apart;
 pub use asked::law_world_asked;
 pub use decided::{law_chains_open, law_cut_opens, law_decided_opens, law_old_opens};
 pub use enabled::law_world_enabled;
 pub use fits::law_opening_fits;
 pub use images::{
     law_commits_end_flushed, law_commits_fit, law_commits_lose_the_rest,
-    law_commits_write_their_copy, law_images_agree_at_first, law_images_are_long,
-    law_images_hold_triples, law_images_keep_old, law_images_keep_opened,
-    law_images_keep_their_shape, law_images_name_a_begun, law_images_name_their_commit,
-    law_images_read_back, law_images_show_log,
+    law_commits_write_their_copy, law_images_are_long, law_images_hold_triples,
+    law_images_keep_old, law_images_keep_their_shape, law_images_name_a_begun,
+    law_images_name_their_commit, law_images_read_back, law_images_show_log,
 };
 pub use in_turn::{
     law_commit_always_stands, law_ends_open, law_floor_opens, law_phases_open, law_points_open,

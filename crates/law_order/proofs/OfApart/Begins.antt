@@ -3,12 +3,12 @@ use Rattle.std.proofs.Common.{[]}
 use Rattle.fkv_world.specs.Runs.{run}
 use Rattle.law_apart.specs.Apart.Rows.{AttemptApart, PendingApart}
 use Rattle.law_local.proofs.OfSessions.Known.{opened_known}
-use Rattle.law_order.specs.Apart.Laws.{BeginsApart}
+use Rattle.law_order.specs.Apart.Lives.{AllApartBehind}
 use Rattle.law_order.proofs.OfShifts.First.{none_first}
-use Rattle.law_order.specs.Known.Begins.{home_of_world}
+use Rattle.law_order.specs.Known.Begins.{BegunLife, home_of_world}
 use Rattle.law_refine.specs.Events.GhostEvents.{life_ghosts}
 
-pub begins_apart : BeginsApart
+pub begins_apart : (life : BegunLife) → AllApartBehind life.opening life.ghosts []
 unfolding run
 begins_apart life session s found = record {
   none = none_first life.opening;

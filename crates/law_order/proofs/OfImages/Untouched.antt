@@ -1,4 +1,4 @@
--- What lies below all that is written is as it was opened; so is what lies below the log, until a commit is written.
+-- What lies below all that is written is as it was opened.
 use Rattle.std.proofs.Common.{◌≡◌, ℕ, ◌+◌, ◌<◌, ◌≤◌, ◌∙◌, refl, sym, ap, subst, arith, Bool, true, false, List, [], ◌∷◌, ◌++◌, length}
 use Rattle.std.specs.Prelude.{⊤, not, ◌&&◌}
 use Rattle.fkv_base.specs.declared.shapes.Shape.{Shape}
@@ -10,10 +10,8 @@ use Rattle.fkv_flush.specs.declared.flushing.Flushing.TheVariants.{WritesPart, S
 use Rattle.fkv_flush.specs.Flushing.{flush_calls}
 use Rattle.fkv_keeper.specs.declared.answers.KeeperTold.{KeeperTold}
 use Rattle.fkv_keeper.specs.declared.answers.KeeperTold.TheVariants.{Device}
-use Rattle.fkv_keeper.specs.declared.keepers.Keeping.{Keeping}
-use Rattle.fkv_keeper.specs.declared.keepers.Keeping.TheVariants.{Maintains, Writes}
-use Rattle.fkv_keeper.specs.Keeping.{KeeperState, keeper_ask}
-use Rattle.fkv_keeper.specs.KeeperAsks.{keeper_calls, keeping_calls}
+use Rattle.fkv_keeper.specs.Keeping.{keeper_ask}
+use Rattle.fkv_keeper.specs.KeeperAsks.{keeper_calls}
 use Rattle.fkv_maintain.specs.declared.maintaining.Maintaining.{Maintaining}
 use Rattle.fkv_maintain.specs.declared.maintaining.Maintaining.TheVariants.{Flushes}
 use Rattle.fkv_maintain.specs.Maintaining.{MaintainState, maintaining_calls}
@@ -23,9 +21,7 @@ use Rattle.fkv_record.specs.Places.{record_place}
 use Rattle.fkv_world.specs.Past.{calls_after}
 use Rattle.fkv_world.specs.Runs.{World, happens, read_by_keeper, run}
 use Rattle.fkv_world.specs.World.{Event, Calls, Moves, Commits, Turns, KeeperMoves, Crashes, Now, life_goes}
-use Rattle.fkv_world.proofs.Shown.{added_calls, calls_added, is_over, lived, shape_stays}
-use Rattle.law_world.specs.Standing.Standing.{is_at_writes}
-use Rattle.law_order.specs.Images.First.{WritesNoCommit}
+use Rattle.fkv_world.proofs.Shown.{added_calls, calls_added, is_over, lived}
 use Rattle.law_order.proofs.OfImages.Reaching.{synced_longer}
 use Rattle.law_order.proofs.OfImages.Ranges.{range_same}
 
@@ -82,12 +78,6 @@ unfolding maintaining_calls
 maintain_above shape s Flushes done = flush_above shape s.bytes s.flushing done
 maintain_above shape s step done = tt
 
-keeping_above : (shape : Shape) (s : KeeperState) (step : Keeping) (done : Bool) → is_at_writes step ≡ false → AreAbove (record_place shape 0) (keeping_calls shape s step done)
-unfolding keeping_calls
-keeping_above shape s Maintains done none = maintain_above shape s.maintain s.maintain.step done
-keeping_above shape s Writes done none = cc
-keeping_above shape s step done none = tt
-
 -- and a flush is above the slots too
 lower : (low base : ℕ) (calls : List Call) → low ≤ base → AreAbove base calls → AreAbove low calls
 lower low base [] less above = tt
@@ -128,9 +118,3 @@ life_above opening base (event ∷ before) none makes = by_crash (run opening be
     by_crash false alive was =
         subst (AreAbove base) (sym (ap (λ (x : World). x.past.calls) (lived w event alive) ∙ added_calls w (life_goes w.now (read_by_keeper w) event) event))
         (event_above base w.now event w.past.calls makes.0 was)
-
--- until a commit is written the keeper writes to the log alone
-pub first_above : (opening : World) (events : List Event) → WritesNoCommit opening events → MakesAbove opening (record_place opening.now.shape 0) events
-first_above opening [] writes = tt
-first_above opening (event ∷ before) writes =
-    (λ done. let n : Now = (run opening before).now in subst (λ (s : Shape). AreAbove (record_place s 0) (keeper_calls n.shape n.keeper done)) (shape_stays opening before) (keeping_above n.shape n.keeper n.keeper.step done writes.0), first_above opening before writes.1)
