@@ -51,12 +51,7 @@ pub fn run_threads<G: Gate + Sync, W: Write, R: Threads + Wait + Sync>(
 /// The same over a new store in the file of this path, which is opened again for the report. Behind the status stands what is wrong with the
 /// file, if that is why it is 3.
 #[tactic(auto, using(fkv_texts::proofs::Shown::appends_nothing))]
-pub fn run_threads_in_file<
-    G: Gate + Sync,
-    W: Write,
-    R: Threads + Wait + Sync,
-    H: Files,
->(
+pub fn run_threads_in_file<G: Gate + Sync, W: Write, R: Threads + Wait + Sync, H: Files>(
     rt: &R,
     files: &H,
     alloc: Global,
@@ -77,13 +72,17 @@ where
         Ok(shape) => report_in_file(rt, files, alloc, path, shape, &script.lines, gate),
         Err(fault) => Err(Trouble::Fault(fault)),
     };
+    let (reported, trouble) = told_apart(reported);
+    let status = write_reported(alloc, output, reported)?;
+    Ok((status, trouble))
+}
+
+/// What is written of a run, and what is wrong with the file where that is why there is no report.
+fn told_apart(reported: Result<Report, Trouble>) -> (Result<Report, Fault>, Option<Trouble>) {
     match reported {
-        Ok(report) => Ok((write_reported(alloc, output, Ok(report))?, None)),
-        Err(Trouble::Fault(fault)) => Ok((write_reported(alloc, output, Err(fault))?, None)),
-        Err(trouble) => Ok((
-            write_reported(alloc, output, Err(Fault::Device))?,
-            Some(trouble),
-        )),
+        Ok(report) => (Ok(report), None),
+        Err(Trouble::Fault(fault)) => (Err(fault), None),
+        Err(trouble) => (Err(Fault::Device), Some(trouble)),
     }
 }
 
@@ -139,7 +138,9 @@ fn report_in_memory<G: Gate + Sync, R: Threads + Wait + Sync>(
     let device = Fuse::new(MemDisk::new(alloc));
     let Played { logs, keeper } = play_new(rt, alloc, device, shape, lines, gate)?;
     let KeeperEnd {
-        device, finished, ..
+        device,
+        finished,
+        ..
     } = keeper;
     let mut image = device.crash(0)?;
     report_on(alloc, lines, &logs, &finished, &mut image)
@@ -168,7 +169,9 @@ where
     let device = Mirror::new(alloc, file, length)?;
     let Played { logs, keeper } = play_new(rt, alloc, device, shape, lines, gate)?;
     let KeeperEnd {
-        device, finished, ..
+        device,
+        finished,
+        ..
     } = keeper;
     drop(device);
     let (file, _) = open_alone(files, path)?;

@@ -18,13 +18,7 @@ const SCRIPT_LIMIT: u64 = 65536 * 201 + 1;
 /// Runs the program, whose words ask for threads over a store in memory, or in the file of this path: writes the report of the script that the
 /// input gives. The status: 0; 1 where something differs; 2 where the script or its shape is refused; 3 where a store or a turn is.
 /// Where it is above 0, a line of complaint says in words what it means. An `Err` is memory, a thread, or a stream that failed.
-pub fn run<
-    R: Threads + Wait + Sync,
-    H: Files,
-    I: Read + Drop,
-    W: Write,
-    E: Write,
->(
+pub fn run<R: Threads + Wait + Sync, H: Files, I: Read + Drop, W: Write, E: Write>(
     rt: &R,
     files: &H,
     alloc: Global,
@@ -63,12 +57,7 @@ pub fn refuse_seed<W: Write, E: Write>(output: &mut W, complaints: &mut E) -> io
 }
 
 /// Runs the script of these bytes, or writes its first faulty line.
-fn run_bytes<
-    R: Threads + Wait + Sync,
-    H: Files,
-    W: Write,
-    E: Write,
->(
+fn run_bytes<R: Threads + Wait + Sync, H: Files, W: Write, E: Write>(
     rt: &R,
     files: &H,
     alloc: Global,
@@ -99,12 +88,7 @@ where
 }
 
 /// Runs a script over a new store in the file of this path.
-fn run_in_file<
-    R: Threads + Wait + Sync,
-    H: Files,
-    W: Write,
-    E: Write,
->(
+fn run_in_file<R: Threads + Wait + Sync, H: Files, W: Write, E: Write>(
     rt: &R,
     files: &H,
     alloc: Global,
