@@ -164,9 +164,11 @@ module _ {D : Type 0} (seen : D → List ℕ) (medium : Medium D) (settings : Se
       record {
         its = with_events before.its events;
         lives = before.before;
-        says =
-            (played, subst (λ (x : Bool). EndsLifeWhere seen medium.may_leave medium settings x before after over (crash_in seen medium.may_leave medium settings piece before.run behind over text played)) (sym none)
-            (record { events = events; same = refl; lives = refl; shown = shown }));
+        says = (
+          played,
+          subst (λ (x : Bool). EndsLifeWhere seen medium.may_leave medium settings x before after over (crash_in seen medium.may_leave medium settings piece before.run behind over text played)) (sym none)
+              (record { events = events; same = refl; lives = refl; shown = shown }),
+        );
         shown = λ goes. on_with before.its events before.before before.run.player behind.player were shown;
       }
 

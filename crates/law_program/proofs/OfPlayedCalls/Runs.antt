@@ -251,9 +251,12 @@ module _ {D : Type 0} (seen : D → List ℕ) (may_leave : D → List ℕ → Ty
   runs_go_on [] its before after over text shown plain played =
       (played.0, played.1, played.2, due_reported its after (subst (λ (x : RunState D). IsShown seen may_leave its x.player) (sym played.0) shown))
   runs_go_on (piece ∷ []) its before after over text shown plain played = λ few.
-      let one = piece_goes_on piece its before after over text shown plain.0 few played in
-      (one.next, one.says, λ on. due_reported one.next after
-      (shown_behind piece its one.next before after text (subst (λ (x : Bool). IsPieceInLives seen may_leave medium settings piece its one.next before after x text) on one.says)))
+      let one = piece_goes_on piece its before after over text shown plain.0 few played in (
+        one.next,
+        one.says,
+        λ on. due_reported one.next after
+            (shown_behind piece its one.next before after text (subst (λ (x : Bool). IsPieceInLives seen may_leave medium settings piece its one.next before after x text) on one.says)),
+      )
   runs_go_on (piece ∷ other ∷ later) its before after over text shown plain played = λ few.
       let one = piece_goes_on piece its before played.0 false played.1 shown plain.0 few played.3 in
       (one.next, played.0, played.1, played.2, one.says, runs_go_on (other ∷ later) one.next played.0 after over played.2 (shown_behind piece its one.next before played.0 played.1 one.says) plain.1 played.4, played.5)
