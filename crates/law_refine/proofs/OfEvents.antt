@@ -11,8 +11,10 @@ pub mod ReadTries
 pub mod RequestNames
 mod ReservedCells
 pub mod ReservedLife
+pub mod Searches
 pub mod SessionEffects
 pub mod SessionSteps
+pub mod Taking
 pub mod Trace
 pub mod TryAppends
 mod TryEffects
