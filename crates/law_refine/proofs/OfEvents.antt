@@ -6,6 +6,7 @@ pub mod Below
 mod Between
 pub mod EventEffects
 pub mod Fixed
+pub mod Looks
 pub mod Own
 pub mod ReadTries
 pub mod RequestNames

@@ -287,11 +287,6 @@ unfolding protect_ask
 protect_puts n protect.AtRest = tt
 protect_puts n step = tt
 
-leave_puts : (n : ℕ) (step : Leaving) → PutsNone (leave_ask n step)
-unfolding leave_ask
-leave_puts n leave.AtRest = tt
-leave_puts n step = tt
-
 catch_puts : (p : Places) (n : ℕ) (c : CatchState) (requests : List PendingRequest) (step : Catching) → PutsNone (catching_ask p n c requests step)
 unfolding catching_ask
 catch_puts p n c requests catching.Ended = tt
@@ -301,6 +296,11 @@ catch_puts p n c requests catching.StoresCut = tt
 catch_puts p n c requests catching.StoresOwing = tt
 catch_puts p n c requests (catching.Latches index) = passed_puts _ _ (off_puts _ (latch_off c.latching))
 catch_puts p n c requests catching.Finishes = passed_puts (refresh_ask n c.refreshing) _ (refresh_puts n c.refreshing)
+
+leave_puts : (n : ℕ) (step : Leaving) → PutsNone (leave_ask n step)
+unfolding leave_ask
+leave_puts n leave.AtRest = tt
+leave_puts n step = tt
 
 sitting_puts : (k : Seat) (s : SessionState) (step : Sitting) → PutsNone (sitting_ask k s step)
 unfolding sitting_ask

@@ -19,6 +19,8 @@ use Rattle.law_commit.specs.Views.{IsComing, IsTakenFrom, Sight, TakesUp, View, 
 use Rattle.law_commit.proofs.Sights.{coming_seen, view_seen}
 use Rattle.law_commit.proofs.OfFloor.Stands.{few_stages, has_floor, life_floored}
 use Rattle.law_commit.proofs.OfShares.Alone.{rising}
+use Rattle.law_commit.proofs.OfShares.Onward.{rank_high}
+use Rattle.law_commit.proofs.OfQuiet.Live.{rank_low}
 
 -- ---- ranks
 -- in no phase but prepare the rank is above that of rest
@@ -29,30 +31,16 @@ most_rank InProgress version = inl (omega arith)
 most_rank WaitPending version = inl (omega arith)
 most_rank WaitFlush version = inl (omega arith)
 
-top_rank : (phase : Phase) (version : ℕ) → rank phase version ≤ 5 * version + 1
-top_rank Rest version = omega arith
-top_rank Prepare version = omega arith
-top_rank InProgress version = omega arith
-top_rank WaitPending version = omega arith
-top_rank WaitFlush version = omega arith
-
-low_rank : (phase : Phase) (version : ℕ) → 5 * version ≤ rank phase version + 3
-low_rank Rest version = omega arith
-low_rank Prepare version = omega arith
-low_rank InProgress version = omega arith
-low_rank WaitPending version = omega arith
-low_rank WaitFlush version = omega arith
-
 -- before in-progress, and from in-progress on
 early : (n stage : ℕ) (phase next : Phase) (version coming : ℕ) → stage ≤ 1 → 5 * n ≤ rank phase version + 1 → rank next coming ≤ 5 * n + stage → version ≤ coming → coming ≡ version
 early n stage phase next version coming few low high rises =
-    let top = top_rank phase version in
-    let bottom = low_rank next coming in
+    let top = rank_low phase version in
+    let bottom = rank_high next coming in
     omega (arith, few, low, high, rises, top, bottom)
 
 late : (n stage : ℕ) (phase next : Phase) (version coming : ℕ) → stage ≤ 4 → 5 * n + 1 ≤ rank phase version → rank next coming ≤ 5 * n + stage → version ≤ coming → (coming ≡ version) ⊎ (is_prepare phase ≡ true)
 late n stage phase next version coming few low high rises =
-    let bottom = low_rank next coming in
+    let bottom = rank_high next coming in
     elim (most_rank phase version) [
       | inl top ↦ inl (omega (arith, few, low, high, rises, top, bottom))
       | inr prepares ↦ inr prepares
