@@ -23,7 +23,7 @@ module _ (measure : View → ℕ) (measure_said : PhaseSaid → ℕ)
     (fits : (words : List ℕ) (its : View) (said : PhaseSaid) → measure its ≤ measure_said said → (measure its ≤ measure (view_said words its said)) × (measure (view_said words its said) ≤ measure_said said))
     (words : List ℕ) (its : Sight) (k : Seat) (s : SessionState) (AllGo : List SessionEvent → Type 0) (none : AllGo [])
     (more : (event : SessionEvent) (before : List SessionEvent) (was after : Sight) → IsSeenAs was.view (session_run k s before).seen → IsSeenAs after.view (session_run k s (event ∷ before)).seen
-        → HasRisen measure (top_of measure measure_said fits words) was after → AllGo before → AllGo (event ∷ before)) where
+    → HasRisen measure (top_of measure measure_said fits words) was after → AllGo before → AllGo (event ∷ before)) where
   pub through_each : (events : List SessionEvent) → IsBelow measure (top_of measure measure_said fits words) its → Sees its s → TellAll words k s events
       → IsBelow measure (top_of measure measure_said fits words) (sight_through words k s events its) × AllGo events
   unfolding sight_through TellAll
