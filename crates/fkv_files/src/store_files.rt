@@ -25,10 +25,7 @@ impl Lockable for File {
 
 /// Opens the file of a store that is there, for this process alone, and tells how many bytes it has. That is known of a regular file
 /// alone: the system says 0 of a block device.
-pub fn open_alone<H: Files>(
-    rt: &H,
-    path: &str,
-) -> Result<(FileDisk<H::File>, Option<u64>), Trouble>
+pub fn open_alone<H: Files>(rt: &H, path: &str) -> Result<(FileDisk<H::File>, Option<u64>), Trouble>
 where
     H::File: Lockable,
 {
@@ -52,10 +49,7 @@ fn length_of(known: &Metadata) -> Option<u64> {
 /// Opens a file that a new store is to lie in, for this process alone, and makes it where there is none. The bytes of one that is
 /// there stay as they are; it is refused unless it is empty, its front is all zeros, or it begins as a store does. Behind this call
 /// the folder of a new file is synced. Tells how many bytes a regular file has.
-pub fn make_alone<H: Files>(
-    rt: &H,
-    path: &str,
-) -> Result<(FileDisk<H::File>, Option<u64>), Trouble>
+pub fn make_alone<H: Files>(rt: &H, path: &str) -> Result<(FileDisk<H::File>, Option<u64>), Trouble>
 where
     H::File: Lockable,
 {

@@ -130,9 +130,7 @@ fn has_its_bytes(rt: &impl Abort, more: &[(usize, u64); 5], format: Format) {
     let bytes = bytes_with(rt, &numbers);
     assert!(rt; write_manifest_slot(&second_slot(), format) == Some(bytes));
     let read = read_manifest_slot(&bytes);
-    assert!(rt;
-        read.map(|(found, read)| (found, read == second_slot())) == Some((format, true))
-    );
+    assert!(rt; read.map(|(found, read)| (found, read == second_slot())) == Some((format, true)));
 }
 
 // The first format has no place for another commit's checkpoint, nor for a range.

@@ -31,4 +31,4 @@ returns c =
     (λ t e. number_read 64 (λ u r. ParsesUnsigned 64 10 u r × ExplainsUnsignedError 10 u r × HasUnsignedDigitsIfOk u r) t c.get_one-seed.result (c.get_one-seed.ensures.value t (text_of (codes "seed") ∙ e)) (λ u r g. g.0)) in
     let path : first_value found (codes "file") ≡ file_beside words = first_value-rows found (codes "file") ∙ ap (first_of (codes "file")) rows in
     asked_so words c.unwrap_or-threads.result c.get_one-seed.result c.in_ok-file.file c.asked_by.result accepted (c.unwrap_or-threads.ensures ∙ flag) seed (c.in_ok-file.ensures ∙ c.get_str.ensures ∙ path)
-      c.asked_by.ensures.none c.asked_by.ensures.seed c.asked_by.ensures.threads
+    c.asked_by.ensures.none c.asked_by.ensures.seed c.asked_by.ensures.threads
