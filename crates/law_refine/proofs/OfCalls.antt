@@ -3,7 +3,7 @@ pub mod InHand
 pub mod Life
 pub mod LifeHistory
 pub mod MadeBy
-mod Named
+pub mod Named
 mod Once
 pub mod SameHistory
 mod Standing

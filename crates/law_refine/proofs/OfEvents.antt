@@ -6,13 +6,16 @@ pub mod Below
 mod Between
 pub mod EventEffects
 pub mod Fixed
+pub mod Looks
 pub mod Own
 pub mod ReadTries
 pub mod RequestNames
 mod ReservedCells
 pub mod ReservedLife
+pub mod Searches
 pub mod SessionEffects
 pub mod SessionSteps
+pub mod Taking
 pub mod Trace
 pub mod TryAppends
 mod TryEffects

@@ -10,7 +10,7 @@ pub mod LifeMoves
 pub mod Moved
 mod Openings
 mod OwnAsks
-mod SessionAsks
+pub mod SessionAsks
 pub mod SessionParts
 pub mod TryParts
 pub mod WalkParts

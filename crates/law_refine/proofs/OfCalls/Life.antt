@@ -156,7 +156,7 @@ comes_stood first number effects trace after its told is_after next comes =
         ∙ (told_split effects (call_answered number true its.step its.finished) comes.begun trace ∙ ap (λ (x : List Traced). told_at effects (call_answered number true its.step its.finished) ++ x) (sym comes.is_behind)))
 
 -- ---- others' events
-abbrev AreOthers : ℕ → List TraceEvent → Type 0
+abbrev pub AreOthers : ℕ → List TraceEvent → Type 0
 AreOthers number [] = ⊤
 AreOthers number (it ∷ before) = is_other number it × AreOthers number before
 
@@ -164,7 +164,7 @@ others_told : (first : ℕ → ℕ) (number effects : ℕ) (told : List TraceEve
 others_told first number effects [] trace all = refl
 others_told first number effects (it ∷ before) trace all = other_told first number (record { its = it; effects = effects }) (told_at effects before ++ trace) all.0 ∙ others_told first number effects before trace all.1
 
-keepers_other : (number : ℕ) (told : List TraceEvent) → AreOfKeeper told → AreOthers number told
+pub keepers_other : (number : ℕ) (told : List TraceEvent) → AreOfKeeper told → AreOthers number told
 keepers_other number [] all = tt
 keepers_other number (it ∷ before) all = (by_event it all.0, keepers_other number before all.1)
   where
@@ -173,11 +173,11 @@ keepers_other number (it ∷ before) all = (by_event it all.0, keepers_other num
     by_event (Answered session its) its_own = absurd its_own
     by_event event its_own = tt
 
-both_others : (number : ℕ) (later before : List TraceEvent) → AreOthers number later → AreOthers number before → AreOthers number (later ++ before)
+pub both_others : (number : ℕ) (later before : List TraceEvent) → AreOthers number later → AreOthers number before → AreOthers number (later ++ before)
 both_others number [] before ones others = others
 both_others number (it ∷ later) before ones others = (ones.0, both_others number later before ones.1 others)
 
-end_other : (number at : ℕ) (step : Sitting) (list : List Finished) → (at == number) ≡ false → AreOthers number (call_answered at true step list)
+pub end_other : (number at : ℕ) (step : Sitting) (list : List Finished) → (at == number) ≡ false → AreOthers number (call_answered at true step list)
 end_other number at (Idle its) list other = (other, tt)
 end_other number at step list other = tt
 

@@ -136,22 +136,24 @@ call_nothing w at its alive quiet none =
     ∙ (ap (λ (b : Bool). session_answered at b (slice_get (happens w (Calls at its)).now.sessions at) ++ []) quiet
     ∙ ap (λ (x : List TraceEvent). x ++ []) (none_answered at (slice_get (happens w (Calls at its)).now.sessions at))))
 
+pub started_now : (w : World) (at : ℕ) (its : Call) (s : SessionState) → w.now.crashed ≡ false → slice_get w.now.sessions at ≡ Some s → is_busy s.step ≡ false
+    → slice_get (happens w (Calls at its)).now.sessions at ≡ Some (session_begun (seat_at w.now at) s its)
+unfolding session_goes
+started_now w at its s alive found idle =
+    session_written w (Calls at its) at s (grind (arith, nat_tests)) alive found ∙ ap (λ (b : Bool). Some (if b then s else session_begun (seat_at w.now at) s its)) idle
+
+pub started_told : (w : World) (at : ℕ) (its : Call) (s : SessionState) → w.now.crashed ≡ false → slice_get w.now.sessions at ≡ Some s → is_busy s.step ≡ false
+    → told_by w.now (happens w (Calls at its)).now (Calls at its) ≡ call_answered at true (session_begun (seat_at w.now at) s its).step (session_begun (seat_at w.now at) s its).finished ++ Called at its ∷ []
+unfolding ended_by begun_by
+started_told w at its s alive found idle =
+    alive_told w (Calls at its) alive
+    ∙ (ap (λ (x : Option SessionState). session_answered at (is_calling true (slice_get w.now.sessions at)) x ++ call_begun at its (slice_get w.now.sessions at)) (started_now w at its s alive found idle)
+    ∙ (ap (λ (x : Option SessionState). session_answered at (is_calling true x) (Some (session_begun (seat_at w.now at) s its)) ++ call_begun at its x) found
+    ∙ ap (λ (b : Bool). session_answered at (if b then false else true) (Some (session_begun (seat_at w.now at) s its)) ++ (if b then [] else Called at its ∷ [])) idle))
+
 call_starts : (w : World) (at : ℕ) (its : Call) (s : SessionState) → w.now.crashed ≡ false → slice_get w.now.sessions at ≡ Some s → is_busy s.step ≡ false → TellsSo w (Calls at its)
-unfolding ended_by begun_by session_goes
-call_starts w at its s alive found idle = Sessions at s after found now (λ other e. session_apart w (Calls at its) other e) (Starts its idle refl told)
-  where
-    after : SessionState
-    after = session_begun (seat_at w.now at) s its
-
-    now : slice_get (happens w (Calls at its)).now.sessions at ≡ Some after
-    now = session_written w (Calls at its) at s (grind (arith, nat_tests)) alive found ∙ ap (λ (b : Bool). Some (if b then s else after)) idle
-
-    told : told_by w.now (happens w (Calls at its)).now (Calls at its) ≡ call_answered at true after.step after.finished ++ Called at its ∷ []
-    told =
-        alive_told w (Calls at its) alive
-        ∙ (ap (λ (x : Option SessionState). session_answered at (is_calling true (slice_get w.now.sessions at)) x ++ call_begun at its (slice_get w.now.sessions at)) now
-        ∙ (ap (λ (x : Option SessionState). session_answered at (is_calling true x) (Some after) ++ call_begun at its x) found
-        ∙ ap (λ (b : Bool). session_answered at (if b then false else true) (Some after) ++ (if b then [] else Called at its ∷ [])) idle))
+call_starts w at its s alive found idle =
+    Sessions at s (session_begun (seat_at w.now at) s its) found (started_now w at its s alive found idle) (λ other e. session_apart w (Calls at its) other e) (Starts its idle refl (started_told w at its s alive found idle))
 
 call_found : (w : World) (at : ℕ) (its : Call) (found : Option SessionState) → w.now.crashed ≡ false → slice_get w.now.sessions at ≡ found → TellsSo w (Calls at its)
 call_found w at its None alive e = nothing w (Calls at its) (no_session w at its e).0 (call_nothing w at its alive (ap (is_calling true) e) (ap (call_begun at its) e))

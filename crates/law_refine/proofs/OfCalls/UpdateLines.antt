@@ -101,7 +101,7 @@ refused_calls key reader session serial (Some made) is_in = by_call made.call is
     by_call (call.Op o) (inr none) = none
     by_call its it = it
 
-answer_calls : (key reader session : ℕ) (first : ℕ → ℕ) (trace : List Traced) (its : Told) (list : List Finished) → IsIn (CallsRead reader key) (answer_lines first trace session its list) → ⊥
+pub answer_calls : (key reader session : ℕ) (first : ℕ → ℕ) (trace : List Traced) (its : Told) (list : List Finished) → IsIn (CallsRead reader key) (answer_lines first trace session its list) → ⊥
 answer_calls key reader session first trace (told.Done serial its) list (inl same) = cc
 answer_calls key reader session first trace (told.Done serial its) list (inr none) = none
 answer_calls key reader session first trace (told.Found value) list (inl same) = cc

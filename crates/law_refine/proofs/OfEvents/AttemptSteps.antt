@@ -1,9 +1,8 @@
 -- How a reply to an attempt moves what it has reserved, beside the log's events of the step.
 use Rattle.std.proofs.Common.{◌≡◌, ℕ, ◌∙◌, refl, sym, ap, subst, Bool, true, false, List, [], ◌++◌}
-use Rattle.std.specs.Prelude.{◌==◌, if◌then◌else◌, Option, Some, None}
+use Rattle.std.specs.Prelude.{if◌then◌else◌, Option, Some, None}
 use Rattle.fkv_map.specs.declared.operations.Op.{Op}
 use Rattle.fkv_map.specs.declared.operations.Op.TheVariants.{Read}
-use Rattle.fkv_map.specs.Keys.{key_of}
 use Rattle.law_log.specs.Ghosts.{GhostEvent, TakesValue}
 use Rattle.fkv_plane.specs.declared.asks.Ask.{Ask}
 use Rattle.fkv_plane.specs.declared.asks.Ask.TheVariants.{Done}
@@ -13,27 +12,22 @@ use Rattle.fkv_plane.specs.Passing.{is_done}
 use Rattle.fkv_ops.specs.declared.answers.DiskRecord.{DiskRecord}
 use Rattle.fkv_ops.specs.declared.answers.TryAnswer.{TryAnswer}
 use Rattle.fkv_ops.specs.declared.answers.TryAnswer.TheVariants as answer
-use Rattle.fkv_ops.specs.declared.header_words.HeaderSaid.{HeaderSaid}
-use Rattle.fkv_ops.specs.declared.header_words.HeaderSaid.TheVariants.{Says, Spoiled}
 use Rattle.fkv_ops.specs.declared.requests.Occasion.{Occasion}
 use Rattle.fkv_ops.specs.declared.requests.Seen.{Seen}
 use Rattle.fkv_ops.specs.declared.trying.Trying.{Trying}
 use Rattle.fkv_ops.specs.declared.trying.Trying.TheVariants as trying
-use Rattle.fkv_ops.specs.HeaderWords.{header_said}
-use Rattle.fkv_ops.specs.Values.{value_of}
-use Rattle.fkv_ops.specs.Trying.{TryState, try_ask, try_next, told_value}
+use Rattle.fkv_ops.specs.Trying.{TryState, try_ask, try_next}
 use Rattle.fkv_ops.proofs.Shown.{is_try_end, TryRestsOrAsks, try_done, try_rests}
 use Rattle.fkv_pending.specs.declared.attempting.Attempting.{Attempting}
 use Rattle.fkv_pending.specs.declared.attempting.Attempting.TheVariants.{Ended, Looks, Tries, Puts}
 use Rattle.fkv_pending.specs.declared.mailing.MailAnswer.{MailAnswer}
 use Rattle.fkv_pending.specs.declared.mailing.MailAnswer.TheVariants as mail
-use Rattle.fkv_pending.specs.declared.mailing.MailRecord.{MailRecord}
 use Rattle.fkv_pending.specs.declared.mailing.MailTask.TheVariants.{Take}
 use Rattle.fkv_pending.specs.declared.mailing.Mailing.TheVariants.{LoadsState}
 use Rattle.fkv_pending.specs.declared.pending_requests.PendingRequest.{PendingRequest}
 use Rattle.fkv_pending.specs.Mailing.{mail_ask, mail_next}
-use Rattle.fkv_pending.specs.Pending.{with_sought, with_held, with_latch, with_asked}
-use Rattle.fkv_pending.specs.Attempting.{AttemptState, attempting_ask, attempt_ask, attempt_ended, waits_for_disk, puts_addr, puts, tries, is_seeking_read, goes_on, attempt_begun, held_of, moved_on, read_on, record_taken, look_ledto, held_kept, awaits_record, tried, try_ledto, put_ledto, mail_moved, try_moved, attempting_next, attempt_next, new_attempt}
+use Rattle.fkv_pending.specs.Pending.{with_sought, with_held, with_latch}
+use Rattle.fkv_pending.specs.Attempting.{AttemptState, attempting_ask, attempt_ask, waits_for_disk, puts_addr, puts, tries, is_seeking_read, goes_on, attempt_begun, look_ledto, held_kept, awaits_record, tried, try_ledto, put_ledto, mail_moved, try_moved, attempting_next, attempt_next, new_attempt}
 use Rattle.fkv_pending.proofs.Shown.{AttemptRestsOrAsks}
 use Rattle.fkv_session.specs.Sessions.{Seat, bits_of, room_of}
 use Rattle.law_refine.specs.Events.Reservations.{MovesOn, Keeps, Behind, Reservation, try_reserves, attempt_reserves}
@@ -41,6 +35,7 @@ use Rattle.law_refine.specs.Events.Sessions.{value_ghosts, tried_ghosts, attempt
 use Rattle.law_refine.specs.Events.Tries.{try_ghosts}
 use Rattle.law_refine.proofs.OfEvents.AppendSteps.{passes}
 use Rattle.law_refine.proofs.OfEvents.TrySteps.{begun_free, try_on}
+use Rattle.law_refine.proofs.OfEvents.Looks.{look_holds}
 
 -- nothing is reserved by it
 abbrev pub IsFreeOf : ℕ → AttemptState → Type 0
@@ -67,23 +62,9 @@ attempt_begun_free session p bits pending seen occasion spare is_orphaned =
     either_free session pending.has_asked (record its { mailing = LoadsState Take; step = Looks }) (goes_on p bits its) refl (goes_free session p bits its)
 
 -- ---- a look into the mailbox
-read_free : (session : ℕ) (a : AttemptState) (its : MailRecord) (said : HeaderSaid) → IsFreeOf session (read_on a its said)
-read_free session a its Spoiled = puts_addr_free session a a.pending.sought
-read_free session a its (Says previous version) =
-    let next : AttemptState = record a { pending = with_sought a.pending (moved_on a.pending.sought previous) } in
-    either_free session (its.key.0 == (key_of a.pending.request.op).0) (attempt_ended a (told_value (value_of its.value))) (if previous.0 == 0 then attempt_ended a answer.Absent else puts next) refl
-    (either_free session (previous.0 == 0) (attempt_ended a answer.Absent) (puts next) refl (puts_addr_free session next next.pending.sought))
-
-taken_free : (session : ℕ) (p : Places) (bits : ℕ) (a : AttemptState) (its : MailRecord) (said : HeaderSaid) → IsFreeOf session (record_taken p bits a its said)
-taken_free session p bits a its said =
-    let held : AttemptState = record a { pending = with_held a.pending (held_of a.pending.sought its said) } in
-    either_free session (is_seeking_read a) (read_on a its said) (tries p bits held) (read_free session a its said) (tries_free session p bits held)
-
 look_free : (session : ℕ) (p : Places) (bits : ℕ) (a : AttemptState) (ask : Ask MailAnswer) → a.step ≡ Looks → IsFreeOf session (look_ledto p bits a ask)
-unfolding look_ledto
-look_free session p bits a (Done (mail.Taken its)) at = taken_free session p bits (record a { is_emptied = true; pending = with_asked a.pending false }) its (header_said its.header)
-look_free session p bits a (Done other) at = either_free session (is_seeking_read a) (waits_for_disk a) (tries p bits a) refl (tries_free session p bits a)
-look_free session p bits a ask at = ap (attempt_reserves session a) at
+look_free session p bits a ask at =
+    look_holds (λ its. IsFreeOf session its) (λ its told. refl) (λ its sought. puts_addr_free session its sought) p bits (λ its. tries_free session p bits its) a ask (ap (attempt_reserves session a) at)
 
 put_free : (session : ℕ) (a : AttemptState) (ask : Ask MailAnswer) → a.step ≡ Puts → IsFreeOf session (put_ledto a ask)
 unfolding put_ledto

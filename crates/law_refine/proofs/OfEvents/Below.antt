@@ -1,6 +1,6 @@
 -- Below where the records ended as the store was opened, the log stays: records are taken at the tail alone, and those that were there are fixed.
 use Rattle.std.proofs.Common.{◌≡◌, ◌≢◌, ℕ, ◌<◌, ◌≤◌, ◌∙◌, refl, sym, ap, subst, arith, Bool, true, false, List, [], ◌∷◌, ◌++◌}
-use Rattle.std.specs.Prelude.{⊤, map, ◌==◌, if◌then◌else◌, Option, Some, None, slice_get}
+use Rattle.std.specs.Prelude.{map, if◌then◌else◌, Option, Some, None, slice_get}
 use Rattle.fkv_map.specs.declared.history.HistoryEntry.{HistoryEntry}
 use Rattle.fkv_map.specs.Map.{Map}
 use Rattle.law_log.specs.Chains.{Cell, Logged, Reserved, Published, Dropped}
@@ -9,30 +9,27 @@ use Rattle.law_log.specs.Enabled.{AreEnabled, IsOpened, IsEnabled, IsChangeEnabl
 use Rattle.law_log.specs.Trace.{TraceLine}
 use Rattle.law_log.proofs.Shown.{Steps, enabled_before, log_steps, run_held, set_else}
 use Rattle.fkv_plane.specs.declared.asks.Ask.{Ask}
-use Rattle.fkv_plane.specs.declared.asks.Ask.TheVariants.{Put, Take, Done}
 use Rattle.fkv_plane.specs.Asked.{asked, asked_place, reply_to, word_found}
 use Rattle.fkv_session.specs.declared.answers.Told.{Told}
 use Rattle.fkv_session.specs.Sessions.{SessionState, Seat, session_ask}
-use Rattle.fkv_world.specs.Past.{Traced}
 use Rattle.fkv_world.specs.Runs.{World, happens, run}
 use Rattle.fkv_world.specs.World.{Event, Moves, seat_at}
 use Rattle.law_world.specs.Guarded.Shows as guard
 use Rattle.law_refine.specs.Events.GhostEvents.{home_in, moved_ghosts, own_ghosts, safe_at, fixed_ghosts, traced_by, serials_in, ghost_events, mapped, life_ghosts}
 use Rattle.law_refine.specs.Events.Lines.{lines_added}
-use Rattle.law_refine.specs.Events.Reservations.{AreStill, Reservation, TakesTail, MovesOn, Keeps, Behind, TakesOne, LosesOne, PublishesOne, DropsOne}
+use Rattle.law_refine.specs.Events.Reservations.{TakesTail}
 use Rattle.law_refine.specs.Events.Reserved.{tail_at}
-use Rattle.law_refine.specs.Events.Sessions.{sitting_ghosts, step_ghosts}
+use Rattle.law_refine.specs.Events.Sessions.{sitting_ghosts}
 use Rattle.law_refine.proofs.OfEvents.SessionSteps.{life_on}
 use Rattle.law_refine.proofs.OfEvents.Fixed.{life_rises}
+use Rattle.law_refine.proofs.OfEvents.Taking.{AreTaking, IsTaking, taking_both, taking_fixed, taking_moves, taking_step, taking_told}
 
 -- what an event takes lies at or above this address
 abbrev pub is_above : ℕ → GhostEvent → Type 0
-is_above bound (Reserves a entry cell) = bound ≤ a
-is_above bound event = ⊤
+is_above bound event = IsTaking (λ a. bound ≤ a) event
 
 abbrev pub AreAbove : ℕ → List GhostEvent → Type 0
-AreAbove bound [] = ⊤
-AreAbove bound (event ∷ before) = is_above bound event × AreAbove bound before
+AreAbove bound events = AreTaking (λ a. bound ≤ a) events
 
 -- ---- one event leaves what is below
 other_place : (bound a b : ℕ) → bound ≤ b → a < bound → a ≢ b
@@ -92,52 +89,6 @@ behind_below home m number first bound (event ∷ later) before opened enabled a
       fixed = least bound g.log.fixed (log_after home g.log event).fixed here.fixed steps.grows.fixed;
     }
 
--- ---- the events of a step take what lies at the tail
-both_above : (bound : ℕ) (later before : List GhostEvent) → AreAbove bound later → AreAbove bound before → AreAbove bound (later ++ before)
-both_above bound [] before one other = other
-both_above bound (event ∷ later) before one other = (one.0, both_above bound later before one.1 other)
-
-told_above : (bound : ℕ) (lines : List TraceLine) → AreAbove bound (map Tells lines)
-told_above bound [] = tt
-told_above bound (line ∷ rest) = (tt, told_above bound rest)
-
-fixed_above : (bound before safe : ℕ) → AreAbove bound (fixed_ghosts before safe)
-fixed_above bound before safe = by_test (safe == before)
-  where
-    by_test : (c : Bool) → AreAbove bound (if c then [] else Fixes safe ∷ [])
-    by_test true = tt
-    by_test false = (tt, tt)
-
-still_above : (bound : ℕ) (events : List GhostEvent) → AreStill events → AreAbove bound events
-still_above bound [] still = tt
-still_above bound (Tells line ∷ before) still = (tt, still_above bound before still.1)
-still_above bound (FindsEntry reader ∷ before) still = (tt, still_above bound before still.1)
-still_above bound (TakesValue reader ∷ before) still = (tt, still_above bound before still.1)
-still_above bound (Changes a entry ∷ before) still = (tt, still_above bound before still.1)
-still_above bound (Fixes a ∷ before) still = (tt, still_above bound before still.1)
-still_above bound (Reserves a entry cell ∷ before) still = absurd still.0
-still_above bound (Publishes a ∷ before) still = absurd still.0
-still_above bound (Drops a ∷ before) still = absurd still.0
-
-one_above : (bound : ℕ) (event : GhostEvent) (before : List GhostEvent) → AreStill (event ∷ []) → AreAbove bound before → AreAbove bound (event ∷ before)
-one_above bound event before still above = ((still_above bound (event ∷ []) still).0, above)
-
-moves_above : (bound : ℕ) (place : Option ℕ) (change : ℕ → ℕ) (reply : ℕ) (events : List GhostEvent) (before after : Option Reservation) → ((addr : ℕ) → TakesTail place change reply addr → bound ≤ addr)
-    → MovesOn place change reply events before after → AreAbove bound events
-moves_above bound place change reply events before after high (Keeps its held still) = still_above bound its still
-moves_above bound place change reply events before after high (Behind event still its) = one_above bound event _ (still, tt) (moves_above bound place change reply _ before after high its)
-moves_above bound place change reply events before after high (TakesOne its takes) = (high its.addr takes, tt)
-moves_above bound place change reply events before after high (LosesOne its takes) = (tt, (high its.addr takes, tt))
-moves_above bound place change reply events before after high (PublishesOne its) = (tt, tt)
-moves_above bound place change reply events before after high (DropsOne its) = (tt, tt)
-
-step_above : (bound : ℕ) (k : Seat) (trace : List Traced) (s : SessionState) (words : List ℕ) (ask : Ask Told) → AreAbove bound (sitting_ghosts k trace s s.step (reply_to words ask)) → AreAbove bound (step_ghosts k trace s words ask)
-unfolding step_ghosts
-step_above bound k trace s words (Done its) above = tt
-step_above bound k trace s words (Put slot action) above = tt
-step_above bound k trace s words (Take slot) above = tt
-step_above bound k trace s words ask above = above
-
 -- ---- of an event of a life, in which the tail never falls below where it began
 tail_above : (opening : World) (start : ℕ) (before : List Event) → guard.IsOpened opening.now start → start ≤ tail_at (run opening before).now
 unfolding run
@@ -155,8 +106,8 @@ moved_above opening start bound before number (Some s) opened low e =
     let ask : Ask Told = session_ask k s in
     let high : (addr : ℕ) → TakesTail (asked_place ask) (asked ask) (reply_to w.now.words ask) addr → bound ≤ addr = λ addr takes.
     subst (λ (at : ℕ). bound ≤ at) (sym (takes.found ∙ ap (word_found w.now.words) takes.at)) low in
-    step_above bound k w.past.trace s w.now.words ask
-    (moves_above bound (asked_place ask) (asked ask) (reply_to w.now.words ask) (sitting_ghosts k w.past.trace s s.step (reply_to w.now.words ask)) _ _ high (life_on opening start before number s (reply_to w.now.words ask) opened e))
+    taking_step (λ a. bound ≤ a) k w.past.trace s w.now.words ask
+    (taking_moves (λ a. bound ≤ a) (asked_place ask) (asked ask) (reply_to w.now.words ask) (sitting_ghosts k w.past.trace s s.step (reply_to w.now.words ask)) _ _ high (life_on opening start before number s (reply_to w.now.words ask) opened e))
 
 own_above : (opening : World) (start bound : ℕ) (before : List Event) (event : Event) → guard.IsOpened opening.now start → bound ≤ tail_at (run opening before).now → AreAbove bound (own_ghosts (run opening before) event)
 own_above opening start bound before (Moves number) opened low = moved_above opening start bound before number (slice_get (run opening before).now.sessions number) opened low refl
@@ -177,8 +128,8 @@ event_above opening start bound before event opened low = by_test w.now.crashed
     by_test : (c : Bool) → AreAbove bound (if c then [] else map Tells lines ++ (fixed_ghosts (safe_at w.now) (safe_at (happens w event).now) ++ own_ghosts w event))
     by_test true = tt
     by_test false =
-        both_above bound (map Tells lines) (fixed_ghosts (safe_at w.now) (safe_at (happens w event).now) ++ own_ghosts w event) (told_above bound lines)
-        (both_above bound (fixed_ghosts (safe_at w.now) (safe_at (happens w event).now)) (own_ghosts w event) (fixed_above bound (safe_at w.now) (safe_at (happens w event).now)) (own_above opening start bound before event opened low))
+        taking_both (λ a. bound ≤ a) (map Tells lines) (fixed_ghosts (safe_at w.now) (safe_at (happens w event).now) ++ own_ghosts w event) (taking_told (λ a. bound ≤ a) lines)
+        (taking_both (λ a. bound ≤ a) (fixed_ghosts (safe_at w.now) (safe_at (happens w event).now)) (own_ghosts w event) (taking_fixed (λ a. bound ≤ a) (safe_at w.now) (safe_at (happens w event).now)) (own_above opening start bound before event opened low))
 
 -- ---- and of a life
 pub life_below : (opening : World) (start : ℕ) (m : Map) (number : ℕ) (ghosts : Ghosts) (events : List Event) → guard.IsOpened opening.now start → IsOpened (home_in opening.now.shape.bucket_bits) m number ghosts → start ≤ ghosts.log.fixed

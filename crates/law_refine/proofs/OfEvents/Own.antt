@@ -9,29 +9,16 @@ use Rattle.fkv_plane.specs.declared.asks.Ask.{Ask}
 use Rattle.fkv_plane.specs.declared.asks.Ask.TheVariants.{Put, Take, Done}
 use Rattle.fkv_plane.specs.declared.places.Places.{Places}
 use Rattle.fkv_plane.specs.Asked.{reply_to}
-use Rattle.fkv_log.specs.declared.invalidating.Invalidating.{Invalidating}
-use Rattle.fkv_log.specs.declared.invalidating.Invalidating.TheVariants as invalidating
 use Rattle.fkv_log.specs.declared.reserving.ReserveAnswer.{ReserveAnswer}
 use Rattle.fkv_log.specs.declared.reserving.ReserveAnswer.TheVariants.{Reserved}
-use Rattle.fkv_log.specs.Reserving.{reserve_next_ask}
-use Rattle.fkv_index.specs.declared.publishing.PublishAnswer.{PublishAnswer}
-use Rattle.fkv_index.specs.declared.publishing.PublishAnswer.TheVariants.{Won}
 use Rattle.fkv_index.specs.declared.finding.Found.{Found}
-use Rattle.fkv_index.specs.declared.finding.Found.TheVariants.{Slot, NoSlot}
-use Rattle.fkv_index.specs.declared.finding.FindAnswer.{FindAnswer}
-use Rattle.fkv_index.specs.Finding.{find_next_ask}
-use Rattle.fkv_index.specs.Publishing.{publish_next_ask}
 use Rattle.fkv_ops.specs.declared.answers.TryAnswer.{TryAnswer}
 use Rattle.fkv_ops.specs.declared.answers.TryAnswer.TheVariants as answer
 use Rattle.fkv_ops.specs.declared.appending.Appending.{Appending}
-use Rattle.fkv_ops.specs.declared.appending.Appending.TheVariants as appending
 use Rattle.fkv_ops.specs.declared.trying.Trying.{Trying}
 use Rattle.fkv_ops.specs.declared.trying.Trying.TheVariants.{Walks, SwapsValue, ChangesValue, Appends}
-use Rattle.fkv_ops.specs.declared.walking.Walking.{Walking}
-use Rattle.fkv_ops.specs.declared.walking.Walking.TheVariants.{Finds}
 use Rattle.fkv_ops.specs.Appending.{AppendState}
 use Rattle.fkv_ops.specs.Trying.{TryState}
-use Rattle.fkv_ops.specs.Walking.{WalkState}
 use Rattle.fkv_pending.specs.declared.attempting.Attempting.{Attempting}
 use Rattle.fkv_pending.specs.declared.attempting.Attempting.TheVariants.{Tries}
 use Rattle.fkv_pending.specs.declared.pending_requests.PendingRequest.{PendingRequest}
@@ -43,12 +30,13 @@ use Rattle.fkv_session.specs.Sessions.{SessionState, Seat, bits_of, room_of, ses
 use Rattle.fkv_world.specs.Past.{Traced}
 use Rattle.fkv_world.specs.Runs.{World}
 use Rattle.fkv_world.specs.World.{Event, Moves, seat_at}
-use Rattle.law_refine.specs.Events.Appends.{reserved_ghosts, publish_ghosts, invalidate_ghosts, append_ghosts}
+use Rattle.law_refine.specs.Events.Appends.{reserved_ghosts, append_ghosts}
 use Rattle.law_world.specs.GuardSessions.Tries.{is_for_entry}
 use Rattle.law_refine.specs.Events.GhostEvents.{moved_ghosts, own_ghosts}
 use Rattle.law_refine.specs.Events.Lines.{read_in_hand, read_waiting}
 use Rattle.law_refine.specs.Events.Sessions.{value_ghosts, tried_ghosts, attempt_ghosts, ticket_of, sitting_ghosts, step_ghosts}
-use Rattle.law_refine.specs.Events.Tries.{found_ghosts, find_ghosts, walk_ghosts, search_ghosts, try_ghosts}
+use Rattle.law_refine.specs.Events.Tries.{try_ghosts}
+use Rattle.law_refine.proofs.OfEvents.Searches.{append_all, search_all}
 
 -- it tells nothing, and fixes nothing
 abbrev pub is_own : GhostEvent → Type 0
@@ -68,39 +56,11 @@ reserved_own : (a : AppendState) (entry : HistoryEntry) (ask : Ask ReserveAnswer
 reserved_own a entry (Done (Reserved addr)) = either (is_for_entry a addr) _ _ (tt, tt) (tt, (tt, tt))
 reserved_own a entry ask = tt
 
-publish_own : (addr : ℕ) (ask : Ask PublishAnswer) → AreOwn (publish_ghosts addr ask)
-publish_own addr (Done Won) = (tt, tt)
-publish_own addr ask = tt
-
-invalidate_own : (its : Invalidating) → AreOwn (invalidate_ghosts its)
-invalidate_own invalidating.AtRest = tt
-invalidate_own (invalidating.StoresHeader addr header) = (tt, tt)
-
 append_own : (room : ℕ) (a : AppendState) (entry : HistoryEntry) (step : Appending) (reply : ℕ) → AreOwn (append_ghosts room a entry step reply)
-append_own room a entry appending.Reserves reply = reserved_own a entry (reserve_next_ask room a.reserving reply)
-append_own room a entry (appending.Publishes addr) reply = publish_own addr.0 (publish_next_ask a.publishing reply)
-append_own room a entry appending.Invalidates reply = invalidate_own a.invalidating
-append_own room a entry step reply = tt
-
-found_own : (reader : ℕ) (its : Found) → AreOwn (found_ghosts reader its)
-found_own reader (Slot place word) = (tt, tt)
-found_own reader NoSlot = (tt, tt)
-found_own reader its = tt
-
-find_own : (reader : ℕ) (ask : Ask FindAnswer) → AreOwn (find_ghosts reader ask)
-find_own reader (Done its) = found_own reader its.found
-find_own reader ask = tt
-
-walk_own : (p : Places) (reader : ℕ) (w : WalkState) (step : Walking) (reply : ℕ) → AreOwn (walk_ghosts p reader w step reply)
-walk_own p reader w Finds reply = find_own reader (find_next_ask p w.finding reply)
-walk_own p reader w step reply = tt
-
-search_own : (p : Places) (op : Op) (reader : ℕ) (w : WalkState) (reply : ℕ) → AreOwn (search_ghosts p op reader w reply)
-search_own p (Read key) reader w reply = walk_own p reader w w.step reply
-search_own p op reader w reply = tt
+append_own room a entry step reply = append_all AreOwn tt (λ addr. (tt, tt)) (λ addr. (tt, tt)) room a entry step reply (λ ask. reserved_own a entry ask)
 
 try_own : (p : Places) (room session reader : ℕ) (pending : PendingRequest) (t : TryState) (step : Trying) (reply : ℕ) → AreOwn (try_ghosts p room session reader pending t step reply)
-try_own p room session reader pending t Walks reply = search_own p pending.request.op reader t.walk reply
+try_own p room session reader pending t Walks reply = search_all AreOwn tt reader (tt, tt) p pending.request.op t.walk reply
 try_own p room session reader pending t (SwapsValue addr) reply = (tt, tt)
 try_own p room session reader pending t (ChangesValue addr old) reply = either (reply == old) _ _ (tt, tt) tt
 try_own p room session reader pending t (Appends its) reply = append_own room t.append _ t.append.step reply

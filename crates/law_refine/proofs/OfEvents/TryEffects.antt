@@ -7,7 +7,7 @@ use Rattle.fkv_base.specs.declared.numbers.Key.{Key}
 use Rattle.fkv_base.specs.declared.numbers.Version.{Version}
 use Rattle.fkv_map.specs.declared.history.HistoryEntry.{HistoryEntry}
 use Rattle.fkv_map.specs.declared.operations.Op.{Op}
-use Rattle.fkv_map.specs.declared.operations.Op.TheVariants.{Read, Upsert, Delete}
+use Rattle.fkv_map.specs.declared.operations.Op.TheVariants.{Upsert, Delete}
 use Rattle.fkv_map.specs.declared.operations.Reply.{Reply}
 use Rattle.fkv_map.specs.Map.{absent_word}
 use Rattle.fkv_map.specs.Keys.{key_of, value_applied, reply_from}
@@ -25,9 +25,6 @@ use Rattle.fkv_latch.specs.declared.latching.LatchAnswer.TheVariants as latch
 use Rattle.fkv_latch.specs.declared.latching.LatchTask.TheVariants.{DropShared, TakeExclusive, DropExclusive}
 use Rattle.fkv_latch.specs.Latching.{latch_next_ask}
 use Rattle.fkv_index.specs.declared.finding.Found.{Found}
-use Rattle.fkv_index.specs.declared.finding.Found.TheVariants.{Slot, NoSlot}
-use Rattle.fkv_index.specs.declared.finding.FindAnswer.{FindAnswer}
-use Rattle.fkv_index.specs.Finding.{find_next_ask}
 use Rattle.fkv_ops.specs.declared.answers.Reason.TheVariants as reason
 use Rattle.fkv_ops.specs.declared.answers.TryAnswer.{TryAnswer}
 use Rattle.fkv_ops.specs.declared.answers.TryAnswer.TheVariants as answer
@@ -43,8 +40,6 @@ use Rattle.fkv_ops.specs.declared.trying.Trying.{Trying}
 use Rattle.fkv_ops.specs.declared.trying.Trying.TheVariants.{Ended, TakesShared, Walks, LoadsSafe, SwapsValue, LoadsCurrent, ChangesValue, LoadsAnswer, TakesExclusive, LoadsOld, Appends, DropsExclusive, DropsShared}
 use Rattle.fkv_ops.specs.declared.walking.WalkAnswer.{WalkAnswer}
 use Rattle.fkv_ops.specs.declared.walking.WalkAnswer.TheVariants as walk
-use Rattle.fkv_ops.specs.declared.walking.Walking.{Walking}
-use Rattle.fkv_ops.specs.declared.walking.Walking.TheVariants.{Finds}
 use Rattle.fkv_ops.specs.Requests.{is_read, is_blind}
 use Rattle.fkv_ops.specs.Values.{value_of, word_of}
 use Rattle.fkv_ops.specs.Walking.{WalkState, walk_ask, walk_next, walk_on}
@@ -52,8 +47,6 @@ use Rattle.fkv_ops.specs.Appending.{AppendState, append_ask, append_next, append
 use Rattle.fkv_ops.specs.Trying.{TryState, with_latch, is_wait, ended_without, ends, takes_effect, full_at, shared_ledto, must_shift, wants_exclusive, appends, copies_from, copies, awaits, held_used, met_nowhere, met_disk, changes, is_own_version, region_met, met_record, walked, has_walked, walk_ledto, safe_loaded, current_ledto, told_value, answer_ledto, exclusive_ledto, old_ledto, append_ledto, exclusive_dropped, shared_dropped, latch_moved, walk_moved, trying_ask, try_ask, trying_next, try_next}
 use Rattle.fkv_ops.proofs.Shown.{is_append_end, TryRestsOrAsks, IsAppendUnderWay}
 use Rattle.fkv_pending.specs.declared.pending_requests.PendingRequest.{PendingRequest}
-use Rattle.fkv_log.specs.declared.invalidating.Invalidating.{Invalidating}
-use Rattle.fkv_log.specs.declared.invalidating.Invalidating.TheVariants as invalidating
 use Rattle.fkv_log.specs.declared.reserving.ReserveAnswer.{ReserveAnswer}
 use Rattle.fkv_log.specs.declared.reserving.ReserveAnswer.TheVariants as reserve
 use Rattle.fkv_log.specs.Reserving.{reserve_next, reserve_next_ask}
@@ -72,7 +65,8 @@ use Rattle.law_local.specs.Tries.TryRows.{cell_of}
 use Rattle.law_refine.specs.Events.Effects.{AreQuiet, Stepped, stepped, ChangesAt, TakesEffect, Quietly, InPlace, ByRecord}
 use Rattle.law_refine.specs.Events.Reservations.{Reservation, reservation, append_reserves, try_reserves}
 use Rattle.law_refine.proofs.OfEvents.TryAppends.{HoldsAt, WordsAre, KnowsAt, IsTryAt}
-use Rattle.law_refine.specs.Events.Tries.{found_ghosts, find_ghosts, walk_ghosts, search_ghosts, try_ghosts}
+use Rattle.law_refine.specs.Events.Tries.{search_ghosts, try_ghosts}
+use Rattle.law_refine.proofs.OfEvents.Searches.{invalidate_all, search_all}
 
 -- the entry of an effect with this reply
 abbrev pub made_entry : ℕ → PendingRequest → Option Reply → Option HistoryEntry
@@ -141,10 +135,6 @@ reserved_quiet a entry (Done (reserve.Reserved addr)) = by_test (is_for_entry a 
     by_test false = (tt, (tt, tt))
 reserved_quiet a entry ask = tt
 
-invalidate_quiet : (its : Invalidating) → AreQuiet (invalidate_ghosts its)
-invalidate_quiet invalidating.AtRest = tt
-invalidate_quiet (invalidating.StoresHeader addr header) = (tt, tt)
-
 new_addr : (addr tag : ℕ) → addr < 2 ^ 48 → entry_addr (new_entry addr tag) ≡ addr
 new_addr addr tag low = omega (arith, low)
 
@@ -189,7 +179,7 @@ append_takes p room a session pending its (appending.Publishes addr) reply at go
     passes_on p pending.request.version (Some (reservation a (entry_made session pending its) addr.0)) (publish_ask a.publishing) append.Contended reply _ _
     (publish_so p a session pending its addr a.publishing a.slot.place a.slot.entry a.slot.tag reply holds.1 holds.0 same)
 append_takes p room a session pending its appending.Invalidates reply at goes holds same =
-    quiet session pending _ (invalidate_ghosts a.invalidating) _ (invalidate_quiet a.invalidating) (invalidate_none p (record a { invalidating = invalidate_next a.invalidating }) its (invalidate_ask p (invalidate_next a.invalidating)) at)
+    quiet session pending _ (invalidate_ghosts a.invalidating) _ (invalidate_all AreQuiet tt (λ addr. (tt, tt)) a.invalidating) (invalidate_none p (record a { invalidating = invalidate_next a.invalidating }) its (invalidate_ask p (invalidate_next a.invalidating)) at)
 
 -- ---- where a try goes on or ends, what it has told as its effect stays
 either_keeps : (c : Bool) (a b : TryState) (made : Option Reply) → a.effect ≡ made → b.effect ≡ made → (if c then a else b).effect ≡ made
@@ -317,22 +307,8 @@ append_effect p t its (Done append.Contended) none = ends_keeps p t (answer.Wait
 append_effect p t its ask none = none
 
 -- ---- a search has no effect
-found_quiet : (reader : ℕ) (its : Found) → AreQuiet (found_ghosts reader its)
-found_quiet reader (Slot place word) = (tt, tt)
-found_quiet reader NoSlot = (tt, tt)
-found_quiet reader its = tt
-
-find_quiet : (reader : ℕ) (ask : Ask FindAnswer) → AreQuiet (find_ghosts reader ask)
-find_quiet reader (Done its) = found_quiet reader its.found
-find_quiet reader ask = tt
-
-walk_quiet : (p : Places) (reader : ℕ) (w : WalkState) (step : Walking) (reply : ℕ) → AreQuiet (walk_ghosts p reader w step reply)
-walk_quiet p reader w Finds reply = find_quiet reader (find_next_ask p w.finding reply)
-walk_quiet p reader w step reply = tt
-
 pub search_quiet : (p : Places) (op : Op) (reader : ℕ) (w : WalkState) (reply : ℕ) → AreQuiet (search_ghosts p op reader w reply)
-search_quiet p (Read key) reader w reply = walk_quiet p reader w w.step reply
-search_quiet p op reader w reply = tt
+search_quiet p op reader w reply = search_all AreQuiet tt reader (tt, tt) p op w reply
 
 -- ---- each reply to a try
 under_way : (t : TryState) (its : Reply) → t.step ≡ Appends its → TryRestsOrAsks t → IsAppendUnderWay t.append

@@ -4,8 +4,6 @@ use Rattle.std.specs.Prelude.{◌==◌, ◌&&◌, not, nat_le, if◌then◌else�
 use Rattle.fkv_base.specs.declared.numbers.Addr.{Addr}
 use Rattle.fkv_base.specs.declared.numbers.Version.{Version}
 use Rattle.fkv_map.specs.declared.history.HistoryEntry.{HistoryEntry}
-use Rattle.fkv_map.specs.declared.operations.Op.{Op}
-use Rattle.fkv_map.specs.declared.operations.Op.TheVariants.{Read}
 use Rattle.fkv_map.specs.declared.operations.Reply.{Reply}
 use Rattle.fkv_map.specs.Map.{absent_word}
 use Rattle.fkv_map.specs.Keys.{key_of, reply_from}
@@ -22,10 +20,6 @@ use Rattle.fkv_latch.specs.declared.latching.LatchAnswer.TheVariants as latch
 use Rattle.fkv_latch.specs.declared.latching.LatchTask.TheVariants.{TakeShared, DropShared, TakeExclusive, DropExclusive}
 use Rattle.fkv_latch.specs.Latching.{latch_next_ask}
 use Rattle.fkv_index.specs.declared.finding.Found.{Found}
-use Rattle.fkv_index.specs.declared.finding.Found.TheVariants.{Slot, NoSlot}
-use Rattle.fkv_index.specs.declared.finding.FindAnswer.{FindAnswer}
-use Rattle.fkv_index.specs.Finding.{find_next_ask}
-use Rattle.fkv_index.specs.Slots.{home_of}
 use Rattle.fkv_ops.specs.declared.answers.Reason.TheVariants as reason
 use Rattle.fkv_ops.specs.declared.answers.TryAnswer.{TryAnswer}
 use Rattle.fkv_ops.specs.declared.answers.TryAnswer.TheVariants as answer
@@ -43,19 +37,18 @@ use Rattle.fkv_ops.specs.declared.trying.Trying.{Trying}
 use Rattle.fkv_ops.specs.declared.trying.Trying.TheVariants.{Ended, TakesShared, Walks, LoadsSafe, SwapsValue, LoadsCurrent, ChangesValue, LoadsAnswer, TakesExclusive, LoadsOld, Appends, DropsExclusive, DropsShared}
 use Rattle.fkv_ops.specs.declared.walking.WalkAnswer.{WalkAnswer}
 use Rattle.fkv_ops.specs.declared.walking.WalkAnswer.TheVariants as walk
-use Rattle.fkv_ops.specs.declared.walking.Walking.{Walking}
-use Rattle.fkv_ops.specs.declared.walking.Walking.TheVariants.{Finds}
 use Rattle.fkv_ops.specs.Requests.{is_read, is_blind}
 use Rattle.fkv_ops.specs.Values.{value_of}
-use Rattle.fkv_ops.specs.Walking.{WalkState, walk_ask, walk_next, walk_on}
+use Rattle.fkv_ops.specs.Walking.{walk_ask, walk_next, walk_on}
 use Rattle.fkv_ops.specs.Appending.{AppendState, append_ask, append_next}
 use Rattle.fkv_ops.specs.Trying.{TryState, with_latch, is_wait, ended_without, ends, takes_effect, full_at, walks, wants_shared, try_begun, shared_ledto, must_shift, wants_exclusive, appends, copies_from, copies, awaits, held_used, met_nowhere, met_disk, changes, is_own_version, region_met, met_record, walked, has_walked, walk_ledto, safe_loaded, current_ledto, value_changed, told_value, answer_ledto, exclusive_ledto, old_ledto, append_ledto, exclusive_dropped, shared_dropped, latch_moved, walk_moved, trying_ask, trying_next, try_ask, try_next, new_try}
 use Rattle.fkv_ops.proofs.Shown.{is_append_end, append_done, append_rests, TryRestsOrAsks, IsAppendUnderWay}
 use Rattle.fkv_pending.specs.declared.pending_requests.PendingRequest.{PendingRequest}
 use Rattle.law_refine.specs.Events.Appends.{entry_made, append_ghosts}
 use Rattle.law_refine.specs.Events.Reservations.{AreStill, MovesOn, Keeps, Reservation, append_reserves, try_reserves}
-use Rattle.law_refine.specs.Events.Tries.{found_ghosts, find_ghosts, walk_ghosts, search_ghosts, try_ghosts}
+use Rattle.law_refine.specs.Events.Tries.{search_ghosts, try_ghosts}
 use Rattle.law_refine.proofs.OfEvents.AppendSteps.{passes, append_on}
+use Rattle.law_refine.proofs.OfEvents.Searches.{search_all}
 
 -- nothing is reserved by it
 abbrev pub IsFree : TryState → Type 0
@@ -195,23 +188,6 @@ shared_dropped_free t its (Done told) at = λ session pending. refl
 shared_dropped_free t its ask at = stays_free t (DropsShared its) at (λ session pending. refl)
 
 -- ---- what they do leaves cells as they are
-found_still : (reader : ℕ) (its : Found) → AreStill (found_ghosts reader its)
-found_still reader (Slot place word) = (tt, tt)
-found_still reader NoSlot = (tt, tt)
-found_still reader its = tt
-
-find_still : (reader : ℕ) (ask : Ask FindAnswer) → AreStill (find_ghosts reader ask)
-find_still reader (Done its) = found_still reader its.found
-find_still reader ask = tt
-
-walk_still : (p : Places) (reader : ℕ) (w : WalkState) (step : Walking) (reply : ℕ) → AreStill (walk_ghosts p reader w step reply)
-walk_still p reader w Finds reply = find_still reader (find_next_ask p w.finding reply)
-walk_still p reader w step reply = tt
-
-search_still : (p : Places) (op : Op) (reader : ℕ) (w : WalkState) (reply : ℕ) → AreStill (search_ghosts p op reader w reply)
-search_still p (Read key) reader w reply = walk_still p reader w w.step reply
-search_still p op reader w reply = tt
-
 changed_still : (c : Bool) (its : GhostEvent) → AreStill (its ∷ []) → AreStill (if c then its ∷ [] else [])
 changed_still true its still = still
 changed_still false its still = tt
@@ -248,7 +224,7 @@ trying_on : (p : Places) (room session reader : ℕ) (pending : PendingRequest) 
 unfolding trying_next trying_ask
 trying_on p room session reader pending t (Ended its) reply at rests = rw at (Keeps [] None tt)
 trying_on p room session reader pending t TakesShared reply at rests = free_on _ _ reply session pending [] (trying_next p room (record t { effect = None }) TakesShared reply) tt (shared_free p (latch_moved (record t { effect = None }) reply) (latch_next_ask t.latching reply) at)
-trying_on p room session reader pending t Walks reply at rests = free_on _ _ reply session pending (search_ghosts p pending.request.op reader t.walk reply) (trying_next p room (record t { effect = None }) Walks reply) (search_still p pending.request.op reader t.walk reply)
+trying_on p room session reader pending t Walks reply at rests = free_on _ _ reply session pending (search_ghosts p pending.request.op reader t.walk reply) (trying_next p room (record t { effect = None }) Walks reply) (search_all AreStill tt reader (tt, tt) p pending.request.op t.walk reply)
     (walk_free p (walk_moved p (record t { effect = None }) reply) (walk_ask p (walk_next p t.walk reply)) at)
 trying_on p room session reader pending t (LoadsSafe addr version) reply at rests = free_on _ _ reply session pending [] (trying_next p room (record t { effect = None }) (LoadsSafe addr version) reply) tt (safe_free p (record t { effect = None }) addr version reply)
 trying_on p room session reader pending t (SwapsValue addr) reply at rests =

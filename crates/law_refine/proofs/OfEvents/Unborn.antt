@@ -1,13 +1,12 @@
 -- Beside a life no address from the tail up has a record.
 use Rattle.std.proofs.Common.{◌≡◌, ℕ, ◌+◌, ◌<◌, ◌≤◌, ◌∙◌, inl, inr, refl, sym, ap, subst, arith, Bool, true, false, List, [], ◌∷◌, ◌++◌, length}
-use Rattle.std.specs.Prelude.{⊤, map, ◌==◌, if◌then◌else◌, Option, Some, None, slice_get}
+use Rattle.std.specs.Prelude.{map, if◌then◌else◌, Option, Some, None, slice_get}
 use Rattle.fkv_map.specs.declared.history.HistoryEntry.{HistoryEntry}
 use Rattle.law_log.specs.Chains.{Cell, Logged, Unborn, Reserved, Published, Dropped}
 use Rattle.law_log.specs.Ghosts.{Log, Ghosts, GhostEvent, Tells, FindsEntry, TakesValue, Reserves, Publishes, Drops, Changes, Fixes, set_at, published, dropped, changed, log_after, ghosts_after, ghost_run}
 use Rattle.law_log.specs.Trace.{TraceLine}
 use Rattle.law_log.proofs.Shown.{at_one}
 use Rattle.fkv_plane.specs.declared.asks.Ask.{Ask}
-use Rattle.fkv_plane.specs.declared.asks.Ask.TheVariants.{Put, Take, Done}
 use Rattle.fkv_plane.specs.declared.places.SharedWord.TheVariants as one
 use Rattle.fkv_plane.specs.Asked.{asked, asked_place, reply_to, word_at, word_found, words_after, words_changed}
 use Rattle.fkv_plane.specs.Places.{shared_place}
@@ -15,7 +14,6 @@ use Rattle.fkv_epoch.proofs.Shown.{word_written}
 use Rattle.fkv_flush.specs.GuardWorld.{GuardWorld}
 use Rattle.fkv_session.specs.declared.answers.Told.{Told}
 use Rattle.fkv_session.specs.Sessions.{SessionState, Seat, session_ask}
-use Rattle.fkv_world.specs.Past.{Traced}
 use Rattle.fkv_world.specs.Runs.{World, happens, run}
 use Rattle.fkv_world.specs.World.{Event, Moves, seat_at}
 use Rattle.law_world.proofs.OfRuns.OneWord.{session_writes}
@@ -23,20 +21,19 @@ use Rattle.law_world.specs.Guarded.Shows.{IsOpened, seen_by_guard}
 use Rattle.law_world.proofs.OfGuarded.Worlds.{life_shows}
 use Rattle.law_refine.specs.Events.GhostEvents.{home_in, moved_ghosts, own_ghosts, safe_at, fixed_ghosts, traced_by, serials_in, ghost_events, mapped, life_ghosts}
 use Rattle.law_refine.specs.Events.Lines.{lines_added}
-use Rattle.law_refine.specs.Events.Reservations.{AreStill, Reservation, TakesTail, MovesOn, Keeps, Behind, TakesOne, LosesOne, PublishesOne, DropsOne}
+use Rattle.law_refine.specs.Events.Reservations.{TakesTail}
 use Rattle.law_refine.specs.Events.Reserved.{tail_at}
-use Rattle.law_refine.specs.Events.Sessions.{sitting_ghosts, step_ghosts}
+use Rattle.law_refine.specs.Events.Sessions.{sitting_ghosts}
 use Rattle.law_refine.proofs.OfEvents.Fixed.{life_rises}
 use Rattle.law_refine.proofs.OfEvents.SessionSteps.{life_on}
+use Rattle.law_refine.proofs.OfEvents.Taking.{AreTaking, IsTaking, taking_both, taking_fixed, taking_moves, taking_step, taking_told}
 
 -- what an event takes lies below this address
 abbrev pub is_below : ℕ → GhostEvent → Type 0
-is_below bound (Reserves a entry cell) = a < bound
-is_below bound event = ⊤
+is_below bound event = IsTaking (λ a. a < bound) event
 
 abbrev pub AreBelow : ℕ → List GhostEvent → Type 0
-AreBelow bound [] = ⊤
-AreBelow bound (event ∷ before) = is_below bound event × AreBelow bound before
+AreBelow bound events = AreTaking (λ a. a < bound) events
 
 -- ---- such events leave what is unborn from there up
 not_here : (a bound b : ℕ) → b < bound → bound ≤ a → a ≡ b → ⊥
@@ -86,45 +83,6 @@ unfolding ghost_run ghosts_after
 behind_unborn home g bound a [] before below high none = none
 behind_unborn home g bound a (event ∷ later) before below high none = one_unborn home (ghost_run home g (later ++ before)).log bound a event below.0 high (behind_unborn home g bound a later before below.1 high none)
 
--- ---- the events of a step are below the tail that it leaves
-both_below : (bound : ℕ) (later before : List GhostEvent) → AreBelow bound later → AreBelow bound before → AreBelow bound (later ++ before)
-both_below bound [] before one other = other
-both_below bound (event ∷ later) before one other = (one.0, both_below bound later before one.1 other)
-
-told_below : (bound : ℕ) (lines : List TraceLine) → AreBelow bound (map Tells lines)
-told_below bound [] = tt
-told_below bound (line ∷ rest) = (tt, told_below bound rest)
-
-fixed_below : (bound before safe : ℕ) → AreBelow bound (fixed_ghosts before safe)
-fixed_below bound before safe = by_test (safe == before)
-  where
-    by_test : (c : Bool) → AreBelow bound (if c then [] else Fixes safe ∷ [])
-    by_test true = tt
-    by_test false = (tt, tt)
-
-still_below : (bound : ℕ) (events : List GhostEvent) → AreStill events → AreBelow bound events
-still_below bound [] still = tt
-still_below bound (Tells line ∷ before) still = (tt, still_below bound before still.1)
-still_below bound (FindsEntry reader ∷ before) still = (tt, still_below bound before still.1)
-still_below bound (TakesValue reader ∷ before) still = (tt, still_below bound before still.1)
-still_below bound (Changes a entry ∷ before) still = (tt, still_below bound before still.1)
-still_below bound (Fixes a ∷ before) still = (tt, still_below bound before still.1)
-still_below bound (Reserves a entry cell ∷ before) still = absurd still.0
-still_below bound (Publishes a ∷ before) still = absurd still.0
-still_below bound (Drops a ∷ before) still = absurd still.0
-
-one_below : (bound : ℕ) (event : GhostEvent) (before : List GhostEvent) → AreStill (event ∷ []) → AreBelow bound before → AreBelow bound (event ∷ before)
-one_below bound event before still below = ((still_below bound (event ∷ []) still).0, below)
-
-moves_below : (bound : ℕ) (place : Option ℕ) (change : ℕ → ℕ) (reply : ℕ) (events : List GhostEvent) (before after : Option Reservation) → ((addr : ℕ) → TakesTail place change reply addr → addr < bound)
-    → MovesOn place change reply events before after → AreBelow bound events
-moves_below bound place change reply events before after low (Keeps its held still) = still_below bound its still
-moves_below bound place change reply events before after low (Behind event still its) = one_below bound event _ (still, tt) (moves_below bound place change reply _ before after low its)
-moves_below bound place change reply events before after low (TakesOne its takes) = (low its.addr takes, tt)
-moves_below bound place change reply events before after low (LosesOne its takes) = (tt, (low its.addr takes, tt))
-moves_below bound place change reply events before after low (PublishesOne its) = (tt, tt)
-moves_below bound place change reply events before after low (DropsOne its) = (tt, tt)
-
 -- the tail that is taken is raised by one
 taken_below : (words : List ℕ) (ask : Ask Told) (addr : ℕ) → shared_place one.Tail < length words → TakesTail (asked_place ask) (asked ask) (reply_to words ask) addr → addr < word_at (words_after words ask) (shared_place one.Tail)
 taken_below words ask addr enough takes =
@@ -135,13 +93,6 @@ taken_below words ask addr enough takes =
     let raised : asked ask tail ≡ tail + 1 = subst (λ (r : ℕ). asked ask r ≡ r + 1) reply takes.raised in
     let found : addr ≡ reply_to words ask = takes.found in
     omega (arith, found, reply, after, raised)
-
-step_below : (bound : ℕ) (k : Seat) (trace : List Traced) (s : SessionState) (words : List ℕ) (ask : Ask Told) → AreBelow bound (sitting_ghosts k trace s s.step (reply_to words ask)) → AreBelow bound (step_ghosts k trace s words ask)
-unfolding step_ghosts
-step_below bound k trace s words (Done its) below = tt
-step_below bound k trace s words (Put slot action) below = tt
-step_below bound k trace s words (Take slot) below = tt
-step_below bound k trace s words ask below = below
 
 -- ---- of an event of a life
 enough_words : (opening : World) (start : ℕ) (events : List Event) → IsOpened opening.now start → shared_place one.Tail < length (run opening events).now.words
@@ -162,8 +113,8 @@ moved_below opening start before number (Some s) opened alive e =
     let bound : ℕ = tail_at (happens w (Moves number)).now in
     let low : (addr : ℕ) → TakesTail (asked_place ask) (asked ask) (reply_to w.now.words ask) addr → addr < bound = λ addr takes.
     subst (λ (words : List ℕ). addr < word_at words (shared_place one.Tail)) (sym (session_writes w number s alive e)) (taken_below w.now.words ask addr (enough_words opening start before opened) takes) in
-    step_below bound k w.past.trace s w.now.words ask
-    (moves_below bound (asked_place ask) (asked ask) (reply_to w.now.words ask) (sitting_ghosts k w.past.trace s s.step (reply_to w.now.words ask)) _ _ low (life_on opening start before number s (reply_to w.now.words ask) opened e))
+    taking_step (λ a. a < bound) k w.past.trace s w.now.words ask
+    (taking_moves (λ a. a < bound) (asked_place ask) (asked ask) (reply_to w.now.words ask) (sitting_ghosts k w.past.trace s s.step (reply_to w.now.words ask)) _ _ low (life_on opening start before number s (reply_to w.now.words ask) opened e))
 
 own_below : (opening : World) (start : ℕ) (before : List Event) (event : Event) → IsOpened opening.now start → (run opening before).now.crashed ≡ false → AreBelow (tail_at (happens (run opening before) event).now) (own_ghosts (run opening before) event)
 own_below opening start before (Moves number) opened alive = moved_below opening start before number (slice_get (run opening before).now.sessions number) opened alive refl
@@ -186,8 +137,8 @@ event_below opening start before event opened = by_test w.now.crashed refl
     by_test : (c : Bool) → w.now.crashed ≡ c → AreBelow bound (if c then [] else map Tells lines ++ (fixed_ghosts (safe_at w.now) (safe_at (happens w event).now) ++ own_ghosts w event))
     by_test true e = tt
     by_test false e =
-        both_below bound (map Tells lines) (fixed_ghosts (safe_at w.now) (safe_at (happens w event).now) ++ own_ghosts w event) (told_below bound lines)
-        (both_below bound (fixed_ghosts (safe_at w.now) (safe_at (happens w event).now)) (own_ghosts w event) (fixed_below bound (safe_at w.now) (safe_at (happens w event).now)) (own_below opening start before event opened e))
+        taking_both (λ a. a < bound) (map Tells lines) (fixed_ghosts (safe_at w.now) (safe_at (happens w event).now) ++ own_ghosts w event) (taking_told (λ a. a < bound) lines)
+        (taking_both (λ a. a < bound) (fixed_ghosts (safe_at w.now) (safe_at (happens w event).now)) (own_ghosts w event) (taking_fixed (λ a. a < bound) (safe_at w.now) (safe_at (happens w event).now)) (own_below opening start before event opened e))
 
 tail_rises : (opening : World) (start : ℕ) (before : List Event) (event : Event) → IsOpened opening.now start → tail_at (run opening before).now ≤ tail_at (happens (run opening before) event).now
 unfolding run

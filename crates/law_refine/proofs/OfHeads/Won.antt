@@ -11,19 +11,14 @@ use Rattle.fkv_plane.specs.declared.asks.Ask.TheVariants.{Cas, Put, Take, Done}
 use Rattle.fkv_plane.specs.declared.places.Places.{Places}
 use Rattle.fkv_plane.specs.Asked.{reply_to, word_at}
 use Rattle.fkv_plane.specs.Passing.{passed}
-use Rattle.fkv_log.specs.declared.invalidating.Invalidating.{Invalidating}
-use Rattle.fkv_log.specs.declared.invalidating.Invalidating.TheVariants as invalidating
 use Rattle.fkv_log.specs.declared.reserving.ReserveAnswer.{ReserveAnswer}
 use Rattle.fkv_log.specs.declared.reserving.ReserveAnswer.TheVariants.{Reserved}
 use Rattle.fkv_log.specs.Reserving.{reserve_next_ask}
-use Rattle.fkv_index.specs.declared.finding.FindAnswer.{FindAnswer}
 use Rattle.fkv_index.specs.declared.finding.Found.{Found}
-use Rattle.fkv_index.specs.declared.finding.Found.TheVariants.{Slot, NoSlot}
 use Rattle.fkv_index.specs.declared.publishing.PublishAnswer.TheVariants.{Won, Lost}
 use Rattle.fkv_index.specs.declared.publishing.Publishing.{Publishing}
 use Rattle.fkv_index.specs.declared.publishing.Publishing.TheVariants.{AtRest, SwapsEntry}
 use Rattle.fkv_index.specs.Entries.{NewEntry}
-use Rattle.fkv_index.specs.Finding.{find_next_ask}
 use Rattle.fkv_index.specs.IndexWorld.{new_entry}
 use Rattle.fkv_index.specs.Publishing.{publish_first, publish_ask, publish_next_ask}
 use Rattle.fkv_ops.specs.declared.answers.TryAnswer.{TryAnswer}
@@ -38,7 +33,6 @@ use Rattle.fkv_ops.specs.declared.walking.Walking.TheVariants as walking
 use Rattle.fkv_ops.specs.Appending.{AppendState, append_ask, appending_ask}
 use Rattle.fkv_ops.specs.Requests.{is_read}
 use Rattle.fkv_ops.specs.Trying.{TryState, has_walked, try_ask, trying_ask}
-use Rattle.fkv_ops.specs.Walking.{WalkState}
 use Rattle.fkv_pending.specs.declared.attempting.Attempting.{Attempting}
 use Rattle.fkv_pending.specs.declared.attempting.Attempting.TheVariants.{Tries}
 use Rattle.fkv_pending.specs.declared.pending_requests.PendingRequest.{PendingRequest}
@@ -56,8 +50,9 @@ use Rattle.law_refine.specs.Events.Appends.{entry_made, reserved_ghosts, publish
 use Rattle.law_world.specs.GuardSessions.Tries.{is_for_entry}
 use Rattle.law_refine.specs.Events.Lines.{read_in_hand, read_waiting}
 use Rattle.law_refine.specs.Events.Sessions.{value_ghosts, tried_ghosts, attempt_ghosts, ticket_of, sitting_ghosts, step_ghosts}
-use Rattle.law_refine.specs.Events.Tries.{found_ghosts, find_ghosts, walk_ghosts, search_ghosts, try_ghosts}
+use Rattle.law_refine.specs.Events.Tries.{search_ghosts, try_ghosts}
 use Rattle.law_refine.proofs.OfHeads.Steps.{leaves_chains, LeaveChains}
+use Rattle.law_refine.proofs.OfEvents.Searches.{invalidate_all, search_all}
 
 -- A step's events publish nothing, and the session wins no entry; or the word that it met stands in the slot yet, and they publish the record of the
 -- entry.
@@ -111,27 +106,6 @@ either_leave false xs ys one other = other
 reserved_leave : (a : AppendState) (entry : HistoryEntry) (ask : Ask ReserveAnswer) → LeaveChains (reserved_ghosts a entry ask)
 reserved_leave a entry (Done (Reserved addr)) = either_leave (is_for_entry a addr) _ _ (tt, tt) (tt, (tt, tt))
 reserved_leave a entry ask = tt
-
-invalidate_leave : (its : Invalidating) → LeaveChains (invalidate_ghosts its)
-invalidate_leave invalidating.AtRest = tt
-invalidate_leave (invalidating.StoresHeader addr header) = (tt, tt)
-
-found_leave : (reader : ℕ) (its : Found) → LeaveChains (found_ghosts reader its)
-found_leave reader (Slot place word) = (tt, tt)
-found_leave reader NoSlot = (tt, tt)
-found_leave reader its = tt
-
-find_leave : (reader : ℕ) (ask : Ask FindAnswer) → LeaveChains (find_ghosts reader ask)
-find_leave reader (Done its) = found_leave reader its.found
-find_leave reader ask = tt
-
-walk_leave : (p : Places) (reader : ℕ) (w : WalkState) (step : Walking) (reply : ℕ) → LeaveChains (walk_ghosts p reader w step reply)
-walk_leave p reader w walking.Finds reply = find_leave reader (find_next_ask p w.finding reply)
-walk_leave p reader w step reply = tt
-
-search_leave : (p : Places) (op : Op) (reader : ℕ) (w : WalkState) (reply : ℕ) → LeaveChains (search_ghosts p op reader w reply)
-search_leave p (Read key) reader w reply = walk_leave p reader w w.step reply
-search_leave p op reader w reply = tt
 
 value_leave : (op : Op) (reader : ℕ) (ask : Ask TryAnswer) → LeaveChains (value_ghosts op reader ask)
 value_leave (Read key) reader (Done (answer.Found value)) = (tt, tt)
@@ -187,14 +161,14 @@ append_won words p room t entry (appending.Publishes addr) reply asks replied =
     publish_won words (PublishesEntry slot addr.0) slot addr.0 (new_entry addr.0 slot.home.tag) t.append.publishing reply refl
     (publishing_is t.append.publishing slot.place slot.word (new_entry addr.0 slot.home.tag) (passed_cas (publish_ask t.append.publishing) Contended slot.place slot.word (new_entry addr.0 slot.home.tag) (asks slot addr.0 refl)))
     (replied slot addr.0 refl)
-append_won words p room t entry appending.Invalidates reply asks replied = Quietly (invalidate_ghosts t.append.invalidating) (invalidate_leave t.append.invalidating) refl
+append_won words p room t entry appending.Invalidates reply asks replied = Quietly (invalidate_ghosts t.append.invalidating) (invalidate_all LeaveChains tt (λ addr. (tt, tt)) t.append.invalidating) refl
 append_won words p room t entry (appending.Ended its) reply asks replied = Quietly [] tt refl
 
 try_won : (words : List ℕ) (p : Places) (room session reader : ℕ) (pending : PendingRequest) (t : TryState) (step : Trying) (reply : ℕ) → AsksSo (try_work t step) (trying_ask p t step) → IsRepliedSo words (try_work t step) reply
     → ShowsWon words (try_work t step) (try_ghosts p room session reader pending t step reply)
 unfolding trying_ask
 try_won words p room session reader pending t Walks reply asks replied =
-    Quietly (search_ghosts p pending.request.op reader t.walk reply) (search_leave p pending.request.op reader t.walk reply) (walk_none words t t.walk.step)
+    Quietly (search_ghosts p pending.request.op reader t.walk reply) (search_all LeaveChains tt reader (tt, tt) p pending.request.op t.walk reply) (walk_none words t t.walk.step)
 try_won words p room session reader pending t (LoadsSafe addr version) reply asks replied = Quietly [] tt (kept_none words t)
 try_won words p room session reader pending t (SwapsValue addr) reply asks replied = Quietly _ (tt, tt) refl
 try_won words p room session reader pending t (ChangesValue addr old) reply asks replied = Quietly _ (either_leave (reply == old) _ _ (tt, tt) tt) refl

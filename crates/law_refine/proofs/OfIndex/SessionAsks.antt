@@ -141,12 +141,12 @@ pub entry_asks : (k : Seat) (s : SessionState) (slot : KeptSlot) (addr : ℕ) �
 entry_asks k s slot addr knows at = subst (λ x. AskOf x (session_ask k s)) at (sitting_asks k s s.step knows)
 
 -- a part that goes with an ask
-abbrev is_part_ask : {A : Type 0} → Ask A → Bool
+abbrev pub is_part_ask : {A : Type 0} → Ask A → Bool
 is_part_ask (Put slot action) = true
 is_part_ask (Take slot) = true
 is_part_ask ask = false
 
-passed_part : {A B : Type 0} (ask : Ask A) (answer : B) → is_part_ask ask ≡ false → is_part_ask (passed ask answer) ≡ false
+pub passed_part : {A B : Type 0} (ask : Ask A) (answer : B) → is_part_ask ask ≡ false → is_part_ask (passed ask answer) ≡ false
 unfolding passed
 passed_part (Put slot action) answer none = cc
 passed_part (Take slot) answer none = cc
@@ -252,7 +252,7 @@ try_whole p t (trying.Appends its) = passed_part (appending_ask p t.append t.app
 try_whole p t (trying.DropsExclusive its) = passed_part (latch_ask t.latching) _ (latch_whole t.latching)
 try_whole p t (trying.DropsShared its) = passed_part (latch_ask t.latching) _ (latch_whole t.latching)
 
-attempt_whole : (p : Places) (session : ℕ) (a : AttemptState) (step : Attempting) → is_part_ask (attempting_ask p session a step) ≡ false
+pub attempt_whole : (p : Places) (session : ℕ) (a : AttemptState) (step : Attempting) → is_part_ask (attempting_ask p session a step) ≡ false
 unfolding attempting_ask
 attempt_whole p session a (attempting.Ended its) = refl
 attempt_whole p session a attempting.Looks = passed_part (mail_ask session a.mailing) _ (mail_whole session a.mailing)

@@ -1,8 +1,7 @@
 -- So it is with an attempt; and no request brings the word that stands for no value.
 use Rattle.std.proofs.Common.{◌≡◌, ℕ, ◌∙◌, refl, sym, ap, subst, Bool, true, false}
-use Rattle.std.specs.Prelude.{◌==◌, if◌then◌else◌, ⊤, Option, Some, None}
+use Rattle.std.specs.Prelude.{if◌then◌else◌, ⊤, Option, Some, None}
 use Rattle.fkv_map.specs.declared.operations.Op.{Op}
-use Rattle.fkv_map.specs.Keys.{key_of}
 use Rattle.fkv_map.specs.Map.{is_reserved}
 use Rattle.fkv_plane.specs.declared.asks.Ask.{Ask}
 use Rattle.fkv_plane.specs.declared.asks.Ask.TheVariants.{Done}
@@ -10,26 +9,22 @@ use Rattle.fkv_plane.specs.declared.places.Places.{Places}
 use Rattle.fkv_ops.specs.declared.answers.DiskRecord.{DiskRecord}
 use Rattle.fkv_ops.specs.declared.answers.TryAnswer.{TryAnswer}
 use Rattle.fkv_ops.specs.declared.answers.TryAnswer.TheVariants as answer
-use Rattle.fkv_ops.specs.declared.header_words.HeaderSaid.{HeaderSaid}
-use Rattle.fkv_ops.specs.declared.header_words.HeaderSaid.TheVariants.{Says, Spoiled}
 use Rattle.fkv_ops.specs.declared.requests.Occasion.{Occasion}
 use Rattle.fkv_ops.specs.declared.requests.Seen.{Seen}
-use Rattle.fkv_ops.specs.HeaderWords.{header_said}
-use Rattle.fkv_ops.specs.Values.{value_of}
-use Rattle.fkv_ops.specs.Trying.{TryState, try_ask, told_value}
+use Rattle.fkv_ops.specs.Trying.{TryState, try_ask}
 use Rattle.fkv_pending.specs.declared.attempting.Attempting.{Attempting}
 use Rattle.fkv_pending.specs.declared.attempting.Attempting.TheVariants.{Ended, Looks, Tries, Puts}
 use Rattle.fkv_pending.specs.declared.mailing.MailAnswer.{MailAnswer}
 use Rattle.fkv_pending.specs.declared.mailing.MailAnswer.TheVariants as mail
-use Rattle.fkv_pending.specs.declared.mailing.MailRecord.{MailRecord}
 use Rattle.fkv_pending.specs.declared.pending_requests.PendingRequest.{PendingRequest}
 use Rattle.fkv_pending.specs.Mailing.{mail_ask, mail_next}
-use Rattle.fkv_pending.specs.Pending.{with_sought, with_held, with_latch, with_asked}
-use Rattle.fkv_pending.specs.Attempting.{AttemptState, attempt_begun, attempt_ended, waits_for_disk, puts_addr, puts, tries, is_seeking_read, goes_on, held_of, moved_on, read_on, record_taken, look_ledto, held_kept, awaits_record, tried, try_ledto, put_ledto, mail_moved, try_moved, attempting_next, attempt_next, new_attempt}
+use Rattle.fkv_pending.specs.Pending.{with_sought, with_held, with_latch}
+use Rattle.fkv_pending.specs.Attempting.{AttemptState, attempt_begun, waits_for_disk, puts_addr, puts, tries, is_seeking_read, goes_on, look_ledto, held_kept, awaits_record, tried, try_ledto, put_ledto, mail_moved, try_moved, attempting_next, attempt_next, new_attempt}
 use Rattle.fkv_session.specs.Sessions.{Seat, bits_of, room_of}
 use Rattle.fkv_session.proofs.Shown.{attempt_keeps}
 use Rattle.law_refine.proofs.OfRecords.AppendRows.{Standing}
 use Rattle.law_refine.proofs.OfRecords.TryRows.{TryStandsNow, TryWrites, begun_so, try_so}
+use Rattle.law_refine.proofs.OfEvents.Looks.{look_holds}
 
 -- the operation brings no such word
 abbrev pub IsAllowed : Op → Type 0
@@ -65,23 +60,9 @@ puts_tries after a (Some sought) = tt
 tries_anew : (after : Standing) (p : Places) (bits : ℕ) (a : AttemptState) → TriesNow after (tries p bits a)
 tries_anew after p bits a = begun_so after p bits a.pending.request a.seen a.occasion a.spare
 
-read_on_tries : (after : Standing) (a : AttemptState) (its : MailRecord) (said : HeaderSaid) → TriesNow after (read_on a its said)
-read_on_tries after a its Spoiled = puts_tries after a a.pending.sought
-read_on_tries after a its (Says previous version) =
-    let next : AttemptState = record a { pending = with_sought a.pending (moved_on a.pending.sought previous) } in
-    either_tries after (its.key.0 == (key_of a.pending.request.op).0) (attempt_ended a (told_value (value_of its.value))) (if previous.0 == 0 then attempt_ended a answer.Absent else puts next) tt
-    (either_tries after (previous.0 == 0) (attempt_ended a answer.Absent) (puts next) tt (puts_tries after next next.pending.sought))
-
-taken_tries : (after : Standing) (p : Places) (bits : ℕ) (a : AttemptState) (its : MailRecord) (said : HeaderSaid) → TriesNow after (record_taken p bits a its said)
-taken_tries after p bits a its said =
-    let holds : AttemptState = record a { pending = with_held a.pending (held_of a.pending.sought its said) } in
-    either_tries after (is_seeking_read a) (read_on a its said) (tries p bits holds) (read_on_tries after a its said) (tries_anew after p bits holds)
-
 look_tries : (after : Standing) (p : Places) (bits : ℕ) (a : AttemptState) (ask : Ask MailAnswer) → a.step ≡ Looks → TriesNow after (look_ledto p bits a ask)
-unfolding look_ledto
-look_tries after p bits a (Done (mail.Taken its)) at = taken_tries after p bits (record a { is_emptied = true; pending = with_asked a.pending false }) its (header_said its.header)
-look_tries after p bits a (Done other) at = either_tries after (is_seeking_read a) (waits_for_disk a) (tries p bits a) tt (tries_anew after p bits a)
-look_tries after p bits a ask at = still_tries after a Looks at tt
+look_tries after p bits a ask at =
+    look_holds (λ its. TriesNow after its) (λ its told. tt) (λ its sought. puts_tries after its sought) p bits (λ its. tries_anew after p bits its) a ask (still_tries after a Looks at tt)
 
 awaits_tries : (after : Standing) (a : AttemptState) (sought : DiskRecord) → TriesNow after (awaits_record a sought)
 awaits_tries after a sought = either_tries after a.pending.has_asked (waits_for_disk its) (puts next) tt (puts_tries after next next.pending.sought)

@@ -1,7 +1,6 @@
 -- So it is with a session: at each reply, where a call begins, and where an action comes to it.
-use Rattle.std.proofs.Common.{◌≡◌, ℕ, ◌+◌, zero, suc, List, [], ◌∷◌, ◌++◌, length, refl, sym, subst, Bool, true, false}
+use Rattle.std.proofs.Common.{◌≡◌, ℕ, ◌+◌, List, [], length, refl, sym, subst, Bool, true, false}
 use Rattle.std.specs.Prelude.{slice_get, slice_set, Option, Some, None, if◌then◌else◌, not, ◌==◌, ◌||◌, ⊤}
-use Rattle.std.specs.List.{remove}
 use Rattle.fkv_base.specs.declared.faults.Fault.{Fault}
 use Rattle.fkv_base.specs.declared.faults.Fault.TheVariants as fault
 use Rattle.fkv_map.specs.declared.operations.Call.{Call}
@@ -12,9 +11,6 @@ use Rattle.fkv_plane.specs.declared.actions.Action.{Action}
 use Rattle.fkv_plane.specs.declared.asks.Ask.{Ask}
 use Rattle.fkv_plane.specs.declared.asks.Ask.TheVariants.{Done}
 use Rattle.fkv_epoch.specs.Leaving.{leave_ask, leave_next}
-use Rattle.fkv_latch.specs.declared.latching.LatchAnswer.{LatchAnswer}
-use Rattle.fkv_latch.specs.declared.latching.LatchAnswer.TheVariants.{Taken}
-use Rattle.fkv_latch.specs.Latching.{latch_next_ask}
 use Rattle.fkv_ops.specs.declared.answers.Reason.{Reason}
 use Rattle.fkv_ops.specs.declared.answers.Reason.TheVariants as reason
 use Rattle.fkv_ops.specs.declared.answers.TryAnswer.{TryAnswer}
@@ -27,62 +23,24 @@ use Rattle.fkv_pending.specs.declared.mailing.MailTask.TheVariants.{Clear}
 use Rattle.fkv_pending.specs.declared.mailing.Mailing.TheVariants.{LoadsState}
 use Rattle.fkv_pending.specs.declared.pending_requests.PendingRequest.{PendingRequest}
 use Rattle.fkv_pending.specs.Mailing.{mail_ask, mail_next}
-use Rattle.fkv_pending.specs.Pending.{with_latch}
 use Rattle.fkv_pending.specs.Attempting.{attempt_ask}
 use Rattle.fkv_session.specs.declared.answers.Told.{Told}
 use Rattle.fkv_session.specs.declared.answers.Told.TheVariants as told
-use Rattle.fkv_session.specs.declared.catching_up.Catching.{Catching}
-use Rattle.fkv_session.specs.declared.catching_up.Catching.TheVariants.{Latches}
 use Rattle.fkv_session.specs.declared.sessions.CatchCause.{CatchCause}
 use Rattle.fkv_session.specs.declared.sessions.CatchCause.TheVariants as cause
 use Rattle.fkv_session.specs.declared.sessions.Sitting.{Sitting}
 use Rattle.fkv_session.specs.declared.sessions.Sitting.TheVariants.{Idle, Attempts, CatchesUp, ClearsMail, Polls, StoresOwing, Turns, StoresCut, Leaves, LoadsDurable}
-use Rattle.fkv_session.specs.CatchingUp.{CatchState, catch_ask, latched, latch_marked, catching_requests}
+use Rattle.fkv_session.specs.CatchingUp.{catch_ask}
 use Rattle.fkv_session.specs.OwnTurns.{own_turn_ask, own_turn_begun, own_turn_given}
 use Rattle.fkv_session.specs.Sessions.{SessionState, Seat, bits_of, is_busy, session_ask, session_next, session_begun, answers, answers_after_turn, request_in_hand, attempts, polls_request, polls_at, update_done, is_no_room, with_request, serial_taken, ticket_after, accepts, shifts, attempted, attempt_left, attempt_ledto, caught_up, catch_ledto, clear_ledto, is_finished, is_owed, request_finished, finishes_request, lacks_room, keeps_request, poll_ledto, turn_ledto, leave_ledto, attempt_moved, caught, own_turn_moved, sitting_next, sitting_given, is_word_ask, asks_after, is_full, is_spent, refusal_of, op_begun, refresh_call, poll_begun, poll_call, sleep_call, wake_call, call_begun}
 use Rattle.fkv_world.specs.World.{session_called}
 use Rattle.law_refine.proofs.OfRecords.AppendRows.{Standing}
 use Rattle.law_refine.proofs.OfRecords.AttemptRows.{IsAllowed, IsAttemptSo, AttemptWrites, moved_so, attempt_so}
+use Rattle.law_refine.proofs.OfCalls.Named.{AreEach, caught_each, each_at, each_less, each_more, each_set}
 
 -- ---- the requests that wait
 abbrev pub AreAllowed : List PendingRequest → Type 0
-AreAllowed [] = ⊤
-AreAllowed (pending ∷ rest) = IsAllowed pending.request.op × AreAllowed rest
-
-one_more : (requests : List PendingRequest) (pending : PendingRequest) → AreAllowed requests → IsAllowed pending.request.op → AreAllowed (requests ++ pending ∷ [])
-one_more [] pending all its = (its, tt)
-one_more (o ∷ rest) pending all its = (all.0, one_more rest pending all.1 its)
-
-one_less : (requests : List PendingRequest) (i : ℕ) → AreAllowed requests → AreAllowed (remove requests i)
-one_less [] zero all = all
-one_less [] (suc i) all = all
-one_less (o ∷ rest) zero all = all.1
-one_less (o ∷ rest) (suc i) all = (all.0, one_less rest i all.1)
-
-one_set : (requests : List PendingRequest) (i : ℕ) (pending : PendingRequest) → AreAllowed requests → IsAllowed pending.request.op → AreAllowed (slice_set requests i pending)
-one_set [] i pending all its = all
-one_set (o ∷ rest) zero pending all its = (its, all.1)
-one_set (o ∷ rest) (suc i) pending all its = (all.0, one_set rest i pending all.1 its)
-
-one_at : (requests : List PendingRequest) (i : ℕ) (pending : PendingRequest) → slice_get requests i ≡ Some pending → AreAllowed requests → IsAllowed pending.request.op
-one_at [] i pending got all = cc
-one_at (o ∷ rest) zero pending got all = let same : o ≡ pending = cc in subst (λ (x : PendingRequest). IsAllowed x.request.op) same all.0
-one_at (o ∷ rest) (suc i) pending got all = one_at rest i pending got all.1
-
-latched_so : (requests : List PendingRequest) (i : ℕ) (found : Option PendingRequest) → slice_get requests i ≡ found → AreAllowed requests → AreAllowed (latched requests i found)
-unfolding with_latch
-latched_so requests i None got all = all
-latched_so requests i (Some pending) got all = one_set requests i (with_latch pending true) all (one_at requests i pending got all)
-
-marked_so : (requests : List PendingRequest) (i : ℕ) (ask : Ask LatchAnswer) → AreAllowed requests → AreAllowed (latch_marked requests i ask)
-unfolding latch_marked
-marked_so requests i (Done Taken) all = latched_so requests i (slice_get requests i) refl all
-marked_so requests i ask all = all
-
-caught_all : (c : CatchState) (requests : List PendingRequest) (step : Catching) (reply : ℕ) → AreAllowed requests → AreAllowed (catching_requests c requests step reply)
-unfolding catching_requests
-caught_all c requests (Latches i) reply all = marked_so requests i (latch_next_ask c.latching reply) all
-caught_all c requests step reply all = all
+AreAllowed requests = AreEach (λ name op. IsAllowed op) requests
 
 -- ---- a session; a call in hand that shifts is tried again
 abbrev CatchIsSo : Op → CatchCause → Type 0
@@ -123,7 +81,7 @@ turns_so after s its all = either_so after s.wants_turn (record s { own_turn = o
 
 request_so : (after : Standing) (k : Seat) (s : SessionState) (index : ℕ) (found : Option PendingRequest) → slice_get s.requests index ≡ found → AreAllowed s.requests → IsSo after (polls_request k s index found)
 request_so after k s index None got all = turns_so after s _ all
-request_so after k s index (Some pending) got all = record { waiting = all; sits = attempt_so after k.places (bits_of k) pending s.seen AtPoll s.spare s.is_orphaned (one_at s.requests index pending got all) }
+request_so after k s index (Some pending) got all = record { waiting = all; sits = attempt_so after k.places (bits_of k) pending s.seen AtPoll s.spare s.is_orphaned (each_at (λ name op. IsAllowed op) s.requests index pending got all) }
 
 polls_so : (after : Standing) (k : Seat) (s : SessionState) (index : ℕ) → AreAllowed s.requests → IsSo after (polls_at k s index)
 unfolding polls_at
@@ -132,7 +90,7 @@ polls_so after k s index all = request_so after k s index (slice_get s.requests 
 accepts_so : (after : Standing) (s : SessionState) (why : Reason) → AreAllowed s.requests → IsAllowed s.attempt.pending.request.op → IsSo after (accepts s why)
 unfolding accepts
 accepts_so after s why all allowed =
-    let more = one_more s.requests s.attempt.pending all allowed in
+    let more = each_more (λ name op. IsAllowed op) s.requests s.attempt.pending all allowed in
     either_so after (is_read s.op) (answers (with_request (record s { ticket = ticket_after s.ticket })) (told.PendingRead (record { 0 = ticket_after s.ticket })))
     (answers_after_turn (with_request (serial_taken (record s { wants_turn = is_no_room why }))) (told.Pending (record { 0 = s.serial + 1 }) why))
     (plain after (with_request (record s { ticket = ticket_after s.ticket })) (told.PendingRead (record { 0 = ticket_after s.ticket })) more)
@@ -161,13 +119,13 @@ called_so after s has_shifted ask at all tries op = still_so after s (Attempts h
 finishes_so : (after : Standing) (k : Seat) (s : SessionState) (index : ℕ) (its : TryAnswer) → AreAllowed s.requests → IsSo after (finishes_request k s index its)
 unfolding finishes_request
 finishes_so after k s index its all =
-    let less = one_less s.requests index all in
+    let less = each_less (λ name op. IsAllowed op) s.requests index all in
     either_so after (is_owed s) (request_finished s index its) (polls_at k (request_finished s index its) index) (record { waiting = less; sits = tt }) (polls_so after k (request_finished s index its) index less)
 
 keeps_so : (after : Standing) (k : Seat) (s : SessionState) (index : ℕ) (its : TryAnswer) → AreAllowed s.requests → IsAllowed s.attempt.pending.request.op → IsSo after (keeps_request k s index its)
 unfolding keeps_request
 keeps_so after k s index its all allowed =
-    polls_so after k (record s { requests = slice_set s.requests index s.attempt.pending; wants_turn = s.wants_turn || lacks_room its }) (index + 1) (one_set s.requests index s.attempt.pending all allowed)
+    polls_so after k (record s { requests = slice_set s.requests index s.attempt.pending; wants_turn = s.wants_turn || lacks_room its }) (index + 1) (each_set (λ name op. IsAllowed op) s.requests index s.attempt.pending all allowed)
 
 polled_so : (after : Standing) (k : Seat) (s : SessionState) (index : ℕ) (ask : Ask TryAnswer) → s.step ≡ Polls index → AreAllowed s.requests → IsAttemptSo after s.attempt → IsSo after (poll_ledto k s index ask)
 unfolding poll_ledto
@@ -213,7 +171,7 @@ sitting_so stands after k s (Polls index) reply at all so writes =
     polled_so after k there index (attempt_ask k.places k.number there.attempt) at all (moved_so stands after k s.attempt reply so writes)
 sitting_so stands after k s (CatchesUp its) reply at all so writes =
     let there : SessionState = caught k s reply in
-    catch_so after k there its (catch_ask k.places k.number there.catching there.requests) at (caught_all s.catching s.requests s.catching.step reply all) so
+    catch_so after k there its (catch_ask k.places k.number there.catching there.requests) at (caught_each (λ name op. IsAllowed op) s.catching s.requests s.catching.step reply all) so
 sitting_so stands after k s ClearsMail reply at all so writes = clear_so after k (record s { mailing = mail_next s.mailing reply }) (mail_ask k.number (mail_next s.mailing reply)) at all
 sitting_so stands after k s (StoresOwing index) reply at all so writes = polls_so after k s index all
 sitting_so stands after k s (Turns its) reply at all so writes =
