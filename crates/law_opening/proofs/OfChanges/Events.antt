@@ -1,16 +1,7 @@
 -- What a step does to the log, by what its session goes by: a record that it makes leads below the tail, and what it changes in place lies above the opening.
 use Rattle.std.proofs.Common.{◌≡◌, ℕ, ◌<◌, ◌≤◌, refl, Bool, true, false, List, [], ◌∷◌, ◌++◌}
 use Rattle.std.specs.Prelude.{⊤, ◌==◌, if◌then◌else◌, Some}
-use Rattle.fkv_index.specs.Finding.{find_next_ask}
-use Rattle.fkv_index.specs.Publishing.{publish_next_ask}
-use Rattle.fkv_index.specs.declared.finding.FindAnswer.{FindAnswer}
 use Rattle.fkv_index.specs.declared.finding.Found.{Found}
-use Rattle.fkv_index.specs.declared.finding.Found.TheVariants.{Slot, NoSlot}
-use Rattle.fkv_index.specs.declared.publishing.PublishAnswer.{PublishAnswer}
-use Rattle.fkv_index.specs.declared.publishing.PublishAnswer.TheVariants.{Won}
-use Rattle.fkv_log.specs.Reserving.{reserve_next_ask}
-use Rattle.fkv_log.specs.declared.invalidating.Invalidating.{Invalidating}
-use Rattle.fkv_log.specs.declared.invalidating.Invalidating.TheVariants as invalidating
 use Rattle.fkv_log.specs.declared.reserving.ReserveAnswer.{ReserveAnswer}
 use Rattle.fkv_log.specs.declared.reserving.ReserveAnswer.TheVariants.{Reserved}
 use Rattle.fkv_map.specs.Keys.{reply_from}
@@ -20,15 +11,11 @@ use Rattle.fkv_map.specs.declared.operations.Op.TheVariants.{Read}
 use Rattle.fkv_ops.specs.Appending.{AppendState}
 use Rattle.fkv_ops.specs.Trying.{TryState}
 use Rattle.fkv_ops.specs.Values.{value_of}
-use Rattle.fkv_ops.specs.Walking.{WalkState}
 use Rattle.fkv_ops.specs.declared.answers.TryAnswer.{TryAnswer}
 use Rattle.fkv_ops.specs.declared.answers.TryAnswer.TheVariants as answer
 use Rattle.fkv_ops.specs.declared.appending.Appending.{Appending}
-use Rattle.fkv_ops.specs.declared.appending.Appending.TheVariants as appending
 use Rattle.fkv_ops.specs.declared.trying.Trying.{Trying}
 use Rattle.fkv_ops.specs.declared.trying.Trying.TheVariants.{Walks, SwapsValue, ChangesValue, Appends}
-use Rattle.fkv_ops.specs.declared.walking.Walking.{Walking}
-use Rattle.fkv_ops.specs.declared.walking.Walking.TheVariants.{Finds}
 use Rattle.fkv_pending.specs.Attempting.{AttemptState, attempt_ask, attempt_next}
 use Rattle.fkv_pending.specs.declared.attempting.Attempting.{Attempting}
 use Rattle.fkv_pending.specs.declared.attempting.Attempting.TheVariants.{Tries}
@@ -48,11 +35,12 @@ use Rattle.law_refine.specs.Events.Lines.{read_in_hand, read_waiting}
 use Rattle.law_world.specs.GuardSessions.Tries.{is_for_entry}
 use Rattle.law_local.specs.Tries.TryRows.{cell_of}
 use Rattle.law_log.specs.Ghosts.{GhostEvent, Log, Reserves, Drops, Changes}
-use Rattle.law_refine.specs.Events.Appends.{append_ghosts, entry_made, invalidate_ghosts, publish_ghosts, reserved_ghosts}
+use Rattle.law_refine.specs.Events.Appends.{append_ghosts, entry_made, reserved_ghosts}
 use Rattle.law_refine.specs.Events.Sessions.{attempt_ghosts, sitting_ghosts, step_ghosts, ticket_of, tried_ghosts, value_ghosts}
-use Rattle.law_refine.specs.Events.Tries.{find_ghosts, found_ghosts, search_ghosts, try_ghosts, walk_ghosts}
+use Rattle.law_refine.specs.Events.Tries.{try_ghosts}
 use Rattle.law_opening.specs.Changes.Linked.{IsLed}
 use Rattle.law_opening.proofs.OfChanges.Rows.{AttemptSo, TrySo, made_previous}
+use Rattle.law_refine.proofs.OfEvents.Searches.{append_all, search_all}
 
 -- a record that is made leads below one address, and what changes in place lies above another
 abbrev pub is_so : ℕ → ℕ → GhostEvent → Type 0
@@ -78,43 +66,14 @@ module _ (low high : ℕ) where
       by_test false = (tt, (below, tt))
   reserved_so a entry ask below = tt
 
-  publish_so : (addr : ℕ) (ask : Ask PublishAnswer) → AllSo low high (publish_ghosts addr ask)
-  publish_so addr (Done Won) = (tt, tt)
-  publish_so addr ask = tt
-
-  invalidate_so : (its : Invalidating) → AllSo low high (invalidate_ghosts its)
-  invalidate_so invalidating.AtRest = tt
-  invalidate_so (invalidating.StoresHeader addr header) = (tt, tt)
-
   append_so : (room : ℕ) (a : AppendState) (entry : HistoryEntry) (step : Appending) (reply : ℕ) → a.its_words.header.previous.0 < high → AllSo low high (append_ghosts room a entry step reply)
-  append_so room a entry appending.Reserves reply below = reserved_so a entry (reserve_next_ask room a.reserving reply) below
-  append_so room a entry (appending.Publishes addr) reply below = publish_so addr.0 (publish_next_ask a.publishing reply)
-  append_so room a entry appending.Invalidates reply below = invalidate_so a.invalidating
-  append_so room a entry step reply below = tt
-
-  -- ---- a search
-  found_so : (reader : ℕ) (its : Found) → AllSo low high (found_ghosts reader its)
-  found_so reader (Slot place word) = (tt, tt)
-  found_so reader NoSlot = (tt, tt)
-  found_so reader its = tt
-
-  find_so : (reader : ℕ) (ask : Ask FindAnswer) → AllSo low high (find_ghosts reader ask)
-  find_so reader (Done its) = found_so reader its.found
-  find_so reader ask = tt
-
-  walk_so : (p : Places) (reader : ℕ) (w : WalkState) (step : Walking) (reply : ℕ) → AllSo low high (walk_ghosts p reader w step reply)
-  walk_so p reader w Finds reply = find_so reader (find_next_ask p w.finding reply)
-  walk_so p reader w step reply = tt
-
-  search_so : (p : Places) (op : Op) (reader : ℕ) (w : WalkState) (reply : ℕ) → AllSo low high (search_ghosts p op reader w reply)
-  search_so p (Read key) reader w reply = walk_so p reader w w.step reply
-  search_so p op reader w reply = tt
+  append_so room a entry step reply below = append_all (AllSo low high) tt (λ addr. (tt, tt)) (λ addr. (tt, tt)) room a entry step reply (λ ask. reserved_so a entry ask below)
 
   -- ---- a try
   module _ (log : Log) (led : (a : ℕ) → IsLed log a → a < high) where
     try_so : (p : Places) (room session reader : ℕ) (pending : PendingRequest) (t : TryState) (step : Trying) (reply : ℕ) → ((a : ℕ) → try_changes step ≡ Some a → low ≤ a) → TrySo log t.walk (made_previous t) step
         → AllSo low high (try_ghosts p room session reader pending t step reply)
-    try_so p room session reader pending t Walks reply above so = search_so p pending.request.op reader t.walk reply
+    try_so p room session reader pending t Walks reply above so = search_all (AllSo low high) tt reader (tt, tt) p pending.request.op t.walk reply
     try_so p room session reader pending t (SwapsValue addr) reply above so = (above addr.0 refl, tt)
     try_so p room session reader pending t (ChangesValue addr old) reply above so = by_test (reply == old)
       where

@@ -1,16 +1,7 @@
 -- What a step makes fits in words, for operations that fit.
 use Rattle.std.proofs.Common.{◌≡◌, ℕ, refl, sym, subst, Bool, true, false, List, [], ◌∷◌}
 use Rattle.std.specs.Prelude.{◌==◌, if◌then◌else◌}
-use Rattle.fkv_index.specs.Finding.{find_next_ask}
-use Rattle.fkv_index.specs.Publishing.{publish_next_ask}
-use Rattle.fkv_index.specs.declared.finding.FindAnswer.{FindAnswer}
 use Rattle.fkv_index.specs.declared.finding.Found.{Found}
-use Rattle.fkv_index.specs.declared.finding.Found.TheVariants.{Slot, NoSlot}
-use Rattle.fkv_index.specs.declared.publishing.PublishAnswer.{PublishAnswer}
-use Rattle.fkv_index.specs.declared.publishing.PublishAnswer.TheVariants.{Won}
-use Rattle.fkv_log.specs.Reserving.{reserve_next_ask}
-use Rattle.fkv_log.specs.declared.invalidating.Invalidating.{Invalidating}
-use Rattle.fkv_log.specs.declared.invalidating.Invalidating.TheVariants as invalidating
 use Rattle.fkv_log.specs.declared.record_words.RecordWords.{RecordWords}
 use Rattle.fkv_log.specs.declared.reserving.ReserveAnswer.{ReserveAnswer}
 use Rattle.fkv_log.specs.declared.reserving.ReserveAnswer.TheVariants.{Reserved}
@@ -22,16 +13,12 @@ use Rattle.fkv_map.specs.declared.operations.Op.TheVariants.{Read}
 use Rattle.fkv_ops.specs.Appending.{AppendState}
 use Rattle.fkv_ops.specs.Trying.{TryState}
 use Rattle.fkv_ops.specs.Values.{value_of}
-use Rattle.fkv_ops.specs.Walking.{WalkState}
 use Rattle.fkv_ops.specs.declared.answers.TryAnswer.{TryAnswer}
 use Rattle.fkv_ops.specs.declared.answers.TryAnswer.TheVariants as answer
 use Rattle.fkv_ops.specs.declared.appending.Appending.{Appending}
-use Rattle.fkv_ops.specs.declared.appending.Appending.TheVariants as appending
 use Rattle.fkv_ops.specs.declared.requests.Request.{Request}
 use Rattle.fkv_ops.specs.declared.trying.Trying.{Trying}
 use Rattle.fkv_ops.specs.declared.trying.Trying.TheVariants.{Walks, ChangesValue, SwapsValue, Appends}
-use Rattle.fkv_ops.specs.declared.walking.Walking.{Walking}
-use Rattle.fkv_ops.specs.declared.walking.Walking.TheVariants.{Finds}
 use Rattle.fkv_pending.specs.Attempting.{AttemptState, attempt_ask, attempt_next}
 use Rattle.fkv_pending.specs.declared.attempting.Attempting.{Attempting}
 use Rattle.fkv_pending.specs.declared.attempting.Attempting.TheVariants.{Tries}
@@ -55,10 +42,11 @@ use Rattle.law_local.specs.Sessions.Inputs.{AttemptsBy, TriesFor}
 use Rattle.law_local.specs.Sessions.Known.{is_attempting}
 use Rattle.law_local.specs.Tries.TryRows.{cell_of}
 use Rattle.law_log.specs.Ghosts.{Changes, Drops, Log, Reserves}
-use Rattle.law_refine.specs.Events.Appends.{append_ghosts, entry_made, invalidate_ghosts, publish_ghosts, reserved_ghosts}
+use Rattle.law_refine.specs.Events.Appends.{append_ghosts, entry_made, reserved_ghosts}
 use Rattle.law_refine.specs.Events.Lines.{read_in_hand, read_waiting}
 use Rattle.law_refine.specs.Events.Sessions.{attempt_ghosts, sitting_ghosts, step_ghosts, ticket_of, tried_ghosts, value_ghosts}
-use Rattle.law_refine.specs.Events.Tries.{find_ghosts, found_ghosts, search_ghosts, try_ghosts, walk_ghosts}
+use Rattle.law_refine.specs.Events.Tries.{try_ghosts}
+use Rattle.law_refine.proofs.OfEvents.Searches.{append_all, search_all}
 
 -- the record of words that fit
 cell_fits : (words : RecordWords) → WordsOk words → CellFits (cell_of words)
@@ -73,42 +61,13 @@ reserved_make a entry (Done (Reserved addr)) makes = by_test (is_for_entry a add
     by_test false = (tt, (λ fits. cell_fits a.its_words (makes fits), tt))
 reserved_make a entry ask makes = tt
 
-publish_make : (addr : ℕ) (ask : Ask PublishAnswer) → AllMakeFit (publish_ghosts addr ask)
-publish_make addr (Done Won) = (tt, tt)
-publish_make addr ask = tt
-
-invalidate_make : (its : Invalidating) → AllMakeFit (invalidate_ghosts its)
-invalidate_make invalidating.AtRest = tt
-invalidate_make (invalidating.StoresHeader addr header) = (tt, tt)
-
 append_make : (room : ℕ) (a : AppendState) (entry : HistoryEntry) (step : Appending) (reply : ℕ) → (OpFits entry.op → WordsOk a.its_words) → AllMakeFit (append_ghosts room a entry step reply)
-append_make room a entry appending.Reserves reply makes = reserved_make a entry (reserve_next_ask room a.reserving reply) makes
-append_make room a entry (appending.Publishes addr) reply makes = publish_make addr.0 (publish_next_ask a.publishing reply)
-append_make room a entry appending.Invalidates reply makes = invalidate_make a.invalidating
-append_make room a entry step reply makes = tt
-
--- ---- a search
-found_make : (reader : ℕ) (its : Found) → AllMakeFit (found_ghosts reader its)
-found_make reader (Slot place word) = (tt, tt)
-found_make reader NoSlot = (tt, tt)
-found_make reader its = tt
-
-find_make : (reader : ℕ) (ask : Ask FindAnswer) → AllMakeFit (find_ghosts reader ask)
-find_make reader (Done its) = found_make reader its.found
-find_make reader ask = tt
-
-walk_make : (p : Places) (reader : ℕ) (w : WalkState) (step : Walking) (reply : ℕ) → AllMakeFit (walk_ghosts p reader w step reply)
-walk_make p reader w Finds reply = find_make reader (find_next_ask p w.finding reply)
-walk_make p reader w step reply = tt
-
-search_make : (p : Places) (op : Op) (reader : ℕ) (w : WalkState) (reply : ℕ) → AllMakeFit (search_ghosts p op reader w reply)
-search_make p (Read key) reader w reply = walk_make p reader w w.step reply
-search_make p op reader w reply = tt
+append_make room a entry step reply makes = append_all AllMakeFit tt (λ addr. (tt, tt)) (λ addr. (tt, tt)) room a entry step reply (λ ask. reserved_make a entry ask makes)
 
 -- ---- a try
 module _ (log : Log) (flushed : ℕ) where
   try_make : (p : Places) (room session reader : ℕ) (pending : PendingRequest) (t : TryState) (step : Trying) (reply : ℕ) → t.request ≡ pending.request → TryRow log flushed t step → AllMakeFit (try_ghosts p room session reader pending t step reply)
-  try_make p room session reader pending t Walks reply same ok = search_make p pending.request.op reader t.walk reply
+  try_make p room session reader pending t Walks reply same ok = search_all AllMakeFit tt reader (tt, tt) p pending.request.op t.walk reply
   try_make p room session reader pending t (SwapsValue addr) reply same ok = (tt, tt)
   try_make p room session reader pending t (ChangesValue addr old) reply same ok = by_test (reply == old)
     where

@@ -43,7 +43,7 @@ not_calm (Turns its) e = cc
 not_calm step e = (refl, refl)
 
 -- ---- it stays so
-turned_calm : (s : SessionState) (its : Told) (ask : Ask (Unit {0})) → s.step ≡ Turns its → is_calm (turn_ledto s its ask).step ≡ true
+pub turned_calm : (s : SessionState) (its : Told) (ask : Ask (Unit {0})) → s.step ≡ Turns its → is_calm (turn_ledto s its ask).step ≡ true
 unfolding turn_ledto
 turned_calm s its (Done through) at = refl
 turned_calm s its ask at = ap is_calm at
@@ -56,7 +56,7 @@ sitting_calm k s asks (Turns its) reply at calm =
     turned_calm moved its (own_turn_ask k.shape moved.own_turn) at
 sitting_calm k s asks step reply at calm = cc
 
-next_calm : (k : Seat) (s : SessionState) (reply : ℕ) → is_calm s.step ≡ true → is_calm (session_next k s reply).step ≡ true
+pub next_calm : (k : Seat) (s : SessionState) (reply : ℕ) → is_calm s.step ≡ true → is_calm (session_next k s reply).step ≡ true
 next_calm k s reply calm = sitting_calm k s (asks_after s.asks (is_word_ask (session_ask k s))) s.step reply refl calm
 
 -- ---- and what is known stays
