@@ -23,6 +23,7 @@ mod OwnTurnStores
 mod PhaseStores
 mod Pieces
 mod Rising
+mod SessionSteps
 pub mod Shown
 mod Sights
 mod Stamps

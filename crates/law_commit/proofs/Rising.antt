@@ -13,10 +13,29 @@ use Rattle.law_world.proofs.OfSessions.OwnRun.{of_run, opened_so}
 use Rattle.fkv_world.proofs.Shown.{same_seat, session_runs, session_runs_on}
 use Rattle.law_commit.specs.Accepted.{HasRisingVersion}
 use Rattle.law_commit.specs.PhaseVersions.{NoneIsAhead, HasRisingPhase, phase_version, version_said}
-use Rattle.law_commit.specs.Views.{View, Sight, sight_found, sight_in, sight_of, sight_through, view_said}
-use Rattle.law_commit.proofs.Measured.{ComesBetween, IsBelow, by_risen, higher}
+use Rattle.law_commit.specs.Views.{IsSeenAs, View, Sight, sight_found, sight_in, sight_of, sight_through, view_said}
+use Rattle.law_commit.proofs.Measured.{ComesBetween, HasRisen, IsBelow, by_risen, higher, top_of}
 use Rattle.law_commit.proofs.Telling.{TellAll, found_all}
 use Rattle.law_commit.proofs.Sights.{Sees, goes_by_view, life_sees, through}
+
+-- Each event of a session's own raises such a number, and leaves it at or below the phase word's.
+module _ (measure : View → ℕ) (measure_said : PhaseSaid → ℕ)
+    (fits : (words : List ℕ) (its : View) (said : PhaseSaid) → measure its ≤ measure_said said → (measure its ≤ measure (view_said words its said)) × (measure (view_said words its said) ≤ measure_said said))
+    (words : List ℕ) (its : Sight) (k : Seat) (s : SessionState) (AllGo : List SessionEvent → Type 0) (none : AllGo [])
+    (more : (event : SessionEvent) (before : List SessionEvent) (was after : Sight) → IsSeenAs was.view (session_run k s before).seen → IsSeenAs after.view (session_run k s (event ∷ before)).seen
+        → HasRisen measure (top_of measure measure_said fits words) was after → AllGo before → AllGo (event ∷ before)) where
+  pub through_each : (events : List SessionEvent) → IsBelow measure (top_of measure measure_said fits words) its → Sees its s → TellAll words k s events
+      → IsBelow measure (top_of measure measure_said fits words) (sight_through words k s events its) × AllGo events
+  unfolding sight_through TellAll
+  through_each [] below sees tells = (below, none)
+  through_each (event ∷ before) below sees tells =
+      let past = through_each before below sees tells.1 in
+      let was : Sight = sight_through words k s before its in
+      let after : Sight = sight_through words k s (event ∷ before) its in
+      let one = session_run k s before in
+      let other = session_run k s (event ∷ before) in
+      let risen = by_risen measure measure_said fits words was k one event past.0 tells.0 in
+      (risen.below, more event before was after (goes_by_view was one one.step (through words its k s before sees)) (goes_by_view after other other.step (through words its k s (event ∷ before) sees)) risen past.1)
 
 -- the version of a view
 abbrev pub of_version : View → ℕ
@@ -33,17 +52,11 @@ pub record Rise (top : ℕ) (k : Seat) (s : SessionState) (events : List Session
 
 through_rise : (words : List ℕ) (its : Sight) (k : Seat) (s : SessionState) (events : List SessionEvent) → IsBelow of_version (phase_version words) its → Sees its s → TellAll words k s events
     → Rise (phase_version words) k s events (sight_through words k s events its)
-unfolding sight_through TellAll HasRisingVersion
-through_rise words its k s [] below sees tells = record { below = below; rises = tt }
-through_rise words its k s (event ∷ before) below sees tells =
-    let past = through_rise words its k s before below sees tells.1 in
-    let was : Sight = sight_through words k s before its in
-    let one = session_run k s before in
-    let other = session_run k s (event ∷ before) in
-    let goes_by = goes_by_view was one one.step (through words its k s before sees) in
-    let goes_after = goes_by_view (sight_through words k s (event ∷ before) its) other other.step (through words its k s (event ∷ before) sees) in
-    let risen = by_risen of_version version_said said_between words was k one event past.below tells.0 in
-    record { below = risen.below; rises = (rw (goes_by.version, goes_after.version) risen.rises, past.rises) }
+unfolding HasRisingVersion
+through_rise words its k s events below sees tells =
+    let both = through_each of_version version_said said_between words its k s (λ events. HasRisingVersion k s events) tt
+    (λ event before was after goes_by goes_after risen past. (rw (goes_by.version, goes_after.version) risen.rises, past)) events below sees tells in
+    record { below = both.0; rises = both.1 }
 
 -- one list of events behind another
 joined : (k : Seat) (first : SessionState) (later before : List SessionEvent) → HasRisingVersion k (session_run k first before) later → HasRisingVersion k first before → HasRisingVersion k first (later ++ before)

@@ -43,7 +43,8 @@ use Rattle.fkv_world.specs.World.{life_goes}
 use Rattle.law_commit.specs.PrefixPast.{serials_asked}
 use Rattle.law_commit.specs.Raises.{raises}
 use Rattle.law_commit.specs.Views.{sight_through, sight_in}
-use Rattle.law_commit.specs.WorkedRuns.{IsWorkedPast, worked_session, worked_world}
+use Rattle.law_commit.specs.WorkedRuns.{IsWorkedPast, worked_world}
+use Rattle.law_refine.specs.Events.Worked.{first_session}
 
 shape : Shape
 unfolding lib.Count.ones
@@ -52,12 +53,12 @@ shape = record { bucket_bits = 0; page = 4; frames = 2; mutable = 1; sessions = 
 places : Places
 places = record { sessions = 2; buckets = 1; overflow = 0; ring = 8; ring_mask = 7; few_sessions = omega arith; few_buckets = omega arith; few_overflow = omega arith; some_ring = omega arith; masks = λ a. and_mask a 3; small_ring = omega arith }
 
-session_opened : (s : SessionState) → IsOpened (worked_session s)
+session_opened : (s : SessionState) → IsOpened (first_session s)
 session_opened s = record { awake = refl; none_wait = refl; no_ticket = refl; no_orphan = refl; no_spare = refl; no_asks = refl; no_effect = refl; none_finished = refl; none_in_hand = refl; serial_fits = omega arith }
 
-each_opened : (one other : SessionState) (number : ℕ) (its : SessionState) → slice_get (worked_session one ∷ worked_session other ∷ []) number ≡ Some its → IsOpened its
-each_opened one other zero its found = let same : worked_session one ≡ its = cc in subst IsOpened same (session_opened one)
-each_opened one other (suc zero) its found = let same : worked_session other ≡ its = cc in subst IsOpened same (session_opened other)
+each_opened : (one other : SessionState) (number : ℕ) (its : SessionState) → slice_get (first_session one ∷ first_session other ∷ []) number ≡ Some its → IsOpened its
+each_opened one other zero its found = let same : first_session one ≡ its = cc in subst IsOpened same (session_opened one)
+each_opened one other (suc zero) its found = let same : first_session other ≡ its = cc in subst IsOpened same (session_opened other)
 each_opened one other (suc (suc more)) its found = cc
 
 world_opened : (its : KeeperState) (one other : SessionState) → IsOpenedWorld (worked_world shape places its one other)

@@ -1,5 +1,5 @@
 -- Runs whose past is worked out: raises of a keeper, and a life of two sessions.
-use Rattle.std.specs.Prelude.{◌≡◌, ℕ, true, false, replicate, List, [], ◌∷◌, ◌++◌, Some, None}
+use Rattle.std.specs.Prelude.{◌≡◌, true, false, replicate, List, [], ◌∷◌, ◌++◌, Some, None}
 use Rattle.fkv_base.specs.declared.phases.Phase.TheVariants.{Rest, Prepare, WaitPending}
 use Rattle.fkv_base.specs.declared.shapes.Shape.{Shape}
 use Rattle.fkv_map.specs.declared.operations.Call.TheVariants as call
@@ -21,8 +21,6 @@ use Rattle.fkv_keeper.specs.declared.answers.KeeperTold.TheVariants.{Turned}
 use Rattle.fkv_keeper.specs.declared.keepers.Keeping.TheVariants.{Ended, Enters, Seeks}
 use Rattle.fkv_keeper.specs.Keeping.{KeeperState}
 use Rattle.fkv_keeper.specs.KeeperRun.{KeeperEvent, BeginsCommit, Replies}
-use Rattle.fkv_session.specs.declared.answers.Told.TheVariants.{Slept}
-use Rattle.fkv_session.specs.declared.sessions.Sitting.TheVariants.{Idle}
 use Rattle.fkv_session.specs.Sessions.{SessionState}
 use Rattle.fkv_world.specs.Opened.{IsOpenedWorld}
 use Rattle.fkv_world.specs.Runs.{World, run}
@@ -31,6 +29,7 @@ use Rattle.law_commit.specs.Accepted.{serial_at}
 use Rattle.law_commit.specs.PrefixPast.{prefix_past}
 use Rattle.law_commit.specs.Raises.{no_raises, raises}
 use Rattle.law_commit.specs.Views.{View}
+use Rattle.law_refine.specs.Events.Worked.{first_world}
 
 -- A keeper as its store was opened begins a commit. The phase is rest in version 1, the epoch is 7, slot 0 is free, prepare is stored over the phase, and
 -- the tail is 5. Then the epoch is raised, from 9 by now.
@@ -65,41 +64,9 @@ pub record RaisesOfRuns : Type 0 where
   pub second : (shape : Shape) (p : Places) (s : KeeperState) → raises shape p (entering_keeper s) (Replies 12 true ∷ []) ≡ record { in_progress = None; wait_pending = Some 12; read_only = None }
   pub third : (shape : Shape) (p : Places) (s : KeeperState) → raises shape p (seeking_keeper s) (Replies 15 true ∷ []) ≡ record { in_progress = None; wait_pending = None; read_only = Some 15 }
 
--- The words of a store for two sessions with one bucket and two frames of four records: the epoch is 1, the phase is rest in version 1, the log begins at
--- 1 and its limit is 8, and both sessions are awake.
-abbrev pub worked_words : List ℕ
-worked_words = 1 ∷ 0 ∷ 1 ∷ 1 ∷ 8 ∷ 1 ∷ 1 ∷ 1 ∷ 1 ∷ 1 ∷ replicate 14 0 ++ (1 ∷ replicate 15 0 ++ (1 ∷ replicate 47 0))
-
--- a session as its store was opened
-abbrev pub worked_session : SessionState → SessionState
-worked_session s = record s {
-  seen = record { phase = Rest; version = record { 0 = 1 }; offsets = record { head = record { 0 = 1 }; read_only = record { 0 = 1 } } };
-  serial = 0;
-  ticket = 0;
-  requests = [];
-  is_orphaned = false;
-  spare = 0;
-  is_awake = true;
-  wants_turn = false;
-  asks = 0;
-  effect = None;
-  finished = [];
-  step = Idle Slept;
-}
-
+-- The store for two sessions of `first_world`, whose keeper rests.
 abbrev pub worked_world : Shape → Places → KeeperState → SessionState → SessionState → World
-worked_world shape places keeper one other = record {
-  now = record {
-    shape = shape;
-    places = places;
-    words = worked_words;
-    actions = replicate 8 None;
-    sessions = worked_session one ∷ worked_session other ∷ [];
-    keeper = resting_keeper keeper;
-    crashed = false;
-  };
-  past = record { opened = []; history = []; trace = []; calls = [] };
-}
+worked_world shape places keeper one other = first_world shape places (resting_keeper keeper) one other
 
 -- Session 0 refreshes.
 abbrev pub events_refreshed : List Event

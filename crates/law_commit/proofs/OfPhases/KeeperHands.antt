@@ -7,7 +7,7 @@ use Rattle.fkv_base.specs.declared.faults.Fault.TheVariants as fault
 use Rattle.fkv_base.specs.declared.numbers.Serial.{Serial}
 use Rattle.fkv_base.specs.declared.numbers.Version.{Version}
 use Rattle.fkv_words.specs.declared.phase_words.PhaseSaid.{PhaseSaid}
-use Rattle.fkv_words.specs.declared.phase_words.PhaseSaid.TheVariants.{Says, Spoiled}
+use Rattle.fkv_words.specs.declared.phase_words.PhaseSaid.TheVariants.{Says}
 use Rattle.fkv_words.specs.PhaseWords.{phase_said}
 use Rattle.fkv_plane.specs.declared.actions.Action.{Action}
 use Rattle.fkv_plane.specs.declared.asks.Ask.{Ask}
@@ -220,9 +220,7 @@ part_none p s c (Says phase.InProgress version) granted =
     either_none s.has_entered (copies_next p s c granted (turned s)) (record s { enter = enter_begun s.enter c.number; step = Enters }) (copies_next_none p s c granted (turned s) refl) refl
 part_none p s c (Says phase.WaitPending version) granted = copies_next_none p s c granted (record s { seek = seek_begun s.seek c.number; has_points = false; step = Seeks }) refl
 part_none p s c (Says phase.WaitFlush version) granted = either_none s.has_points (record s { wait = wait_begun c.end c.epoch; step = Waits }) (turned s) refl refl
-part_none p s c (Says phase.Rest version) granted = refl
-part_none p s c (Says phase.Prepare version) granted = refl
-part_none p s c Spoiled granted = refl
+part_none p s c said granted = refl
 
 phase_none : (p : Places) (s : KeeperState) (found : Option Commit) (said : PhaseSaid) (granted : Bool) → HasNone (phase_ledto p s found said granted)
 unfolding phase_ledto
@@ -232,9 +230,7 @@ phase_none p s (Some c) said granted = part_none p s c said granted
 entered_none : (s : KeeperState) (ask : Ask EnterAnswer) → s.step ≡ Enters → HasNone (enter_ledto s ask)
 unfolding enter_ledto
 entered_none s (Done enter.Entered) at = refl
-entered_none s (Done enter.DrainFull) at = refl
-entered_none s (Done enter.EpochsSpent) at = refl
-entered_none s (Done enter.Idle) at = refl
+entered_none s (Done its) at = refl
 entered_none s ask at = stays_none s Enters at refl
 
 copied_none : (s : KeeperState) (ask : Ask (Unit {0})) → s.step ≡ Copies → HasNone (copy_ledto s ask)
@@ -245,10 +241,7 @@ copied_none s ask at = stays_none s Copies at refl
 sought_none : (s : KeeperState) (ask : Ask SeekAnswer) → s.step ≡ Seeks → HasNone (seek_ledto s ask)
 unfolding seek_ledto
 sought_none s (Done (seek.Taken end epoch)) at = refl
-sought_none s (Done seek.DrainFull) at = refl
-sought_none s (Done seek.EpochsSpent) at = refl
-sought_none s (Done seek.Owing) at = refl
-sought_none s (Done seek.Idle) at = refl
+sought_none s (Done its) at = refl
 sought_none s ask at = stays_none s Seeks at refl
 
 writes_none : (shape : Shape) (s : KeeperState) (found : Option Commit) → HasNone (writes_begun shape s found)
@@ -258,8 +251,7 @@ writes_none shape s (Some c) = refl
 waited_none : (shape : Shape) (s : KeeperState) (ask : Ask WaitAnswer) → s.step ≡ Waits → HasNone (wait_ledto shape s ask)
 unfolding wait_ledto
 waited_none shape s (Done wait.Flushed) at = writes_none shape s s.commit
-waited_none shape s (Done wait.NotYet) at = refl
-waited_none shape s (Done wait.Idle) at = refl
+waited_none shape s (Done its) at = refl
 waited_none shape s ask at = stays_none s Waits at refl
 
 finished_none : (s : KeeperState) (found : Option Commit) → HasNone (finished s found)

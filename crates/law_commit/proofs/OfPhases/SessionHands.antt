@@ -1,36 +1,20 @@
 -- A session has an action in hand only right behind the claim of its slot, and puts none that stores a phase.
-use Rattle.std.proofs.Common.{◌≡◌, ℕ, ◌+◌, ◌∙◌, refl, sym, subst, List, [], length, Bool, true, false}
-use Rattle.std.specs.Prelude.{if◌then◌else◌, ◌==◌, ◌||◌, nat_lt, not, ⊤, Option, Some, None, slice_get, slice_set}
-use Rattle.fkv_base.specs.declared.faults.Fault.{Fault}
-use Rattle.fkv_base.specs.declared.faults.Fault.TheVariants as fault
+use Rattle.std.proofs.Common.{◌≡◌, ℕ, ◌+◌, ◌∙◌, refl, sym, subst, List, Bool, true, false}
+use Rattle.std.specs.Prelude.{if◌then◌else◌, ◌==◌, nat_lt, ⊤, Option, Some, None}
 use Rattle.fkv_map.specs.declared.operations.Call.{Call}
-use Rattle.fkv_map.specs.declared.operations.Call.TheVariants as call
-use Rattle.fkv_map.specs.declared.operations.Op.{Op}
 use Rattle.fkv_plane.specs.declared.actions.Action.{Action}
 use Rattle.fkv_plane.specs.declared.asks.Ask.{Ask}
 use Rattle.fkv_plane.specs.declared.asks.Ask.TheVariants.{Done}
 use Rattle.fkv_plane.specs.declared.places.Places.{Places}
 use Rattle.fkv_epoch.specs.Leaving.{leave_next}
-use Rattle.fkv_ops.specs.declared.answers.Reason.{Reason}
-use Rattle.fkv_ops.specs.declared.answers.Reason.TheVariants as reason
-use Rattle.fkv_ops.specs.declared.answers.TryAnswer.{TryAnswer}
-use Rattle.fkv_ops.specs.declared.answers.TryAnswer.TheVariants as tried
-use Rattle.fkv_ops.specs.Requests.{is_read}
-use Rattle.fkv_pending.specs.declared.mailing.MailAnswer.{MailAnswer}
-use Rattle.fkv_pending.specs.declared.mailing.MailAnswer.TheVariants.{Cleared}
-use Rattle.fkv_pending.specs.declared.mailing.MailTask.TheVariants.{Clear}
-use Rattle.fkv_pending.specs.declared.mailing.Mailing.TheVariants.{LoadsState}
 use Rattle.fkv_pending.specs.declared.pending_requests.PendingRequest.{PendingRequest}
 use Rattle.fkv_pending.specs.Mailing.{mail_next}
 use Rattle.fkv_session.specs.declared.answers.Told.{Told}
-use Rattle.fkv_session.specs.declared.answers.Told.TheVariants as told
-use Rattle.fkv_session.specs.declared.sessions.CatchCause.{CatchCause}
-use Rattle.fkv_session.specs.declared.sessions.CatchCause.TheVariants.{Refreshes, Wakes, Shifts}
+use Rattle.fkv_session.specs.declared.sessions.CatchCause.TheVariants.{Refreshes, Shifts}
 use Rattle.fkv_session.specs.declared.sessions.Sitting.{Sitting}
 use Rattle.fkv_session.specs.declared.sessions.Sitting.TheVariants.{Idle, Attempts, CatchesUp, ClearsMail, Polls, StoresOwing, Turns, StoresCut, Leaves, LoadsDurable}
-use Rattle.fkv_session.specs.CatchingUp.{refresh_begun, wake_begun}
-use Rattle.fkv_session.specs.OwnTurns.{own_turn_begun, own_turn_given}
-use Rattle.fkv_session.specs.Sessions.{SessionState, Seat, answers, refuses, answers_after_turn, attempts, polls_request, polls_at, refusal_of, op_begun, refresh_call, poll_begun, poll_call, sleep_call, wake_call, call_begun, ticket_after, attempt_left, serial_taken, update_done, is_no_room, lacks_room, with_request, accepts, shifts, attempted, attempt_ledto, caught_up, catch_ledto, clear_ledto, is_finished, is_owed, request_finished, finishes_request, keeps_request, poll_ledto, turn_ledto, leave_ledto, attempt_moved, caught, own_turn_moved, sitting_ask, session_ask, sitting_next, session_next, sitting_given, session_given, session_begun, asks_after, is_word_ask}
+use Rattle.fkv_session.specs.OwnTurns.{own_turn_given}
+use Rattle.fkv_session.specs.Sessions.{SessionState, Seat, attempts, shifts, turn_ledto, attempt_moved, caught, own_turn_moved, sitting_ask, session_ask, sitting_next, session_next, sitting_given, session_given, session_begun, asks_after, is_word_ask}
 use Rattle.fkv_base.specs.Limits.{drain_slots}
 use Rattle.fkv_base.specs.declared.shapes.Shape.{Shape}
 use Rattle.fkv_plane.specs.declared.actions.Action.TheVariants as act
@@ -78,6 +62,7 @@ use Rattle.fkv_session.specs.CatchingUp.{CatchState, catching_ask}
 use Rattle.fkv_session.specs.OwnTurns.{OwnTurnState, claim_ledto, open_ledto, own_turning_ask, own_turning_given, own_turning_next, scan_ledto, shift_ledto}
 use Rattle.law_world.proofs.OfRuns.NoSlots.{IsOffSlots, attempt_off_slots, latch_off, mail_off}
 use Rattle.law_commit.specs.Phases.Staged.{claim_hand, phase_in, session_hand, sitting_hand, turn_hand}
+use Rattle.law_commit.proofs.SessionSteps.{HoldsBegun, attempt_holds, begun_holds, catch_holds, clear_holds, leave_holds, poll_holds, polls_hold}
 
 abbrev HasNone : SessionState → Type 0
 HasNone s = session_hand s ≡ None
@@ -159,102 +144,36 @@ turning_given_hand o turning.Shifts action its at none is = let clash : None ≡
 turning_given_hand o turning.Opens action its at none is = let clash : None ≡ Some its = sym (turn_stays o turning.Opens at refl) ∙ is in cc
 
 -- ---- a session
-either_none : (c : Bool) (a b : SessionState) → HasNone a → HasNone b → HasNone (if c then a else b)
-either_none true a b one other = one
-either_none false a b one other = other
-
 stays_none : (s : SessionState) (step : Sitting) → s.step ≡ step → sitting_hand s step ≡ None → HasNone s
 stays_none s step at none = subst (λ x. sitting_hand s x ≡ None) (sym at) none
-
-turn_after_none : (s : SessionState) (its : Told) → HasNone (answers_after_turn s its)
-turn_after_none s its = either_none s.wants_turn (record s { own_turn = own_turn_begun s.own_turn; step = Turns its }) (answers s its) refl refl
 
 attempts_none : (k : Seat) (s : SessionState) (has_shifted : Bool) → HasNone (attempts k s has_shifted)
 unfolding attempts
 attempts_none k s has_shifted = refl
 
-polls_request_none : (k : Seat) (s : SessionState) (index : ℕ) (found : Option PendingRequest) → HasNone (polls_request k s index found)
-polls_request_none k s index None = turn_after_none s (told.Polled (length s.requests))
-polls_request_none k s index (Some pending) = refl
-
-polling_none : (k : Seat) (s : SessionState) (index : ℕ) → HasNone (polls_at k s index)
-unfolding polls_at
-polling_none k s index = polls_request_none k s index (slice_get s.requests index)
-
-accepts_none : (s : SessionState) (why : Reason) → HasNone (accepts s why)
-unfolding accepts
-accepts_none s why =
-    either_none (is_read s.op) (answers (with_request (record s { ticket = ticket_after s.ticket })) (told.PendingRead (record { 0 = ticket_after s.ticket })))
-    (answers_after_turn (with_request (serial_taken (record s { wants_turn = is_no_room why }))) (told.Pending (record { 0 = s.serial + 1 }) why))
-    refl (turn_after_none (with_request (serial_taken (record s { wants_turn = is_no_room why }))) (told.Pending (record { 0 = s.serial + 1 }) why))
-
-session_shifts_none : (s : SessionState) (has_shifted : Bool) → HasNone (shifts s has_shifted)
+shifted_none : (s : SessionState) → HasNone (shifts s false)
 unfolding shifts
-session_shifts_none s false = refl
-session_shifts_none s true = accepts_none s reason.Contended
+shifted_none s = refl
 
-attempted_none : (s : SessionState) (has_shifted : Bool) (its : TryAnswer) → HasNone (attempted s has_shifted its)
-attempted_none s has_shifted (tried.Done reply) = either_none (is_read s.op) (answers s told.Absent) (update_done s reply) refl refl
-attempted_none s has_shifted (tried.Wait why) = accepts_none s why
-attempted_none s has_shifted (tried.AwaitsDisk sought) = accepts_none s reason.Disk
-attempted_none s has_shifted tried.Shift = session_shifts_none s has_shifted
-attempted_none s has_shifted its = refl
-
-attempt_ledto_none : (s : SessionState) (has_shifted : Bool) (ask : Ask TryAnswer) → s.step ≡ Attempts has_shifted → HasNone (attempt_ledto s has_shifted ask)
-unfolding attempt_ledto
-attempt_ledto_none s has_shifted (Done its) at = attempted_none (attempt_left s) has_shifted its
-attempt_ledto_none s has_shifted ask at = stays_none s (Attempts has_shifted) at refl
-
-finishes_none : (k : Seat) (s : SessionState) (index : ℕ) (its : TryAnswer) → HasNone (finishes_request k s index its)
-unfolding finishes_request
-finishes_none k s index its = either_none (is_owed s) (request_finished s index its) (polls_at k (request_finished s index its) index) refl (polling_none k (request_finished s index its) index)
-
-keeps_none : (k : Seat) (s : SessionState) (index : ℕ) (its : TryAnswer) → HasNone (keeps_request k s index its)
-unfolding keeps_request
-keeps_none k s index its = polling_none k (record s { requests = slice_set s.requests index s.attempt.pending; wants_turn = s.wants_turn || lacks_room its }) (index + 1)
-
-poll_ledto_none : (k : Seat) (s : SessionState) (index : ℕ) (ask : Ask TryAnswer) → s.step ≡ Polls index → HasNone (poll_ledto k s index ask)
-unfolding poll_ledto
-poll_ledto_none k s index (Done its) at = either_none (is_finished its) (finishes_request k (attempt_left s) index its) (keeps_request k (attempt_left s) index its) (finishes_none k (attempt_left s) index its) (keeps_none k (attempt_left s) index its)
-poll_ledto_none k s index ask at = stays_none s (Polls index) at refl
-
-caught_up_none : (k : Seat) (s : SessionState) (cause : CatchCause) → HasNone (caught_up k s cause)
-caught_up_none k s Refreshes = refl
-caught_up_none k s Wakes = refl
-caught_up_none k s Shifts = attempts_none k s true
-
-catch_ledto_none : (k : Seat) (s : SessionState) (cause : CatchCause) (ask : Ask (Unit {0})) → s.step ≡ CatchesUp cause → HasNone (catch_ledto k s cause ask)
-unfolding catch_ledto
-catch_ledto_none k s cause (Done its) at = caught_up_none k (record s { seen = s.catching.seen }) cause
-catch_ledto_none k s cause ask at = stays_none s (CatchesUp cause) at refl
-
-clear_none : (k : Seat) (s : SessionState) (ask : Ask MailAnswer) → s.step ≡ ClearsMail → HasNone (clear_ledto k s ask)
-unfolding clear_ledto
-clear_none k s (Done Cleared) at = polling_none k (record s { is_orphaned = false }) 0
-clear_none k s (Done its) at = polling_none k s 0
-clear_none k s ask at = stays_none s ClearsMail at refl
+begun : (k : Seat) → HoldsBegun k (λ s step. sitting_hand s step ≡ None)
+begun k = record { answered = λ s its other. refl; turns = λ s its other. refl; tries = λ s has_shifted. attempts_none k s has_shifted; polls = λ s index pending. refl; shifted = λ s. shifted_none s; owes = λ s index. refl }
 
 turn_ledto_none : (s : SessionState) (its : Told) (ask : Ask (Unit {0})) → s.step ≡ Turns its → turn_hand s.own_turn s.own_turn.step ≡ None → HasNone (turn_ledto s its ask)
 unfolding turn_ledto
 turn_ledto_none s its (Done through) at spared = refl
 turn_ledto_none s its ask at spared = stays_none s (Turns its) at spared
 
-leave_ledto_none : (s : SessionState) (ask : Ask (Unit {0})) → s.step ≡ Leaves → HasNone (leave_ledto s ask)
-unfolding leave_ledto
-leave_ledto_none s (Done its) at = refl
-leave_ledto_none s ask at = stays_none s Leaves at refl
-
 next_none : (k : Seat) (s : SessionState) (step : Sitting) (reply : ℕ) → s.step ≡ step → HasNone (sitting_next k s step reply)
 unfolding sitting_next
 next_none k s (Idle its) reply at = stays_none s (Idle its) at refl
-next_none k s (Attempts has_shifted) reply at = attempt_ledto_none (attempt_moved k s reply) has_shifted _ at
-next_none k s (CatchesUp cause) reply at = catch_ledto_none k (caught k s reply) cause _ at
-next_none k s ClearsMail reply at = clear_none k (record s { mailing = mail_next s.mailing reply }) _ at
-next_none k s (Polls index) reply at = poll_ledto_none k (attempt_moved k s reply) index _ at
-next_none k s (StoresOwing index) reply at = polling_none k s index
+next_none k s (Attempts has_shifted) reply at = attempt_holds k (λ s step. sitting_hand s step ≡ None) (begun k) (attempt_moved k s reply) has_shifted _ at refl
+next_none k s (CatchesUp cause) reply at = catch_holds k (λ s step. sitting_hand s step ≡ None) (begun k) (caught k s reply) cause _ at refl
+next_none k s ClearsMail reply at = clear_holds k (λ s step. sitting_hand s step ≡ None) (begun k) (record s { mailing = mail_next s.mailing reply }) _ at refl
+next_none k s (Polls index) reply at = poll_holds k (λ s step. sitting_hand s step ≡ None) (begun k) (attempt_moved k s reply) index _ at refl
+next_none k s (StoresOwing index) reply at = polls_hold k (λ s step. sitting_hand s step ≡ None) (begun k) s index
 next_none k s (Turns its) reply at = turn_ledto_none (own_turn_moved k s reply) its _ at (turning_none k.shape s.own_turn s.own_turn.step reply refl)
 next_none k s StoresCut reply at = refl
-next_none k s Leaves reply at = leave_ledto_none (record s { leaving = leave_next s.leaving }) _ at
+next_none k s Leaves reply at = leave_holds k (λ s step. sitting_hand s step ≡ None) (begun k) (record s { leaving = leave_next s.leaving }) _ at refl
 next_none k s LoadsDurable reply at = refl
 
 pub session_next_none : (k : Seat) (s : SessionState) (reply : ℕ) → HasNone (session_next k s reply)
@@ -276,40 +195,8 @@ pub session_given_hand : (k : Seat) (s : SessionState) (action its : Action) →
 session_given_hand k s action its none is = given_hand k s s.step action its refl none is
 
 -- a call
-op_none : (k : Seat) (s : SessionState) (op : Op) (why : Option Fault) → HasNone (op_begun k s op why)
-unfolding op_begun
-op_none k s op (Some why) = refl
-op_none k s op None = attempts_none k (record s { op = op }) false
-
-refresh_call_none : (s : SessionState) → HasNone (refresh_call s)
-unfolding refresh_call
-refresh_call_none s = either_none s.is_awake (record s { catching = refresh_begun s.catching s.seen s.serial; step = CatchesUp Refreshes }) (refuses s fault.Asleep) refl refl
-
-poll_begun_none : (k : Seat) (s : SessionState) → HasNone (poll_begun k s)
-poll_begun_none k s = either_none s.is_orphaned (record s { mailing = LoadsState Clear; step = ClearsMail }) (polls_at k s 0) refl (polling_none k s 0)
-
-poll_call_none : (k : Seat) (s : SessionState) → HasNone (poll_call k s)
-unfolding poll_call
-poll_call_none k s = either_none s.is_awake (poll_begun k (record s { finished = [] })) (refuses s fault.Asleep) (poll_begun_none k (record s { finished = [] })) refl
-
-sleep_none : (s : SessionState) → HasNone (sleep_call s)
-unfolding sleep_call
-sleep_none s = either_none (not s.is_awake) (refuses s fault.Asleep) _ refl (either_none (length s.requests == 0) (record s { step = StoresCut }) (refuses s fault.PendingLeft) refl refl)
-
-wake_none : (s : SessionState) → HasNone (wake_call s)
-unfolding wake_call
-wake_none s = either_none s.is_awake (refuses s fault.Awake) (record s { catching = wake_begun s.catching s.seen s.serial; step = CatchesUp Wakes }) refl refl
-
-call_none : (k : Seat) (s : SessionState) (its : Call) → HasNone (call_begun k s its)
-call_none k s (call.Op op) = op_none k s op (refusal_of s op)
-call_none k s call.Refresh = refresh_call_none s
-call_none k s call.Poll = poll_call_none k s
-call_none k s call.Sleep = sleep_none s
-call_none k s call.Wake = wake_none s
-call_none k s call.Durable = refl
-
 pub begun_none : (k : Seat) (s : SessionState) (its : Call) → HasNone (session_begun k s its)
-begun_none k s its = call_none k (record s { asks = 0; effect = None; wants_turn = false }) its
+begun_none k s its = begun_holds k (λ s step. sitting_hand s step ≡ None) (begun k) (record { refreshes = λ s. refl; wakes = λ s. refl; clears = λ s. refl; cuts = λ s. refl; loads = λ s. refl }) s its
 
 -- ---- what it puts into a slot stores no phase
 abbrev pub PutsNone : {A : Type 0} → Ask A → Type 0
@@ -400,11 +287,6 @@ unfolding protect_ask
 protect_puts n protect.AtRest = tt
 protect_puts n step = tt
 
-leave_puts : (n : ℕ) (step : Leaving) → PutsNone (leave_ask n step)
-unfolding leave_ask
-leave_puts n leave.AtRest = tt
-leave_puts n step = tt
-
 catch_puts : (p : Places) (n : ℕ) (c : CatchState) (requests : List PendingRequest) (step : Catching) → PutsNone (catching_ask p n c requests step)
 unfolding catching_ask
 catch_puts p n c requests catching.Ended = tt
@@ -414,6 +296,11 @@ catch_puts p n c requests catching.StoresCut = tt
 catch_puts p n c requests catching.StoresOwing = tt
 catch_puts p n c requests (catching.Latches index) = passed_puts _ _ (off_puts _ (latch_off c.latching))
 catch_puts p n c requests catching.Finishes = passed_puts (refresh_ask n c.refreshing) _ (refresh_puts n c.refreshing)
+
+leave_puts : (n : ℕ) (step : Leaving) → PutsNone (leave_ask n step)
+unfolding leave_ask
+leave_puts n leave.AtRest = tt
+leave_puts n step = tt
 
 sitting_puts : (k : Seat) (s : SessionState) (step : Sitting) → PutsNone (sitting_ask k s step)
 unfolding sitting_ask

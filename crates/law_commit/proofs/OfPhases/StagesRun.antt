@@ -26,6 +26,24 @@ use Rattle.fkv_keeper.specs.declared.keepers.Keeping.TheVariants.{Ended, Starts,
 use Rattle.fkv_keeper.specs.Keeping.{KeeperState}
 use Rattle.law_commit.specs.Phases.Staged.{Stage, Rests, Prepares, DefersProgress, Progresses, DefersPending, Pends, Flushes, DefersAt, EarlyAt, EnterAt, FinishAt, KeeperAt, SeekAt, StartAt, StepAt, stage_run}
 
+-- ---- the keeper's step is so at another stage if its parts are, and none of them flushes
+module _ (number : Version) (stage other : Stage) (not_flushes : stage ≡ Flushes → ⊥) (s : KeeperState) where
+  finish_runs : (step : Finishing) → FinishAt stage step → FinishAt other step
+  finish_runs (finishing.Ended its) is = is
+  finish_runs (finishing.StoresDurable session) is = absurd (not_flushes is)
+  finish_runs finishing.StoresRest is = absurd (not_flushes is)
+
+  module _ (starts : StartAt number stage s.start s.start.step → StartAt number other s.start s.start.step) (enters : EnterAt number stage s.enter s.enter.step → EnterAt number other s.enter s.enter.step)
+      (seeks : SeekAt number stage s.seek s.seek.step → SeekAt number other s.seek s.seek.step) where
+    step_runs : (step : Keeping) → StepAt number stage s step → StepAt number other s step
+    step_runs Starts is = starts is
+    step_runs Enters is = (is.0, enters is.1)
+    step_runs Seeks is = (is.0, seeks is.1)
+    step_runs Waits is = absurd (not_flushes is)
+    step_runs Writes is = absurd (not_flushes is)
+    step_runs Finishes is = (is.0, finish_runs s.finish.step is.1, is.2)
+    step_runs step is = tt
+
 -- ---- in-progress is stored
 progress_defers : (its : Deferred) (step : Deferring) → DefersAt its Prepares DefersProgress Progresses DefersProgress step → DefersAt its Prepares DefersProgress Progresses Progresses step
 progress_defers its (defer.Raises other) is = cc
@@ -37,6 +55,16 @@ progress_defers its (defer.Ended NoSlot) is = cc
 progress_defers its (defer.Ended Spent) is = cc
 progress_defers its defer.Seeks is = cc
 progress_defers its defer.Holds is = cc
+
+-- a phase isn't deferred at a stage that is none of its own
+not_deferred : {X : Type 0} (its : Deferred) (before out after stage : Stage) (step : Deferring) → (stage ≡ before → ⊥) → (stage ≡ out → ⊥) → (stage ≡ after → ⊥) → DefersAt its before out after stage step → X
+not_deferred its before out after stage (defer.Raises other) not_before not_out not_after is = absurd (not_before is.1)
+not_deferred its before out after stage (defer.Puts other slot epoch) not_before not_out not_after is = absurd (not_before is.1)
+not_deferred its before out after stage (defer.Arms epoch) not_before not_out not_after (inl e) = absurd (not_out e)
+not_deferred its before out after stage (defer.Arms epoch) not_before not_out not_after (inr e) = absurd (not_after e)
+not_deferred its before out after stage (defer.Ended (Armed epoch)) not_before not_out not_after (inl e) = absurd (not_out e)
+not_deferred its before out after stage (defer.Ended (Armed epoch)) not_before not_out not_after (inr e) = absurd (not_after e)
+not_deferred its before out after stage step not_before not_out not_after is = absurd (not_before is)
 
 progress_starts : (number : Version) (s : StartState) (step : Starting) → StartAt number DefersProgress s step → StartAt number Progresses s step
 progress_starts number s (starting.Ended (start.Begun its first)) is = (is.0, inr refl)
@@ -55,20 +83,7 @@ progress_enters number s (entering.Ended enter.Idle) is = refl
 progress_enters number s (entering.Ended enter.DrainFull) is = refl
 progress_enters number s (entering.Ended enter.EpochsSpent) is = refl
 progress_enters number s entering.Seeks is = let clash : DefersProgress ≡ Progresses = is.0 in cc
-progress_enters number s entering.Defers is = absurd (none s.defer.step is.0)
-  where
-    none : (step : Deferring) → DefersAt (EntersPhase WaitPending (version_after number)) Progresses DefersPending Pends DefersProgress step → ⊥
-    none (defer.Raises other) is = let clash : DefersProgress ≡ Progresses = is.1 in cc
-    none (defer.Puts other slot epoch) is = let clash : DefersProgress ≡ Progresses = is.1 in cc
-    none (defer.Arms epoch) (inl e) = cc
-    none (defer.Arms epoch) (inr e) = cc
-    none (defer.Ended (Armed epoch)) (inl e) = cc
-    none (defer.Ended (Armed epoch)) (inr e) = cc
-    none (defer.Ended Held) is = cc
-    none (defer.Ended NoSlot) is = cc
-    none (defer.Ended Spent) is = cc
-    none defer.Seeks is = cc
-    none defer.Holds is = cc
+progress_enters number s entering.Defers is = not_deferred (EntersPhase WaitPending (version_after number)) Progresses DefersPending Pends DefersProgress s.defer.step (λ e. cc) (λ e. cc) (λ e. cc) is.0
 
 progress_seeks : (number : Version) (s : SeekState) (step : Seeking) → SeekAt number DefersProgress s step → SeekAt number Progresses s step
 progress_seeks number s (seeking.Ended its) is = tt
@@ -81,23 +96,6 @@ progress_seeks number s seeking.StoresWaitFlush is = let clash : DefersProgress 
 progress_seeks number s seeking.LoadsTail is = let clash : DefersProgress ≡ Flushes = is.0 in cc
 progress_seeks number s (seeking.RaisesReadOnly end) is = let clash : DefersProgress ≡ Flushes = is.0 in cc
 progress_seeks number s (seeking.Defers end) is = let clash : DefersProgress ≡ Flushes = is.0 in cc
-
-progress_finish : (step : Finishing) → FinishAt DefersProgress step → FinishAt Progresses step
-progress_finish (finishing.Ended its) is = is
-progress_finish (finishing.StoresDurable session) is = cc
-progress_finish finishing.StoresRest is = cc
-
-progress_steps : (number : Version) (s : KeeperState) (step : Keeping) → StepAt number DefersProgress s step → StepAt number Progresses s step
-progress_steps number s (Ended told) is = tt
-progress_steps number s Starts is = progress_starts number s.start s.start.step is
-progress_steps number s Maintains is = tt
-progress_steps number s LoadsPhase is = tt
-progress_steps number s Enters is = (is.0, progress_enters number s.enter s.enter.step is.1)
-progress_steps number s Copies is = tt
-progress_steps number s Seeks is = (is.0, progress_seeks number s.seek s.seek.step is.1)
-progress_steps number s Waits is = cc
-progress_steps number s Writes is = cc
-progress_steps number s Finishes is = (is.0, progress_finish s.finish.step is.1, is.2)
 
 progress_early : (s : KeeperState) (step : Keeping) → EarlyAt Progresses s step
 progress_early s Enters = tt
@@ -132,20 +130,7 @@ pending_starts number s starting.LoadsPhase is = tt
 pending_starts number s (starting.Seeks its) is = let clash : DefersPending ≡ Rests = is.1 in cc
 pending_starts number s (starting.StoresPrepare its) is = let clash : DefersPending ≡ Rests = is.1 in cc
 pending_starts number s (starting.LoadsTail its) is = let clash : DefersPending ≡ Prepares = is.1 in cc
-pending_starts number s (starting.Defers its first) is = absurd (none s.defer.step is.1)
-  where
-    none : (step : Deferring) → DefersAt (EntersPhase InProgress (version_after number)) Prepares DefersProgress Progresses DefersPending step → ⊥
-    none (defer.Raises other) is = let clash : DefersPending ≡ Prepares = is.1 in cc
-    none (defer.Puts other slot epoch) is = let clash : DefersPending ≡ Prepares = is.1 in cc
-    none (defer.Arms epoch) (inl e) = cc
-    none (defer.Arms epoch) (inr e) = cc
-    none (defer.Ended (Armed epoch)) (inl e) = cc
-    none (defer.Ended (Armed epoch)) (inr e) = cc
-    none (defer.Ended Held) is = cc
-    none (defer.Ended NoSlot) is = cc
-    none (defer.Ended Spent) is = cc
-    none defer.Seeks is = cc
-    none defer.Holds is = cc
+pending_starts number s (starting.Defers its first) is = not_deferred (EntersPhase InProgress (version_after number)) Prepares DefersProgress Progresses DefersPending s.defer.step (λ e. cc) (λ e. cc) (λ e. cc) is.1
 
 pending_enters : (number : Version) (s : EnterState) (step : Entering) → EnterAt number DefersPending s step → EnterAt number Pends s step
 pending_enters number s (entering.Ended enter.Entered) is = inr refl
@@ -167,23 +152,6 @@ pending_seeks number s seeking.LoadsTail is = let clash : DefersPending ≡ Flus
 pending_seeks number s (seeking.RaisesReadOnly end) is = let clash : DefersPending ≡ Flushes = is.0 in cc
 pending_seeks number s (seeking.Defers end) is = let clash : DefersPending ≡ Flushes = is.0 in cc
 
-pending_finish : (step : Finishing) → FinishAt DefersPending step → FinishAt Pends step
-pending_finish (finishing.Ended its) is = is
-pending_finish (finishing.StoresDurable session) is = cc
-pending_finish finishing.StoresRest is = cc
-
-pending_steps : (number : Version) (s : KeeperState) (step : Keeping) → StepAt number DefersPending s step → StepAt number Pends s step
-pending_steps number s (Ended told) is = tt
-pending_steps number s Starts is = pending_starts number s.start s.start.step is
-pending_steps number s Maintains is = tt
-pending_steps number s LoadsPhase is = tt
-pending_steps number s Enters is = (is.0, pending_enters number s.enter s.enter.step is.1)
-pending_steps number s Copies is = tt
-pending_steps number s Seeks is = (is.0, pending_seeks number s.seek s.seek.step is.1)
-pending_steps number s Waits is = cc
-pending_steps number s Writes is = cc
-pending_steps number s Finishes is = (is.0, pending_finish s.finish.step is.1, is.2)
-
 pending_early : (s : KeeperState) (step : Keeping) → EarlyAt DefersPending s step → EarlyAt Pends s step
 pending_early s Enters early = tt
 pending_early s (Ended told) early = early
@@ -199,10 +167,10 @@ pending_early s Finishes early = early
 pub runs_on : (number : Version) (stage : Stage) (s : KeeperState) → KeeperAt number stage s → KeeperAt number (stage_run stage) s
 runs_on number DefersProgress s its =
     let has = its.has in
-    record { has = record { next = has.next; hand = λ c in_hand. ((has.hand c in_hand).0, refl) }; early = progress_early s s.step; step = progress_steps number s s.step its.step }
+    record { has = record { next = has.next; hand = λ c in_hand. ((has.hand c in_hand).0, refl) }; early = progress_early s s.step; step = step_runs number DefersProgress Progresses (λ e. cc) s (λ is. progress_starts number s.start s.start.step is) (λ is. progress_enters number s.enter s.enter.step is) (λ is. progress_seeks number s.seek s.seek.step is) s.step its.step }
 runs_on number DefersPending s its =
     let has = its.has in
-    record { has = record { next = has.next; hand = λ c in_hand. ((has.hand c in_hand).0, refl) }; early = pending_early s s.step its.early; step = pending_steps number s s.step its.step }
+    record { has = record { next = has.next; hand = λ c in_hand. ((has.hand c in_hand).0, refl) }; early = pending_early s s.step its.early; step = step_runs number DefersPending Pends (λ e. cc) s (λ is. pending_starts number s.start s.start.step is) (λ is. pending_enters number s.enter s.enter.step is) (λ is. pending_seeks number s.seek s.seek.step is) s.step its.step }
 runs_on number Rests s its = its
 runs_on number Prepares s its = its
 runs_on number Progresses s its = its

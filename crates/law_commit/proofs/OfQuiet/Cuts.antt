@@ -1,6 +1,6 @@
 -- In wait-pending the two cut words of a session show its point of the commit's number, a sleeper's too.
 use Rattle.std.proofs.Common.{◌≡◌, ◌≢◌, ◌⊎◌, inl, inr, ℕ, ◌+◌, ◌-◌, ◌<◌, ◌≤◌, ◌∙◌, List, [], ◌∷◌, refl, arith, ap, sym, subst, Bool, true, false}
-use Rattle.std.specs.Prelude.{⊤, not, nat_le, ◌==◌, ◌%◌, if◌then◌else◌, Option, Some, None, slice_get}
+use Rattle.std.specs.Prelude.{not, nat_le, ◌==◌, ◌%◌, if◌then◌else◌, Some, slice_get}
 use Rattle.std.proofs.lemmas.Bool.Decides.{nat_tests}
 use Rattle.fkv_base.specs.declared.numbers.Version.{Version}
 use Rattle.fkv_plane.specs.declared.places.SessionWord.TheVariants as own
@@ -29,7 +29,7 @@ use Rattle.law_commit.specs.Accepted.{HasRisingVersion, point, versions_accepted
 use Rattle.law_commit.specs.Cuts.{HasItsWords, ShowCuts, serial_before, word_now}
 use Rattle.law_commit.specs.PhaseVersions.{HasRisingPhase, phase_version}
 use Rattle.law_commit.specs.Quiet.{CutsShowPoints, LiveAreLater, OpensQuiet, SaysFirst, ShowsPoint, SleepsSince, pending_rank, rank_now}
-use Rattle.law_commit.specs.Views.{IsComing, IsTakenFrom, Sight, TakesUp, View, sight_of}
+use Rattle.law_commit.specs.Views.{IsComing, Sight, View, sight_of}
 use Rattle.law_commit.specs.Floor.Stands.{PaperIsSound}
 use Rattle.law_commit.proofs.Counted.{life_counted, life_point, run_moves}
 use Rattle.law_commit.proofs.OfCuts.Serials.{never_falls}
@@ -40,32 +40,11 @@ use Rattle.law_commit.proofs.OfCuts.Left.{life_left}
 use Rattle.law_commit.proofs.OfCuts.Marks.{life_marks}
 use Rattle.law_commit.proofs.OfCuts.Told.{cut_mark}
 use Rattle.law_commit.proofs.OfPhases.LifeStages.{first_version, life_staged, none_ahead, rising_version, version_now}
-use Rattle.law_commit.proofs.OfQuiet.Owing.{Pending, pending_version}
+use Rattle.law_commit.proofs.OfQuiet.Owing.{IsTaken, Pending, pending_version, takes_taken}
 use Rattle.law_commit.proofs.OfQuiet.Ranks.{staged_rank}
 use Rattle.law_commit.proofs.OfVersions.Points.{count_low}
 use Rattle.law_commit.proofs.Rising.{coming_below, version_below}
 use Rattle.law_commit.proofs.Sights.{coming_seen, view_seen}
-
--- ---- once a session that catches up has loaded all it takes up this version
-module _ (s : SessionState) (version : ℕ) where
-  abbrev IsTaken : Catching → Type 0
-  IsTaken catching.Refreshes = ⊤
-  IsTaken catching.Protects = ⊤
-  IsTaken step = s.catching.seen.version.0 ≡ version + 1
-
-  from_coming : (found : Option View) → IsTakenFrom found s.catching.seen → ((view : View) → found ≡ Some view → view.version.0 ≡ version + 1) → s.catching.seen.version.0 ≡ version + 1
-  from_coming None taken is = absurd taken
-  from_coming (Some view) taken is = ap (λ (v : Version). v.0) taken.version ∙ is view refl
-
-  module _ (sight : Sight) (is : (view : View) → sight.coming ≡ Some view → view.version.0 ≡ version + 1) where
-    takes_taken : (step : Catching) → TakesUp sight s.catching step → IsTaken step
-    takes_taken catching.Refreshes takes = tt
-    takes_taken catching.Protects takes = tt
-    takes_taken catching.StoresCut takes = from_coming sight.coming takes is
-    takes_taken catching.StoresOwing takes = from_coming sight.coming takes is
-    takes_taken catching.Ended takes = from_coming sight.coming takes is
-    takes_taken (catching.Latches index) takes = from_coming sight.coming takes is
-    takes_taken catching.Finishes takes = from_coming sight.coming takes is
 
 -- ---- one that has left the version
 module _ (k : Seat) (words : ℕ → ℕ) (serial version : ℕ) (s : SessionState) (own_version : s.seen.version.0 ≡ version + 1) where

@@ -83,6 +83,27 @@ left_none k first (event ∷ before) none = by_same ((session_run k first (event
     by_same true same left past = grind (arith, nat_tests, same) ∙ past left
     by_same false other left past = cc
 
+-- ---- once a session that catches up has loaded all it takes up this version
+module _ (s : SessionState) (version : ℕ) where
+  abbrev pub IsTaken : Catching → Type 0
+  IsTaken catching.Refreshes = ⊤
+  IsTaken catching.Protects = ⊤
+  IsTaken step = s.catching.seen.version.0 ≡ version + 1
+
+  from_coming : (found : Option View) → IsTakenFrom found s.catching.seen → ((view : View) → found ≡ Some view → view.version.0 ≡ version + 1) → s.catching.seen.version.0 ≡ version + 1
+  from_coming None taken is = absurd taken
+  from_coming (Some view) taken is = ap (λ (v : Version). v.0) taken.version ∙ is view refl
+
+  module _ (sight : Sight) (is : (view : View) → sight.coming ≡ Some view → view.version.0 ≡ version + 1) where
+    pub takes_taken : (step : Catching) → TakesUp sight s.catching step → IsTaken step
+    takes_taken catching.Refreshes takes = tt
+    takes_taken catching.Protects takes = tt
+    takes_taken catching.StoresCut takes = from_coming sight.coming takes is
+    takes_taken catching.StoresOwing takes = from_coming sight.coming takes is
+    takes_taken catching.Ended takes = from_coming sight.coming takes is
+    takes_taken (catching.Latches index) takes = from_coming sight.coming takes is
+    takes_taken catching.Finishes takes = from_coming sight.coming takes is
+
 -- ---- what is owed, by what the session is at
 -- the owing word tells how many updates of the version before this one wait
 module _ (k : Seat) (words : ℕ → ℕ) (serial version : ℕ) (s : SessionState) (zero_word : words (session_place k.number own.Owing) ≡ 0) (own_version : s.seen.version.0 ≡ version + 1) where
@@ -104,13 +125,7 @@ module _ (k : Seat) (words : ℕ → ℕ) (serial version : ℕ) (s : SessionSta
   same_test : (at : ℕ) → at ≡ version + 1 → (at == s.seen.version.0) ≡ true
   same_test at is = grind (arith, nat_tests, is, own_version)
 
-  -- once it has loaded all it takes up this version
-  abbrev IsTaken : Catching → Type 0
-  IsTaken catching.Refreshes = ⊤
-  IsTaken catching.Protects = ⊤
-  IsTaken step = s.catching.seen.version.0 ≡ version + 1
-
-  catch_zero : (step : Catching) → IsTaken step → IsCatching k.number words (Some serial) (record s { catching = record s.catching { step = step } }) → OwesZero
+  catch_zero : (step : Catching) → IsTaken s version step → IsCatching k.number words (Some serial) (record s { catching = record s.catching { step = step } }) → OwesZero
   catch_zero catching.Refreshes taken marks = marked_zero marks.at.1
   catch_zero catching.Protects taken marks = marked_zero marks.at.1
   catch_zero catching.StoresCut taken marks = let other = marks.at.0 in let clash : true ≡ false = sym (same_test s.catching.seen.version.0 taken) ∙ other in cc
@@ -119,22 +134,9 @@ module _ (k : Seat) (words : ℕ → ℕ) (serial version : ℕ) (s : SessionSta
   catch_zero (catching.Latches index) taken marks = left_zero (s.catching.seen.version.0 == s.seen.version.0) s.catching.seen.version.0 taken marks.at
   catch_zero catching.Finishes taken marks = left_zero (s.catching.seen.version.0 == s.seen.version.0) s.catching.seen.version.0 taken marks.at
 
-  from_coming : (found : Option View) → IsTakenFrom found s.catching.seen → ((view : View) → found ≡ Some view → view.version.0 ≡ version + 1) → s.catching.seen.version.0 ≡ version + 1
-  from_coming None taken is = absurd taken
-  from_coming (Some view) taken is = ap (λ (v : Version). v.0) taken.version ∙ is view refl
-
   module _ (sight : Sight) (is : (view : View) → sight.coming ≡ Some view → view.version.0 ≡ version + 1) where
-    takes_taken : (step : Catching) → TakesUp sight s.catching step → IsTaken step
-    takes_taken catching.Refreshes takes = tt
-    takes_taken catching.Protects takes = tt
-    takes_taken catching.StoresCut takes = from_coming sight.coming takes is
-    takes_taken catching.StoresOwing takes = from_coming sight.coming takes is
-    takes_taken catching.Ended takes = from_coming sight.coming takes is
-    takes_taken (catching.Latches index) takes = from_coming sight.coming takes is
-    takes_taken catching.Finishes takes = from_coming sight.coming takes is
-
     step_zero : (step : Sitting) → IsComing sight s step → StepMarks k words (Some serial) s step → ((index : ℕ) → step ≡ StoresOwing index → IsOwedOrOneMore (words (session_place k.number own.Owing)) (owing s.seen s.requests)) → OwesZero
-    step_zero (CatchesUp cause) comes marks near = catch_zero s.catching.step (takes_taken s.catching.step comes) marks
+    step_zero (CatchesUp cause) comes marks near = catch_zero s.catching.step (takes_taken s version sight is s.catching.step comes) marks
     step_zero (StoresOwing index) comes marks near =
         let few = (near index refl).no_fewer in
         owes_zero s.seen.version.0 own_version (zero_word ∙ sym (omega (arith, few, zero_word)))

@@ -1,9 +1,8 @@
 -- A session that wakes stores nothing in its cut words before it has loaded the phase: till then they are as it has slept.
-use Rattle.std.proofs.Common.{◌≡◌, ℕ, ◌+◌, ◌-◌, ◌<◌, ◌≤◌, ◌∙◌, List, [], ◌∷◌, length, refl, arith, ap, sym, subst, Bool, true, false}
-use Rattle.std.specs.Prelude.{⊤, not, ◌==◌, ◌||◌, if◌then◌else◌, Option, Some, None, slice_get, slice_set}
+use Rattle.std.proofs.Common.{◌≡◌, ℕ, ◌-◌, ◌<◌, ◌≤◌, ◌∙◌, List, [], ◌∷◌, length, refl, arith, ap, sym, subst, Bool, true, false}
+use Rattle.std.specs.Prelude.{⊤, not, ◌==◌, if◌then◌else◌, Option, Some, None, slice_get}
 use Rattle.std.specs.List.{position}
 use Rattle.std.proofs.lemmas.Bool.Decides.{nat_tests}
-use Rattle.fkv_base.specs.declared.faults.Fault.{Fault}
 use Rattle.fkv_base.specs.declared.faults.Fault.TheVariants as fault
 use Rattle.fkv_map.specs.declared.operations.Call.{Call}
 use Rattle.fkv_map.specs.declared.operations.Call.TheVariants as call
@@ -19,29 +18,20 @@ use Rattle.fkv_epoch.specs.declared.values.Seen as loaded
 use Rattle.fkv_epoch.specs.declared.refreshing.RefreshAnswer.{RefreshAnswer}
 use Rattle.fkv_latch.specs.declared.latching.LatchAnswer.{LatchAnswer}
 use Rattle.fkv_latch.specs.declared.latching.LatchAnswer.TheVariants.{Taken}
-use Rattle.fkv_ops.specs.declared.answers.Reason.{Reason}
-use Rattle.fkv_ops.specs.declared.answers.Reason.TheVariants as reason
-use Rattle.fkv_ops.specs.declared.answers.TryAnswer.{TryAnswer}
-use Rattle.fkv_ops.specs.declared.answers.TryAnswer.TheVariants as tried
 use Rattle.fkv_ops.specs.declared.requests.Seen.{Seen}
-use Rattle.fkv_ops.specs.Requests.{is_read}
-use Rattle.fkv_pending.specs.declared.mailing.MailAnswer.{MailAnswer}
-use Rattle.fkv_pending.specs.declared.mailing.MailAnswer.TheVariants.{Cleared}
 use Rattle.fkv_pending.specs.declared.pending_requests.PendingRequest.{PendingRequest}
 use Rattle.fkv_pending.specs.Mailing.{mail_next}
 use Rattle.fkv_pending.specs.Pending.{is_unlatched}
 use Rattle.fkv_words.specs.PhaseWords.{phase_said}
 use Rattle.fkv_session.specs.declared.answers.Told.{Told}
-use Rattle.fkv_session.specs.declared.answers.Told.TheVariants as told
 use Rattle.fkv_session.specs.declared.catching_up.Catching.{Catching}
 use Rattle.fkv_session.specs.declared.catching_up.Catching.TheVariants as catching
-use Rattle.fkv_session.specs.declared.sessions.CatchCause.{CatchCause}
 use Rattle.fkv_session.specs.declared.sessions.CatchCause.TheVariants.{Refreshes, Wakes, Shifts}
 use Rattle.fkv_session.specs.declared.sessions.Sitting.{Sitting}
 use Rattle.fkv_session.specs.declared.sessions.Sitting.TheVariants.{Idle, Attempts, CatchesUp, ClearsMail, Polls, StoresOwing, Turns, StoresCut, Leaves, LoadsDurable}
 use Rattle.fkv_session.specs.CatchingUp.{CatchState, catch_requests, refresh_begun, wake_begun, catching_next, cuts, enters_prepare, finish_ledto, finishes, is_same_version, latch_begun, latch_ledto, latch_wanted, latches, protect_ledto, seen_after}
 use Rattle.fkv_session.specs.OwnTurns.{own_turn_ask, own_turn_given}
-use Rattle.fkv_session.specs.Sessions.{IsOpened, SessionState, Seat, asks_after, bits_of, caught, is_busy, is_word_ask, session_ask, accepts, answers, answers_after_turn, attempt_ledto, attempt_left, attempt_moved, attempted, attempts, call_begun, catch_ledto, clear_ledto, finishes_request, is_finished, is_no_room, is_owed, keeps_request, lacks_room, leave_ledto, op_begun, own_turn_moved, poll_begun, poll_call, poll_ledto, polls_at, polls_request, refresh_call, refusal_of, refuses, request_finished, serial_taken, shifts, sitting_given, sitting_next, sleep_call, ticket_after, turn_ledto, update_done, wake_call, with_request}
+use Rattle.fkv_session.specs.Sessions.{IsOpened, SessionState, Seat, asks_after, bits_of, caught, is_busy, is_word_ask, session_ask, attempt_moved, attempts, call_begun, catch_ledto, op_begun, own_turn_moved, poll_begun, poll_call, polls_at, refresh_call, refusal_of, refuses, shifts, sitting_given, sitting_next, sleep_call, turn_ledto, wake_call}
 use Rattle.fkv_session.specs.SessionRun.{Begins, Gets, Replies, SessionEvent, begins, session_happens, session_run}
 use Rattle.fkv_session.specs.Words.{GoesToSleep, HasFinished, IsMark, IsMarkStore, LeavesVersion, OwesUpdates, stored_by, stored_last}
 use Rattle.fkv_session.proofs.Shown.{IsCatching, IsMarked, StepMarks, run_slept, run_stores}
@@ -49,6 +39,7 @@ use Rattle.law_commit.specs.Cuts.{ShowsCut, serial_before}
 use Rattle.law_commit.specs.Quiet.{SleptAt}
 use Rattle.law_commit.proofs.OfCuts.Always.{run_marks}
 use Rattle.law_commit.proofs.OfCuts.Told.{cut_mark}
+use Rattle.law_commit.proofs.SessionSteps.{HoldsBegun, attempt_holds, catch_holds, clear_holds, leave_holds, op_holds, poll_holds, polls_hold}
 
 -- ---- where a session comes to wake
 abbrev pub NoWake : Sitting → Type 0
@@ -65,95 +56,33 @@ either_no false a b one other = other
 still_no : (s : SessionState) (step : Sitting) → s.step ≡ step → NoWake step → NoneWakes s
 still_no s step at none = subst NoWake (sym at) none
 
-turn_no : (s : SessionState) (its : Told) → NoneWakes (answers_after_turn s its)
-turn_no s its = either_no s.wants_turn _ (answers s its) tt tt
-
 attempts_no : (k : Seat) (s : SessionState) (has_shifted : Bool) → NoneWakes (attempts k s has_shifted)
 unfolding attempts
 attempts_no k s has_shifted = tt
 
-found_no : (k : Seat) (s : SessionState) (i : ℕ) (found : Option PendingRequest) → NoneWakes (polls_request k s i found)
-found_no k s i None = turn_no s (told.Polled (length s.requests))
-found_no k s i (Some pending) = tt
-
-polls_no : (k : Seat) (s : SessionState) (i : ℕ) → NoneWakes (polls_at k s i)
-unfolding polls_at
-polls_no k s i = found_no k s i (slice_get s.requests i)
-
-accepts_no : (s : SessionState) (why : Reason) → NoneWakes (accepts s why)
-unfolding accepts
-accepts_no s why =
-    either_no (is_read s.op) (answers (with_request (record s { ticket = ticket_after s.ticket })) (told.PendingRead (record { 0 = ticket_after s.ticket }))) _ tt
-    (turn_no (with_request (serial_taken (record s { wants_turn = is_no_room why }))) (told.Pending (record { 0 = s.serial + 1 }) why))
-
-shifts_no : (s : SessionState) (has_shifted : Bool) → NoneWakes (shifts s has_shifted)
+shifted_no : (s : SessionState) → NoneWakes (shifts s false)
 unfolding shifts
-shifts_no s false = tt
-shifts_no s true = accepts_no s reason.Contended
+shifted_no s = tt
 
-attempted_no : (s : SessionState) (has_shifted : Bool) (its : TryAnswer) → NoneWakes (attempted s has_shifted its)
-attempted_no s has_shifted (tried.Done reply) = either_no (is_read s.op) (answers s told.Absent) (update_done s reply) tt tt
-attempted_no s has_shifted (tried.Found value) = tt
-attempted_no s has_shifted tried.Absent = tt
-attempted_no s has_shifted (tried.Wait why) = accepts_no s why
-attempted_no s has_shifted (tried.AwaitsDisk sought) = accepts_no s reason.Disk
-attempted_no s has_shifted tried.Shift = shifts_no s has_shifted
-attempted_no s has_shifted tried.IndexFull = tt
-attempted_no s has_shifted tried.LogFull = tt
-
-attempt_no : (s : SessionState) (has_shifted : Bool) (ask : Ask TryAnswer) → s.step ≡ Attempts has_shifted → NoneWakes (attempt_ledto s has_shifted ask)
-unfolding attempt_ledto
-attempt_no s has_shifted (Done its) at = attempted_no (attempt_left s) has_shifted its
-attempt_no s has_shifted ask at = still_no s (Attempts has_shifted) at tt
-
-clear_no : (k : Seat) (s : SessionState) (ask : Ask MailAnswer) → s.step ≡ ClearsMail → NoneWakes (clear_ledto k s ask)
-unfolding clear_ledto
-clear_no k s (Done Cleared) at = polls_no k (record s { is_orphaned = false }) 0
-clear_no k s (Done its) at = polls_no k s 0
-clear_no k s ask at = still_no s ClearsMail at tt
-
-finishes_no : (k : Seat) (s : SessionState) (i : ℕ) (its : TryAnswer) → NoneWakes (finishes_request k s i its)
-unfolding finishes_request
-finishes_no k s i its = either_no (is_owed s) (request_finished s i its) (polls_at k (request_finished s i its) i) tt (polls_no k (request_finished s i its) i)
-
-keeps_no : (k : Seat) (s : SessionState) (i : ℕ) (its : TryAnswer) → NoneWakes (keeps_request k s i its)
-unfolding keeps_request
-keeps_no k s i its = polls_no k (record s { requests = slice_set s.requests i s.attempt.pending; wants_turn = s.wants_turn || lacks_room its }) (i + 1)
-
-poll_no : (k : Seat) (s : SessionState) (i : ℕ) (ask : Ask TryAnswer) → s.step ≡ Polls i → NoneWakes (poll_ledto k s i ask)
-unfolding poll_ledto
-poll_no k s i (Done its) at = either_no (is_finished its) (finishes_request k (attempt_left s) i its) (keeps_request k (attempt_left s) i its) (finishes_no k (attempt_left s) i its) (keeps_no k (attempt_left s) i its)
-poll_no k s i ask at = still_no s (Polls i) at tt
+begun : (k : Seat) → HoldsBegun k (λ s step. NoWake step)
+begun k = record { answered = λ s its other. tt; turns = λ s its other. tt; tries = λ s has_shifted. attempts_no k s has_shifted; polls = λ s index pending. tt; shifted = λ s. shifted_no s; owes = λ s index. tt }
 
 turned_no : (s : SessionState) (its : Told) (ask : Ask (Unit {0})) → s.step ≡ Turns its → NoneWakes (turn_ledto s its ask)
 unfolding turn_ledto
 turned_no s its (Done through) at = tt
 turned_no s its ask at = still_no s (Turns its) at tt
 
-left_no : (s : SessionState) (ask : Ask (Unit {0})) → s.step ≡ Leaves → NoneWakes (leave_ledto s ask)
-unfolding leave_ledto
-left_no s (Done its) at = tt
-left_no s ask at = still_no s Leaves at tt
-
-catch_no : (k : Seat) (s : SessionState) (cause : CatchCause) (ask : Ask (Unit {0})) → s.step ≡ CatchesUp cause → NoWake (CatchesUp cause) → NoneWakes (catch_ledto k s cause ask)
-unfolding catch_ledto
-catch_no k s Refreshes (Done its) at none = tt
-catch_no k s Shifts (Done its) at none = attempts_no k (record s { seen = s.catching.seen }) true
-catch_no k s Wakes ask at none = absurd none
-catch_no k s Refreshes ask at none = still_no s (CatchesUp Refreshes) at tt
-catch_no k s Shifts ask at none = still_no s (CatchesUp Shifts) at tt
-
 pub next_no : (k : Seat) (s : SessionState) (asks : ℕ) (step : Sitting) (reply : ℕ) → s.step ≡ step → NoWake step → NoneWakes (sitting_next k (record s { asks = asks; effect = None }) step reply)
 unfolding sitting_next
 next_no k s asks (Idle its) reply at none = still_no (record s { asks = asks; effect = None }) (Idle its) at tt
-next_no k s asks (Attempts has_shifted) reply at none = attempt_no (attempt_moved k (record s { asks = asks; effect = None }) reply) has_shifted _ at
-next_no k s asks (CatchesUp cause) reply at none = catch_no k _ cause _ at none
-next_no k s asks ClearsMail reply at none = clear_no k (record s { asks = asks; effect = None; mailing = mail_next s.mailing reply }) _ at
-next_no k s asks (Polls i) reply at none = poll_no k (attempt_moved k (record s { asks = asks; effect = None }) reply) i _ at
-next_no k s asks (StoresOwing i) reply at none = polls_no k (record s { asks = asks; effect = None }) i
+next_no k s asks (Attempts has_shifted) reply at none = attempt_holds k (λ s step. NoWake step) (begun k) (attempt_moved k (record s { asks = asks; effect = None }) reply) has_shifted _ at tt
+next_no k s asks (CatchesUp cause) reply at none = catch_holds k (λ s step. NoWake step) (begun k) (caught k (record s { asks = asks; effect = None }) reply) cause _ at none
+next_no k s asks ClearsMail reply at none = clear_holds k (λ s step. NoWake step) (begun k) (record s { asks = asks; effect = None; mailing = mail_next s.mailing reply }) _ at tt
+next_no k s asks (Polls i) reply at none = poll_holds k (λ s step. NoWake step) (begun k) (attempt_moved k (record s { asks = asks; effect = None }) reply) i _ at tt
+next_no k s asks (StoresOwing i) reply at none = polls_hold k (λ s step. NoWake step) (begun k) (record s { asks = asks; effect = None }) i
 next_no k s asks (Turns its) reply at none = turned_no (own_turn_moved k (record s { asks = asks; effect = None }) reply) its _ at
 next_no k s asks StoresCut reply at none = tt
-next_no k s asks Leaves reply at none = left_no (record s { asks = asks; effect = None; leaving = leave_next s.leaving }) _ at
+next_no k s asks Leaves reply at none = leave_holds k (λ s step. NoWake step) (begun k) (record s { asks = asks; effect = None; leaving = leave_next s.leaving }) _ at tt
 next_no k s asks LoadsDurable reply at none = tt
 
 -- ---- where a wake comes to, before it has told where it leaves its version
@@ -284,17 +213,12 @@ either_slept : (c : Bool) (k : Seat) (words : ℕ → ℕ) (a b : SessionState) 
 either_slept true k words a b one other = one refl
 either_slept false k words a b one other = other refl
 
-op_no : (k : Seat) (s : SessionState) (op : Op) (why : Option Fault) → NoneWakes (op_begun k s op why)
-unfolding op_begun
-op_no k s op (Some why) = tt
-op_no k s op None = attempts_no k (record s { op = op }) false
-
 clears_no : (k : Seat) (s : SessionState) → NoneWakes (poll_begun k s)
-clears_no k s = either_no s.is_orphaned _ (polls_at k s 0) tt (polls_no k s 0)
+clears_no k s = either_no s.is_orphaned _ (polls_at k s 0) tt (polls_hold k (λ s step. NoWake step) (begun k) s 0)
 
 called_slept : (k : Seat) (words : ℕ → ℕ) (s : SessionState) (its : Call) → (s.is_awake ≡ false → HasSlept k words s) → WakesSlept k words (call_begun k s its) (call_begun k s its).step
 unfolding refresh_call poll_call sleep_call wake_call
-called_slept k words s (call.Op op) slept = let a : SessionState = op_begun k s op (refusal_of s op) in not_waking k words a a.step (op_no k s op (refusal_of s op))
+called_slept k words s (call.Op op) slept = let a : SessionState = op_begun k s op (refusal_of s op) in not_waking k words a a.step (op_holds k (λ s step. NoWake step) (begun k) s op (refusal_of s op))
 called_slept k words s call.Refresh slept =
     let next : SessionState = record s { catching = refresh_begun s.catching s.seen s.serial; step = CatchesUp Refreshes } in
     either_slept s.is_awake k words next (refuses s fault.Asleep) (λ awake. tt) (λ asleep. tt)

@@ -110,9 +110,8 @@ module _ (number : Version) (stage : Stage) (some : 0 < number.0) (top : ℕ) (t
       awake_so : IsFloored number stage (seen_rank (at before).seen) → IsOnward (at before).seen (at (event ∷ before)).seen × LeavesSo (at before).seen (at (event ∷ before)).seen
       awake_so floor =
           let onward = rank_onward (at before).seen (at (event ∷ before)).seen on.rises in
-          let rises = on.rises in
           let low = on.low in
-          (onward, leaves_so number stage (at before).seen.phase (at (event ∷ before)).seen.phase (at before).seen.version.0 (at (event ∷ before)).seen.version.0 some floor (omega (arith, rises, low, top_is)) (omega (arith, low, top_is)) onward.rises)
+          (onward, leaves_so number stage (at before).seen.phase (at (event ∷ before)).seen.phase (at before).seen.version.0 (at (event ∷ before)).seen.version.0 floor (omega (arith, low, top_is)) onward.rises)
 
       by_awake : (awake : Bool) → (at before).is_awake ≡ awake → ((at before).requests ≡ []) ⊎ (IsOnward (at before).seen (at (event ∷ before)).seen × LeavesSo (at before).seen (at (event ∷ before)).seen)
       by_awake true awake = inr (awake_so (busy (ap is_busy catches) awake))

@@ -19,62 +19,32 @@ use Rattle.law_commit.specs.Views.{IsComing, IsTakenFrom, Sight, TakesUp, View, 
 use Rattle.law_commit.proofs.Sights.{coming_seen, view_seen}
 use Rattle.law_commit.proofs.OfFloor.Stands.{few_stages, has_floor, life_floored}
 use Rattle.law_commit.proofs.OfShares.Alone.{rising}
+use Rattle.law_commit.proofs.OfShares.Onward.{rank_high}
+use Rattle.law_commit.proofs.OfQuiet.Live.{rank_low}
 
 -- ---- ranks
--- before in-progress, and from in-progress on
-early : (n stage : ℕ) (phase next : Phase) (version coming : ℕ) → 0 < n → stage ≤ 1 → 5 * n ≤ rank phase version + 1 → rank next coming ≤ 5 * n + stage → version ≤ coming → rank phase version ≤ 5 * n + stage → (coming ≡ version) ⊎ (is_prepare phase ≡ true)
-early n stage Rest Rest version coming some few low high rises top = inl (omega (arith, some, few, low, high, rises, top))
-early n stage Rest Prepare version coming some few low high rises top = inl (omega (arith, some, few, low, high, rises, top))
-early n stage Rest InProgress version coming some few low high rises top = inl (omega (arith, some, few, low, high, rises, top))
-early n stage Rest WaitPending version coming some few low high rises top = inl (omega (arith, some, few, low, high, rises, top))
-early n stage Rest WaitFlush version coming some few low high rises top = inl (omega (arith, some, few, low, high, rises, top))
-early n stage Prepare Rest version coming some few low high rises top = inr refl
-early n stage Prepare Prepare version coming some few low high rises top = inr refl
-early n stage Prepare InProgress version coming some few low high rises top = inr refl
-early n stage Prepare WaitPending version coming some few low high rises top = inr refl
-early n stage Prepare WaitFlush version coming some few low high rises top = inr refl
-early n stage InProgress Rest version coming some few low high rises top = inl (omega (arith, some, few, low, high, rises, top))
-early n stage InProgress Prepare version coming some few low high rises top = inl (omega (arith, some, few, low, high, rises, top))
-early n stage InProgress InProgress version coming some few low high rises top = inl (omega (arith, some, few, low, high, rises, top))
-early n stage InProgress WaitPending version coming some few low high rises top = inl (omega (arith, some, few, low, high, rises, top))
-early n stage InProgress WaitFlush version coming some few low high rises top = inl (omega (arith, some, few, low, high, rises, top))
-early n stage WaitPending Rest version coming some few low high rises top = inl (omega (arith, some, few, low, high, rises, top))
-early n stage WaitPending Prepare version coming some few low high rises top = inl (omega (arith, some, few, low, high, rises, top))
-early n stage WaitPending InProgress version coming some few low high rises top = inl (omega (arith, some, few, low, high, rises, top))
-early n stage WaitPending WaitPending version coming some few low high rises top = inl (omega (arith, some, few, low, high, rises, top))
-early n stage WaitPending WaitFlush version coming some few low high rises top = inl (omega (arith, some, few, low, high, rises, top))
-early n stage WaitFlush Rest version coming some few low high rises top = inl (omega (arith, some, few, low, high, rises, top))
-early n stage WaitFlush Prepare version coming some few low high rises top = inl (omega (arith, some, few, low, high, rises, top))
-early n stage WaitFlush InProgress version coming some few low high rises top = inl (omega (arith, some, few, low, high, rises, top))
-early n stage WaitFlush WaitPending version coming some few low high rises top = inl (omega (arith, some, few, low, high, rises, top))
-early n stage WaitFlush WaitFlush version coming some few low high rises top = inl (omega (arith, some, few, low, high, rises, top))
+-- in no phase but prepare the rank is above that of rest
+most_rank : (phase : Phase) (version : ℕ) → (rank phase version ≤ 5 * version) ⊎ (is_prepare phase ≡ true)
+most_rank Rest version = inl (omega arith)
+most_rank Prepare version = inr refl
+most_rank InProgress version = inl (omega arith)
+most_rank WaitPending version = inl (omega arith)
+most_rank WaitFlush version = inl (omega arith)
 
-late : (n stage : ℕ) (phase next : Phase) (version coming : ℕ) → 0 < n → stage ≤ 4 → 5 * n + 1 ≤ rank phase version → rank next coming ≤ 5 * n + stage → version ≤ coming → rank phase version ≤ 5 * n + stage → (coming ≡ version) ⊎ (is_prepare phase ≡ true)
-late n stage Rest Rest version coming some few low high rises top = inl (omega (arith, some, few, low, high, rises, top))
-late n stage Rest Prepare version coming some few low high rises top = inl (omega (arith, some, few, low, high, rises, top))
-late n stage Rest InProgress version coming some few low high rises top = inl (omega (arith, some, few, low, high, rises, top))
-late n stage Rest WaitPending version coming some few low high rises top = inl (omega (arith, some, few, low, high, rises, top))
-late n stage Rest WaitFlush version coming some few low high rises top = inl (omega (arith, some, few, low, high, rises, top))
-late n stage Prepare Rest version coming some few low high rises top = inr refl
-late n stage Prepare Prepare version coming some few low high rises top = inr refl
-late n stage Prepare InProgress version coming some few low high rises top = inr refl
-late n stage Prepare WaitPending version coming some few low high rises top = inr refl
-late n stage Prepare WaitFlush version coming some few low high rises top = inr refl
-late n stage InProgress Rest version coming some few low high rises top = inl (omega (arith, some, few, low, high, rises, top))
-late n stage InProgress Prepare version coming some few low high rises top = inl (omega (arith, some, few, low, high, rises, top))
-late n stage InProgress InProgress version coming some few low high rises top = inl (omega (arith, some, few, low, high, rises, top))
-late n stage InProgress WaitPending version coming some few low high rises top = inl (omega (arith, some, few, low, high, rises, top))
-late n stage InProgress WaitFlush version coming some few low high rises top = inl (omega (arith, some, few, low, high, rises, top))
-late n stage WaitPending Rest version coming some few low high rises top = inl (omega (arith, some, few, low, high, rises, top))
-late n stage WaitPending Prepare version coming some few low high rises top = inl (omega (arith, some, few, low, high, rises, top))
-late n stage WaitPending InProgress version coming some few low high rises top = inl (omega (arith, some, few, low, high, rises, top))
-late n stage WaitPending WaitPending version coming some few low high rises top = inl (omega (arith, some, few, low, high, rises, top))
-late n stage WaitPending WaitFlush version coming some few low high rises top = inl (omega (arith, some, few, low, high, rises, top))
-late n stage WaitFlush Rest version coming some few low high rises top = inl (omega (arith, some, few, low, high, rises, top))
-late n stage WaitFlush Prepare version coming some few low high rises top = inl (omega (arith, some, few, low, high, rises, top))
-late n stage WaitFlush InProgress version coming some few low high rises top = inl (omega (arith, some, few, low, high, rises, top))
-late n stage WaitFlush WaitPending version coming some few low high rises top = inl (omega (arith, some, few, low, high, rises, top))
-late n stage WaitFlush WaitFlush version coming some few low high rises top = inl (omega (arith, some, few, low, high, rises, top))
+-- before in-progress, and from in-progress on
+early : (n stage : ℕ) (phase next : Phase) (version coming : ℕ) → stage ≤ 1 → 5 * n ≤ rank phase version + 1 → rank next coming ≤ 5 * n + stage → version ≤ coming → coming ≡ version
+early n stage phase next version coming few low high rises =
+    let top = rank_low phase version in
+    let bottom = rank_high next coming in
+    omega (arith, few, low, high, rises, top, bottom)
+
+late : (n stage : ℕ) (phase next : Phase) (version coming : ℕ) → stage ≤ 4 → 5 * n + 1 ≤ rank phase version → rank next coming ≤ 5 * n + stage → version ≤ coming → (coming ≡ version) ⊎ (is_prepare phase ≡ true)
+late n stage phase next version coming few low high rises =
+    let bottom = rank_high next coming in
+    elim (most_rank phase version) [
+      | inl top ↦ inl (omega (arith, few, low, high, rises, top, bottom))
+      | inr prepares ↦ inr prepares
+    ]
 
 split : (n : ℕ) → (n ≤ 1) ⊎ (2 ≤ n)
 split zero = inl (omega arith)
@@ -86,11 +56,11 @@ pub record IsFloored (number : Version) (stage : Stage) (its : ℕ) : Type 0 whe
   pub rest : 5 * number.0 ≤ its + 1
   pub in_progress : 2 ≤ stage_number stage → 5 * number.0 + 1 ≤ its
 
-pub leaves_so : (number : Version) (stage : Stage) (phase next : Phase) (version coming : ℕ) → 0 < number.0 → IsFloored number stage (rank phase version) → rank phase version ≤ 5 * number.0 + stage_number stage
+pub leaves_so : (number : Version) (stage : Stage) (phase next : Phase) (version coming : ℕ) → IsFloored number stage (rank phase version)
     → rank next coming ≤ 5 * number.0 + stage_number stage → version ≤ coming → (coming ≡ version) ⊎ (is_prepare phase ≡ true)
-leaves_so number stage phase next version coming some floor low high rises = elim (split (stage_number stage)) [
-  | inl few ↦ early number.0 (stage_number stage) phase next version coming some few floor.rest high rises low
-  | inr far ↦ late number.0 (stage_number stage) phase next version coming some (few_stages stage) (floor.in_progress far) high rises low
+leaves_so number stage phase next version coming floor high rises = elim (split (stage_number stage)) [
+  | inl few ↦ inl (early number.0 (stage_number stage) phase next version coming few floor.rest high rises)
+  | inr far ↦ late number.0 (stage_number stage) phase next version coming (few_stages stage) (floor.in_progress far) high rises
 ]
 
 -- ---- in a life
@@ -120,7 +90,7 @@ leaves_from_prepare paper_sound paper_floor opening start events session first i
         let high = (subst (λ (v : paper.View). paper.Sees p v) (coming view e) counts).low in
         let saw = view_seen opening events session first its became in
         let its_view : View = (sight_of opening events session).view in
-        let either = leaves_so number stage its_view.phase view.phase its_view.version.0 view.version.0 some (record { rest = floor.rest; in_progress = floor.in_progress }) floor.low (omega (arith, high, base, at_stage)) (rising paper_sound paper_floor opening start events guarded opens session first its view became e) in
+        let either = leaves_so number stage its_view.phase view.phase its_view.version.0 view.version.0 (record { rest = floor.rest; in_progress = floor.in_progress }) (omega (arith, high, base, at_stage)) (rising paper_sound paper_floor opening start events guarded opens session first its view became e) in
         elim either [
           | inl same ↦ inl (ap (λ (v : Version). v.0) takes.version ∙ same ∙ sym (ap (λ (v : Version). v.0) saw.version))
           | inr prepares ↦ inr (subst (λ (phase : Phase). is_prepare phase ≡ true) (sym saw.phase) prepares)

@@ -23,11 +23,12 @@ use Rattle.law_commit.specs.Floor.Stands.{OpensSeen}
 use Rattle.law_commit.specs.Quiet.{rank_said}
 use Rattle.law_commit.specs.Ranks.{rank}
 use Rattle.law_commit.specs.Views.{IsSeenAs, Sight, View, rank_of, sight_in, sight_through, view_said}
-use Rattle.law_commit.proofs.Measured.{HasRisen, IsBelow, by_risen, higher}
+use Rattle.law_commit.proofs.Measured.{HasRisen, IsBelow, higher}
 use Rattle.law_commit.proofs.Telling.{TellAll, found_all}
-use Rattle.law_commit.proofs.Sights.{Sees, goes_by_view, life_sees, through}
+use Rattle.law_commit.proofs.Sights.{Sees, life_sees}
 use Rattle.law_commit.proofs.OfQuiet.Live.{rank_low}
 use Rattle.law_commit.proofs.OfQuiet.Ranks.{rank_up}
+use Rattle.law_commit.proofs.Rising.{through_each}
 
 -- the rank that the phase word has, and the one by which a session goes
 abbrev pub rank_in : List ℕ → ℕ
@@ -103,17 +104,11 @@ on_so top before after seen then_seen one other risen =
 
 through_on : (words : List ℕ) (its : Sight) (k : Seat) (s : SessionState) (events : List SessionEvent) → IsBelow rank_of (rank_in words) its → Sees its s → TellAll words k s events
     → GoOn (rank_in words) k s events (sight_through words k s events its)
-unfolding sight_through TellAll AllOn
-through_on words its k s [] under sees tells = record { under = under; on = tt }
-through_on words its k s (event ∷ before) under sees tells =
-    let past = through_on words its k s before under sees tells.1 in
-    let was : Sight = sight_through words k s before its in
-    let one = session_run k s before in
-    let other = session_run k s (event ∷ before) in
-    let goes_by = goes_by_view was one one.step (through words its k s before sees) in
-    let goes_after = goes_by_view (sight_through words k s (event ∷ before) its) other other.step (through words its k s (event ∷ before) sees) in
-    let risen = by_risen rank_of rank_said said_under words was k one event past.under tells.0 in
-    record { under = risen.below; on = (on_so (rank_in words) was (sight_through words k s (event ∷ before) its) one.seen other.seen goes_by goes_after risen, past.on) }
+unfolding AllOn
+through_on words its k s events under sees tells =
+    let both = through_each rank_of rank_said said_under words its k s (λ events. AllOn (rank_in words) k s events) tt
+    (λ event before was after goes_by goes_after risen past. (on_so (rank_in words) was after (session_run k s before).seen (session_run k s (event ∷ before)).seen goes_by goes_after risen, past)) events under sees tells in
+    record { under = both.0; on = both.1 }
 
 -- behind others of its own
 unfoldable pub OwnOn : ℕ → Seat → SessionState → List SessionEvent → List SessionEvent → Type 0

@@ -32,7 +32,7 @@ use Rattle.law_commit.specs.Cuts.{word_now}
 use Rattle.law_commit.specs.ToldPoints.{ToldPoint, finishes_at_call, points_told, with_durable, with_point}
 use Rattle.law_commit.proofs.OfPoints.Asked.{absent_now}
 use Rattle.law_commit.proofs.OfTold.Loads.{call_tells, event_told}
-use Rattle.law_commit.proofs.OfTold.Other.{IsOther}
+use Rattle.law_commit.proofs.SessionSteps.{IsOther}
 
 -- ---- events of a trace that tell a session nothing as durable
 module _ (session : ℕ) where

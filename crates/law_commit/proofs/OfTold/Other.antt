@@ -1,40 +1,21 @@
 -- A session tells what is durable by the load of its durable word alone.
-use Rattle.std.proofs.Common.{◌≡◌, ℕ, ◌+◌, ◌∙◌, List, [], ◌∷◌, length, refl, ap, sym, subst, Bool, true, false}
-use Rattle.std.specs.Prelude.{⊤, Option, Some, None, if◌then◌else◌, not, ◌==◌, ◌||◌, slice_get, slice_set}
-use Rattle.fkv_base.specs.declared.faults.Fault.{Fault}
-use Rattle.fkv_base.specs.declared.faults.Fault.TheVariants as fault
+use Rattle.std.proofs.Common.{◌≡◌, ℕ, ◌∙◌, List, [], ◌∷◌, refl, ap, sym, subst, Bool, true, false}
+use Rattle.std.specs.Prelude.{⊤, None}
 use Rattle.fkv_base.specs.declared.numbers.Serial.{Serial}
 use Rattle.fkv_map.specs.declared.operations.Call.{Call}
-use Rattle.fkv_map.specs.declared.operations.Call.TheVariants as call
-use Rattle.fkv_map.specs.declared.operations.Op.{Op}
 use Rattle.fkv_plane.specs.declared.actions.Action.{Action}
-use Rattle.fkv_plane.specs.declared.asks.Ask.{Ask}
-use Rattle.fkv_plane.specs.declared.asks.Ask.TheVariants.{Done}
 use Rattle.fkv_epoch.specs.Leaving.{leave_next}
-use Rattle.fkv_ops.specs.declared.answers.Reason.{Reason}
-use Rattle.fkv_ops.specs.declared.answers.Reason.TheVariants as reason
-use Rattle.fkv_ops.specs.declared.answers.TryAnswer.{TryAnswer}
-use Rattle.fkv_ops.specs.declared.answers.TryAnswer.TheVariants as tried
-use Rattle.fkv_ops.specs.Requests.{is_read}
-use Rattle.fkv_pending.specs.declared.mailing.MailAnswer.{MailAnswer}
-use Rattle.fkv_pending.specs.declared.mailing.MailAnswer.TheVariants.{Cleared}
-use Rattle.fkv_pending.specs.declared.pending_requests.PendingRequest.{PendingRequest}
 use Rattle.fkv_pending.specs.Mailing.{mail_next}
 use Rattle.fkv_session.specs.declared.answers.Told.{Told}
 use Rattle.fkv_session.specs.declared.answers.Told.TheVariants as told
-use Rattle.fkv_session.specs.declared.sessions.CatchCause.{CatchCause}
-use Rattle.fkv_session.specs.declared.sessions.CatchCause.TheVariants.{Refreshes, Shifts, Wakes}
 use Rattle.fkv_session.specs.declared.sessions.Sitting.{Sitting}
 use Rattle.fkv_session.specs.declared.sessions.Sitting.TheVariants.{Idle, Attempts, CatchesUp, ClearsMail, Polls, StoresOwing, Turns, StoresCut, Leaves, LoadsDurable}
 use Rattle.fkv_session.specs.OwnTurns.{own_turn_given}
-use Rattle.fkv_session.specs.Sessions.{IsOpened, SessionState, Seat, accepts, answers, answers_after_turn, asks_after, attempt_ledto, attempt_left, attempt_moved, attempted, attempts, call_begun, catch_ledto, caught, caught_up, clear_ledto, finishes_request, is_busy, is_finished, is_no_room, is_owed, is_word_ask, keeps_request, lacks_room, leave_ledto, op_begun, own_turn_moved, poll_begun, poll_call, poll_ledto, polls_at, polls_request, refresh_call, refusal_of, refuses, request_finished, serial_taken, session_ask, session_begun, shifts, sitting_given, sitting_next, sleep_call, ticket_after, turn_ledto, update_done, wake_call, with_request}
+use Rattle.fkv_session.specs.Sessions.{IsOpened, SessionState, Seat, asks_after, attempt_moved, attempts, caught, is_busy, is_word_ask, own_turn_moved, session_ask, session_begun, shifts, sitting_given, sitting_next}
 use Rattle.fkv_session.specs.SessionRun.{Begins, Gets, Replies, SessionEvent, begins, session_happens, session_run}
+use Rattle.law_commit.proofs.SessionSteps.{HoldsBegun, IsOther, attempt_holds, begun_holds, catch_holds, clear_holds, leave_holds, poll_holds, polls_hold, turned_holds}
 
 -- ---- what isn't told of durable words
-abbrev pub IsOther : Told → Type 0
-IsOther (told.Durable serial) = ⊥
-IsOther its = ⊤
-
 abbrev pub OtherAt : Sitting → Type 0
 OtherAt (Idle its) = IsOther its
 OtherAt (Turns its) = IsOther its
@@ -43,96 +24,20 @@ OtherAt step = ⊤
 abbrev Other : SessionState → Type 0
 Other s = OtherAt s.step
 
-either_other : (c : Bool) (a b : SessionState) → Other a → Other b → Other (if c then a else b)
-either_other true a b one other = one
-either_other false a b one other = other
-
 stays : (s : SessionState) (step : Sitting) → s.step ≡ step → OtherAt step → Other s
 stays s step at its = subst OtherAt (sym at) its
 
--- ---- a call is answered, or polls go on
-turn_other : (s : SessionState) (its : Told) → IsOther its → Other (answers_after_turn s its)
-turn_other s its other = either_other s.wants_turn _ (answers s its) other other
-
-found_other : (k : Seat) (s : SessionState) (i : ℕ) (found : Option PendingRequest) → Other (polls_request k s i found)
-found_other k s i None = turn_other s (told.Polled (length s.requests)) tt
-found_other k s i (Some pending) = tt
-
-polls_other : (k : Seat) (s : SessionState) (i : ℕ) → Other (polls_at k s i)
-unfolding polls_at
-polls_other k s i = found_other k s i (slice_get s.requests i)
-
+-- ---- where a reply and a call lead
 attempts_other : (k : Seat) (s : SessionState) (has_shifted : Bool) → Other (attempts k s has_shifted)
 unfolding attempts
 attempts_other k s has_shifted = tt
 
--- ---- an attempt at a call
-accepts_other : (s : SessionState) (why : Reason) → Other (accepts s why)
-unfolding accepts
-accepts_other s why =
-    either_other (is_read s.op) (answers (with_request (record s { ticket = ticket_after s.ticket })) (told.PendingRead (record { 0 = ticket_after s.ticket }))) _ tt
-    (turn_other (with_request (serial_taken (record s { wants_turn = is_no_room why }))) (told.Pending (record { 0 = s.serial + 1 }) why) tt)
-
-shifts_other : (s : SessionState) (has_shifted : Bool) → Other (shifts s has_shifted)
+shifted_other : (s : SessionState) → Other (shifts s false)
 unfolding shifts
-shifts_other s false = tt
-shifts_other s true = accepts_other s reason.Contended
+shifted_other s = tt
 
-attempted_other : (s : SessionState) (has_shifted : Bool) (its : TryAnswer) → Other (attempted s has_shifted its)
-attempted_other s has_shifted (tried.Done reply) = either_other (is_read s.op) (answers s told.Absent) (update_done s reply) tt tt
-attempted_other s has_shifted (tried.Found value) = tt
-attempted_other s has_shifted tried.Absent = tt
-attempted_other s has_shifted (tried.Wait why) = accepts_other s why
-attempted_other s has_shifted (tried.AwaitsDisk sought) = accepts_other s reason.Disk
-attempted_other s has_shifted tried.Shift = shifts_other s has_shifted
-attempted_other s has_shifted tried.IndexFull = tt
-attempted_other s has_shifted tried.LogFull = tt
-
-attempt_other : (s : SessionState) (has_shifted : Bool) (ask : Ask TryAnswer) → s.step ≡ Attempts has_shifted → Other (attempt_ledto s has_shifted ask)
-unfolding attempt_ledto
-attempt_other s has_shifted (Done its) at = attempted_other (attempt_left s) has_shifted its
-attempt_other s has_shifted ask at = stays s (Attempts has_shifted) at tt
-
--- ---- it catches up
-caught_other : (k : Seat) (s : SessionState) (cause : CatchCause) → Other (caught_up k s cause)
-caught_other k s Refreshes = tt
-caught_other k s Wakes = tt
-caught_other k s Shifts = attempts_other k s true
-
-catches_other : (k : Seat) (s : SessionState) (cause : CatchCause) (ask : Ask (Unit {0})) → s.step ≡ CatchesUp cause → Other (catch_ledto k s cause ask)
-unfolding catch_ledto
-catches_other k s cause (Done through) at = caught_other k (record s { seen = s.catching.seen }) cause
-catches_other k s cause ask at = stays s (CatchesUp cause) at tt
-
--- ---- polls, turns and leaving
-clears_other : (k : Seat) (s : SessionState) (ask : Ask MailAnswer) → s.step ≡ ClearsMail → Other (clear_ledto k s ask)
-unfolding clear_ledto
-clears_other k s (Done Cleared) at = polls_other k (record s { is_orphaned = false }) 0
-clears_other k s (Done its) at = polls_other k s 0
-clears_other k s ask at = stays s ClearsMail at tt
-
-finishes_other : (k : Seat) (s : SessionState) (i : ℕ) (its : TryAnswer) → Other (finishes_request k s i its)
-unfolding finishes_request
-finishes_other k s i its = either_other (is_owed s) (request_finished s i its) (polls_at k (request_finished s i its) i) tt (polls_other k (request_finished s i its) i)
-
-keeps_other : (k : Seat) (s : SessionState) (i : ℕ) (its : TryAnswer) → Other (keeps_request k s i its)
-unfolding keeps_request
-keeps_other k s i its = polls_other k (record s { requests = slice_set s.requests i s.attempt.pending; wants_turn = s.wants_turn || lacks_room its }) (i + 1)
-
-poll_other : (k : Seat) (s : SessionState) (i : ℕ) (ask : Ask TryAnswer) → s.step ≡ Polls i → Other (poll_ledto k s i ask)
-unfolding poll_ledto
-poll_other k s i (Done its) at = either_other (is_finished its) (finishes_request k (attempt_left s) i its) (keeps_request k (attempt_left s) i its) (finishes_other k (attempt_left s) i its) (keeps_other k (attempt_left s) i its)
-poll_other k s i ask at = stays s (Polls i) at tt
-
-turned_other : (s : SessionState) (its : Told) (ask : Ask (Unit {0})) → s.step ≡ Turns its → IsOther its → Other (turn_ledto s its ask)
-unfolding turn_ledto
-turned_other s its (Done through) at other = other
-turned_other s its ask at other = stays s (Turns its) at other
-
-leaves_other : (s : SessionState) (ask : Ask (Unit {0})) → s.step ≡ Leaves → Other (leave_ledto s ask)
-unfolding leave_ledto
-leaves_other s (Done its) at = tt
-leaves_other s ask at = stays s Leaves at tt
+begun : (k : Seat) → HoldsBegun k (λ s step. OtherAt step)
+begun k = record { answered = λ s its other. other; turns = λ s its other. other; tries = λ s has_shifted. attempts_other k s has_shifted; polls = λ s index pending. tt; shifted = λ s. shifted_other s; owes = λ s index. tt }
 
 -- ---- a reply, but to the load of the durable word
 abbrev IsMoving : Sitting → Type 0
@@ -147,38 +52,19 @@ TurnAt step = ⊤
 replied_other : (k : Seat) (s : SessionState) (asks : ℕ) (step : Sitting) (reply : ℕ) → s.step ≡ step → IsMoving step → TurnAt step → Other (sitting_next k (record s { asks = asks; effect = None }) step reply)
 unfolding sitting_next
 replied_other k s asks (Idle its) reply at moving turn = absurd moving
-replied_other k s asks (Attempts has_shifted) reply at moving turn = attempt_other (attempt_moved k (record s { asks = asks; effect = None }) reply) has_shifted _ at
-replied_other k s asks (CatchesUp cause) reply at moving turn = catches_other k (caught k (record s { asks = asks; effect = None }) reply) cause _ at
-replied_other k s asks ClearsMail reply at moving turn = clears_other k (record s { asks = asks; effect = None; mailing = mail_next s.mailing reply }) _ at
-replied_other k s asks (Polls i) reply at moving turn = poll_other k (attempt_moved k (record s { asks = asks; effect = None }) reply) i _ at
-replied_other k s asks (StoresOwing i) reply at moving turn = polls_other k (record s { asks = asks; effect = None }) i
-replied_other k s asks (Turns its) reply at moving turn = turned_other (own_turn_moved k (record s { asks = asks; effect = None }) reply) its _ at turn
+replied_other k s asks (Attempts has_shifted) reply at moving turn = attempt_holds k (λ s step. OtherAt step) (begun k) (attempt_moved k (record s { asks = asks; effect = None }) reply) has_shifted _ at tt
+replied_other k s asks (CatchesUp cause) reply at moving turn = catch_holds k (λ s step. OtherAt step) (begun k) (caught k (record s { asks = asks; effect = None }) reply) cause _ at tt
+replied_other k s asks ClearsMail reply at moving turn = clear_holds k (λ s step. OtherAt step) (begun k) (record s { asks = asks; effect = None; mailing = mail_next s.mailing reply }) _ at tt
+replied_other k s asks (Polls i) reply at moving turn = poll_holds k (λ s step. OtherAt step) (begun k) (attempt_moved k (record s { asks = asks; effect = None }) reply) i _ at tt
+replied_other k s asks (StoresOwing i) reply at moving turn = polls_hold k (λ s step. OtherAt step) (begun k) (record s { asks = asks; effect = None }) i
+replied_other k s asks (Turns its) reply at moving turn = turned_holds k (λ s step. OtherAt step) (begun k) (own_turn_moved k (record s { asks = asks; effect = None }) reply) its _ at turn turn
 replied_other k s asks StoresCut reply at moving turn = tt
-replied_other k s asks Leaves reply at moving turn = leaves_other (record s { asks = asks; effect = None; leaving = leave_next s.leaving }) _ at
+replied_other k s asks Leaves reply at moving turn = leave_holds k (λ s step. OtherAt step) (begun k) (record s { asks = asks; effect = None; leaving = leave_next s.leaving }) _ at tt
 replied_other k s asks LoadsDurable reply at moving turn = absurd moving
 
 -- ---- a call that begins
-op_other : (k : Seat) (s : SessionState) (op : Op) (why : Option Fault) → Other (op_begun k s op why)
-unfolding op_begun
-op_other k s op (Some why) = tt
-op_other k s op None = attempts_other k (record s { op = op }) false
-
-polls_begin : (k : Seat) (s : SessionState) → Other (poll_begun k s)
-polls_begin k s = either_other s.is_orphaned _ (polls_at k s 0) tt (polls_other k s 0)
-
-called_other : (k : Seat) (s : SessionState) (its : Call) → Other (call_begun k s its)
-unfolding refresh_call poll_call sleep_call wake_call
-called_other k s (call.Op op) = op_other k s op (refusal_of s op)
-called_other k s call.Refresh = either_other s.is_awake _ (refuses s fault.Asleep) tt tt
-called_other k s call.Poll = either_other s.is_awake (poll_begun k (record s { finished = [] })) (refuses s fault.Asleep) (polls_begin k (record s { finished = [] })) tt
-called_other k s call.Sleep =
-    either_other (not s.is_awake) (refuses s fault.Asleep) (if length s.requests == 0 then record s { step = StoresCut } else refuses s fault.PendingLeft) tt
-    (either_other (length s.requests == 0) (record s { step = StoresCut }) (refuses s fault.PendingLeft) tt tt)
-called_other k s call.Wake = either_other s.is_awake (refuses s fault.Awake) _ tt tt
-called_other k s call.Durable = tt
-
 pub begun_other : (k : Seat) (s : SessionState) (its : Call) → OtherAt (session_begun k s its).step
-begun_other k s its = called_other k (record s { asks = 0; effect = None; wants_turn = false }) its
+begun_other k s its = begun_holds k (λ s step. OtherAt step) (begun k) (record { refreshes = λ s. tt; wakes = λ s. tt; clears = λ s. tt; cuts = λ s. tt; loads = λ s. tt }) s its
 
 -- ---- a run
 turn_of : (step : Sitting) → OtherAt step → TurnAt step
@@ -208,7 +94,7 @@ replied_turn k s asks Leaves reply at turn = turn_of _ (replied_other k s asks L
 
 given_turn : (k : Seat) (s : SessionState) (step : Sitting) (action : Action) → s.step ≡ step → TurnAt step → TurnAt (sitting_given k s step action).step
 unfolding sitting_given
-given_turn k s (Turns its) action at turn = turn_of _ (turned_other (record s { own_turn = own_turn_given s.own_turn action }) its _ at turn)
+given_turn k s (Turns its) action at turn = turn_of _ (turned_holds k (λ s step. OtherAt step) (begun k) (record s { own_turn = own_turn_given s.own_turn action }) its _ at turn turn)
 given_turn k s step action at turn = subst TurnAt (sym at) turn
 
 begins_turn : (k : Seat) (s : SessionState) (its : Call) (busy : Bool) → TurnAt s.step → TurnAt (begins k s busy its).step
@@ -261,7 +147,7 @@ loaded k s asks Leaves reply serial at busy turn is = not_other _ serial is (rep
 
 got : {X : Type 0} (k : Seat) (s : SessionState) (step : Sitting) (action : Action) (serial : Serial) → s.step ≡ step → is_busy step ≡ true → TurnAt step → (sitting_given k s step action).step ≡ Idle (told.Durable serial) → X
 unfolding sitting_given
-got k s (Turns its) action serial at busy turn is = not_other _ serial is (turned_other (record s { own_turn = own_turn_given s.own_turn action }) its _ at turn)
+got k s (Turns its) action serial at busy turn is = not_other _ serial is (turned_holds k (λ s step. OtherAt step) (begun k) (record s { own_turn = own_turn_given s.own_turn action }) its _ at turn turn)
 got k s step action serial at busy turn is = idle_busy s.step (told.Durable serial) (ap is_busy at ∙ busy) is
 
 happened : (k : Seat) (s : SessionState) (event : SessionEvent) (serial : Serial) → is_busy s.step ≡ true → TurnAt s.step → (session_happens k s event).step ≡ Idle (told.Durable serial) → IsLoad s event serial

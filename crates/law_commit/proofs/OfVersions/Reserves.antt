@@ -14,27 +14,15 @@ use Rattle.fkv_plane.specs.declared.asks.Ask.{Ask}
 use Rattle.fkv_plane.specs.declared.asks.Ask.TheVariants.{Put, Take, Done}
 use Rattle.fkv_plane.specs.declared.places.Places.{Places}
 use Rattle.fkv_plane.specs.Asked.{reply_to}
-use Rattle.fkv_log.specs.declared.invalidating.Invalidating.{Invalidating}
-use Rattle.fkv_log.specs.declared.invalidating.Invalidating.TheVariants as invalidating
 use Rattle.fkv_log.specs.declared.reserving.ReserveAnswer.{ReserveAnswer}
 use Rattle.fkv_log.specs.declared.reserving.ReserveAnswer.TheVariants as reserve
-use Rattle.fkv_log.specs.Reserving.{reserve_next_ask}
-use Rattle.fkv_index.specs.declared.finding.FindAnswer.{FindAnswer}
 use Rattle.fkv_index.specs.declared.finding.Found.{Found}
-use Rattle.fkv_index.specs.declared.finding.Found.TheVariants as found
-use Rattle.fkv_index.specs.declared.publishing.PublishAnswer.{PublishAnswer}
-use Rattle.fkv_index.specs.declared.publishing.PublishAnswer.TheVariants as publish
-use Rattle.fkv_index.specs.Finding.{find_next_ask}
-use Rattle.fkv_index.specs.Publishing.{publish_next_ask}
 use Rattle.fkv_ops.specs.declared.answers.TryAnswer.{TryAnswer}
 use Rattle.fkv_ops.specs.declared.answers.TryAnswer.TheVariants as answer
 use Rattle.fkv_ops.specs.declared.appending.Appending.{Appending}
-use Rattle.fkv_ops.specs.declared.appending.Appending.TheVariants as appending
 use Rattle.fkv_ops.specs.declared.requests.Request.{Request}
 use Rattle.fkv_ops.specs.declared.trying.Trying.{Trying}
 use Rattle.fkv_ops.specs.declared.trying.Trying.TheVariants as trying
-use Rattle.fkv_ops.specs.declared.walking.Walking.{Walking}
-use Rattle.fkv_ops.specs.declared.walking.Walking.TheVariants as walking
 use Rattle.fkv_ops.specs.Appending.{AppendState}
 use Rattle.fkv_ops.specs.Requests.{is_read}
 use Rattle.fkv_ops.specs.Trying.{TryState}
@@ -53,18 +41,19 @@ use Rattle.fkv_world.specs.Runs.{World, happens, run}
 use Rattle.fkv_world.specs.World.{Event, Moves, seat_at}
 use Rattle.law_world.specs.Guarded.Shows as guard
 use Rattle.law_world.specs.GuardSessions.Tries.{is_for_entry}
-use Rattle.law_refine.specs.Events.Appends.{append_ghosts, entry_made, invalidate_ghosts, publish_ghosts, reserved_ghosts}
+use Rattle.law_refine.specs.Events.Appends.{append_ghosts, entry_made, reserved_ghosts}
 use Rattle.law_refine.specs.Events.Effects.{mover_step, step_at}
 use Rattle.law_refine.specs.Events.GhostEvents.{fixed_ghosts, ghost_events, moved_ghosts, own_ghosts, safe_at, serials_in, traced_by}
 use Rattle.law_refine.specs.Events.Lines.{lines_added}
 use Rattle.law_refine.specs.Events.Reservations.{reservation}
 use Rattle.law_refine.specs.Events.Sessions.{attempt_ghosts, sitting_ghosts, step_ghosts, tried_ghosts, value_ghosts}
-use Rattle.law_refine.specs.Events.Tries.{find_ghosts, found_ghosts, search_ghosts, try_ghosts, walk_ghosts}
+use Rattle.law_refine.specs.Events.Tries.{search_ghosts, try_ghosts}
 use Rattle.law_refine.proofs.OfEvents.ReadTries.{IsReadStep}
 use Rattle.law_refine.proofs.OfEvents.RequestNames.{IsAttemptSo, IsTryOf, StepIsSo, TriesAt, life_so}
 use Rattle.law_refine.proofs.OfEvents.TryAppends.{IsAppendOf, KnowsAt}
 use Rattle.law_commit.specs.Versions.Cells.{AllReserve, AllReserveOf}
 use Rattle.law_commit.specs.Versions.Requests.{AttemptsSo, IsUpdateSo}
+use Rattle.law_refine.proofs.OfEvents.Searches.{append_all, search_all}
 
 -- ---- lists of the log's events
 pub both_reserve : (P : ℕ → Type 0) (later before : List GhostEvent) → AllReserve P later → AllReserve P before → AllReserve P (later ++ before)
@@ -87,38 +76,13 @@ taken_reserves P request a entry (Done (reserve.Reserved addr)) its so =
     either_reserves P (is_for_entry a addr) (Reserves addr.0 entry made ∷ []) (Drops addr.0 ∷ Reserves addr.0 entry made ∷ []) (is_so, tt) (tt, (is_so, tt))
 taken_reserves P request a entry ask its so = tt
 
-publish_reserves : (P : ℕ → Type 0) (addr : ℕ) (ask : Ask PublishAnswer) → AllReserve P (publish_ghosts addr ask)
-publish_reserves P addr (Done publish.Won) = (tt, tt)
-publish_reserves P addr ask = tt
-
-invalidate_reserves : (P : ℕ → Type 0) (step : Invalidating) → AllReserve P (invalidate_ghosts step)
-invalidate_reserves P invalidating.AtRest = tt
-invalidate_reserves P (invalidating.StoresHeader addr header) = (tt, tt)
-
 append_reserves : (P : ℕ → Type 0) (room : ℕ) (request : Request) (a : AppendState) (entry : HistoryEntry) (step : Appending) (reply : ℕ) → P request.version.0 → IsAppendOf request a
     → AllReserve P (append_ghosts room a entry step reply)
-append_reserves P room request a entry appending.Reserves reply its so = taken_reserves P request a entry (reserve_next_ask room a.reserving reply) its so
-append_reserves P room request a entry (appending.Publishes addr) reply its so = publish_reserves P addr.0 (publish_next_ask a.publishing reply)
-append_reserves P room request a entry appending.Invalidates reply its so = invalidate_reserves P a.invalidating
-append_reserves P room request a entry step reply its so = tt
+append_reserves P room request a entry step reply its so = append_all (AllReserve P) tt (λ addr. (tt, tt)) (λ addr. (tt, tt)) room a entry step reply (λ ask. taken_reserves P request a entry ask its so)
 
 -- ---- a try
-found_reserves : (P : ℕ → Type 0) (reader : ℕ) (its : Found) → AllReserve P (found_ghosts reader its)
-found_reserves P reader (found.Slot place word) = (tt, tt)
-found_reserves P reader found.NoSlot = (tt, tt)
-found_reserves P reader its = tt
-
-find_reserves : (P : ℕ → Type 0) (reader : ℕ) (ask : Ask FindAnswer) → AllReserve P (find_ghosts reader ask)
-find_reserves P reader (Done its) = found_reserves P reader its.found
-find_reserves P reader ask = tt
-
-walk_reserves : (P : ℕ → Type 0) (p : Places) (reader : ℕ) (w : WalkState) (step : Walking) (reply : ℕ) → AllReserve P (walk_ghosts p reader w step reply)
-walk_reserves P p reader w walking.Finds reply = find_reserves P reader (find_next_ask p w.finding reply)
-walk_reserves P p reader w step reply = tt
-
 search_reserves : (P : ℕ → Type 0) (p : Places) (op : Op) (reader : ℕ) (w : WalkState) (reply : ℕ) → AllReserve P (search_ghosts p op reader w reply)
-search_reserves P p (Read key) reader w reply = walk_reserves P p reader w w.step reply
-search_reserves P p op reader w reply = tt
+search_reserves P p op reader w reply = search_all (AllReserve P) tt reader (tt, tt) p op w reply
 
 appends_reserve : (P : ℕ → Type 0) (room session : ℕ) (pending : PendingRequest) (t : TryState) (made : Reply) (reply : ℕ) (reads : Bool) → is_read pending.request.op ≡ reads → t.step ≡ trying.Appends made → IsUpdateSo P pending
     → IsTryOf pending t → AllReserve P (append_ghosts room t.append (entry_made session pending made) t.append.step reply)
