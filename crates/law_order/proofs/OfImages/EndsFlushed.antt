@@ -90,8 +90,7 @@ begins_ends most s begun false one other = other
 start_ends : (most : ℕ) (s : KeeperState) (ask : Ask StartAnswer) → s.step ≡ Starts → Ends most (start_ledto s ask)
 unfolding start_ledto
 start_ends most s (Done (start.Begun number first)) at = tt
-start_ends most s (Done (start.Refused why)) at = tt
-start_ends most s (Done start.Idle) at = tt
+start_ends most s (Done its) at = tt
 start_ends most s ask at = still most s Starts at tt
 
 maintain_ends : (most : ℕ) (s : KeeperState) (ask : Ask MaintainAnswer) → s.step ≡ Maintains → Ends most (maintain_ledto s ask)

@@ -8,27 +8,15 @@ use Rattle.fkv_plane.specs.declared.asks.Ask.{Ask}
 use Rattle.fkv_plane.specs.declared.asks.Ask.TheVariants.{Done, Put, Take}
 use Rattle.fkv_plane.specs.declared.places.Places.{Places}
 use Rattle.fkv_plane.specs.Asked.{reply_to}
-use Rattle.fkv_log.specs.declared.invalidating.Invalidating.{Invalidating}
-use Rattle.fkv_log.specs.declared.invalidating.Invalidating.TheVariants as invalidating
 use Rattle.fkv_log.specs.declared.reserving.ReserveAnswer.{ReserveAnswer}
 use Rattle.fkv_log.specs.declared.reserving.ReserveAnswer.TheVariants.{Reserved}
-use Rattle.fkv_log.specs.Reserving.{reserve_next_ask}
 use Rattle.fkv_index.specs.declared.finding.Found.{Found}
-use Rattle.fkv_index.specs.declared.finding.Found.TheVariants.{Slot, NoSlot}
-use Rattle.fkv_index.specs.declared.finding.FindAnswer.{FindAnswer}
-use Rattle.fkv_index.specs.declared.publishing.PublishAnswer.{PublishAnswer}
-use Rattle.fkv_index.specs.declared.publishing.PublishAnswer.TheVariants.{Won}
-use Rattle.fkv_index.specs.Finding.{find_next_ask}
-use Rattle.fkv_index.specs.Publishing.{publish_next_ask}
 use Rattle.fkv_ops.specs.declared.answers.TryAnswer.{TryAnswer}
 use Rattle.fkv_ops.specs.declared.answers.TryAnswer.TheVariants as answer
 use Rattle.fkv_ops.specs.declared.appending.Appending.{Appending}
-use Rattle.fkv_ops.specs.declared.appending.Appending.TheVariants as appending
 use Rattle.fkv_ops.specs.declared.requests.Request.{Request}
 use Rattle.fkv_ops.specs.declared.trying.Trying.{Trying}
 use Rattle.fkv_ops.specs.declared.trying.Trying.TheVariants.{Walks, SwapsValue, ChangesValue, Appends}
-use Rattle.fkv_ops.specs.declared.walking.Walking.{Walking}
-use Rattle.fkv_ops.specs.declared.walking.Walking.TheVariants.{Finds}
 use Rattle.fkv_ops.specs.Appending.{AppendState}
 use Rattle.fkv_ops.specs.Trying.{TryState}
 use Rattle.fkv_ops.specs.Walking.{WalkState}
@@ -53,12 +41,13 @@ use Rattle.law_log.specs.Chains.{Logged, Published}
 use Rattle.law_log.specs.Ghosts.{Changes, Drops, Fixes, GhostEvent, Log, Reserves, Tells}
 use Rattle.law_log.specs.Trace.{TraceLine}
 use Rattle.law_order.specs.Known.Knows.{AllKnow, SessionKnows}
-use Rattle.law_refine.specs.Events.Appends.{append_ghosts, entry_made, invalidate_ghosts, publish_ghosts, reserved_ghosts}
+use Rattle.law_refine.specs.Events.Appends.{append_ghosts, entry_made, reserved_ghosts}
 use Rattle.law_refine.specs.Events.Effects.{mover_step, step_at}
 use Rattle.law_refine.specs.Events.GhostEvents.{fixed_ghosts, ghost_events, moved_ghosts, own_ghosts, safe_at, traced_by}
 use Rattle.law_refine.specs.Events.Lines.{lines_added, read_in_hand, read_waiting}
 use Rattle.law_refine.specs.Events.Sessions.{attempt_ghosts, sitting_ghosts, step_ghosts, ticket_of, tried_ghosts, value_ghosts}
-use Rattle.law_refine.specs.Events.Tries.{find_ghosts, found_ghosts, search_ghosts, try_ghosts, walk_ghosts}
+use Rattle.law_refine.specs.Events.Tries.{search_ghosts, try_ghosts}
+use Rattle.law_refine.proofs.OfEvents.Searches.{append_all, search_all}
 
 -- a published record of this version stands there
 abbrev pub IsOfVersion : ℕ → Logged → Type 0
@@ -90,38 +79,12 @@ module _ (version : ℕ) (log : Log) where
   reserved_so a entry (Done other) = tt
   reserved_so a entry ask = tt
 
-  publish_so : (addr : ℕ) (ask : Ask PublishAnswer) → AllChangeSo version log (publish_ghosts addr ask)
-  publish_so addr (Done Won) = (tt, tt)
-  publish_so addr (Done other) = tt
-  publish_so addr ask = tt
-
-  dropped_so : (step : Invalidating) → AllChangeSo version log (invalidate_ghosts step)
-  dropped_so invalidating.AtRest = tt
-  dropped_so (invalidating.StoresHeader addr header) = (tt, tt)
-
   append_so : (room : ℕ) (a : AppendState) (entry : HistoryEntry) (step : Appending) (reply : ℕ) → AllChangeSo version log (append_ghosts room a entry step reply)
-  append_so room a entry appending.Reserves reply = reserved_so a entry (reserve_next_ask room a.reserving reply)
-  append_so room a entry (appending.Publishes addr) reply = publish_so addr.0 (publish_next_ask a.publishing reply)
-  append_so room a entry appending.Invalidates reply = dropped_so a.invalidating
-  append_so room a entry step reply = tt
+  append_so room a entry step reply = append_all (AllChangeSo version log) tt (λ addr. (tt, tt)) (λ addr. (tt, tt)) room a entry step reply (λ ask. reserved_so a entry ask)
 
   -- ---- nor does a search
-  found_so : (reader : ℕ) (its : Found) → AllChangeSo version log (found_ghosts reader its)
-  found_so reader (Slot place its) = (tt, tt)
-  found_so reader NoSlot = (tt, tt)
-  found_so reader its = tt
-
-  find_so : (reader : ℕ) (ask : Ask FindAnswer) → AllChangeSo version log (find_ghosts reader ask)
-  find_so reader (Done its) = found_so reader its.found
-  find_so reader ask = tt
-
-  walk_so : (p : Places) (reader : ℕ) (w : WalkState) (step : Walking) (reply : ℕ) → AllChangeSo version log (walk_ghosts p reader w step reply)
-  walk_so p reader w Finds reply = find_so reader (find_next_ask p w.finding reply)
-  walk_so p reader w step reply = tt
-
   search_so : (p : Places) (op : Op) (reader : ℕ) (w : WalkState) (reply : ℕ) → AllChangeSo version log (search_ghosts p op reader w reply)
-  search_so p (Read key) reader w reply = walk_so p reader w w.step reply
-  search_so p op reader w reply = tt
+  search_so p op reader w reply = search_all (AllChangeSo version log) tt reader (tt, tt) p op w reply
 
   value_so : (op : Op) (reader : ℕ) (ask : Ask TryAnswer) → AllChangeSo version log (value_ghosts op reader ask)
   value_so (Read key) reader (Done (answer.Found value)) = (tt, tt)

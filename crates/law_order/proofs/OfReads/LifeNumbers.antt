@@ -1,6 +1,6 @@
 -- At each moment of a life the numbers of each session's reads are its own.
 use Rattle.std.proofs.Common.{◌≡◌, ℕ, ◌∙◌, refl, sym, ap, subst, arith, Bool, true, false, List, [], ◌∷◌, ◌++◌, length}
-use Rattle.std.specs.Prelude.{⊤, ◌==◌, slice_get, Some}
+use Rattle.std.specs.Prelude.{◌==◌, slice_get, Some}
 use Rattle.std.proofs.lemmas.Bool.Decides.{nat_tests}
 use Rattle.fkv_epoch.proofs.Shown.{some_same}
 use Rattle.fkv_map.specs.declared.operations.Call.{Call}
@@ -11,22 +11,19 @@ use Rattle.fkv_session.specs.SessionRun.{telling}
 use Rattle.fkv_session.specs.Sessions.{SessionState, is_busy, session_begun}
 use Rattle.law_world.specs.Runs.Added.{call_answered, told_at, told_by}
 use Rattle.fkv_world.specs.Opened.{IsOpenedWorld}
-use Rattle.fkv_world.specs.Past.{Traced, TraceEvent, Called, Answered}
+use Rattle.fkv_world.specs.Past.{Traced, TraceEvent, Called}
 use Rattle.fkv_world.specs.Runs.{World, happens, run}
 use Rattle.fkv_world.specs.World.{Event, seat_at}
 use Rattle.fkv_world.proofs.Shown.{is_over}
 use Rattle.law_world.proofs.OfRuns.Added.{trace_so}
 use Rattle.law_refine.specs.Events.Lines.{read_in_hand, read_waiting}
 use Rattle.law_order.specs.Reads.Reads.{is_given}
-use Rattle.law_order.proofs.OfReads.Numbers.{Numbered, none_numbered, is_other, other_given, other_waiting, other_hand, other_numbered, with_called, called_numbered, answered_numbered}
-use Rattle.law_refine.proofs.OfCalls.Telling.{is_of_keeper, AreOfKeeper}
+use Rattle.law_order.proofs.OfReads.Numbers.{Numbered, none_numbered, other_given, other_waiting, other_hand, other_numbered, with_called, called_numbered, answered_numbered}
+use Rattle.law_refine.proofs.OfCalls.Telling.{AreOfKeeper}
 use Rattle.law_order.proofs.OfReads.Turns.{Begins, Goes, Turn, Rests, BeginsOne, GoesOne, moved_to, turn_of}
+use Rattle.law_refine.proofs.OfCalls.Life.{AreOthers, both_others, end_other, keepers_other}
 
 -- ---- what others tell
-abbrev pub AreOthers : ℕ → List TraceEvent → Type 0
-AreOthers number [] = ⊤
-AreOthers number (it ∷ before) = is_other number it × AreOthers number before
-
 pub others_given : (number ticket effects : ℕ) (told : List TraceEvent) (trace : List Traced) → AreOthers number told → is_given number ticket (told_at effects told ++ trace) ≡ is_given number ticket trace
 others_given number ticket effects [] trace all = refl
 others_given number ticket effects (it ∷ before) trace all = other_given number ticket (record { its = it; effects = effects }) (told_at effects before ++ trace) all.0 ∙ others_given number ticket effects before trace all.1
@@ -42,23 +39,6 @@ others_hand number effects (it ∷ before) trace all = other_hand number (record
 others_numbered : (number effects : ℕ) (told : List TraceEvent) (trace : List Traced) (busy : Bool) → AreOthers number told → Numbered number trace busy → Numbered number (told_at effects told ++ trace) busy
 others_numbered number effects [] trace busy all its = its
 others_numbered number effects (it ∷ before) trace busy all its = other_numbered number (record { its = it; effects = effects }) (told_at effects before ++ trace) busy all.0 (others_numbered number effects before trace busy all.1 its)
-
-pub keepers_other : (number : ℕ) (told : List TraceEvent) → AreOfKeeper told → AreOthers number told
-keepers_other number [] all = tt
-keepers_other number (it ∷ before) all = (by_event it all.0, keepers_other number before all.1)
-  where
-    by_event : (event : TraceEvent) → is_of_keeper event → is_other number event
-    by_event (Called session its) own = absurd own
-    by_event (Answered session its) own = absurd own
-    by_event event own = tt
-
-both_others : (number : ℕ) (later before : List TraceEvent) → AreOthers number later → AreOthers number before → AreOthers number (later ++ before)
-both_others number [] before ones others = others
-both_others number (it ∷ later) before ones others = (ones.0, both_others number later before ones.1 others)
-
-end_other : (number at : ℕ) (step : Sitting) (list : List Finished) → (at == number) ≡ false → AreOthers number (call_answered at true step list)
-end_other number at (Idle its) list other = (other, tt)
-end_other number at step list other = tt
 
 pub begins_other : (w : World) (event : Event) (number : ℕ) (its : Begins w event) → (its.number == number) ≡ false → AreOthers number (told_by w.now (happens w event).now event)
 begins_other w event number its other =

@@ -1,6 +1,6 @@
 -- The numbers of a session's reads: that of the call in hand, and those of the reads that wait, are numbers of its own calls, and all different.
 use Rattle.std.proofs.Common.{◌≡◌, ℕ, ◌<◌, ◌∙◌, List, [], ◌∷◌, length, refl, arith, ap, sym, subst, inl, inr, Bool, true, false}
-use Rattle.std.specs.Prelude.{Option, if◌then◌else◌, ◌==◌, ◌⊎◌, ⊤}
+use Rattle.std.specs.Prelude.{Option, if◌then◌else◌, ◌==◌, ◌⊎◌}
 use Rattle.std.proofs.lemmas.Bool.Decides.{nat_tests}
 use Rattle.fkv_map.specs.declared.operations.Call.{Call}
 use Rattle.fkv_session.specs.declared.answers.Told.{Told}
@@ -9,6 +9,7 @@ use Rattle.fkv_session.specs.SessionRun.{Telling}
 use Rattle.fkv_world.specs.Past.{Traced, TraceEvent, Called, Answered}
 use Rattle.law_refine.specs.Events.Lines.{CallMade, call_made, last_call, number_of_call, read_in_hand, is_ticket, gives_ticket, read_waiting}
 use Rattle.law_order.specs.Reads.Reads.{is_given}
+use Rattle.law_refine.proofs.OfCalls.Called.{is_other}
 
 -- ---- the number of a call
 abbrev pub is_call_of : ℕ → TraceEvent → Type 0
@@ -64,11 +65,6 @@ none_numbered number = record {
     never e = cc
 
 -- ---- what another session tells, or the keeper
-abbrev pub is_other : ℕ → TraceEvent → Type 0
-is_other number (Called session its) = (session == number) ≡ false
-is_other number (Answered session its) = (session == number) ≡ false
-is_other number event = ⊤
-
 other_gives : (number ticket : ℕ) (event : TraceEvent) → is_other number event → gives_ticket number ticket event ≡ false
 other_gives number ticket (Answered session its) other = rw other refl
 other_gives number ticket event other = refl

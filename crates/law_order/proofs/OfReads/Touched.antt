@@ -9,22 +9,15 @@ use Rattle.law_log.proofs.Shown.{set_there, set_else, at_one}
 use Rattle.fkv_plane.specs.declared.asks.Ask.{Ask}
 use Rattle.fkv_plane.specs.declared.asks.Ask.TheVariants.{Done}
 use Rattle.fkv_plane.specs.declared.places.Places.{Places}
-use Rattle.fkv_log.specs.declared.invalidating.Invalidating.{Invalidating}
-use Rattle.fkv_log.specs.declared.invalidating.Invalidating.TheVariants as invalidating
 use Rattle.fkv_log.specs.declared.reserving.ReserveAnswer.{ReserveAnswer}
 use Rattle.fkv_log.specs.declared.reserving.ReserveAnswer.TheVariants.{Reserved}
-use Rattle.fkv_log.specs.Reserving.{reserve_next_ask}
-use Rattle.fkv_index.specs.declared.publishing.PublishAnswer.{PublishAnswer}
-use Rattle.fkv_index.specs.declared.publishing.PublishAnswer.TheVariants.{Won}
 use Rattle.fkv_index.specs.declared.finding.Found.{Found}
 use Rattle.fkv_index.specs.declared.finding.Found.TheVariants.{Slot, NoSlot}
 use Rattle.fkv_index.specs.declared.finding.FindAnswer.{FindAnswer}
 use Rattle.fkv_index.specs.Finding.{find_next_ask}
-use Rattle.fkv_index.specs.Publishing.{publish_next_ask}
 use Rattle.fkv_ops.specs.declared.answers.TryAnswer.{TryAnswer}
 use Rattle.fkv_ops.specs.declared.answers.TryAnswer.TheVariants as answer
 use Rattle.fkv_ops.specs.declared.appending.Appending.{Appending}
-use Rattle.fkv_ops.specs.declared.appending.Appending.TheVariants as appending
 use Rattle.fkv_ops.specs.declared.trying.Trying.{Trying}
 use Rattle.fkv_ops.specs.declared.trying.Trying.TheVariants.{Walks, SwapsValue, ChangesValue, Appends}
 use Rattle.fkv_ops.specs.declared.walking.Walking.{Walking}
@@ -41,10 +34,11 @@ use Rattle.fkv_session.specs.Sessions.{Seat, bits_of, room_of}
 use Rattle.law_local.specs.Tries.AttemptRows.{AttemptRow}
 use Rattle.law_local.specs.Tries.ReadRows.{HasRead, finds_start, search_starts, walk_starts, try_starts, attempt_starts, tells_value, started, valued, reading_after}
 use Rattle.law_local.specs.Tries.TryRows.{TryRow}
-use Rattle.law_refine.specs.Events.Appends.{reserved_ghosts, publish_ghosts, invalidate_ghosts, append_ghosts}
+use Rattle.law_refine.specs.Events.Appends.{reserved_ghosts, append_ghosts}
 use Rattle.law_world.specs.GuardSessions.Tries.{is_for_entry}
 use Rattle.law_refine.specs.Events.Sessions.{value_ghosts, tried_ghosts, attempt_ghosts}
 use Rattle.law_refine.specs.Events.Tries.{found_ghosts, find_ghosts, walk_ghosts, search_ghosts, try_ghosts}
+use Rattle.law_refine.proofs.OfEvents.Searches.{append_all, search_all}
 
 -- ---- events that touch only some reads
 -- it tells nothing, and touches only such a read
@@ -108,35 +102,11 @@ reserved_touch : (Such : ℕ → Type 0) (a : AppendState) (entry : HistoryEntry
 reserved_touch Such a entry (Done (Reserved addr)) = either Such (is_for_entry a addr) _ _ (tt, tt) (tt, (tt, tt))
 reserved_touch Such a entry ask = tt
 
-publish_touch : (Such : ℕ → Type 0) (addr : ℕ) (ask : Ask PublishAnswer) → AllTouch Such (publish_ghosts addr ask)
-publish_touch Such addr (Done Won) = (tt, tt)
-publish_touch Such addr ask = tt
-
-invalidate_touch : (Such : ℕ → Type 0) (its : Invalidating) → AllTouch Such (invalidate_ghosts its)
-invalidate_touch Such invalidating.AtRest = tt
-invalidate_touch Such (invalidating.StoresHeader addr header) = (tt, tt)
-
 append_touch : (Such : ℕ → Type 0) (room : ℕ) (a : AppendState) (entry : HistoryEntry) (step : Appending) (reply : ℕ) → AllTouch Such (append_ghosts room a entry step reply)
-append_touch Such room a entry appending.Reserves reply = reserved_touch Such a entry (reserve_next_ask room a.reserving reply)
-append_touch Such room a entry (appending.Publishes addr) reply = publish_touch Such addr.0 (publish_next_ask a.publishing reply)
-append_touch Such room a entry appending.Invalidates reply = invalidate_touch Such a.invalidating
-append_touch Such room a entry step reply = tt
-
-found_touch : (Such : ℕ → Type 0) (reader : ℕ) (its : Found) → Such reader → AllTouch Such (found_ghosts reader its)
-found_touch Such reader (Slot place word) own = (own, tt)
-found_touch Such reader NoSlot own = (own, tt)
-found_touch Such reader its own = tt
-
-find_touch : (Such : ℕ → Type 0) (reader : ℕ) (ask : Ask FindAnswer) → Such reader → AllTouch Such (find_ghosts reader ask)
-find_touch Such reader (Done its) own = found_touch Such reader its.found own
-find_touch Such reader ask own = tt
-
-walk_touch : (Such : ℕ → Type 0) (p : Places) (reader : ℕ) (w : WalkState) (step : Walking) (reply : ℕ) → Such reader → AllTouch Such (walk_ghosts p reader w step reply)
-walk_touch Such p reader w Finds reply own = find_touch Such reader (find_next_ask p w.finding reply) own
-walk_touch Such p reader w step reply own = tt
+append_touch Such room a entry step reply = append_all (AllTouch Such) tt (λ addr. (tt, tt)) (λ addr. (tt, tt)) room a entry step reply (λ ask. reserved_touch Such a entry ask)
 
 search_touch : (p : Places) (op : Op) (reader : ℕ) (w : WalkState) (reply : ℕ) → AllTouch (IsItsRead op reader) (search_ghosts p op reader w reply)
-search_touch p (Read key) reader w reply = walk_touch (IsItsRead (Read key) reader) p reader w w.step reply (refl, refl)
+search_touch p (Read key) reader w reply = search_all (AllTouch (IsItsRead (Read key) reader)) tt reader ((refl, refl), tt) p (Read key) w reply
 search_touch p op reader w reply = tt
 
 try_touch : (p : Places) (room session reader : ℕ) (pending : PendingRequest) (t : TryState) (step : Trying) (reply : ℕ) → AllTouch (IsItsRead pending.request.op reader) (try_ghosts p room session reader pending t step reply)

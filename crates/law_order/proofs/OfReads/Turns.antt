@@ -7,17 +7,17 @@ use Rattle.fkv_map.specs.declared.operations.Call.TheVariants.{Refresh}
 use Rattle.fkv_keeper.specs.KeeperRun.{is_in_hand}
 use Rattle.fkv_session.specs.SessionRun.{session_run}
 use Rattle.fkv_session.specs.Sessions.{SessionState, is_busy, session_ask, session_begun}
-use Rattle.fkv_world.specs.Actors.{is_of_session, session_goes}
+use Rattle.fkv_world.specs.Actors.{is_of_session}
 use Rattle.law_world.specs.Runs.Added.{call_begun, begun_by, call_answered, session_answered, keeper_told, is_calling, ended_by, told_by}
 use Rattle.fkv_world.specs.OwnEvents.{session_steps, session_part, session_part_of}
 use Rattle.fkv_world.specs.Past.{Called, CommitAsked, TurnAsked}
 use Rattle.fkv_world.specs.Runs.{World, happens}
 use Rattle.fkv_world.specs.World.{Event, Calls, Moves, Commits, Turns, KeeperMoves, Crashes, seat_at, near}
-use Rattle.fkv_world.proofs.Shown.{happens_session, session_apart, session_written}
+use Rattle.fkv_world.proofs.Shown.{happens_session, session_apart}
 use Rattle.law_world.proofs.OfRuns.Nothing.{idle_ask, in_hand as busy_stays, no_session, none_in_hand}
 use Rattle.law_refine.specs.Events.GhostEvents.{moved_ghosts, own_ghosts}
 use Rattle.law_refine.specs.Events.Sessions.{step_ghosts}
-use Rattle.law_refine.proofs.OfCalls.Telling.{AreOfKeeper, keeper_end, keeper_start, both_keepers, alive_told, call_nothing, move_nothing}
+use Rattle.law_refine.proofs.OfCalls.Telling.{AreOfKeeper, keeper_end, keeper_start, both_keepers, alive_told, call_nothing, move_nothing, started_now, started_told}
 
 -- the other sessions stay
 abbrev pub OthersStay : World → Event → ℕ → Type 0
@@ -63,22 +63,8 @@ nothing w event same own none = Rests (subst AreOfKeeper (sym none) tt) own (λ 
 
 -- ---- a call
 call_starts : (w : World) (at : ℕ) (its : Call) (s : SessionState) → w.now.crashed ≡ false → slice_get w.now.sessions at ≡ Some s → is_busy s.step ≡ false → Turn w (Calls at its)
-unfolding ended_by begun_by session_goes
 call_starts w at its s alive found idle =
-    BeginsOne (record { number = at; its = its; s = s; is = refl; alive = alive; found = found; idle = idle; now = now; others = λ other e. session_apart w (Calls at its) other e; told = told })
-  where
-    after : SessionState
-    after = session_begun (seat_at w.now at) s its
-
-    now : slice_get (happens w (Calls at its)).now.sessions at ≡ Some after
-    now = session_written w (Calls at its) at s (grind (arith, nat_tests)) alive found ∙ ap (λ (b : Bool). Some (if b then s else after)) idle
-
-    told : told_by w.now (happens w (Calls at its)).now (Calls at its) ≡ call_answered at true after.step after.finished ++ Called at its ∷ []
-    told =
-        alive_told w (Calls at its) alive
-        ∙ (ap (λ (x : Option SessionState). session_answered at (is_calling true (slice_get w.now.sessions at)) x ++ call_begun at its (slice_get w.now.sessions at)) now
-        ∙ (ap (λ (x : Option SessionState). session_answered at (is_calling true x) (Some after) ++ call_begun at its x) found
-        ∙ ap (λ (b : Bool). session_answered at (if b then false else true) (Some after) ++ (if b then [] else Called at its ∷ [])) idle))
+    BeginsOne (record { number = at; its = its; s = s; is = refl; alive = alive; found = found; idle = idle; now = started_now w at its s alive found idle; others = λ other e. session_apart w (Calls at its) other e; told = started_told w at its s alive found idle })
 
 call_found : (w : World) (at : ℕ) (its : Call) (found : Option SessionState) → w.now.crashed ≡ false → slice_get w.now.sessions at ≡ found → Turn w (Calls at its)
 call_found w at its None alive e = nothing w (Calls at its) (no_session w at its e).0 refl (call_nothing w at its alive (ap (is_calling true) e) (ap (call_begun at its) e))

@@ -8,26 +8,14 @@ use Rattle.fkv_map.specs.Keys.{reply_from}
 use Rattle.fkv_plane.specs.declared.asks.Ask.{Ask}
 use Rattle.fkv_plane.specs.declared.asks.Ask.TheVariants.{Put, Take, Done}
 use Rattle.fkv_plane.specs.declared.places.Places.{Places}
-use Rattle.fkv_log.specs.declared.invalidating.Invalidating.{Invalidating}
-use Rattle.fkv_log.specs.declared.invalidating.Invalidating.TheVariants as invalidating
 use Rattle.fkv_log.specs.declared.reserving.ReserveAnswer.{ReserveAnswer}
 use Rattle.fkv_log.specs.declared.reserving.ReserveAnswer.TheVariants.{Reserved}
-use Rattle.fkv_log.specs.Reserving.{reserve_next_ask}
-use Rattle.fkv_index.specs.declared.finding.FindAnswer.{FindAnswer}
 use Rattle.fkv_index.specs.declared.finding.Found.{Found}
-use Rattle.fkv_index.specs.declared.finding.Found.TheVariants.{Slot, NoSlot}
-use Rattle.fkv_index.specs.declared.publishing.PublishAnswer.{PublishAnswer}
-use Rattle.fkv_index.specs.declared.publishing.PublishAnswer.TheVariants.{Won}
-use Rattle.fkv_index.specs.Finding.{find_next_ask}
-use Rattle.fkv_index.specs.Publishing.{publish_next_ask}
 use Rattle.fkv_ops.specs.declared.answers.TryAnswer.{TryAnswer}
 use Rattle.fkv_ops.specs.declared.answers.TryAnswer.TheVariants as answer
 use Rattle.fkv_ops.specs.declared.appending.Appending.{Appending}
-use Rattle.fkv_ops.specs.declared.appending.Appending.TheVariants as appending
 use Rattle.fkv_ops.specs.declared.trying.Trying.{Trying}
 use Rattle.fkv_ops.specs.declared.trying.Trying.TheVariants.{Walks, SwapsValue, ChangesValue, Appends}
-use Rattle.fkv_ops.specs.declared.walking.Walking.{Walking}
-use Rattle.fkv_ops.specs.declared.walking.Walking.TheVariants.{Finds}
 use Rattle.fkv_ops.specs.Appending.{AppendState}
 use Rattle.fkv_ops.specs.Trying.{TryState}
 use Rattle.fkv_ops.specs.Values.{value_of}
@@ -48,11 +36,12 @@ use Rattle.law_world.specs.GuardSessions.Tries.{is_for_entry}
 use Rattle.law_local.specs.Tries.TryRows.{cell_of}
 use Rattle.law_log.specs.Ghosts.{GhostEvent, Changes, Drops, Fixes, Reserves, Tells}
 use Rattle.law_log.specs.Trace.{TraceLine}
-use Rattle.law_refine.specs.Events.Appends.{append_ghosts, entry_made, invalidate_ghosts, publish_ghosts, reserved_ghosts}
+use Rattle.law_refine.specs.Events.Appends.{append_ghosts, entry_made, reserved_ghosts}
 use Rattle.law_refine.specs.Events.GhostEvents.{fixed_ghosts, ghost_events, moved_ghosts, own_ghosts, safe_at, traced_by}
 use Rattle.law_refine.specs.Events.Lines.{lines_added, read_in_hand, read_waiting}
 use Rattle.law_refine.specs.Events.Sessions.{attempt_ghosts, sitting_ghosts, step_ghosts, ticket_of, tried_ghosts, value_ghosts}
-use Rattle.law_refine.specs.Events.Tries.{find_ghosts, found_ghosts, search_ghosts, try_ghosts, walk_ghosts}
+use Rattle.law_refine.specs.Events.Tries.{search_ghosts, try_ghosts}
+use Rattle.law_refine.proofs.OfEvents.Searches.{append_all, search_all}
 
 -- what an event of the log changes in place
 abbrev pub ChangesSo : (ℕ → Type 0) → GhostEvent → Type 0
@@ -72,37 +61,12 @@ reserved_change P a entry (Done (Reserved addr)) = by_test (is_for_entry a addr)
     by_test false = (tt, (tt, tt))
 reserved_change P a entry ask = tt
 
-publish_change : (P : ℕ → Type 0) (addr : ℕ) (ask : Ask PublishAnswer) → AllChange P (publish_ghosts addr ask)
-publish_change P addr (Done Won) = (tt, tt)
-publish_change P addr ask = tt
-
-invalidate_change : (P : ℕ → Type 0) (its : Invalidating) → AllChange P (invalidate_ghosts its)
-invalidate_change P invalidating.AtRest = tt
-invalidate_change P (invalidating.StoresHeader addr header) = (tt, tt)
-
 append_change : (P : ℕ → Type 0) (room : ℕ) (a : AppendState) (entry : HistoryEntry) (step : Appending) (reply : ℕ) → AllChange P (append_ghosts room a entry step reply)
-append_change P room a entry appending.Reserves reply = reserved_change P a entry (reserve_next_ask room a.reserving reply)
-append_change P room a entry (appending.Publishes addr) reply = publish_change P addr.0 (publish_next_ask a.publishing reply)
-append_change P room a entry appending.Invalidates reply = invalidate_change P a.invalidating
-append_change P room a entry step reply = tt
+append_change P room a entry step reply = append_all (AllChange P) tt (λ addr. (tt, tt)) (λ addr. (tt, tt)) room a entry step reply (λ ask. reserved_change P a entry ask)
 
 -- ---- a search
-found_change : (P : ℕ → Type 0) (reader : ℕ) (its : Found) → AllChange P (found_ghosts reader its)
-found_change P reader (Slot place word) = (tt, tt)
-found_change P reader NoSlot = (tt, tt)
-found_change P reader its = tt
-
-find_change : (P : ℕ → Type 0) (reader : ℕ) (ask : Ask FindAnswer) → AllChange P (find_ghosts reader ask)
-find_change P reader (Done its) = found_change P reader its.found
-find_change P reader ask = tt
-
-walk_change : (P : ℕ → Type 0) (p : Places) (reader : ℕ) (w : WalkState) (step : Walking) (reply : ℕ) → AllChange P (walk_ghosts p reader w step reply)
-walk_change P p reader w Finds reply = find_change P reader (find_next_ask p w.finding reply)
-walk_change P p reader w step reply = tt
-
 search_change : (P : ℕ → Type 0) (p : Places) (op : Op) (reader : ℕ) (w : WalkState) (reply : ℕ) → AllChange P (search_ghosts p op reader w reply)
-search_change P p (Read key) reader w reply = walk_change P p reader w w.step reply
-search_change P p op reader w reply = tt
+search_change P p op reader w reply = search_all (AllChange P) tt reader (tt, tt) p op w reply
 
 -- ---- a try, and an attempt
 try_change : (p : Places) (room session reader : ℕ) (pending : PendingRequest) (t : TryState) (step : Trying) (reply : ℕ) → AllChange (λ at. try_changes step ≡ Some at) (try_ghosts p room session reader pending t step reply)

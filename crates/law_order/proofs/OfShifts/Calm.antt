@@ -1,5 +1,5 @@
 -- A session that is idle, or makes a turn of its own, stays so by its step.
-use Rattle.std.proofs.Common.{◌≡◌, ℕ, refl, ap, true}
+use Rattle.std.proofs.Common.{◌≡◌, refl, ap, true}
 use Rattle.std.specs.Prelude.{Option, Some, None}
 use Rattle.fkv_plane.specs.declared.actions.Action.{Action}
 use Rattle.fkv_plane.specs.declared.asks.Ask.{Ask}
@@ -10,25 +10,9 @@ use Rattle.fkv_session.specs.declared.answers.Told.{Told}
 use Rattle.fkv_session.specs.declared.sessions.Sitting.{Sitting}
 use Rattle.fkv_session.specs.declared.sessions.Sitting.TheVariants.{Idle, Turns}
 use Rattle.fkv_session.specs.OwnTurns.{own_turn_ask, own_turn_given}
-use Rattle.fkv_session.specs.Sessions.{Seat, SessionState, asks_after, is_word_ask, own_turn_moved, session_ask, session_next, sitting_given, sitting_next, turn_ledto}
+use Rattle.fkv_session.specs.Sessions.{Seat, SessionState, session_ask, sitting_given}
 use Rattle.fkv_world.specs.Moves.{Near, session_asks, session_gets, session_moved, session_replied, session_settled}
-use Rattle.law_opening.proofs.OfChanges.OfSessions.Calm.{is_calm}
-
-turned_calm : (s : SessionState) (its : Told) (ask : Ask (Unit {0})) → s.step ≡ Turns its → is_calm (turn_ledto s its ask).step ≡ true
-unfolding turn_ledto
-turned_calm s its (Done through) at = refl
-turned_calm s its ask at = ap is_calm at
-
-sitting_calm : (k : Seat) (s : SessionState) (asks : ℕ) (step : Sitting) (reply : ℕ) → s.step ≡ step → is_calm step ≡ true → is_calm (sitting_next k (record s { asks = asks; effect = None }) step reply).step ≡ true
-unfolding sitting_next
-sitting_calm k s asks (Idle its) reply at calm = ap is_calm at
-sitting_calm k s asks (Turns its) reply at calm =
-    let moved : SessionState = own_turn_moved k (record s { asks = asks; effect = None }) reply in
-    turned_calm moved its (own_turn_ask k.shape moved.own_turn) at
-sitting_calm k s asks step reply at calm = cc
-
-next_calm : (k : Seat) (s : SessionState) (reply : ℕ) → is_calm s.step ≡ true → is_calm (session_next k s reply).step ≡ true
-next_calm k s reply calm = sitting_calm k s (asks_after s.asks (is_word_ask (session_ask k s))) s.step reply refl calm
+use Rattle.law_opening.proofs.OfChanges.OfSessions.Calm.{is_calm, next_calm, turned_calm}
 
 action_calm : (k : Seat) (s : SessionState) (step : Sitting) (action : Action) → s.step ≡ step → is_calm step ≡ true → is_calm (sitting_given k s step action).step ≡ true
 unfolding sitting_given
