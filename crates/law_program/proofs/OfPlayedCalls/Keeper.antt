@@ -24,7 +24,8 @@ use Rattle.law_program.specs.WholeCalls.WholeCalls.{map_after}
 use Rattle.law_program.specs.PlayedCalls.Waiting.{SeatsKeepKeys}
 use Rattle.law_program.proofs.OfPlayedCalls.Led.{IsKeepers}
 use Rattle.law_program.proofs.OfPlayedCalls.Waiting.{stands_on}
-use Rattle.law_order.proofs.OfReads.Numbers.{is_other, other_waiting}
+use Rattle.law_order.proofs.OfReads.Numbers.{other_waiting}
+use Rattle.law_refine.proofs.OfCalls.Called.{is_other}
 use Rattle.law_refine.specs.Events.Lines.{read_waiting}
 use Rattle.fkv_playing.specs.Seats.{SeatState}
 use Rattle.law_refine.specs.Calls.Calls.{effects_in_log}

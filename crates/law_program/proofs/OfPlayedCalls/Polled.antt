@@ -58,22 +58,10 @@ pub record IsPolled (its : Told) (list : List Finished) (it : Finished) : Type 0
   pub polled : its ≡ told.Polled left
   pub is_in : IsIn it list
 
-has_none : (given other : Answer) (it : Finished) → given ≡ other → (IsIn it (finished_by other) → ⊥) → IsIn it (finished_by given) → ⊥
-has_none given other it e none is_in = none (subst (λ (x : Answer). IsIn it (finished_by x)) e is_in)
-
 pub polled : (its : Told) (list : List Finished) (given : Answer) (it : Finished) → IsAnswerTold its list given → IsIn it (finished_by given) → IsPolled its list it
 polled (told.Polled left) list (answer.Polled items count) it is is_in = record { left = left; polled = refl; is_in = subst (IsIn it) is.0 is_in }
-polled (told.Polled left) list given it is is_in = absurd is
-polled (told.Done serial reply) list given it is is_in = absurd (has_none given _ it is (λ x. x) is_in)
-polled (told.Pending serial why) list given it is is_in = absurd (has_none given _ it is (λ x. x) is_in)
-polled (told.Found value) list given it is is_in = absurd (has_none given _ it is (λ x. x) is_in)
-polled told.Absent list given it is is_in = absurd (has_none given _ it is (λ x. x) is_in)
-polled (told.PendingRead ticket) list given it is is_in = absurd (has_none given _ it is (λ x. x) is_in)
-polled (told.Refreshed phase version) list given it is is_in = absurd (has_none given _ it is (λ x. x) is_in)
-polled (told.Woken phase version) list given it is is_in = absurd (has_none given _ it is (λ x. x) is_in)
-polled told.Slept list given it is is_in = absurd (has_none given _ it is (λ x. x) is_in)
-polled (told.Durable serial) list given it is is_in = absurd (has_none given _ it is (λ x. x) is_in)
-polled (told.Refused why) list given it is is_in = absurd (has_none given _ it is (λ x. x) is_in)
+polled its list (answer.Polled items count) it is is_in = cc
+polled its list given it is is_in = absurd is_in
 
 -- so its line stands in the trace behind the poll
 abbrev pub trace_of_call : ℕ → Call → ℕ → ℕ → List Traced → Told → List Finished → List Traced

@@ -1,53 +1,13 @@
 -- The number of a read is its call's own, so no later line calls it again.
 use Rattle.std.proofs.Common.{◌≡◌, ◌<◌, ◌+◌, ℕ, List, [], ◌∷◌, ◌++◌, arith, inl, inr, length, refl, sym}
-use Rattle.std.specs.Prelude.{Option, Some, None}
 use Rattle.fkv_base.specs.declared.numbers.Key.{Key}
 use Rattle.fkv_map.specs.declared.operations.Call.{Call}
 use Rattle.fkv_map.specs.declared.operations.Call.TheVariants as call
 use Rattle.fkv_map.specs.declared.operations.Op.TheVariants as op
-use Rattle.fkv_session.specs.declared.answers.Finished.{Finished}
-use Rattle.fkv_session.specs.declared.answers.Finished.TheVariants as finished
-use Rattle.fkv_session.specs.declared.answers.Told.{Told}
-use Rattle.fkv_session.specs.declared.answers.Told.TheVariants as told
 use Rattle.fkv_world.specs.Past.{Answered, Called, TraceEvent, Traced}
 use Rattle.law_log.specs.Trace.{CallsRead, IsIn}
-use Rattle.law_refine.specs.Events.Lines.{CallMade, answer_lines, call_lines, event_lines, finished_line, finished_lines, last_call, lines_of, next_serial, refused_call, refused_lines}
-use Rattle.law_refine.proofs.OfCalls.UpdateLines.{called_below, in_either}
-
--- ---- no answer calls a read
-none_finished : (key reader session : ℕ) (trace : List Traced) (list : List Finished) → IsIn (CallsRead reader key) (finished_lines session trace list) → ⊥
-none_finished key reader session trace [] is_in = is_in
-none_finished key reader session trace (it ∷ rest) is_in = elim (in_either (CallsRead reader key) (finished_lines session trace rest) (finished_line session trace it ∷ []) is_in) [
-  | inl one ↦ none_finished key reader session trace rest one
-  | inr other ↦ by_line it other
-]
-  where
-    by_line : (it : Finished) → IsIn (CallsRead reader key) (finished_line session trace it ∷ []) → ⊥
-    by_line (finished.Update serial its) (inl same) = cc
-    by_line (finished.Update serial its) (inr none) = none
-    by_line (finished.Read ticket value) (inl same) = cc
-    by_line (finished.Read ticket value) (inr none) = none
-
-none_refused : (key reader session serial : ℕ) (made : Option CallMade) → IsIn (CallsRead reader key) (refused_lines session serial made) → ⊥
-none_refused key reader session serial None is_in = is_in
-none_refused key reader session serial (Some made) is_in = by_call made.call is_in
-  where
-    by_call : (its : Call) → IsIn (CallsRead reader key) (refused_call session serial its) → ⊥
-    by_call (call.Op (op.Read k)) it = it
-    by_call (call.Op o) (inl same) = cc
-    by_call (call.Op o) (inr none) = none
-    by_call its it = it
-
-none_answered : (key reader session : ℕ) (first : ℕ → ℕ) (trace : List Traced) (its : Told) (list : List Finished) → IsIn (CallsRead reader key) (answer_lines first trace session its list) → ⊥
-none_answered key reader session first trace (told.Done serial its) list (inl same) = cc
-none_answered key reader session first trace (told.Done serial its) list (inr none) = none
-none_answered key reader session first trace (told.Found value) list (inl same) = cc
-none_answered key reader session first trace (told.Found value) list (inr none) = none
-none_answered key reader session first trace told.Absent list (inl same) = cc
-none_answered key reader session first trace told.Absent list (inr none) = none
-none_answered key reader session first trace (told.Polled left) list is_in = none_finished key reader session trace list is_in
-none_answered key reader session first trace (told.Refused why) list is_in = none_refused key reader session (next_serial first session trace) (last_call session trace) is_in
-none_answered key reader session first trace its list is_in = is_in
+use Rattle.law_refine.specs.Events.Lines.{call_lines, event_lines, lines_of}
+use Rattle.law_refine.proofs.OfCalls.UpdateLines.{answer_calls, called_below, in_either}
 
 -- ---- a call's line is its own
 -- the call is of a read of this key
@@ -66,7 +26,7 @@ reads_here key reader session first trace asked is_in = absurd is_in
 
 called_at : (key reader : ℕ) (first : ℕ → ℕ) (trace : List Traced) (it : TraceEvent) → IsIn (CallsRead reader key) (event_lines first trace it) → reader ≡ length trace
 called_at key reader first trace (Called session asked) is_in = (reads_here key reader session first trace asked is_in).1
-called_at key reader first trace (Answered session its) is_in = absurd (none_answered key reader session first trace its.its its.finished is_in)
+called_at key reader first trace (Answered session its) is_in = absurd (answer_calls key reader session first trace its.its its.finished is_in)
 called_at key reader first trace it is_in = absurd is_in
 
 both_long : (added trace : List Traced) → length (added ++ trace) ≡ length added + length trace
