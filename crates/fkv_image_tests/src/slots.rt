@@ -1,6 +1,4 @@
 //! Bytes of slots in each format, written by hand.
-ghost use Rattle.std.specs.Prelude.{◌≡◌};
-
 use crate::places::bytes_with;
 use arrayvec::ArrayVec;
 use fkv_base::{Addr, MAX_SESSIONS, Serial, Version};
@@ -79,13 +77,7 @@ fn what_is_no_slot_is_refused(rt: HostRuntime) {
 }
 
 /// The slot of a second commit that uses the first one's checkpoint, with a range of records that were lost between them.
-pub fn second_slot() -> ManifestSlot
-    ensures number { result.number ≡ 2 }
-    ensures first { result.first.0 ≡ 3 }
-    ensures end { result.end.0 ≡ 6 }
-    ensures area { result.area ≡ 1 }
-    ensures triples { result.triples ≡ 1 }
-{
+fn sample_manifest() -> ManifestSlot {
     let mut serials = ArrayVec::new();
     serials.push(Serial(3));
     let mut ranges = ArrayVec::new();
@@ -128,14 +120,16 @@ fn has_its_bytes(rt: &impl Abort, more: &[(usize, u64); 5], format: Format) {
     numbers[..8].copy_from_slice(&FRONT);
     numbers[8..].copy_from_slice(more);
     let bytes = bytes_with(rt, &numbers);
-    assert!(rt; write_manifest_slot(&second_slot(), format) == Some(bytes));
+    assert!(rt; write_manifest_slot(&sample_manifest(), format) == Some(bytes));
     let read = read_manifest_slot(&bytes);
-    assert!(rt; read.map(|(found, read)| (found, read == second_slot())) == Some((format, true)));
+    assert!(rt;
+        read.map(|(found, read)| (found, read == sample_manifest())) == Some((format, true))
+    );
 }
 
 // The first format has no place for another commit's checkpoint, nor for a range.
 fn has_no_first_format(rt: &impl Abort) {
-    let slot = second_slot();
+    let slot = sample_manifest();
     assert!(rt; write_manifest_slot(&slot, Format::First).is_none());
     let newest = write_newest_slot(&slot);
     assert!(rt; write_manifest_slot(&slot, Format::Third) == Some(newest));

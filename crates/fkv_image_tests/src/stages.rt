@@ -1,21 +1,50 @@
 //! The stages of recovery, each alone.
+ghost use Rattle.std.specs.Prelude.{◌≡◌};
+
 use crate::images::{BLOCK, FULL, LOGGED, LOST, NEW, image, second_commit};
-use crate::slots::second_slot;
-use fkv_base::{Addr, Fault, Shape};
+use arrayvec::ArrayVec;
+use fkv_base::{Addr, Fault, Serial, Shape, Version};
 use fkv_chains::check_chains;
 use fkv_disk::{Device, MemDisk};
 use fkv_newest::{Newest, read_newest};
-use fkv_record::Format;
+use fkv_record::{Format, LostRange, LostRanges, ManifestSlot, Points};
 use fkv_room::check_room;
 use fkv_scan::{Scanned, read_triples, scan};
 use std::alloc::Global;
 use std::process::Abort;
 use std::test::Fail;
 
+// The slot of commit 2.
+fn slot() -> ManifestSlot
+    ensures number { result.number ≡ 2 }
+    ensures first { result.first.0 ≡ 3 }
+    ensures end { result.end.0 ≡ 6 }
+    ensures area { result.area ≡ 1 }
+    ensures triples { result.triples ≡ 1 }
+{
+    let mut serials = ArrayVec::new();
+    serials.push(Serial(3));
+    let mut ranges = ArrayVec::new();
+    ranges.push(LostRange {
+        to: Addr(5),
+        version: Version(2),
+    });
+    ManifestSlot {
+        number: 2,
+        first: Addr(3),
+        end: Addr(6),
+        triples: 1,
+        area: 1,
+        points: Points { serials },
+        checkpoint: 1,
+        lost: LostRanges { ranges },
+    }
+}
+
 // The stages behind the slot: its checkpoint, the scan, the chains and the room.
 fn stages<D: Device>(alloc: Global, d: &mut D) -> Result<Scanned, Fault> {
     let shape = Shape::new(4, 16, 4, 2, 1, 0, 64)?;
-    let slot = second_slot();
+    let slot = slot();
     let triples = read_triples(alloc, d, shape, &slot)?;
     let scanned = scan(alloc, d, shape, &slot, &triples)?;
     check_chains(d, shape, &slot, &triples, &scanned)?;
@@ -71,7 +100,7 @@ fn is_told(rt: &impl Abort, newest: &Newest, index: u64, number: u64, other: u64
 fn is_of(rt: &impl Abort, newest: &Newest, format: Format) {
     assert!(rt; newest.shape.disk_pages == 64);
     assert!(rt; newest.format == format);
-    assert!(rt; newest.index == 1 || newest.slot == second_slot());
+    assert!(rt; newest.index == 1 || newest.slot == slot());
 }
 
 fn tells(

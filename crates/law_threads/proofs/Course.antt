@@ -18,8 +18,9 @@ use Rattle.fkv_world.specs.World as world
 use Rattle.law_world.specs.Runs.Added.{begun_by, call_answered, call_begun, ended_by, told_at, told_by}
 use Rattle.law_world.proofs.OfRuns.Added.{trace_so}
 use Rattle.law_refine.proofs.OfCalls.Telling.{AreOfKeeper, alive_told, is_of_keeper}
-use Rattle.law_order.proofs.OfReads.LifeNumbers.{AreOthers, begins_other, begins_trace, goes_other, keepers_other}
-use Rattle.law_order.proofs.OfReads.Numbers.{is_other}
+use Rattle.law_refine.proofs.OfCalls.Called.{is_other}
+use Rattle.law_refine.proofs.OfCalls.Life.{AreOthers, keepers_other}
+use Rattle.law_order.proofs.OfReads.LifeNumbers.{begins_other, begins_trace, goes_other}
 use Rattle.law_order.proofs.OfReads.Turns.{Goes, Turn, Rests, BeginsOne, GoesOne, moved_to, turn_of}
 use Rattle.fkv_table.specs.Calls.{OnlyMoves}
 use Rattle.fkv_table.specs.declared.happenings.Happening.{Happening}

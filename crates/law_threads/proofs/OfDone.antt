@@ -29,7 +29,7 @@ use Rattle.law_refine.proofs.OfCalls.Called.{ledger_of, other_told}
 use Rattle.law_refine.proofs.OfCalls.InHand.{WasOpened, was_opened}
 use Rattle.law_refine.proofs.OfCalls.Life.{idle_calm, life_stood, next_at, told_so}
 use Rattle.law_order.specs.Rules.Ordered.{OrdersItsCalls}
-use Rattle.law_order.proofs.OfReads.Numbers.{is_other}
+use Rattle.law_refine.proofs.OfCalls.Called.{is_other}
 use Rattle.fkv_table.specs.declared.happenings.Happening.{Happening}
 use Rattle.fkv_table.proofs.Lives.{led_run}
 use Rattle.law_threads.specs.Calls.{CallRun, HasRun, IsOver, events_of}

@@ -26,7 +26,7 @@ use Rattle.law_opening.specs.Lives.Reaching.{ReachesFar}
 use Rattle.law_order.specs.OneHistory.EachLife.{InEachLife, IsLife}
 use Rattle.law_order.specs.Prefix.Durable.{ToldNeverFalls}
 use Rattle.law_order.specs.Prefix.Law.{HoldsPrefix, IsKeptOf, PrefixLaw, RecoversPrefix, TellsDurable, calls_so_far, past_so_far, trace_so_far}
-use Rattle.law_order.proofs.OfReads.Numbers.{is_other}
+use Rattle.law_refine.proofs.OfCalls.Called.{is_other}
 use Rattle.law_refine.proofs.OfCalls.InHand.{WasOpened, was_opened}
 use Rattle.fkv_table.specs.declared.happenings.Happening.{Happening}
 use Rattle.fkv_table.specs.Events.{event_of}

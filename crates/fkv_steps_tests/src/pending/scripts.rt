@@ -264,21 +264,18 @@ const READ_ON: &[Step<'static>] = &[
     },
 ];
 
-/// The read takes its mail, and there is no value in it.
-const TAKES_ABSENT: &[Ask<TryAnswer>] = &[
-    Ask::Load(STATE),
-    Ask::Load(HEADER_WORD),
-    Ask::Load(KEY_WORD),
-    Ask::Load(VALUE_WORD),
-    Ask::Store(STATE, 0),
-    Ask::Done(TryAnswer::Absent),
-];
-
 /// The key has no value.
 const READ_ABSENT: &[Step<'static>] = &[Step {
     words: SERVED_ABSENT,
     occasion: Occasion::Poll,
-    asks: TAKES_ABSENT,
+    asks: &[
+        Ask::Load(STATE),
+        Ask::Load(HEADER_WORD),
+        Ask::Load(KEY_WORD),
+        Ask::Load(VALUE_WORD),
+        Ask::Store(STATE, 0),
+        Ask::Done(TryAnswer::Absent),
+    ],
     left: None,
     is_orphaned: false,
 }];
@@ -287,7 +284,14 @@ const READ_ABSENT: &[Step<'static>] = &[Step {
 const READ_NONE: &[Step<'static>] = &[Step {
     words: SERVED_NONE,
     occasion: Occasion::Poll,
-    asks: TAKES_ABSENT,
+    asks: &[
+        Ask::Load(STATE),
+        Ask::Load(HEADER_WORD),
+        Ask::Load(KEY_WORD),
+        Ask::Load(VALUE_WORD),
+        Ask::Store(STATE, 0),
+        Ask::Done(TryAnswer::Absent),
+    ],
     left: None,
     is_orphaned: false,
 }];
