@@ -27,7 +27,8 @@ use Rattle.fkv_world.specs.Runs.{run}
 use Rattle.fkv_world.specs.World.{Calls, Event, Moves, Now}
 use Rattle.law_log.specs.Trace.{CallsRead, IsIn}
 use Rattle.law_order.specs.Rules.Ordered.{lines_so_far}
-use Rattle.law_order.proofs.OfReads.Numbers.{called_hand, is_other, other_waiting, same_number}
+use Rattle.law_order.proofs.OfReads.Numbers.{called_hand, other_waiting, same_number}
+use Rattle.law_refine.proofs.OfCalls.Called.{is_other}
 use Rattle.law_refine.specs.Events.GhostEvents.{serials_in}
 use Rattle.law_refine.specs.Events.Lines.{gives_ticket, last_call, lines_of, read_in_hand, read_waiting}
 use Rattle.law_program.specs.PlayedCalls.PlayedCalls.{called_alone}
