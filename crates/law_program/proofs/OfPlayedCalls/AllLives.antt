@@ -203,11 +203,11 @@ module _ {D : Type 0} (seen : D → List ℕ) (medium : Medium D) (settings : Se
 
   -- ---- a group
   group_gone : (its : Life) (before after : PlayerState D) (queues left : List QueueState) (struck : Bool) (text : List ℕ) → Shows seen medium.may_leave its before → QueuesFit queues
-      → IsGroup medium.engine (record { player = before; queues = queues }) (record { player = after; queues = left }) struck text → HasGoneOn seen medium.may_leave its.bytes its.opened its.world after left
+      → IsGroup medium.engine (record { player = before; queues = queues }) (record { player = after; queues = left }) struck text → HasGoneOn seen medium.may_leave its.bytes its.opened its.world its.events after left
   group_gone its before after queues left struck text shown fit group = laws.groups its.bytes its.opened its.world its.events before after queues left struck text shown fit group
 
   module _ (calls : List ActorCall) (before : RunInLives D) (behind : RunState D) (over : Bool) (text : List ℕ) (were : AreNow before) (fit : AreFitting calls) (played : IsGroupPlayed medium settings calls before.run behind over text) where
-    gone : HasGoneOn seen medium.may_leave before.its.bytes before.its.opened before.its.world played.leg.player played.left
+    gone : HasGoneOn seen medium.may_leave before.its.bytes before.its.opened before.its.world before.its.events played.leg.player played.left
     gone = group_gone before.its before.run.player played.leg.player played.queues played.left played.leg.struck played.leg.said were.shown (laws.queues calls played.queues fit played.are_queues) played.leg.part
 
     -- where no crash strikes its rest is played in the life in hand
@@ -276,7 +276,7 @@ module _ {D : Type 0} (seen : D → List ℕ) (medium : Medium D) (settings : Se
       same : RunState D
       same = record { player = leg.player; agrees = before.run.agrees }
 
-      gone_on : HasGoneOn seen medium.may_leave before.its.bytes before.its.opened before.its.world leg.player []
+      gone_on : HasGoneOn seen medium.may_leave before.its.bytes before.its.opened before.its.world before.its.events leg.player []
       gone_on = laws.finishes before.its.bytes before.its.opened before.its.world before.its.events before.run.player leg.player leg.part.0 leg.said were.shown leg.part.1
 
       by_struck : (c : Bool) → leg.struck ≡ c → PieceOn Finish before behind over text

@@ -1,5 +1,5 @@
 -- Beat by beat, whoever makes it.
-use Rattle.std.proofs.Common.{◌≡◌, ℕ, zero, suc, List, [], ◌∷◌, ◌++◌, Bool, true, false, ap, cond, map, refl, replicate, sym, subst, take}
+use Rattle.std.proofs.Common.{◌≡◌, ◌∙◌, ℕ, zero, suc, List, [], ◌∷◌, ◌++◌, Bool, true, false, ap, append_assoc, cond, map, refl, replicate, sym, subst, take}
 use Rattle.std.specs.Prelude.{Option, Some, None, filter, slice_get, slice_set}
 use Rattle.fkv_core.specs.Openings.{beginning}
 use Rattle.fkv_core.specs.Worlds.{WorldModel}
@@ -125,30 +125,45 @@ module _ {D : Type 0} (seen : D → List ℕ) (may_leave : D → List ℕ → Ty
   abbrev Shown : List Event → PlayerState D → Type 0
   Shown life player = IsLifeShown seen may_leave bytes o first life player
 
-  record IsOn (player : PlayerState D) : Type 0 where
+  record IsOn (life : List Event) (player : PlayerState D) : Type 0 where
     later : List Event
+    since : List Event
+    grown : later ≡ since ++ life
     shown : Shown later player
 
-  beat_on : (telling : Telling) (life : List Event) (call : ActorCall) (at : Stage) (before after : PlayerState D) (outcome : Outcome) (text : List ℕ) → Shown life before → ItsNumbersFit call → IsBeat engine telling call at before after outcome text → IsOn after
+  still_on : (life : List Event) (player : PlayerState D) → Shown life player → IsOn life player
+  still_on life player shown = record { later = life; since = []; grown = refl; shown = shown }
+
+  joined : (life : List Event) (between after : PlayerState D) → (one : IsOn life between) → IsOn one.later after → IsOn life after
+  joined life between after one other = record {
+    later = other.later;
+    since = other.since ++ one.since;
+    grown = other.grown ∙ (ap (λ (x : List Event). other.since ++ x) one.grown ∙ sym (append_assoc other.since one.since life));
+    shown = other.shown;
+  }
+
+  beat_on : (telling : Telling) (life : List Event) (call : ActorCall) (at : Stage) (before after : PlayerState D) (outcome : Outcome) (text : List ℕ) → Shown life before → ItsNumbersFit call → IsBeat engine telling call at before after outcome text → IsOn life after
   beat_on telling life call at before after outcome text was fit beat =
       let led : IsLedTo seen may_leave call (beginning first bytes) at life after.world =
       one_on seen may_leave engine leads telling call (beginning first bytes) (world_opens o first bytes was.opening) at life before after outcome text (record { shows = was.shows; device = was.device }) beat in
       let shows = led.shows in
       record {
         later = led.event ∷ life;
+        since = led.event ∷ [];
+        grown = refl;
         shown = record { store = was.store; opening = was.opening; fits = (event_fits at call led.event fit led.is_at, was.fits); shows = shows.shows; device = shows.device };
       }
 
   beat_of_on : (life : List Event) (call : ActorCall) (at : Stage) (before after : PlayerState D) (outcome : Outcome) (text : List ℕ) (missing : Option ℕ) → Shown life before → ItsNumbersFit call
-      → IsBeatOf engine call at before after outcome text missing → IsOn after
-  beat_of_on life call at before after outcome text (Some number) was fit refused = record { later = life; shown = subst (Shown life) (sym refused.0) was }
+      → IsBeatOf engine call at before after outcome text missing → IsOn life after
+  beat_of_on life call at before after outcome text (Some number) was fit refused = still_on life after (subst (Shown life) (sym refused.0) was)
   beat_of_on life call at before after outcome text None was fit beat = beat_on Whole life call at before after outcome text was fit beat
 
-  record GoneOn (state : GroupState D) : Type 0 where
-    on : IsOn state.player
+  record GoneOn (life : List Event) (state : GroupState D) : Type 0 where
+    on : IsOn life state.player
     fit : QueuesFit state.queues
 
-  pick_on : (life : List Event) (at : ℕ) (before after : GroupState D) (struck : Bool) (text : List ℕ) → Shown life before.player → QueuesFit before.queues → IsPick engine at before after struck text → GoneOn after
+  pick_on : (life : List Event) (at : ℕ) (before after : GroupState D) (struck : Bool) (text : List ℕ) → Shown life before.player → QueuesFit before.queues → IsPick engine at before after struck text → GoneOn life after
   pick_on life at before after struck text was fit pick =
       let its = queue_at before.queues at pick.queue fit pick.stands in
       record {
@@ -158,32 +173,34 @@ module _ {D : Type 0} (seen : D → List ℕ) (may_leave : D → List ℕ → Ty
             (queues_set before.queues at (queue_behind pick.outcome (held pick.queue)) fit (behind_fits pick.outcome (held pick.queue) (held_fits pick.queue.rank pick.queue.hand pick.queue.left its.0 its.1)));
       }
 
-  picks_on : (picks : List ℕ) (life : List Event) (before after : GroupState D) (struck : Bool) (text : List ℕ) → Shown life before.player → QueuesFit before.queues → InTurn (IsPick engine) false picks before after struck text → GoneOn after
-  picks_on [] life before after struck text was fit played = record { on = record { later = life; shown = subst (λ (x : GroupState D). Shown life x.player) (sym played.0) was }; fit = subst (λ (x : GroupState D). QueuesFit x.queues) (sym played.0) fit }
+  picks_on : (picks : List ℕ) (life : List Event) (before after : GroupState D) (struck : Bool) (text : List ℕ) → Shown life before.player → QueuesFit before.queues → InTurn (IsPick engine) false picks before after struck text → GoneOn life after
+  picks_on [] life before after struck text was fit played = record { on = still_on life after.player (subst (λ (x : GroupState D). Shown life x.player) (sym played.0) was); fit = subst (λ (x : GroupState D). QueuesFit x.queues) (sym played.0) fit }
   picks_on (at ∷ []) life before after struck text was fit played = pick_on life at before after struck text was fit played
   picks_on (at ∷ next ∷ later) life before after struck text was fit played =
-      let one : GoneOn played.0 = pick_on life at before played.0 false played.1 was fit played.3 in
+      let one : GoneOn life played.0 = pick_on life at before played.0 false played.1 was fit played.3 in
       let on = one.on in
-      picks_on (next ∷ later) on.later played.0 after struck played.2 on.shown one.fit played.4
+      let rest : GoneOn on.later after = picks_on (next ∷ later) on.later played.0 after struck played.2 on.shown one.fit played.4 in
+      let between = played.0 in
+      record { on = joined life between.player after.player on rest.on; fit = rest.fit }
 
   -- ---- a finish
   beats_gone : (telling : Telling) (count : ℕ) (life : List Event) (call : ActorCall) (at : Stage) (before after : PlayerState D) (outcome : Outcome) (text : List ℕ) → Shown life before → ItsNumbersFit call
-      → InTurn (IsBeat engine telling call) GoesOn (at ∷ replicate count stage.Moves) before after outcome text → IsOn after
+      → InTurn (IsBeat engine telling call) GoesOn (at ∷ replicate count stage.Moves) before after outcome text → IsOn life after
   beats_gone telling zero life call at before after outcome text was fit beat = beat_on telling life call at before after outcome text was fit beat
   beats_gone telling (suc count) life call at before after outcome text was fit beats =
-      let one : IsOn beats.0 = beat_on telling life call at before beats.0 GoesOn beats.1 was fit beats.3 in
-      beats_gone telling count one.later call stage.Moves beats.0 after outcome beats.2 one.shown fit beats.4
+      let one : IsOn life beats.0 = beat_on telling life call at before beats.0 GoesOn beats.1 was fit beats.3 in
+      joined life beats.0 after one (beats_gone telling count one.later call stage.Moves beats.0 after outcome beats.2 one.shown fit beats.4)
 
-  calls_gone : (calls : List ActorCall) (life : List Event) (before after : PlayerState D) (outcome : Outcome) (text : List ℕ) → Shown life before → AreFitting calls → InTurn (IsPlayedAlone engine Finished) Answered calls before after outcome text → IsOn after
-  calls_gone [] life before after outcome text was fit played = record { later = life; shown = subst (Shown life) (sym played.0) was }
+  calls_gone : (calls : List ActorCall) (life : List Event) (before after : PlayerState D) (outcome : Outcome) (text : List ℕ) → Shown life before → AreFitting calls → InTurn (IsPlayedAlone engine Finished) Answered calls before after outcome text → IsOn life after
+  calls_gone [] life before after outcome text was fit played = still_on life after (subst (Shown life) (sym played.0) was)
   calls_gone (call ∷ []) life before after outcome text was fit played = beats_gone Finished played.moves life call stage.Begins before after outcome text was fit.0 played.beats
   calls_gone (call ∷ next ∷ later) life before after outcome text was fit played =
       let first_one = played.3 in
-      let one : IsOn played.0 = beats_gone Finished first_one.moves life call stage.Begins before played.0 Answered played.1 was fit.0 first_one.beats in
-      calls_gone (next ∷ later) one.later played.0 after outcome played.2 one.shown fit.1 played.4
+      let one : IsOn life played.0 = beats_gone Finished first_one.moves life call stage.Begins before played.0 Answered played.1 was fit.0 first_one.beats in
+      joined life played.0 after one (calls_gone (next ∷ later) one.later played.0 after outcome played.2 one.shown fit.1 played.4)
 
-  finish_gone : (its : Phase) (life : List Event) (before after : PlayerState D) (outcome : Outcome) (text : List ℕ) → Shown life before → IsFinishIn engine its before after outcome text → IsOn after
-  finish_gone phase.Rest life before after outcome text was finish = record { later = life; shown = subst (Shown life) (sym finish.0) was }
+  finish_gone : (its : Phase) (life : List Event) (before after : PlayerState D) (outcome : Outcome) (text : List ℕ) → Shown life before → IsFinishIn engine its before after outcome text → IsOn life after
+  finish_gone phase.Rest life before after outcome text was finish = still_on life after (subst (Shown life) (sym finish.0) was)
   finish_gone other life before after outcome text was finish =
       calls_gone (take finish.count (rounds most_rounds (round_of before.seats))) life before after outcome finish.said was
       (take_fits finish.count (rounds most_rounds (round_of before.seats)) (rounds_fit most_rounds (round_of before.seats) (round_fits before.seats))) finish.calls
@@ -191,13 +208,13 @@ module _ {D : Type 0} (seen : D → List ℕ) (may_leave : D → List ℕ → Ty
 pub finishes_go_on : {D : Type 0} (seen : D → List ℕ) (may_leave : D → List ℕ → Type 0) (engine : events.Event → WorldModel D → WorldModel D → Option tells.Told → Bool → Type 0) → LeadsLives seen may_leave engine → FinishesGoOn seen may_leave engine
 finishes_go_on seen may_leave engine leads bytes o first life before after outcome text was finish =
     let on = finish_gone seen may_leave engine leads bytes o first (phase_shown before.world.now).0 life before after outcome text was finish in
-    record { later = on.later; shown = on.shown; fit = tt }
+    record { later = on.later; since = on.since; grown = on.grown; shown = on.shown; fit = tt }
 
 pub groups_go_on : {D : Type 0} (seen : D → List ℕ) (may_leave : D → List ℕ → Type 0) (engine : events.Event → WorldModel D → WorldModel D → Option tells.Told → Bool → Type 0) → LeadsLives seen may_leave engine → GroupsGoOn seen may_leave engine
 groups_go_on seen may_leave engine leads bytes o first life before after queues left struck text was fit group =
     let gone = picks_on seen may_leave engine leads bytes o first group.picks life (record { player = before; queues = queues }) (record { player = after; queues = group.last }) struck text was fit group.played in
     let on = gone.on in
-    record { later = on.later; shown = on.shown; fit = subst QueuesFit (sym group.queues) (queues_left struck group.last gone.fit) }
+    record { later = on.later; since = on.since; grown = on.grown; shown = on.shown; fit = subst QueuesFit (sym group.queues) (queues_left struck group.last gone.fit) }
 
 pub quiet_shown : {D : Type 0} (seen : D → List ℕ) (may_leave : D → List ℕ → Type 0) → QuietLivesAreShown seen may_leave
 quiet_shown seen may_leave bytes o first life player over =

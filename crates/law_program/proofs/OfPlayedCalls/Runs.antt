@@ -72,8 +72,8 @@ module _ {D : Type 0} (seen : D → List ℕ) (may_leave : D → List ℕ → Ty
   still_shown : (its : LifeInHand) (player : PlayerState D) → IsShown seen may_leave its player → ShowsStruck its its.events player
   still_shown its player shown = (quiet its.bytes its.opened its.first its.events player shown).0
 
-  crash_seen : (its : LifeInHand) (events : List Event) (before after : RunState D) (over : Bool) (text : List ℕ) → ShowsStruck its events before.player → IsCrashed medium settings before after over text → IsCrashSeen its after.player over text
-  crash_seen its events before after over text shown crashed = by_over over refl
+  crash_seen : (its : LifeInHand) (events since : List Event) (before after : RunState D) (over : Bool) (text : List ℕ) → events ≡ since ++ its.events → ShowsStruck its events before.player → IsCrashed medium settings before after over text → IsCrashSeen its after.player over text
+  crash_seen its events since before after over text grown shown crashed = by_over over refl
     where
       left : may_leave before.player.world.device (medium.image before.player.world.device settings.torn)
       left = leaves before.player.world.device (medium.image before.player.world.device settings.torn) crashed.left
@@ -81,14 +81,14 @@ module _ {D : Type 0} (seen : D → List ℕ) (may_leave : D → List ℕ → Ty
       by_over : (c : Bool) → over ≡ c → IsCrashSeen its after.player over text
       by_over true e = record {
         next = its;
-        crash = record { struck = before.player; events = events; shown = shown; left = left; goes_on = λ goes. both_ways over goes e; ends = λ stops. crashed.refusal stops };
+        crash = record { struck = before.player; events = events; since = since; grown = grown; shown = shown; left = left; goes_on = λ goes. both_ways over goes e; ends = λ stops. crashed.refusal stops };
       }
       by_over false e =
           let crash = crashed.crash e in
           let report = crashes (medium.image before.player.world.device settings.torn) settings.checks crash.0 before.player after.player text crash.1 in
           record {
             next = record { bytes = medium.image before.player.world.device settings.torn; opened = report.opened; first = after.player.world.now; events = [] };
-            crash = record { struck = before.player; events = events; shown = shown; left = left; goes_on = λ goes. (crash.0, report, refl); ends = λ stops. both_ways over e stops };
+            crash = record { struck = before.player; events = events; since = since; grown = grown; shown = shown; left = left; goes_on = λ goes. (crash.0, report, refl); ends = λ stops. both_ways over e stops };
           }
 
   -- ---- a group of one call
@@ -131,7 +131,7 @@ module _ {D : Type 0} (seen : D → List ℕ) (may_leave : D → List ℕ → Ty
       crashed = subst (λ (x : Bool). IsCrashedWhere x medium settings (record before { player = played.leg.player }) played.between over played.leg.reported) struck played.leg.crashed
 
       -- the life goes on to the crash
-      gone : HasGoneOn seen may_leave its.bytes its.opened its.first played.leg.player played.left
+      gone : HasGoneOn seen may_leave its.bytes its.opened its.first its.events played.leg.player played.left
       gone =
           groups its.bytes its.opened its.first its.events before.player played.leg.player played.queues played.left true played.leg.said (still_shown its before.player shown)
           (fitting items played.queues (subst AreFitting (sym is) (fit, tt)) played.are_queues) part
@@ -146,6 +146,8 @@ module _ {D : Type 0} (seen : D → List ℕ) (may_leave : D → List ℕ → Ty
         crash = record {
           struck = played.leg.player;
           events = gone.later;
+          since = gone.since;
+          grown = gone.grown;
           shown = gone.shown;
           left = leaves played.leg.player.world.device (medium.image played.leg.player.world.device settings.torn) crashed.left;
           goes_on = λ goes. both_ways over goes e;
@@ -155,7 +157,7 @@ module _ {D : Type 0} (seen : D → List ℕ) (may_leave : D → List ℕ → Ty
       by_over false e =
           let behind = played.goes_on e in
           let stays = none_played medium.engine behind.1.picks (record { player = played.between.player; queues = played.left }) (record { player = after.player; queues = behind.1.last }) played.rest nobody behind.1.played in
-          let there = crash_seen its gone.later (record before { player = played.leg.player }) played.between over played.leg.reported gone.shown crashed in
+          let there = crash_seen its gone.later gone.since (record before { player = played.leg.player }) played.between over played.leg.reported gone.grown gone.shown crashed in
           record {
             next = there.next;
             crash =
@@ -190,7 +192,7 @@ module _ {D : Type 0} (seen : D → List ℕ) (may_leave : D → List ℕ → Ty
       let crashed = subst (λ (x : Bool). IsCrashedWhere x medium settings (record before { player = leg.player }) after over leg.reported) struck leg.crashed in
       let strikes : is_struck_by leg.part.0 ≡ true = sym (same_struck leg.part.0) ∙ (sym leg.part.2 ∙ struck) in
       let gone = finishes its.bytes its.opened its.first its.events before.player leg.player leg.part.0 leg.said (still_shown its before.player shown) leg.part.1 in
-      let there = crash_seen its gone.later (record before { player = leg.player }) after over leg.reported gone.shown crashed in
+      let there = crash_seen its gone.later gone.since (record before { player = leg.player }) after over leg.reported gone.grown gone.shown crashed in
       record {
         next = there.next;
         says =
@@ -227,7 +229,7 @@ module _ {D : Type 0} (seen : D → List ℕ) (may_leave : D → List ℕ → Ty
       by_struck false none = finish_unstruck its before after over text shown few leg none
       by_struck true struck = finish_struck its before after over text shown few leg struck
   piece_goes_on Crash its before after over text shown plain few crashed =
-      let there = crash_seen its its.events before after over text (still_shown its before.player shown) crashed in
+      let there = crash_seen its its.events [] before after over text refl (still_shown its before.player shown) crashed in
       record { next = there.next; says = inr (record { said = []; reported = text; up_to = refl; crash = there.crash; says = refl }) }
   piece_goes_on (CrashAt count) its before after over text shown plain few line = record {
     next = record { bytes = its.bytes; opened = its.opened; first = its.first; events = its.events };
@@ -245,7 +247,7 @@ module _ {D : Type 0} (seen : D → List ℕ) (may_leave : D → List ℕ → Ty
       let crash = ends.crash.goes_on refl in subst (λ (x : LifeInHand). IsShown seen may_leave x after.player) (sym crash.2) crash.1.begins
 
   due_reported : (its : LifeInHand) (last : RunState D) → IsShown seen may_leave its last.player → DueIsReported seen may_leave medium settings its last
-  due_reported its last shown after over text crashed = let there = crash_seen its its.events last after over text (still_shown its last.player shown) crashed in (there.next, there.crash)
+  due_reported its last shown after over text crashed = let there = crash_seen its its.events [] last after over text refl (still_shown its last.player shown) crashed in (there.next, there.crash)
 
   pub runs_go_on : RunsGoOn seen may_leave medium settings
   runs_go_on [] its before after over text shown plain played =

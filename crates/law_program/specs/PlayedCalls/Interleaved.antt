@@ -1,5 +1,5 @@
 -- A life goes on by whatever beats of calls, interleaved ones too.
-use Rattle.std.specs.Prelude.{◌≡◌, ⊤, ℕ, Bool, List, [], ◌∷◌, Option, Some, None}
+use Rattle.std.specs.Prelude.{◌≡◌, ⊤, ℕ, Bool, List, [], ◌∷◌, ◌++◌, Option, Some, None}
 use Rattle.fkv_core.specs.Openings.{IsOpeningWorld, beginning}
 use Rattle.fkv_core.specs.Worlds.{WorldModel}
 use Rattle.fkv_core.specs.declared.events.Event as events
@@ -46,9 +46,11 @@ abbrev pub QueuesFit : List QueueState → Type 0
 QueuesFit [] = ⊤
 QueuesFit (queue ∷ others) = (HandFits queue.hand × AreFitting queue.left) × QueuesFit others
 
--- The life has gone on, and shows the player behind the beats. The calls that are left fit as well.
-pub record HasGoneOn {D : Type 0} (seen : D → List ℕ) (may_leave : D → List ℕ → Type 0) (bytes : List ℕ) (o : Opened) (first : Now) (after : PlayerState D) (left : List QueueState) : Type 0 where
+-- The life has gone on from these events, and shows the player behind the beats. The calls that are left fit as well.
+pub record HasGoneOn {D : Type 0} (seen : D → List ℕ) (may_leave : D → List ℕ → Type 0) (bytes : List ℕ) (o : Opened) (first : Now) (life : List Event) (after : PlayerState D) (left : List QueueState) : Type 0 where
   pub later : List Event
+  pub since : List Event
+  pub grown : later ≡ since ++ life
   pub shown : IsLifeShown seen may_leave bytes o first later after
   pub fit : QueuesFit left
 
@@ -58,7 +60,7 @@ GroupsGoOn {D} seen may_leave engine =
     (bytes : List ℕ) (o : Opened) (first : Now) (life : List Event) (before after : PlayerState D) (queues left : List QueueState) (struck : Bool) (text : List ℕ)
     → IsLifeShown seen may_leave bytes o first life before → QueuesFit queues
     → IsGroup engine (record { player = before; queues = queues }) (record { player = after; queues = left }) struck text
-    → HasGoneOn seen may_leave bytes o first after left
+    → HasGoneOn seen may_leave bytes o first life after left
 
 -- the queues with which a group begins
 abbrev pub FittingCallsMakeQueues : Type 0
@@ -68,4 +70,4 @@ FittingCallsMakeQueues = (calls : List ActorCall) (queues : List QueueState) →
 abbrev pub FinishesGoOn : {D : Type 0} → (D → List ℕ) → (D → List ℕ → Type 0) → (events.Event → WorldModel D → WorldModel D → Option tells.Told → Bool → Type 0) → Type 0
 FinishesGoOn {D} seen may_leave engine =
     (bytes : List ℕ) (o : Opened) (first : Now) (life : List Event) (before after : PlayerState D) (outcome : Outcome) (text : List ℕ)
-    → IsLifeShown seen may_leave bytes o first life before → IsFinish engine before after outcome text → HasGoneOn seen may_leave bytes o first after []
+    → IsLifeShown seen may_leave bytes o first life before → IsFinish engine before after outcome text → HasGoneOn seen may_leave bytes o first life after []

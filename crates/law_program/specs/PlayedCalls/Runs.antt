@@ -73,11 +73,13 @@ module _ {D : Type 0} (seen : D → List ℕ) (may_leave : D → List ℕ → Ty
   SaysUpTo other its before text = text ≡ []
 
   module _ (medium : Medium D) (settings : Settings) where
-    -- The life in hand shows the player as the crash strikes, whatever call is in hand, and the image is one that a crash may leave of its device. The report is
-    -- of the store that the image holds, and the next life begins with it; or the run ends with a refusal.
+    -- The life in hand has gone on to the crash, and shows the player as that strikes, whatever call is in hand. The image is one that a crash may leave of its
+    -- device. The report is of the store that the image holds, and the next life begins with it; or the run ends with a refusal.
     pub record IsReported (its next : LifeInHand) (after : PlayerState D) (over : Bool) (text : List ℕ) : Type 0 where
       pub struck : PlayerState D
       pub events : List Event
+      pub since : List Event
+      pub grown : events ≡ since ++ its.events
       pub shown : IsLifeShown seen may_leave its.bytes its.opened its.first events struck
       pub left : may_leave struck.world.device (medium.image struck.world.device settings.torn)
       pub goes_on : over ≡ false → (agrees : Bool) × (report : IsNextLife seen may_leave medium.holds (medium.image struck.world.device settings.torn) settings.checks agrees after text)
