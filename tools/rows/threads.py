@@ -1,7 +1,8 @@
 """Scripts whose sessions and keeper run on threads. What they write is the same for every schedule."""
 from rows import STORE, Row, whole
 
-SMALL, THREE, TIGHT = "shape 4 16 4 2 2 0 64", "shape 1 4 2 1 3 6 256", "shape 0 4 2 1 1 6 256"
+ONE, SMALL = "shape 4 16 4 2 1 0 64", "shape 4 16 4 2 2 0 64"
+THREE, TIGHT = "shape 1 4 2 1 3 6 256", "shape 0 4 2 1 1 6 256"
 
 
 def agree(number, keys):
@@ -31,6 +32,8 @@ def full():
 
 RUNS = [
     ("a sum of two sessions", [SMALL, *["0 add 1 1"] * 3, *["1 add 1 2"] * 2, "k commit", "k finish"], agree(1, 1)),
+    ("one session, which reads what it wrote", [ONE, "0 up 1 10", "0 get 1", "k commit", "k finish"], agree(1, 1)),
+    ("a sum that begins anew behind a delete", [ONE, *["0 add 5 7"] * 2, "0 del 5", "0 get 5", "0 add 5 1", "k commit", "k finish"], agree(1, 1)),
     ("no commit keeps nothing", [SMALL, "0 add 1 1", "1 up 2 5"], agree(0, 2)),
     ("three sessions, and commits of both kinds", [THREE, *mixed()], agree(4, 34)),
     ("more pending requests than fit", [TIGHT, *full()], agree(1, 7)),
