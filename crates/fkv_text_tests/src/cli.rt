@@ -9,7 +9,7 @@ const ANSWERS: &str =
     "0 #1 done\nk commit 1\nk finished 1 points 1 0\n1 #1 = 11\ncrash commit 1 points 1 0 pairs 1\npair 7 10\ncheck recovered equals replay\n";
 
 const UNREAD: &str =
-    "fkv: a word is no UTF-8 text; the words are --seed N, --check, --torn B and --file PATH\n";
+    "fkv: a word is no UTF-8 text; the words are --seed N, --threads, --check, --torn B and --file PATH, and the first two don't go together\n";
 
 // Words of which one is no text.
 fn compare_unread(rt: &impl Abort, alloc: Global) {

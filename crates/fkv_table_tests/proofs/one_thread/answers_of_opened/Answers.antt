@@ -8,5 +8,7 @@ pub call_in_turn-requires : goal.call_in_turn-requires
 call_in_turn-requires g c =
     let made = c.in_ok-table.ensures in
     let last = popped c.in_ok-table.field-0.sessions.items c.pop.new.self.items c.pop.result (c.in-Some.session, c.in-Some.pass) c.pop.ensures.items c.in-Some.is in
-    record { ready = (made.sessions (length c.pop.new.self.items) (c.in-Some.session, c.in-Some.pass)
-        (ap (λ l. slice_get l (length c.pop.new.self.items)) last ∙ last_there c.pop.new.self.items (c.in-Some.session, c.in-Some.pass))).ready }
+    record {
+      ready = (made.sessions (length c.pop.new.self.items) (c.in-Some.session, c.in-Some.pass)
+          (ap (λ l. slice_get l (length c.pop.new.self.items)) last ∙ last_there c.pop.new.self.items (c.in-Some.session, c.in-Some.pass))).ready;
+    }
