@@ -6,7 +6,7 @@
 # make rows    runs the built program on whole scripts, and compares what it writes
 # make memory  runs stored scripts, a store's creation and its opening, a commit's copy and the options' words, with each request for memory refused in turn
 # make large   plays scripts of 2^20 keys over a large store, in a file and in memory, and compares with a plain map
-# make bench   times the proved program on scripts of up to 65,536 lines, and recovery of images of up to 1,000,000 records
+# make bench   times the proved program on scripts of up to 65,536 lines, and recovery of images of up to 2^20 records
 # make hammer  runs lives of stores that four threads share, each ended by a crash, for a minute or SECONDS
 # make gate    runs the gate, and writes the processor time of each crate into docs/GATE.md
 # make audit   tries the wrong bodies that the gate leaves out, those of crates/*/audit, or of the crates in CRATES

@@ -1,4 +1,5 @@
 mod AllLives
+mod FewCalls
 mod FileReplies
 mod Lives
 mod Replies

@@ -27,6 +27,7 @@ use Rattle.law_program.specs.PlayedCalls.EachLine.{ItsNumbersFit}
 use Rattle.law_program.specs.PlayedCalls.Lives.{LivesBegin}
 use Rattle.law_program.specs.PlayedCalls.Runs.{ArePlain, IsPlain, RunsGoOn}
 use Rattle.fkv.specs.Lives.{IsRefusedRun, IsRunInLives, PrintsInLives, first_life}
+use Rattle.fkv.proofs.FewCalls.{AreFewLines, few_lines, few_pieces, few_seats}
 use Rattle.fkv.proofs.Replies.{none_kept}
 use Rattle.fkv.proofs.ScriptFits.{one_fits}
 
@@ -64,7 +65,7 @@ plain_taken (suc count) (piece ∷ later) plain = (plain.0, plain_taken count la
 
 -- ---- its run
 module _ {M F : Type 0} (devices : Devices M F) (seen : M → List ℕ) (may_leave : M → List ℕ → Type 0) (begin : LivesBegin seen may_leave devices.memory.holds) (runs : (settings : Settings) → RunsGoOn seen may_leave devices.memory settings)
-    (options : Options) (sizes : Sizes) (lines : List Line) (words : All IsLineOfWords lines) (status : ℕ) (ends : status ≢ 4) (text : List ℕ) where
+    (options : Options) (sizes : Sizes) (lines : List Line) (words : All IsLineOfWords lines) (short : AreFewLines lines) (status : ℕ) (ends : status ≢ 4) (text : List ℕ) where
   abbrev Lived : Type 0
   Lived = IsRefusedRun text ⊎ ((settings : Settings) × IsRunInLives seen may_leave devices.memory settings lines status text)
 
@@ -83,7 +84,8 @@ module _ {M F : Type 0} (devices : Devices M F) (seen : M → List ℕ) (may_lea
             player = its.player;
             shown = shown;
             run = run;
-            in_lives = runs (settings_of options) (take run.count pieces) (first_life its.image its.opened its.player.world.now) (record { player = its.player; agrees = true }) run.last run.refused run.said shown plain run.played;
+            in_lives = runs (settings_of options) (take run.count pieces) (first_life its.image its.opened its.player.world.now) (record { player = its.player; agrees = true }) run.last run.refused run.said shown plain
+                (few_seats its.opened its.device [] options.check its.player its.begins) (few_pieces false lines pieces run.count short are) run.played;
           }
       by_end (inr off) = absurd (ends off.0)
 
@@ -110,7 +112,8 @@ prints_in_lives : {M F : Type 0} (devices : Devices M F) (seen : M → List ℕ)
     → (words : List (List ℕ)) (known : Option (List ℕ)) (status : ℕ) (text : List ℕ) → status ≢ 4 → IsOutputOf devices words known status text → PrintsInLives seen may_leave devices.memory words known status text
 prints_in_lives devices seen may_leave begin runs words known status text ends (inl refused) plain bytes sizes lines is script = inl (inl refused.says)
 prints_in_lives devices seen may_leave begin runs words known status text ends (inr its) plain bytes sizes lines is script =
-    of_text devices seen may_leave begin runs its.options sizes lines (script_words mode.Memory (take script_limit bytes) (record { opening = Some (opening.Shape sizes); lines = lines }) script).lines status ends text bytes script
+    of_text devices seen may_leave begin runs its.options sizes lines (script_words mode.Memory (take script_limit bytes) (record { opening = Some (opening.Shape sizes); lines = lines }) script).lines
+    (few_lines mode.Memory (take script_limit bytes) (record { opening = Some (opening.Shape sizes); lines = lines }) script) status ends text bytes script
     (none_kept string_bytes its.options.file (its.asked.file ∙ plain.0)) (its.asked.seed ∙ plain.1)
     (subst (λ (x : Option (List ℕ)). IfSome x (λ (y : List ℕ). IsRunOfText devices its.options (script_of (mode_of (is_some its.options.file)) (take script_limit y)) status text)) is its.run)
 

@@ -64,7 +64,7 @@ lines_few mode number (one ∷ lines) all e = by_size (is_oversized number one) 
     by_size true big is few = no_err _ all is
     by_size false small is few = by_words (says_nothing one) (within number one small) is few
 
-script_few : (mode : Mode) (number : ℕ) (lines : List (List ℕ)) (script : ScriptText) → script_from mode number lines ≡ Ok script → length script.lines ≤ most_lines + 1
+pub script_few : (mode : Mode) (number : ℕ) (lines : List (List ℕ)) (script : ScriptText) → script_from mode number lines ≡ Ok script → length script.lines ≤ most_lines + 1
 unfolding script_from
 script_few mode number [] script e = let none = ap (λ (x : ScriptText). length x.lines) (ok_is _ script e) in omega (arith, none)
 script_few mode number (one ∷ lines) script e = by_size (is_oversized number one) e (script_few mode (number + 1) lines script)

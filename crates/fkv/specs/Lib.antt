@@ -1,3 +1,4 @@
 pub mod AllLives
 pub mod Lives
 pub mod Replies
+pub mod Said

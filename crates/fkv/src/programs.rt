@@ -1,27 +1,15 @@
 //! The program's run, with what the laws add to its contract.
 ghost use Rattle.std.specs.Prelude.{◌≡◌, ◌≢◌};
-ghost use Rattle.clap.specs.Walk.{texts};
-ghost use Rattle.fkv_playing.specs.InTurn.{Writes};
-ghost use Rattle.fkv_playing.specs.Players.{EngineStep};
-ghost use Rattle.fkv_runs.specs.Beginnings.{BreaksOff};
-ghost use Rattle.fkv_runs.specs.Openings.{Holds, medium_of};
-ghost use Rattle.fkv_cli.specs.Output.{IsOutputOf};
-ghost use Rattle.law_program.specs.PlayedCalls.CrashReports.{CrashesTakeWhatIsKept};
-ghost use Rattle.law_program.specs.PlayedCalls.EachLine.{EachLineGoesOn};
-ghost use Rattle.law_program.specs.PlayedCalls.Lives.{ArmingGoesOn, LivesGoOn};
-ghost use Rattle.fkv_runs.specs.declared.settings.Settings.{Settings};
-ghost use Rattle.law_program.specs.PlayedCalls.Runs.{RunsGoOn};
-ghost use Rattle.fkv.specs.AllLives.{ReportsOfAllLives};
-ghost use Rattle.fkv.specs.Lives.{PrintsInLives};
-ghost use Rattle.fkv.specs.Replies.{PrintsMapOfFileScript, PrintsMapOfScript, ReplyLineByLine};
+ghost use Rattle.fkv.specs.Said as said;
 
 use fkv_disk::{Device, FileDisk, Fuse, MemDisk};
 use fkv_files::Lockable;
 use fkv_playing::Breaks;
 use fkv_runs::Crashes;
 use law_program::{
-    law_all_lives, law_arming, law_arming_shown, law_crash_reports, law_each_life, law_each_line,
-    law_lives_joined, law_new_files, law_played_calls, law_played_scripts,
+    law_all_lives, law_arming, law_arming_noted, law_arming_shown, law_crash_reports,
+    law_each_life, law_each_line, law_lives_joined, law_new_files, law_played_calls,
+    law_played_scripts,
 };
 use std::alloc::Global;
 use std::io::{Read, Write};
@@ -33,12 +21,13 @@ use std::rt::Files;
 /// line of an operation is answered so in every other script without a seed, by the map of the history so far, in a life
 /// that shows the world (`lines`, `file_lines`). The life of a new store is such a one as it begins (`law_new_files`).
 /// In memory a life goes on by each line of a call too, by the keeper's and by each finish, and shows the device behind it (`each_line`).
-/// What a poll has finished is as the history says. Each life begins so, the first one and each behind a crash (`lives`). A line by which
+/// What a poll has finished is as the history says, and just the commits finish that turns tell as finished. Each life begins so, the first one and each behind a crash (`lives`). A line by which
 /// a call of the device is to fail, or a crash to strike, leaves it (`armed`). So the pieces of a script that are played in memory go on,
 /// each in the life in hand, or behind a crash in the next one (`runs`). A script for a new store in memory, of which no call is interleaved
 /// with another, has printed so (`in_lives`). The report of a crash is of the store that
 /// one current commit keeps of such a life, and no image of a crash is refused but by the device (`kept`). Take a script for a new store in memory, with a seed or without.
-/// Each of its crashes reports what its points keep of all lives before, if few calls begin in each life (`all_lives`).
+/// Each of its crashes reports what its points keep of all lives before. If the words ask for checks, each of these reports ends in the line that says that the
+/// recovered store equals the replay (`all_lives`). A script's lines are few, and so are the calls that begin in its lives.
 pub fn run<H: Files, R: Read + Drop, W: Write, E: Write>(
     rt: &H,
     alloc: Global,
@@ -49,19 +38,19 @@ pub fn run<H: Files, R: Read + Drop, W: Write, E: Write>(
 ) -> u8
 where
     H::File: Lockable,
-    ensures whole { result ≢ 4 → Writes (IsOutputOf (record { memory = medium_of ⟦<Fuse<MemDisk> as Device>⟧.honest ⟦<Fuse<MemDisk> as Device>⟧.seen ⟦<Fuse<MemDisk> as Device>⟧.may_leave ⟦<Fuse<MemDisk> as Device>⟧.failed ⟦<Fuse<MemDisk> as Device>⟧.refuses ⟦<Fuse<MemDisk> as Breaks>⟧.broken ⟦<Fuse<MemDisk> as Crashes>⟧.image ⟦<Fuse<MemDisk> as Crashes>⟧.armed; file = EngineStep ⟦<FileDisk<H::File> as Device>⟧.honest ⟦<FileDisk<H::File> as Device>⟧.seen ⟦<FileDisk<H::File> as Device>⟧.may_leave ⟦<FileDisk<H::File> as Device>⟧.failed ⟦<FileDisk<H::File> as Device>⟧.refuses ⟦<FileDisk<H::File> as Breaks>⟧.broken }) (texts words.now) (R.remaining input) result) (W.contents output.old) (W.contents output.new) }
-    ensures part { result ≡ 4 → BreaksOff (IsOutputOf (record { memory = medium_of ⟦<Fuse<MemDisk> as Device>⟧.honest ⟦<Fuse<MemDisk> as Device>⟧.seen ⟦<Fuse<MemDisk> as Device>⟧.may_leave ⟦<Fuse<MemDisk> as Device>⟧.failed ⟦<Fuse<MemDisk> as Device>⟧.refuses ⟦<Fuse<MemDisk> as Breaks>⟧.broken ⟦<Fuse<MemDisk> as Crashes>⟧.image ⟦<Fuse<MemDisk> as Crashes>⟧.armed; file = EngineStep ⟦<FileDisk<H::File> as Device>⟧.honest ⟦<FileDisk<H::File> as Device>⟧.seen ⟦<FileDisk<H::File> as Device>⟧.may_leave ⟦<FileDisk<H::File> as Device>⟧.failed ⟦<FileDisk<H::File> as Device>⟧.refuses ⟦<FileDisk<H::File> as Breaks>⟧.broken }) (texts words.now) (R.remaining input) 4) (W.contents output.old) (W.contents output.new) }
-    ensures replies { result ≡ 0 → Writes (PrintsMapOfScript (texts words.now) (R.remaining input)) (W.contents output.old) (W.contents output.new) }
-    ensures file_replies { result ≡ 0 → Writes (PrintsMapOfFileScript (texts words.now) (R.remaining input)) (W.contents output.old) (W.contents output.new) }
-    ensures lines { ReplyLineByLine (EngineStep ⟦<Fuse<MemDisk> as Device>⟧.honest ⟦<Fuse<MemDisk> as Device>⟧.seen ⟦<Fuse<MemDisk> as Device>⟧.may_leave ⟦<Fuse<MemDisk> as Device>⟧.failed ⟦<Fuse<MemDisk> as Device>⟧.refuses ⟦<Fuse<MemDisk> as Breaks>⟧.broken) }
-    ensures each_line { EachLineGoesOn ⟦<Fuse<MemDisk> as Device>⟧.seen ⟦<Fuse<MemDisk> as Device>⟧.may_leave (EngineStep ⟦<Fuse<MemDisk> as Device>⟧.honest ⟦<Fuse<MemDisk> as Device>⟧.seen ⟦<Fuse<MemDisk> as Device>⟧.may_leave ⟦<Fuse<MemDisk> as Device>⟧.failed ⟦<Fuse<MemDisk> as Device>⟧.refuses ⟦<Fuse<MemDisk> as Breaks>⟧.broken) }
-    ensures lives { LivesGoOn ⟦<Fuse<MemDisk> as Device>⟧.seen ⟦<Fuse<MemDisk> as Device>⟧.may_leave (Holds ⟦<Fuse<MemDisk> as Device>⟧.honest ⟦<Fuse<MemDisk> as Device>⟧.seen ⟦<Fuse<MemDisk> as Device>⟧.may_leave ⟦<Fuse<MemDisk> as Device>⟧.refuses) }
-    ensures kept { CrashesTakeWhatIsKept ⟦<Fuse<MemDisk> as Device>⟧.seen (medium_of ⟦<Fuse<MemDisk> as Device>⟧.honest ⟦<Fuse<MemDisk> as Device>⟧.seen ⟦<Fuse<MemDisk> as Device>⟧.may_leave ⟦<Fuse<MemDisk> as Device>⟧.failed ⟦<Fuse<MemDisk> as Device>⟧.refuses ⟦<Fuse<MemDisk> as Breaks>⟧.broken ⟦<Fuse<MemDisk> as Crashes>⟧.image ⟦<Fuse<MemDisk> as Crashes>⟧.armed) }
-    ensures armed { ArmingGoesOn ⟦<MemDisk as Device>⟧.seen ⟦<MemDisk as Device>⟧.may_leave }
-    ensures runs { (settings : Settings) → RunsGoOn ⟦<Fuse<MemDisk> as Device>⟧.seen ⟦<Fuse<MemDisk> as Device>⟧.may_leave (medium_of ⟦<Fuse<MemDisk> as Device>⟧.honest ⟦<Fuse<MemDisk> as Device>⟧.seen ⟦<Fuse<MemDisk> as Device>⟧.may_leave ⟦<Fuse<MemDisk> as Device>⟧.failed ⟦<Fuse<MemDisk> as Device>⟧.refuses ⟦<Fuse<MemDisk> as Breaks>⟧.broken ⟦<Fuse<MemDisk> as Crashes>⟧.image ⟦<Fuse<MemDisk> as Crashes>⟧.armed) settings }
-    ensures in_lives { result ≢ 4 → Writes (PrintsInLives ⟦<Fuse<MemDisk> as Device>⟧.seen ⟦<Fuse<MemDisk> as Device>⟧.may_leave (medium_of ⟦<Fuse<MemDisk> as Device>⟧.honest ⟦<Fuse<MemDisk> as Device>⟧.seen ⟦<Fuse<MemDisk> as Device>⟧.may_leave ⟦<Fuse<MemDisk> as Device>⟧.failed ⟦<Fuse<MemDisk> as Device>⟧.refuses ⟦<Fuse<MemDisk> as Breaks>⟧.broken ⟦<Fuse<MemDisk> as Crashes>⟧.image ⟦<Fuse<MemDisk> as Crashes>⟧.armed) (texts words.now) (R.remaining input) result) (W.contents output.old) (W.contents output.new) }
-    ensures all_lives { result ≢ 4 → Writes (ReportsOfAllLives ⟦<Fuse<MemDisk> as Device>⟧.seen ⟦<Fuse<MemDisk> as Device>⟧.may_leave (medium_of ⟦<Fuse<MemDisk> as Device>⟧.honest ⟦<Fuse<MemDisk> as Device>⟧.seen ⟦<Fuse<MemDisk> as Device>⟧.may_leave ⟦<Fuse<MemDisk> as Device>⟧.failed ⟦<Fuse<MemDisk> as Device>⟧.refuses ⟦<Fuse<MemDisk> as Breaks>⟧.broken ⟦<Fuse<MemDisk> as Crashes>⟧.image ⟦<Fuse<MemDisk> as Crashes>⟧.armed) (texts words.now) (R.remaining input) result) (W.contents output.old) (W.contents output.new) }
-    ensures file_lines { ReplyLineByLine (EngineStep ⟦<FileDisk<H::File> as Device>⟧.honest ⟦<FileDisk<H::File> as Device>⟧.seen ⟦<FileDisk<H::File> as Device>⟧.may_leave ⟦<FileDisk<H::File> as Device>⟧.failed ⟦<FileDisk<H::File> as Device>⟧.refuses ⟦<FileDisk<H::File> as Breaks>⟧.broken) }
+    ensures whole { result ≢ 4 → said.Writes (said.IsOutputOf (record { memory = said.medium_of ⟦<Fuse<MemDisk> as Device>⟧.honest ⟦<Fuse<MemDisk> as Device>⟧.seen ⟦<Fuse<MemDisk> as Device>⟧.may_leave ⟦<Fuse<MemDisk> as Device>⟧.failed ⟦<Fuse<MemDisk> as Device>⟧.refuses ⟦<Fuse<MemDisk> as Breaks>⟧.broken ⟦<Fuse<MemDisk> as Crashes>⟧.image ⟦<Fuse<MemDisk> as Crashes>⟧.armed; file = said.EngineStep ⟦<FileDisk<H::File> as Device>⟧.honest ⟦<FileDisk<H::File> as Device>⟧.seen ⟦<FileDisk<H::File> as Device>⟧.may_leave ⟦<FileDisk<H::File> as Device>⟧.failed ⟦<FileDisk<H::File> as Device>⟧.refuses ⟦<FileDisk<H::File> as Breaks>⟧.broken }) (said.texts words.now) (R.remaining input) result) (W.contents output.old) (W.contents output.new) }
+    ensures part { result ≡ 4 → said.BreaksOff (said.IsOutputOf (record { memory = said.medium_of ⟦<Fuse<MemDisk> as Device>⟧.honest ⟦<Fuse<MemDisk> as Device>⟧.seen ⟦<Fuse<MemDisk> as Device>⟧.may_leave ⟦<Fuse<MemDisk> as Device>⟧.failed ⟦<Fuse<MemDisk> as Device>⟧.refuses ⟦<Fuse<MemDisk> as Breaks>⟧.broken ⟦<Fuse<MemDisk> as Crashes>⟧.image ⟦<Fuse<MemDisk> as Crashes>⟧.armed; file = said.EngineStep ⟦<FileDisk<H::File> as Device>⟧.honest ⟦<FileDisk<H::File> as Device>⟧.seen ⟦<FileDisk<H::File> as Device>⟧.may_leave ⟦<FileDisk<H::File> as Device>⟧.failed ⟦<FileDisk<H::File> as Device>⟧.refuses ⟦<FileDisk<H::File> as Breaks>⟧.broken }) (said.texts words.now) (R.remaining input) 4) (W.contents output.old) (W.contents output.new) }
+    ensures replies { result ≡ 0 → said.Writes (said.PrintsMapOfScript (said.texts words.now) (R.remaining input)) (W.contents output.old) (W.contents output.new) }
+    ensures file_replies { result ≡ 0 → said.Writes (said.PrintsMapOfFileScript (said.texts words.now) (R.remaining input)) (W.contents output.old) (W.contents output.new) }
+    ensures lines { said.ReplyLineByLine (said.EngineStep ⟦<Fuse<MemDisk> as Device>⟧.honest ⟦<Fuse<MemDisk> as Device>⟧.seen ⟦<Fuse<MemDisk> as Device>⟧.may_leave ⟦<Fuse<MemDisk> as Device>⟧.failed ⟦<Fuse<MemDisk> as Device>⟧.refuses ⟦<Fuse<MemDisk> as Breaks>⟧.broken) }
+    ensures each_line { said.EachLineGoesOn ⟦<Fuse<MemDisk> as Device>⟧.seen ⟦<Fuse<MemDisk> as Device>⟧.may_leave (said.EngineStep ⟦<Fuse<MemDisk> as Device>⟧.honest ⟦<Fuse<MemDisk> as Device>⟧.seen ⟦<Fuse<MemDisk> as Device>⟧.may_leave ⟦<Fuse<MemDisk> as Device>⟧.failed ⟦<Fuse<MemDisk> as Device>⟧.refuses ⟦<Fuse<MemDisk> as Breaks>⟧.broken) }
+    ensures lives { said.LivesGoOn ⟦<Fuse<MemDisk> as Device>⟧.seen ⟦<Fuse<MemDisk> as Device>⟧.may_leave (said.Holds ⟦<Fuse<MemDisk> as Device>⟧.honest ⟦<Fuse<MemDisk> as Device>⟧.seen ⟦<Fuse<MemDisk> as Device>⟧.may_leave ⟦<Fuse<MemDisk> as Device>⟧.refuses) }
+    ensures kept { said.CrashesTakeWhatIsKept ⟦<Fuse<MemDisk> as Device>⟧.seen (said.medium_of ⟦<Fuse<MemDisk> as Device>⟧.honest ⟦<Fuse<MemDisk> as Device>⟧.seen ⟦<Fuse<MemDisk> as Device>⟧.may_leave ⟦<Fuse<MemDisk> as Device>⟧.failed ⟦<Fuse<MemDisk> as Device>⟧.refuses ⟦<Fuse<MemDisk> as Breaks>⟧.broken ⟦<Fuse<MemDisk> as Crashes>⟧.image ⟦<Fuse<MemDisk> as Crashes>⟧.armed) }
+    ensures armed { said.ArmingGoesOn ⟦<MemDisk as Device>⟧.seen ⟦<MemDisk as Device>⟧.may_leave }
+    ensures runs { (settings : said.Settings) → said.RunsGoOn ⟦<Fuse<MemDisk> as Device>⟧.seen ⟦<Fuse<MemDisk> as Device>⟧.may_leave (said.medium_of ⟦<Fuse<MemDisk> as Device>⟧.honest ⟦<Fuse<MemDisk> as Device>⟧.seen ⟦<Fuse<MemDisk> as Device>⟧.may_leave ⟦<Fuse<MemDisk> as Device>⟧.failed ⟦<Fuse<MemDisk> as Device>⟧.refuses ⟦<Fuse<MemDisk> as Breaks>⟧.broken ⟦<Fuse<MemDisk> as Crashes>⟧.image ⟦<Fuse<MemDisk> as Crashes>⟧.armed) settings }
+    ensures in_lives { result ≢ 4 → said.Writes (said.PrintsInLives ⟦<Fuse<MemDisk> as Device>⟧.seen ⟦<Fuse<MemDisk> as Device>⟧.may_leave (said.medium_of ⟦<Fuse<MemDisk> as Device>⟧.honest ⟦<Fuse<MemDisk> as Device>⟧.seen ⟦<Fuse<MemDisk> as Device>⟧.may_leave ⟦<Fuse<MemDisk> as Device>⟧.failed ⟦<Fuse<MemDisk> as Device>⟧.refuses ⟦<Fuse<MemDisk> as Breaks>⟧.broken ⟦<Fuse<MemDisk> as Crashes>⟧.image ⟦<Fuse<MemDisk> as Crashes>⟧.armed) (said.texts words.now) (R.remaining input) result) (W.contents output.old) (W.contents output.new) }
+    ensures all_lives { result ≢ 4 → said.Writes (said.ReportsOfAllLives ⟦<Fuse<MemDisk> as Device>⟧.seen ⟦<Fuse<MemDisk> as Device>⟧.may_leave (said.medium_of ⟦<Fuse<MemDisk> as Device>⟧.honest ⟦<Fuse<MemDisk> as Device>⟧.seen ⟦<Fuse<MemDisk> as Device>⟧.may_leave ⟦<Fuse<MemDisk> as Device>⟧.failed ⟦<Fuse<MemDisk> as Device>⟧.refuses ⟦<Fuse<MemDisk> as Breaks>⟧.broken ⟦<Fuse<MemDisk> as Crashes>⟧.image ⟦<Fuse<MemDisk> as Crashes>⟧.armed) (said.texts words.now) (R.remaining input) result) (W.contents output.old) (W.contents output.new) }
+    ensures file_lines { said.ReplyLineByLine (said.EngineStep ⟦<FileDisk<H::File> as Device>⟧.honest ⟦<FileDisk<H::File> as Device>⟧.seen ⟦<FileDisk<H::File> as Device>⟧.may_leave ⟦<FileDisk<H::File> as Device>⟧.failed ⟦<FileDisk<H::File> as Device>⟧.refuses ⟦<FileDisk<H::File> as Breaks>⟧.broken) }
 {
     law_played_scripts::<Fuse<MemDisk>, FileDisk<H::File>>();
     law_new_files::<Fuse<MemDisk>, FileDisk<H::File>>();
@@ -73,6 +62,7 @@ where
     law_lives_joined::<Fuse<MemDisk>>();
     law_all_lives::<Fuse<MemDisk>>();
     law_arming_shown::<MemDisk>();
+    law_arming_noted::<MemDisk>();
     law_played_calls::<FileDisk<H::File>>();
     fkv_cli::run(rt, alloc, words, input, output, complaints)
 }

@@ -7,6 +7,7 @@ use fkv_base::{Fault, Key, Serial, Value};
 use fkv_disk::MemDisk;
 use fkv_opening::recover;
 use fkv_pairs::content;
+use fkv_plane::drain_place;
 use std::alloc::Global;
 use std::process::Abort;
 use std::test::Fail;
@@ -17,6 +18,9 @@ const ENOUGH: u64 = 200;
 /// The rounds of the other session and the keeper while the call is stopped, more than a commit takes.
 const ROUNDS: u64 = 8;
 
+/// The word of a drain slot that an actor holds.
+const HELD: u64 = 1;
+
 /// What a crash leaves behind the commit: its points, and the pairs that are recovered.
 #[derive(Clone, Copy)]
 struct Kept<'a> {
@@ -24,13 +28,15 @@ struct Kept<'a> {
     pairs: &'a [(u64, u64)],
 }
 
-/// A call of session 0 that is stopped, with the lines before it and those behind its end, and what may be kept then.
+/// A call of session 0 that is stopped, with the lines before it and those behind its end, whether it holds a drain slot at some stop,
+/// and what may be kept then.
 #[derive(Clone, Copy)]
 struct Stopped<'a> {
     sizes: Sizes,
     before: &'a [Line],
     call: Line,
     behind: &'a [Line],
+    holds_a_slot: bool,
     kept: &'a [Kept<'a>],
 }
 
@@ -40,6 +46,7 @@ const APPEND: Stopped = Stopped {
     before: &[Up(1, 2, 20)],
     call: Up(0, 1, 10),
     behind: &[],
+    holds_a_slot: false,
     kept: &[Kept {
         points: [1, 1],
         pairs: &[(1, 10), (2, 20)],
@@ -52,6 +59,7 @@ const WAKING: Stopped = Stopped {
     before: &[Up(0, 1, 10), Sleep(0), Up(1, 2, 20)],
     call: Wake(0),
     behind: &[Add(0, 1, 5)],
+    holds_a_slot: false,
     kept: &[
         Kept {
             points: [1, 1],
@@ -78,6 +86,7 @@ const OWN_TURN: Stopped = Stopped {
     ],
     call: Up(0, 8, 80),
     behind: &[],
+    holds_a_slot: true,
     kept: &[Kept {
         points: [8, 0],
         pairs: &[
@@ -154,12 +163,32 @@ fn is_kept(alloc: Global, mut image: MemDisk, stopped: &Stopped) -> Result<bool,
     Ok(opened.number.0 == 1 && is_one)
 }
 
-/// Stops the call behind each of its asks in turn, and gives how many it has.
+/// Whether some actor holds a drain slot.
+fn is_a_slot_held(store: &Store) -> bool {
+    let places = [
+        drain_place(0),
+        drain_place(1),
+        drain_place(2),
+        drain_place(3),
+        drain_place(4),
+        drain_place(5),
+        drain_place(6),
+        drain_place(7),
+    ];
+    places.iter().any(|place| store.word(*place) == HELD)
+}
+
+/// Stops the call behind each of its asks in turn, and gives how many it has. A slot is held at some stop just where that is said of it.
 fn stop_at_each(rt: &impl Abort, alloc: Global, stopped: &Stopped) -> Result<u64, Fail> {
+    let mut has_held = false;
     for asks in 0..ENOUGH {
         match stopped_behind(alloc, stopped, asks)? {
-            None => return Ok(asks),
+            None => {
+                assert!(rt; has_held == stopped.holds_a_slot);
+                return Ok(asks);
+            }
             Some(store) => {
+                has_held = has_held || is_a_slot_held(&store);
                 let image = left(store, stopped)?.ok_or("the call never ends")?;
                 assert!(rt; is_kept(alloc, image, stopped)?);
             }

@@ -14,6 +14,8 @@ mod answers;
 #[cfg(test)]
 mod image_answers;
 #[cfg(test)]
+mod posted;
+#[cfg(test)]
 mod refused_memory;
 #[cfg(test)]
 mod stops;

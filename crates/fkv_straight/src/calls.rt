@@ -3,7 +3,7 @@ ghost use Rattle.std.specs.Prelude.{◌≡◌, false};
 ghost use Rattle.fkv_session.specs.Alike.{lasting};
 ghost use Rattle.fkv_session.specs.Sessions.{is_busy, session_ask};
 ghost use Rattle.fkv_straight.specs.Course.{course_of, Goes};
-ghost use Rattle.fkv_straight.specs.Standing.{begins, IsCaughtUp};
+ghost use Rattle.fkv_straight.specs.Standing.{IsCaughtUp};
 
 use crate::changing::update;
 use crate::going::Going;
@@ -23,7 +23,7 @@ pub fn run<L: Line>(line: &mut L, machine: &mut Session, going: &Going, op: Op) 
     requires alike { lasting machine.old.state ≡ lasting (L.stands line.old) }
     requires goes { Goes (course_of machine.old.seat machine.old.state op) machine.old.seat op going.now }
     ensures seat { L.seat line.new ≡ L.seat line.old }
-    ensures led { L.led line.new (begins (L.seat line.old) (L.stands line.old) op) }
+    ensures led { L.led line.old op line.new }
     ensures ask { result ≡ session_ask (L.seat line.old) (L.stands line.new) }
     ensures machine { machine.new.seat ≡ machine.old.seat }
     ensures caught_up { IsCaughtUp machine.new.state (L.stands line.new) }

@@ -13,7 +13,7 @@ use fkv_session::{Session, Told};
 #[inline(never)]
 pub fn catch_up<L: Line>(line: &L, machine: &mut Session, op: Op) -> Ask<Told>
     requires seat { machine.old.seat ≡ L.seat line.now }
-    requires led { L.led line.now (begins machine.old.seat machine.old.state op) }
+    requires led { (start : L) × L.led start op line.now × (begins (L.seat start) (L.stands start) op ≡ begins machine.old.seat machine.old.state op) }
     ensures caught_up { machine.new ≡ record { seat = L.seat line.now; state = L.stands line.now } }
     ensures ask { result ≡ session_ask machine.new.seat machine.new.state }
 {

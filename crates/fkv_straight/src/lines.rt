@@ -1,5 +1,6 @@
 //! The words of a store, as one session steps at them.
 ghost use Rattle.std.specs.Prelude.{◌≡◌, ◌<◌, ◌+◌, ℕ, false};
+ghost use Rattle.fkv_map.specs.declared.operations.Op.{Op};
 ghost use Rattle.fkv_plane.specs.declared.asks.Ask.TheVariants.{Load, Store, Swap, Cas};
 ghost use Rattle.fkv_session.specs.Sessions.{Seat, SessionState, is_busy};
 ghost use Rattle.fkv_straight.specs.Standing.{asked, leads, begins, replayed};
@@ -15,8 +16,8 @@ pub trait Line {
     /// Where the machine stands by the steps that were made.
     ghost stands: { Self → SessionState };
 
-    /// The replies that are kept lead from this state to where the machine stands.
-    ghost led: { Self → SessionState → Type 0 };
+    /// Since the line stood as the first, the call of the operation has begun and has come to the last, by the replies that are kept.
+    ghost led: { Self → Op → Self → Type 0 };
 
     /// How many replies are kept.
     ghost kept: { Self → ℕ };
@@ -26,7 +27,7 @@ pub trait Line {
         requires idle { is_busy (stands self.old).step ≡ false }
         requires asked { asked (seat self.old) (begins (seat self.old) (stands self.old) op) ≡ Load place }
         ensures next { stands self.new ≡ leads (seat self.old) (begins (seat self.old) (stands self.old) op) result }
-        ensures led { led self.new (begins (seat self.old) (stands self.old) op) }
+        ensures led { led self.old op self.new }
         ensures kept { kept self.new ≡ 1 }
         ensures seat { seat self.new ≡ seat self.old };
 
@@ -35,7 +36,7 @@ pub trait Line {
         requires asked { asked (seat self.old) (stands self.old) ≡ Load place }
         requires room { kept self.old < 64 }
         ensures next { stands self.new ≡ leads (seat self.old) (stands self.old) result }
-        ensures led { (start : SessionState) → led self.old start → led self.new start }
+        ensures led { (start : Self) (op : Op) → led start op self.old → led start op self.new }
         ensures kept { kept self.new ≡ kept self.old + 1 }
         ensures seat { seat self.new ≡ seat self.old };
 
@@ -44,7 +45,7 @@ pub trait Line {
         requires asked { asked (seat self.old) (stands self.old) ≡ Store place new }
         requires room { kept self.old < 64 }
         ensures next { stands self.new ≡ leads (seat self.old) (stands self.old) result }
-        ensures led { (start : SessionState) → led self.old start → led self.new start }
+        ensures led { (start : Self) (op : Op) → led start op self.old → led start op self.new }
         ensures kept { kept self.new ≡ kept self.old + 1 }
         ensures seat { seat self.new ≡ seat self.old };
 
@@ -53,7 +54,7 @@ pub trait Line {
         requires asked { asked (seat self.old) (stands self.old) ≡ Swap place new }
         requires room { kept self.old < 64 }
         ensures next { stands self.new ≡ leads (seat self.old) (stands self.old) result }
-        ensures led { (start : SessionState) → led self.old start → led self.new start }
+        ensures led { (start : Self) (op : Op) → led start op self.old → led start op self.new }
         ensures kept { kept self.new ≡ kept self.old + 1 }
         ensures seat { seat self.new ≡ seat self.old };
 
@@ -62,11 +63,11 @@ pub trait Line {
         requires asked { asked (seat self.old) (stands self.old) ≡ Cas place expected new }
         requires room { kept self.old < 64 }
         ensures next { stands self.new ≡ leads (seat self.old) (stands self.old) result }
-        ensures led { (start : SessionState) → led self.old start → led self.new start }
+        ensures led { (start : Self) (op : Op) → led start op self.old → led start op self.new }
         ensures kept { kept self.new ≡ kept self.old + 1 }
         ensures seat { seat self.new ≡ seat self.old };
 
     /// The replies that are kept, in order.
     fn replies(&self) -> &[u64]
-        ensures led { (start : SessionState) → led self.now start → stands self.now ≡ replayed (seat self.now) start result.now };
+        ensures led { (start : Self) (op : Op) → led start op self.now → stands self.now ≡ replayed (seat self.now) (begins (seat start) (stands start) op) result.now };
 }

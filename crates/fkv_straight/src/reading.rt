@@ -4,7 +4,7 @@ ghost use Rattle.fkv_ops.specs.Requests.{is_read};
 ghost use Rattle.fkv_session.specs.Alike.{lasting};
 ghost use Rattle.fkv_session.specs.Sessions.{is_busy};
 ghost use Rattle.fkv_straight.specs.Course.{course_of, Goes};
-ghost use Rattle.fkv_straight.specs.Standing.{begins, IsEnded};
+ghost use Rattle.fkv_straight.specs.Standing.{IsEnded};
 
 use crate::going::Going;
 use crate::lines::Line;
@@ -21,7 +21,7 @@ pub(crate) fn read<L: Line>(line: &mut L, going: &Going, op: Op) -> Option<Told>
     requires goes { Goes (course_of (L.seat line.old) (L.stands line.old) op) (L.seat line.old) op going.now }
     requires reads { is_read op ≡ true }
     ensures seat { L.seat line.new ≡ L.seat line.old }
-    ensures led { L.led line.new (begins (L.seat line.old) (L.stands line.old) op) }
+    ensures led { L.led line.old op line.new }
     ensures ended { IfSome result (λ its. IsEnded (lasting (L.stands line.old)) its (L.stands line.new)) }
 {
     let met = search(line, going, op);

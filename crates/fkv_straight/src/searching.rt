@@ -1,10 +1,11 @@
 //! The search along bucket and chain, which all straight calls share.
 ghost use Rattle.std.specs.Prelude.{◌≡◌, ◌<◌, ◌≤◌, ◌+◌, IfSome, false};
+ghost use Rattle.fkv_map.specs.declared.operations.Op.{Op};
 ghost use Rattle.fkv_index.specs.Slots.{entry_addr};
-ghost use Rattle.fkv_session.specs.Sessions.{SessionState, is_busy};
+ghost use Rattle.fkv_session.specs.Sessions.{is_busy};
 ghost use Rattle.fkv_straight.specs.Course.{Course, course_of, Goes};
 ghost use Rattle.fkv_straight.specs.Met.{HasMet, IsReached};
-ghost use Rattle.fkv_straight.specs.Standing.{begins};
+ghost use Rattle.fkv_straight.specs.Standing.{};
 
 use crate::going::Going;
 use crate::lines::Line;
@@ -54,7 +55,7 @@ fn seek<L: Line>(line: &mut L, going: &Going, op: Op) -> Option<Slot>
     requires idle { is_busy (L.stands line.old).step ≡ false }
     requires goes { Goes (course_of (L.seat line.old) (L.stands line.old) op) (L.seat line.old) op going.now }
     ensures seat { L.seat line.new ≡ L.seat line.old }
-    ensures led { L.led line.new (begins (L.seat line.old) (L.stands line.old) op) }
+    ensures led { L.led line.old op line.new }
     ensures kept { L.kept line.new ≤ 32 }
     ensures found { IfSome result (λ its. IsReached (course_of (L.seat line.old) (L.stands line.old) op) its.place its.entry (entry_addr its.entry) (L.stands line.new)) }
 {
@@ -106,7 +107,7 @@ fn walk<L: Line>(line: &mut L, going: &Going, op: Op, slot: Slot) -> Option<Met>
     requires at { (c : Course) × Goes c (L.seat line.old) op going.now × IsReached c slot.place slot.entry (entry_addr slot.entry) (L.stands line.old) }
     requires room { L.kept line.old ≤ 32 }
     ensures seat { L.seat line.new ≡ L.seat line.old }
-    ensures led { (start : SessionState) → L.led line.old start → L.led line.new start }
+    ensures led { (start : L) (call : Op) → L.led start call line.old → L.led start call line.new }
     ensures kept { L.kept line.new ≤ 48 }
     ensures met { (c : Course) → Goes c (L.seat line.old) op going.now → IsReached c slot.place slot.entry (entry_addr slot.entry) (L.stands line.old)
         → IfSome result (λ its. HasMet c its (L.stands line.new)) }
@@ -159,7 +160,7 @@ pub(crate) fn search<L: Line>(line: &mut L, going: &Going, op: Op) -> Option<Met
     requires idle { is_busy (L.stands line.old).step ≡ false }
     requires goes { Goes (course_of (L.seat line.old) (L.stands line.old) op) (L.seat line.old) op going.now }
     ensures seat { L.seat line.new ≡ L.seat line.old }
-    ensures led { L.led line.new (begins (L.seat line.old) (L.stands line.old) op) }
+    ensures led { L.led line.old op line.new }
     ensures kept { L.kept line.new ≤ 48 }
     ensures met { IfSome result (λ its. HasMet (course_of (L.seat line.old) (L.stands line.old) op) its (L.stands line.new)) }
 {

@@ -52,13 +52,13 @@ impl PlainLine {
 
 impl Line for PlainLine {
     ghost use Rattle.std.specs.Prelude.{◌≡◌, length};
-    ghost use Rattle.fkv_straight.specs.Standing.{replayed};
+    ghost use Rattle.fkv_straight.specs.Standing.{begins, replayed};
 
     ghost seat = { λ l. l.machine.seat };
 
     ghost stands = { λ l. l.machine.state };
 
-    ghost led = { λ l start. l.machine.state ≡ replayed l.machine.seat start l.replies.items };
+    ghost led = { λ l op m. m.machine.state ≡ replayed m.machine.seat (begins l.machine.seat l.machine.state op) m.replies.items };
 
     ghost kept = { λ l. length l.replies.items };
 

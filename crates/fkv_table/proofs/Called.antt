@@ -31,7 +31,7 @@ use Rattle.fkv_table.specs.Events.{event_of}
 use Rattle.fkv_table.specs.Openings.{IsGuardedOpening}
 use Rattle.fkv_table.specs.Planes.{plane}
 use Rattle.fkv_table.specs.Positions.{laid}
-use Rattle.fkv_table.specs.Sits.{IsSeated, Went}
+use Rattle.fkv_table.specs.Sits.{IsSeated, Rests, Went}
 use Rattle.fkv_table.proofs.Laid.{set_found}
 use Rattle.fkv_table.proofs.Lives.{alive, quiet_session, rests_so, same_number, slot_facts, start_words}
 use Rattle.fkv_table.proofs.Settled.{ended_so, idle_is}
@@ -40,7 +40,7 @@ use Rattle.fkv_table.proofs.Steps.{standing, weaken}
 same_some : {X : Type 0} (i j : X) → ◌≡◌ {A = Option X} (Some i) (Some j) → i ≡ j
 same_some i j e = cc
 
-only_both : (number : ℕ) (xs ys : List Happening) → OnlyMoves number xs → OnlyMoves number ys → OnlyMoves number (xs ++ ys)
+pub only_both : (number : ℕ) (xs ys : List Happening) → OnlyMoves number xs → OnlyMoves number ys → OnlyMoves number (xs ++ ys)
 only_both number [] ys a b = b
 only_both number (x ∷ xs) ys a b = (a.0, only_both number xs ys a.1 b)
 
@@ -203,10 +203,10 @@ module _ {K : Type 0} (at : K → World) where
       subst (λ (x : Knows K × Seat). WasIdle at key x.0.seen x.1.number) (λ i. (sym view i, sym seat i))
       (λ s there. ap (λ (z : SessionState). is_busy z.step) (same_some s sits.first (sym there ∙ sits.was) ∙ sym sits.state) ∙ idle)
 
-  pub ready_again : (key : K) (table seat seat' : TableId) (me me1 me' : Me Slot (Knows K)) (m m' : Sitter) (desk : ℕ) (start : Happening) (its : Told) → IsReady at key table seat me m desk → seat' ≡ seat
-      → me1 ≡ (me.0, (desk, Desk start) ∷ rest me.1) → base (plane at) me'.0.hand me'.1 ≡ base (plane at) me1.0.hand me1.1 → me'.0.desk ≡ me1.0.desk → IsSeated at key me' [] m' → m'.seat ≡ m.seat → me'.0.hand ≡ None
-      → session_ask m'.seat m'.state ≡ Done its → IsReady at key table seat' me' m' desk
-  ready_again key table seat seat' me me1 me' m m' desk start its ready same at_desk alone flag sits seat_is empty done =
+  pub ready_again : (key : K) (table seat seat' : TableId) (me me1 me' : Me Slot (Knows K)) (m m' : Sitter) (desk : ℕ) (start : Happening) → IsReady at key table seat me m desk → seat' ≡ seat
+      → me1 ≡ (me.0, (desk, Desk start) ∷ rest me.1) → base (plane at) me'.0.hand me'.1 ≡ base (plane at) me1.0.hand me1.1 → me'.0.desk ≡ me1.0.desk → Rests at key me' m' → m'.seat ≡ m.seat → me'.0.hand ≡ None
+      → IsReady at key table seat' me' m' desk
+  ready_again key table seat seat' me me1 me' m m' desk start ready same at_desk alone flag rests seat_is empty =
       let there = at_front desk me ready.at_desk ready.empty in
       let was : me.1 ≡ (desk, ready.at_desk.note) ∷ [] = ap (λ (h : Option ℕ). base (plane at) h me.1) (sym ready.empty) ∙ ready.at_desk.alone in
       let now : base (plane at) me1.0.hand me1.1 ≡ (desk, Desk start) ∷ [] =
@@ -214,8 +214,7 @@ module _ {K : Type 0} (at : K → World) where
       record {
         opened = ready.opened;
         same_table = same ∙ ready.same_table;
-        seated = sits;
-        idle = ended_so at (at key) ready.opened.opening me'.0.seen m'.seat.number m'.state its (sits.was ∙ ap (λ (s : SessionState). Some s) (sym sits.state)) (ap (λ (k : Seat). session_ask k m'.state) (sym sits.chair) ∙ done);
+        rests = rests;
         at_desk = record { note = Desk start; alone = alone ∙ now; sits = flag ∙ (ap (λ (x : Me Slot (Knows K)). x.0.desk) at_desk ∙ ready.at_desk.sits) };
         empty = empty;
         its_desk = ready.its_desk ∙ ap (λ (k : Seat). drain_slots + k.number) (sym seat_is);

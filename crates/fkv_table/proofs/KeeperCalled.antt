@@ -13,7 +13,7 @@ use Rattle.fkv_plane.specs.declared.asks.Ask.{Ask}
 use Rattle.fkv_plane.specs.declared.asks.Ask.TheVariants.{Load, Store, Swap, Cas, Add, Max, Put, Take, Done}
 use Rattle.fkv_plane.specs.Asked.{asked_place}
 use Rattle.fkv_keeper.specs.declared.answers.KeeperTold.{KeeperTold}
-use Rattle.fkv_keeper.specs.declared.answers.KeeperTold.TheVariants.{Device}
+use Rattle.fkv_keeper.specs.declared.answers.KeeperTold.TheVariants.{Begun, CommitRefused, Device, Turned, TurnRefused}
 use Rattle.fkv_keeper.specs.Answers.{is_busy}
 use Rattle.fkv_keeper.specs.KeeperAsks.{keeper_asks_left, keeper_calls, keeper_read}
 use Rattle.fkv_keeper.specs.KeeperRun.{is_in_hand}
@@ -36,9 +36,10 @@ use Rattle.fkv_table.specs.declared.happenings.Happening.TheVariants.{Calls, Mov
 use Rattle.fkv_table.specs.Desks.{Slot, Knows}
 use Rattle.fkv_table.specs.Events.{event_of}
 use Rattle.fkv_table.specs.KeeperCalls.{AreSessions, BeginsNone, HasGoneOn, HasKept}
-use Rattle.fkv_table.specs.Keeps.{IsAfterSeen, IsKeeping, IsNoted}
+use Rattle.fkv_table.specs.Keeps.{IsAfterSeen, IsKeeping, IsNoted, LeavesDevice}
 use Rattle.fkv_table.specs.Openings.{IsGuardedOpening}
 use Rattle.fkv_table.specs.Planes.{plane}
+use Rattle.fkv_table.specs.Turns.{asks_device}
 use Rattle.fkv_table.proofs.Lives.{alive, led_run}
 use Rattle.fkv_table.proofs.KeeperNotes.{ask_there, keeping_on, moves_calls, opened_so, places_so, quiet_calls, quiet_is, shape_so, there}
 
@@ -53,6 +54,29 @@ asks_word (Max i more) free busy = (i, refl)
 asks_word (Put slot action) free busy = no_some slot (sym free)
 asks_word (Take slot) free busy = no_some slot (sym free)
 asks_word (Done its) free busy = absurd (busy its refl)
+
+-- what asks for the device stands at a call of it
+pub device_asked : (ask : Ask KeeperTold) → asks_device ask ≡ true → ask ≡ Done Device
+device_asked (Load i) is = cc
+device_asked (Store i new) is = cc
+device_asked (Swap i new) is = cc
+device_asked (Cas i old new) is = cc
+device_asked (Add i more) is = cc
+device_asked (Max i more) is = cc
+device_asked (Put slot action) is = cc
+device_asked (Take slot) is = cc
+device_asked (Done Device) is = refl
+device_asked (Done (Turned finished full)) is = cc
+device_asked (Done (TurnRefused why)) is = cc
+device_asked (Done (Begun number)) is = cc
+device_asked (Done (CommitRefused why)) is = cc
+
+pub not_busy : (ask : Ask KeeperTold) (told : KeeperTold) → ask ≡ Done told → told ≢ Device → is_busy ask ≡ false
+not_busy ask Device is other = absurd (other refl)
+not_busy ask (Turned finished full) is other = ap is_busy is
+not_busy ask (TurnRefused why) is other = ap is_busy is
+not_busy ask (Begun number) is other = ap is_busy is
+not_busy ask (CommitRefused why) is other = ap is_busy is
 
 pub begins_none : (es : List Happening) → AreSessions es → BeginsNone es
 begins_none [] are = tt
@@ -100,26 +124,30 @@ module _ {K : Type 0} (at : K → World) where
     so = gone.so ∙ ap (λ (es : List Happening). gone.steps ++ es) noted.seen;
   }
 
-  -- a start makes no call of the device
-  pub start_spares : (key : K) (me me' : Me Slot (Knows K)) (k : KeeperModel) (shown : List ℕ) (may_leave : List ℕ → Type 0) → IsGuardedOpening (at key) → IsKeeping at key me k → IsNoted at key me Turns me'
-      → IsAfterSeen at key me.0.seen shown may_leave → IsAfterSeen at key me'.0.seen shown may_leave
+  -- a turn's start makes no call of the device
+  pub turn_calls : (key : K) (me me' : Me Slot (Knows K)) (k : KeeperModel) → IsGuardedOpening (at key) → IsKeeping at key me k → IsNoted at key me Turns me'
+      → (led (plane at) (at key) me'.0.seen).past.calls ≡ (led (plane at) (at key) me.0.seen).past.calls
   unfolding led calls_added
-  start_spares key me me' k shown may_leave guard its noted after =
+  turn_calls key me me' k guard its noted =
       let x : World = led (plane at) (at key) (noted.others ++ me.0.seen) in
-      let opened : (led (plane at) (at key) me.0.seen).past.opened ≡ (led (plane at) (at key) me'.0.seen).past.opened = opened_so at (at key) me.0.seen ∙ sym (opened_so at (at key) me'.0.seen) in
       let made : (happens x (event_of Turns)).past.calls ≡ x.past.calls =
       ap (λ (y : World). y.past.calls) (lived x (event_of Turns) (alive at (at key) (noted.others ++ me.0.seen) guard.opened.goes_on)) ∙ added_calls x (life_goes x.now (read_by_keeper x) (event_of Turns)) (event_of Turns) in
-      let calls : (led (plane at) (at key) me'.0.seen).past.calls ≡ (led (plane at) (at key) me.0.seen).past.calls =
       ap (λ (es : List Happening). (led (plane at) (at key) es).past.calls) noted.seen
-      ∙ (made ∙ quiet_calls at (at key) its.from noted.others me.0.seen (quiet_is at key me k guard its noted.others noted.quiet)) in
-      subst (λ (z : List ℕ × List device.Call). IsAfter z.0 z.1 shown may_leave) (λ i. (opened i, sym calls i)) after
+      ∙ (made ∙ quiet_calls at (at key) its.from noted.others me.0.seen (quiet_is at key me k guard its noted.others noted.quiet))
 
-  -- a step of a word makes none either
-  pub step_spares : (key : K) (seen seen' : List Happening) (shown : List ℕ) (may_leave : List ℕ → Type 0) → (led (plane at) (at key) seen').past.calls ≡ (led (plane at) (at key) seen).past.calls
-      → IsAfterSeen at key seen shown may_leave → IsAfterSeen at key seen' shown may_leave
-  step_spares key seen seen' shown may_leave calls after =
-      let opened : (led (plane at) (at key) seen).past.opened ≡ (led (plane at) (at key) seen').past.opened = opened_so at (at key) seen ∙ sym (opened_so at (at key) seen') in
-      subst (λ (z : List ℕ × List device.Call). IsAfter z.0 z.1 shown may_leave) (λ i. (opened i, sym calls i)) after
+  -- where the device is left as it is, it is still what the list's calls give
+  pub leaves_after : (key : K) (seen seen' : List Happening) (shown : List ℕ) (may_leave : List ℕ → Type 0) → LeavesDevice at key seen seen' → IsAfterSeen at key seen shown may_leave → IsAfterSeen at key seen' shown may_leave
+  leaves_after key seen seen' shown may_leave leaves after = subst (λ (z : List ℕ × List device.Call). IsAfter z.0 z.1 shown may_leave) (λ i. (sym leaves.0 i, sym leaves.1 i)) after
+
+  -- behind a call's start each step is the call's
+  pub kept_on : (start : Happening) (seen mid seen' : List Happening) → HasKept start seen mid → HasGoneOn mid seen' → HasKept start seen seen'
+  kept_on start seen mid seen' kept gone = record {
+    steps = gone.steps ++ kept.steps;
+    begins = begins_both gone.steps kept.steps gone.begins kept.begins;
+    others = kept.others;
+    quiet = kept.quiet;
+    so = gone.so ∙ (ap (λ (es : List Happening). gone.steps ++ es) kept.so ∙ sym (append_assoc gone.steps kept.steps (start ∷ (kept.others ++ seen))));
+  }
 
   -- between two events the keeper stands at no slot
   pub keeper_word : (key : K) (me : Me Slot (Knows K)) (k : KeeperModel) (ask : Ask KeeperTold) → IsGuardedOpening (at key) → IsKeeping at key me k → ask ≡ keeper_ask k.shape k.places k.state → ((told : KeeperTold) → ask ≢ Done told)

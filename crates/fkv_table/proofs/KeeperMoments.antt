@@ -1,14 +1,12 @@
 -- What a crash leaves at each moment of a call of the keeper.
 use Rattle.std.proofs.Common.{inl, inr, ⊎_elim, ℕ, refl, sym, ap, ◌∙◌, List, [], ◌∷◌, ◌++◌, append_assoc}
-use Rattle.atomic_table.specs.Table.{Me}
 use Rattle.fkv_disk.specs.Device.{AtEachMoment, Elapses}
 use Rattle.fkv_disk.proofs.Shown.{started, goes_on, goes_on_to}
 use Rattle.fkv_world.specs.Runs.{World}
 use Rattle.fkv_seats.specs.Rule.{IsSeenBy}
 use Rattle.fkv_table.specs.declared.happenings.Happening.{Happening}
-use Rattle.fkv_table.specs.Desks.{Slot, Knows}
-use Rattle.fkv_table.specs.KeeperCalls.{HasGoneOn}
-use Rattle.fkv_table.specs.Keeps.{IsAfterSeen, IsLeftWithin, IsNoted}
+use Rattle.fkv_table.specs.KeeperCalls.{HasGoneOn, HasKept}
+use Rattle.fkv_table.specs.Keeps.{IsAfterSeen, IsLeftWithin}
 use Rattle.fkv_table.specs.Planes.{plane}
 
 weaker : {D : Type 0} (moment : D → ℕ) (left_since : D → ℕ → List ℕ → Type 0) (old new : D) (P Q : List ℕ → Type 0) → ((image : List ℕ) → P image → Q image)
@@ -28,6 +26,9 @@ module _ {K : Type 0} (at : K → World) where
 
   gone_seen : (xs ys : List Happening) → HasGoneOn xs ys → IsSeenBy (plane at) xs ys
   gone_seen xs ys gone = (gone.steps, gone.so)
+
+  kept_seen : (start : Happening) (xs ys : List Happening) → HasKept start xs ys → IsSeenBy (plane at) xs ys
+  kept_seen start xs ys kept = (kept.steps ++ start ∷ kept.others, kept.so ∙ sym (append_assoc kept.steps (start ∷ kept.others) xs))
 
   -- what is left in a part of a call is left in the call
   wider : (key : K) (seen first last seen' : List Happening) (image : List ℕ) → IsSeenBy (plane at) seen first → IsSeenBy (plane at) last seen' → IsLeftWithin at key first last image → IsLeftWithin at key seen seen' image
@@ -61,17 +62,20 @@ module _ {K : Type 0} (at : K → World) where
     moments_stepped old new seen mid seen' gone its =
         weaker moment left_since old new (IsLeftWithin at key seen mid) (IsLeftWithin at key seen seen') (λ image left. wider key seen seen mid seen' image (nothing_since seen) (gone_seen mid seen' gone) left) its
 
-    -- one stretch behind another
-    pub moments_both : (old middle new : D) (seen mid seen' : List Happening) → HasGoneOn seen mid → HasGoneOn mid seen' → AtEachMoment moment left_since old middle (IsLeftWithin at key seen mid)
-        → AtEachMoment moment left_since middle new (IsLeftWithin at key mid seen') → AtEachMoment moment left_since old new (IsLeftWithin at key seen seen')
-    moments_both old middle new seen mid seen' gone on first second =
-        goes_on_to moment left_since old middle new (IsLeftWithin at key seen seen') (moments_stepped old middle seen mid seen' on first)
-        (weaker moment left_since middle new (IsLeftWithin at key mid seen') (IsLeftWithin at key seen seen')
-        (λ image left. wider key seen mid seen' seen' image (gone_seen seen mid gone) (nothing_since seen') left) second)
-
     -- a call's start stands before them
-    pub moments_noted : (old new : D) (me me' : Me Slot (Knows K)) (start : Happening) (seen' : List Happening) → IsNoted at key me start me' → AtEachMoment moment left_since old new (IsLeftWithin at key me'.0.seen seen')
-        → AtEachMoment moment left_since old new (IsLeftWithin at key me.0.seen seen')
-    moments_noted old new me me' start seen' noted its =
-        weaker moment left_since old new (IsLeftWithin at key me'.0.seen seen') (IsLeftWithin at key me.0.seen seen')
-        (λ image left. wider key me.0.seen me'.0.seen seen' seen' image (start ∷ noted.others, noted.seen) (nothing_since seen') left) its
+    moments_kept : (old new : D) (start : Happening) (seen mid seen' : List Happening) → HasKept start seen mid → AtEachMoment moment left_since old new (IsLeftWithin at key mid seen')
+        → AtEachMoment moment left_since old new (IsLeftWithin at key seen seen')
+    moments_kept old new start seen mid seen' kept its =
+        weaker moment left_since old new (IsLeftWithin at key mid seen') (IsLeftWithin at key seen seen')
+        (λ image left. wider key seen mid seen' seen' image (kept_seen start seen mid kept) (nothing_since seen') left) its
+
+    -- as a call has begun
+    pub moments_started : (old : D) (start : Happening) (seen mid : List Happening) (shown : List ℕ) (may_leave : List ℕ → Type 0) → HasKept start seen mid → IsAfterSeen at key mid shown may_leave
+        → ((image : List ℕ) → left_since old (moment old) image → may_leave image) → AtEachMoment moment left_since old old (IsLeftWithin at key seen mid)
+    moments_started old start seen mid shown may_leave kept after only = moments_kept old old start seen mid mid kept (moments_begin old mid shown may_leave after only)
+
+    -- a call of the device in the middle of a call of the keeper
+    pub moments_on : (old middle new : D) (start : Happening) (seen mid seen' : List Happening) → HasKept start seen mid → HasGoneOn mid seen' → AtEachMoment moment left_since old middle (IsLeftWithin at key seen mid)
+        → AtEachMoment moment left_since middle new (IsLeftWithin at key mid seen') → AtEachMoment moment left_since old new (IsLeftWithin at key seen seen')
+    moments_on old middle new start seen mid seen' kept on first second =
+        goes_on_to moment left_since old middle new (IsLeftWithin at key seen seen') (moments_stepped old middle seen mid seen' on first) (moments_kept middle new start seen mid seen' kept second)

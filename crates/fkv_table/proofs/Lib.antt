@@ -7,6 +7,7 @@ pub mod KeeperSettled
 pub mod KeeperSteps
 pub mod Laid
 pub mod LaidWords
+pub mod LineSteps
 pub mod Lives
 pub mod Meets
 pub mod Moved
@@ -14,5 +15,7 @@ pub mod Opens
 pub mod Ready
 pub mod Seating
 pub mod Settled
+pub mod StandIns
 pub mod Starts
 pub mod Steps
+pub mod Straights

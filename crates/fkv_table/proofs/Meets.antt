@@ -31,23 +31,23 @@ module _ {K : Type 0} (at : K → World) (key : K) (table seat seat' : TableId) 
   met_view = both_view (plane at) first.0 up_view
 
   met_role : met_view.role ≡ Both a b
-  met_role = λ i. Both (number_of (two.first_ready.seated.role i)) (number_of (two.second_ready.seated.role i))
+  met_role = λ i. Both (number_of (two.first_ready.rests.seated.role i)) (number_of (two.second_ready.rests.seated.role i))
 
   own_role : Sits (number_of first.0.role) ≡ first.0.role
-  own_role = ap (λ (role : Role). Sits (number_of role)) two.first_ready.seated.role ∙ sym two.first_ready.seated.role
+  own_role = ap (λ (role : Role). Sits (number_of role)) two.first_ready.rests.seated.role ∙ sym two.first_ready.rests.seated.role
 
   other_role : Sits (number_of second.0.role) ≡ second.0.role
-  other_role = ap (λ (role : Role). Sits (number_of role)) two.second_ready.seated.role ∙ sym two.second_ready.seated.role
+  other_role = ap (λ (role : Role). Sits (number_of role)) two.second_ready.rests.seated.role ∙ sym two.second_ready.rests.seated.role
 
   other_desk : desk_of (Sits (number_of second.0.role)) ≡ Some b
-  other_desk = ap (λ (role : Role). desk_of (Sits (number_of role))) two.second_ready.seated.role
+  other_desk = ap (λ (role : Role). desk_of (Sits (number_of role))) two.second_ready.rests.seated.role
 
   -- the second one has got up, and the two may be made one
   pub joins_so : (id other : ℕ) (up : Me Slot (Knows K)) → GotUp (plane at) second.0 (rest second.1) up
       → (up.1 ≡ []) × Joins (Ruled (plane at) key) id first.0 other up.0 (both_view (plane at) first.0 up.0) (spent_view (plane at))
   joins_so id other up up_is = (
     ap (λ (x : Me Slot (Knows K)). x.1) up_is ∙ ap rest (held at key table seat' second two.second two.desk' two.second_ready),
-    joins (plane at) key id other a b first.0 up.0 two.first_ready.seated.role (ap (λ (x : Me Slot (Knows K)). x.0.role) up_is ∙ two.second_ready.seated.role)
+    joins (plane at) key id other a b first.0 up.0 two.first_ready.rests.seated.role (ap (λ (x : Me Slot (Knows K)). x.0.role) up_is ∙ two.second_ready.rests.seated.role)
         two.first_ready.empty (ap (λ (x : Me Slot (Knows K)). x.0.hand) up_is ∙ two.second_ready.empty) (ap (λ (x : Me Slot (Knows K)). x.0.desk) up_is),
   )
 
@@ -99,7 +99,7 @@ module _ {K : Type 0} (at : K → World) (key : K) (table seat seat' : TableId) 
     pub first_stays : (seat_one : TableId) → seat_one ≡ seat → StaysReady at key table seat seat_one first one
     first_stays seat_one same = λ m desk r.
         ready_on at key table seat first m desk r seat_one one r.at_desk.note same
-        (ap (λ (x : Me Slot (Knows K)). x.0.about) one_is ∙ r.seated.about)
+        (ap (λ (x : Me Slot (Knows K)). x.0.about) one_is ∙ r.rests.seated.about)
         (ap (λ (x : Me Slot (Knows K)). x.0.role) one_is ∙ own_role)
         (ap (λ (x : Me Slot (Knows K)). x.0.hand) one_is)
         (ap (λ (x : Me Slot (Knows K)). x.0.desk) one_is ∙ r.at_desk.sits)
@@ -108,10 +108,10 @@ module _ {K : Type 0} (at : K → World) (key : K) (table seat seat' : TableId) 
 
     pub second_stays : (seat_back : TableId) → seat_back ≡ seat' → StaysReady at key table seat' seat_back second back
     second_stays seat_back same = λ m desk r.
-        let number_is : b ≡ m.seat.number = ap number_of (sym two.second_ready.seated.role ∙ r.seated.role) in
+        let number_is : b ≡ m.seat.number = ap number_of (sym two.second_ready.rests.seated.role ∙ r.rests.seated.role) in
         let desk_is : drain_slots + b ≡ desk = ap (λ (n : ℕ). drain_slots + n) number_is ∙ sym r.its_desk in
         ready_on at key table seat' second m desk r seat_back back sat.note same
-        (ap (λ (v : Knows K). v.about) back_is ∙ two.first_ready.seated.about)
+        (ap (λ (v : Knows K). v.about) back_is ∙ two.first_ready.rests.seated.about)
         (ap (λ (v : Knows K). v.role) back_is ∙ other_role)
         (ap (λ (v : Knows K). v.hand) back_is)
         (ap (λ (v : Knows K). v.desk) back_is)

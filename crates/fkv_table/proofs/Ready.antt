@@ -66,14 +66,14 @@ module _ {K : Type 0} (at : K → World) where
     held = subst (λ (hand : Option ℕ). base (plane at) hand me.1 ≡ (desk, r.at_desk.note) ∷ []) r.empty r.at_desk.alone
 
     pub its_desk_is : desk_of me.0.role ≡ Some m.seat.number
-    its_desk_is = ap desk_of r.seated.role
+    its_desk_is = ap desk_of r.rests.seated.role
 
     pub in_hand : HasDeskInHand me
     in_hand = (m.seat.number, r.at_desk.note, its_desk_is, held ∙ λ i. (r.its_desk i, r.at_desk.note) ∷ sym (ap rest held) i)
 
     pub below : drain_slots + m.seat.number < table.slots
     below =
-        let first = was_there (at key) me.0.seen m.seat.number r.seated.first r.seated.was in
+        let first = was_there (at key) me.0.seen m.seat.number r.rests.seated.first r.rests.seated.was in
         let few = r.opened.opening.guarded.seats m.seat.number first.0 first.1 in
         omega (arith, few, r.opened.slots)
 
@@ -81,21 +81,25 @@ module _ {K : Type 0} (at : K → World) where
     pub ready_on : (seat' : TableId) (me' : Me Slot (Knows K)) (note : Slot) → seat' ≡ seat → me'.0.about ≡ Some key → me'.0.role ≡ me.0.role → me'.0.hand ≡ None → me'.0.desk ≡ true
         → me'.1 ≡ (desk, note) ∷ [] → GoesOn (plane at) me.0.role me.0.seen me'.0.seen → IsReady at key table seat' me' m desk
     ready_on seat' me' note same about role empty sits alone on =
-        let quiet : Quiet (plane at) (Sits m.seat.number) on.between = subst (λ (its : Role). Quiet (plane at) its on.between) r.seated.role on.quiet in
+        let quiet : Quiet (plane at) (Sits m.seat.number) on.between = subst (λ (its : Role). Quiet (plane at) its on.between) r.rests.seated.role on.quiet in
         record {
           opened = r.opened;
           same_table = same ∙ r.same_table;
-          seated = record {
-            about = about;
-            role = role ∙ r.seated.role;
-            chair = r.seated.chair;
-            first = r.seated.first;
-            was = ap (λ (es : List Happening). slice_get (led (plane at) (at key) es).now.sessions m.seat.number) on.whole ∙ (quiet_session at (at key) m.seat.number on.between me.0.seen quiet ∙ r.seated.was);
-            calls = tt;
-            state = r.seated.state;
-            hand = subst (λ (hand : Option ℕ). HandFits (plane at) (at key) me'.0.seen hand me'.1) (sym empty) tt;
+          rests = record {
+            its = r.rests.its;
+            seated = record {
+              about = about;
+              role = role ∙ r.rests.seated.role;
+              chair = r.rests.seated.chair;
+              first = r.rests.seated.first;
+              was = ap (λ (es : List Happening). slice_get (led (plane at) (at key) es).now.sessions m.seat.number) on.whole ∙ (quiet_session at (at key) m.seat.number on.between me.0.seen quiet ∙ r.rests.seated.was);
+              calls = tt;
+              state = r.rests.seated.state;
+              hand = subst (λ (hand : Option ℕ). HandFits (plane at) (at key) me'.0.seen hand me'.1) (sym empty) tt;
+            };
+            alike = r.rests.alike;
+            idle = r.rests.idle;
           };
-          idle = r.idle;
           at_desk = record { note = note; alone = subst (λ (hand : Option ℕ). base (plane at) hand me'.1 ≡ (desk, note) ∷ []) (sym empty) alone; sits = sits };
           empty = empty;
           its_desk = r.its_desk;

@@ -189,7 +189,7 @@ module _ {K : Type 0} (at : K → World) where
     state_so me' m' (Max i k) h c t = sym (ap (λ (z : Sitter). z.state) t.1)
     state_so me' m' (Done its) h c t = sym (ap (λ (z : Sitter). z.state) t.1)
 
-    same_view : (me' : Me Slot (Knows K)) (m' : Sitter) (ask : Ask Told) → Settled at ask me1 m1 me' m' → (me'.0 ≡ me1.0) × (m'.seat ≡ m1.seat)
+    pub same_view : (me' : Me Slot (Knows K)) (m' : Sitter) (ask : Ask Told) → Settled at ask me1 m1 me' m' → (me'.0 ≡ me1.0) × (m'.seat ≡ m1.seat)
     same_view me' m' (Put slot action) t = (ap (λ (z : Me Slot (Knows K)). z.0) t.0, ap (λ (z : Sitter). z.seat) t.1)
     same_view me' m' (Take slot) t = (ap (λ (z : Me Slot (Knows K)). z.0) t.2, ap (λ (z : Sitter). z.seat) t.3)
     same_view me' m' (Load i) t = (ap (λ (z : Me Slot (Knows K)). z.0) t.0, ap (λ (z : Sitter). z.seat) t.1)

@@ -105,17 +105,21 @@ module _ {K : Type 0} (at : K → World) (key : K) where
         ready = λ guard. record {
           opened = record { opening = guard; words = words; slots = slots };
           same_table = has.same_table;
-          seated = record {
-            about = ap (λ (v : Knows K). v.about) view;
-            role = ap (λ (v : Knows K). v.role) view ∙ ap (λ (n : ℕ). Sits n) (sym number_is);
-            chair = chair ∙ ap (seat_at (at key).now) (sym number_is);
-            first = m.state;
-            was = (λ i. slice_get (led (plane at) (at key) (nothing i)).now.sessions (number_is i)) ∙ there;
-            calls = tt;
-            state = refl;
-            hand = subst (λ (hand : Option ℕ). HandFits (plane at) (at key) me.0.seen hand me.1) (sym empty) tt;
+          rests = record {
+            its = m.state;
+            seated = record {
+              about = ap (λ (v : Knows K). v.about) view;
+              role = ap (λ (v : Knows K). v.role) view ∙ ap (λ (n : ℕ). Sits n) (sym number_is);
+              chair = chair ∙ ap (seat_at (at key).now) (sym number_is);
+              first = m.state;
+              was = (λ i. slice_get (led (plane at) (at key) (nothing i)).now.sessions (number_is i)) ∙ there;
+              calls = tt;
+              state = refl;
+              hand = subst (λ (hand : Option ℕ). HandFits (plane at) (at key) me.0.seen hand me.1) (sym empty) tt;
+            };
+            alike = refl;
+            idle = (opened.sessions number m.state there).none_in_hand;
           };
-          idle = (opened.sessions number m.state there).none_in_hand;
           at_desk = record {
             note = has.note;
             alone = subst (λ (hand : Option ℕ). base (plane at) hand me.1 ≡ (desk, has.note) ∷ []) (sym empty) (held ∙ λ i. (sym desk_is i, has.note) ∷ []);

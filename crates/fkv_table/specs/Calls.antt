@@ -20,7 +20,7 @@ use Rattle.fkv_table.specs.Desks.{Slot, Knows, IsAtDesk}
 use Rattle.fkv_table.specs.Events.{actor_of}
 use Rattle.fkv_table.specs.Openings.{IsTableOf}
 use Rattle.fkv_table.specs.Planes.{plane}
-use Rattle.fkv_table.specs.Sits.{IsSeated}
+use Rattle.fkv_table.specs.Sits.{Rests}
 
 -- of this session nothing but its steps
 abbrev pub OnlyMoves : ℕ → List Happening → Type 0
@@ -66,8 +66,7 @@ module _ {K : Type 0} (at : K → World) where
   pub record IsReady (key : K) (table seat : TableId) (me : Me Slot (Knows K)) (m : Sitter) (desk : ℕ) : Type 0 where
     pub opened : IsTableOf (at key) table
     pub same_table : seat ≡ table
-    pub seated : IsSeated at key me [] m
-    pub idle : is_busy m.state.step ≡ false
+    pub rests : Rests at key me m
     pub at_desk : IsAtDesk at desk me
     pub empty : me.0.hand ≡ None
     pub its_desk : desk ≡ drain_slots + m.seat.number

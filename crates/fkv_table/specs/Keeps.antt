@@ -44,6 +44,12 @@ module _ {K : Type 0} (at : K → World) where
     pub keeping : IsKeeping key me k
     pub idle : is_in_hand k.state.step ≡ false
 
+  -- The same in the middle of a call, or between two.
+  pub record IsKeeperAtWork (key : K) (table seat : TableId) (me : Me Slot (Knows K)) (k : KeeperModel) : Type 0 where
+    pub opened : IsTableOf (at key) table
+    pub same_table : seat ≡ table
+    pub keeping : IsKeeping key me k
+
   -- The keeper of a table that was just opened, with its pass. As soon as the guard begins with the table's world they are ready.
   pub record IsFreshKeeper (key : K) (table : TableId) (k : KeeperModel) (seat : TableId) (me : Me Slot (Knows K)) : Type 0 where
     pub ready : IsGuardedOpening (at key) → IsKeeperReady key table seat me k

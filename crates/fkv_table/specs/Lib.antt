@@ -4,6 +4,7 @@ pub mod Desks
 pub mod Events
 pub mod KeeperCalls
 pub mod Keeps
+pub mod Lines
 pub mod Meets
 pub mod Openings
 pub mod Planes
@@ -11,3 +12,4 @@ pub mod Positions
 pub mod Seating
 pub mod Sits
 pub mod Starts
+pub mod Turns

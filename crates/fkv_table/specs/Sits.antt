@@ -1,5 +1,5 @@
 -- What a session's machine and its seat have to do with each other, and what a step of the session tells.
-use Rattle.std.specs.Prelude.{◌≡◌, ⊤, ℕ, List, [], ◌∷◌, ◌++◌, Option, Some, None, slice_get}
+use Rattle.std.specs.Prelude.{◌≡◌, ⊤, ℕ, false, List, [], ◌∷◌, ◌++◌, Option, Some, None, slice_get}
 use Rattle.atomic_table.specs.Table.{Me, rest}
 use Rattle.fkv_map.specs.declared.operations.Call.{Call}
 use Rattle.fkv_plane.specs.declared.actions.Action.{Action}
@@ -7,7 +7,8 @@ use Rattle.fkv_plane.specs.declared.asks.Ask.{Ask}
 use Rattle.fkv_plane.specs.declared.asks.Ask.TheVariants.{Put, Take, Done}
 use Rattle.fkv_plane.specs.Asked.{reply_to}
 use Rattle.fkv_session.specs.declared.answers.Told.{Told}
-use Rattle.fkv_session.specs.Sessions.{Seat, SessionState, Sitter, session_ask, session_next}
+use Rattle.fkv_session.specs.Alike.{StandAlike, lasting}
+use Rattle.fkv_session.specs.Sessions.{Seat, SessionState, Sitter, is_busy, session_ask, session_next}
 use Rattle.fkv_world.specs.Actors.{slot_asked}
 use Rattle.fkv_world.specs.Moves.{session_gets}
 use Rattle.fkv_world.specs.Runs.{World}
@@ -54,6 +55,26 @@ module _ {K : Type 0} (at : K → World) where
     pub state : m'.state ≡ session_next m.seat m.state (reply_to (led (plane at) (at key) (own ++ (others ++ me.0.seen))).now.words (session_ask m.seat m.state))
     pub hand : me'.0.hand ≡ slot_asked (session_ask m'.seat m'.state)
     pub carries : Carries (plane at) (at key) (own ++ (others ++ me.0.seen)) me'.0.hand (base (plane at) me.0.hand me.1) me'.1
+
+  -- A machine stands in for the session of the seat: the two stand alike, so they ask and answer the same.
+  pub record StandsIn (key : K) (me : Me Slot (Knows K)) (own : List Happening) (m : Sitter) : Type 0 where
+    pub its : SessionState
+    pub seated : IsSeated key me own (record m { state = its })
+    pub alike : StandAlike m.state its
+
+  -- The step's reply has led both on.
+  pub record RepliedIn (key : K) (me : Me Slot (Knows K)) (own : List Happening) (m : Sitter) (me' : Me Slot (Knows K)) (m' : Sitter) : Type 0 where
+    pub before : StandsIn key me own m
+    pub after : SessionState
+    pub replied : Replied key me own (record m { state = before.its }) me' (record m' { state = after })
+    pub alike : StandAlike m'.state after
+
+  -- No call is in hand, and the same lasts of the session as of the machine: so it stands in for the session in the next call.
+  pub record Rests (key : K) (me : Me Slot (Knows K)) (m : Sitter) : Type 0 where
+    pub its : SessionState
+    pub seated : IsSeated key me [] (record m { state = its })
+    pub alike : lasting m.state ≡ lasting its
+    pub idle : is_busy its.step ≡ false
 
   -- the slot to which an ask turns is out with the seat, at the front
   abbrev pub IsAsked : Ask Told → Me Slot (Knows K) → Type 0

@@ -5,7 +5,8 @@ ghost use Rattle.fkv_checkpoint.specs.Copying.{IsRoomFor};
 ghost use Rattle.fkv_disk.specs.Device.{AtEachMoment};
 ghost use Rattle.fkv_keeper.specs.Answers.{is_busy};
 ghost use Rattle.fkv_keeper.specs.Keeping.{keeper_ask};
-ghost use Rattle.fkv_keeper.specs.KeeperAsks.{keeper_asks_left};
+ghost use Rattle.fkv_disk.specs.Asks.{kinds_by};
+ghost use Rattle.fkv_keeper.specs.KeeperAsks.{keeper_asks_left, keeper_due};
 ghost use Rattle.fkv_keeper.specs.KeeperRun.{is_in_hand};
 ghost use Rattle.fkv_keeper.specs.Running.{IsBeginTold, IsTurnTold};
 ghost use Rattle.fkv_keeper.specs.declared.answers.KeeperTold.TheVariants.{Device as AtDevice};
@@ -268,7 +269,7 @@ fn step<D: Device>(
 }
 
 /// Makes the call of the device that the machine asks for, and adds that to the list.
-fn call_device<D: Device>(
+pub(crate) fn call_device<D: Device>(
     words: &Words<D>,
     seat: &mut Place<D>,
     machine: &mut fkv_keeper::Keeper,
@@ -285,6 +286,7 @@ fn call_device<D: Device>(
     ensures honest { D.honest d.new }
     ensures after { IsAfterSeen (opening_of D.seen) words.now.key seat.new.me.0.seen (D.seen d.new) (D.may_leave d.new) }
     ensures moments { AtEachMoment D.moment D.left_since d.old d.new (IsLeftWithin (opening_of D.seen) words.now.key seat.old.me.0.seen seat.new.me.0.seen) }
+    ensures due { D.expects d.new ≡ kinds_by (keeper_due machine.old) (D.expects d.old) }
     ensures fewer { keeper_asks_left machine.new.shape machine.new.places machine.new.state < keeper_asks_left machine.old.shape machine.old.places machine.old.state }
 {
     match machine.call_device(d) {
@@ -293,82 +295,32 @@ fn call_device<D: Device>(
     }
 }
 
-/// Goes on with the call in hand until it is over.
-fn steps_on<D: Device>(
+/// Makes the steps of words up to the next call of the device, or to the end of the call in hand, and tells which. A commit's beginning asks
+/// for no device.
+pub(crate) fn word_steps<D: Device>(
     words: &Words<D>,
     seat: &mut Place<D>,
     machine: &mut fkv_keeper::Keeper,
-    d: &mut D,
-)
+) -> KeeperTold
     requires table { (seat.old.table_id ≡ words.now.table_id) × IsTableOf (opening_of D.seen words.now.key) words.now.table_id }
     requires keeping { IsKeeping (opening_of D.seen) words.now.key seat.old.me machine.old }
-    requires honest { D.honest d.old }
-    requires after { IsAfterSeen (opening_of D.seen) words.now.key seat.old.me.0.seen (D.seen d.old) (D.may_leave d.old) }
-    ensures seat { (seat.new.table_id ≡ seat.old.table_id) × (seat.new.id ≡ seat.old.id) }
-    ensures keeping { IsKeeping (opening_of D.seen) words.now.key seat.new.me machine.new }
-    ensures went { HasGoneOn seat.old.me.0.seen seat.new.me.0.seen }
-    ensures honest { D.honest d.new }
-    ensures after { IsAfterSeen (opening_of D.seen) words.now.key seat.new.me.0.seen (D.seen d.new) (D.may_leave d.new) }
-    ensures moments { AtEachMoment D.moment D.left_since d.old d.new (IsLeftWithin (opening_of D.seen) words.now.key seat.old.me.0.seen seat.new.me.0.seen) }
-    ensures over { is_busy (keeper_ask machine.new.shape machine.new.places machine.new.state) ≡ false }
-{
-    'asks: loop {
-        match machine.ask() {
-            Ask::Done(told) => match told {
-                KeeperTold::Device => call_device(words, seat, machine, d),
-                _ => return,
-            },
-            ask => step(words, seat, machine, &ask),
-        }
-    }
-}
-
-/// Makes the steps of a commit's beginning up to their end. None of them asks for the device.
-fn commit_steps<D: Device>(words: &Words<D>, seat: &mut Place<D>, machine: &mut fkv_keeper::Keeper)
-    requires table { (seat.old.table_id ≡ words.now.table_id) × IsTableOf (opening_of D.seen words.now.key) words.now.table_id }
-    requires keeping { IsKeeping (opening_of D.seen) words.now.key seat.old.me machine.old }
-    requires beginning { IsBeginning machine.old.state.step }
     ensures seat { (seat.new.table_id ≡ seat.old.table_id) × (seat.new.id ≡ seat.old.id) }
     ensures keeping { IsKeeping (opening_of D.seen) words.now.key seat.new.me machine.new }
     ensures went { HasGoneOn seat.old.me.0.seen seat.new.me.0.seen }
     ensures calls { (led (plane (opening_of D.seen)) (opening_of D.seen words.now.key) seat.new.me.0.seen).past.calls ≡ (led (plane (opening_of D.seen)) (opening_of D.seen words.now.key) seat.old.me.0.seen).past.calls }
-    ensures over { is_busy (keeper_ask machine.new.shape machine.new.places machine.new.state) ≡ false }
+    ensures told { keeper_ask machine.new.shape machine.new.places machine.new.state ≡ Done result }
+    ensures left { keeper_asks_left machine.new.shape machine.new.places machine.new.state ≤ keeper_asks_left machine.old.shape machine.old.places machine.old.state }
+    ensures beginning { IsBeginning machine.old.state.step → IsBeginning machine.new.state.step }
 {
     'asks: loop {
         match machine.ask() {
-            Ask::Done(_) => return,
+            Ask::Done(told) => return told,
             ask => step(words, seat, machine, &ask),
         }
     }
 }
 
 impl Keeper {
-    /// Makes a turn to its end, with each call of the device that it needs. Its answers are those of the keeper's machine: it ends early
-    /// with `Broken`, `Device`, `EpochsSpent` or `Memory`. The device is the one that the store was opened from, and it is honest. What a crash
-    /// leaves in the middle of a turn is what the life's calls may leave behind a part of what the turn adds to the list.
-    pub fn turn<D: Device>(
-        &mut self,
-        table: &Table<D>,
-        mut pass: KeeperPass<D>,
-        d: &mut D,
-    ) -> (KeeperPass<D>, Result<Turn, Fault>)
-        requires ready { IsKeeperReady (opening_of D.seen) table.now.table.shared.key table.now.table.shared.table_id pass.seat.table_id pass.seat.me self.old.machine }
-        requires honest { D.honest d.old }
-        requires after { IsAfterSeen (opening_of D.seen) table.now.table.shared.key pass.seat.me.0.seen (D.seen d.old) (D.may_leave d.old) }
-        ensures ready { IsKeeperReady (opening_of D.seen) table.now.table.shared.key table.now.table.shared.table_id result.0.seat.table_id result.0.seat.me self.new.machine }
-        ensures kept { HasKept Turns pass.seat.me.0.seen result.0.seat.me.0.seen }
-        ensures honest { D.honest d.new }
-        ensures after { IsAfterSeen (opening_of D.seen) table.now.table.shared.key result.0.seat.me.0.seen (D.seen d.new) (D.may_leave d.new) }
-        ensures moments { AtEachMoment D.moment D.left_since d.old d.new (IsLeftWithin (opening_of D.seen) table.now.table.shared.key pass.seat.me.0.seen result.0.seat.me.0.seen) }
-        ensures told { IsTurnTold self.new.machine.state.last (keeper_ask self.new.machine.shape self.new.machine.places self.new.machine.state) result.1 }
-    {
-        let words = &table.table.shared;
-        begin_turn(words, &mut pass.seat, &mut self.machine);
-        steps_on(words, &mut pass.seat, &mut self.machine, d);
-        let answer = turn_told(&mut self.machine);
-        (pass, answer)
-    }
-
     /// Begins a commit of this kind and gives its number; later turns carry it through. Its refusals are those of the keeper's machine:
     /// `Broken`, `CommitRunning`, `VersionsSpent`, `LostFull`, `EpochsSpent` or `DrainFull`. The device isn't called.
     pub fn ask_commit<D: Device>(
@@ -385,23 +337,9 @@ impl Keeper {
     {
         let words = &table.table.shared;
         begin_commit(words, &mut pass.seat, &mut self.machine, kind);
-        commit_steps(words, &mut pass.seat, &mut self.machine);
+        word_steps(words, &mut pass.seat, &mut self.machine);
         let answer = begin_told(&mut self.machine);
         (pass, answer)
-    }
-}
-
-/// How a turn has ended. At rest a reply changes nothing, and the last answer is told again.
-#[tactic(auto, unfolding(fkv_keeper::specs::Keeping::keeping_next))]
-fn turn_told(machine: &mut fkv_keeper::Keeper) -> Result<Turn, Fault>
-    requires over { is_busy (keeper_ask machine.old.shape machine.old.places machine.old.state) ≡ false }
-    requires idle { is_in_hand machine.old.state.step ≡ false }
-    ensures same { machine.new ≡ machine.old }
-    ensures told { IsTurnTold machine.old.state.last (keeper_ask machine.old.shape machine.old.places machine.old.state) result }
-{
-    match machine.drive(0) {
-        KeeperAsk::Turned(result) => result,
-        _ => Err(Fault::DrainFull),
     }
 }
 

@@ -1,28 +1,32 @@
 //! A session's calls at the table.
 ghost use Rattle.std.specs.Prelude.{◌≡◌, ◌<◌, ℕ, Some, None, [], ◌∷◌, true, false};
+ghost use Rattle.fkv_map.specs.declared.operations.Call.TheVariants as call;
 ghost use Rattle.fkv_plane.specs.Asked.{asked_place};
 ghost use Rattle.fkv_plane.specs.declared.asks.Ask.TheVariants.{Done};
 ghost use Rattle.fkv_seats.specs.Rule.{Stepped, base, led};
 ghost use Rattle.fkv_session.specs.AsksLeft.{session_asks_left};
 ghost use Rattle.fkv_session.specs.declared.answers.Told.{Told};
-ghost use Rattle.fkv_session.specs.Sessions.{is_busy, session_ask};
+ghost use Rattle.fkv_session.specs.Sessions.{session_ask};
 ghost use Rattle.fkv_session.specs.SessionRun.{telling};
+ghost use Rattle.fkv_straight.specs.Course.{Goes, course_of};
 ghost use Rattle.fkv_table.specs.Calls.{HasCalled, HasStepped, IsAnsweredLast, IsReady, IsToldLast, WasIdle};
 ghost use Rattle.fkv_table.specs.Desks.{noted};
 ghost use Rattle.fkv_table.specs.declared.happenings.Happening.TheVariants.{Calls};
 ghost use Rattle.fkv_table.specs.Openings.{IsTableOf};
 ghost use Rattle.fkv_table.specs.Planes.{plane, opening_of};
-ghost use Rattle.fkv_table.specs.Sits.{IsAsked, IsIdleEmpty, IsSeated, Replied, Settled, Went};
+ghost use Rattle.fkv_table.specs.Sits.{IsAsked, IsIdleEmpty, RepliedIn, Rests, Settled, StandsIn, Went};
 
 use crate::happenings::Happening;
+use crate::lines::SeatLine;
 use crate::performing::perform;
 use crate::plays::{Adds, First, Next, Notes, Turn};
 use crate::rule::{Pass, Place, Table, Words};
 use fkv_disk::Device;
-use fkv_map::Call;
+use fkv_map::{Call, Op};
 use fkv_plane::Ask;
 use fkv_seats::Held;
-use fkv_session::{Answer, Told, answer_of};
+use fkv_session::{Answer, Told, answer_of, law_of_standing};
+use fkv_straight::Going;
 
 /// A session of a store that threads share.
 #[derive(Drop)]
@@ -40,13 +44,14 @@ fn ask_word<D: Device, O: Adds>(
     ask: &Ask<Told>,
 ) -> Ask<Told>
     requires table { (seat.old.table_id ≡ words.now.table_id) × IsTableOf (opening_of D.seen words.now.key) words.now.table_id }
-    requires seated { IsSeated (opening_of D.seen) words.now.key seat.old.me (O.own seat.old.me.1) machine.old }
+    requires seated { StandsIn (opening_of D.seen) words.now.key seat.old.me (O.own seat.old.me.1) machine.old }
     requires ask { ask.now ≡ session_ask machine.old.seat machine.old.state }
     requires word { (place : ℕ) × (asked_place ask.now ≡ Some place) }
     ensures seat { (seat.new.table_id ≡ seat.old.table_id) × (seat.new.id ≡ seat.old.id) }
-    ensures next { Replied (opening_of D.seen) words.now.key seat.old.me (O.own seat.old.me.1) machine.old seat.new.me machine.new }
+    ensures next { RepliedIn (opening_of D.seen) words.now.key seat.old.me (O.own seat.old.me.1) machine.old seat.new.me machine.new }
     ensures ask { result ≡ session_ask machine.new.seat machine.new.state }
 {
+    law_of_standing();
     let reply = perform::<D, Turn<O>, Told>(words, seat, ask);
     machine.go_on(reply)
 }
@@ -86,17 +91,18 @@ fn step<D: Device, O: Adds>(
     ask: &Ask<Told>,
 ) -> Ask<Told>
     requires table { (seat.old.table_id ≡ words.now.table_id) × IsTableOf (opening_of D.seen words.now.key) words.now.table_id }
-    requires seated { IsSeated (opening_of D.seen) words.now.key seat.old.me (O.own seat.old.me.1) machine.old }
+    requires seated { StandsIn (opening_of D.seen) words.now.key seat.old.me (O.own seat.old.me.1) machine.old }
     requires ask { ask.now ≡ session_ask machine.old.seat machine.old.state }
     requires word { (place : ℕ) × (asked_place ask.now ≡ Some place) }
     ensures seat { (seat.new.table_id ≡ seat.old.table_id) × (seat.new.id ≡ seat.old.id) }
     ensures went { Went (opening_of D.seen) seat.old.me (O.own seat.old.me.1) machine.old.seat.number seat.new.me }
-    ensures seated { IsSeated (opening_of D.seen) words.now.key seat.new.me [] machine.new × (machine.new.seat ≡ machine.old.seat) }
+    ensures seated { StandsIn (opening_of D.seen) words.now.key seat.new.me [] machine.new × (machine.new.seat ≡ machine.old.seat) }
     ensures idle { IsIdleEmpty (opening_of D.seen) machine.new seat.new.me }
     ensures told { (its : Told) → session_ask machine.new.seat machine.new.state ≡ Done its → IsToldLast (led (plane (opening_of D.seen)) (opening_of D.seen words.now.key) seat.new.me.0.seen) machine.new.seat.number (telling its machine.new.state.finished) }
     ensures fewer { session_asks_left machine.new.seat machine.new.state < session_asks_left machine.old.seat machine.old.state }
     ensures ask { result ≡ session_ask machine.new.seat machine.new.state }
 {
+    law_of_standing();
     let next = ask_word::<D, O>(words, seat, machine, ask);
     settle(words, seat, machine, next)
 }
@@ -109,18 +115,18 @@ fn steps_on<D: Device>(
     first: Ask<Told>,
 ) -> Told
     requires table { (seat.old.table_id ≡ words.now.table_id) × IsTableOf (opening_of D.seen words.now.key) words.now.table_id }
-    requires seated { IsSeated (opening_of D.seen) words.now.key seat.old.me [] machine.old }
+    requires seated { StandsIn (opening_of D.seen) words.now.key seat.old.me [] machine.old }
     requires idle { IsIdleEmpty (opening_of D.seen) machine.old seat.old.me }
     requires told { (its : Told) → session_ask machine.old.seat machine.old.state ≡ Done its → IsToldLast (led (plane (opening_of D.seen)) (opening_of D.seen words.now.key) seat.old.me.0.seen) machine.old.seat.number (telling its machine.old.state.finished) }
     requires ask { first ≡ session_ask machine.old.seat machine.old.state }
     ensures seat { (seat.new.table_id ≡ seat.old.table_id) × (seat.new.id ≡ seat.old.id) }
     ensures steps { HasStepped machine.old.seat.number seat.old.me.0.seen seat.new.me.0.seen }
     ensures desk { (base (plane (opening_of D.seen)) seat.new.me.0.hand seat.new.me.1 ≡ base (plane (opening_of D.seen)) seat.old.me.0.hand seat.old.me.1) × (seat.new.me.0.desk ≡ seat.old.me.0.desk) }
-    ensures seated { IsSeated (opening_of D.seen) words.now.key seat.new.me [] machine.new × (machine.new.seat ≡ machine.old.seat) }
+    ensures rests { Rests (opening_of D.seen) words.now.key seat.new.me machine.new × (machine.new.seat ≡ machine.old.seat) }
     ensures idle { seat.new.me.0.hand ≡ None }
     ensures told { IsToldLast (led (plane (opening_of D.seen)) (opening_of D.seen words.now.key) seat.new.me.0.seen) machine.new.seat.number (telling result machine.new.state.finished) }
-    ensures answer { session_ask machine.new.seat machine.new.state ≡ Done result }
 {
+    law_of_standing();
     let mut ask = first;
     loop {
         if let Ask::Done(told) = ask {
@@ -138,7 +144,7 @@ fn note<D: Device>(
     _call: &Call,
 )
     requires table { (seat.old.table_id ≡ words.now.table_id) × IsTableOf (opening_of D.seen words.now.key) words.now.table_id }
-    requires seated { IsSeated (opening_of D.seen) words.now.key seat.old.me (noted seat.old.me.1) _machine.now }
+    requires seated { StandsIn (opening_of D.seen) words.now.key seat.old.me (noted seat.old.me.1) _machine.now }
     requires note { noted seat.old.me.1 ≡ Calls _machine.now.seat.number _call.now ∷ [] }
     ensures seat { (seat.new.table_id ≡ seat.old.table_id) × (seat.new.id ≡ seat.old.id) }
     ensures told { (word : ℕ) × Stepped (plane (opening_of D.seen)) (opening_of D.seen words.now.key) seat.old.me.0 seat.old.me.1 0 [] (Calls _machine.now.seat.number _call.now) word seat.new.me }
@@ -155,18 +161,18 @@ fn run_begun<D: Device>(
     first: Ask<Told>,
 ) -> Told
     requires table { (seat.old.table_id ≡ words.now.table_id) × IsTableOf (opening_of D.seen words.now.key) words.now.table_id }
-    requires seated { IsSeated (opening_of D.seen) words.now.key seat.old.me (noted seat.old.me.1) machine.old }
+    requires seated { StandsIn (opening_of D.seen) words.now.key seat.old.me (noted seat.old.me.1) machine.old }
     requires note { noted seat.old.me.1 ≡ Calls machine.old.seat.number call.now ∷ [] }
     requires idle { WasIdle (opening_of D.seen) words.now.key seat.old.me.0.seen machine.old.seat.number }
     requires ask { first ≡ session_ask machine.old.seat machine.old.state }
     ensures seat { (seat.new.table_id ≡ seat.old.table_id) × (seat.new.id ≡ seat.old.id) }
     ensures called { HasCalled machine.old.seat.number call.now seat.old.me.0.seen seat.new.me.0.seen }
     ensures desk { (base (plane (opening_of D.seen)) seat.new.me.0.hand seat.new.me.1 ≡ base (plane (opening_of D.seen)) seat.old.me.0.hand seat.old.me.1) × (seat.new.me.0.desk ≡ seat.old.me.0.desk) }
-    ensures seated { IsSeated (opening_of D.seen) words.now.key seat.new.me [] machine.new × (machine.new.seat ≡ machine.old.seat) }
+    ensures rests { Rests (opening_of D.seen) words.now.key seat.new.me machine.new × (machine.new.seat ≡ machine.old.seat) }
     ensures empty { seat.new.me.0.hand ≡ None }
     ensures told { IsToldLast (led (plane (opening_of D.seen)) (opening_of D.seen words.now.key) seat.new.me.0.seen) machine.new.seat.number (telling result machine.new.state.finished) }
-    ensures answer { session_ask machine.new.seat machine.new.state ≡ Done result }
 {
+    law_of_standing();
     if let Ask::Done(told) = first {
         note(words, seat, machine, call);
         return told;
@@ -175,12 +181,87 @@ fn run_begun<D: Device>(
     steps_on(words, seat, machine, next)
 }
 
+/// Runs a call by the machine: its start is noted on the desk, and its steps follow.
+fn run_by_machine<D: Device>(
+    words: &Words<D>,
+    mut pass: Pass<D>,
+    machine: &mut fkv_session::Session,
+    desk: usize,
+    call: &Call,
+) -> (Pass<D>, Told)
+    requires ready { IsReady (opening_of D.seen) words.now.key words.now.table_id pass.seat.table_id pass.seat.me machine.old desk }
+    ensures ready { IsReady (opening_of D.seen) words.now.key words.now.table_id result.0.seat.table_id result.0.seat.me machine.new desk }
+    ensures number { machine.new.seat.number ≡ machine.old.seat.number }
+    ensures called { HasCalled machine.old.seat.number call.now pass.seat.me.0.seen result.0.seat.me.0.seen }
+    ensures told { IsToldLast (led (plane (opening_of D.seen)) (opening_of D.seen words.now.key) result.0.seat.me.0.seen) machine.new.seat.number (telling result.1 machine.new.state.finished) }
+{
+    law_of_standing();
+    let start = Happening::Calls(machine.number(), *call);
+    let _ = words.exchange(&mut pass.seat, desk, Held::Desk(start));
+    let first = machine.begin(*call);
+    let told = run_begun(words, &mut pass.seat, machine, call, first);
+    (pass, told)
+}
+
+/// Runs an operation straight. Where it meets anything unusual the machine goes on.
+#[inline(always)]
+fn run_straight<D: Device>(
+    words: &Words<D>,
+    pass: Pass<D>,
+    machine: &mut fkv_session::Session,
+    desk: usize,
+    going: &Going,
+    op: Op,
+) -> (Pass<D>, Told)
+    requires ready { IsReady (opening_of D.seen) words.now.key words.now.table_id pass.seat.table_id pass.seat.me machine.old desk }
+    requires goes { Goes (course_of machine.old.seat machine.old.state op) machine.old.seat op going.now }
+    ensures ready { IsReady (opening_of D.seen) words.now.key words.now.table_id result.0.seat.table_id result.0.seat.me machine.new desk }
+    ensures number { machine.new.seat.number ≡ machine.old.seat.number }
+    ensures called { HasCalled machine.old.seat.number (call.Op op) pass.seat.me.0.seen result.0.seat.me.0.seen }
+    ensures told { IsToldLast (led (plane (opening_of D.seen)) (opening_of D.seen words.now.key) result.0.seat.me.0.seen) machine.new.seat.number (telling result.1 machine.new.state.finished) }
+{
+    let Pass { seat } = pass;
+    let mut line = SeatLine::new(words, seat, machine, desk);
+    let ask = fkv_straight::run(&mut line, machine, going, op);
+    let mut seat = line.into_seat();
+    if let Ask::Done(told) = ask {
+        return (Pass { seat }, told);
+    }
+    let next = settle(words, &mut seat, machine, ask);
+    let told = steps_on(words, &mut seat, machine, next);
+    (Pass { seat }, told)
+}
+
+/// Runs a call: an operation straight where it may go so, and every other call by the machine.
+#[inline(always)]
+fn run_told<D: Device>(
+    words: &Words<D>,
+    pass: Pass<D>,
+    machine: &mut fkv_session::Session,
+    desk: usize,
+    call: Call,
+) -> (Pass<D>, Told)
+    requires ready { IsReady (opening_of D.seen) words.now.key words.now.table_id pass.seat.table_id pass.seat.me machine.old desk }
+    ensures ready { IsReady (opening_of D.seen) words.now.key words.now.table_id result.0.seat.table_id result.0.seat.me machine.new desk }
+    ensures number { machine.new.seat.number ≡ machine.old.seat.number }
+    ensures called { HasCalled machine.old.seat.number call pass.seat.me.0.seen result.0.seat.me.0.seen }
+    ensures told { IsToldLast (led (plane (opening_of D.seen)) (opening_of D.seen words.now.key) result.0.seat.me.0.seen) machine.new.seat.number (telling result.1 machine.new.state.finished) }
+{
+    if let Call::Op(op) = call {
+        let going = Going::of(machine, op);
+        if let Some(its) = going {
+            return run_straight(words, pass, machine, desk, &its, op);
+        }
+    }
+    run_by_machine(words, pass, machine, desk, &call)
+}
+
 impl Session {
     /// Runs a call to its end. It waits for no other thread.
     pub fn run<D: Device>(
         &mut self,
         table: &Table<D>,
-        mut pass: Pass<D>,
+        pass: Pass<D>,
         call: Call,
     ) -> (Pass<D>, Answer)
         requires ready { IsReady (opening_of D.seen) table.now.table.shared.key table.now.table.shared.table_id pass.seat.table_id pass.seat.me self.old.machine self.old.desk }
@@ -190,10 +271,7 @@ impl Session {
         ensures answer { IsAnsweredLast (led (plane (opening_of D.seen)) (opening_of D.seen table.now.table.shared.key) result.0.seat.me.0.seen) self.new.machine.seat.number result.1 }
     {
         let words = &table.table.shared;
-        let start = Happening::Calls(self.machine.number(), call);
-        let _ = words.exchange(&mut pass.seat, self.desk, Held::Desk(start));
-        let first = self.machine.begin(call);
-        let told = run_begun(words, &mut pass.seat, &mut self.machine, &call, first);
+        let (pass, told) = run_told(words, pass, &mut self.machine, self.desk, call);
         let answer = answer_of(told, self.machine.finished());
         (pass, answer)
     }

@@ -1,6 +1,5 @@
 -- What the thread law says of a call that was run.
 use Rattle.std.proofs.Common.{◌≡◌, ℕ, List, subst}
-use Rattle.fkv_map.specs.declared.operations.Call.{Call}
 use Rattle.fkv_opening.specs.declared.opened_store.Opened.{Opened}
 use Rattle.fkv_session.specs.declared.answers.Answer.{Answer}
 use Rattle.fkv_world.specs.Runs.{World}

@@ -1,2 +1,3 @@
 mod Lawful
 mod Opens
+mod Taken

@@ -1,10 +1,6 @@
 //! A session's calls.
 ghost use Rattle.std.specs.Prelude.{◌≡◌};
-ghost use Rattle.fkv_table.specs.Calls.{IsReady};
-ghost use Rattle.fkv_table.specs.Planes.{opening_of};
-ghost use Rattle.fkv_threads.specs.Runs.{IsLawful, IsRun, OfThisRun, run_of};
-ghost use Rattle.law_threads.specs.Durable.{ItsDurableNeverFalls, RecoversItsDurable, TellsItsDurable};
-ghost use Rattle.law_threads.specs.Laws.{IsWithin};
+ghost use Rattle.fkv_threads.specs.Said as said;
 
 use fkv_core::World;
 use fkv_disk::Device;
@@ -25,14 +21,14 @@ pub fn run<D: Device>(
     pass: Pass<D>,
     call: Call,
 ) -> (Pass<D>, Answer)
-    requires ready { IsReady (opening_of D.seen) table.now.table.shared.key table.now.table.shared.table_id pass.seat.table_id pass.seat.me session.old.machine session.old.desk }
-    ensures ready { IsReady (opening_of D.seen) table.now.table.shared.key table.now.table.shared.table_id result.0.seat.table_id result.0.seat.me session.new.machine session.new.desk }
+    requires ready { said.IsReady (said.opening_of D.seen) table.now.table.shared.key table.now.table.shared.table_id pass.seat.table_id pass.seat.me session.old.machine session.old.desk }
+    ensures ready { said.IsReady (said.opening_of D.seen) table.now.table.shared.key table.now.table.shared.table_id result.0.seat.table_id result.0.seat.me session.new.machine session.new.desk }
     ensures number { session.new.machine.seat.number ≡ session.old.machine.seat.number }
-    ensures called { IsRun (opening_of D.seen) table.now.table.shared.key (run_of session.old.machine.seat.number call result.1 pass.seat.me.0.seen result.0.seat.me.0.seen) }
-    ensures in_lives { IsLawful (opening_of D.seen) table.now.table.shared.key (run_of session.old.machine.seat.number call result.1 pass.seat.me.0.seen result.0.seat.me.0.seen) IsWithin }
-    ensures durable { OfThisRun (opening_of D.seen) table.now.table.shared.key (run_of session.old.machine.seat.number call result.1 pass.seat.me.0.seen result.0.seat.me.0.seen) IsWithin TellsItsDurable }
-    ensures never_falls { OfThisRun (opening_of D.seen) table.now.table.shared.key (run_of session.old.machine.seat.number call result.1 pass.seat.me.0.seen result.0.seat.me.0.seen) IsWithin ItsDurableNeverFalls }
-    ensures recovered { OfThisRun (opening_of D.seen) table.now.table.shared.key (run_of session.old.machine.seat.number call result.1 pass.seat.me.0.seen result.0.seat.me.0.seen) IsWithin RecoversItsDurable }
+    ensures called { said.IsRun (said.opening_of D.seen) table.now.table.shared.key (said.run_of session.old.machine.seat.number call result.1 pass.seat.me.0.seen result.0.seat.me.0.seen) }
+    ensures in_lives { said.IsLawful (said.opening_of D.seen) table.now.table.shared.key (said.run_of session.old.machine.seat.number call result.1 pass.seat.me.0.seen result.0.seat.me.0.seen) said.IsWithin }
+    ensures durable { said.OfThisRun (said.opening_of D.seen) table.now.table.shared.key (said.run_of session.old.machine.seat.number call result.1 pass.seat.me.0.seen result.0.seat.me.0.seen) said.IsWithin said.TellsItsDurable }
+    ensures never_falls { said.OfThisRun (said.opening_of D.seen) table.now.table.shared.key (said.run_of session.old.machine.seat.number call result.1 pass.seat.me.0.seen result.0.seat.me.0.seen) said.IsWithin said.ItsDurableNeverFalls }
+    ensures recovered { said.OfThisRun (said.opening_of D.seen) table.now.table.shared.key (said.run_of session.old.machine.seat.number call result.1 pass.seat.me.0.seen result.0.seat.me.0.seen) said.IsWithin said.RecoversItsDurable }
 {
     law_threads::<Snapshot<World<D>>>();
     session.run(table, pass, call)

@@ -1,12 +1,5 @@
 //! The keeper's calls.
-ghost use Rattle.fkv_disk.specs.Device.{AtEachMoment};
-ghost use Rattle.fkv_keeper.specs.Keeping.{keeper_ask};
-ghost use Rattle.fkv_keeper.specs.Running.{IsBeginTold, IsTurnTold};
-ghost use Rattle.fkv_table.specs.declared.happenings.Happening.TheVariants.{Commits, Turns};
-ghost use Rattle.fkv_table.specs.KeeperCalls.{HasKept};
-ghost use Rattle.fkv_table.specs.Keeps.{IsAfterSeen, IsKeeperReady, IsLeftWithin, LeavesDevice};
-ghost use Rattle.fkv_table.specs.Planes.{opening_of};
-ghost use Rattle.law_threads.specs.Images.{RecoversWithin};
+ghost use Rattle.fkv_threads.specs.Said as said;
 
 use fkv_base::{CommitKind, Fault, Version};
 use fkv_core::World;
@@ -19,23 +12,24 @@ use std::snapshot::Snapshot;
 /// Makes a turn of the keeper to its end, with each call of the device that it needs: it flushes, serves and carries a commit on. It ends early with
 /// `Broken`, `Device`, `EpochsSpent` or `Memory`. The device is the one that the store was opened from, behind the calls that the keeper's pass has seen.
 /// An image that a crash leaves in the middle of the turn is one that the life may leave at some moment of it. It holds a prefix of the life as it was
-/// then (`recovered`).
+/// then (`recovered`). A commit that the turn tells as finished is sealed, with its number and points. Each point was fair as the commit was in hand (`finished`).
 pub fn turn<D: Device>(
     keeper: &mut Keeper,
     table: &Table<D>,
     pass: KeeperPass<D>,
     device: &mut D,
 ) -> (KeeperPass<D>, Result<Turn, Fault>)
-    requires ready { IsKeeperReady (opening_of D.seen) table.now.table.shared.key table.now.table.shared.table_id pass.seat.table_id pass.seat.me keeper.old.machine }
+    requires ready { said.IsKeeperReady (said.opening_of D.seen) table.now.table.shared.key table.now.table.shared.table_id pass.seat.table_id pass.seat.me keeper.old.machine }
     requires honest { D.honest device.old }
-    requires after { IsAfterSeen (opening_of D.seen) table.now.table.shared.key pass.seat.me.0.seen (D.seen device.old) (D.may_leave device.old) }
-    ensures ready { IsKeeperReady (opening_of D.seen) table.now.table.shared.key table.now.table.shared.table_id result.0.seat.table_id result.0.seat.me keeper.new.machine }
-    ensures kept { HasKept Turns pass.seat.me.0.seen result.0.seat.me.0.seen }
+    requires after { said.IsAfterSeen (said.opening_of D.seen) table.now.table.shared.key pass.seat.me.0.seen (D.seen device.old) (D.may_leave device.old) }
+    ensures ready { said.IsKeeperReady (said.opening_of D.seen) table.now.table.shared.key table.now.table.shared.table_id result.0.seat.table_id result.0.seat.me keeper.new.machine }
+    ensures kept { said.HasKept said.Turns pass.seat.me.0.seen result.0.seat.me.0.seen }
     ensures honest { D.honest device.new }
-    ensures after { IsAfterSeen (opening_of D.seen) table.now.table.shared.key result.0.seat.me.0.seen (D.seen device.new) (D.may_leave device.new) }
-    ensures moments { AtEachMoment D.moment D.left_since device.old device.new (IsLeftWithin (opening_of D.seen) table.now.table.shared.key pass.seat.me.0.seen result.0.seat.me.0.seen) }
-    ensures recovered { RecoversWithin (opening_of D.seen) table.now.table.shared.key pass.seat.me.0.seen result.0.seat.me.0.seen }
-    ensures told { IsTurnTold keeper.new.machine.state.last (keeper_ask keeper.new.machine.shape keeper.new.machine.places keeper.new.machine.state) result.1 }
+    ensures after { said.IsAfterSeen (said.opening_of D.seen) table.now.table.shared.key result.0.seat.me.0.seen (D.seen device.new) (D.may_leave device.new) }
+    ensures moments { said.AtEachMoment D.moment D.left_since device.old device.new (said.IsLeftWithin (said.opening_of D.seen) table.now.table.shared.key pass.seat.me.0.seen result.0.seat.me.0.seen) }
+    ensures recovered { said.RecoversWithin (said.opening_of D.seen) table.now.table.shared.key pass.seat.me.0.seen result.0.seat.me.0.seen }
+    ensures told { said.IsTurnTold keeper.new.machine.state.last (said.keeper_ask keeper.new.machine.shape keeper.new.machine.places keeper.new.machine.state) result.1 }
+    ensures finished { said.TellsItsFinish (said.opening_of D.seen) table.now.table.shared.key result.0.seat.me.0.seen result.1 }
 {
     law_threads::<Snapshot<World<D>>>();
     keeper.turn(table, pass, device)
@@ -49,11 +43,11 @@ pub fn ask_commit<D: Device>(
     pass: KeeperPass<D>,
     kind: CommitKind,
 ) -> (KeeperPass<D>, Result<Version, Fault>)
-    requires ready { IsKeeperReady (opening_of D.seen) table.now.table.shared.key table.now.table.shared.table_id pass.seat.table_id pass.seat.me keeper.old.machine }
-    ensures ready { IsKeeperReady (opening_of D.seen) table.now.table.shared.key table.now.table.shared.table_id result.0.seat.table_id result.0.seat.me keeper.new.machine }
-    ensures kept { HasKept (Commits kind) pass.seat.me.0.seen result.0.seat.me.0.seen }
-    ensures device { LeavesDevice (opening_of D.seen) table.now.table.shared.key pass.seat.me.0.seen result.0.seat.me.0.seen }
-    ensures told { IsBeginTold (keeper_ask keeper.new.machine.shape keeper.new.machine.places keeper.new.machine.state) result.1 }
+    requires ready { said.IsKeeperReady (said.opening_of D.seen) table.now.table.shared.key table.now.table.shared.table_id pass.seat.table_id pass.seat.me keeper.old.machine }
+    ensures ready { said.IsKeeperReady (said.opening_of D.seen) table.now.table.shared.key table.now.table.shared.table_id result.0.seat.table_id result.0.seat.me keeper.new.machine }
+    ensures kept { said.HasKept (said.Commits kind) pass.seat.me.0.seen result.0.seat.me.0.seen }
+    ensures device { said.LeavesDevice (said.opening_of D.seen) table.now.table.shared.key pass.seat.me.0.seen result.0.seat.me.0.seen }
+    ensures told { said.IsBeginTold (said.keeper_ask keeper.new.machine.shape keeper.new.machine.places keeper.new.machine.state) result.1 }
 {
     keeper.ask_commit(table, pass, kind)
 }

@@ -3,6 +3,8 @@
 
 mod calls;
 mod keepers;
+#[cfg(test)]
+mod one_thread;
 mod opening;
 mod passes;
 

@@ -1,12 +1,6 @@
 //! A store that was opened becomes a table that threads share.
 ghost use Rattle.std.specs.Prelude.{◌≡◌, length, IfOk, OnErr, Err};
-ghost use Rattle.fkv_base.specs.declared.faults.Fault.TheVariants.{Memory};
-ghost use Rattle.fkv_disk.specs.Device.{LeavesOnly};
-ghost use Rattle.fkv_opening.specs.Opened.{IsStoreOf};
-ghost use Rattle.fkv_table.specs.Keeps.{IsAfterSeen};
-ghost use Rattle.fkv_table.specs.Planes.{opening_of};
-ghost use Rattle.fkv_table.specs.Starts.{EachAt};
-ghost use Rattle.fkv_threads.specs.Begun.{HasBegun, IsOverStore, KeeperHasBegun};
+ghost use Rattle.fkv_threads.specs.Said as said;
 
 use fkv_base::Fault;
 use fkv_disk::Device;
@@ -24,14 +18,14 @@ pub fn open<D: Device + Drop>(
     opened: Opened,
     device: D,
 ) -> Result<OpenTable<D>, Fault>
-    requires store { IsStoreOf (D.seen device) opened }
-    ensures over { IfOk result (λ t. IsOverStore (opening_of D.seen) t.table.table.shared.key opened (D.seen device)) }
+    requires store { said.IsStoreOf (D.seen device) opened }
+    ensures over { IfOk result (λ t. said.IsOverStore (said.opening_of D.seen) t.table.table.shared.key opened (D.seen device)) }
     ensures count { IfOk result (λ t. length t.sessions.items ≡ opened.shape.sessions) }
-    ensures sessions { IfOk result (λ t. EachAt t.sessions.items (λ i x. HasBegun (opening_of D.seen) t.table.table.shared.key t.table.table.shared.table_id i x.0.machine x.0.desk x.1.seat.table_id x.1.seat.me)) }
-    ensures keeper { IfOk result (λ t. KeeperHasBegun (opening_of D.seen) t.table.table.shared.key t.table.table.shared.table_id t.keeper.machine t.pass.seat.table_id t.pass.seat.me) }
+    ensures sessions { IfOk result (λ t. said.EachAt t.sessions.items (λ i x. said.HasBegun (said.opening_of D.seen) t.table.table.shared.key t.table.table.shared.table_id i x.0.machine x.0.desk x.1.seat.table_id x.1.seat.me)) }
+    ensures keeper { IfOk result (λ t. said.KeeperHasBegun (said.opening_of D.seen) t.table.table.shared.key t.table.table.shared.table_id t.keeper.machine t.pass.seat.table_id t.pass.seat.me) }
     ensures device { IfOk result (λ t. t.device ≡ device) }
-    ensures after { LeavesOnly (D.seen device) (D.may_leave device) → IfOk result (λ t. IsAfterSeen (opening_of D.seen) t.table.table.shared.key t.pass.seat.me.0.seen (D.seen t.device) (D.may_leave t.device)) }
-    ensures err { OnErr result (result ≡ Err Memory) }
+    ensures after { said.LeavesOnly (D.seen device) (D.may_leave device) → IfOk result (λ t. said.IsAfterSeen (said.opening_of D.seen) t.table.table.shared.key t.pass.seat.me.0.seen (D.seen t.device) (D.may_leave t.device)) }
+    ensures err { OnErr result (result ≡ Err said.Memory) }
 {
     law_guard_opens();
     law_device_opens(&device);

@@ -1,1 +1,5 @@
 pub mod Ordered
+pub mod Met
+pub mod Tries
+pub mod Waits
+pub mod Seeking

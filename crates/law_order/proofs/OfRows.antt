@@ -5,5 +5,5 @@ mod Kept
 mod Lives
 mod Replies
 pub mod Rows
-mod Seeks
+pub mod Seeks
 pub mod Stays

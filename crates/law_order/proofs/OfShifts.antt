@@ -7,3 +7,4 @@ pub mod Life
 pub mod Sessions
 pub mod Slots
 pub mod Tries
+pub mod Walks

@@ -1,7 +1,7 @@
 //! Of each life of a store that was opened: it begins as the laws of phases, versions and points ask. So commits' numbers are in turn, views have their floor,
 //! and one commit always stands.
 ghost use Rattle.law_order.specs.InTurn.Laws as commits;
-ghost use Rattle.law_order.specs.Rules.Openings.{OpensItsEnds, OpensItsPoints, OpensItsVersions};
+ghost use Rattle.law_order.specs.Rules.Openings as opens;
 
 use crate::rules::{law_cuts_open, law_life_begins};
 use fkv_disk::Device;
@@ -39,7 +39,7 @@ pub fn law_floor_opens()
 /// The log of an opened store's image has no record of a later version than its phase word's, and none from its tail up. So the laws of versions hold of each
 /// of its lives.
 pub fn law_versions_open()
-    ensures { OpensItsVersions }
+    ensures { opens.OpensItsVersions }
 {
     law_phases_open();
     law_life_begins();
@@ -48,7 +48,7 @@ pub fn law_versions_open()
 /// The sessions of an opened store have seen that it rests, and its keeper seeks the points of all of them. So the laws of how a version ends hold of each of
 /// its lives.
 pub fn law_ends_open()
-    ensures { OpensItsEnds }
+    ensures { opens.OpensItsEnds }
 {
     law_phases_open();
     law_life_begins();
@@ -57,7 +57,7 @@ pub fn law_ends_open()
 /// The points of an opened store's newest commit are its sessions' serials, and its words show them. So the laws of the points that commits take hold of each of
 /// its lives.
 pub fn law_points_open()
-    ensures { OpensItsPoints }
+    ensures { opens.OpensItsPoints }
 {
     law_ends_open();
     law_cuts_open();

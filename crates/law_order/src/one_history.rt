@@ -3,12 +3,13 @@ ghost use Rattle.law_opening.specs.Log.Lives.{KeepsRules};
 ghost use Rattle.law_order.specs.OneHistory.Beside.{HasItsHistory};
 ghost use Rattle.law_order.specs.OneHistory.EachLife as lives;
 ghost use Rattle.law_order.specs.Ordered.Keeps.{KeepsItsOrder};
+ghost use Rattle.law_order.specs.Ordered.Met.{SeeksItsReads};
 ghost use Rattle.law_order.specs.Rules.InTime.{ReadsInTime};
 ghost use Rattle.law_order.specs.Rules.Ordered as laws;
 
 use crate::fits::law_opening_fits;
 use crate::in_turn::{law_ends_open, law_versions_open};
-use crate::ordered::law_world_ordered;
+use crate::ordered::{law_reads_met, law_world_ordered};
 use crate::rules::{law_life_begins, law_order_of_rules};
 use law_commit::{
     law_floor_stands, law_shares_not_missed, law_versions_counted, law_versions_end,
@@ -26,6 +27,25 @@ pub fn law_lives_keep_order()
     law_life_begins();
     law_opening_fits();
     law_world_ordered();
+    law_ends_open();
+    law_versions_open();
+    law_latches_open();
+    law_phases_are_seen();
+    law_floor_stands();
+    law_versions_end();
+    law_shares_not_missed();
+    law_versions_counted();
+    law_latched_in_tries();
+    law_views_see_tails();
+}
+
+/// In each life each read that waits seeks a record of the device, but for the one that is polled just then. No poll tries it again.
+pub fn law_lives_seek()
+    ensures { lives.InEachLife SeeksItsReads }
+{
+    law_life_begins();
+    law_opening_fits();
+    law_reads_met();
     law_ends_open();
     law_versions_open();
     law_latches_open();

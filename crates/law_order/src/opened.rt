@@ -1,6 +1,6 @@
 //! Phases, versions, cuts, copies and links in the lives of opened stores.
 ghost use Rattle.law_commit.specs.Floor.OnPaper.{IsOnPaper};
-ghost use Rattle.law_commit.specs.PhaseVersions.{HasRisingPhase, RestsAreNext};
+ghost use Rattle.law_commit.specs.PhaseVersions as phases;
 ghost use Rattle.law_order.specs.Opened as opened;
 
 use crate::in_turn::{law_ends_open, law_phases_open};
@@ -17,8 +17,8 @@ use law_commit::{
 pub fn law_stages_open()
     ensures paper { opened.OfItsLives IsOnPaper }
     ensures stages { opened.OfItsLives opened.IsAtAStage }
-    ensures rises { opened.OfItsLives HasRisingPhase }
-    ensures rests { opened.OfItsLives RestsAreNext }
+    ensures rises { opened.OfItsLives phases.HasRisingPhase }
+    ensures rests { opened.OfItsLives phases.RestsAreNext }
     ensures stamped { opened.StampsItsLoads }
     ensures view { opened.OfItsSessions opened.GoesAboveSafe }
     ensures coming { opened.OfItsSessions opened.ComesAboveSafe }

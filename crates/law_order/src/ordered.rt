@@ -1,5 +1,5 @@
 //! Each life of a store that was opened keeps to the rules of the order law's log beside it.
-ghost use Rattle.law_order.specs.Ordered.Laws.{EnablesItsEvents, KeepsOrderInLives, PublishesItsChanges};
+ghost use Rattle.law_order.specs.Ordered.Laws as orders;
 
 use fkv_flush::law_mail;
 use law_world::law_world_flushed_is_synced;
@@ -9,7 +9,7 @@ use law_world::law_world_flushed_is_synced;
 /// they have to of the log, and reads have come as far in it as control states say. And sessions keep their updates apart from those of other versions, and no
 /// attempt ends as a shift and isn't made again.
 pub fn law_world_ordered()
-    ensures { KeepsOrderInLives }
+    ensures { orders.KeepsOrderInLives }
 {
     law_mail();
     law_world_flushed_is_synced();
@@ -18,8 +18,21 @@ pub fn law_world_ordered()
 /// So each event of the log beside such a life keeps to its rule, and each change in place is of a published record: the premises under which the
 /// order law speaks of the life itself.
 pub fn law_rules_kept()
-    ensures enabled { EnablesItsEvents }
-    ensures published { PublishesItsChanges }
+    ensures enabled { orders.EnablesItsEvents }
+    ensures published { orders.PublishesItsChanges }
 {
     law_world_ordered();
+}
+
+/// In each such life no try of a read is turned away. At its end it tells its key's value, or that there is none, or it seeks a record of the device: it never ends
+/// as contended, as a shift, or because the index or the log is full.
+/// So each read that waits seeks a record of the device, but for the one that is polled just then.
+/// No poll tries it again: it waits for the mailbox alone.
+pub fn law_reads_met()
+    ensures met { orders.MeetsReadsInLives }
+    ensures seeking { orders.SeeksInLives }
+    ensures untried { orders.PollsTryNoReadInLives }
+{
+    law_mail();
+    law_world_flushed_is_synced();
 }

@@ -1,5 +1,5 @@
 //! What the keeper reads for a session shows the log.
-ghost use Rattle.law_order.specs.Served.Laws.{KeepsFitting, ServesTheLog};
+ghost use Rattle.law_order.specs.Served.Laws as served;
 
 use fkv_flush::law_mail;
 use law_world::law_world_flushed_is_synced;
@@ -9,8 +9,8 @@ use law_world::law_world_flushed_is_synced;
 /// has its key and its value; and so it still does at every later moment, since such a record changes no more. And all records of the log are of
 /// numbers below 2^64.
 pub fn law_world_served()
-    ensures served { ServesTheLog }
-    ensures fit { KeepsFitting }
+    ensures served { served.ServesTheLog }
+    ensures fit { served.KeepsFitting }
 {
     law_mail();
     law_world_flushed_is_synced();

@@ -1,15 +1,21 @@
 pub mod AllLives
 mod Beats
 mod Calm
+pub mod Checked
 pub mod CrashReports
 pub mod EachLine
+mod FewCalls
+mod FewSeats
+mod FinishedCommits
 mod InLife
 pub mod Interleaved
 mod Keeper
 pub mod Led
 pub mod Lives
 pub mod NewFiles
-mod NewStores
+pub mod NewStores
+mod NotedBeats
+pub mod NotedGroups
 mod OneCall
 mod Pieces
 mod Polled
@@ -19,4 +25,5 @@ pub mod Replies
 pub mod Runs
 pub mod Scripts
 pub mod Steps
+mod Tickets
 mod Waiting

@@ -1,2 +1,3 @@
 pub mod PlayedCalls
+pub mod Said
 pub mod WholeCalls

@@ -1,10 +1,13 @@
 pub mod AllLives
 pub mod CrashReports
 pub mod EachLine
+pub mod FewCalls
 pub mod Finished
+pub mod FinishedCommits
 pub mod Interleaved
 pub mod Lives
 pub mod NewFiles
+pub mod Noted
 pub mod PlayedCalls
 pub mod Runs
 pub mod Scripts

@@ -1,6 +1,5 @@
 //! What crashes report.
-ghost use Rattle.fkv_runs.specs.Openings.{medium_of};
-ghost use Rattle.law_program.specs.PlayedCalls.CrashReports.{CrashesTakeWhatIsKept};
+ghost use Rattle.law_program.specs.Said as said;
 
 use crate::each_life::law_each_life;
 use fkv_runs::Crashes;
@@ -12,7 +11,7 @@ use law_world::law_of_the_past;
 /// keeps of the life. The pairs are the map with which the life began, behind a replay of just the updates up to each session's point. The next life begins with
 /// that store, and with an image that reaches far. No image of a crash is refused for what stands in it: a refusal says that the device has failed.
 pub fn law_crash_reports<M: Crashes>()
-    ensures { CrashesTakeWhatIsKept M.seen (medium_of M.honest M.seen M.may_leave M.failed M.refuses M.broken M.image M.armed) }
+    ensures { said.CrashesTakeWhatIsKept M.seen (said.medium_of M.honest M.seen M.may_leave M.failed M.refuses M.broken M.image M.armed) }
 {
     law_each_life::<M>();
     law_log_opened();

@@ -1,8 +1,5 @@
 //! The lives of a store in memory.
-ghost use Rattle.fkv_runs.specs.Openings.{Holds, medium_of};
-ghost use Rattle.fkv_runs.specs.declared.settings.Settings.{Settings};
-ghost use Rattle.law_program.specs.PlayedCalls.Lives.{ArmingGoesOn, LivesGoOn};
-ghost use Rattle.law_program.specs.PlayedCalls.Runs.{ArmsInLife, RunsGoOn};
+ghost use Rattle.law_program.specs.Said as said;
 
 use crate::each_line::law_each_line;
 use crate::interleaved::law_interleaved;
@@ -14,22 +11,22 @@ use law_opening::law_log_opened;
 /// crash: the report is of a store that the image of the crash holds, and its pairs are the map with which the next life begins. So `law_each_line` speaks of the
 /// lines of each life.
 pub fn law_each_life<M: Crashes>()
-    ensures { LivesGoOn M.seen M.may_leave (Holds M.honest M.seen M.may_leave M.refuses) }
+    ensures { said.LivesGoOn M.seen M.may_leave (said.Holds M.honest M.seen M.may_leave M.refuses) }
 {
     law_log_opened();
 }
 
 /// And a line by which a call of the device is to fail, or a crash to strike, leaves the life as it is.
 pub fn law_arming<D: Device>()
-    ensures { ArmingGoesOn D.seen D.may_leave }
+    ensures { said.ArmingGoesOn D.seen D.may_leave }
 {}
 
-/// So the pieces of a run go on, each in the life in hand, or behind a crash in the next one. Calls aren't interleaved, each device is honest, and a line that
-/// fails or crashes a device leaves each life. A piece prints what `law_each_line` says, or a report follows of the store with which the next life begins.
-/// The image of a crash is one that may be left of the life before. So it is of a crash that still is to come behind the last piece.
+/// If the pieces of a run begin few calls, they go on, each in the life in hand or behind a crash in the next one. Calls aren't interleaved, each device is
+/// honest, and a line that fails or crashes a device leaves each life, and the seats. A piece prints what `law_each_line` says, or a report follows of the store with
+/// which the next life begins. The image of a crash is one that may be left of the life before. So it is of a crash that still is to come behind the last piece.
 pub fn law_lives_joined<M: Crashes>()
-    ensures { ((device : M) → M.honest device) → ArmsInLife M.seen M.may_leave M.armed → (settings : Settings)
-        → RunsGoOn M.seen M.may_leave (medium_of M.honest M.seen M.may_leave M.failed M.refuses M.broken M.image M.armed) settings }
+    ensures { ((device : M) → M.honest device) → said.ArmsInLife M.seen M.may_leave M.armed → said.ArmsKeepSeats M.armed → (settings : said.Settings)
+        → said.RunsGoOn M.seen M.may_leave (said.medium_of M.honest M.seen M.may_leave M.failed M.refuses M.broken M.image M.armed) settings }
 {
     law_each_line::<M>();
     law_each_life::<M>();

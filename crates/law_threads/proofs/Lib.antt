@@ -2,9 +2,11 @@ mod Course
 mod Histories
 mod OfDone
 mod OfDurable
+mod OfFinishes
 mod OfImages
 mod OfLaws
 mod OfPolls
 mod OfReads
 mod OfRuns
 mod OfTickets
+mod OfTurns

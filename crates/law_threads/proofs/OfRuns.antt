@@ -119,14 +119,14 @@ module _ {K : Type 0} (at : K → World) (key : K) (its : CallRun) (run : HasRun
   goes_on = run.ready.opened.opening.opened.goes_on
 
   abbrev pub first : SessionState
-  first = run.ready.seated.first
+  first = run.ready.rests.seated.first
 
   pub was : slice_get (led (plane at) (at key) earlier).now.sessions its.number ≡ Some first
   was = quiet_session at (at key) its.number run.called.others its.before (quiet_so at its.number run.called.others run.called.quiet)
-      ∙ ((λ i. slice_get (led (plane at) (at key) (sym run.seen i)).now.sessions (sym run.number i)) ∙ run.ready.seated.was)
+      ∙ ((λ i. slice_get (led (plane at) (at key) (sym run.seen i)).now.sessions (sym run.number i)) ∙ run.ready.rests.seated.was)
 
   pub idle : is_busy first.step ≡ false
-  idle = ap (λ (s : SessionState). is_busy s.step) (sym run.ready.seated.state) ∙ run.ready.idle
+  idle = ap (λ (s : SessionState). is_busy s.step) (sym run.ready.rests.seated.state) ∙ run.ready.rests.idle
 
   its_course : Course at (at key) its.number its.call earlier since_call
   its_course = course at (at key) its.number its.call earlier goes_on first was idle run.called.steps run.called.only

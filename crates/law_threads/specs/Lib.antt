@@ -4,3 +4,4 @@ pub mod Images
 pub mod Laws
 pub mod Polls
 pub mod Threads
+pub mod Turns

@@ -8,6 +8,7 @@ ghost use Rattle.law_threads.specs.Calls.{OfEachRun};
 ghost use Rattle.law_threads.specs.Durable.{ItsDurableNeverFalls, RecoversItsDurable, TellsItsDurable};
 ghost use Rattle.law_threads.specs.Images.{RecoversWithin};
 ghost use Rattle.law_threads.specs.Laws.{IsThreadLaw, IsWithin, SharesOneHistory};
+ghost use Rattle.law_threads.specs.Turns.{OfEachTurn};
 
 use law_order::{law_durable_never_falls, law_order, law_prefix};
 use law_world::{law_world_requests, law_world_sessions};
@@ -18,13 +19,14 @@ use law_world::{law_world_requests, law_world_sessions};
 /// (`polled`). The calls stand once in one legal history. It begins with the history of what the pass had seen before. By the law of prefixes a point that is
 /// told as durable is a sealed commit's (`durable`). It is no less than what the session was told before the call (`never_falls`). Each image that is left then
 /// or later recovers a point at or above it (`recovered`). Each image that a crash may leave in the middle of a turn holds a prefix of the life as it was at
-/// some moment of the turn (`turns`). Of two passes at one moment one has seen a beginning of what the other has, and so are their histories.
+/// some moment of the turn (`turns`). A commit that a turn tells as finished is sealed, and its points are fair (`finished`). Of two passes at one moment one has seen a beginning of what the other has, and so are their histories.
 pub fn law_threads<K>()
     ensures in_lives { (at : K → World) → IsThreadLaw at IsWithin }
     ensures durable { (at : K → World) → OfEachRun at IsWithin TellsItsDurable }
     ensures never_falls { (at : K → World) → OfEachRun at IsWithin ItsDurableNeverFalls }
     ensures recovered { (at : K → World) → OfEachRun at IsWithin RecoversItsDurable }
     ensures turns { (at : K → World) (key : K) (seen seen' : List Happening) → RecoversWithin at key seen seen' }
+    ensures finished { (at : K → World) → OfEachTurn at }
     ensures views { (at : K → World) → SharesOneHistory at }
 {
     law_order();

@@ -1,12 +1,15 @@
 -- The lives in which a clause of the law of prefixes fails, by computing them.
-use Rattle.std.proofs.Common.{◌≡◌, inl, inr, ℕ, ◌≤◌, ◌∙◌, List, [], ◌∷◌, refl, sym, ap, subst, arith, true}
+use Rattle.std.proofs.Common.{◌≡◌, inl, inr, ℕ, zero, suc, ◌≤◌, ◌∙◌, List, [], ◌∷◌, refl, sym, ap, subst, arith, true}
 use Rattle.std.specs.Prelude.{Option, Some, None, IsSome}
 use Rattle.std.specs.FinMap.{get, get-empty}
 use Rattle.std.specs.Ordering.{nat_cmp}
+use Rattle.std.proofs.lemmas.Bool.Decides.{nat_tests}
 use Rattle.fkv_base.specs.declared.numbers.Serial.{Serial}
 use Rattle.fkv_commit.specs.declared.commits.Commit.{Commit}
 use Rattle.fkv_keeper.specs.Keeping.{KeeperState}
-use Rattle.fkv_map.specs.History.{IsLegal, content, kept, point_of}
+use Rattle.fkv_core.specs.Openings.{beginning}
+use Rattle.fkv_map.specs.History.{IsLegal, IsWhole, content, kept, point_of}
+use Rattle.fkv_map.specs.Map.{Map}
 use Rattle.fkv_map.specs.declared.history.HistoryEntry.{HistoryEntry}
 use Rattle.fkv_map.specs.declared.operations.Reply.TheVariants.{Nothing, Number}
 use Rattle.fkv_map.proofs.Shown.{legal_each}
@@ -20,10 +23,11 @@ use Rattle.law_commit.specs.ToldPoints.{ToldPoint}
 use Rattle.law_log.specs.Trace.{Effect, IsIn, history_of, upto, value_in}
 use Rattle.law_log.specs.Worked.{entry_of, no_map}
 use Rattle.law_refine.specs.Events.Worked.{adds_5, gives_70}
-use Rattle.law_order.specs.Prefix.Law.{IsToldDurable, TakesFairPoints}
+use Rattle.law_order.specs.OneHistory.EachLife.{Life}
+use Rattle.law_order.specs.Prefix.Law.{BeginsWithKept, IsToldDurable, TakesFairPoints, kept_of_all, points_of}
 use Rattle.law_refine.specs.Calls.Calls.{effects_in_log}
 use Rattle.law_wrong_runs.specs.Tables.{add_copies_in_fuzzy_region, commit_keeps_nothing, right_tables, run_by, serial_is_told_as_durable}
-use Rattle.law_wrong_runs.specs.WrongCommits.{AreWrongCommits, KeepsItsValues, KeepsLegal, KeepsValues, all_points, given_point, LeavesCurrent, LeavesDurable, TakesFair, asks_durable, begins_commit, new_world, past_by, with_nothing_kept}
+use Rattle.law_wrong_runs.specs.WrongCommits.{AreWrongCommits, FollowsWith, IsBehind, NeverFollowsWith, giving_life, given_map, KeepsItsValues, KeepsLegal, KeepsValues, all_points, given_point, LeavesCurrent, LeavesDurable, TakesFair, asks_durable, begins_commit, new_world, past_by, with_nothing_kept}
 use Rattle.law_wrong_runs.specs.WrongLives.{fuzzy_events, gives_1, opened_world}
 use Rattle.law_wrong_runs.proofs.Computed.{effect_70, fuzzy_history, gives_value, is_fuzzy_history, not_80, places, places_fit, right_copied, shape, world_opened}
 use Rattle.fkv_session.specs.Sessions as session_u
@@ -247,6 +251,65 @@ right_kept its one other =
     let same : history_of (effects_in_log (run (opened_world shape places its one other) fuzzy_events).past.history) ≡ fuzzy_history = is_fuzzy_history its one other in
     subst (λ (h : List HistoryEntry). IsLegal no_map h) (same ∙ (sym all_kept_right ∙ ap (λ (h : List HistoryEntry). kept h all_points) (sym same))) (right_copied its one other)
 
+-- ---- a life behind another
+abbrev first_life : KeeperState → SessionState → SessionState → List ℕ → Opened → Life
+first_life its one other bytes o = giving_life bytes o (world its one other)
+
+life_gives : (its : KeeperState) (one other : SessionState) (bytes : List ℕ) → effects_in_log (run (beginning (world its one other).now bytes) begins_commit).past.history ≡ effect_70 ∷ []
+unfolding places shape session_u.sitting_ask session_u.attempts session_u.polls_at session_u.op_begun session_u.refresh_call session_u.poll_call session_u.sleep_call session_u.wake_call session_u.accepts session_u.shifts session_u.attempt_ledto session_u.catch_ledto session_u.clear_ledto session_u.finishes_request session_u.keeps_request session_u.poll_ledto session_u.turn_ledto session_u.leave_ledto session_u.sitting_next session_u.sitting_given catching_u.catching_ask catching_u.refresh_ledto catching_u.protect_ledto catching_u.latch_ledto catching_u.finish_ledto catching_u.latch_marked catching_u.catching_requests catching_u.catching_next attempting_u.attempting_ask attempting_u.look_ledto attempting_u.try_ledto attempting_u.put_ledto attempting_u.attempting_next pending_u.with_sought pending_u.with_held pending_u.with_latch pending_u.with_asked mailing_u.mail_ask mailing_u.mail_next trying_u.trying_ask trying_u.ends trying_u.shared_ledto trying_u.appends trying_u.copies_from trying_u.copies trying_u.held_used trying_u.walk_ledto trying_u.current_ledto trying_u.answer_ledto trying_u.exclusive_ledto trying_u.old_ledto trying_u.append_ledto trying_u.exclusive_dropped trying_u.shared_dropped trying_u.trying_next walking_u.walking_ask walking_u.find_ledto walking_u.load_ledto walking_u.value_ledto walking_u.walking_next walking_u.walking_on appending_u.appending_ask appending_u.reserve_ledto appending_u.fill_ledto appending_u.publish_ledto appending_u.invalidate_ledto appending_u.appending_next header_words_u.header_said finding_u.find_step_ask finding_u.find_led publishing_u.publish_ask publishing_u.publish_next publishing_u.publish_next_ask slots_u.slot_word reserving_u.reserve_ask reserving_u.reserve_next reserving_u.reserve_next_ask filling_u.fill_ask filling_u.fill_next loading_u.load_ask loading_u.load_next loading_u.load_next_ask loading_u.load_on invalidating_u.invalidate_ask invalidating_u.invalidate_next moving_u.moving_ask moving_u.raise_led moving_u.arm_led moving_u.moving_next moving_u.raise_told moving_u.moving_next_ask shifting_u.shifting_ask shifting_u.shift_led shifting_u.shifting_next shifting_u.move_told shifting_u.shifting_next_ask turning_u.turning_ask turning_u.turn_led turning_u.turning_next turning_u.turn_told turning_u.turning_next_ask refreshing_u.refresh_ask refreshing_u.refresh_next refreshing_u.refresh_finish scanning_u.scan_ask scanning_u.sessions_from scanning_u.least_of scanning_u.scan_next claiming_u.claim_ask claiming_u.slot_after claiming_u.slot_armed claiming_u.claim_next claiming_u.claim_given raising_u.raise_ask raising_u.free_after raising_u.raise_next raising_u.raise_next_ask raising_u.raise_on arming_u.arm_ask arming_u.arm_next passing_u.passed maintaining_u.device_asked maintaining_u.maintaining_ask maintaining_u.scan_ledto maintaining_u.claim_ledto maintaining_u.flush_ledto maintaining_u.shift_ledto maintaining_u.serve_ledto maintaining_u.turn_ledto maintaining_u.maintaining_next maintaining_u.maintaining_given maintaining_u.maintaining_called maintaining_u.maintaining_calls maintaining_u.maintaining_made keeping_u.device_passed keeping_u.keeping_ask keeping_u.start_ledto keeping_u.maintain_ledto keeping_u.phase_ledto keeping_u.keeping_next keeping_u.keeping_given keeping_u.keeping_called keeper_asks_u.keeping_made keeper_asks_u.keeping_calls flushing_u.flush_ask flushing_u.flush_next flushing_u.bytes_next flushing_u.flush_calls flushing_u.flush_done flushing_u.bytes_done flushing_u.count_next flushing_u.count_done serving_u.serve_ask serving_u.mailbox_from serving_u.serve_next serving_u.serve_read serving_u.mail_place world_u.life_goes moves_u.session_settled moves_u.session_asks moves_u.keeper_settled moves_u.keeper_asks past_u.history_after past_u.life_past runs_u.run phase_words_u.phase_said run_by defer_u.deferring_ask defer_u.seek_ledto defer_u.raise_ledto defer_u.arm_ledto defer_u.deferring_next defer_u.deferring_on start_u.starting_ask start_u.seek_led start_u.defer_led start_u.starting_next keeper_run_u.keeper_happens keeper_run_u.keeper_run own_u.keeper_slots own_u.keeper_steps own_u.keeper_part own_u.keeper_events begun_u.commits_begun asked_u.serials_asked effect_70
+life_gives its one other bytes = refl
+
+-- what these points keep of it
+kept_of_it : (its : KeeperState) (one other : SessionState) (bytes : List ℕ) (o : Opened) (next : Life) (points : List Serial) → points_of next ≡ points
+    → kept_of_all (points_of next) (first_life its one other bytes o ∷ []) ≡ kept (history_of (effect_70 ∷ [])) points
+kept_of_it its one other bytes o next points are =
+    ap (λ (ps : List Serial). kept_of_all ps (first_life its one other bytes o ∷ [])) are ∙ ap (λ (effects : List Effect). kept (history_of effects) points) (life_gives its one other bytes)
+
+-- so the map with which the next life begins is what they make of an empty one
+map_is : (its : KeeperState) (one other : SessionState) (bytes : List ℕ) (o : Opened) (next : Life) (m : Map) (points : List Serial) → IsBehind m points (first_life its one other bytes o) next
+    → BeginsWithKept next (first_life its one other bytes o ∷ []) → m ≡ content no_map (kept (history_of (effect_70 ∷ [])) points)
+map_is its one other bytes o next m points behind begins =
+    sym behind.pairs ∙ begins.pairs ∙ ap (λ (from : Map). content from (kept_of_all (points_of next) (first_life its one other bytes o ∷ []))) behind.empty
+    ∙ ap (content no_map) (kept_of_it its one other bytes o next points behind.its_points)
+
+value_given : get (content no_map (history_of (effect_70 ∷ []))) 5 ≡ Some 70
+value_given = gives_value
+
+given_is : given_map ≡ content no_map (history_of (effect_70 ∷ []))
+unfolding effect_70
+given_is = refl
+
+wrong_forgotten : (its : KeeperState) (one other : SessionState) → NeverFollowsWith no_map given_point (world its one other)
+wrong_forgotten its one other bytes o next behind begins =
+    none_given (sym value_given ∙ ap (λ (h : List HistoryEntry). get (content no_map h) 5) (sym keeps_given) ∙ ap (λ (m : Map). get m 5) (sym (map_is its one other bytes o next no_map given_point behind begins)) ∙ get-empty nat_cmp 5)
+
+wrong_ahead : (its : KeeperState) (one other : SessionState) → NeverFollowsWith given_map [] (world its one other)
+wrong_ahead its one other bytes o next behind begins =
+    none_given (sym value_given ∙ ap (λ (m : Map). get m 5) (sym given_is) ∙ ap (λ (m : Map). get m 5) (map_is its one other bytes o next given_map [] behind begins) ∙ ap (λ (h : List HistoryEntry). get (content no_map h) 5) keeps_nothing ∙ get-empty nat_cmp 5)
+
+given_legal : IsLegal no_map (history_of (effect_70 ∷ []))
+unfolding effect_70
+given_legal = (refl, tt)
+
+-- the serial 1 of session 0 once, and no other
+given_whole : IsWhole (history_of (effect_70 ∷ [])) [] given_point
+unfolding effect_70
+given_whole zero zero = refl
+given_whole zero (suc zero) = refl
+given_whole zero (suc (suc more)) = grind (arith, nat_tests)
+given_whole (suc session) zero = grind (arith, nat_tests)
+given_whole (suc session) (suc more) = grind (arith, nat_tests)
+
+right_following : (its : KeeperState) (one other : SessionState) → FollowsWith given_map given_point (world its one other)
+right_following its one other bytes o next behind =
+    let all : kept_of_all (points_of next) (first_life its one other bytes o ∷ []) ≡ history_of (effect_70 ∷ []) = kept_of_it its one other bytes o next given_point behind.its_points ∙ keeps_given in
+    record {
+      pairs = behind.pairs ∙ given_is ∙ ap (content no_map) (sym all) ∙ ap (λ (from : Map). content from (kept_of_all (points_of next) (first_life its one other bytes o ∷ []))) (sym behind.empty);
+      legal = subst (λ (from : Map). IsLegal from (kept_of_all (points_of next) (first_life its one other bytes o ∷ []))) (sym behind.empty) (subst (λ (h : List HistoryEntry). IsLegal no_map h) (sym all) given_legal);
+      whole = subst (λ (ps : List Serial). IsWhole (kept_of_all (points_of next) (first_life its one other bytes o ∷ [])) ps (points_of next)) (sym behind.no_points)
+          (subst (λ (ps : List Serial). IsWhole (kept_of_all (points_of next) (first_life its one other bytes o ∷ [])) [] ps) (sym behind.its_points) (subst (λ (h : List HistoryEntry). IsWhole h [] given_point) (sym all) given_whole));
+    }
+
 pub wrong_commits : (its : KeeperState) (one other : SessionState) → AreWrongCommits its one other
 wrong_commits its one other = record {
   shape = shape;
@@ -261,4 +324,7 @@ wrong_commits its one other = record {
   paired_right = right_pairs its one other;
   unkept = wrong_kept its one other;
   kept_right = right_kept its one other;
+  forgotten = wrong_forgotten its one other;
+  ahead = wrong_ahead its one other;
+  follows_right = right_following its one other;
 }

@@ -8,6 +8,7 @@ use Rattle.fkv_base.specs.declared.numbers.Serial.{Serial}
 use Rattle.fkv_keeper.specs.Keeping.{KeeperState}
 use Rattle.fkv_keeper.specs.NewKeepers.{ArePlacesOfStore}
 use Rattle.fkv_map.specs.History.{IsLegal, content, kept}
+use Rattle.fkv_map.specs.Map.{Map, applied}
 use Rattle.fkv_map.specs.declared.operations.Call.TheVariants as call
 use Rattle.fkv_opening.specs.declared.opened_store.Opened.{Opened}
 use Rattle.fkv_plane.specs.declared.places.Places.{Places}
@@ -20,8 +21,10 @@ use Rattle.law_commit.specs.PrefixPast.{PrefixPast, prefix_past}
 use Rattle.law_commit.specs.ToldPoints.{ToldPoint, points_told}
 use Rattle.law_log.specs.Trace.{IsIn, history_of, upto, value_in}
 use Rattle.law_log.specs.Worked.{no_map}
-use Rattle.law_order.specs.Prefix.Law.{IsCurrent, IsToldDurable, TakesFairPoints}
+use Rattle.law_order.specs.OneHistory.EachLife.{Life}
+use Rattle.law_order.specs.Prefix.Law.{BeginsWithKept, IsCurrent, IsToldDurable, TakesFairPoints, map_of, points_of}
 use Rattle.law_refine.specs.Calls.Calls.{effects_in_log}
+use Rattle.law_refine.specs.Events.Worked.{gives_70}
 use Rattle.law_wrong_runs.specs.Tables.{Tables, add_copies_in_fuzzy_region, commit_keeps_nothing, right_tables, run_by, serial_is_told_as_durable}
 use Rattle.law_wrong_runs.specs.WrongLives.{fuzzy_events, gives_events, opened_world}
 
@@ -78,9 +81,35 @@ given_point = record { 0 = 1 } ∷ []
 abbrev pub all_points : List Serial
 all_points = record { 0 = 4 } ∷ record { 0 = 1 } ∷ []
 
+-- ---- a life behind another
+-- A life of any store, in which session 0 gives a key a value.
+abbrev pub giving_life : List ℕ → Opened → World → Life
+giving_life bytes o w = record { bytes = bytes; opened = o; world = w.now; events = begins_commit }
+
+-- what it makes of an empty map
+abbrev pub given_map : Map
+given_map = applied no_map gives_70
+
+-- The first life begins with an empty map and without points, and the second one with this map and these points.
+pub record IsBehind (m : Map) (points : List Serial) (first its : Life) : Type 0 where
+  pub empty : map_of first ≡ no_map
+  pub no_points : points_of first ≡ []
+  pub pairs : map_of its ≡ m
+  pub its_points : points_of its ≡ points
+
+-- then the second begins with what was kept of the first, as the law asks
+abbrev pub FollowsWith : Map → List Serial → World → Type 0
+FollowsWith m points w = (bytes : List ℕ) (o : Opened) (its : Life) → IsBehind m points (giving_life bytes o w) its → BeginsWithKept its (giving_life bytes o w ∷ [])
+
+-- or it never does
+abbrev pub NeverFollowsWith : Map → List Serial → World → Type 0
+NeverFollowsWith m points w = (bytes : List ℕ) (o : Opened) (its : Life) → IsBehind m points (giving_life bytes o w) its → BeginsWithKept its (giving_life bytes o w ∷ []) → ⊥
+
 -- In a store of this shape, with its places: if session 0 is told its last serial as durable, no commit has that as its point, and so none is current. By the
 -- right table it is told its point in the commit with which the store was opened. If a commit keeps nothing, its point is below what session 0 had given as
--- it was asked for. Nor do its points keep what an image of it has; a point that keeps session 0's update does. If a record is copied that session 0 may still change, no life can begin with all that was done; by the right table one can.
+-- it was asked for. Nor do its points keep what an image of it has; a point that keeps session 0's update does. If a record is copied that session 0 may still change, no life can begin with all that was done;
+-- by the right table one can. If the next life begins without the update that its points keep, or with one that they don't keep, it doesn't begin with what was
+-- kept. If it begins with just that update, and the point that keeps it, it does.
 pub record AreWrongCommits (keeper : KeeperState) (one other : SessionState) : Type 0 where
   pub shape : Shape
   pub places : Places
@@ -94,3 +123,6 @@ pub record AreWrongCommits (keeper : KeeperState) (one other : SessionState) : T
   pub paired_right : KeepsValues 1 given_point (run (new_world shape places keeper one other) begins_commit)
   pub unkept : KeepsLegal all_points (run_by add_copies_in_fuzzy_region (opened_world shape places keeper one other) fuzzy_events) → ⊥
   pub kept_right : KeepsLegal all_points (run (opened_world shape places keeper one other) fuzzy_events)
+  pub forgotten : NeverFollowsWith no_map given_point (new_world shape places keeper one other)
+  pub ahead : NeverFollowsWith given_map [] (new_world shape places keeper one other)
+  pub follows_right : FollowsWith given_map given_point (new_world shape places keeper one other)

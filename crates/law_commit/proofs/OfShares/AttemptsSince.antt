@@ -42,15 +42,15 @@ pub record Shares (seen : Seen) (T C : Type 0) (request : Request) : Type 0 wher
 
 -- if it is an update; what it does from prepare on is known only if none has shifted
 abbrev pub IsSharing : Bool → Seen → Type 0 → PendingRequest → Type 0
-IsSharing fair seen T p = is_read p.request.op ≡ false → Shares seen T ((fair ≡ true) × HasPrepared seen p.request.version.0) p.request
+IsSharing unshifted seen T p = is_read p.request.op ≡ false → Shares seen T ((unshifted ≡ true) × HasPrepared seen p.request.version.0) p.request
 
 -- as it comes to its try it may have to take its share yet
 abbrev pub IsOlder : Bool → Seen → PendingRequest → Type 0
-IsOlder fair seen p = is_read p.request.op ≡ false → Shares seen ⊥ ((fair ≡ true) × (p.request.version.0 < seen.version.0)) p.request
+IsOlder unshifted seen p = is_read p.request.op ≡ false → Shares seen ⊥ ((unshifted ≡ true) × (p.request.version.0 < seen.version.0)) p.request
 
 -- as its try leaves it
 abbrev pub IsLeft : Bool → Seen → TryAnswer → PendingRequest → Type 0
-IsLeft fair seen found p = is_read p.request.op ≡ false → Shares seen ⊥ ((fair ≡ true) × ((is_wait found ≡ true) × HasPrepared seen p.request.version.0)) p.request
+IsLeft unshifted seen found p = is_read p.request.op ≡ false → Shares seen ⊥ ((unshifted ≡ true) × ((is_wait found ≡ true) × HasPrepared seen p.request.version.0)) p.request
 
 -- ---- tests
 middle_so : (x y z : Bool) → (x && (y && z)) ≡ true → y ≡ true
@@ -84,23 +84,23 @@ no_read true one other = cc
 no_read false one other = cc
 
 -- ---- what changes of a request besides its latch
-module _ (fair : Bool) (seen : Seen) where
+module _ (unshifted : Bool) (seen : Seen) where
   abbrev Full : PendingRequest → Type 0
-  Full p = IsSharing fair seen ⊥ p
+  Full p = IsSharing unshifted seen ⊥ p
 
   of_read : (p : PendingRequest) → is_read p.request.op ≡ true → Full p
   of_read p read = λ updates. no_read (is_read p.request.op) read updates
 
-  left_read : (found : TryAnswer) (p : PendingRequest) → is_read p.request.op ≡ true → IsLeft fair seen found p
+  left_read : (found : TryAnswer) (p : PendingRequest) → is_read p.request.op ≡ true → IsLeft unshifted seen found p
   left_read found p read = λ updates. no_read (is_read p.request.op) read updates
 
-  full_left : (found : TryAnswer) (p : PendingRequest) → Full p → IsLeft fair seen found p
+  full_left : (found : TryAnswer) (p : PendingRequest) → Full p → IsLeft unshifted seen found p
   full_left found p so = λ updates. record { upto = (so updates).upto; only = (so updates).only; since = λ c. (so updates).since (c.0, c.1.1) }
 
-  pub left_full : (found : TryAnswer) (p : PendingRequest) → (fair ≡ true → is_wait found ≡ true) → IsLeft fair seen found p → Full p
+  pub left_full : (found : TryAnswer) (p : PendingRequest) → (unshifted ≡ true → is_wait found ≡ true) → IsLeft unshifted seen found p → Full p
   left_full found p waits so = λ updates. record { upto = (so updates).upto; only = (so updates).only; since = λ c. (so updates).since (c.0, (waits c.0, c.1)) }
 
-  full_older : (p : PendingRequest) → Full p → IsOlder fair seen p
+  full_older : (p : PendingRequest) → Full p → IsOlder unshifted seen p
   full_older p so = λ updates. record { upto = (so updates).upto; only = (so updates).only; since = λ c. (so updates).since (c.0, inr c.1) }
 
   sought_full : (p : PendingRequest) (sought : Option DiskRecord) → Full p → Full (with_sought p sought)
@@ -115,21 +115,21 @@ module _ (fair : Bool) (seen : Seen) where
   unfolding with_asked
   asked_full p asked so = so
 
-  held_older : (p : PendingRequest) (held : Option HeldRecord) → IsOlder fair seen p → IsOlder fair seen (with_held p held)
+  held_older : (p : PendingRequest) (held : Option HeldRecord) → IsOlder unshifted seen p → IsOlder unshifted seen (with_held p held)
   unfolding with_held
   held_older p held so = λ updates. record { upto = (so updates).upto; only = (so updates).only; since = (so updates).since }
 
-  held_left : (found : TryAnswer) (p : PendingRequest) (held : Option HeldRecord) → IsLeft fair seen found p → IsLeft fair seen found (with_held p held)
+  held_left : (found : TryAnswer) (p : PendingRequest) (held : Option HeldRecord) → IsLeft unshifted seen found p → IsLeft unshifted seen found (with_held p held)
   unfolding with_held
   held_left found p held so = λ updates. record { upto = (so updates).upto; only = (so updates).only; since = (so updates).since }
 
 -- ---- an attempt
-module _ (k : Seat) (its : HasItsBuckets k) (fair : Bool) (seen : Seen) where
+module _ (k : Seat) (its : HasItsBuckets k) (unshifted : Bool) (seen : Seen) where
   abbrev pub KnowsSharing : AttemptState → Attempting → Type 0
-  KnowsSharing a (Ended found) = IsLeft fair seen found a.pending
-  KnowsSharing a Looks = (a.seen ≡ seen) × IsSharing fair seen ⊥ a.pending
-  KnowsSharing a Tries = IsTrying (trial_at k its a.pending.request seen a.occasion) a.trial × IsOlder fair seen a.pending
-  KnowsSharing a Puts = IsSharing fair seen ⊥ a.pending
+  KnowsSharing a (Ended found) = IsLeft unshifted seen found a.pending
+  KnowsSharing a Looks = (a.seen ≡ seen) × IsSharing unshifted seen ⊥ a.pending
+  KnowsSharing a Tries = IsTrying (trial_at k its a.pending.request seen a.occasion) a.trial × IsOlder unshifted seen a.pending
+  KnowsSharing a Puts = IsSharing unshifted seen ⊥ a.pending
 
   pub record IsAttemptSharing (a : AttemptState) : Type 0 where
     pub rests : AttemptRestsOrAsks a
@@ -145,19 +145,19 @@ module _ (k : Seat) (its : HasItsBuckets k) (fair : Bool) (seen : Seen) where
   still_now : (a : AttemptState) (step : Attempting) → a.step ≡ step → KnowsSharing a step → Now a
   still_now a step at knows = subst (λ (x : Attempting). KnowsSharing a x) (sym at) knows
 
-  puts_now : (a : AttemptState) (sought : Option DiskRecord) → IsSharing fair seen ⊥ a.pending → Now (puts_addr a sought)
-  puts_now a None so = full_left fair seen (answer.Wait reason.Disk) a.pending so
+  puts_now : (a : AttemptState) (sought : Option DiskRecord) → IsSharing unshifted seen ⊥ a.pending → Now (puts_addr a sought)
+  puts_now a None so = full_left unshifted seen (answer.Wait reason.Disk) a.pending so
   puts_now a (Some sought) so = so
 
-  tries_now : (a : AttemptState) → a.seen ≡ seen → IsOlder fair seen a.pending → Now (tries k.places (bits_of k) a)
+  tries_now : (a : AttemptState) → a.seen ≡ seen → IsOlder unshifted seen a.pending → Now (tries k.places (bits_of k) a)
   tries_now a same older =
       (subst (λ (x : Seen). IsTrying (trial_at k its a.pending.request x a.occasion) (tries k.places (bits_of k) a).trial) same (begun_trying (trial_at k its a.pending.request a.seen a.occasion) a.spare), older)
 
-  goes_now : (a : AttemptState) → a.seen ≡ seen → IsOlder fair seen a.pending → Now (goes_on k.places (bits_of k) a)
+  goes_now : (a : AttemptState) → a.seen ≡ seen → IsOlder unshifted seen a.pending → Now (goes_on k.places (bits_of k) a)
   goes_now a same older =
-      either_now (is_seeking_read a) (puts a) (tries k.places (bits_of k) a) (λ seeks. puts_now a a.pending.sought (of_read fair seen a.pending (seeking_reads a seeks))) (tries_now a same older)
+      either_now (is_seeking_read a) (puts a) (tries k.places (bits_of k) a) (λ seeks. puts_now a a.pending.sought (of_read unshifted seen a.pending (seeking_reads a seeks))) (tries_now a same older)
 
-  begun_now : (pending : PendingRequest) (occasion : Occasion) (spare : ℕ) (is_orphaned : Bool) → (pending.has_asked ≡ true → IsSharing fair seen ⊥ pending) → IsOlder fair seen pending
+  begun_now : (pending : PendingRequest) (occasion : Occasion) (spare : ℕ) (is_orphaned : Bool) → (pending.has_asked ≡ true → IsSharing unshifted seen ⊥ pending) → IsOlder unshifted seen pending
       → Now (attempt_begun k.places (bits_of k) pending seen occasion spare is_orphaned)
   begun_now pending occasion spare is_orphaned full older =
       let first : AttemptState = new_attempt (bits_of k) pending seen occasion spare is_orphaned in
@@ -165,44 +165,44 @@ module _ (k : Seat) (its : HasItsBuckets k) (fair : Bool) (seen : Seen) where
 
   -- a look into the mailbox
   read_now : (a : AttemptState) (its_mail : MailRecord) (said : HeaderSaid) → is_read a.pending.request.op ≡ true → Now (read_on a its_mail said)
-  read_now a its_mail Spoiled read = puts_now a a.pending.sought (of_read fair seen a.pending read)
+  read_now a its_mail Spoiled read = puts_now a a.pending.sought (of_read unshifted seen a.pending read)
   read_now a its_mail (Says previous version) read =
       let next : PendingRequest = with_sought a.pending (moved_on a.pending.sought previous) in
       let moved : AttemptState = record a { pending = next } in
       let found : AttemptState = attempt_ended a (told_value (value_of its_mail.value)) in
       let absent : AttemptState = attempt_ended a answer.Absent in
-      either_now (its_mail.key.0 == (key_of a.pending.request.op).0) found (if previous.0 == 0 then absent else puts moved) (λ e. left_read fair seen (told_value (value_of its_mail.value)) a.pending read)
-      (either_now (previous.0 == 0) absent (puts moved) (λ e. left_read fair seen answer.Absent a.pending read)
-      (puts_now moved next.sought (of_read fair seen next (sought_read fair seen a.pending (moved_on a.pending.sought previous) read))))
+      either_now (its_mail.key.0 == (key_of a.pending.request.op).0) found (if previous.0 == 0 then absent else puts moved) (λ e. left_read unshifted seen (told_value (value_of its_mail.value)) a.pending read)
+      (either_now (previous.0 == 0) absent (puts moved) (λ e. left_read unshifted seen answer.Absent a.pending read)
+      (puts_now moved next.sought (of_read unshifted seen next (sought_read unshifted seen a.pending (moved_on a.pending.sought previous) read))))
 
-  look_now : (a : AttemptState) (ask : Ask MailAnswer) → a.step ≡ Looks → a.seen ≡ seen → IsSharing fair seen ⊥ a.pending → Now (look_ledto k.places (bits_of k) a ask)
+  look_now : (a : AttemptState) (ask : Ask MailAnswer) → a.step ≡ Looks → a.seen ≡ seen → IsSharing unshifted seen ⊥ a.pending → Now (look_ledto k.places (bits_of k) a ask)
   unfolding look_ledto
   look_now a (Done (mail.Taken it)) at same so =
       let emptied : AttemptState = record a { is_emptied = true; pending = with_asked a.pending false } in
       let holding : AttemptState = record emptied { pending = with_held emptied.pending (held_of emptied.pending.sought it (header_said it.header)) } in
-      let older = held_older fair seen emptied.pending (held_of emptied.pending.sought it (header_said it.header)) (full_older fair seen emptied.pending (asked_full fair seen a.pending false so)) in
+      let older = held_older unshifted seen emptied.pending (held_of emptied.pending.sought it (header_said it.header)) (full_older unshifted seen emptied.pending (asked_full unshifted seen a.pending false so)) in
       either_now (is_seeking_read emptied) (read_on emptied it (header_said it.header)) (tries k.places (bits_of k) holding)
       (λ seeks. read_now emptied it (header_said it.header) (seeking_reads emptied seeks)) (tries_now holding same older)
   look_now a (Done other) at same so =
-      either_now (is_seeking_read a) (waits_for_disk a) (tries k.places (bits_of k) a) (λ seeks. left_read fair seen (answer.Wait reason.Disk) a.pending (seeking_reads a seeks)) (tries_now a same (full_older fair seen a.pending so))
+      either_now (is_seeking_read a) (waits_for_disk a) (tries k.places (bits_of k) a) (λ seeks. left_read unshifted seen (answer.Wait reason.Disk) a.pending (seeking_reads a seeks)) (tries_now a same (full_older unshifted seen a.pending so))
   look_now a ask at same so = still_now a Looks at (same, so)
 
-  put_now : (a : AttemptState) (ask : Ask MailAnswer) → a.step ≡ Puts → IsSharing fair seen ⊥ a.pending → Now (put_ledto a ask)
+  put_now : (a : AttemptState) (ask : Ask MailAnswer) → a.step ≡ Puts → IsSharing unshifted seen ⊥ a.pending → Now (put_ledto a ask)
   unfolding put_ledto
-  put_now a (Done mail.Asked) at so = full_left fair seen (answer.Wait reason.Disk) (with_asked a.pending true) (asked_full fair seen a.pending true so)
-  put_now a (Done other) at so = full_left fair seen (answer.Wait reason.Disk) a.pending so
+  put_now a (Done mail.Asked) at so = full_left unshifted seen (answer.Wait reason.Disk) (with_asked a.pending true) (asked_full unshifted seen a.pending true so)
+  put_now a (Done other) at so = full_left unshifted seen (answer.Wait reason.Disk) a.pending so
   put_now a ask at so = still_now a Puts at so
 
   -- the end of a try
-  tried_now : (a : AttemptState) (found : TryAnswer) → IsLeft fair seen found a.pending → Now (tried a found)
+  tried_now : (a : AttemptState) (found : TryAnswer) → IsLeft unshifted seen found a.pending → Now (tried a found)
   tried_now a (answer.AwaitsDisk sought) so =
       let held : Option HeldRecord = held_kept a.pending.request.held sought.entry in
       let kept : PendingRequest = with_held a.pending held in
       let here : AttemptState = record a { pending = kept } in
       let next : PendingRequest = with_sought kept (Some sought) in
-      let full = left_full fair seen (answer.AwaitsDisk sought) kept (λ is. refl) (held_left fair seen (answer.AwaitsDisk sought) a.pending held so) in
-      either_now a.pending.has_asked (waits_for_disk here) (puts (record here { pending = next })) (λ asked. full_left fair seen (answer.Wait reason.Disk) kept full)
-      (puts_now (record here { pending = next }) next.sought (sought_full fair seen kept (Some sought) full))
+      let full = left_full unshifted seen (answer.AwaitsDisk sought) kept (λ is. refl) (held_left unshifted seen (answer.AwaitsDisk sought) a.pending held so) in
+      either_now a.pending.has_asked (waits_for_disk here) (puts (record here { pending = next })) (λ asked. full_left unshifted seen (answer.Wait reason.Disk) kept full)
+      (puts_now (record here { pending = next }) next.sought (sought_full unshifted seen kept (Some sought) full))
   tried_now a (answer.Wait why) so = so
   tried_now a (answer.Done reply) so = so
   tried_now a (answer.Found value) so = so
@@ -211,8 +211,8 @@ module _ (k : Seat) (its : HasItsBuckets k) (fair : Bool) (seen : Seen) where
   tried_now a answer.IndexFull so = so
   tried_now a answer.LogFull so = so
 
-  ended_left : (a : AttemptState) (found : TryAnswer) → try_ask k.places a.trial ≡ Done found → IsTrying (trial_at k its a.pending.request seen a.occasion) a.trial → IsOlder fair seen a.pending
-      → IsLeft fair seen found (with_latch a.pending a.trial.has_shared)
+  ended_left : (a : AttemptState) (found : TryAnswer) → try_ask k.places a.trial ≡ Done found → IsTrying (trial_at k its a.pending.request seen a.occasion) a.trial → IsOlder unshifted seen a.pending
+      → IsLeft unshifted seen found (with_latch a.pending a.trial.has_shared)
   unfolding with_latch
   ended_left a found asks trying older updates =
       let r : Request = a.pending.request in
@@ -227,7 +227,7 @@ module _ (k : Seat) (its : HasItsBuckets k) (fair : Bool) (seen : Seen) where
         ];
       }
 
-  try_now : (a : AttemptState) (ask : Ask TryAnswer) → try_ask k.places a.trial ≡ ask → a.step ≡ Tries → IsTrying (trial_at k its a.pending.request seen a.occasion) a.trial → IsOlder fair seen a.pending → Now (try_ledto a ask)
+  try_now : (a : AttemptState) (ask : Ask TryAnswer) → try_ask k.places a.trial ≡ ask → a.step ≡ Tries → IsTrying (trial_at k its a.pending.request seen a.occasion) a.trial → IsOlder unshifted seen a.pending → Now (try_ledto a ask)
   unfolding try_ledto
   try_now a (Done found) asks at trying older = tried_now (record a { spare = a.trial.spare; pending = with_latch a.pending a.trial.has_shared }) found (ended_left a found asks trying older)
   try_now a ask asks at trying older = still_now a Tries at (trying, older)
@@ -253,11 +253,11 @@ module _ (k : Seat) (its : HasItsBuckets k) (fair : Bool) (seen : Seen) where
     knows = step_now (record a { effect = None }) a.step reply refl (effect_now a a.step so.knows);
   }
 
-  pub begun_sharing : (pending : PendingRequest) (occasion : Occasion) (spare : ℕ) (is_orphaned : Bool) → (pending.has_asked ≡ true → IsSharing fair seen ⊥ pending) → IsOlder fair seen pending
+  pub begun_sharing : (pending : PendingRequest) (occasion : Occasion) (spare : ℕ) (is_orphaned : Bool) → (pending.has_asked ≡ true → IsSharing unshifted seen ⊥ pending) → IsOlder unshifted seen pending
       → IsAttemptSharing (attempt_begun k.places (bits_of k) pending seen occasion spare is_orphaned)
   begun_sharing pending occasion spare is_orphaned full older =
       record { rests = attempt_begun_rests k.places (bits_of k) pending seen occasion spare is_orphaned; knows = begun_now pending occasion spare is_orphaned full older }
 
   -- from a request that waits
-  pub polled_sharing : (pending : PendingRequest) (occasion : Occasion) (spare : ℕ) (is_orphaned : Bool) → IsSharing fair seen ⊥ pending → IsAttemptSharing (attempt_begun k.places (bits_of k) pending seen occasion spare is_orphaned)
-  polled_sharing pending occasion spare is_orphaned so = begun_sharing pending occasion spare is_orphaned (λ asked. so) (full_older fair seen pending so)
+  pub polled_sharing : (pending : PendingRequest) (occasion : Occasion) (spare : ℕ) (is_orphaned : Bool) → IsSharing unshifted seen ⊥ pending → IsAttemptSharing (attempt_begun k.places (bits_of k) pending seen occasion spare is_orphaned)
+  polled_sharing pending occasion spare is_orphaned so = begun_sharing pending occasion spare is_orphaned (λ asked. so) (full_older unshifted seen pending so)

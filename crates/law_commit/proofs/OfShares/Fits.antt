@@ -36,14 +36,14 @@ use Rattle.law_commit.proofs.OfShares.Waiting.{Latched, MeetNone, both_none, thr
 
 -- ---- each event of a session's own fits, so all of it is known
 unfoldable pub AllFit : (k : Seat) → HasItsBuckets k → Bool → SessionState → List SessionEvent → Type 0
-AllFit k its fair first [] = ⊤
-AllFit k its fair first (event ∷ before) = FitsEvent k its fair (session_run k first before) event × AllFit k its fair first before
+AllFit k its unshifted first [] = ⊤
+AllFit k its unshifted first (event ∷ before) = FitsEvent k its unshifted (session_run k first before) event × AllFit k its unshifted first before
 
-pub run_known : (k : Seat) (its : HasItsBuckets k) (fair : Bool) (first : SessionState) (events : List SessionEvent) → IsOpened first → IsVersion first.seen.version.0 → AllFit k its fair first events → Knows k its fair (session_run k first events)
+pub run_known : (k : Seat) (its : HasItsBuckets k) (unshifted : Bool) (first : SessionState) (events : List SessionEvent) → IsOpened first → IsVersion first.seen.version.0 → AllFit k its unshifted first events → Knows k its unshifted (session_run k first events)
 unfolding session_run AllFit
-run_known k its fair first [] opened fit all = opened_known (Waits k its fair first) (IsAttemptSharing k its fair first.seen) first opened
-run_known k its fair first (event ∷ before) opened fit all =
-    event_known k its fair (session_run k first before) event all.0 (run_version k first before opened fit) (run_version k first (event ∷ before) opened fit) (run_known k its fair first before opened fit all.1)
+run_known k its unshifted first [] opened fit all = opened_known (Waits k its unshifted first) (IsAttemptSharing k its unshifted first.seen) first opened
+run_known k its unshifted first (event ∷ before) opened fit all =
+    event_known k its unshifted (session_run k first before) event all.0 (run_version k first before opened fit) (run_version k first (event ∷ before) opened fit) (run_known k its unshifted first before opened fit all.1)
 
 -- ---- in prepare all share behind each of them, and none has shifted
 unfoldable pub OwnLatched : (k : Seat) → HasItsBuckets k → SessionState → List SessionEvent → List SessionEvent → Type 0
@@ -71,7 +71,7 @@ away_none : {X : Type 0} (s : SessionState) → IsAway s s.step → is_busy s.st
 away_none s (inl idle) busy awake = not_both (is_busy s.step) busy idle
 away_none s (inr asleep) busy awake = not_both s.is_awake awake asleep
 
-module _ (number : Version) (stage : Stage) (some : 0 < number.0) (top : ℕ) (top_is : top ≡ 5 * number.0 + stage_number stage) (k : Seat) (its : HasItsBuckets k) (fair : Bool) (first : SessionState) (opened : IsOpened first) where
+module _ (number : Version) (stage : Stage) (some : 0 < number.0) (top : ℕ) (top_is : top ≡ 5 * number.0 + stage_number stage) (k : Seat) (its : HasItsBuckets k) (unshifted : Bool) (first : SessionState) (opened : IsOpened first) where
   abbrev at : List SessionEvent → SessionState
   at events = session_run k first events
 
@@ -117,8 +117,8 @@ module _ (number : Version) (stage : Stage) (some : 0 < number.0) (top : ℕ) (t
       by_awake true awake = inr (awake_so (busy (ap is_busy catches) awake))
       by_awake false asleep = inl (run_asleep k first before opened asleep).none_wait
 
-  catches_so : (reply : ℕ) (before : List SessionEvent) → IsOn top (at before).seen (at (Replies reply ∷ before)).seen → IsBusyFloored before → (fair ≡ true → Latched k its (at (Replies reply ∷ before)))
-      → (cause : CatchCause) → (at before).step ≡ CatchesUp cause → CatchesSo k its fair (at before) reply
+  catches_so : (reply : ℕ) (before : List SessionEvent) → IsOn top (at before).seen (at (Replies reply ∷ before)).seen → IsBusyFloored before → (unshifted ≡ true → Latched k its (at (Replies reply ∷ before)))
+      → (cause : CatchCause) → (at before).step ≡ CatchesUp cause → CatchesSo k its unshifted (at before) reply
   unfolding session_run session_happens
   catches_so reply before on busy latched cause catches = record {
     onward = goes_on (Replies reply) before cause catches on busy;
@@ -128,16 +128,16 @@ module _ (number : Version) (stage : Stage) (some : 0 < number.0) (top : ℕ) (t
   }
 
   fits_so : (event : SessionEvent) (before : List SessionEvent) → IsOn top (at before).seen (at (event ∷ before)).seen → IsBusyFloored before
-      → (fair ≡ true → (shifts_by k (at before) event ≡ false) × Latched k its (at (event ∷ before))) → FitsEvent k its fair (at before) event
+      → (unshifted ≡ true → (shifts_by k (at before) event ≡ false) × Latched k its (at (event ∷ before))) → FitsEvent k its unshifted (at before) event
   fits_so (Begins call) before on busy latched = tt
   fits_so (Gets action) before on busy latched = tt
   fits_so (Replies reply) before on busy latched = record { catches = catches_so reply before on busy (λ f. (latched f).1); not_shifted = λ f. (latched f).0 }
 
   record Fits (events : List SessionEvent) : Type 0 where
-    all : AllFit k its fair first events
+    all : AllFit k its unshifted first events
     busy : IsBusyFloored events
 
-  through_fits : (own part : List SessionEvent) → HasNoCall part → OwnOn top k first own part → (fair ≡ true → OwnLatched k its first own part) → IsBusyFloored own → AllFit k its fair first own → Fits (part ++ own)
+  through_fits : (own part : List SessionEvent) → HasNoCall part → OwnOn top k first own part → (unshifted ≡ true → OwnLatched k its first own part) → IsBusyFloored own → AllFit k its unshifted first own → Fits (part ++ own)
   unfolding OwnOn OwnLatched AllFit
   through_fits own [] calls on latched busy all = record { all = all; busy = busy }
   through_fits own (Begins call ∷ later) calls on latched busy all = absurd calls
@@ -151,5 +151,5 @@ module _ (number : Version) (stage : Stage) (some : 0 < number.0) (top : ℕ) (t
       let past = through_fits own later calls on.1 (λ f. (latched f).1.1) busy all in
       record { all = (tt, past.all); busy = busy_by (Gets action) (later ++ own) on.0 (given_away action (later ++ own)) past.busy }
 
-  pub part_fits : (own part : List SessionEvent) → HasNoCall part → OwnOn top k first own part → (fair ≡ true → OwnLatched k its first own part) → IsBusyFloored own → AllFit k its fair first own → AllFit k its fair first (part ++ own)
+  pub part_fits : (own part : List SessionEvent) → HasNoCall part → OwnOn top k first own part → (unshifted ≡ true → OwnLatched k its first own part) → IsBusyFloored own → AllFit k its unshifted first own → AllFit k its unshifted first (part ++ own)
   part_fits own part calls on latched busy all = (through_fits own part calls on latched busy all).all

@@ -84,18 +84,18 @@ plain_takes s Leaves plain takes = takes
 plain_takes s LoadsDurable plain takes = takes
 
 -- since less, or since more
-since_map : (fair : Bool) (seen : Seen) (T U : Type 0) (p : PendingRequest) → (T → U) → IsSharing fair seen T p → IsSharing fair seen U p
-since_map fair seen T U p so sharing = λ updates.
+since_map : (unshifted : Bool) (seen : Seen) (T U : Type 0) (p : PendingRequest) → (T → U) → IsSharing unshifted seen T p → IsSharing unshifted seen U p
+since_map unshifted seen T U p so sharing = λ updates.
     record { upto = (sharing updates).upto; only = λ has. elim ((sharing updates).only has) [ inl prepared ↦ inl prepared | inr t ↦ inr (so t) ]; since = (sharing updates).since }
 
-latched_sharing : (fair : Bool) (seen : Seen) (T : Type 0) (p : PendingRequest) → T → IsSharing fair seen T p → IsSharing fair seen T (with_latch p true)
+latched_sharing : (unshifted : Bool) (seen : Seen) (T : Type 0) (p : PendingRequest) → T → IsSharing unshifted seen T p → IsSharing unshifted seen T (with_latch p true)
 unfolding with_latch
-latched_sharing fair seen T p t sharing = λ updates. record { upto = (sharing updates).upto; only = λ has. inr t; since = λ c. refl }
+latched_sharing unshifted seen T p t sharing = λ updates. record { upto = (sharing updates).upto; only = λ has. inr t; since = λ c. refl }
 
 -- as what it has taken up is what it goes by
-caught_sharing : (fair : Bool) (seen after : Seen) (T : Type 0) (p : PendingRequest) → IsOnward seen after → LeavesSo seen after → (T → is_prepare after.phase ≡ true) → (fair ≡ true → is_prepare after.phase ≡ true → is_read p.request.op ≡ false → p.request.has_latch ≡ true)
-    → IsSharing fair seen T p → IsSharing fair after ⊥ p
-caught_sharing fair seen after T p on leaves takes shares sharing updates =
+caught_sharing : (unshifted : Bool) (seen after : Seen) (T : Type 0) (p : PendingRequest) → IsOnward seen after → LeavesSo seen after → (T → is_prepare after.phase ≡ true) → (unshifted ≡ true → is_prepare after.phase ≡ true → is_read p.request.op ≡ false → p.request.has_latch ≡ true)
+    → IsSharing unshifted seen T p → IsSharing unshifted after ⊥ p
+caught_sharing unshifted seen after T p on leaves takes shares sharing updates =
     let its = sharing updates in
     let up = on.rises in
     let upto = its.upto in
@@ -106,8 +106,8 @@ caught_sharing fair seen after T p on leaves takes shares sharing updates =
     }
 
 -- ---- the update of a call
-hand_older : (fair : Bool) (s : SessionState) → IsVersion s.seen.version.0 → IsOlder fair s.seen (request_in_hand s)
-hand_older fair s fits updates =
+hand_older : (unshifted : Bool) (s : SessionState) → IsVersion s.seen.version.0 → IsOlder unshifted s.seen (request_in_hand s)
+hand_older unshifted s fits updates =
     let some = fits.0 in
     let few = fits.1 in
     record { upto = omega (arith, some, few); only = λ has. cc; since = λ c. (let less = c.1 in absurd (omega (arith, less, some, few))) }
@@ -115,28 +115,28 @@ hand_older fair s fits updates =
 none_in : {X : Type 0} (index : ℕ) (p : PendingRequest) → slice_get [] index ≡ Some p → X
 none_in index p got = cc
 
-module _ (k : Seat) (its : HasItsBuckets k) (fair : Bool) where
+module _ (k : Seat) (its : HasItsBuckets k) (unshifted : Bool) where
   abbrev pub Waits : SessionState → PendingRequest → Type 0
-  Waits s p = IsSharing fair s.seen (SitsTaking s s.step) p
+  Waits s p = IsSharing unshifted s.seen (SitsTaking s s.step) p
 
   abbrev pub Knows : SessionState → Type 0
-  Knows s = KnowsRequests (Waits s) (IsAttemptSharing k its fair s.seen) s
+  Knows s = KnowsRequests (Waits s) (IsAttemptSharing k its unshifted s.seen) s
 
   abbrev Plainly : Seen → SessionState → Type 0
-  Plainly seen s = KnowsRequests (IsSharing fair seen ⊥) (IsAttemptSharing k its fair seen) s
+  Plainly seen s = KnowsRequests (IsSharing unshifted seen ⊥) (IsAttemptSharing k its unshifted seen) s
 
   plain_known : (s : SessionState) → IsPlain s.step → Knows s → Plainly s.seen s
   plain_known s plain knows =
-      stays_known (Waits s) (IsSharing fair s.seen ⊥) (IsAttemptSharing k its fair s.seen) (IsAttemptSharing k its fair s.seen) s (λ p so. since_map fair s.seen (SitsTaking s s.step) ⊥ p (plain_takes s s.step plain) so) (λ attempting so. so) knows
+      stays_known (Waits s) (IsSharing unshifted s.seen ⊥) (IsAttemptSharing k its unshifted s.seen) (IsAttemptSharing k its unshifted s.seen) s (λ p so. since_map unshifted s.seen (SitsTaking s s.step) ⊥ p (plain_takes s s.step plain) so) (λ attempting so. so) knows
 
   known_plainly : (s : SessionState) (seen : Seen) → s.seen ≡ seen → Plainly seen s → Knows s
   known_plainly s seen same knows =
       let here : Plainly s.seen s = subst (λ (x : Seen). Plainly x s) (sym same) knows in
-      stays_known (IsSharing fair s.seen ⊥) (Waits s) (IsAttemptSharing k its fair s.seen) (IsAttemptSharing k its fair s.seen) s (λ p so. since_map fair s.seen ⊥ (SitsTaking s s.step) p (λ never. absurd never) so) (λ attempting so. so) here
+      stays_known (IsSharing unshifted s.seen ⊥) (Waits s) (IsAttemptSharing k its unshifted s.seen) (IsAttemptSharing k its unshifted s.seen) s (λ p so. since_map unshifted s.seen ⊥ (SitsTaking s s.step) p (λ never. absurd never) so) (λ attempting so. so) here
 
   -- ---- a reply where it doesn't catch up
-  hand_sharing : (s : SessionState) → IsVersion s.seen.version.0 → (spare : ℕ) (is_orphaned : Bool) → IsAttemptSharing k its fair s.seen (attempt_begun k.places (bits_of k) (request_in_hand s) s.seen AtCall spare is_orphaned)
-  hand_sharing s fits spare is_orphaned = begun_sharing k its fair s.seen (request_in_hand s) AtCall spare is_orphaned (λ asked. cc) (hand_older fair s fits)
+  hand_sharing : (s : SessionState) → IsVersion s.seen.version.0 → (spare : ℕ) (is_orphaned : Bool) → IsAttemptSharing k its unshifted s.seen (attempt_begun k.places (bits_of k) (request_in_hand s) s.seen AtCall spare is_orphaned)
+  hand_sharing s fits spare is_orphaned = begun_sharing k its unshifted s.seen (request_in_hand s) AtCall spare is_orphaned (λ asked. cc) (hand_older unshifted s fits)
 
   call_waits : (s : SessionState) (has_shifted : Bool) (reply : ℕ) (found : TryAnswer) → shifts_at k s (Attempts has_shifted) reply ≡ false → attempt_comes_to k s reply ≡ Done found → is_accepted has_shifted found ≡ true → is_wait found ≡ true
   call_waits s has_shifted reply (tried.Wait why) none comes accepted = refl
@@ -158,21 +158,21 @@ module _ (k : Seat) (its : HasItsBuckets k) (fair : Bool) where
       by_found tried.LogFull none waits = cc
 
   -- what is left of the attempt goes on waiting
-  left_sharing : (s : SessionState) (reply : ℕ) (found : TryAnswer) → attempt_comes_to k s reply ≡ Done found → (fair ≡ true → is_wait found ≡ true) → IsAttemptSharing k its fair s.seen (attempt_after k s reply)
-      → IsSharing fair s.seen ⊥ (attempt_after k s reply).pending
+  left_sharing : (s : SessionState) (reply : ℕ) (found : TryAnswer) → attempt_comes_to k s reply ≡ Done found → (unshifted ≡ true → is_wait found ≡ true) → IsAttemptSharing k its unshifted s.seen (attempt_after k s reply)
+      → IsSharing unshifted s.seen ⊥ (attempt_after k s reply).pending
   left_sharing s reply found comes waits so =
       let at = attempt_ends k.places k.number (attempt_after k s reply) found so.rests comes in
-      left_full fair s.seen found (attempt_after k s reply).pending waits (subst (λ (step : Attempting). KnowsSharing k its fair s.seen (attempt_after k s reply) step) at so.knows)
+      left_full unshifted s.seen found (attempt_after k s reply).pending waits (subst (λ (step : Attempting). KnowsSharing k its unshifted s.seen (attempt_after k s reply) step) at so.knows)
 
-  plain_next : (s : SessionState) (reply : ℕ) → IsPlain s.step → (fair ≡ true → shifts_by k s (Replies reply) ≡ false) → Plainly s.seen s → Plainly s.seen (session_next k s reply)
+  plain_next : (s : SessionState) (reply : ℕ) → IsPlain s.step → (unshifted ≡ true → shifts_by k s (Replies reply) ≡ false) → Plainly s.seen s → Plainly s.seen (session_next k s reply)
   plain_next s reply plain none knows =
-      next_known (IsSharing fair s.seen ⊥) (IsSharing fair s.seen ⊥) (IsAttemptSharing k its fair s.seen) (IsAttemptSharing k its fair s.seen) k s reply knows (record {
+      next_known (IsSharing unshifted s.seen ⊥) (IsSharing unshifted s.seen ⊥) (IsAttemptSharing k its unshifted s.seen) (IsAttemptSharing k its unshifted s.seen) k s reply knows (record {
         waits = λ p so. so;
-        attempts = λ attempting so. attempt_sharing k its fair s.seen s.attempt reply so;
+        attempts = λ attempting so. attempt_sharing k its unshifted s.seen s.attempt reply so;
         accepts = λ has_shifted found at comes accepted so.
             left_sharing s reply found comes (λ f. call_waits s has_shifted reply found (subst (λ (step : Sitting). shifts_at k s step reply ≡ false) at (none f)) comes accepted) so;
         keeps = λ i found at comes waits so. left_sharing s reply found comes (λ f. poll_waits s i reply found (subst (λ (step : Sitting). shifts_at k s step reply ≡ false) at (none f)) comes waits) so;
-        hands_over = λ polling p spare is_orphaned so. polled_sharing k its fair s.seen p AtPoll spare is_orphaned so;
+        hands_over = λ polling p spare is_orphaned so. polled_sharing k its unshifted s.seen p AtPoll spare is_orphaned so;
         begins_anew = λ unit at done. absurd (subst IsPlain at plain);
         latches = λ cause p at so. absurd (subst IsPlain at plain);
       })
@@ -190,7 +190,7 @@ module _ (k : Seat) (its : HasItsBuckets k) (fair : Bool) where
   plain_seen s asks Leaves reply plain at = (moves_on k s asks Leaves reply at).seen
   plain_seen s asks LoadsDurable reply plain at = (moves_on k s asks LoadsDurable reply at).seen
 
-  plain_replied : (s : SessionState) (reply : ℕ) → IsPlain s.step → (fair ≡ true → shifts_by k s (Replies reply) ≡ false) → Knows s → Knows (session_next k s reply)
+  plain_replied : (s : SessionState) (reply : ℕ) → IsPlain s.step → (unshifted ≡ true → shifts_by k s (Replies reply) ≡ false) → Knows s → Knows (session_next k s reply)
   plain_replied s reply plain none knows =
       known_plainly (session_next k s reply) s.seen (plain_seen s (asks_after s.asks (is_word_ask (session_ask k s))) s.step reply plain refl) (plain_next s reply plain none (plain_known s plain knows))
 
@@ -202,7 +202,7 @@ module _ (k : Seat) (its : HasItsBuckets k) (fair : Bool) where
     -- only as it takes up prepare does it add shares
     pub latching : IsLatching s.catching.step → TakesPrepare s.catching s.catching.step
     -- and once it is through with it all share
-    pub shares : fair ≡ true → StepLatched k its (session_next k s reply) (session_next k s reply).step
+    pub shares : unshifted ≡ true → StepLatched k its (session_next k s reply) (session_next k s reply).step
 
   latched_all : (s : SessionState) (step : Sitting) → IsPlain step → StepLatched k its s step → is_prepare s.seen.phase ≡ true → AllUpdatesShare s.requests
   latched_all s (CatchesUp cause) plain holds prepare = absurd plain
@@ -223,17 +223,17 @@ module _ (k : Seat) (its : HasItsBuckets k) (fair : Bool) where
 
   -- where the reply leaves it
   waits_led : (t : SessionState) (cause : CatchCause) (ask : Ask (Unit {0})) (p : PendingRequest) → t.step ≡ CatchesUp cause → IsOnward t.seen (catch_ledto k t cause ask).seen → LeavesSo t.seen (catch_ledto k t cause ask).seen
-      → (IsPlain (catch_ledto k t cause ask).step → fair ≡ true → is_prepare (catch_ledto k t cause ask).seen.phase ≡ true → is_read p.request.op ≡ false → p.request.has_latch ≡ true)
-      → IsSharing fair t.seen (TakesPrepare t.catching t.catching.step) p → Waits (catch_ledto k t cause ask) p
+      → (IsPlain (catch_ledto k t cause ask).step → unshifted ≡ true → is_prepare (catch_ledto k t cause ask).seen.phase ≡ true → is_read p.request.op ≡ false → p.request.has_latch ≡ true)
+      → IsSharing unshifted t.seen (TakesPrepare t.catching t.catching.step) p → Waits (catch_ledto k t cause ask) p
   unfolding catch_ledto attempts
-  waits_led t Refreshes (Done through) p at on leaves shares so = caught_sharing fair t.seen t.catching.seen (TakesPrepare t.catching t.catching.step) p on leaves (takes_so t.catching t.catching.step) (shares tt) so
-  waits_led t Wakes (Done through) p at on leaves shares so = caught_sharing fair t.seen t.catching.seen (TakesPrepare t.catching t.catching.step) p on leaves (takes_so t.catching t.catching.step) (shares tt) so
-  waits_led t Shifts (Done through) p at on leaves shares so = caught_sharing fair t.seen t.catching.seen (TakesPrepare t.catching t.catching.step) p on leaves (takes_so t.catching t.catching.step) (shares tt) so
-  waits_led t cause ask p at on leaves shares so = subst (λ (step : Sitting). IsSharing fair t.seen (SitsTaking t step) p) (sym at) so
+  waits_led t Refreshes (Done through) p at on leaves shares so = caught_sharing unshifted t.seen t.catching.seen (TakesPrepare t.catching t.catching.step) p on leaves (takes_so t.catching t.catching.step) (shares tt) so
+  waits_led t Wakes (Done through) p at on leaves shares so = caught_sharing unshifted t.seen t.catching.seen (TakesPrepare t.catching t.catching.step) p on leaves (takes_so t.catching t.catching.step) (shares tt) so
+  waits_led t Shifts (Done through) p at on leaves shares so = caught_sharing unshifted t.seen t.catching.seen (TakesPrepare t.catching t.catching.step) p on leaves (takes_so t.catching t.catching.step) (shares tt) so
+  waits_led t cause ask p at on leaves shares so = subst (λ (step : Sitting). IsSharing unshifted t.seen (SitsTaking t step) p) (sym at) so
 
   module _ (s : SessionState) (cause : CatchCause) (reply : ℕ) (at : s.step ≡ CatchesUp cause) where
     abbrev So : PendingRequest → Type 0
-    So p = IsSharing fair s.seen (TakesPrepare s.catching s.catching.step) p
+    So p = IsSharing unshifted s.seen (TakesPrepare s.catching s.catching.step) p
 
     abbrev after : SessionState
     after = session_next k s reply
@@ -243,7 +243,7 @@ module _ (k : Seat) (its : HasItsBuckets k) (fair : Bool) where
 
     -- what waits is marked, or stays
     was_so : Knows s → KnowsRequests So (λ a. ⊤) s
-    was_so knows = stays_known (Waits s) So (IsAttemptSharing k its fair s.seen) (λ a. ⊤) s (λ p so. subst (λ (step : Sitting). IsSharing fair s.seen (SitsTaking s step) p) at so) (λ attempting so. tt) knows
+    was_so knows = stays_known (Waits s) So (IsAttemptSharing k its unshifted s.seen) (λ a. ⊤) s (λ p so. subst (λ (step : Sitting). IsSharing unshifted s.seen (SitsTaking s step) p) at so) (λ attempting so. tt) knows
 
     no_attempt : (has_shifted : Bool) → s.step ≡ Attempts has_shifted → ⊥
     no_attempt has_shifted is = let clash : ◌≡◌ {A = Sitting} (CatchesUp cause) (Attempts has_shifted) = sym at ∙ is in cc
@@ -259,7 +259,7 @@ module _ (k : Seat) (its : HasItsBuckets k) (fair : Bool) where
       keeps = λ i found is comes waits so. absurd (no_poll i is);
       hands_over = λ polling p spare is_orphaned so. tt;
       begins_anew = λ unit is done spare is_orphaned. tt;
-      latches = λ other p is so. latched_sharing fair s.seen (TakesPrepare s.catching s.catching.step) p takes so;
+      latches = λ other p is so. latched_sharing unshifted s.seen (TakesPrepare s.catching s.catching.step) p takes so;
     })
 
     stayed : (IsLatching s.catching.step → ⊥) → KnowsRequests So (λ a. ⊤) s → KnowsRequests So (λ a. ⊤) after
@@ -278,9 +278,9 @@ module _ (k : Seat) (its : HasItsBuckets k) (fair : Bool) where
     caught_waits Finishes is latching was = stayed (λ latches. subst IsLatching is latches) was
 
     -- the attempt that begins anew
-    caught_attempts : IsVersion after.seen.version.0 → KnowsRequests (λ p. ⊤) (IsAttemptSharing k its fair after.seen) after
+    caught_attempts : IsVersion after.seen.version.0 → KnowsRequests (λ p. ⊤) (IsAttemptSharing k its unshifted after.seen) after
     caught_attempts fits =
-        next_known (λ p. ⊤) (λ p. ⊤) (λ a. ⊤) (IsAttemptSharing k its fair after.seen) k s reply (record { waiting = λ index p got other. tt; attempted = λ attempting. tt }) (record {
+        next_known (λ p. ⊤) (λ p. ⊤) (λ a. ⊤) (IsAttemptSharing k its unshifted after.seen) k s reply (record { waiting = λ index p got other. tt; attempted = λ attempting. tt }) (record {
           waits = λ p so. tt;
           attempts = λ attempting so. let clash : is_attempting (CatchesUp cause) ≡ true = subst (λ (step : Sitting). is_attempting step ≡ true) at attempting in cc;
           accepts = λ has_shifted found is comes accepted so. tt;
@@ -288,7 +288,7 @@ module _ (k : Seat) (its : HasItsBuckets k) (fair : Bool) where
           hands_over = λ polling p spare is_orphaned so. let clash : is_polling (CatchesUp cause) ≡ true = subst (λ (step : Sitting). is_polling step ≡ true) at polling in cc;
           begins_anew = λ unit shifts done spare is_orphaned.
               let seen : after.seen ≡ (catch_after k s reply).seen = shifted_seen k s reply unit shifts done in
-              subst (λ (x : Seen). IsAttemptSharing k its fair x (attempt_begun k.places (bits_of k) (request_in_hand (caught_up_at k s reply)) (catch_after k s reply).seen AtCall spare is_orphaned)) (sym seen)
+              subst (λ (x : Seen). IsAttemptSharing k its unshifted x (attempt_begun k.places (bits_of k) (request_in_hand (caught_up_at k s reply)) (catch_after k s reply).seen AtCall spare is_orphaned)) (sym seen)
               (hand_sharing (caught_up_at k s reply) (subst (λ (x : Seen). IsVersion x.version.0) seen fits) spare is_orphaned);
           latches = λ other p is so. tt;
         })
@@ -297,14 +297,14 @@ module _ (k : Seat) (its : HasItsBuckets k) (fair : Bool) where
     abbrev Led : PendingRequest → Sitting → Type 0
     Led p step =
         IsOnward s.seen (sitting_next k quiet step reply).seen → LeavesSo s.seen (sitting_next k quiet step reply).seen
-        → (IsPlain (sitting_next k quiet step reply).step → fair ≡ true → is_prepare (sitting_next k quiet step reply).seen.phase ≡ true → is_read p.request.op ≡ false → p.request.has_latch ≡ true)
+        → (IsPlain (sitting_next k quiet step reply).step → unshifted ≡ true → is_prepare (sitting_next k quiet step reply).seen.phase ≡ true → is_read p.request.op ≡ false → p.request.has_latch ≡ true)
         → So p → Waits (sitting_next k quiet step reply) p
 
     led_known : (p : PendingRequest) → Led p (CatchesUp cause)
     unfolding sitting_next
     led_known p on leaves shares so =
         waits_led (caught k quiet reply) cause _ p at on leaves shares
-        (since_map fair s.seen (TakesPrepare s.catching s.catching.step) (TakesPrepare (catch_after k s reply) (catch_after k s reply).step) p (catch_takes k.places (bits_of k) k.number s.catching s.requests reply) so)
+        (since_map unshifted s.seen (TakesPrepare s.catching s.catching.step) (TakesPrepare (catch_after k s reply) (catch_after k s reply).step) p (catch_takes k.places (bits_of k) k.number s.catching s.requests reply) so)
 
     led : (p : PendingRequest) → Led p s.step
     led p = subst (λ (step : Sitting). Led p step) (sym at) (led_known p)
@@ -329,9 +329,9 @@ module _ (k : Seat) (its : HasItsBuckets k) (fair : Bool) where
   called_known : (s : SessionState) (its_call : Call) → is_busy s.step ≡ false → IsVersion s.seen.version.0 → Knows s → Knows (session_begun k s its_call)
   called_known s its_call idle fits knows =
       known_plainly (session_begun k s its_call) s.seen (call_calm k (record s { asks = 0; effect = None; wants_turn = false }) its_call).seen
-      (begun_known (IsSharing fair s.seen ⊥) (IsAttemptSharing k its fair s.seen) k s its_call idle (plain_known s (idle_plain s.step idle) knows) (record {
+      (begun_known (IsSharing unshifted s.seen ⊥) (IsAttemptSharing k its unshifted s.seen) k s its_call idle (plain_known s (idle_plain s.step idle) knows) (record {
         calls = λ op is none spare is_orphaned. hand_sharing (with_op s op) fits spare is_orphaned;
-        polls = λ is awake p spare is_orphaned so. polled_sharing k its fair s.seen p AtPoll spare is_orphaned so;
+        polls = λ is awake p spare is_orphaned so. polled_sharing k its unshifted s.seen p AtPoll spare is_orphaned so;
       }))
 
   begins_known : (s : SessionState) (its_call : Call) (busy : Bool) → is_busy s.step ≡ busy → IsVersion s.seen.version.0 → Knows s → Knows (begins k s busy its_call)
@@ -341,7 +341,7 @@ module _ (k : Seat) (its : HasItsBuckets k) (fair : Bool) where
   gets_known : (s : SessionState) (step : Sitting) (action : Action) → s.step ≡ step → Knows s → Knows (sitting_given k s step action)
   gets_known s (Turns told) action at knows =
       let plain : IsPlain s.step = subst IsPlain (sym at) tt in
-      let given : Plainly s.seen (session_given k s action) = given_known (IsSharing fair s.seen ⊥) (IsAttemptSharing k its fair s.seen) k s action (plain_known s plain knows) in
+      let given : Plainly s.seen (session_given k s action) = given_known (IsSharing unshifted s.seen ⊥) (IsAttemptSharing k its unshifted s.seen) k s action (plain_known s plain knows) in
       known_plainly (sitting_given k s (Turns told) action) s.seen (given_on k s (Turns told) action at).seen (subst (λ (step : Sitting). Plainly s.seen (sitting_given k s step action)) at given)
   gets_known s (Idle told) action at knows = subst Knows (sym (given_on k s (Idle told) action at)) knows
   gets_known s (Attempts has_shifted) action at knows = subst Knows (sym (given_on k s (Attempts has_shifted) action at)) knows
@@ -356,7 +356,7 @@ module _ (k : Seat) (its : HasItsBuckets k) (fair : Bool) where
   -- ---- an event
   pub record FitsReply (s : SessionState) (reply : ℕ) : Type 0 where
     pub catches : (cause : CatchCause) → s.step ≡ CatchesUp cause → CatchesSo s reply
-    pub not_shifted : fair ≡ true → shifts_by k s (Replies reply) ≡ false
+    pub not_shifted : unshifted ≡ true → shifts_by k s (Replies reply) ≡ false
 
   abbrev pub FitsEvent : SessionState → SessionEvent → Type 0
   FitsEvent s (Replies reply) = FitsReply s reply

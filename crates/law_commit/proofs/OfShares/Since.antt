@@ -58,8 +58,8 @@ use Rattle.law_commit.proofs.OfShares.Waiting.{found_all as meets_all}
 
 -- ---- each event of a session in a life fits
 module _ (paper_sound : PaperIsSound) (paper_floor : PaperHasFloor) (opening : World) (start session : ℕ) (first : SessionState) (guarded : guard.IsOpened opening.now start) (world : IsOpenedWorld opening) (opens : OpensSeen opening.now)
-    (was : slice_get opening.now.sessions session ≡ Some first) (fair : Bool)
-    (meets : fair ≡ true → (before : List Event) (s : SessionState) → slice_get (run opening before).now.sessions session ≡ Some s → NoneIsMet (run opening before).now.words (seat_at opening.now session) s) where
+    (was : slice_get opening.now.sessions session ≡ Some first) (unshifted : Bool)
+    (meets : unshifted ≡ true → (before : List Event) (s : SessionState) → slice_get (run opening before).now.sessions session ≡ Some s → NoneIsMet (run opening before).now.words (seat_at opening.now session) s) where
   abbrev k : Seat
   k = seat_at opening.now session
 
@@ -84,7 +84,7 @@ module _ (paper_sound : PaperIsSound) (paper_floor : PaperHasFloor) (opening : W
       let rest = floor.rest in
       record { rest = omega (arith, rest, rank_same); in_progress = λ far. (let it = floor.in_progress far in omega (arith, it, rank_same)) }
 
-  latched_part : (before : List Event) (event : Event) → fair ≡ true → has_shifted k first (session_part_of (run opening before).now session event ++ own before) ≡ false
+  latched_part : (before : List Event) (event : Event) → unshifted ≡ true → has_shifted k first (session_part_of (run opening before).now session event ++ own before) ≡ false
       → OwnLatched k buckets first (own before) (session_part_of (run opening before).now session event)
   latched_part before event f none =
       let now : Now = (run opening before).now in
@@ -95,7 +95,7 @@ module _ (paper_sound : PaperIsSound) (paper_floor : PaperHasFloor) (opening : W
       own_latched k buckets first (own before) part (meets_all now k (at before) session event (slice_get now.sessions session) there (same_seat opening before session) (meets f before (at before) there)) apart.0
       (life_latched opening session first was buckets (meets f) before began apart.1)
 
-  life_fits : (events : List Event) → (fair ≡ true → has_shifted k first (own events) ≡ false) → AllFit k buckets fair first (own events)
+  life_fits : (events : List Event) → (unshifted ≡ true → has_shifted k first (own events) ≡ false) → AllFit k buckets unshifted first (own events)
   unfolding session_events AllFit
   life_fits [] none = tt
   life_fits (event ∷ before) none =
@@ -103,22 +103,22 @@ module _ (paper_sound : PaperIsSound) (paper_floor : PaperHasFloor) (opening : W
       let past = life_fits before (λ f. (shifted_apart k first (session_part_of now session event) (own before) (none f)).1) in
       let lived = life_floored opening start before guarded world opens paper_sound in
       let top_is = staged_rank now lived.number lived.stage lived.its.staged in
-      by_event (λ (part : List SessionEvent). OwnOn (rank_now opening before) k first (own before) part → (fair ≡ true → OwnLatched k buckets first (own before) part) → AllFit k buckets fair first (part ++ own before)) now session event
+      by_event (λ (part : List SessionEvent). OwnOn (rank_now opening before) k first (own before) part → (unshifted ≡ true → OwnLatched k buckets first (own before) part) → AllFit k buckets unshifted first (part ++ own before)) now session event
       (λ call on latched. (tt, past))
       (λ part calls on latched.
-      part_fits lived.number lived.stage lived.its.staged.fits.some (rank_now opening before) top_is k buckets fair first (world.sessions session first was) (own before) part calls on latched (λ busy awake. floored before awake lived) past)
+      part_fits lived.number lived.stage lived.its.staged.fits.some (rank_now opening before) top_is k buckets unshifted first (world.sessions session first was) (own before) part calls on latched (λ busy awake. floored before awake lived) past)
       (life_on opening start session first guarded world opens was before event) (λ f. latched_part before event f (none f))
 
-  pub life_known : (events : List Event) → (fair ≡ true → has_shifted k first (own events) ≡ false) → Knows k buckets fair (at events)
+  pub life_known : (events : List Event) → (unshifted ≡ true → has_shifted k first (own events) ≡ false) → Knows k buckets unshifted (at events)
   life_known events none =
-      run_known k buckets fair first (own events) (world.sessions session first was) (first_version opening session first (at events) events (become events) opens.rests) (life_fits events none)
+      run_known k buckets unshifted first (own events) (world.sessions session first was) (first_version opening session first (at events) events (become events) opens.rests) (life_fits events none)
 
 -- ---- what is said of it
 list_so : (P : Request → Bool → Type 0) (requests : List PendingRequest) → AllKnown (λ p. P p.request p.request.has_latch) requests → WaitSo P requests
 list_so P [] all = tt
 list_so P (p ∷ rest) all = (all zero p refl, list_so P rest (λ i q got. all (suc i) q got))
 
-module _ (k : Seat) (its : HasItsBuckets k) (fair : Bool) (P : Request → Bool → Type 0) (s : SessionState) (knows : Knows k its fair s) (each : (p : PendingRequest) → Waits k its fair s p → P p.request p.request.has_latch) where
+module _ (k : Seat) (its : HasItsBuckets k) (unshifted : Bool) (P : Request → Bool → Type 0) (s : SessionState) (knows : Knows k its unshifted s) (each : (p : PendingRequest) → Waits k its unshifted s p → P p.request p.request.has_latch) where
   polls_other : (i index : ℕ) → s.step ≡ Polls i → s.step ≡ Polls index → index ≡ i
   polls_other i index at is = let same : ◌≡◌ {A = Sitting} (Polls index) (Polls i) = sym is ∙ at in cc
 
@@ -156,20 +156,20 @@ try_so P seen t (trying.TakesExclusive old) make so = make so
 try_so P seen t trying.LoadsOld make so = make so
 try_so P seen t (trying.Appends its) make so = make so
 
-module _ (k : Seat) (its : HasItsBuckets k) (fair : Bool) (P : Request → Bool → Type 0) (seen : Seen) (each : (p : PendingRequest) → IsSharing fair seen ⊥ p → P p.request p.request.has_latch)
-    (tried : (t : TryState) (p : PendingRequest) → t.request ≡ p.request → IsOlder fair seen p → SharesSo seen t → P t.request t.has_shared) where
-  attempt_so : (a : AttemptState) (step : Attempting) → KnowsSharing k its fair seen a step → TriesFor (bits_of k) a step → SharesAttempting seen a step → AttemptSo P a step
+module _ (k : Seat) (its : HasItsBuckets k) (unshifted : Bool) (P : Request → Bool → Type 0) (seen : Seen) (each : (p : PendingRequest) → IsSharing unshifted seen ⊥ p → P p.request p.request.has_latch)
+    (tried : (t : TryState) (p : PendingRequest) → t.request ≡ p.request → IsOlder unshifted seen p → SharesSo seen t → P t.request t.has_shared) where
+  attempt_so : (a : AttemptState) (step : Attempting) → KnowsSharing k its unshifted seen a step → TriesFor (bits_of k) a step → SharesAttempting seen a step → AttemptSo P a step
   attempt_so a attempting.Looks knows goes shares = each a.pending knows.1
   attempt_so a attempting.Puts knows goes shares = each a.pending knows
   attempt_so a (attempting.Ended found) knows goes shares = tt
   attempt_so a attempting.Tries knows goes shares = try_so P seen a.trial a.trial.step (λ so. tried a.trial a.pending goes.its_request knows.1 so) shares
 
-module _ (k : Seat) (its : HasItsBuckets k) (fair : Bool) (P : Request → Bool → Type 0) (s : SessionState) (knows : Knows k its fair s) (inputs : AttemptsSo k s) (each : (p : PendingRequest) → IsSharing fair s.seen ⊥ p → P p.request p.request.has_latch)
-    (tried : (t : TryState) (p : PendingRequest) → t.request ≡ p.request → IsOlder fair s.seen p → SharesSo s.seen t → P t.request t.has_shared) where
+module _ (k : Seat) (its : HasItsBuckets k) (unshifted : Bool) (P : Request → Bool → Type 0) (s : SessionState) (knows : Knows k its unshifted s) (inputs : AttemptsSo k s) (each : (p : PendingRequest) → IsSharing unshifted s.seen ⊥ p → P p.request p.request.has_latch)
+    (tried : (t : TryState) (p : PendingRequest) → t.request ≡ p.request → IsOlder unshifted s.seen p → SharesSo s.seen t → P t.request t.has_shared) where
   hand_so : (step : Sitting) → s.step ≡ step → SharesInHand s step → InHandSo P s step
   hand_so (Attempts has_shifted) at shares =
-      attempt_so k its fair P s.seen each tried s.attempt s.attempt.step (knows.attempted (ap is_attempting at)).knows (attempt_at_call k s has_shifted at inputs).goes.its_try shares
-  hand_so (Polls i) at shares = attempt_so k its fair P s.seen each tried s.attempt s.attempt.step (knows.attempted (ap is_attempting at)).knows (attempt_in_poll k s i at inputs).goes.its_try shares
+      attempt_so k its unshifted P s.seen each tried s.attempt s.attempt.step (knows.attempted (ap is_attempting at)).knows (attempt_at_call k s has_shifted at inputs).goes.its_try shares
+  hand_so (Polls i) at shares = attempt_so k its unshifted P s.seen each tried s.attempt s.attempt.step (knows.attempted (ap is_attempting at)).knows (attempt_in_poll k s i at inputs).goes.its_try shares
   hand_so step at shares = tt
 
 -- ---- only so
@@ -177,8 +177,8 @@ no_more : (A : Type 0) → A ⊎ ⊥ → A
 no_more A (inl a) = a
 no_more A (inr never) = absurd never
 
-tried_only : (fair : Bool) (seen : Seen) (t : TryState) (p : PendingRequest) → t.request ≡ p.request → IsOlder fair seen p → SharesSo seen t → SharesOnly seen t.request t.has_shared
-tried_only fair seen t p same older so updates has =
+tried_only : (unshifted : Bool) (seen : Seen) (t : TryState) (p : PendingRequest) → t.request ≡ p.request → IsOlder unshifted seen p → SharesSo seen t → SharesOnly seen t.request t.has_shared
+tried_only unshifted seen t p same older so updates has =
     let was = older (subst (λ (r : Request). is_read r.op ≡ false) same updates) in
     elim (so.came has) [
       | inl prepares ↦ inl prepares

@@ -14,7 +14,10 @@ use Rattle.fkv_index.specs.Finding.{find_ask, find_next_ask}
 use Rattle.fkv_index.specs.IndexWorld.{IndexWorld}
 use Rattle.fkv_index.specs.OneEntry.{HasLost}
 use Rattle.fkv_index.specs.Slots.{home_of, link_of}
-use Rattle.fkv_index.proofs.Shown.{IsSound, sound_lost}
+use Rattle.fkv_index.proofs.Shown.{IsBegun, IsReading, IsSound, sound_lost}
+use Rattle.fkv_index.specs.declared.finding.Purpose.TheVariants as slot
+use Rattle.fkv_map.specs.declared.operations.Op.{Op}
+use Rattle.fkv_map.specs.declared.operations.Op.TheVariants as operation
 use Rattle.fkv_map.specs.Keys.{key_of}
 use Rattle.fkv_ops.specs.declared.requests.Request.{Request}
 use Rattle.fkv_ops.specs.declared.requests.Seen.{Seen}
@@ -34,7 +37,7 @@ use Rattle.fkv_world.specs.Opened.{HasBecome}
 use Rattle.fkv_world.specs.Runs.{run}
 use Rattle.fkv_world.specs.World.{Event, Now}
 use Rattle.fkv_world.proofs.Shown.{shape_stays}
-use Rattle.law_apart.specs.Apart.Rows.{AttemptApart, IsLater, SearchTells, TellsApart, TellsSharer, TryApart, is_linking, is_lost}
+use Rattle.law_apart.specs.Apart.Rows.{AttemptApart, IsLater, SearchTells, TellsApart, TellsSharer, TryApart, has_linked, is_linking, is_lost}
 use Rattle.law_apart.proofs.OfApart.Links.{full_links}
 use Rattle.law_apart.proofs.OfApart.Tries.{sharers_pass}
 use Rattle.law_opening.proofs.OfChanges.OfSessions.Attempting.{attempting_is}
@@ -93,6 +96,19 @@ lost_links words f find.LoadsLink at busy lost = rw (lost.0, at) refl
 lost_links words f (find.LoadsTaken word) at busy lost = absurd lost
 lost_links words f (find.TakesBucket word taken) at busy lost = rw at refl
 lost_links words f (find.LinksBucket word) at busy lost = rw at refl
+
+-- a search that only loads links nothing
+reading_links : (f : Finding) (step : FindStep) → IsReading (record f { step = step }) → is_linking (record f { step = step }) ≡ false
+reading_links f find.AtRest its = ap has_linked its.never
+reading_links f (find.LoadsSlot slot) its = ap has_linked its.never
+reading_links f find.LoadsLink its = ap has_linked its.never
+reading_links f (find.LoadsTaken word) its = absurd its.loads
+reading_links f (find.TakesBucket word taken) its = absurd its.loads
+reading_links f (find.LinksBucket word) its = absurd its.loads
+
+read_purpose : (op : Op) → is_read op ≡ true → purpose_of op ≡ slot.Read
+read_purpose (operation.Read key) reads = refl
+read_purpose op reads = cc
 
 attempt_share : (s : SessionState) (step : Sitting) → is_attempting step ≡ true → SharesInHand s step → SharesAttempting s.seen s.attempt s.attempt.step
 attempt_share s (Attempts has_shifted) attempts so = so
@@ -207,7 +223,7 @@ module _ (given : Given) (life : BegunLife) (apart : OpensApart life) (before : 
             let request = ap (λ (r : Request). r.version.0) row.its_request in
             absurd (omega (arith, older, view, own, is, high, request))
 
-    in_ring : (a : ℕ) → IsIn a (L.chains (H (key_in t.request))) → a < head_in t.seen + N.places.ring
+    pub in_ring : (a : ℕ) → IsIn a (L.chains (H (key_in t.request))) → a < head_in t.seen + N.places.ring
     in_ring a is_in = subst (λ (x : Seen). a < head_in x + N.places.ring) (sym same_seen) (by_test (nat_lt a (head_in s.seen)) refl)
       where
         there : a < tail_at N
@@ -227,7 +243,7 @@ module _ (given : Given) (life : BegunLife) (apart : OpensApart life) (before : 
     has_heads : HasHeads life.opening life.start life.lists life.ghosts
     has_heads = record { opened = life.begins.store.now; in_order = life.begins.index; none = life.begins.unborn; free = life.begins.reserves; leads = life.begins.heads }
 
-    search : t.step ≡ Walks → t.walk.step ≡ Finds → SearchTells L (H (key_in t.request)) N.places t.walk.finding (reply_in N session s)
+    pub search : t.step ≡ Walks → t.walk.step ≡ Finds → SearchTells L (H (key_in t.request)) N.places t.walk.finding (reply_in N session s)
     search walks finds = record { lost = lost; empty = empty }
       where
         its : Search
@@ -270,6 +286,16 @@ module _ (given : Given) (life : BegunLife) (apart : OpensApart life) (before : 
             let same : home_attempted N s ≡ home_of life.opening.now.shape.bucket_bits (key_of t.request.op) =
             ap (λ (shape : _). home_of shape.bucket_bits (key_of s.attempt.pending.request.op)) (shape_stays life.opening before) ∙ sym (ap (λ (r : Request). home_of life.opening.now.shape.bucket_bits (key_of r.op)) row.its_request) in
             subst (λ (x : Home). head_of (L.chains (home_number x)) ≡ 0) (home ∙ same) none
+
+    -- that of a read links nothing
+    pub links_none : t.step ≡ Walks → t.walk.step ≡ Finds → is_read t.request.op ≡ true → is_linking t.walk.finding ≡ false
+    links_none walks finds reads =
+        let its : Search = record { finding = t.walk.finding; purpose = purpose_of t.request.op } in
+        let searches : (session_part s).work ≡ Searches its = sitting_work s s.step attempts tries walks finds in
+        let actor = (shows_then life.opening life.start life.lists life.ghosts before has_heads).actors session s is_there in
+        let work : IsWork (Searches its) actor.actor = subst (λ (x : SessionWork). IsWork x actor.actor) searches actor.its.work in
+        let begun : IsBegun actor.actor = (life_sound life.opening life.lists before life.begins.index).begun session actor.actor actor.got in
+        reading_links t.walk.finding t.walk.finding.step (subst IsReading work.1 (begun.its_reading (work.2 ∙ read_purpose t.request.op reads)))
 
     pub tells : TellsSharer H L N.places t (reply_in N session s)
     tells walks has prepares = by_op (is_read t.request.op) refl

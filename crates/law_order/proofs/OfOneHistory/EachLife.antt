@@ -7,10 +7,14 @@ use Rattle.fkv_opening.specs.declared.opened_store.Opened.{Opened}
 use Rattle.law_opening.specs.Log.Maps.{opening_map}
 use Rattle.law_opening.specs.Log.OpeningLog.{opening_ghosts}
 use Rattle.law_order.specs.Rules.Ordered.{OfEachKept}
+use Rattle.fkv_world.specs.Runs.{World}
 use Rattle.fkv_world.specs.World.{Event, Now}
+use Rattle.law_log.specs.Ghosts.{Ghosts}
 use Rattle.law_order.specs.Known.Begins.{BeginsLife, BegunLife}
 use Rattle.law_order.specs.Known.Told.{TicketsAreApart}
 use Rattle.law_order.specs.Ordered.Keeps.{KeepsItsOrder, KeepsOrder}
+use Rattle.law_order.specs.Ordered.Laws.{PollsTryNoReadInLives, SeeksInLives}
+use Rattle.law_order.specs.Ordered.Met.{AllReadsSeek, PollsTryNoRead, SeeksItsReads}
 use Rattle.law_order.specs.Apart.Given.{Given}
 use Rattle.law_order.specs.Apart.Lives.{OpensApart}
 use Rattle.law_order.specs.Rules.Openings.{OpensItsEnds, OpensItsVersions}
@@ -39,8 +43,12 @@ pub record OpensSo : Type 0 where
   pub versions : OpensItsVersions
   pub latches : (o : Opened) (n : Now) → IsOpeningWorld o n → latches.IsOpened n
 
-pub keeps_its_order : LivesBegin → OpensSo → Given → OpeningsFit → LivesKeepOrder → InEachLife KeepsItsOrder
-keeps_its_order lives opens given fit keep = λ its is.
+-- what holds of each life that begins so holds of each
+abbrev HoldsInLives : (World → Ghosts → List Event → Type 0) → Type 0
+HoldsInLives P = (life : BegunLife) (events : List Event) → Given → OpensApart life → CellsFit life.ghosts.log → CallsFit events → TicketsAreApart life.opening events → P life.opening life.ghosts events
+
+pub holds_in_each : (P : World → Ghosts → List Event → Type 0) → LivesBegin → OpensSo → Given → OpeningsFit → HoldsInLives P → InEachLife (λ o n bytes events. P (beginning n bytes) (opening_ghosts bytes o) events)
+holds_in_each P lives opens given fit keep = λ its is.
     let n : Now = its.world in
     let bytes : List ℕ = its.bytes in
     let o : Opened = its.opened in
@@ -55,6 +63,13 @@ keeps_its_order lives opens given fit keep = λ its is.
     } in
     let apart : OpensApart life = record { quiet = opens.ends bytes o n is.store is.begins; latches = opens.latches o n is.begins; upto = (opens.versions bytes o n is.store is.begins).upto } in
     keep life its.events given apart (fit bytes o is.store) is.fits (tickets_apart (beginning n bytes) its.events life.begins.world is.few)
+
+pub keeps_its_order : LivesBegin → OpensSo → Given → OpeningsFit → LivesKeepOrder → InEachLife KeepsItsOrder
+keeps_its_order lives opens given fit keep = holds_in_each KeepsOrder lives opens given fit keep
+
+pub seeks_its_reads : LivesBegin → OpensSo → Given → OpeningsFit → SeeksInLives → PollsTryNoReadInLives → InEachLife SeeksItsReads
+seeks_its_reads lives opens given fit seeking untried =
+    holds_in_each (λ opening ghosts events. AllReadsSeek opening events × PollsTryNoRead opening events) lives opens given fit (λ life events given opens cells fits apart. (seeking life events given opens cells fits apart, untried life events given opens cells fits apart))
 
 pub of_each_life : (P : Opened → Now → List ℕ → List Event → Type 0) → InEachLife KeepsItsOrder → OfEachKept P → InEachLife P
 of_each_life P keep kept = λ its is.

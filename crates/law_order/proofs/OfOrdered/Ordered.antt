@@ -32,6 +32,9 @@ use Rattle.law_order.proofs.OfServed.Served.{served_show}
 use Rattle.law_order.proofs.OfTold.Enabled.{lines_enabled, mapped_crashed}
 use Rattle.law_order.proofs.OfTruth.Truth.{words_true}
 use Rattle.law_order.specs.Ordered.Keeps.{KeepsOrder}
+use Rattle.law_order.specs.Ordered.Met.{AllReadsSeek, MeetsItsReads, PollsTryNoRead}
+use Rattle.law_order.proofs.OfOrdered.Met.{reads_met}
+use Rattle.law_order.proofs.OfOrdered.Seeking.{AllSeekSo, seeking_all, seeking_first, seeking_polls, seeking_then}
 
 -- ---- at first nothing has happened
 pub begins_ordered : (life : BegunLife) → KeepsOrder life.opening life.ghosts []
@@ -119,3 +122,22 @@ module _ (calls : CallsLaw) (words : WordsLaw) (given : Given) (life : BegunLife
 
   pub life_goes : (events : List Event) → CallsFit events → TicketsAreApart life.opening events → KeepsOrder life.opening life.ghosts events
   life_goes events fits apart = (through events fits apart).order
+
+  -- and no try of a read is turned away
+  pub life_meets : (events : List Event) → CallsFit events → TicketsAreApart life.opening events → MeetsItsReads life.opening events
+  life_meets events fits apart =
+      let its : Going events = through events fits apart in
+      reads_met given life opens events its.order.enabled (λ session s found. known_now life.opening life.ghosts events its.order.known session s found) (told_truly events fits its.order) its.order.apart its.shifts
+
+  -- so each that waits seeks a record
+  seek_through : (events : List Event) → CallsFit events → TicketsAreApart life.opening events → AllSeekSo life.opening events
+  seek_through [] fits apart = seeking_first life
+  seek_through (event ∷ before) fits apart =
+      let earlier : TicketsAreApart life.opening before = apart_before life.opening before event apart in
+      seeking_then life before event (life_meets before fits.1 earlier) (seek_through before fits.1 earlier)
+
+  pub life_seek : (events : List Event) → CallsFit events → TicketsAreApart life.opening events → AllReadsSeek life.opening events
+  life_seek events fits apart = seeking_all life.opening events (seek_through events fits apart)
+
+  pub life_polls : (events : List Event) → CallsFit events → TicketsAreApart life.opening events → PollsTryNoRead life.opening events
+  life_polls events fits apart = seeking_polls life events (seek_through events fits apart)

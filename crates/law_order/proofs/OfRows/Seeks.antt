@@ -31,7 +31,7 @@ use Rattle.fkv_pending.specs.Attempting.{AttemptState, attempt_begun, attempt_en
 use Rattle.law_order.specs.Rows.Asked.{SeeksWhereAsked, SeeksAt, AttemptSeeks}
 
 -- ---- a request as it changes
-held_seeks : (pending : PendingRequest) (held : Option HeldRecord) → SeeksWhereAsked pending → SeeksWhereAsked (with_held pending held)
+pub held_seeks : (pending : PendingRequest) (held : Option HeldRecord) → SeeksWhereAsked pending → SeeksWhereAsked (with_held pending held)
 unfolding with_held
 held_seeks pending held its = its
 

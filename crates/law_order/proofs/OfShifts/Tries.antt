@@ -38,6 +38,7 @@ use Rattle.fkv_plane.specs.declared.asks.Ask.{Ask}
 use Rattle.fkv_plane.specs.declared.asks.Ask.TheVariants.{Done}
 use Rattle.fkv_plane.specs.declared.places.Places.{Places}
 use Rattle.fkv_plane.specs.Places.{bucket_place}
+use Rattle.law_order.proofs.OfShifts.Walks.{LoadsNone, walk_none}
 
 -- What is known where a try ends as a shift, and where it is refused as the index or the log is full.
 abbrev pub IsShift : Type 0 → Type 0 → TryAnswer → Type 0
@@ -46,12 +47,13 @@ IsShift X F answer.IndexFull = F
 IsShift X F answer.LogFull = F
 IsShift X F its = ⊤
 
--- as it takes its share it has added none yet, or it has met bit 63
+-- as it takes its share it has added none yet, or it has met bit 63; and while it walks, its walk loads no value
 abbrev pub ShiftRow : Type 0 → Type 0 → Places → TryState → Trying → Type 0
 ShiftRow X F p t (Ended its) = IsShift X F its
 ShiftRow X F p t (DropsExclusive its) = IsShift X F its
 ShiftRow X F p t (DropsShared its) = IsShift X F its
 ShiftRow X F p t TakesShared = (t.latching ≡ AddsShare (bucket_place p t.home.bucket 7)) ⊎ X
+ShiftRow X F p t Walks = LoadsNone t.walk.step
 ShiftRow X F p t step = ⊤
 
 second_true : (a b : Bool) → (a && b) ≡ true → b ≡ true
@@ -132,14 +134,14 @@ module _ (X F : Type 0) (p : Places) where
   walked_row t walk.Full full = full_row t answer.IndexFull t.occasion full
   walked_row t walk.Contended full = ends_row t (answer.Wait reason.Contended) tt
 
-  led_row : (t : TryState) (ask : Ask WalkAnswer) → t.step ≡ Walks → (t.occasion ≡ Call → F) → ((its : WalkAnswer) → ask ≡ Done its → must_shift (record t { spare = t.walk.spare }) ≡ true → X) → Row (walk_ledto p t ask)
+  led_row : (t : TryState) (ask : Ask WalkAnswer) → t.step ≡ Walks → LoadsNone t.walk.step → (t.occasion ≡ Call → F) → ((its : WalkAnswer) → ask ≡ Done its → must_shift (record t { spare = t.walk.spare }) ≡ true → X) → Row (walk_ledto p t ask)
   unfolding walk_ledto
-  led_row t (Done its) at full shifts = by_test (has_walked its && must_shift (record t { spare = t.walk.spare })) refl
+  led_row t (Done its) at none full shifts = by_test (has_walked its && must_shift (record t { spare = t.walk.spare })) refl
     where
       by_test : (b : Bool) → (has_walked its && must_shift (record t { spare = t.walk.spare })) ≡ b → Row (if b then ends p (record t { spare = t.walk.spare }) answer.Shift else walked p (record t { spare = t.walk.spare }) its)
       by_test true e = ends_row (record t { spare = t.walk.spare }) answer.Shift (shifts its refl (second_true (has_walked its) (must_shift (record t { spare = t.walk.spare })) e))
       by_test false e = walked_row (record t { spare = t.walk.spare }) its full
-  led_row t ask at full shifts = still t Walks at tt
+  led_row t ask at none full shifts = still t Walks at none
 
   met_row : (t : TryState) (ask : Ask LatchAnswer) → t.step ≡ TakesShared → X → Row (shared_ledto p t ask)
   unfolding shared_ledto
@@ -226,7 +228,7 @@ module _ (X F : Type 0) (p : Places) (room : ℕ) (t : TryState) (reply : ℕ) (
   unfolding trying_next
   row_on (Ended its) at row = still X F p quiet (Ended its) at row
   row_on TakesShared at row = shared_row at row
-  row_on Walks at row = led_row X F p (record t { effect = None; walk = walk_next p t.walk reply }) (walk_ask p (walk_next p t.walk reply)) at shifts.full (λ its e must. shifts.walk at its e must)
+  row_on Walks at row = led_row X F p (record t { effect = None; walk = walk_next p t.walk reply }) (walk_ask p (walk_next p t.walk reply)) at (walk_none p t.walk reply row) shifts.full (λ its e must. shifts.walk at its e must)
   row_on (LoadsSafe addr version) at row =
       either X F p (nat_le reply addr.0) (ends p quiet (answer.Wait reason.Fuzzy)) (copies p quiet InMemory (is_own_version t version)) (ends_row X F p quiet (answer.Wait reason.Fuzzy) tt) (copies_row X F p quiet InMemory (is_own_version t version))
   row_on (SwapsValue addr) at row = effect_row X F p quiet (reply_from None t.request.op)

@@ -6,6 +6,7 @@ use Rattle.law_order.specs.Known.Begins.{BegunLife, home_of_world}
 use Rattle.law_order.specs.Known.Told.{TicketsAreApart}
 use Rattle.law_refine.specs.Events.GhostEvents.{mapped}
 use Rattle.law_order.specs.Ordered.Keeps.{KeepsOrder}
+use Rattle.law_order.specs.Ordered.Met.{AllReadsSeek, MeetsItsReads, PollsTryNoRead}
 use Rattle.law_refine.specs.Records.Changes.{AreChangesPublished}
 use Rattle.law_order.specs.Apart.Given.{Given}
 use Rattle.law_order.specs.Apart.Lives.{OpensApart}
@@ -28,3 +29,21 @@ abbrev pub PublishesItsChanges : Type 0
 PublishesItsChanges =
     (life : BegunLife) (events : List Event) → Given → OpensApart life → CellsFit life.ghosts.log → CallsFit events → TicketsAreApart life.opening events
     → AreChangesPublished life.opening life.ghosts events
+
+-- and no try of a read is turned away
+abbrev pub MeetsReadsInLives : Type 0
+MeetsReadsInLives =
+    (life : BegunLife) (events : List Event) → Given → OpensApart life → CellsFit life.ghosts.log → CallsFit events → TicketsAreApart life.opening events
+    → MeetsItsReads life.opening events
+
+-- so each that waits seeks a record of the device
+abbrev pub SeeksInLives : Type 0
+SeeksInLives =
+    (life : BegunLife) (events : List Event) → Given → OpensApart life → CellsFit life.ghosts.log → CallsFit events → TicketsAreApart life.opening events
+    → AllReadsSeek life.opening events
+
+-- and no poll tries one
+abbrev pub PollsTryNoReadInLives : Type 0
+PollsTryNoReadInLives =
+    (life : BegunLife) (events : List Event) → Given → OpensApart life → CellsFit life.ghosts.log → CallsFit events → TicketsAreApart life.opening events
+    → PollsTryNoRead life.opening events

@@ -1,5 +1,5 @@
 //! What full commits write.
-ghost use Rattle.law_order.specs.Images.Laws.Copied.{CommitsSpellTriples, CommitsWriteTheirCopy};
+ghost use Rattle.law_order.specs.Images.Laws.Copied as copied;
 
 use fkv_checkpoint::law_copied;
 use law_commit::{law_begun, law_copies_cover, law_world_copied};
@@ -9,8 +9,8 @@ use law_opening::{law_guard_opens, law_index_opens, law_long_opens, law_told_ope
 /// of the life, as it waited with the commit in hand, before its writes. What `law_world_copied` and `law_copies_cover` say of that moment is said of these.
 /// So its bytes are those of triples, each of a bucket of the index, and no two of them of one home. It holds if the opened bytes reach far.
 pub fn law_commits_write_their_copy()
-    ensures copied { CommitsWriteTheirCopy }
-    ensures spelled { CommitsSpellTriples }
+    ensures copied { copied.CommitsWriteTheirCopy }
+    ensures spelled { copied.CommitsSpellTriples }
 {
     law_copied();
     law_guard_opens();

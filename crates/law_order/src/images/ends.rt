@@ -1,5 +1,5 @@
 //! Where commits end.
-ghost use Rattle.law_order.specs.Images.Laws.Ends.{CommitsEndFlushed, CommitsEndOnDevice};
+ghost use Rattle.law_order.specs.Images.Laws.Ends as ends;
 
 use law_opening::law_guard_opens;
 use law_world::law_world_is_guarded;
@@ -7,8 +7,8 @@ use law_world::law_world_is_guarded;
 /// In each life the writes of a commit begin once the log is flushed up to the commit's end, and the flushed offset never falls. So a commit that is being
 /// written, or that comes to its finish, ends at or below that offset, and on the device.
 pub fn law_commits_end_flushed()
-    ensures flushed { CommitsEndFlushed }
-    ensures on_device { CommitsEndOnDevice }
+    ensures flushed { ends.CommitsEndFlushed }
+    ensures on_device { ends.CommitsEndOnDevice }
 {
     law_guard_opens();
     law_world_is_guarded();

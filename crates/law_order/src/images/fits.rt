@@ -1,5 +1,5 @@
 //! What the commits of a life name.
-ghost use Rattle.law_order.specs.Images.Laws.Fits.{CommitsFitTheirLife, ImagesNameAFit};
+ghost use Rattle.law_order.specs.Images.Laws.Fits as fits;
 
 use fkv_keeper::law_of_slots;
 use fkv_manifest::law_gates;
@@ -12,8 +12,8 @@ use law_world::{law_world_is_guarded, law_world_one_commit_stands};
 /// If a commit uses the checkpoint with which the store was opened, it names all lost ranges of then. Else its checkpoint is newer than the opening's commit,
 /// and it names none. So it is of each commit that an image names, but the opening's. It holds if the opened bytes reach far.
 pub fn law_commits_fit()
-    ensures each { CommitsFitTheirLife }
-    ensures named { ImagesNameAFit }
+    ensures each { fits.CommitsFitTheirLife }
+    ensures named { fits.ImagesNameAFit }
 {
     law_of_slots();
     law_guard_opens();

@@ -1,5 +1,5 @@
 //! The newest slot of an image, read back.
-ghost use Rattle.law_order.specs.Images.Laws.Read.{ImagesReachFar, ImagesReadBack};
+ghost use Rattle.law_order.specs.Images.Laws.Read as read;
 
 use crate::images::fits::law_commits_fit;
 use crate::images::lengths::law_images_are_long;
@@ -12,8 +12,8 @@ use law_world::law_world_is_guarded;
 /// ranges of the commit for which this life has written it, or it is as it was opened. The image ends behind the slots, the triples of the checkpoint, and the
 /// commit's last record, if the opened bytes reach far. So the next life too begins with an image that reaches far.
 pub fn law_images_read_back()
-    ensures slot { ImagesReadBack }
-    ensures far { ImagesReachFar }
+    ensures slot { read.ImagesReadBack }
+    ensures far { read.ImagesReachFar }
 {
     law_spellings_apart();
     law_guard_opens();

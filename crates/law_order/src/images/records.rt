@@ -1,5 +1,5 @@
 //! Records in images.
-ghost use Rattle.law_order.specs.Images.Laws.Records.{ImagesKeepTheOldRecords, ImagesShowTheLog};
+ghost use Rattle.law_order.specs.Images.Laws.Records as records;
 
 use fkv_record::law_spellings_apart;
 use law_opening::{
@@ -14,7 +14,7 @@ use law_refine::{law_device_shows_log, law_stands_show_log};
 /// as it was, and says no later version than the log has. The calls of the life are of numbers below 2^64, as all that a program can make are. So the log's
 /// numbers fit in words. It holds if the opened bytes reach far.
 pub fn law_images_show_log()
-    ensures { ImagesShowTheLog }
+    ensures { records.ImagesShowTheLog }
 {
     law_spellings_apart();
     law_guard_opens();
@@ -30,7 +30,7 @@ pub fn law_images_show_log()
 /// Below the opened end each such image has just the records of the opened bytes, also those that recovery left out: ones that were given up, lost or too new.
 /// It holds if the opened bytes reach far.
 pub fn law_images_keep_old()
-    ensures { ImagesKeepTheOldRecords }
+    ensures { records.ImagesKeepTheOldRecords }
 {
     law_spellings_apart();
     law_guard_opens();

@@ -1,6 +1,6 @@
 //! The law of prefixes.
 ghost use Rattle.law_order.specs.OneHistory.EachLife.{InEachLife};
-ghost use Rattle.law_order.specs.Prefix.Law.{PrefixLaw, RecoversPrefix};
+ghost use Rattle.law_order.specs.Prefix.Law as said;
 
 use crate::recovered::holds::law_images_hold;
 use crate::recovered::points::law_points_keep;
@@ -14,7 +14,7 @@ use law_opening::law_lives_change_published;
 /// commit there. It is the newest finished one, or the one that is being finished. Its points are no less than what sessions were told as durable. The store's map is
 /// the one with which the life began, behind a replay of just the updates up to each session's point. The replay is legal, with the replies that were given.
 pub fn law_images_recovered()
-    ensures { InEachLife RecoversPrefix }
+    ensures { InEachLife said.RecoversPrefix }
 {
     law_images_hold();
     law_points_keep();
@@ -29,7 +29,7 @@ pub fn law_images_recovered()
 /// legal order, which all replies tell. What a crash leaves is what one commit keeps of that order, and no finished commit is newer. Commits are told as finished
 /// with their numbers and points, and points are fair and never fall. What is told as durable is kept.
 pub fn law_prefix()
-    ensures { PrefixLaw }
+    ensures { said.PrefixLaw }
 {
     law_order();
     law_images_recovered();

@@ -1,6 +1,6 @@
 //! What an image that names a commit of its life shows of the log beside the life.
-ghost use Rattle.law_order.specs.Recovered.Leaves.{OfEachLeft, OfEachNamed};
-ghost use Rattle.law_order.specs.Recovered.Parts.{HasOrderlyLog, ShowsItsLog, StartsAbove};
+ghost use Rattle.law_order.specs.Recovered.Leaves as leaves;
+ghost use Rattle.law_order.specs.Recovered.Parts as parts;
 ghost use Rattle.law_order.specs.Recovered.Shows.{StandsOpened};
 
 use crate::{
@@ -13,7 +13,7 @@ use law_opening::{law_lives_change_published, law_log_counted};
 /// In each life the log beside it is in order. Its chains have just the published records of their homes, versions never rise down a chain, and nothing stands
 /// at address 0.
 pub fn law_log_in_order()
-    ensures { OfEachLeft HasOrderlyLog }
+    ensures { leaves.OfEachLeft parts.HasOrderlyLog }
 {
     law_life_begins();
     law_lives_keep_rules();
@@ -22,7 +22,7 @@ pub fn law_log_in_order()
 /// So in each life the log stands as the commit asks with which the store was opened. Below the opened end it has what counted then, with its keys and values,
 /// of that commit's version. What is published from there on is of later versions.
 pub fn law_opened_log_stands()
-    ensures { OfEachLeft StandsOpened }
+    ensures { leaves.OfEachLeft StandsOpened }
 {
     law_life_begins();
     law_log_counted();
@@ -35,7 +35,7 @@ pub fn law_opened_log_stands()
 /// it, those that the store was opened with too. From the opened tail on all is decided. What was given up there stands with its invalid bit, and is of the version after the
 /// commit's at most. None of these records is lost.
 pub fn law_images_show_life()
-    ensures { OfEachNamed ShowsItsLog }
+    ensures { leaves.OfEachNamed parts.ShowsItsLog }
 {
     law_life_begins();
     law_ends_open();
@@ -49,7 +49,7 @@ pub fn law_images_show_life()
 /// If a commit uses a checkpoint that is newer than the opening's commit, the scan begins at or above the opened tail. For a full commit of this life has made it,
 /// and its first address was the tail as it began.
 pub fn law_scans_start_above()
-    ensures { OfEachNamed StartsAbove }
+    ensures { leaves.OfEachNamed parts.StartsAbove }
 {
     law_life_begins();
     law_ends_open();

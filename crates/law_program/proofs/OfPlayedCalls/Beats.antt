@@ -49,6 +49,12 @@ unheard true its e = cc
 unheard false None e = refl
 unheard false (Some said) e = absurd (told_ends said (sym e))
 
+-- for nothing was told
+pub untold : (struck : Bool) (its : Option tells.Told) → GoesOn ≡ outcome_of struck its → its ≡ None
+untold true its e = cc
+untold false None e = refl
+untold false (Some said) e = absurd (told_ends said (sym e))
+
 -- where it has ended something was
 pub record IsHeard (struck : Bool) (its : Option tells.Told) : Type 0 where
   pub said : tells.Told

@@ -32,20 +32,21 @@ use Rattle.fkv_texts.specs.Refusals.{session_refusal}
 use Rattle.fkv_world.specs.Runs.{World, run}
 use Rattle.fkv_world.specs.World.{Calls, Event, Moves, Now}
 use Rattle.law_order.specs.OneHistory.EachLife.{InEachLife, IsLife}
+use Rattle.law_order.specs.Prefix.Law.{TellsFinished}
 use Rattle.law_order.specs.Rules.InTime.{ReadsInTime}
 use Rattle.law_order.specs.Rules.Ordered.{HasLegalHistory, OrdersItsCalls, ReadsFreshly}
 use Rattle.law_order.specs.Served.Fits.{CallFits, CallsFit}
 use Rattle.law_order.specs.Tickets.Few.{HasFewCalls, calls_in}
 use Rattle.law_order.proofs.OfRules.Beginning.{world_opens}
-use Rattle.law_program.specs.PlayedCalls.EachLine.{AreMovesOf, ArePlayedInLife, CallsGoOn, FinishesGoOn, IsEndOfFinish, IsFinishCutShort, IsFinishInLife, IsLifeOver, IsLineInLife, IsOfKeeper, IsPlayedInLife, IsRefusedLine, IsToldInLife, ItsNumbersFit, StruckCallsSayNothing, StruckFinishesEnd, begun_by}
+use Rattle.law_program.specs.PlayedCalls.EachLine.{AreMovesOf, ArePlayedInLife, CallsGoOn, FinishesGoOn, IsEndOfFinish, IsFinishCutShort, IsFinishInLife, IsKeeperAnswered, IsLifeOver, IsLineInLife, IsPlayedInLife, IsRefusedLine, IsToldInLife, ItsNumbersFit, StruckCallsSayNothing, StruckFinishesEnd, begun_by}
 use Rattle.law_program.specs.PlayedCalls.Finished.{IsCallAnswered}
 use Rattle.law_program.specs.PlayedCalls.PlayedCalls.{called_alone}
 use Rattle.law_program.specs.PlayedCalls.Waiting.{SeatsKeepKeys}
-use Rattle.law_program.specs.WholeCalls.WholeCalls.{map_after}
 use Rattle.law_program.proofs.OfPlayedCalls.Beats.{EndsCall, HasEnded, beats_end}
 use Rattle.law_program.proofs.OfPlayedCalls.InLife.{calls_few, calls_fit}
 use Rattle.law_program.proofs.OfPlayedCalls.Keeper.{map_stays, nobody_still, seats_still}
-use Rattle.law_program.proofs.OfPlayedCalls.Led.{IsKeepers, IsLedBy, LeadsLives, ShowsBoth, alike, beats_on, struck_alone, told_last}
+use Rattle.law_program.proofs.OfPlayedCalls.FinishedCommits.{finishes_what_is_told}
+use Rattle.law_program.proofs.OfPlayedCalls.Led.{IsKeepers, IsLedBy, IsOneAnswer, LeadsLives, ShowsBoth, alike, struck_alone, told_last}
 use Rattle.law_program.proofs.OfPlayedCalls.OneCall.{HasOneCall, first_call, played_out, refused_out, struck_silent}
 use Rattle.law_program.proofs.OfPlayedCalls.Polled.{IsTraced, traced, updates_answered}
 use Rattle.law_program.proofs.OfPlayedCalls.PolledReads.{reads_answered}
@@ -111,7 +112,7 @@ fit_rounds : (count : ℕ) (round : List ActorCall) → AreFit round → AreFit 
 fit_rounds zero round fit = tt
 fit_rounds (suc count) round fit = fit_both (rounds count round) round (fit_rounds count round fit) fit
 
-taken_few : (count : ℕ) (calls : List ActorCall) → length (take count calls) ≤ length calls
+pub taken_few : (count : ℕ) (calls : List ActorCall) → length (take count calls) ≤ length calls
 taken_few zero calls = omega arith
 taken_few (suc count) [] = omega arith
 taken_few (suc count) (its ∷ calls) = let rest = taken_few count calls in omega (arith, rest)
@@ -134,7 +135,7 @@ ends_so Answered = inr (inl refl)
 ends_so other = inl refl
 
 -- ---- a call that is played alone
-module _ {D : Type 0} (legal : InEachLife HasLegalHistory) (ordered : InEachLife OrdersItsCalls) (fresh : InEachLife ReadsFreshly) (in_time : InEachLife ReadsInTime) (whole : AnswersWholeCalls) (seen : D → List ℕ) (may_leave : D → List ℕ → Type 0)
+module _ {D : Type 0} (legal : InEachLife HasLegalHistory) (ordered : InEachLife OrdersItsCalls) (fresh : InEachLife ReadsFreshly) (in_time : InEachLife ReadsInTime) (whole : AnswersWholeCalls) (tells_finished : InEachLife TellsFinished) (seen : D → List ℕ) (may_leave : D → List ℕ → Type 0)
     (engine : events.Event → WorldModel D → WorldModel D → Option tells.Told → Bool → Type 0) (rules : GoesByRules engine) (leads : LeadsLives seen may_leave engine) where
   -- what is printed, and where the life goes
   pub record IsPlayed (telling : Telling) (its : ActorCall) (bytes : List ℕ) (o : Opened) (first : Now) (life : List Event) (before after : PlayerState D) (text : List ℕ) : Type 0 where
@@ -157,7 +158,7 @@ module _ {D : Type 0} (legal : InEachLife HasLegalHistory) (ordered : InEachLife
         answer = answered.answer;
         same = answered.same;
         updates = updates_answered legal ordered number count asked bytes o first life answered.its answered.s.finished answered.answer at is_life answered.is_told;
-        reads = reads_answered fresh in_time bytes o first life number count asked answered.its answered.s.finished at is_life before.seats answered.answer answered.is_told over.keeps;
+        reads = reads_answered fresh in_time bytes o first life number count asked answered.its answered.s.finished at is_life (world_opens o first bytes over.quiet.opening) before.seats answered.answer answered.is_told over.keeps;
       }
 
   told_in_life : (telling : Telling) (number count : ℕ) (asked : Call) (bytes : List ℕ) (o : Opened) (first : Now) (life : List Event) (before after : PlayerState D) (text : List ℕ) → IsLifeOver seen may_leave bytes o first life before
@@ -194,8 +195,8 @@ module _ {D : Type 0} (legal : InEachLife HasLegalHistory) (ordered : InEachLife
       = beats_end engine rules telling number asked opening stage.Begins count life before after outcome text over.quiet.shows ended beats in
       let at : IsTraced bytes first life number count asked ends.answered.its ends.answered.s.finished = traced telling number count asked bytes o first life before after text over.quiet over.rests ends in
       let behind = at_rest_behind telling number count asked bytes o first life before after text over.quiet over.rests fits few ends in
-      let led = beats_on seen may_leave engine leads telling (Session number asked) opening (world_opens o first bytes over.quiet.opening) stage.Begins count life before after outcome text
-      (shows_first bytes o first life before over) beats in
+      let last = told_last seen may_leave engine leads telling (Session number asked) opening (world_opens o first bytes over.quiet.opening) stage.Begins count life before after outcome text
+      (shows_first bytes o first life before over) ended beats in
       record {
         later = called_alone number count asked life;
         played = record {
@@ -205,7 +206,7 @@ module _ {D : Type 0} (legal : InEachLife HasLegalHistory) (ordered : InEachLife
           told = told_in_life telling number count asked bytes o first life before after text over fits few ends at;
           goes_on = record {
             quiet = behind.goes_on;
-            device = (session_shows number count asked opening life after.world led).device;
+            device = (session_shows number count asked opening life after.world last.led).device;
             rests = behind.rests;
             keeps = keeps_behind telling number count asked bytes o first life before after text over ends at;
           };
@@ -214,11 +215,11 @@ module _ {D : Type 0} (legal : InEachLife HasLegalHistory) (ordered : InEachLife
       }
 
   -- of the keeper
-  keeper_told_in_life : (bytes : List ℕ) (o : Opened) (first : Now) (life later : List Event) (seats : List SeatState) (its : ActorCall) (said : tells.Told) → IsKeepers its → IsOfKeeper said
-      → map_after o first bytes later ≡ map_after o first bytes life → IsToldInLife bytes o first life later seats its said
-  keeper_told_in_life bytes o first life later seats (Session number asked) said keeper by_keeper same = absurd keeper
-  keeper_told_in_life bytes o first life later seats (Commit kind) said keeper by_keeper same = (by_keeper, same)
-  keeper_told_in_life bytes o first life later seats Turn said keeper by_keeper same = (by_keeper, same)
+  keeper_told_in_life : (bytes : List ℕ) (o : Opened) (first : Now) (life later : List Event) (seats : List SeatState) (its : ActorCall) (said : tells.Told) → IsKeepers its
+      → IsKeeperAnswered bytes o first life later said → IsToldInLife bytes o first life later seats its said
+  keeper_told_in_life bytes o first life later seats (Session number asked) said keeper answered = absurd keeper
+  keeper_told_in_life bytes o first life later seats (Commit kind) said keeper answered = answered
+  keeper_told_in_life bytes o first life later seats Turn said keeper answered = answered
 
   keeper_played : (telling : Telling) (its : ActorCall) (count : ℕ) (bytes : List ℕ) (o : Opened) (first : Now) (life : List Event) (before after : PlayerState D) (outcome : Outcome) (text : List ℕ) → IsKeepers its
       → IsLifeOver seen may_leave bytes o first life before → HasFewCalls (begun_by its ∷ life) → HasEnded outcome
@@ -226,25 +227,38 @@ module _ {D : Type 0} (legal : InEachLife HasLegalHistory) (ordered : InEachLife
       → IsPlayed telling its bytes o first life before after text
   keeper_played telling its count bytes o first life before after outcome text keeper over few ended beats =
       let opening : World = beginning first bytes in
-      let led = beats_on seen may_leave engine leads telling its opening (world_opens o first bytes over.quiet.opening) stage.Begins count life before after outcome text (shows_first bytes o first life before over) beats in
+      let told = told_last seen may_leave engine leads telling its opening (world_opens o first bytes over.quiet.opening) stage.Begins count life before after outcome text (shows_first bytes o first life before over) ended beats in
+      let led = told.led in
       let later : List Event = led.moves ++ begun_by its ∷ life in
       let shown : ShowsBoth seen may_leave opening later after.world = subst (λ (x : Event). ShowsBoth seen may_leave opening (led.moves ++ x ∷ life) after.world) led.is_at led.shows in
-      let told = told_last seen may_leave engine leads telling its stage.Begins count before after outcome text ended beats in
       let here : NobodyCalls (run opening life).now = subst NobodyCalls (sym over.quiet.shows) over.rests in
       let many = calls_counted its led.moves life led.are_moves in
+      let is_life : IsLife (record { bytes = bytes; opened = o; world = first; events = later })
+      = record {
+        store = over.quiet.store;
+        begins = over.quiet.opening;
+        fits = keeper_fits its led.moves life keeper led.are_moves over.quiet.fits;
+        few = subst (λ (x : ℕ). x < 2 ^ 64 - 1) (sym many) few;
+      } in
+      let was_life : IsLife (record { bytes = bytes; opened = o; world = first; events = life }) = record { store = over.quiet.store; begins = over.quiet.opening; fits = over.quiet.fits; few = over.quiet.few } in
+      let one : IsOneAnswer opening life later told.said = subst (λ (x : Event). IsOneAnswer opening life (led.moves ++ x ∷ life) told.said) led.is_at told.one in
       record {
         later = later;
         played = record {
           said = told.said;
           says = told.says;
           alone = record { moves = led.moves; are_moves = led.are_moves; so = refl };
-          told = keeper_told_in_life bytes o first life later before.seats its told.said keeper (told.by_keeper keeper) (map_stays bytes o first its keeper led.moves life led.are_moves);
+          told = keeper_told_in_life bytes o first life later before.seats its told.said keeper (record {
+            by_keeper = told.by_keeper keeper;
+            map = map_stays bytes o first its keeper led.moves life led.are_moves;
+            finished = finishes_what_is_told tells_finished bytes o first life later was_life is_life told.said one;
+          });
           goes_on = record {
             quiet = record {
               store = over.quiet.store;
               opening = over.quiet.opening;
-              fits = keeper_fits its led.moves life keeper led.are_moves over.quiet.fits;
-              few = subst (λ (x : ℕ). x < 2 ^ 64 - 1) (sym many) few;
+              fits = is_life.fits;
+              few = is_life.few;
               shows = shown.shows;
             };
             device = shown.device;

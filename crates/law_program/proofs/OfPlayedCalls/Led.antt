@@ -1,7 +1,7 @@
 -- Over an honest device a life goes on by each beat of a call, and shows the device with the world.
-use Rattle.std.proofs.Common.{◌≡◌, ◌∙◌, ℕ, zero, suc, List, [], ◌∷◌, ◌++◌, Bool, true, false, ap, append_assoc, length, refl, replicate, sym, subst}
+use Rattle.std.proofs.Common.{◌≡◌, ◌∙◌, ℕ, zero, suc, List, [], ◌∷◌, ◌++◌, Bool, true, false, ap, append_assoc, inl, inr, length, refl, replicate, sym, subst}
 use Rattle.std.specs.Prelude.{Option, Some, None, ⊤}
-use Rattle.fkv_core.specs.Lives.{LeadsOn}
+use Rattle.fkv_core.specs.Lives.{IsAnswerSaid, IsSaid, LeadsOn, answers_of}
 use Rattle.fkv_core.specs.Told.{IsKeepingTold, IsTold, keeper_told}
 use Rattle.fkv_core.specs.Worlds.{WorldModel, took_place}
 use Rattle.fkv_core.specs.declared.events.Event as events
@@ -10,9 +10,12 @@ use Rattle.fkv_core.specs.declared.events.Told.TheVariants as told
 use Rattle.fkv_disk.specs.Device.{IsAfter}
 use Rattle.fkv_epoch.proofs.Shown.{none_some, some_same}
 use Rattle.fkv_keeper.specs.KeeperRun.{is_in_hand}
-use Rattle.fkv_keeper.specs.Keeping.{KeeperState}
+use Rattle.fkv_keeper.specs.Answers.{IsKeeperTold}
+use Rattle.fkv_keeper.specs.Keeping.{Finality, KeeperState, end_told}
 use Rattle.fkv_keeper.specs.declared.answers.KeeperAsk.{KeeperAsk}
 use Rattle.fkv_keeper.specs.declared.answers.KeeperAsk.TheVariants as ask
+use Rattle.fkv_keeper.specs.declared.answers.KeeperTold.{KeeperTold}
+use Rattle.fkv_keeper.specs.declared.answers.KeeperTold.TheVariants.{Begun, CommitRefused, Device, TurnRefused, Turned}
 use Rattle.fkv_keeper.specs.declared.keepers.Keeping.{Keeping}
 use Rattle.fkv_keeper.specs.declared.keepers.Keeping.TheVariants.{Ended}
 use Rattle.fkv_map.specs.declared.operations.Call.{Call}
@@ -30,10 +33,11 @@ use Rattle.fkv_playing.specs.declared.calls.Stage.{Stage}
 use Rattle.fkv_playing.specs.declared.calls.Stage.TheVariants as stage
 use Rattle.fkv_playing.specs.declared.calls.Telling.{Telling}
 use Rattle.fkv_world.specs.Opened.{IsOpenedWorld}
+use Rattle.fkv_world.specs.Past.{Answered, KeeperAnswered, TraceEvent}
 use Rattle.fkv_world.specs.Runs.{World, run}
 use Rattle.fkv_world.specs.World.{Event, Moves, Now}
 use Rattle.law_program.specs.PlayedCalls.EachLine.{AreMovesOf, IsMoveOf, IsOfKeeper, begun_by}
-use Rattle.law_program.proofs.OfPlayedCalls.Beats.{HasEnded, ended_heard, unheard, unheard_then}
+use Rattle.law_program.proofs.OfPlayedCalls.Beats.{HasEnded, ended_heard, unheard, unheard_then, untold}
 
 -- ---- by the engine's rules
 -- A step leads on each life of an opened store that shows the world and the device before it, and tells what its event gives.
@@ -57,7 +61,7 @@ abbrev pub IsEventAt : Stage → ActorCall → Event → Type 0
 IsEventAt stage.Begins its event = event ≡ begun_by its
 IsEventAt stage.Moves its event = IsMoveOf its event
 
-took_at : (at : Stage) (its : ActorCall) (granted done : Bool) → IsEventAt at its (took_place (event_of at its) granted done)
+pub took_at : (at : Stage) (its : ActorCall) (granted done : Bool) → IsEventAt at its (took_place (event_of at its) granted done)
 took_at stage.Begins (Session number asked) granted done = refl
 took_at stage.Begins (Commit kind) granted done = refl
 took_at stage.Begins Turn granted done = refl
@@ -110,13 +114,6 @@ seats_kept asked seats (told.Commit begun) by_keeper = refl
 seats_kept asked seats (told.Turn its) by_keeper = refl
 
 -- ---- beat by beat
--- what is printed is what the call was told
-pub record IsToldLast {D : Type 0} (telling : Telling) (its : ActorCall) (before after : PlayerState D) (text : List ℕ) : Type 0 where
-  pub said : tells.Told
-  pub says : text ≡ text_of telling (asked_of its) before.seats after.world.now said
-  pub by_keeper : IsKeepers its → IsOfKeeper said
-  pub seats : IsKeepers its → after.seats ≡ before.seats
-
 -- a life shows the world and the device
 pub record ShowsBoth {D : Type 0} (seen : D → List ℕ) (may_leave : D → List ℕ → Type 0) (opening : World) (life : List Event) (world : WorldModel D) : Type 0 where
   pub shows : (run opening life).now ≡ world.now
@@ -137,34 +134,44 @@ pub record IsLedBy {D : Type 0} (seen : D → List ℕ) (may_leave : D → List 
   pub many : length moves ≡ count
   pub shows : ShowsBoth seen may_leave opening (moves ++ event ∷ life) after
 
-module _ {D : Type 0} (seen : D → List ℕ) (may_leave : D → List ℕ → Type 0) (engine : events.Event → WorldModel D → WorldModel D → Option tells.Told → Bool → Type 0) (leads : LeadsLives seen may_leave engine) (telling : Telling) (its : ActorCall) where
-  pub told_last : (at : Stage) (count : ℕ) (before after : PlayerState D) (outcome : Outcome) (text : List ℕ) → HasEnded outcome
-      → InTurn (IsBeat engine telling its) GoesOn (at ∷ replicate count stage.Moves) before after outcome text → IsToldLast telling its before after text
-  told_last at zero before after outcome text ended beat =
-      let end = ended_heard (is_struck before.waits beat.broken) beat.its outcome beat.ends ended in
-      let led = leads (event_of at its) before.world after.world beat.its beat.broken beat.step in
-      record {
-        said = end.said;
-        says = beat.says ∙ ap (text_heard telling (asked_of its) before.seats after.world.now) end.hears;
-        by_keeper = λ keeper. said_by_keeper at its before.world.now.crashed before.world.now after.world.now led.granted led.done end.said keeper
-            (subst (λ (x : Option tells.Told). IsTold before.world.now.crashed before.world.now after.world.now (took_place (event_of at its) led.granted led.done) x) end.was led.tells);
-        seats = λ keeper. beat.seats ∙ (ap (seats_behind (asked_of its) before.seats) end.hears ∙ seats_kept (asked_of its) before.seats end.said (said_by_keeper at its before.world.now.crashed before.world.now after.world.now led.granted led.done end.said keeper
-            (subst (λ (x : Option tells.Told). IsTold before.world.now.crashed before.world.now after.world.now (took_place (event_of at its) led.granted led.done) x) end.was led.tells)));
-      }
-  told_last at (suc count) before after outcome text ended beats =
-      let between : PlayerState D = beats.0 in
-      let beat : IsBeat engine telling its at before between GoesOn beats.1 = beats.3 in
-      let none : heard (is_struck before.waits beat.broken) beat.its ≡ None = unheard (is_struck before.waits beat.broken) beat.its beat.ends in
-      let silent : beats.1 ≡ [] = beat.says ∙ ap (text_heard telling (asked_of its) before.seats between.world.now) none in
-      let seats : between.seats ≡ before.seats = beat.seats ∙ ap (seats_behind (asked_of its) before.seats) none in
-      let rest = told_last stage.Moves count between after outcome beats.2 ended beats.4 in
-      record {
-        said = rest.said;
-        says = beats.5 ∙ (ap (λ (x : List ℕ). x ++ beats.2) silent ∙ (rest.says ∙ ap (λ (x : List SeatState). text_of telling (asked_of its) x after.world.now rest.said) seats));
-        by_keeper = rest.by_keeper;
-        seats = λ keeper. rest.seats keeper ∙ seats;
-      }
+-- What was told is the one answer that a life has had since.
+pub record IsOneAnswer (opening : World) (life later : List Event) (said : tells.Told) : Type 0 where
+  pub answer : TraceEvent
+  pub all : answers_of (run opening later).past.trace ≡ answer ∷ answers_of (run opening life).past.trace
+  pub is_said : IsAnswerSaid answer (Some said)
 
+one_said : (opening : World) (life : List Event) (event : Event) (its : Option tells.Told) (said : tells.Told) → its ≡ Some said
+    → IsSaid its (answers_of (run opening life).past.trace) (answers_of (run opening (event ∷ life)).past.trace) → IsOneAnswer opening life (event ∷ life) said
+one_said opening life event its said was (inl none) = none_some said (sym none.0 ∙ was)
+one_said opening life event its said was (inr one) = record { answer = one.0; all = one.1; is_said = subst (IsAnswerSaid one.0) was one.2 }
+
+-- where nothing is told there is no answer
+keeper_says : (k : KeeperTold) (full : Bool) (last : Finality) (given : KeeperAsk) → IsKeeperTold last (end_told k (Turned false full)) given → None ≡ keeper_told given → ⊥
+keeper_says Device full last given so e = none_some _ (e ∙ ap keeper_told so.1)
+keeper_says (Turned finished drained) full last given so e = none_some _ (e ∙ ap keeper_told so.1)
+keeper_says (TurnRefused why) full last given so e = none_some _ (e ∙ ap keeper_told so)
+keeper_says (Begun number) full last given so e = none_some _ (e ∙ ap keeper_told so)
+keeper_says (CommitRefused why) full last given so e = none_some _ (e ∙ ap keeper_told so)
+
+answer_says : (answer : TraceEvent) → IsAnswerSaid answer None → ⊥
+answer_says (Answered number its) so = none_some _ so.1
+answer_says (KeeperAnswered k last) so = keeper_says k so.0 last so.1 so.2 so.3
+answer_says answer so = absurd so
+
+none_said : (its : Option tells.Told) (before after : List TraceEvent) → its ≡ None → IsSaid its before after → after ≡ before
+none_said its before after none (inl same) = same.1
+none_said its before after none (inr one) = absurd (answer_says one.0 (subst (IsAnswerSaid one.0) none one.2))
+
+-- What is printed is what the call was told, and this is the one answer of the life that the beats have led on.
+pub record IsToldLast {D : Type 0} (seen : D → List ℕ) (may_leave : D → List ℕ → Type 0) (telling : Telling) (its : ActorCall) (opening : World) (at : Stage) (count : ℕ) (life : List Event) (before after : PlayerState D) (text : List ℕ) : Type 0 where
+  pub said : tells.Told
+  pub says : text ≡ text_of telling (asked_of its) before.seats after.world.now said
+  pub by_keeper : IsKeepers its → IsOfKeeper said
+  pub seats : IsKeepers its → after.seats ≡ before.seats
+  pub led : IsLedBy seen may_leave its opening at count life after.world
+  pub one : IsOneAnswer opening life (led.moves ++ led.event ∷ life) said
+
+module _ {D : Type 0} (seen : D → List ℕ) (may_leave : D → List ℕ → Type 0) (engine : events.Event → WorldModel D → WorldModel D → Option tells.Told → Bool → Type 0) (leads : LeadsLives seen may_leave engine) (telling : Telling) (its : ActorCall) where
   pub one_on : (opening : World) → IsOpenedWorld opening → (at : Stage) (life : List Event) (before after : PlayerState D) (outcome : Outcome) (text : List ℕ) → ShowsBoth seen may_leave opening life before.world
       → IsBeat engine telling its at before after outcome text → IsLedTo seen may_leave its opening at life after.world
   one_on opening opened at life before after outcome text was beat =
@@ -172,21 +179,62 @@ module _ {D : Type 0} (seen : D → List ℕ) (may_leave : D → List ℕ → Ty
       let on = led.leads opening life opened was.shows was.device in
       record { event = took_place (event_of at its) led.granted led.done; is_at = took_at at its led.granted led.done; shows = record { shows = on.shows; device = on.device } }
 
-  pub beats_on : (opening : World) → IsOpenedWorld opening → (at : Stage) (count : ℕ) (life : List Event) (before after : PlayerState D) (outcome : Outcome) (text : List ℕ) → ShowsBoth seen may_leave opening life before.world
-      → InTurn (IsBeat engine telling its) GoesOn (at ∷ replicate count stage.Moves) before after outcome text → IsLedBy seen may_leave its opening at count life after.world
-  beats_on opening opened at zero life before after outcome text was beat =
-      let one = one_on opening opened at life before after outcome text was beat in record { event = one.event; is_at = one.is_at; moves = []; are_moves = tt; many = refl; shows = one.shows }
-  beats_on opening opened at (suc count) life before after outcome text was beats =
-      let between : PlayerState D = beats.0 in
-      let one = one_on opening opened at life before between GoesOn beats.1 was beats.3 in
-      let rest = beats_on opening opened stage.Moves count (one.event ∷ life) between after outcome beats.2 one.shows beats.4 in
+  pub told_last : (opening : World) → IsOpenedWorld opening → (at : Stage) (count : ℕ) (life : List Event) (before after : PlayerState D) (outcome : Outcome) (text : List ℕ) → ShowsBoth seen may_leave opening life before.world → HasEnded outcome
+      → InTurn (IsBeat engine telling its) GoesOn (at ∷ replicate count stage.Moves) before after outcome text → IsToldLast seen may_leave telling its opening at count life before after text
+  told_last opening opened at zero life before after outcome text was ended beat =
+      let end = ended_heard (is_struck before.waits beat.broken) beat.its outcome beat.ends ended in
+      let led = leads (event_of at its) before.world after.world beat.its beat.broken beat.step in
+      let on = led.leads opening life opened was.shows was.device in
       record {
-        event = one.event;
-        is_at = one.is_at;
-        moves = rest.moves ++ rest.event ∷ [];
-        are_moves = moves_both its rest.moves (rest.event ∷ []) rest.are_moves (rest.is_at, tt);
-        many = one_longer rest.moves rest.event ∙ ap suc rest.many;
-        shows = subst (λ (x : List Event). ShowsBoth seen may_leave opening x after.world) (sym (append_assoc rest.moves (rest.event ∷ []) (one.event ∷ life))) rest.shows;
+        said = end.said;
+        says = beat.says ∙ ap (text_heard telling (asked_of its) before.seats after.world.now) end.hears;
+        by_keeper = λ keeper. said_by_keeper at its before.world.now.crashed before.world.now after.world.now led.granted led.done end.said keeper
+            (subst (λ (x : Option tells.Told). IsTold before.world.now.crashed before.world.now after.world.now (took_place (event_of at its) led.granted led.done) x) end.was led.tells);
+        seats = λ keeper. beat.seats ∙ (ap (seats_behind (asked_of its) before.seats) end.hears ∙ seats_kept (asked_of its) before.seats end.said (said_by_keeper at its before.world.now.crashed before.world.now after.world.now led.granted led.done end.said keeper
+            (subst (λ (x : Option tells.Told). IsTold before.world.now.crashed before.world.now after.world.now (took_place (event_of at its) led.granted led.done) x) end.was led.tells)));
+        led = record {
+          event = took_place (event_of at its) led.granted led.done;
+          is_at = took_at at its led.granted led.done;
+          moves = [];
+          are_moves = tt;
+          many = refl;
+          shows = record { shows = on.shows; device = on.device };
+        };
+        one = one_said opening life (took_place (event_of at its) led.granted led.done) beat.its end.said end.was on.says;
+      }
+  told_last opening opened at (suc count) life before after outcome text was ended beats =
+      let between : PlayerState D = beats.0 in
+      let beat : IsBeat engine telling its at before between GoesOn beats.1 = beats.3 in
+      let none : heard (is_struck before.waits beat.broken) beat.its ≡ None = unheard (is_struck before.waits beat.broken) beat.its beat.ends in
+      let silent : beats.1 ≡ [] = beat.says ∙ ap (text_heard telling (asked_of its) before.seats between.world.now) none in
+      let seats : between.seats ≡ before.seats = beat.seats ∙ ap (seats_behind (asked_of its) before.seats) none in
+      let leading = leads (event_of at its) before.world between.world beat.its beat.broken beat.step in
+      let on = leading.leads opening life opened was.shows was.device in
+      let event : Event = took_place (event_of at its) leading.granted leading.done in
+      let unsaid : answers_of (run opening (event ∷ life)).past.trace ≡ answers_of (run opening life).past.trace
+      = none_said beat.its _ _ (untold (is_struck before.waits beat.broken) beat.its beat.ends) on.says in
+      let rest = told_last opening opened stage.Moves count (event ∷ life) between after outcome beats.2 (record { shows = on.shows; device = on.device }) ended beats.4 in
+      let led = rest.led in
+      let same : led.moves ++ led.event ∷ event ∷ life ≡ (led.moves ++ led.event ∷ []) ++ event ∷ life = sym (append_assoc led.moves (led.event ∷ []) (event ∷ life)) in
+      let last = rest.one in
+      record {
+        said = rest.said;
+        says = beats.5 ∙ (ap (λ (x : List ℕ). x ++ beats.2) silent ∙ (rest.says ∙ ap (λ (x : List SeatState). text_of telling (asked_of its) x after.world.now rest.said) seats));
+        by_keeper = rest.by_keeper;
+        seats = λ keeper. rest.seats keeper ∙ seats;
+        led = record {
+          event = event;
+          is_at = took_at at its leading.granted leading.done;
+          moves = led.moves ++ led.event ∷ [];
+          are_moves = moves_both its led.moves (led.event ∷ []) led.are_moves (led.is_at, tt);
+          many = one_longer led.moves led.event ∙ ap suc led.many;
+          shows = subst (λ (x : List Event). ShowsBoth seen may_leave opening x after.world) same led.shows;
+        };
+        one = record {
+          answer = last.answer;
+          all = ap (λ (x : List Event). answers_of (run opening x).past.trace) (sym same) ∙ (last.all ∙ ap (λ (x : List TraceEvent). last.answer ∷ x) unsaid);
+          is_said = last.is_said;
+        };
       }
 
 -- ---- where a crash strikes

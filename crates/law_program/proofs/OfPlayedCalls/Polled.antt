@@ -110,6 +110,10 @@ pub record IsTraced (bytes : List ℕ) (first : Now) (life : List Event) (number
   pub so : (run (beginning first bytes) (called_alone number count asked life)).past.trace ≡ trace_of_call number asked e later (run (beginning first bytes) life).past.trace its list
   pub line : (k : Key) → asked ≡ call.Op (Read k) → IsIn (CallsRead (length (run (beginning first bytes) life).past.trace) k.0) (event_adds (beginning first bytes) life (Calls number (call.Op (Read k))))
   pub given : IsAnsweredIn (beginning first bytes) life number count asked its list
+  -- this is the session then
+  pub s : SessionState
+  pub found : slice_get (run (beginning first bytes) (called_alone number count asked life)).now.sessions number ≡ Some s
+  pub at_rest : (let now = s in now.step ≡ Idle its)
 
 pub traced : {D : Type 0} (telling : Telling) (number count : ℕ) (asked : Call) (bytes : List ℕ) (o : Opened) (first : Now) (life : List Event) (before after : PlayerState D) (text : List ℕ)
     → IsQuietLife bytes o first life before.world.now → NobodyCalls before.world.now
@@ -135,6 +139,9 @@ traced telling number count asked bytes o first life before after text quiet nob
       so = at.2;
       line = λ k is. call_line opening life number asked there.s alive there.found idle k is;
       given = answered_in opening life number count asked there.s alive there.found idle answered.s answered.its is_now answered.at_rest;
+      s = answered.s;
+      found = is_now;
+      at_rest = answered.at_rest;
     }
 
 module _ (legal : InEachLife HasLegalHistory) (ordered : InEachLife OrdersItsCalls) where

@@ -1,5 +1,5 @@
 -- The value that a poll gives for a read is its key's, at some moment between the read's call and the answer.
-use Rattle.std.proofs.Common.{◌≡◌, ◌∙◌, ℕ, List, [], ◌∷◌, ◌++◌, ap, append_assoc, inl, inr, sym, subst}
+use Rattle.std.proofs.Common.{◌≡◌, ◌<◌, ◌∙◌, ℕ, List, [], ◌∷◌, ◌++◌, ap, append_assoc, inl, inr, length, refl, sym, subst}
 use Rattle.std.specs.Prelude.{Option, Some, slice_get}
 use Rattle.fkv_base.specs.declared.numbers.Key.{Key}
 use Rattle.fkv_base.specs.declared.numbers.Value.{Value}
@@ -10,12 +10,16 @@ use Rattle.fkv_map.specs.declared.operations.Op.TheVariants.{Read}
 use Rattle.fkv_opening.specs.declared.opened_store.Opened.{Opened}
 use Rattle.fkv_pending.specs.declared.pending_requests.Ticket.{Ticket}
 use Rattle.fkv_playing.specs.Seats.{SeatState}
+use Rattle.fkv_session.specs.Accounts.{AreAccountedFor, names_of}
 use Rattle.fkv_session.specs.Answers.{IsAnswerTold}
-use Rattle.fkv_session.specs.SessionRun.{telling}
+use Rattle.fkv_session.specs.SessionRun.{in_hand, telling}
 use Rattle.fkv_session.specs.declared.answers.Answer.{Answer}
 use Rattle.fkv_session.specs.declared.answers.Finished.{Finished}
 use Rattle.fkv_session.specs.declared.answers.Finished.TheVariants as finished
 use Rattle.fkv_session.specs.declared.answers.Told.{Told}
+use Rattle.fkv_session.specs.declared.answers.Told.TheVariants as told
+use Rattle.fkv_texts.specs.Polls.{key_of_ticket}
+use Rattle.fkv_world.specs.Opened.{IsOpenedWorld, answers_of}
 use Rattle.fkv_world.specs.Past.{Answered, Called, Traced}
 use Rattle.fkv_world.specs.Runs.{run}
 use Rattle.fkv_world.specs.World.{Calls, Event, Now}
@@ -23,13 +27,17 @@ use Rattle.law_log.specs.Trace.{AnswersRead, CallsRead, IsIn, TraceLine}
 use Rattle.law_order.specs.OneHistory.EachLife.{InEachLife, IsLife, Life}
 use Rattle.law_order.specs.Rules.InTime.{ReadsInTime}
 use Rattle.law_order.specs.Rules.Ordered.{ReadsFreshly, lines_so_far}
+use Rattle.law_order.proofs.OfReads.LifeNumbers.{life_numbered}
+use Rattle.law_order.proofs.OfReads.Numbers.{own_below}
 use Rattle.law_refine.specs.Calls.Calls.{event_adds}
 use Rattle.law_refine.specs.Events.GhostEvents.{serials_in}
 use Rattle.law_refine.specs.Events.Lines.{event_lines, lines_of, read_reply}
 use Rattle.law_program.specs.PlayedCalls.PlayedCalls.{called_alone}
-use Rattle.law_program.specs.PlayedCalls.Waiting.{AreReadInTime, IsReadCalled, IsReadInTime, SeatsKeepKeys, StandsForKey, reader_of}
-use Rattle.law_program.proofs.OfPlayedCalls.Polled.{IsPolled, IsTraced, finished_in, line_in, polled}
+use Rattle.law_program.specs.PlayedCalls.Waiting.{AreReadInTime, IsReadCalled, IsReadInTime, SeatsKeepKeys, StandsForKey, key_told, reader_of}
+use Rattle.law_program.proofs.OfPlayedCalls.Polled.{IsPolled, IsTraced, finished_in, line_in, polled, trace_of_call}
+use Rattle.law_program.proofs.OfPlayedCalls.InLife.{was_there}
 use Rattle.law_program.proofs.OfPlayedCalls.ReadCalls.{called_before}
+use Rattle.law_program.proofs.OfPlayedCalls.Tickets.{accounted, key_of_given, ticket_given}
 use Rattle.law_program.proofs.OfWholeCalls.InLists.{in_right}
 
 -- a line stands between others
@@ -46,9 +54,10 @@ module _ (fresh : InEachLife ReadsFreshly) (in_time : InEachLife ReadsInTime) (b
   abbrev lived : Life
   lived = record { bytes = bytes; opened = o; world = first; events = called_alone number count asked life }
 
-  -- its number is a read's, of the key that is kept
-  called_so : (ticket : Ticket) (value : Option Value) (key : Key) → IsPolled its list (finished.Read ticket value) → StandsForKey bytes first life number ticket key → IsReadCalled bytes first life number (reader_of bytes first life number ticket) key
-  called_so ticket value key is stands =
+  -- its number is a read's
+  read_before : (ticket : Ticket) (value : Option Value) → IsPolled its list (finished.Read ticket value) → reader_of bytes first life number ticket < length (run (beginning first bytes) life).past.trace
+      → (key : ℕ) × IsIn (CallsRead (reader_of bytes first life number ticket) key) (lines_so_far first bytes life)
+  read_before ticket value is low =
       let reader : ℕ = reader_of bytes first life number ticket in
       let line : IsIn (AnswersRead reader (read_reply value)) (lines_so_far first bytes later)
       = subst (λ (x : List Traced). IsIn (AnswersRead reader (read_reply value)) (lines_of (serials_in first) x)) (sym at.so)
@@ -56,10 +65,30 @@ module _ (fresh : InEachLife ReadsFreshly) (in_time : InEachLife ReadsInTime) (b
       let parts = line_parted (lines_so_far first bytes later) (AnswersRead reader (read_reply value)) line in
       let called = (fresh lived is_life).called parts.0 parts.1 reader (read_reply value) parts.2 in
       let there : IsIn (CallsRead reader called.0) (lines_so_far first bytes later)
-      = subst (IsIn (CallsRead reader called.0)) (sym parts.2) (in_right (CallsRead reader called.0) parts.0 (AnswersRead reader (read_reply value) ∷ parts.1) (inr called.1)) in
-      let before = called_before called.0 reader (serials_in first) (record { its = Answered number (telling its list); effects = at.later } ∷ record { its = Called number asked; effects = at.e } ∷ []) (run (beginning first bytes) life).past.trace stands.before
-      (subst (λ (x : List Traced). IsIn (CallsRead reader called.0) (lines_of (serials_in first) x)) at.so there) in
-      (stands.read called.0 before).1
+      = subst (IsIn (CallsRead reader called.0)) (sym parts.2) (in_right (CallsRead reader called.0) parts.0 (AnswersRead reader (read_reply value) ∷ parts.1) (inr called.1)) in (
+        called.0,
+        called_before called.0 reader (serials_in first) (record { its = Answered number (telling its list); effects = at.later } ∷ record { its = Called number asked; effects = at.e } ∷ []) (run (beginning first bytes) life).past.trace low
+            (subst (λ (x : List Traced). IsIn (CallsRead reader called.0) (lines_of (serials_in first) x)) at.so there),
+      )
+
+  -- of the key that is kept
+  called_so : (ticket : Ticket) (value : Option Value) (key : Key) → IsPolled its list (finished.Read ticket value) → StandsForKey bytes first life number ticket key → IsReadCalled bytes first life number (reader_of bytes first life number ticket) key
+  called_so ticket value key is stands = let before = read_before ticket value is stands.before in (stands.read before.0 before.1).1
+
+  -- and one is kept, since the ticket was given
+  key_kept : IsOpenedWorld (beginning first bytes) → (ticket : Ticket) (value : Option Value) → IsPolled its list (finished.Read ticket value)
+      → (key : Key) × (key_told number ticket.0 (run (beginning first bytes) life).past.trace ≡ Some key)
+  key_kept opened ticket value is =
+      let trace : List Traced = (run (beginning first bytes) life).past.trace in
+      let reader : ℕ = reader_of bytes first life number ticket in
+      let accounts : AreAccountedFor (answers_of number (trace_of_call number asked at.e at.later trace (told.Polled is.left) list)) (names_of at.s.requests) (in_hand at.s.step at.s.finished)
+      = subst (λ (x : Told). AreAccountedFor (answers_of number (trace_of_call number asked at.e at.later trace x list)) (names_of at.s.requests) (in_hand at.s.step at.s.finished)) is.polled
+      (subst (λ (x : List Traced). AreAccountedFor (answers_of number x) (names_of at.s.requests) (in_hand at.s.step at.s.finished)) at.so (accounted (beginning first bytes) later number at.s its opened at.found at.at_rest)) in
+      let given = ticket_given number at.e at.later is.left asked trace list (in_hand at.s.step at.s.finished) (names_of at.s.requests) ticket (finished.Read ticket value) refl is.is_in accounts in
+      let was = was_there (beginning first bytes) life number count asked at.s at.found in
+      let own = (life_numbered (beginning first bytes) life number was.s opened was.found).waits ticket.0 given in
+      let before = read_before ticket value is (own_below number reader trace own) in
+      key_of_given number ticket.0 before.0 (serials_in first) trace given own before.1
 
   -- its answer's line
   answer_line : (ticket : Ticket) (value : Option Value) → IsPolled its list (finished.Read ticket value)
@@ -88,7 +117,10 @@ module _ (fresh : InEachLife ReadsFreshly) (in_time : InEachLife ReadsInTime) (b
             (subst (λ (x : List Event). IsIn (AnswersRead (reader_of bytes first life number ticket) (read_reply value)) (event_adds (beginning first bytes) x given.answer)) mid (answer_line ticket value is));
       }
 
-  pub reads_answered : (seats : List SeatState) (given : Answer) → IsAnswerTold its list given → SeatsKeepKeys bytes first life seats → (seat : SeatState) → slice_get seats number ≡ Some seat
+  pub reads_answered : IsOpenedWorld (beginning first bytes) → (seats : List SeatState) (given : Answer) → IsAnswerTold its list given → SeatsKeepKeys bytes first life seats → (seat : SeatState) → slice_get seats number ≡ Some seat
       → AreReadInTime bytes o first life later number seat.waiting given
-  reads_answered seats given is_told keeps seat there ticket value key is_in kept =
-      read_in_time ticket value key (polled its list given (finished.Read ticket value) is_told is_in) (keeps.stand number seat there ticket key kept)
+  reads_answered opened seats given is_told keeps seat there ticket value is_in =
+      let is = polled its list given (finished.Read ticket value) is_told is_in in
+      let key = key_kept opened ticket value is in
+      let kept : key_of_ticket seat.waiting ticket ≡ Some key.0 = keeps.told number seat there ticket ∙ key.1 in
+      record { key = key.0; kept = kept; in_time = read_in_time ticket value key.0 is (keeps.stand number seat there ticket key.0 kept) }

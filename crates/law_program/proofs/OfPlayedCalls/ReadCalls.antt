@@ -16,7 +16,7 @@ pub record IsReadOf (asked : Call) (key : ℕ) : Type 0 where
   pub its_op : asked ≡ call.Op (op.Read its_key)
   pub same : key ≡ its_key.0
 
-reads_here : (key reader session : ℕ) (first : ℕ → ℕ) (trace : List Traced) (asked : Call) → IsIn (CallsRead reader key) (call_lines first trace session asked) → IsReadOf asked key × (reader ≡ length trace)
+pub reads_here : (key reader session : ℕ) (first : ℕ → ℕ) (trace : List Traced) (asked : Call) → IsIn (CallsRead reader key) (call_lines first trace session asked) → IsReadOf asked key × (reader ≡ length trace)
 reads_here key reader session first trace (call.Op (op.Read k)) (inl same) =
     let number : length trace ≡ reader = cc in let its : k.0 ≡ key = cc in (record { its_key = k; its_op = refl; same = sym its }, sym number)
 reads_here key reader session first trace (call.Op (op.Read k)) (inr none) = absurd none
@@ -24,7 +24,7 @@ reads_here key reader session first trace (call.Op o) (inl same) = cc
 reads_here key reader session first trace (call.Op o) (inr none) = absurd none
 reads_here key reader session first trace asked is_in = absurd is_in
 
-called_at : (key reader : ℕ) (first : ℕ → ℕ) (trace : List Traced) (it : TraceEvent) → IsIn (CallsRead reader key) (event_lines first trace it) → reader ≡ length trace
+pub called_at : (key reader : ℕ) (first : ℕ → ℕ) (trace : List Traced) (it : TraceEvent) → IsIn (CallsRead reader key) (event_lines first trace it) → reader ≡ length trace
 called_at key reader first trace (Called session asked) is_in = (reads_here key reader session first trace asked is_in).1
 called_at key reader first trace (Answered session its) is_in = absurd (answer_calls key reader session first trace its.its its.finished is_in)
 called_at key reader first trace it is_in = absurd is_in

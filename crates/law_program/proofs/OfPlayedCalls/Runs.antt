@@ -1,5 +1,5 @@
 -- A run goes on piece by piece, in the life in hand or behind a crash in the next one.
-use Rattle.std.proofs.Common.{◌≡◌, ◌∙◌, ◌⊎◌, ◌+◌, ◌-◌, ◌^◌, ◌<◌, ℕ, zero, suc, List, [], ◌∷◌, ◌++◌, Bool, true, false, ap, arith, inl, inr, length, map, refl, sym, subst}
+use Rattle.std.proofs.Common.{◌≡◌, ◌∙◌, ◌⊎◌, ◌+◌, ◌-◌, ◌^◌, ◌<◌, ◌≤◌, ℕ, zero, suc, List, [], ◌∷◌, ◌++◌, Bool, true, false, ap, arith, inl, inr, length, map, refl, sym, subst, take}
 use Rattle.std.specs.Prelude.{Option, Some, None, slice_get}
 use Rattle.std.proofs.lemmas.List.{append-nil}
 use Rattle.fkv_epoch.proofs.Shown.{none_some, some_same}
@@ -12,7 +12,7 @@ use Rattle.fkv_playing.specs.declared.calls.ActorCall.TheVariants.{Session, Comm
 use Rattle.fkv_playing.specs.declared.calls.Outcome.{Outcome}
 use Rattle.fkv_playing.specs.declared.calls.Outcome.TheVariants.{Answered, Closed, GoesOn, Struck}
 use Rattle.fkv_playing.specs.declared.calls.Stage.TheVariants as stage
-use Rattle.fkv_playing.specs.declared.calls.Telling.TheVariants.{Whole}
+use Rattle.fkv_playing.specs.declared.calls.Telling.TheVariants.{Finished, Whole}
 use Rattle.fkv_runs.specs.Crashes.{IsRefusal}
 use Rattle.fkv_runs.specs.Openings.{Medium}
 use Rattle.fkv_runs.specs.Runs.{IsCrashed, IsCrashedWhere, IsFinishStruck, IsGroupPlayed, IsLegOf, IsPiece, Prepares, RunState, is_struck_at}
@@ -23,11 +23,14 @@ use Rattle.fkv_playing.specs.declared.players.Waits.{Waits}
 use Rattle.fkv_world.specs.World.{Event}
 use Rattle.law_order.specs.Tickets.Few.{calls_in}
 use Rattle.law_program.specs.PlayedCalls.EachLine.{EachLineGoesOn, IsFinishInLife, IsLineInLife, IsPlayedInLife, IsRefusedLine, ItsNumbersFit}
+use Rattle.law_program.specs.PlayedCalls.FewCalls.{ArmsKeepSeats, HasFewSeats, begun_in, left_in, most_of_finish}
 use Rattle.law_program.specs.PlayedCalls.Lives.{CrashesGoOn}
 use Rattle.law_program.specs.PlayedCalls.Interleaved.{AreFitting, FinishesGoOn, FittingCallsMakeQueues, GroupsGoOn, HasGoneOn, IsLifeShown, QuietLivesAreShown}
-use Rattle.law_program.specs.PlayedCalls.Runs.{ArmsInLife, DueIsReported, HasFewWith, IsPieceInLives, IsPlain, IsReported, IsShown, LifeInHand, RunsGoOn}
+use Rattle.law_program.specs.PlayedCalls.Runs.{ArmsInLife, DueIsReported, IsPieceInLives, IsPlain, IsReported, IsShown, LifeInHand, RunsGoOn}
 use Rattle.law_program.proofs.OfPlayedCalls.Calm.{unstruck_group}
-use Rattle.law_program.proofs.OfPlayedCalls.EachLine.{begun_counted}
+use Rattle.law_program.proofs.OfPlayedCalls.EachLine.{begun_counted, taken_few}
+use Rattle.law_program.proofs.OfPlayedCalls.FewCalls.{all_counted, alone_counted, finish_counted}
+use Rattle.law_program.proofs.OfPlayedCalls.FewSeats.{piece_seats}
 use Rattle.law_program.proofs.OfPlayedCalls.OneCall.{EndsSilently, HasOneCall, first_call, none_played, struck_silent}
 
 -- ---- the queues that a crash gives up
@@ -60,10 +63,11 @@ both_ways over goes stops = let never : false ≡ true = sym goes ∙ stops in c
 
 module _ {D : Type 0} (seen : D → List ℕ) (may_leave : D → List ℕ → Type 0) (medium : Medium D) (settings : Settings) (each : EachLineGoesOn seen may_leave medium.engine) (crashes : CrashesGoOn seen may_leave medium.holds)
     (arms : ArmsInLife seen may_leave medium.armed) (groups : GroupsGoOn seen may_leave medium.engine) (finishes : FinishesGoOn seen may_leave medium.engine) (quiet : QuietLivesAreShown seen may_leave)
-    (fitting : FittingCallsMakeQueues) (leaves : (device : D) (image : List ℕ) → medium.may_leave device image → may_leave device image) where
+    (fitting : FittingCallsMakeQueues) (leaves : (device : D) (image : List ℕ) → medium.may_leave device image → may_leave device image) (arms_seats : ArmsKeepSeats medium.armed) where
   -- ---- a crash is reported
   record IsCrashSeen (its : LifeInHand) (after : PlayerState D) (over : Bool) (text : List ℕ) : Type 0 where
     next : LifeInHand
+    begun : over ≡ false → calls_in next.events ≡ 0
     crash : IsReported seen may_leave medium settings its next after over text
 
   abbrev ShowsStruck : LifeInHand → List Event → PlayerState D → Type 0
@@ -81,6 +85,7 @@ module _ {D : Type 0} (seen : D → List ℕ) (may_leave : D → List ℕ → Ty
       by_over : (c : Bool) → over ≡ c → IsCrashSeen its after.player over text
       by_over true e = record {
         next = its;
+        begun = λ goes. both_ways over goes e;
         crash = record { struck = before.player; events = events; since = since; grown = grown; shown = shown; left = left; goes_on = λ goes. both_ways over goes e; ends = λ stops. crashed.refusal stops };
       }
       by_over false e =
@@ -88,6 +93,7 @@ module _ {D : Type 0} (seen : D → List ℕ) (may_leave : D → List ℕ → Ty
           let report = crashes (medium.image before.player.world.device settings.torn) settings.checks crash.0 before.player after.player text crash.1 in
           record {
             next = record { bytes = medium.image before.player.world.device settings.torn; opened = report.opened; first = after.player.world.now; events = [] };
+            begun = λ goes. refl;
             crash = record { struck = before.player; events = events; since = since; grown = grown; shown = shown; left = left; goes_on = λ goes. (crash.0, report, refl); ends = λ stops. both_ways over e stops };
           }
 
@@ -97,6 +103,7 @@ module _ {D : Type 0} (seen : D → List ℕ) (may_leave : D → List ℕ → Ty
     events : List Event
     says : ((events ≡ its.events) × IsRefusedLine one before after text) ⊎ IsPlayedInLife seen may_leave Whole one its.bytes its.opened its.first its.events events before after text
     shown : IsShown seen may_leave (record { bytes = its.bytes; opened = its.opened; first = its.first; events = events }) after
+    counted : calls_in events ≤ calls_in its.events + 1
 
   group_unstruck : (items : List ActorCall) (one : ActorCall) → items ≡ one ∷ [] → ItsNumbersFit one → (its : LifeInHand) (before after : RunState D) (over : Bool) (text : List ℕ) → IsShown seen may_leave its before.player
       → calls_in its.events + 1 < 2 ^ 64 - 1 → (played : IsGroupPlayed medium settings items before after over text) → played.leg.struck ≡ false → GroupGoesOn one its before.player after.player over text
@@ -108,8 +115,8 @@ module _ {D : Type 0} (seen : D → List ℕ) (may_leave : D → List ℕ → Ty
     where
       by_line : over ≡ false → IsRefusedLine one before.player after.player text ⊎ IsLineInLife seen may_leave one its.bytes its.opened its.first its.events before.player after.player text → GroupGoesOn one its before.player after.player over text
       by_line goes (inl refused) =
-          record { goes_on = goes; events = its.events; says = inl (refl, refused); shown = subst (IsShown seen may_leave its) (sym (refused_same one before.player after.player text refused)) shown }
-      by_line goes (inr line) = record { goes_on = goes; events = line.later; says = inr line.played; shown = line.played.goes_on }
+          record { goes_on = goes; events = its.events; says = inl (refl, refused); shown = subst (IsShown seen may_leave its) (sym (refused_same one before.player after.player text refused)) shown; counted = omega arith }
+      by_line goes (inr line) = record { goes_on = goes; events = line.later; says = inr line.played; shown = line.played.goes_on; counted = alone_counted one its.events line.later line.played.alone }
 
   group_struck : (items : List ActorCall) (one : ActorCall) → items ≡ one ∷ [] → ItsNumbersFit one → (its : LifeInHand) (before after : RunState D) (over : Bool) (text : List ℕ) → IsShown seen may_leave its before.player
       → (played : IsGroupPlayed medium settings items before after over text) → played.leg.struck ≡ true → IsCrashSeen its after.player over text
@@ -131,7 +138,7 @@ module _ {D : Type 0} (seen : D → List ℕ) (may_leave : D → List ℕ → Ty
       crashed = subst (λ (x : Bool). IsCrashedWhere x medium settings (record before { player = played.leg.player }) played.between over played.leg.reported) struck played.leg.crashed
 
       -- the life goes on to the crash
-      gone : HasGoneOn seen may_leave its.bytes its.opened its.first its.events played.leg.player played.left
+      gone : HasGoneOn seen may_leave its.bytes its.opened its.first its.events (left_in played.queues) played.leg.player played.left
       gone =
           groups its.bytes its.opened its.first its.events before.player played.leg.player played.queues played.left true played.leg.said (still_shown its before.player shown)
           (fitting items played.queues (subst AreFitting (sym is) (fit, tt)) played.are_queues) part
@@ -143,6 +150,7 @@ module _ {D : Type 0} (seen : D → List ℕ) (may_leave : D → List ℕ → Ty
       by_over : (c : Bool) → over ≡ c → IsCrashSeen its after.player over text
       by_over true e = record {
         next = its;
+        begun = λ goes. both_ways over goes e;
         crash = record {
           struck = played.leg.player;
           events = gone.later;
@@ -160,6 +168,7 @@ module _ {D : Type 0} (seen : D → List ℕ) (may_leave : D → List ℕ → Ty
           let there = crash_seen its gone.later gone.since (record before { player = played.leg.player }) played.between over played.leg.reported gone.grown gone.shown crashed in
           record {
             next = there.next;
+            begun = there.begun;
             crash =
                 subst (IsReported seen may_leave medium settings its there.next after.player over) (sym (says stays.1))
                 (subst (λ (x : PlayerState D). IsReported seen may_leave medium settings its there.next x over played.leg.reported) (sym (ap (λ (x : GroupState D). x.player) stays.0)) there.crash);
@@ -170,10 +179,16 @@ module _ {D : Type 0} (seen : D → List ℕ) (may_leave : D → List ℕ → Ty
   record PieceGoesOn (piece : Piece) (its : LifeInHand) (before after : RunState D) (over : Bool) (text : List ℕ) : Type 0 where
     next : LifeInHand
     says : IsPieceInLives seen may_leave medium settings piece its next before after over text
+    counted : over ≡ false → calls_in next.events ≤ calls_in its.events + begun_in piece
 
-  finish_unstruck : (its : LifeInHand) (before after : RunState D) (over : Bool) (text : List ℕ) → IsShown seen may_leave its before.player → calls_in its.events + length (rounds most_rounds (round_of before.player.seats)) < 2 ^ 64 - 1
+  finish_few : (its : LifeInHand) (player : PlayerState D) → calls_in its.events + most_of_finish < 2 ^ 64 - 1 → HasFewSeats player → calls_in its.events + length (rounds most_rounds (round_of player.seats)) < 2 ^ 64 - 1
+  finish_few its player few seats = let most = finish_counted player.seats seats in omega (arith, few, most)
+
+  finish_unstruck : (its : LifeInHand) (before after : RunState D) (over : Bool) (text : List ℕ) → IsShown seen may_leave its before.player → calls_in its.events + most_of_finish < 2 ^ 64 - 1
+      → HasFewSeats before.player
       → (leg : IsLegOf (IsFinishStruck medium) medium settings before after over text) → leg.struck ≡ false → PieceGoesOn Finish its before after over text
-  finish_unstruck its before after over text shown few leg none =
+  finish_unstruck its before after over text shown little seats leg none =
+      let few = finish_few its before.player little seats in
       let stays = subst (λ (x : Bool). IsCrashedWhere x medium settings (record before { player = leg.player }) after over leg.reported) none leg.crashed in
       let calm : is_struck_by leg.part.0 ≡ false = sym (same_struck leg.part.0) ∙ (sym leg.part.2 ∙ none) in
       let finish = each.finishes its.bytes its.opened its.first its.events before.player leg.player leg.part.0 leg.said shown few leg.part.1 calm in
@@ -184,11 +199,18 @@ module _ {D : Type 0} (seen : D → List ℕ) (may_leave : D → List ℕ → Ty
       record {
         next = record { bytes = its.bytes; opened = its.opened; first = its.first; events = here.later };
         says = inl (record { goes_on = stays.1; events = here.later; same_life = refl; says = (here, refl); shown = here.goes_on });
+        counted = λ goes.
+            let played = all_counted seen may_leave Finished (take here.count (rounds most_rounds (round_of before.player.seats))) its.bytes its.opened its.first its.events here.later before.player after.player here.said here.played in
+            let taken = taken_few here.count (rounds most_rounds (round_of before.player.seats)) in
+            let most = finish_counted before.player.seats seats in
+            omega (arith, played, taken, most);
       }
 
-  finish_struck : (its : LifeInHand) (before after : RunState D) (over : Bool) (text : List ℕ) → IsShown seen may_leave its before.player → calls_in its.events + length (rounds most_rounds (round_of before.player.seats)) < 2 ^ 64 - 1
+  finish_struck : (its : LifeInHand) (before after : RunState D) (over : Bool) (text : List ℕ) → IsShown seen may_leave its before.player → calls_in its.events + most_of_finish < 2 ^ 64 - 1
+      → HasFewSeats before.player
       → (leg : IsLegOf (IsFinishStruck medium) medium settings before after over text) → leg.struck ≡ true → PieceGoesOn Finish its before after over text
-  finish_struck its before after over text shown few leg struck =
+  finish_struck its before after over text shown little seats leg struck =
+      let few = finish_few its before.player little seats in
       let crashed = subst (λ (x : Bool). IsCrashedWhere x medium settings (record before { player = leg.player }) after over leg.reported) struck leg.crashed in
       let strikes : is_struck_by leg.part.0 ≡ true = sym (same_struck leg.part.0) ∙ (sym leg.part.2 ∙ struck) in
       let gone = finishes its.bytes its.opened its.first its.events before.player leg.player leg.part.0 leg.said (still_shown its before.player shown) leg.part.1 in
@@ -203,41 +225,48 @@ module _ {D : Type 0} (seen : D → List ℕ) (may_leave : D → List ℕ → Ty
               crash = there.crash;
               says = leg.says;
             });
+        counted = λ goes. let none = there.begun goes in omega (arith, none);
       }
 
   prepared : (piece : Piece) (its : LifeInHand) (before after : RunState D) (count : ℕ) (waits : Waits) (over : Bool) (text : List ℕ) → IsShown seen may_leave its before.player → Prepares medium count waits before after over text
       → IsShown seen may_leave its after.player
   prepared piece its before after count waits over text shown its_line = arms count waits its before.player after.player its_line.armed shown
 
-  piece_goes_on : (piece : Piece) (its : LifeInHand) (before after : RunState D) (over : Bool) (text : List ℕ) → IsShown seen may_leave its before.player → IsPlain piece → HasFewWith piece its before.player
-      → IsPiece medium settings piece before after over text → PieceGoesOn piece its before after over text
-  piece_goes_on (Group calls) its before after over text shown plain few played = by_struck played.leg.struck refl
+  piece_goes_on : (piece : Piece) (its : LifeInHand) (before after : RunState D) (over : Bool) (text : List ℕ) → IsShown seen may_leave its before.player → IsPlain piece → calls_in its.events + begun_in piece < 2 ^ 64 - 1
+      → HasFewSeats before.player → IsPiece medium settings piece before after over text → PieceGoesOn piece its before after over text
+  piece_goes_on (Group calls) its before after over text shown plain few seats played = by_struck played.leg.struck refl
     where
+      one : length calls.items ≡ 1
+      one = ap length plain.1
+
       by_struck : (c : Bool) → played.leg.struck ≡ c → PieceGoesOn (Group calls) its before after over text
       by_struck false none =
-          let group = group_unstruck calls.items plain.0 plain.1 plain.2 its before after over text shown few played none in
+          let group = group_unstruck calls.items plain.0 plain.1 plain.2 its before after over text shown (omega (arith, few, one)) played none in
           record {
             next = record { bytes = its.bytes; opened = its.opened; first = its.first; events = group.events };
             says = inl (record { goes_on = group.goes_on; events = group.events; same_life = refl; says = (plain.0, plain.1, group.says); shown = group.shown });
+            counted = λ goes. let counted = group.counted in omega (arith, counted, one);
           }
       by_struck true struck =
           let there = group_struck calls.items plain.0 plain.1 plain.2 its before after over text shown played struck in
-          record { next = there.next; says = inr (record { said = []; reported = text; up_to = refl; crash = there.crash; says = refl }) }
-  piece_goes_on Finish its before after over text shown plain few leg = by_struck leg.struck refl
+          record { next = there.next; says = inr (record { said = []; reported = text; up_to = refl; crash = there.crash; says = refl }); counted = λ goes. let none = there.begun goes in omega (arith, none) }
+  piece_goes_on Finish its before after over text shown plain few seats leg = by_struck leg.struck refl
     where
       by_struck : (c : Bool) → leg.struck ≡ c → PieceGoesOn Finish its before after over text
-      by_struck false none = finish_unstruck its before after over text shown few leg none
-      by_struck true struck = finish_struck its before after over text shown few leg struck
-  piece_goes_on Crash its before after over text shown plain few crashed =
+      by_struck false none = finish_unstruck its before after over text shown few seats leg none
+      by_struck true struck = finish_struck its before after over text shown few seats leg struck
+  piece_goes_on Crash its before after over text shown plain few seats crashed =
       let there = crash_seen its its.events [] before after over text refl (still_shown its before.player shown) crashed in
-      record { next = there.next; says = inr (record { said = []; reported = text; up_to = refl; crash = there.crash; says = refl }) }
-  piece_goes_on (CrashAt count) its before after over text shown plain few line = record {
+      record { next = there.next; says = inr (record { said = []; reported = text; up_to = refl; crash = there.crash; says = refl }); counted = λ goes. let none = there.begun goes in omega (arith, none) }
+  piece_goes_on (CrashAt count) its before after over text shown plain few seats line = record {
     next = record { bytes = its.bytes; opened = its.opened; first = its.first; events = its.events };
     says = inl (record { goes_on = line.goes_on; events = its.events; same_life = refl; says = (refl, line.silent); shown = prepared (CrashAt count) its before after _ _ over text shown line });
+    counted = λ goes. omega arith;
   }
-  piece_goes_on (FailAt count) its before after over text shown plain few line = record {
+  piece_goes_on (FailAt count) its before after over text shown plain few seats line = record {
     next = record { bytes = its.bytes; opened = its.opened; first = its.first; events = its.events };
     says = inl (record { goes_on = line.goes_on; events = its.events; same_life = refl; says = (refl, line.silent); shown = prepared (FailAt count) its before after _ _ over text shown line });
+    counted = λ goes. omega arith;
   }
 
   -- ---- one behind the other
@@ -250,15 +279,18 @@ module _ {D : Type 0} (seen : D → List ℕ) (may_leave : D → List ℕ → Ty
   due_reported its last shown after over text crashed = let there = crash_seen its its.events [] last after over text refl (still_shown its last.player shown) crashed in (there.next, there.crash)
 
   pub runs_go_on : RunsGoOn seen may_leave medium settings
-  runs_go_on [] its before after over text shown plain played =
+  runs_go_on [] its before after over text shown plain seats few played =
       (played.0, played.1, played.2, due_reported its after (subst (λ (x : RunState D). IsShown seen may_leave its x.player) (sym played.0) shown))
-  runs_go_on (piece ∷ []) its before after over text shown plain played = λ few.
-      let one = piece_goes_on piece its before after over text shown plain.0 few played in (
+  runs_go_on (piece ∷ []) its before after over text shown plain seats few played =
+      let one = piece_goes_on piece its before after over text shown plain.0 (omega (arith, few)) seats played in (
         one.next,
         one.says,
         λ on. due_reported one.next after
             (shown_behind piece its one.next before after text (subst (λ (x : Bool). IsPieceInLives seen may_leave medium settings piece its one.next before after x text) on one.says)),
       )
-  runs_go_on (piece ∷ other ∷ later) its before after over text shown plain played = λ few.
-      let one = piece_goes_on piece its before played.0 false played.1 shown plain.0 few played.3 in
-      (one.next, played.0, played.1, played.2, one.says, runs_go_on (other ∷ later) one.next played.0 after over played.2 (shown_behind piece its one.next before played.0 played.1 one.says) plain.1 played.4, played.5)
+  runs_go_on (piece ∷ other ∷ later) its before after over text shown plain seats few played =
+      let one = piece_goes_on piece its before played.0 false played.1 shown plain.0 (omega (arith, few)) seats played.3 in
+      let behind = shown_behind piece its one.next before played.0 played.1 one.says in
+      let still = piece_seats medium settings arms_seats piece before played.0 played.1 played.3 seats in
+      let counted = one.counted refl in
+      (one.next, played.0, played.1, played.2, one.says, runs_go_on (other ∷ later) one.next played.0 after over played.2 behind plain.1 still (omega (arith, few, counted)) played.4, played.5)

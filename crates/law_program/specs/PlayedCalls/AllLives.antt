@@ -1,10 +1,9 @@
 -- Runs of a store in memory over all their lives, whatever calls are interleaved: what each crash reports is what its points keep of all lives before it.
-use Rattle.std.specs.Prelude.{◌≡◌, ◌&&◌, ⊤, ℕ, Bool, true, false, List, [], ◌∷◌}
+use Rattle.std.specs.Prelude.{◌≡◌, ⊤, ℕ, Bool, true, false, List, [], ◌∷◌, ◌++◌}
 use Rattle.fkv_base.specs.declared.faults.Fault.TheVariants.{Device}
 use Rattle.fkv_base.specs.declared.shapes.Shape.{Shape}
 use Rattle.fkv_creating.specs.Created.{IsCreated}
 use Rattle.fkv_map.specs.History.{content}
-use Rattle.fkv_map.specs.declared.history.HistoryEntry.{HistoryEntry}
 use Rattle.fkv_opening.specs.Opened.{IsStoreOf}
 use Rattle.fkv_opening.specs.declared.opened_store.Opened.{Opened}
 use Rattle.fkv_playing.specs.InTurn.{InTurn}
@@ -22,7 +21,9 @@ use Rattle.law_order.specs.OneHistory.EachLife.{Life}
 use Rattle.law_order.specs.Prefix.Law.{AreLives, BeginsBehind, BeginsWithKept, first_of, kept_of_all, map_of}
 use Rattle.law_order.specs.Tickets.Few.{HasFewCalls}
 use Rattle.law_program.specs.PlayedCalls.CrashReports.{IsReportOfKept}
+use Rattle.law_program.specs.PlayedCalls.FewCalls.{HasFewSeats, HasFewWith}
 use Rattle.law_program.specs.PlayedCalls.Interleaved.{AreFitting, IsLifeShown}
+use Rattle.law_program.specs.PlayedCalls.Noted.{AreNoted}
 
 -- ---- the lives of a run
 -- the life in hand, those before it, the newest first, and the run as it is then
@@ -42,11 +43,6 @@ first_run image opened player = record { its = first_life image opened player.wo
 -- the same life, with these events
 abbrev pub with_events : Life → List Event → Life
 with_events its events = record its { events = events }
-
--- fewer than 2^64 - 1 calls of sessions begin in each of these lives
-abbrev pub HaveFewCalls : List Life → Type 0
-HaveFewCalls [] = ⊤
-HaveFewCalls (its ∷ before) = HasFewCalls its.events × HaveFewCalls before
 
 -- the calls of groups are of numbers below 2^64
 abbrev pub PieceFits : Piece → Type 0
@@ -68,10 +64,15 @@ module _ {D : Type 0} (seen : D → List ℕ) (may_leave : D → List ℕ → Ty
   abbrev pub Shows : Life → PlayerState D → Type 0
   Shows its player = IsLifeShown seen may_leave its.bytes its.opened its.world its.events player
 
-  -- The life in hand shows the player. If few calls begin in each life before it, they follow one another, and the life in hand begins behind them.
-  pub record AreShown (its : Life) (before : List Life) (player : PlayerState D) : Type 0 where
+  -- The life in hand shows the player, whose seats are few, and few calls have begun in it. The lives before it follow one another, and the life in hand begins
+  -- behind them. If the run has checks, the player has noted them all.
+  pub record AreShown (checks : Bool) (its : Life) (before : List Life) (player : PlayerState D) : Type 0 where
     pub shown : Shows its player
-    pub begins : HaveFewCalls before → BeginsBehind its before × AreLives before
+    pub few : HasFewCalls its.events
+    pub seats : HasFewSeats player
+    pub noted : AreNoted checks its before player
+    pub begins : BeginsBehind its before
+    pub lives : AreLives before
 
   -- a line that fails a device, or crashes it, leaves each life that shows the player
   abbrev pub ArmsShown : (ℕ → Waits → PlayerState D → PlayerState D → Type 0) → Type 0
@@ -80,28 +81,31 @@ module _ {D : Type 0} (seen : D → List ℕ) (may_leave : D → List ℕ → Ty
   module _ (medium : Medium D) (settings : Settings) where
     -- ---- a crash
     -- The report is of the store that one current commit keeps of the last life. The next life begins with it. Its pairs are the first life's map, behind a
-    -- replay of what its points keep of all lives so far. The replay is legal, and has each session's serials up to its point once.
+    -- replay of what its points keep of all lives so far. The replay is legal, and has each session's serials up to its point once. Where the run has checks the report
+    -- ends in the line that says that both agree, and so the run still agrees with all of them.
     pub record ReportsAllKept (last : Life) (before : List Life) (next : Life) (crash : CrashTaken D) : Type 0 where
-      pub agrees : Bool
-      pub report : IsReportOfKept seen may_leave last.bytes last.opened last.world last.events (medium.image crash.struck.player.world.device settings.torn) settings.checks agrees crash.behind.player crash.report
-      pub counted : crash.behind.agrees ≡ (crash.struck.agrees && agrees)
+      pub report : IsReportOfKept seen may_leave last.bytes last.opened last.world last.events (medium.image crash.struck.player.world.device settings.torn) settings.checks true crash.behind.player crash.report
+      pub counted : crash.behind.agrees ≡ crash.struck.agrees
       pub bytes : next.bytes ≡ medium.image crash.struck.player.world.device settings.torn
       pub opened : next.opened ≡ report.opened
       pub shows : records.map_of report.pairs ≡ content (map_of (first_of last before)) (kept_of_all report.opened.points.items (last ∷ before))
       pub all : BeginsWithKept next (last ∷ before)
 
-    -- The life in hand has gone on to the crash, and ends there. If few calls begin in each life so far, the report is as said, and no image is refused but
-    -- by the device.
+    -- The life in hand has gone on from its events to the crash, and ends there. The report is as said, and no image is refused but by the device.
     pub record EndsLife (before after : RunInLives D) (over : Bool) (crash : CrashTaken D) : Type 0 where
       pub events : List Event
+      pub since : List Event
+      pub grown : events ≡ since ++ before.its.events
       pub shown : Shows (with_events before.its events) crash.struck.player
-      pub report : over ≡ false → HaveFewCalls (with_events before.its events ∷ before.before) → ReportsAllKept (with_events before.its events) before.before after.its crash
-      pub refusal : over ≡ true → HaveFewCalls (with_events before.its events ∷ before.before) → crash.report ≡ last_refusal Device
+      pub report : over ≡ false → ReportsAllKept (with_events before.its events) before.before after.its crash
+      pub refusal : over ≡ true → crash.report ≡ last_refusal Device
       pub lives : over ≡ false → after.before ≡ with_events before.its events ∷ before.before
 
-    -- or the life goes on
+    -- or the life goes on from its events
     pub record StaysInLife (before after : RunInLives D) : Type 0 where
       pub events : List Event
+      pub since : List Event
+      pub grown : events ≡ since ++ before.its.events
       pub same : after.its ≡ with_events before.its events
       pub lives : after.before ≡ before.before
       pub shown : Shows after.its after.run.player
@@ -131,18 +135,19 @@ module _ {D : Type 0} (seen : D → List ℕ) (may_leave : D → List ℕ → Ty
         × EndsLifeWhere (struck_in piece before.run after.run over text played) before after over (crash_in piece before.run after.run over text played)
 
     -- ---- a run
-    -- Its pieces have led to these lives.
+    -- Its pieces have led to these lives, and no check of them has differed.
     pub record ArePlayedOverLives (pieces : List Piece) (before : RunInLives D) (last : RunState D) (over : Bool) (text : List ℕ) : Type 0 where
       pub its : Life
       pub lives : List Life
       pub played : InTurn IsPieceOverLives false pieces before (record { its = its; before = lives; run = last }) over text
-      pub shown : over ≡ false → AreShown its lives last.player
+      pub shown : over ≡ false → AreShown settings.checks its lives last.player
+      pub agrees : over ≡ false → last.agrees ≡ before.run.agrees
 
-    -- So are the pieces of a run that are played from lives that are shown.
+    -- So are the pieces of a run that are played from lives that are shown, if they begin few calls.
     abbrev pub RunsOverLives : Type 0
     RunsOverLives =
-        (pieces : List Piece) (before : RunInLives D) (last : RunState D) (over : Bool) (text : List ℕ) → AreShown before.its before.before before.run.player → PiecesFit pieces
-        → InTurn (IsPiece medium settings) false pieces before.run last over text → ArePlayedOverLives pieces before last over text
+        (pieces : List Piece) (before : RunInLives D) (last : RunState D) (over : Bool) (text : List ℕ) → AreShown settings.checks before.its before.before before.run.player → PiecesFit pieces
+        → HasFewWith before.its.events pieces → InTurn (IsPiece medium settings) false pieces before.run last over text → ArePlayedOverLives pieces before last over text
 
     -- And so is a crash that is taken then.
     abbrev pub CrashEndsLives : RunInLives D → RunState D → Bool → List ℕ → Type 0
@@ -151,7 +156,7 @@ module _ {D : Type 0} (seen : D → List ℕ) (may_leave : D → List ℕ → Ty
 
     abbrev pub CrashesEndLives : Type 0
     CrashesEndLives =
-        (before : RunInLives D) (behind : RunState D) (over : Bool) (text : List ℕ) → AreShown before.its before.before before.run.player → IsCrashed medium settings before.run behind over text
+        (before : RunInLives D) (behind : RunState D) (over : Bool) (text : List ℕ) → AreShown settings.checks before.its before.before before.run.player → IsCrashed medium settings before.run behind over text
         → CrashEndsLives before behind over text
 
     -- one that still is to come behind the last piece
@@ -162,8 +167,8 @@ module _ {D : Type 0} (seen : D → List ℕ) (may_leave : D → List ℕ → Ty
     -- The first life of a new store is shown, over a device that holds it.
     abbrev pub NewStoresAreShown : Type 0
     NewStoresAreShown =
-        (shape : Shape) (image : List ℕ) (opened : Opened) (device : D) (history : List HistoryEntry) (keeps_history : Bool) (player : PlayerState D)
-        → IsCreated shape image → IsStoreOf image opened → medium.holds image device → Begins opened device history keeps_history player → AreShown (first_life image opened player.world.now) [] player
+        (shape : Shape) (image : List ℕ) (opened : Opened) (device : D) (player : PlayerState D)
+        → IsCreated shape image → IsStoreOf image opened → medium.holds image device → Begins opened device [] settings.checks player → AreShown settings.checks (first_life image opened player.world.now) [] player
 
     -- so it is over all lives
     pub record ReportsOverLives : Type 0 where

@@ -31,6 +31,7 @@ use Rattle.fkv_world.specs.World.{Calls, Commits, Event, KeeperMoves, Moves, Now
 use Rattle.law_order.specs.Served.Fits.{CallFits}
 use Rattle.law_order.specs.Tickets.Few.{HasFewCalls, calls_in}
 use Rattle.law_program.specs.PlayedCalls.Finished.{IsCallAnswered}
+use Rattle.law_program.specs.PlayedCalls.FinishedCommits.{FinishesWhatIsTold}
 use Rattle.law_program.specs.PlayedCalls.PlayedCalls.{IsQuietLife, IsRefusedSession, IsToldTo}
 use Rattle.law_program.specs.PlayedCalls.Waiting.{SeatsKeepKeys}
 use Rattle.law_program.specs.WholeCalls.WholeCalls.{IsAnsweredByMap, map_after}
@@ -79,11 +80,17 @@ abbrev pub IsOfKeeper : tells.Told → Type 0
 IsOfKeeper (told.Session number answer) = ⊥
 IsOfKeeper said = ⊤
 
--- A session is answered: an operation by the map, and what a poll has finished by the history. The keeper leaves the map as it was.
+-- The keeper leaves the map as it was, and just the commit finishes that it tells as finished.
+pub record IsKeeperAnswered (bytes : List ℕ) (o : Opened) (first : Now) (life later : List Event) (said : tells.Told) : Type 0 where
+  pub by_keeper : IsOfKeeper said
+  pub map : map_after o first bytes later ≡ map_after o first bytes life
+  pub finished : FinishesWhatIsTold bytes first life later said
+
+-- A session is answered: an operation by the map, and what a poll has finished by the history. So is the keeper.
 abbrev pub IsToldInLife : List ℕ → Opened → Now → List Event → List Event → List SeatState → ActorCall → tells.Told → Type 0
 IsToldInLife bytes o first life later seats (Session number (call.Op op)) said = IsOpAnswered bytes o first life later number op said
 IsToldInLife bytes o first life later seats (Session number asked) said = IsCallAnswered bytes o first life later number seats said
-IsToldInLife bytes o first life later seats its said = IsOfKeeper said × (map_after o first bytes later ≡ map_after o first bytes life)
+IsToldInLife bytes o first life later seats its said = IsKeeperAnswered bytes o first life later said
 
 -- a session that the store hasn't is refused; the keeper is there always
 abbrev pub IsRefusedLine : {D : Type 0} → ActorCall → PlayerState D → PlayerState D → List ℕ → Type 0

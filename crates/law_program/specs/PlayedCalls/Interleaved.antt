@@ -1,5 +1,5 @@
 -- A life goes on by whatever beats of calls, interleaved ones too.
-use Rattle.std.specs.Prelude.{◌≡◌, ⊤, ℕ, Bool, List, [], ◌∷◌, ◌++◌, Option, Some, None}
+use Rattle.std.specs.Prelude.{◌≡◌, ◌≤◌, ◌+◌, ⊤, ℕ, Bool, List, [], ◌∷◌, ◌++◌, length, Option, Some, None}
 use Rattle.fkv_core.specs.Openings.{IsOpeningWorld, beginning}
 use Rattle.fkv_core.specs.Worlds.{WorldModel}
 use Rattle.fkv_core.specs.declared.events.Event as events
@@ -7,7 +7,7 @@ use Rattle.fkv_core.specs.declared.events.Told as tells
 use Rattle.fkv_disk.specs.Device.{IsAfter}
 use Rattle.fkv_opening.specs.Opened.{IsStoreOf}
 use Rattle.fkv_opening.specs.declared.opened_store.Opened.{Opened}
-use Rattle.fkv_playing.specs.Finishes.{IsFinish}
+use Rattle.fkv_playing.specs.Finishes.{IsFinish, most_rounds, round_of, rounds}
 use Rattle.fkv_playing.specs.Groups.{IsGroup}
 use Rattle.fkv_playing.specs.Players.{PlayerState}
 use Rattle.fkv_playing.specs.Queues.{AreQueuesOf, QueueState}
@@ -16,8 +16,9 @@ use Rattle.fkv_playing.specs.declared.calls.Outcome.{Outcome}
 use Rattle.fkv_world.specs.Runs.{run}
 use Rattle.fkv_world.specs.World.{Event, Now}
 use Rattle.law_order.specs.Served.Fits.{CallsFit}
-use Rattle.law_order.specs.Tickets.Few.{HasFewCalls}
+use Rattle.law_order.specs.Tickets.Few.{HasFewCalls, calls_in}
 use Rattle.law_program.specs.PlayedCalls.EachLine.{IsLifeOver, ItsNumbersFit}
+use Rattle.law_program.specs.PlayedCalls.FewCalls.{left_in}
 
 -- A life of a store that these bytes hold shows the player's world and its device, whatever calls are in hand.
 pub record IsLifeShown {D : Type 0} (seen : D → List ℕ) (may_leave : D → List ℕ → Type 0) (bytes : List ℕ) (o : Opened) (first : Now) (life : List Event) (player : PlayerState D) : Type 0 where
@@ -46,13 +47,15 @@ abbrev pub QueuesFit : List QueueState → Type 0
 QueuesFit [] = ⊤
 QueuesFit (queue ∷ others) = (HandFits queue.hand × AreFitting queue.left) × QueuesFit others
 
--- The life has gone on from these events, and shows the player behind the beats. The calls that are left fit as well.
-pub record HasGoneOn {D : Type 0} (seen : D → List ℕ) (may_leave : D → List ℕ → Type 0) (bytes : List ℕ) (o : Opened) (first : Now) (life : List Event) (after : PlayerState D) (left : List QueueState) : Type 0 where
+-- The life has gone on from these events, and shows the player behind the beats. The calls that are left fit as well. No more have begun than those that stood
+-- to begin and are not left.
+pub record HasGoneOn {D : Type 0} (seen : D → List ℕ) (may_leave : D → List ℕ → Type 0) (bytes : List ℕ) (o : Opened) (first : Now) (life : List Event) (to_begin : ℕ) (after : PlayerState D) (left : List QueueState) : Type 0 where
   pub later : List Event
   pub since : List Event
   pub grown : later ≡ since ++ life
   pub shown : IsLifeShown seen may_leave bytes o first later after
   pub fit : QueuesFit left
+  pub counted : calls_in later + left_in left ≤ calls_in life + to_begin
 
 -- so it does by a group of calls, up to its end or to a crash
 abbrev pub GroupsGoOn : {D : Type 0} → (D → List ℕ) → (D → List ℕ → Type 0) → (events.Event → WorldModel D → WorldModel D → Option tells.Told → Bool → Type 0) → Type 0
@@ -60,7 +63,7 @@ GroupsGoOn {D} seen may_leave engine =
     (bytes : List ℕ) (o : Opened) (first : Now) (life : List Event) (before after : PlayerState D) (queues left : List QueueState) (struck : Bool) (text : List ℕ)
     → IsLifeShown seen may_leave bytes o first life before → QueuesFit queues
     → IsGroup engine (record { player = before; queues = queues }) (record { player = after; queues = left }) struck text
-    → HasGoneOn seen may_leave bytes o first life after left
+    → HasGoneOn seen may_leave bytes o first life (left_in queues) after left
 
 -- the queues with which a group begins
 abbrev pub FittingCallsMakeQueues : Type 0
@@ -70,4 +73,5 @@ FittingCallsMakeQueues = (calls : List ActorCall) (queues : List QueueState) →
 abbrev pub FinishesGoOn : {D : Type 0} → (D → List ℕ) → (D → List ℕ → Type 0) → (events.Event → WorldModel D → WorldModel D → Option tells.Told → Bool → Type 0) → Type 0
 FinishesGoOn {D} seen may_leave engine =
     (bytes : List ℕ) (o : Opened) (first : Now) (life : List Event) (before after : PlayerState D) (outcome : Outcome) (text : List ℕ)
-    → IsLifeShown seen may_leave bytes o first life before → IsFinish engine before after outcome text → HasGoneOn seen may_leave bytes o first life after []
+    → IsLifeShown seen may_leave bytes o first life before → IsFinish engine before after outcome text
+    → HasGoneOn seen may_leave bytes o first life (length (rounds most_rounds (round_of before.seats))) after []

@@ -1,7 +1,6 @@
 -- Runs of a store in memory whose calls aren't interleaved: piece by piece, in the life in hand, or behind a crash in the next one.
-use Rattle.std.specs.Prelude.{◌≡◌, ◌⊎◌, ◌+◌, ◌-◌, ◌^◌, ◌<◌, ⊤, ℕ, Bool, true, false, List, [], ◌∷◌, ◌++◌, length}
+use Rattle.std.specs.Prelude.{◌≡◌, ◌⊎◌, ⊤, ℕ, Bool, true, false, List, [], ◌∷◌, ◌++◌}
 use Rattle.fkv_opening.specs.declared.opened_store.Opened.{Opened}
-use Rattle.fkv_playing.specs.Finishes.{most_rounds, round_of, rounds}
 use Rattle.fkv_playing.specs.InTurn.{InTurn}
 use Rattle.fkv_playing.specs.Players.{PlayerState}
 use Rattle.fkv_playing.specs.declared.calls.ActorCall.{ActorCall}
@@ -14,8 +13,8 @@ use Rattle.fkv_runs.specs.declared.pieces.Piece.{Piece}
 use Rattle.fkv_runs.specs.declared.pieces.Piece.TheVariants.{Group, Finish}
 use Rattle.fkv_runs.specs.declared.settings.Settings.{Settings}
 use Rattle.fkv_world.specs.World.{Event, Now}
-use Rattle.law_order.specs.Tickets.Few.{calls_in}
 use Rattle.law_program.specs.PlayedCalls.EachLine.{IsFinishCutShort, IsFinishInLife, IsLifeOver, IsPlayedInLife, IsRefusedLine, ItsNumbersFit}
+use Rattle.law_program.specs.PlayedCalls.FewCalls.{HasFewSeats, HasFewWith}
 use Rattle.law_program.specs.PlayedCalls.Interleaved.{IsLifeShown}
 use Rattle.law_program.specs.PlayedCalls.Lives.{IsNextLife}
 
@@ -34,12 +33,6 @@ IsPlain other = ⊤
 abbrev pub ArePlain : List Piece → Type 0
 ArePlain [] = ⊤
 ArePlain (piece ∷ later) = IsPlain piece × ArePlain later
-
--- with the calls of this piece fewer than 2^64 - 1 calls of sessions begin in the life
-abbrev pub HasFewWith : {D : Type 0} → Piece → LifeInHand → PlayerState D → Type 0
-HasFewWith (Group calls) its player = calls_in its.events + 1 < 2 ^ 64 - 1
-HasFewWith Finish its player = calls_in its.events + length (rounds most_rounds (round_of player.seats)) < 2 ^ 64 - 1
-HasFewWith other its player = ⊤
 
 module _ {D : Type 0} (seen : D → List ℕ) (may_leave : D → List ℕ → Type 0) where
   -- it shows the player's world and device
@@ -100,17 +93,17 @@ module _ {D : Type 0} (seen : D → List ℕ) (may_leave : D → List ℕ → Ty
     abbrev pub DueIsReported : LifeInHand → RunState D → Type 0
     DueIsReported its last = (after : RunState D) (over : Bool) (text : List ℕ) → IsCrashed medium settings last after over text → (next : LifeInHand) × IsReported its next after.player over text
 
-    -- one behind the other, as long as few calls begin
+    -- one behind the other
     abbrev pub ArePlayedInLives : List Piece → LifeInHand → RunState D → RunState D → Bool → List ℕ → Type 0
     ArePlayedInLives [] its before after over text = (after ≡ before) × (over ≡ false) × (text ≡ []) × DueIsReported its after
     ArePlayedInLives (piece ∷ []) its before after over text =
-        HasFewWith piece its before.player → (next : LifeInHand) × IsPieceInLives piece its next before after over text × (over ≡ false → DueIsReported next after)
+        (next : LifeInHand) × IsPieceInLives piece its next before after over text × (over ≡ false → DueIsReported next after)
     ArePlayedInLives (piece ∷ other ∷ later) its before after over text =
-        HasFewWith piece its before.player → (next : LifeInHand) × (between : RunState D) × (one : List ℕ) × (rest : List ℕ) × IsPieceInLives piece its next before between false one
+        (next : LifeInHand) × (between : RunState D) × (one : List ℕ) × (rest : List ℕ) × IsPieceInLives piece its next before between false one
         × ArePlayedInLives (other ∷ later) next between after over rest × (text ≡ one ++ rest)
 
-    -- So are the pieces of a run that are played from a life that is shown.
+    -- So are the pieces of a run that are played from a life that is shown, if they begin few calls. The player has few seats.
     abbrev pub RunsGoOn : Type 0
     RunsGoOn =
         (pieces : List Piece) (its : LifeInHand) (before after : RunState D) (over : Bool) (text : List ℕ) → IsShown its before.player → ArePlain pieces
-        → InTurn (IsPiece medium settings) false pieces before after over text → ArePlayedInLives pieces its before after over text
+        → HasFewSeats before.player → HasFewWith its.events pieces → InTurn (IsPiece medium settings) false pieces before after over text → ArePlayedInLives pieces its before after over text

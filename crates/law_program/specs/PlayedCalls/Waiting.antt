@@ -68,7 +68,13 @@ pub record IsReadInTime (bytes : List ℕ) (o : Opened) (first : Now) (life late
   pub within : later ≡ behind ++ answered
   pub in_time : IsInTime (opening_map bytes o) (history_of (effects_so_far first bytes (Calls number (call.Op (Read key)) ∷ read.earlier))) (history_of (effects_so_far first bytes answered)) key.0 (read_reply value)
 
--- so is each read that an answer says is finished, with the key that is kept for its ticket
+-- The seat keeps the key of its ticket, and the value is that key's.
+pub record IsKeptAndReadInTime (bytes : List ℕ) (o : Opened) (first : Now) (life later : List Event) (number : ℕ) (waiting : List WaitingRead) (ticket : Ticket) (value : Option Value) : Type 0 where
+  pub key : Key
+  pub kept : key_of_ticket waiting ticket ≡ Some key
+  pub in_time : IsReadInTime bytes o first life later number ticket key value
+
+-- so is each read that an answer says is finished
 abbrev pub AreReadInTime : List ℕ → Opened → Now → List Event → List Event → ℕ → List WaitingRead → Answer → Type 0
 AreReadInTime bytes o first life later number waiting answer =
-    (ticket : Ticket) (value : Option Value) (key : Key) → IsIn (finished.Read ticket value) (finished_by answer) → key_of_ticket waiting ticket ≡ Some key → IsReadInTime bytes o first life later number ticket key value
+    (ticket : Ticket) (value : Option Value) → IsIn (finished.Read ticket value) (finished_by answer) → IsKeptAndReadInTime bytes o first life later number waiting ticket value

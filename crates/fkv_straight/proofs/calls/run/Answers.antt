@@ -1,7 +1,7 @@
-use Rattle.std.proofs.Common.{◌≡◌, refl, sym, ap, ◌∙◌, rules, subst, false}
+use Rattle.std.proofs.Common.{◌≡◌, refl, sym, ap, ◌∙◌, rules, false}
 use Rattle.fkv_ops.specs.Requests.{is_read}
 use Rattle.fkv_session.specs.Alike.{lasting}
-use Rattle.fkv_session.specs.Sessions.{SessionState, Sitter}
+use Rattle.fkv_session.specs.Sessions.{Sitter}
 use Rattle.fkv_straight.proofs.Endings.{read_asks, serial_fits, update_asks, update_caught_up}
 use Rattle.fkv_straight.proofs.Seeks.{begins_same}
 use Rattle.fkv_straight.proofs.calls.run.Goals as goal
@@ -9,8 +9,7 @@ use Rattle.fkv_straight.proofs.calls.run.Goals as goal
 pub catch_up-requires-clause-led : goal.catch_up-requires-clause-led
 catch_up-requires-clause-led g c =
     let m = c.args.machine.now in
-    subst (λ (s : SessionState). g.L.Line.led c.read-straight.new.line s)
-    (begins_same m.seat (g.L.Line.seat c.args.line.now) m.state (g.L.Line.stands c.args.line.now) c.args.op c.args.going.now c.requires.goes c.requires.seat c.requires.alike) c.read-straight.ensures.led
+    (c.args.line.now, c.read-straight.ensures.led, begins_same m.seat (g.L.Line.seat c.args.line.now) m.state (g.L.Line.stands c.args.line.now) c.args.op c.args.going.now c.requires.goes c.requires.seat c.requires.alike)
 
 pub take_serial-serial-requires : goal.take_serial-serial-requires
 take_serial-serial-requires g c =
@@ -23,8 +22,7 @@ catch_up-requires-in-None-straight g c =
     let m = c.args.machine.now in
     record {
       seat = c.requires.seat ∙ sym c.update-straight.ensures.seat;
-      led = subst (λ (s : SessionState). g.L.Line.led c.update-straight.new.line s)
-          (begins_same m.seat (g.L.Line.seat c.args.line.now) m.state (g.L.Line.stands c.args.line.now) c.args.op c.args.going.now c.requires.goes c.requires.seat c.requires.alike) c.update-straight.ensures.led;
+      led = (c.args.line.now, c.update-straight.ensures.led, begins_same m.seat (g.L.Line.seat c.args.line.now) m.state (g.L.Line.stands c.args.line.now) c.args.op c.args.going.now c.requires.goes c.requires.seat c.requires.alike);
     }
 
 pub returns-in-Some-clause-ask : goal.returns-in-Some-clause-ask

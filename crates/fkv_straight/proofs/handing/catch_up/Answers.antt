@@ -13,7 +13,7 @@ loop-reply-init g c =
     record {
       seat = comes.0 ∙ c.requires.seat;
       ask = c.begin-ask.ensures.ask ∙ ap (λ (q : Seat). session_ask q n.state) (sym comes.0);
-      left = ap (λ (s : SessionState). replayed k s c.replies-reply-items.result.now) comes.1 ∙ sym (c.replies-reply-items.ensures.led (begins m.seat m.state c.args.op) c.requires.led);
+      left = ap (λ (s : SessionState). replayed k s c.replies-reply-items.result.now) (comes.1 ∙ sym c.requires.led.2) ∙ sym (c.replies-reply-items.ensures.led c.requires.led.0 c.args.op c.requires.led.1);
     }
 
 pub loop-reply-preserved : goal.loop-reply-preserved

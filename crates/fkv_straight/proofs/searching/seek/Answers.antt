@@ -60,7 +60,7 @@ slots-preserved-then-slot-lt6 g c =
       within = c.slots.invariant.within;
       fits = c.slots.invariant.fits;
       seat = c.load-word.ensures.seat ∙ c.slots.invariant.seat;
-      led = c.load-word.ensures.led (begins k s c.args.op) c.slots.invariant.led;
+      led = c.load-word.ensures.led c.args.line.now c.args.op c.slots.invariant.led;
       kept = (let e = c.load-word.ensures.kept in let i = c.slots.invariant.kept in omega (arith, e, i));
       stands = slot_comes its c.slots.base links (c.slots.slot + 1) c.load-word.result now (g.L.Line.stands c.load-word.new.self) at
           (leads_on its k c.args.op c.args.going.now (g.L.Line.seat c.slots.line) now (g.L.Line.stands c.load-word.new.self) c.load-word.result c.requires.goes c.slots.invariant.seat c.load-word.ensures.next);
@@ -123,7 +123,7 @@ slots-preserved g c =
       within = (let h = c.if-links-going.false in omega (arith, h));
       fits = (let e = c.overflow-base.ensures in let p = c.args.going.now.places.few_sessions in let f = c.args.going.now.places.few_buckets in let o = c.args.going.now.places.few_overflow in let n = c.if-number-going.false in omega (arith, e, p, f, o, n));
       seat = c.load-word-else-slot-lt6.ensures.seat ∙ (c.load-link.ensures.seat ∙ c.slots.invariant.seat);
-      led = c.load-word-else-slot-lt6.ensures.led (begins k s c.args.op) (c.load-link.ensures.led (begins k s c.args.op) c.slots.invariant.led);
+      led = c.load-word-else-slot-lt6.ensures.led c.args.line.now c.args.op (c.load-link.ensures.led c.args.line.now c.args.op c.slots.invariant.led);
       kept = (let e = c.load-word-else-slot-lt6.ensures.kept in let f = c.load-link.ensures.kept in let i = c.slots.invariant.kept in let j = c.slots.invariant.slot in omega (arith, e, f, i, j));
       stands = slot_comes its next (c.args.going.now.places.overflow - (c.slots.links + 1)) 0 c.load-word-else-slot-lt6.result then last on
           (leads_on its k c.args.op c.args.going.now (g.L.Line.seat c.load-link.new.self) then last c.load-word-else-slot-lt6.result c.requires.goes (c.load-link.ensures.seat ∙ c.slots.invariant.seat) c.load-word-else-slot-lt6.ensures.next);

@@ -62,7 +62,7 @@ pub records-preserved : goal.records-preserved
 records-preserved g c = record {
   few = omega arith;
   seat = c.load-found.ensures.seat ∙ (c.load-header.ensures.seat ∙ c.records.invariant.seat);
-  led = λ start led. c.load-found.ensures.led start (c.load-header.ensures.led start (c.records.invariant.led start led));
+  led = λ start call led. c.load-found.ensures.led start call (c.load-header.ensures.led start call (c.records.invariant.led start call led));
   kept = (let e = c.load-header.ensures.kept in let f = c.load-found.ensures.kept in let i = c.records.invariant.kept in omega (arith, e, f, i));
   here = c.is_in_memory-is_here-in-records.ensures;
   stands = λ its goes reached.

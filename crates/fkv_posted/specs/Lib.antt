@@ -1,0 +1,6 @@
+pub mod Coding
+pub mod Noted
+pub mod Outcomes
+pub mod Posting
+pub mod Remains
+pub mod Shows

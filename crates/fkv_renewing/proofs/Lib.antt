@@ -1,0 +1,16 @@
+mod Calls
+mod Chained
+mod Counts
+mod Growing
+mod Holding
+mod Laying
+mod Listed
+mod Logged
+mod Moving
+mod Newly
+mod Outcome
+mod Pairs
+mod Pointing
+mod Recovered
+mod Rooming
+mod Suiting

@@ -1,0 +1,13 @@
+//! Renewing a store: its pairs and points as a new image, of any sizes that hold them.
+#![tactic(auto)]
+
+mod chaining;
+mod counting;
+mod laws;
+mod renewing;
+mod slots;
+mod spelling;
+mod writing;
+
+pub use laws::{law_pairs, law_renewals, law_renewed_log};
+pub use renewing::renew;

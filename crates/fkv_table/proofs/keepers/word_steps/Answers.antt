@@ -1,0 +1,38 @@
+-- Each step leads the keeper on, up to a call of the device or to the end of its call.
+use Rattle.std.proofs.Common.{◌∙◌, sym, refl, [], arith}
+use Rattle.fkv_table.specs.Planes.{opening_of}
+use Rattle.fkv_table.proofs.KeeperCalled.{gone_both, keeper_word}
+use Rattle.fkv_table.proofs.keepers.word_steps.Goals as goal
+
+pub asks-init : goal.asks-init
+asks-init g c = record {
+  table = refl;
+  id = refl;
+  keeping = c.requires.keeping;
+  went = record { steps = []; begins = tt; so = refl };
+  calls = refl;
+  left = omega arith;
+  beginning = λ b. b;
+}
+
+pub step-requires : goal.step-requires
+step-requires g c = let inv = c.asks.invariant in record {
+  table = (inv.table ∙ c.requires.table.0, c.requires.table.1);
+  keeping = inv.keeping;
+  ask = c.ask.ensures;
+  word = keeper_word (opening_of g.D.Device.seen) _ _ c.asks.machine _ c.requires.table.1.opening inv.keeping c.ask.ensures c.in_default.not-Done;
+}
+
+pub asks-preserved : goal.asks-preserved
+asks-preserved g c = let inv = c.asks.invariant in let did = c.step.ensures in record {
+  table = did.seat.0 ∙ inv.table;
+  id = did.seat.1 ∙ inv.id;
+  keeping = did.keeping;
+  went = gone_both (opening_of g.D.Device.seen) _ _ _ inv.went did.went;
+  calls = did.calls ∙ inv.calls;
+  left = omega (arith, did.fewer, inv.left);
+  beginning = λ b. did.beginning (inv.beginning b);
+}
+
+pub returns-in-Done-clause-told : goal.returns-in-Done-clause-told
+returns-in-Done-clause-told g c = sym c.ask.ensures ∙ c.in-Done.is

@@ -1,0 +1,157 @@
+//! The way of a session to the words of its table, by which a call goes straight.
+ghost use Rattle.std.specs.Prelude.{◌≡◌, ◌<◌, ◌++◌, ◌∷◌, [], ℕ, Some, length};
+ghost use Rattle.std.specs.declared.snapshot.Snapshot.{Snapshot};
+ghost use Rattle.fkv_core.specs.Worlds.{WorldModel};
+ghost use Rattle.fkv_map.specs.declared.operations.Op.{Op};
+ghost use Rattle.fkv_plane.specs.Asked.{asked_place};
+ghost use Rattle.fkv_straight.specs.Standing.{asked, leads};
+ghost use Rattle.fkv_table.specs.Calls.{IsReady};
+ghost use Rattle.fkv_table.specs.Lines.{HasLed, IsAlong, LineModel, stands};
+ghost use Rattle.fkv_table.specs.Planes.{opening_of};
+
+use crate::happenings::Happening;
+use crate::performing::perform;
+use crate::plays::{First, Next, Turn};
+use crate::rule::{Place, Words};
+use arrayvec::ArrayVec;
+use fkv_disk::Device;
+use fkv_map::{Call, Op};
+use fkv_plane::Ask;
+use fkv_seats::Held;
+use fkv_session::{Session, Told};
+use fkv_straight::Line;
+use std::marker::Model;
+use std::snapshot::Snapshot;
+
+/// The words of a table, for the session whose seat this is. Each of its steps is the one that the session's machine would ask for.
+#[derive(Drop)]
+pub(crate) struct SeatLine<'t, D: Device> {
+    words: &'t Words<D>,
+    seat: Place<D>,
+    /// The slot that is its seat's desk.
+    desk: usize,
+    /// The session's number.
+    number: usize,
+    replies: ArrayVec<u64, 64>,
+    /// The machine, as the line began.
+    machine: Snapshot<Session>,
+}
+
+impl<'t, D: Device> Model for SeatLine<'t, D> {
+    ghost use Rattle.std.specs.Prelude.{◌≡◌};
+    ghost use Rattle.std.specs.declared.snapshot.Snapshot.{Snapshot};
+    ghost use Rattle.fkv_core.specs.Worlds.{WorldModel};
+    ghost use Rattle.fkv_table.specs.Lines.{IsAlong, LineModel, line_of};
+    ghost use Rattle.fkv_table.specs.Planes.{opening_of};
+
+    ghost Value = { LineModel (Snapshot (WorldModel D)) };
+
+    ghost view = { λ l. line_of l.words.now.key l.words.now.table_id l.seat.me l.machine.value l.desk l.replies.items };
+
+    ghost invariant = { λ l. (l.seat.table_id ≡ l.words.now.table_id) × (l.number ≡ l.machine.value.seat.number) × IsAlong (opening_of D.seen) (line_of l.words.now.key l.words.now.table_id l.seat.me l.machine.value l.desk l.replies.items) };
+}
+
+impl<'t, D: Device> SeatLine<'t, D> {
+    /// The line of a session between two calls.
+    #[inline(always)]
+    pub(crate) fn new(
+        words: &'t Words<D>,
+        seat: Place<D>,
+        machine: &Session,
+        desk: usize,
+    ) -> SeatLine<'t, D>
+        requires ready { IsReady (opening_of D.seen) words.now.key words.now.table_id seat.table_id seat.me machine.now desk }
+        ensures value { result ≡ record { key = words.now.key; table = words.now.table_id; me = seat.me; machine = machine.now; desk = desk; replies = [] } }
+    {
+        let own = machine.number();
+        let kept = ArrayVec::new();
+        let from = Snapshot::of(machine);
+        SeatLine {
+            words,
+            seat,
+            desk,
+            number: own,
+            replies: kept,
+            machine: from,
+        }
+    }
+
+    /// The seat, with what is known of it.
+    #[inline(always)]
+    pub(crate) fn into_seat(self) -> Place<D>
+        ensures table { result.table_id ≡ self.entry.table }
+        ensures me { result.me ≡ self.entry.me }
+        ensures along { IsAlong (opening_of D.seen) self.entry }
+    {
+        let SeatLine { seat, .. } = self;
+        seat
+    }
+
+    /// Makes a step of the call, and keeps its reply.
+    #[inline(always)]
+    fn step(&mut self, ask: &Ask<Told>) -> u64
+        requires asked { asked self.old.machine.seat (stands (opening_of D.seen) self.old) ≡ ask.now }
+        requires word { (place : ℕ) × (asked_place ask.now ≡ Some place) }
+        requires room { length self.old.replies < 64 }
+        ensures next { stands (opening_of D.seen) self.new ≡ leads self.old.machine.seat (stands (opening_of D.seen) self.old) result }
+        ensures led { (start : LineModel (Snapshot (WorldModel D))) (op : Op) → HasLed (opening_of D.seen) start op self.old → HasLed (opening_of D.seen) start op self.new }
+        ensures replies { self.new.replies ≡ self.old.replies ++ result ∷ [] }
+        ensures machine { self.new.machine ≡ self.old.machine }
+    {
+        let reply = perform::<D, Turn<Next>, Told>(self.words, &mut self.seat, ask);
+        self.replies.push(reply);
+        reply
+    }
+}
+
+impl<'t, D: Device> Line for SeatLine<'t, D> {
+    ghost use Rattle.std.specs.Prelude.{length};
+    ghost use Rattle.fkv_table.specs.Lines.{HasLed, stands};
+    ghost use Rattle.fkv_table.specs.Planes.{opening_of};
+
+    ghost seat = { λ l. l.machine.seat };
+
+    ghost stands = { stands (opening_of D.seen) };
+
+    ghost led = { HasLed (opening_of D.seen) };
+
+    ghost kept = { λ l. length l.replies };
+
+    #[inline(always)]
+    fn first(&mut self, op: Op, place: usize) -> u64 {
+        let start = Happening::Calls(self.number, Call::Op(op));
+        let _ = self
+            .words
+            .exchange(&mut self.seat, self.desk, Held::Desk(start));
+        self.replies.clear();
+        let ask = Ask::Load(place);
+        let reply = perform::<D, Turn<First>, Told>(self.words, &mut self.seat, &ask);
+        self.replies.push(reply);
+        reply
+    }
+
+    #[inline(always)]
+    fn load(&mut self, place: usize) -> u64 {
+        self.step(&Ask::Load(place))
+    }
+
+    #[inline(always)]
+    fn store(&mut self, place: usize, new: u64) -> u64 {
+        self.step(&Ask::Store(place, new))
+    }
+
+    #[inline(always)]
+    fn swap(&mut self, place: usize, new: u64) -> u64 {
+        self.step(&Ask::Swap(place, new))
+    }
+
+    #[inline(always)]
+    fn cas(&mut self, place: usize, expected: u64, new: u64) -> u64 {
+        self.step(&Ask::Cas(place, expected, new))
+    }
+
+    #[inline(always)]
+    fn replies(&self) -> &[u64] {
+        self.replies.as_slice()
+    }
+}

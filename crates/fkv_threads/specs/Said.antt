@@ -1,0 +1,19 @@
+-- What the clauses of `src` say: they take all of it under one name.
+pub use Rattle.fkv_base.specs.declared.faults.Fault.TheVariants.{Memory}
+pub use Rattle.fkv_disk.specs.Device.{AtEachMoment, LeavesOnly}
+pub use Rattle.fkv_keeper.specs.Keeping.{keeper_ask}
+pub use Rattle.fkv_keeper.specs.Running.{IsBeginTold, IsTurnTold}
+pub use Rattle.fkv_opening.specs.Opened.{IsStoreOf}
+pub use Rattle.fkv_table.specs.Calls.{IsReady}
+pub use Rattle.fkv_table.specs.KeeperCalls.{HasKept}
+pub use Rattle.fkv_table.specs.Keeps.{IsAfterSeen, IsKeeperReady, IsLeftWithin, LeavesDevice}
+pub use Rattle.fkv_table.specs.Meets.{AreTwoReady, HaveMet, StaysReady}
+pub use Rattle.fkv_table.specs.Planes.{opening_of}
+pub use Rattle.fkv_table.specs.Starts.{EachAt}
+pub use Rattle.fkv_table.specs.declared.happenings.Happening.TheVariants.{Commits, Turns}
+pub use Rattle.fkv_threads.specs.Begun.{HasBegun, IsOverStore, KeeperHasBegun}
+pub use Rattle.fkv_threads.specs.Runs.{IsLawful, IsRun, OfThisRun, run_of}
+pub use Rattle.law_threads.specs.Durable.{ItsDurableNeverFalls, RecoversItsDurable, TellsItsDurable}
+pub use Rattle.law_threads.specs.Images.{RecoversWithin}
+pub use Rattle.law_threads.specs.Laws.{IsWithin}
+pub use Rattle.law_threads.specs.Turns.{TellsItsFinish}

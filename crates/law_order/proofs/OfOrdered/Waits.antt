@@ -1,0 +1,184 @@
+-- An attempt of a read that waits leaves it with a record that it seeks.
+use Rattle.std.proofs.Common.{◌≡◌, ℕ, ◌∙◌, refl, sym, ap, subst, Bool, true, false}
+use Rattle.std.specs.Prelude.{◌==◌, ◌&&◌, ⊤, if◌then◌else◌, Option, Some, None}
+use Rattle.std.specs.Option.{is_some}
+use Rattle.fkv_map.specs.Keys.{key_of}
+use Rattle.fkv_ops.specs.declared.answers.DiskRecord.{DiskRecord}
+use Rattle.fkv_ops.specs.declared.answers.TryAnswer.{TryAnswer}
+use Rattle.fkv_ops.specs.declared.answers.TryAnswer.TheVariants as answer
+use Rattle.fkv_ops.specs.declared.header_words.HeaderSaid.{HeaderSaid}
+use Rattle.fkv_ops.specs.declared.header_words.HeaderSaid.TheVariants.{Says, Spoiled}
+use Rattle.fkv_ops.specs.declared.requests.Occasion.{Occasion}
+use Rattle.fkv_ops.specs.declared.requests.Seen.{Seen}
+use Rattle.fkv_ops.specs.declared.trying.Trying.{Trying}
+use Rattle.fkv_ops.specs.declared.trying.Trying.TheVariants as trying
+use Rattle.fkv_ops.specs.HeaderWords.{header_said}
+use Rattle.fkv_ops.specs.Requests.{is_read}
+use Rattle.fkv_ops.specs.Trying.{TryState, told_value, try_ask, try_next, trying_ask}
+use Rattle.fkv_ops.specs.Values.{value_of}
+use Rattle.fkv_ops.proofs.Shown.{TryRestsOrAsks, is_try_end, try_done, try_rests}
+use Rattle.fkv_pending.specs.declared.attempting.Attempting.{Attempting}
+use Rattle.fkv_pending.specs.declared.attempting.Attempting.TheVariants.{Ended, Looks, Puts, Tries}
+use Rattle.fkv_pending.specs.declared.mailing.MailAnswer.{MailAnswer}
+use Rattle.fkv_pending.specs.declared.mailing.MailAnswer.TheVariants as mail
+use Rattle.fkv_pending.specs.declared.mailing.MailRecord.{MailRecord}
+use Rattle.fkv_pending.specs.declared.mailing.MailTask.TheVariants.{Take}
+use Rattle.fkv_pending.specs.declared.mailing.Mailing.TheVariants.{LoadsState}
+use Rattle.fkv_pending.specs.declared.pending_requests.PendingRequest.{PendingRequest}
+use Rattle.fkv_pending.specs.Attempting.{AttemptState, attempt_begun, attempt_ended, attempt_next, attempting_next, awaits_record, goes_on, held_kept, held_of, is_poll, is_seeking_read, look_ledto, moved_on, new_attempt, not_ready, put_ledto, puts, puts_addr, read_on, record_taken, tried, tries, try_ledto, waits_for_disk}
+use Rattle.fkv_pending.specs.Mailing.{mail_ask, mail_next}
+use Rattle.fkv_pending.specs.Pending.{with_asked, with_held, with_latch, with_sought}
+use Rattle.fkv_pending.proofs.Shown.{AttemptAsksAt, AttemptRestsOrAsks}
+use Rattle.fkv_plane.specs.declared.asks.Ask.{Ask}
+use Rattle.fkv_plane.specs.declared.asks.Ask.TheVariants.{Done}
+use Rattle.fkv_plane.specs.declared.places.Places.{Places}
+use Rattle.fkv_plane.specs.Passing.{is_done}
+use Rattle.law_order.specs.Ordered.Met.{IsMet, SeeksOne}
+use Rattle.law_order.specs.Rows.Asked.{SeeksWhereAsked}
+use Rattle.law_order.proofs.OfRows.Seeks.{held_seeks, latch_seeks}
+
+-- where an answer lets it wait
+abbrev pub SeeksBy : PendingRequest → TryAnswer → Type 0
+SeeksBy pending (answer.Wait why) = SeeksOne pending
+SeeksBy pending (answer.AwaitsDisk its) = SeeksOne pending
+SeeksBy pending answer.Shift = SeeksOne pending
+SeeksBy pending answer.IndexFull = SeeksOne pending
+SeeksBy pending answer.LogFull = SeeksOne pending
+SeeksBy pending its = ⊤
+
+-- a poll tries no read
+abbrev pub NoPoll : Occasion → PendingRequest → Type 0
+NoPoll occasion pending = is_poll occasion ≡ true → is_read pending.request.op ≡ true → ⊥
+
+-- Where an attempt has ended so its request does, and while it looks into the mailbox, or puts an address there. A try begins with one that seeks a record if it
+-- has asked for it; and it isn't a poll's, if it is of a read.
+abbrev pub WaitsRow : AttemptState → Attempting → Type 0
+WaitsRow a (Ended its) = SeeksBy a.pending its
+WaitsRow a Puts = SeeksOne a.pending
+WaitsRow a Looks = SeeksWhereAsked a.pending × SeeksOne a.pending
+WaitsRow a Tries = SeeksWhereAsked a.pending × NoPoll a.occasion a.pending
+
+abbrev pub Waits : AttemptState → Type 0
+Waits a = WaitsRow a a.step
+
+either : (b : Bool) (one other : AttemptState) → (b ≡ true → Waits one) → (b ≡ false → Waits other) → Waits (if b then one else other)
+either true one other first second = first refl
+either false one other first second = second refl
+
+seeking : (poll read some : Bool) → (poll && (read && some)) ≡ true → some ≡ true
+seeking true true some e = e
+seeking true false some e = cc
+seeking false read some e = cc
+
+not_seeking : (poll read some : Bool) → (poll && (read && some)) ≡ false → (poll ≡ true → read ≡ true → some ≡ true) → poll ≡ true → read ≡ true → ⊥
+not_seeking true true some e so one other = let clash : true ≡ false = sym (so refl refl) ∙ e in cc
+not_seeking true false some e so one other = cc
+not_seeking false read some e so one other = cc
+
+puts_found : (a : AttemptState) (its : Option DiskRecord) → a.pending.sought ≡ its → is_some its ≡ true → Waits (puts_addr a its)
+puts_found a None e some = cc
+puts_found a (Some its) e some = λ read. ap is_some e
+
+puts_waits : (a : AttemptState) → is_some a.pending.sought ≡ true → Waits (puts a)
+puts_waits a some = puts_found a a.pending.sought refl some
+
+told_waits : (a : AttemptState) (its : Option ℕ) → Waits (attempt_ended a (told_value its))
+told_waits a None = tt
+told_waits a (Some value) = tt
+
+moved_some : (sought : Option DiskRecord) (addr : _) → is_some sought ≡ true → is_some (moved_on sought addr) ≡ true
+moved_some None addr e = cc
+moved_some (Some it) addr e = refl
+
+read_waits : (a : AttemptState) (its : MailRecord) (said : HeaderSaid) → is_some a.pending.sought ≡ true → Waits (read_on a its said)
+unfolding with_sought
+read_waits a its Spoiled some = puts_waits a some
+read_waits a its (Says previous version) some =
+    let on : AttemptState = record a { pending = with_sought a.pending (moved_on a.pending.sought previous) } in
+    either (its.key.0 == (key_of a.pending.request.op).0) (attempt_ended a (told_value (value_of its.value))) (if previous.0 == 0 then attempt_ended a answer.Absent else puts on) (λ e. told_waits a (value_of its.value))
+    (λ e. either (previous.0 == 0) (attempt_ended a answer.Absent) (puts on) (λ f. tt) (λ f. puts_waits on (moved_some a.pending.sought previous some)))
+
+taken_waits : (p : Places) (bits : ℕ) (a : AttemptState) (its : MailRecord) (said : HeaderSaid) → SeeksWhereAsked a.pending → SeeksOne a.pending → Waits (record_taken p bits a its said)
+unfolding with_held
+taken_waits p bits a its said asked one =
+    let holds : AttemptState = record a { pending = with_held a.pending (held_of a.pending.sought its said) } in
+    either (is_seeking_read a) (read_on a its said) (tries p bits holds) (λ e. read_waits a its said (seeking (is_poll a.occasion) (is_read a.pending.request.op) (is_some a.pending.sought) e)) (λ e. (held_seeks a.pending (held_of a.pending.sought its said) asked, not_seeking (is_poll a.occasion) (is_read a.pending.request.op) (is_some a.pending.sought) e (λ poll read. one read)))
+
+ready_waits : (p : Places) (bits : ℕ) (a : AttemptState) → SeeksWhereAsked a.pending → SeeksOne a.pending → Waits (not_ready p bits a)
+ready_waits p bits a asked one = either (is_seeking_read a) (waits_for_disk a) (tries p bits a) (λ e read. seeking (is_poll a.occasion) (is_read a.pending.request.op) (is_some a.pending.sought) e) (λ e. (asked, not_seeking (is_poll a.occasion) (is_read a.pending.request.op) (is_some a.pending.sought) e (λ poll read. one read)))
+
+none_asked : (pending : PendingRequest) → SeeksWhereAsked (with_asked pending false)
+unfolding with_asked
+none_asked pending = λ read asked. cc
+
+look_waits : (p : Places) (bits : ℕ) (a : AttemptState) (ask : Ask MailAnswer) → a.step ≡ Looks → SeeksWhereAsked a.pending × SeeksOne a.pending → Waits (look_ledto p bits a ask)
+unfolding look_ledto with_asked
+look_waits p bits a (Done (mail.Taken its)) at asked = taken_waits p bits (record a { is_emptied = true; pending = with_asked a.pending false }) its (header_said its.header) (none_asked a.pending) asked.1
+look_waits p bits a (Done other) at asked = ready_waits p bits a asked.0 asked.1
+look_waits p bits a ask at asked = subst (WaitsRow a) (sym at) asked
+
+-- ---- the try
+awaits_waits : (a : AttemptState) (its : DiskRecord) → SeeksWhereAsked a.pending → Waits (awaits_record a its)
+unfolding with_held with_sought
+awaits_waits a its asked =
+    let kept : AttemptState = record a { pending = with_held a.pending (held_kept a.pending.request.held its.entry) } in
+    let next : AttemptState = record kept { pending = with_sought kept.pending (Some its) } in
+    either a.pending.has_asked (waits_for_disk kept) (puts next) (λ e read. asked read e) (λ e. puts_waits next refl)
+
+-- a read is met
+abbrev MetIfRead : PendingRequest → TryAnswer → Type 0
+MetIfRead pending its = is_read pending.request.op ≡ true → IsMet its
+
+tried_waits : (a : AttemptState) (its : TryAnswer) → MetIfRead a.pending its → SeeksWhereAsked a.pending → Waits (tried a its)
+tried_waits a (answer.AwaitsDisk its) met asked = awaits_waits a its asked
+tried_waits a (answer.Wait why) met asked = λ read. absurd (met read)
+tried_waits a answer.Shift met asked = λ read. absurd (met read)
+tried_waits a (answer.Done reply) met asked = tt
+tried_waits a (answer.Found value) met asked = tt
+tried_waits a answer.Absent met asked = tt
+tried_waits a answer.IndexFull met asked = λ read. absurd (met read)
+tried_waits a answer.LogFull met asked = λ read. absurd (met read)
+
+-- a try that has ended tells this
+end_tells : (p : Places) (t : TryState) (its : TryAnswer) → TryRestsOrAsks t → try_ask p t ≡ Done its → t.step ≡ trying.Ended its
+unfolding trying_ask
+end_tells p t its rests asks = by_step t.step refl (sym (try_done p t rests) ∙ ap is_done asks) asks
+  where
+    by_step : (step : Trying) → t.step ≡ step → is_try_end step ≡ true → trying_ask p t step ≡ Done its → t.step ≡ trying.Ended its
+    by_step (trying.Ended told) at end e = let same : told ≡ its = cc in at ∙ ap trying.Ended same
+    by_step step at end e = cc
+
+led_waits : (p : Places) (a : AttemptState) (ask : Ask TryAnswer) → a.step ≡ Tries → try_ask p a.trial ≡ ask → TryRestsOrAsks a.trial → ((its : TryAnswer) → a.trial.step ≡ trying.Ended its → MetIfRead a.pending its) → SeeksWhereAsked a.pending × NoPoll a.occasion a.pending → Waits (try_ledto a ask)
+unfolding try_ledto with_latch
+led_waits p a (Done its) at asks rests met asked =
+    tried_waits (record a { spare = a.trial.spare; pending = with_latch a.pending a.trial.has_shared }) its (met its (end_tells p a.trial its rests asks)) (latch_seeks a.pending a.trial.has_shared asked.0)
+led_waits p a ask at asks rests met asked = subst (WaitsRow a) (sym at) asked
+
+put_waits : (a : AttemptState) (ask : Ask MailAnswer) → a.step ≡ Puts → SeeksOne a.pending → Waits (put_ledto a ask)
+unfolding put_ledto with_asked
+put_waits a (Done mail.Asked) at so = so
+put_waits a (Done other) at so = so
+put_waits a ask at so = subst (WaitsRow a) (sym at) so
+
+-- ---- each reply
+abbrev pub MeetsTry : Places → ℕ → AttemptState → ℕ → Type 0
+MeetsTry p room a reply = (its : TryAnswer) → (try_next p room a.trial reply).step ≡ trying.Ended its → MetIfRead a.pending its
+
+row_waits : (p : Places) (bits room session : ℕ) (a : AttemptState) (step : Attempting) (reply : ℕ) → a.step ≡ step → AttemptAsksAt a step → (a.step ≡ Tries → MeetsTry p room a reply) → WaitsRow a step → Waits (attempting_next p bits room session (record a { effect = None }) step reply)
+unfolding attempting_next
+row_waits p bits room session a (Ended its) reply at rests met row = subst (WaitsRow (record a { effect = None })) (sym at) row
+row_waits p bits room session a Looks reply at rests met row = look_waits p bits (record a { effect = None; mailing = mail_next a.mailing reply }) (mail_ask session (mail_next a.mailing reply)) at row
+row_waits p bits room session a Tries reply at rests met row =
+    led_waits p (record a { effect = (try_next p room a.trial reply).effect; trial = try_next p room a.trial reply }) (try_ask p (try_next p room a.trial reply)) at refl (try_rests p room a.trial reply rests.0) (met at) row
+row_waits p bits room session a Puts reply at rests met row = put_waits (record a { effect = None; mailing = mail_next a.mailing reply }) (mail_ask session (mail_next a.mailing reply)) at row
+
+pub attempt_waits : (p : Places) (bits room session : ℕ) (a : AttemptState) (reply : ℕ) → AttemptRestsOrAsks a → (a.step ≡ Tries → MeetsTry p room a reply) → Waits a → Waits (attempt_next p bits room session a reply)
+attempt_waits p bits room session a reply rests met row = row_waits p bits room session a a.step reply refl rests met row
+
+-- and how it begins
+pub attempt_begun_waits : (p : Places) (bits : ℕ) (pending : PendingRequest) (seen : Seen) (occasion : Occasion) (spare : ℕ) (is_orphaned : Bool) → SeeksWhereAsked pending → (is_poll occasion ≡ true → SeeksOne pending)
+    → Waits (attempt_begun p bits pending seen occasion spare is_orphaned)
+attempt_begun_waits p bits pending seen occasion spare is_orphaned asked one =
+    let its : AttemptState = new_attempt bits pending seen occasion spare is_orphaned in
+    either pending.has_asked (record its { mailing = LoadsState Take; step = Looks }) (goes_on p bits its) (λ e. (asked, λ read. asked read e))
+    (λ e. either (is_seeking_read its) (puts its) (tries p bits its) (λ f. puts_waits its (seeking (is_poll occasion) (is_read pending.request.op) (is_some pending.sought) f)) (λ f. (asked, not_seeking (is_poll occasion) (is_read pending.request.op) (is_some pending.sought) f (λ poll read. one poll read))))
