@@ -78,6 +78,7 @@ module _ {W E A K : Type 0} (p : Plane W E A K) where
     kept : (i : ℕ) (h : maybe.Option H) → (h ≡ none → sits ≡ true) → Ruled p key record { words = set s.words i (get_or s.words i 0); homes = set s.homes (p.slots + number) h; views = seats }
     kept i h out_sits = record {
       events = r.events;
+      allowed = r.allowed;
       words = set-get_or s.words i 0 ∙ r.words;
       deep = subst (λ m. p.slots ≤ m) (sym (length-set s.homes (p.slots + number) h)) r.deep;
       homes = λ k x l g. ⊎_elim

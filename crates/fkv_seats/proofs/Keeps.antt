@@ -12,7 +12,7 @@ use Rattle.fkv_seats.specs.declared.views.Role.{Role}
 use Rattle.fkv_seats.specs.declared.views.View.{View}
 use Rattle.fkv_seats.specs.declared.held.Held.{Held}
 use Rattle.fkv_seats.specs.declared.held.Held.TheVariants.{Drain}
-use Rattle.fkv_seats.specs.Rule.{speaks, Plane, action_in, Changes, led, Quiet, AreOwn, NoneOf, Fits, IsOut, IsDeskOut, desk_of, Ruled, SlotFacts, AreStarts, base, HandFits, Carries, Stepped}
+use Rattle.fkv_seats.specs.Rule.{speaks, Plane, action_in, Changes, led, Quiet, AreAllowed, AreOwn, NoneOf, Fits, IsOut, IsDeskOut, desk_of, Ruled, SlotFacts, AreStarts, base, HandFits, Carries, Stepped}
 
 pub same_or : (i j : ℕ) → (i ≡ j) ⊎ (i ≢ j)
 same_or i j = dite (ℕ_discrete i j) inl inr
@@ -58,6 +58,18 @@ module _ {W E A K : Type 0} (p : Plane W E A K) where
   pub quiet_both : (role : Role) (own es : List E) → Quiet p role own → Quiet p role es → Quiet p role (own ++ es)
   quiet_both role [] es a b = b
   quiet_both role (e ∷ own) es a b = (a.0, quiet_both role own es a.1 b)
+
+  pub allowed_both : (own es : List E) → AreAllowed p own → AreAllowed p es → AreAllowed p (own ++ es)
+  allowed_both [] es a b = b
+  allowed_both (e ∷ own) es a b = (a.0, allowed_both own es a.1 b)
+
+  pub allowed_first : (own es : List E) → AreAllowed p (own ++ es) → AreAllowed p own
+  allowed_first [] es a = tt
+  allowed_first (e ∷ own) es a = (a.0, allowed_first own es a.1)
+
+  pub allowed_last : (own es : List E) → AreAllowed p (own ++ es) → AreAllowed p es
+  allowed_last [] es a = a
+  allowed_last (e ∷ own) es a = allowed_last own es a.1
 
   -- what one seat speaks for another doesn't
   pub quiet_own : (mine theirs : Role) (own : List E) → ((actor : Option ℕ) → speaks mine actor ≡ true → speaks theirs actor ≡ false) → AreOwn p mine own → Quiet p theirs own
@@ -116,7 +128,7 @@ module _ {W E A K : Type 0} (p : Plane W E A K) where
   deep_brought w seen homes n (Some k) l = subst (λ m. n ≤ m) (sym (length-set homes k _)) l
 
   module _ (key : K) (facts : SlotFacts p (p.opening key)) (s : State H Vw) (r : Ruled p key s) (id : ℕ) (v : Vw) (c : List (ℕ × H)) (at : get_elem? s.views id ≡ some v)
-      (hand : HandFits p (p.opening key) v.seen v.hand c) (own : List E) (e : E) (mine : AreOwn p v.role (e ∷ own)) (starts : AreStarts p (p.opening key) own) where
+      (hand : HandFits p (p.opening key) v.seen v.hand c) (own : List E) (e : E) (mine : AreOwn p v.role (e ∷ own)) (may : AreAllowed p (e ∷ own)) (starts : AreStarts p (p.opening key) own) where
     abbrev w : W
     w = p.opening key
 
@@ -128,6 +140,9 @@ module _ {W E A K : Type 0} (p : Plane W E A K) where
 
     whole : r.events ≡ later ++ v.seen
     whole = (r.each id v at).whole
+
+    so_far : AreAllowed p (later ++ v.seen)
+    so_far = subst (AreAllowed p) whole r.allowed
 
     shown_words : p.words (led p w (later ++ v.seen)) ≡ s.words
     shown_words = ap (λ (es : List E). p.words (led p w es)) (sym whole) ∙ sym r.words
@@ -280,6 +295,7 @@ module _ {W E A K : Type 0} (p : Plane W E A K) where
         → Ruled p key record { words = words; homes = taken found (brought w v.seen s.homes v.hand); views = set s.views id (new found) }
     goes_on found words is so = record {
       events = e ∷ before;
+      allowed = (may.0, allowed_both own (later ++ v.seen) may.1 so_far);
       words = so;
       deep = deep_on (brought w v.seen s.homes v.hand) p.slots found (deep_brought w v.seen s.homes p.slots v.hand r.deep);
       homes = λ k x l g. says_on found k x is l g;
@@ -303,6 +319,7 @@ module _ {W E A K : Type 0} (p : Plane W E A K) where
           record {
             others = later;
             quiet = (r.each id v at).quiet;
+            allowed = allowed_first later v.seen so_far;
             seen = refl;
             about = refl;
             role = refl;
@@ -313,6 +330,6 @@ module _ {W E A K : Type 0} (p : Plane W E A K) where
           },
         )
 
-  pub allows : (key : K) (slots id : ℕ) (v : Vw) (c : List (ℕ × H)) (i : ℕ) (f : ℕ → ℕ) (own : List E) (e : E) → SlotFacts p (p.opening key) → AreOwn p v.role (e ∷ own) → AreStarts p (p.opening key) own
+  pub allows : (key : K) (slots id : ℕ) (v : Vw) (c : List (ℕ × H)) (i : ℕ) (f : ℕ → ℕ) (own : List E) (e : E) → SlotFacts p (p.opening key) → AreOwn p v.role (e ∷ own) → AreAllowed p (e ∷ own) → AreStarts p (p.opening key) own
       → HandFits p (p.opening key) v.seen v.hand c → Changes p key v own e i f → Allows (Ruled p key) slots id (v, c) i f (λ n m. Stepped p (p.opening key) v c i own e n m)
-  allows key slots id v c i f own e facts mine starts hand local s r deep at bound = keeps_on key facts s r id v c at hand own e mine starts i f (local (r.each id v at).later (r.each id v at).quiet)
+  allows key slots id v c i f own e facts mine may starts hand local s r deep at bound = keeps_on key facts s r id v c at hand own e mine may starts i f (local (r.each id v at).later (r.each id v at).quiet)

@@ -11,8 +11,8 @@ use Rattle.fkv_seats.specs.declared.views.Role.TheVariants.{Rest, Sits, Both, Sp
 use Rattle.fkv_seats.specs.declared.views.View.{View}
 use Rattle.fkv_seats.specs.declared.held.Held.{Held}
 use Rattle.fkv_seats.specs.declared.held.Held.TheVariants.{Drain}
-use Rattle.fkv_seats.specs.Rule.{speaks, Plane, action_in, led, Quiet, Fits, IsOut, IsDeskOut, desk_of, KeepsDesk, Ruled, first_view, left_role, right_role, left_view, right_view, number_of, longer, behind, both_view, spent_view, AreApart, IsSeenBy, GoesOn, HasMet}
-use Rattle.fkv_seats.proofs.Keeps.{truth, no_some, at_here, same_or}
+use Rattle.fkv_seats.specs.Rule.{speaks, Plane, action_in, led, Quiet, Fits, IsOut, IsDeskOut, desk_of, KeepsDesk, Ruled, AreAllowed, first_view, left_role, right_role, left_view, right_view, number_of, longer, behind, both_view, spent_view, AreApart, IsSeenBy, GoesOn, HasMet}
+use Rattle.fkv_seats.proofs.Keeps.{truth, no_some, at_here, same_or, allowed_first}
 
 -- one that stands in a list with one more is there already, or is that one
 at_end : {B : Type 0} (l : List B) (a b : B) (j : ℕ) → get_elem? (l ++ a ∷ []) j ≡ some b → (get_elem? l j ≡ some b) ⊎ ((j ≡ length l) × (a ≡ b))
@@ -167,6 +167,7 @@ module _ {W E A K : Type 0} (p : Plane W E A K) where
     pub cuts : Ruled p key record { words = s.words; homes = s.homes; views = now }
     cuts = record {
       events = r.events;
+      allowed = r.allowed;
       words = r.words;
       deep = r.deep;
       homes = r.homes;
@@ -212,13 +213,13 @@ module _ {W E A K : Type 0} (p : Plane W E A K) where
       let tails : l ++ x ≡ m ++ y = cc in let heads : d ≡ e = cc in let t = begins l m x y tails few in (t.0, λ i. heads i ∷ t.1 i)
 
   -- of two beginnings of one list the longer one goes on from the shorter
-  pub goes_on : (role : Role) (l m x y : List E) → l ++ x ≡ m ++ y → length x ≤ length y → Quiet p role l → GoesOn p role x y
-  goes_on role l [] x y same few q = record { between = l; whole = sym same; quiet = q }
-  goes_on role [] (e ∷ m) x y same few q = absurd (let n : length x ≡ suc (length (m ++ y)) = ap length same in omega (arith, n, few, length-append m y))
-  goes_on role (d ∷ l) (e ∷ m) x y same few q = let tails : l ++ x ≡ m ++ y = cc in goes_on role l m x y tails few q.1
+  pub goes_on : (role : Role) (l m x y : List E) → l ++ x ≡ m ++ y → length x ≤ length y → Quiet p role l → AreAllowed p l → GoesOn p role x y
+  goes_on role l [] x y same few q may = record { between = l; whole = sym same; quiet = q; allowed = may }
+  goes_on role [] (e ∷ m) x y same few q may = absurd (let n : length x ≡ suc (length (m ++ y)) = ap length same in omega (arith, n, few, length-append m y))
+  goes_on role (d ∷ l) (e ∷ m) x y same few q may = let tails : l ++ x ≡ m ++ y = cc in goes_on role l m x y tails few q.1 may.1
 
-  ends : (l m x y : List E) → l ++ x ≡ m ++ y → length x ≤ length y → IsSeenBy p x y
-  ends l m x y same few = let its = goes_on Spent l m x y same few (quiet_spent l) in (its.between, its.whole)
+  ends : (l m x y : List E) → l ++ x ≡ m ++ y → length x ≤ length y → AreAllowed p l → IsSeenBy p x y
+  ends l m x y same few may = let its = goes_on Spent l m x y same few (quiet_spent l) may in (its.between, its.whole)
 
   quiet_first : (role : Role) (m between : List E) → Quiet p role (m ++ between) → Quiet p role m
   quiet_first role [] between q = tt
@@ -246,7 +247,7 @@ module _ {W E A K : Type 0} (p : Plane W E A K) where
       Goal = GoesOn p v.role v.seen (longer p v.seen u.seen) × GoesOn p u.role u.seen (longer p v.seen u.seen)
 
       stays : (role : Role) (seen more : List E) → more ≡ seen → GoesOn p role seen more
-      stays role seen more same = record { between = []; whole = same; quiet = tt }
+      stays role seen more same = record { between = []; whole = same; quiet = tt; allowed = tt }
 
       by : AreLonger v u u v ⊎ AreLonger v u v u → Goal
       by (inl t) = (subst (λ (x : Role × List E). GoesOn p x.0 x.1 (longer p v.seen u.seen)) t.1 its, stays u.role u.seen (longer p v.seen u.seen) t.0)
@@ -285,7 +286,8 @@ module _ {W E A K : Type 0} (p : Plane W E A K) where
 
     met_both : (more less : Vw) → AreLonger v u more less → Fits p (p.opening key) r.events more → Fits p (p.opening key) r.events less → HasMet p both.met both.seen
     met_both more less t fits_more fits_less =
-        subst (λ (x : (Role × List E) × List E). GoesOn p x.0.0 x.0.1 x.1) (λ i. (sym t.1 i, sym t.0 i)) (goes_on less.role fits_less.later fits_more.later less.seen more.seen (sym fits_less.whole ∙ fits_more.whole) t.2 fits_less.quiet)
+        subst (λ (x : (Role × List E) × List E). GoesOn p x.0.0 x.0.1 x.1) (λ i. (sym t.1 i, sym t.0 i)) (goes_on less.role fits_less.later fits_more.later less.seen more.seen (sym fits_less.whole ∙ fits_more.whole) t.2 fits_less.quiet
+        (allowed_first p fits_less.later less.seen (subst (AreAllowed p) fits_less.whole r.allowed)))
 
     fits_both : Fits p (p.opening key) r.events both
     fits_both = ⊎_elim
@@ -365,6 +367,7 @@ module _ {W E A K : Type 0} (p : Plane W E A K) where
     pub joins_so : Ruled p key record { words = s.words; homes = s.homes; views = joined }
     joins_so = record {
       events = r.events;
+      allowed = r.allowed;
       words = r.words;
       deep = r.deep;
       homes = r.homes;
@@ -399,6 +402,7 @@ module _ {W E A K : Type 0} (p : Plane W E A K) where
   unfolding led
   opens key words xs is deep at_home = record {
     events = [];
+    allowed = tt;
     words = is;
     deep = subst (λ n. p.slots ≤ n) (sym (length-map xs (λ (x : H). some x))) deep;
     homes = λ k x l g. at_home k x l (unmapped xs k x g);
@@ -413,6 +417,6 @@ module _ {W E A K : Type 0} (p : Plane W E A K) where
       → IsSeenBy p v.seen u.seen ⊎ IsSeenBy p u.seen v.seen
   in_order key s id other v u r at_v at_u =
       let a = r.each id v at_v in let b = r.each other u at_u in let same = sym a.whole ∙ b.whole in ⊎_elim
-      (λ (t : AreLonger v u u v). inl (ends a.later b.later v.seen u.seen same t.2))
-      (λ (t : AreLonger v u v u). inr (ends b.later a.later u.seen v.seen (sym same) t.2))
+      (λ (t : AreLonger v u u v). inl (ends a.later b.later v.seen u.seen same t.2 (allowed_first p a.later v.seen (subst (AreAllowed p) a.whole r.allowed))))
+      (λ (t : AreLonger v u v u). inr (ends b.later a.later u.seen v.seen (sym same) t.2 (allowed_first p b.later u.seen (subst (AreAllowed p) b.whole r.allowed))))
       (longer_so v u)

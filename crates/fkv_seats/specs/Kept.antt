@@ -7,7 +7,7 @@ use Rattle.fkv_seats.specs.declared.views.Role.TheVariants.{Sits}
 use Rattle.fkv_seats.specs.declared.views.View.{View}
 use Rattle.fkv_seats.specs.declared.held.Held.{Held}
 use Rattle.fkv_seats.specs.declared.held.Held.TheVariants.{Drain}
-use Rattle.fkv_seats.specs.Rule.{Plane, Ruled, SlotFacts, AreOwn, AreStarts, AreApart, KeepsDesk, HandFits, Changes, Stepped, SatDown, GotUp, IsSeenBy, GoesOn, HasMet, action_in, behind, desk_of, longer, first_view, left_view, right_view, both_view, spent_view}
+use Rattle.fkv_seats.specs.Rule.{Plane, Ruled, SlotFacts, AreAllowed, AreOwn, AreStarts, AreApart, KeepsDesk, HandFits, Changes, Stepped, SatDown, GotUp, IsSeenBy, GoesOn, HasMet, action_in, behind, desk_of, longer, first_view, left_view, right_view, both_view, spent_view}
 
 module _ {W E A K : Type 0} (p : Plane W E A K) where
   -- A table whose words are the opening world's, and whose slots hold its actions, meets the rule.
@@ -16,10 +16,10 @@ module _ {W E A K : Type 0} (p : Plane W E A K) where
       → ((k : ℕ) (x : Held A E) → k < p.slots → get_elem? xs k ≡ some x → x ≡ Drain (action_in (p.actions (p.opening key)) k))
       → Ruled p key (opening words xs (first_view p key))
 
-  -- A step on a word may add an event of the seat's own, behind starts of its own and all that others have done.
+  -- A step on a word may add an event of the seat's own, behind starts of its own and all that others have done, if these may stand in the list.
   abbrev pub StepsByRule : Type 0
   StepsByRule = (key : K) (slots id : ℕ) (v : View E K) (c : List (ℕ × Held A E)) (i : ℕ) (f : ℕ → ℕ) (own : List E) (e : E) → SlotFacts p (p.opening key)
-      → AreOwn p v.role (e ∷ own) → AreStarts p (p.opening key) own → HandFits p (p.opening key) v.seen v.hand c → Changes p key v own e i f
+      → AreOwn p v.role (e ∷ own) → AreAllowed p (e ∷ own) → AreStarts p (p.opening key) own → HandFits p (p.opening key) v.seen v.hand c → Changes p key v own e i f
       → Allows (Ruled p key) slots id (v, c) i f (λ n m. Stepped p (p.opening key) v c i own e n m)
 
   -- A seat with no action in hand may be cut in two, which speak for whom it spoke. The first of them stays at its desk, if it was at one.

@@ -61,6 +61,8 @@ pub record Plane (W E A K : Type 0) : Type 0 where
   -- whose event it is, and which slot it moves the action of
   pub actor : E → Option ℕ
   pub names : W → E → Option ℕ
+  -- whether it may stand in the list
+  pub allowed : E → Bool
   -- the slots below it are those of actions
   pub slots : ℕ
 
@@ -87,6 +89,11 @@ module _ {W E A K : Type 0} (p : Plane W E A K) where
   AreOwn role [] = ⊤
   AreOwn role (e ∷ es) = (speaks role (p.actor e) ≡ true) × AreOwn role es
 
+  -- each of them may stand in the list
+  abbrev pub AreAllowed : List E → Type 0
+  AreAllowed [] = ⊤
+  AreAllowed (e ∷ es) = (p.allowed e ≡ true) × AreAllowed es
+
   -- none of them is the actor's
   abbrev pub NoneOf : Option ℕ → List E → Type 0
   NoneOf actor [] = ⊤
@@ -96,11 +103,12 @@ module _ {W E A K : Type 0} (p : Plane W E A K) where
   abbrev pub IsSeenBy : List E → List E → Type 0
   IsSeenBy less more = (later : List E) × (more ≡ later ++ less)
 
-  -- the one list goes on from the other with events of others alone
+  -- The one list goes on from the other with events of others alone, which may stand there.
   pub record GoesOn (role : Role) (less more : List E) : Type 0 where
     pub between : List E
     pub whole : more ≡ between ++ less
     pub quiet : Quiet role between
+    pub allowed : AreAllowed between
 
   abbrev pub HasMet : Option (Role × List E) → List E → Type 0
   HasMet None seen = ⊤
@@ -136,9 +144,10 @@ module _ {W E A K : Type 0} (p : Plane W E A K) where
     pub whose : desk_of view.role ≡ Some number
     pub desk : view.desk ≡ true
 
-  -- One list of events has a run that gives the words, the actions at home and each view.
+  -- One list of events has a run that gives the words, the actions at home and each view. Each event of it may stand there.
   pub record Ruled (key : K) (s : State (Held A E) (View E K)) : Type 0 where
     pub events : List E
+    pub allowed : AreAllowed events
     pub words : s.words ≡ p.words (led (p.opening key) events)
     pub deep : p.slots ≤ length s.homes
     pub homes : (k : ℕ) (x : Held A E) → k < p.slots → get_elem? s.homes k ≡ some (some x) → x ≡ Drain (action_in (p.actions (led (p.opening key) events)) k)
@@ -179,6 +188,7 @@ module _ {W E A K : Type 0} (p : Plane W E A K) where
   pub record Stepped (w : W) (v : View E K) (c : List (ℕ × Held A E)) (i : ℕ) (own : List E) (e : E) (n : ℕ) (m : Me (Held A E) (View E K)) : Type 0 where
     pub others : List E
     pub quiet : Quiet v.role others
+    pub allowed : AreAllowed others
     pub seen : m.0.seen ≡ e ∷ (own ++ (others ++ v.seen))
     pub about : m.0.about ≡ v.about
     pub role : m.0.role ≡ v.role
