@@ -3,9 +3,9 @@ ghost use Rattle.fkv_seats.specs.Kept.{GetsUpByRule, JoinsByRule, MeetsByRule, O
 ghost use Rattle.fkv_seats.specs.Rule.{Plane};
 
 /// The rule holds as a table is made, and each thing that a seat may do keeps it. A step on a word adds an event of whom the seat speaks for, with starts of its
-/// own before it. The slot in hand goes back by this step, and the one that the event names comes out. A seat is cut in two, two are made one, and one sits down
-/// at its desk and gets up from it. Who sits down is told that what his seat has seen goes on from what the other one had
-/// seen, if it was made one of two, and that only with events of others than that one.
+/// own before it, if these may stand in the list. It is told that what others have added may too. The slot in hand goes back by this step, and the one that the
+/// event names comes out. A seat is cut in two, two are made one, and one sits down at its desk and gets up from it. Who sits down is told that what his seat has
+/// seen goes on from what the other one had seen, if it was made one of two, and that only with events of others than that one.
 pub fn law_seats<W, E, A, K>()
     ensures opens { (plane : Plane W E A K) → OpensByRule plane }
     ensures steps { (plane : Plane W E A K) → StepsByRule plane }

@@ -1,5 +1,5 @@
 -- A call: its start is on the desk, its steps follow, and so on to its answer.
-use Rattle.std.proofs.Common.{◌≡◌, ◌≢◌, ◌+◌, ℕ, refl, sym, ap, subst, ◌∙◌, inl, inr, append_assoc, false, List, [], ◌∷◌, ◌++◌, length}
+use Rattle.std.proofs.Common.{◌≡◌, ◌≢◌, ◌+◌, ℕ, refl, sym, ap, subst, ◌∙◌, inl, inr, append_assoc, true, false, List, [], ◌∷◌, ◌++◌, length}
 use Rattle.std.specs.Prelude.{Option, Some, None, slice_get}
 use Rattle.atomic_table.specs.Seated.{TableId}
 use Rattle.atomic_table.specs.Table.{Me, Step, rest, Allows}
@@ -21,13 +21,13 @@ use Rattle.law_world.proofs.OfRuns.Added.{trace_so}
 use Rattle.fkv_seats.specs.declared.held.Held.TheVariants.{Desk}
 use Rattle.fkv_seats.specs.declared.views.Role.{Role}
 use Rattle.fkv_seats.specs.declared.views.Role.TheVariants.{Sits}
-use Rattle.fkv_seats.specs.Rule.{AreOwn, AreStarts, Carries, Changes, HandFits, Quiet, Ruled, Stepped, base, led}
-use Rattle.fkv_seats.proofs.Keeps.{no_some, allows}
+use Rattle.fkv_seats.specs.Rule.{AreAllowed, AreOwn, AreStarts, Carries, Changes, HandFits, Quiet, Ruled, Stepped, base, led}
+use Rattle.fkv_seats.proofs.Keeps.{allowed_both, no_some, allows}
 use Rattle.fkv_table.specs.declared.happenings.Happening.{Happening}
 use Rattle.fkv_table.specs.declared.happenings.Happening.TheVariants.{Calls, Moves}
 use Rattle.fkv_table.specs.Calls.{AreOthers, HasCalled, HasStepped, IsReady, IsToldLast, OnlyMoves, WasIdle}
 use Rattle.fkv_table.specs.Desks.{IsAtDesk, Slot, Knows, noted, noting}
-use Rattle.fkv_table.specs.Events.{event_of}
+use Rattle.fkv_table.specs.Events.{event_of, may_stand}
 use Rattle.fkv_table.specs.Openings.{IsGuardedOpening}
 use Rattle.fkv_table.specs.Planes.{plane}
 use Rattle.fkv_table.specs.Positions.{laid}
@@ -91,9 +91,9 @@ module _ {K : Type 0} (at : K → World) where
   called_idle : (k : Seat) (s : SessionState) (call : Call) → is_busy s.step ≡ false → session_called k s call ≡ session_begun k s call
   called_idle k s call idle = rw idle refl
 
-  pub seated_first : (key : K) (desk : ℕ) (me me1 : Me Slot (Knows K)) (m m1 : Sitter) (call : Call) → IsSeated at key me [] m → is_busy m.state.step ≡ false → me.0.hand ≡ None → me1 ≡ (me.0, (desk, Desk (Calls m.seat.number call)) ∷ rest me.1)
+  pub seated_first : (key : K) (desk : ℕ) (me me1 : Me Slot (Knows K)) (m m1 : Sitter) (call : Call) → may_stand (Calls m.seat.number call) ≡ true → IsSeated at key me [] m → is_busy m.state.step ≡ false → me.0.hand ≡ None → me1 ≡ (me.0, (desk, Desk (Calls m.seat.number call)) ∷ rest me.1)
       → m1 ≡ record m { state = session_begun m.seat m.state call } → IsSeated at key me1 (noted me1.1) m1
-  seated_first key desk me me1 m m1 call sits idle empty e is =
+  seated_first key desk me me1 m m1 call may sits idle empty e is =
       subst (λ (x : Me Slot (Knows K) × Sitter). IsSeated at key x.0 (noted x.0.1) x.1) (λ i. (sym e i, sym is i)) record {
         about = sits.about;
         role = sits.role;
@@ -101,6 +101,7 @@ module _ {K : Type 0} (at : K → World) where
         first = sits.first;
         was = sits.was;
         calls = ((call, refl), tt);
+        allowed = (may, sits.allowed);
         state = sym (called_idle m.seat m.state call idle) ∙ ap (λ (s : SessionState). session_called m.seat s call) sits.state;
         hand = subst (λ (h : Option ℕ). HandFits (plane at) (at key) me.0.seen h ((desk, Desk (Calls m.seat.number call)) ∷ rest me.1)) (sym empty) tt;
       }
@@ -133,6 +134,9 @@ module _ {K : Type 0} (at : K → World) where
     call_own : AreOwn (plane at) me.0.role (Calls n call ∷ [])
     call_own = subst (λ (role : Role). AreOwn (plane at) role (Calls n call ∷ [])) (sym sits.role) (same_number n, tt)
 
+    all_allowed : AreAllowed (plane at) (Calls n call ∷ me.0.seen)
+    all_allowed = subst (λ (own : List Happening). AreAllowed (plane at) (own ++ me.0.seen)) note sits.allowed
+
     unchanged : (i : ℕ) → Changes (plane at) key me.0 [] (Calls n call) i (λ (word : ℕ). word)
     unchanged i later q = ap laid (start_words at (at key) n (Calls n call ∷ []) (later ++ me.0.seen) opens.opened.goes_on ((call, refl), tt)) ∙ sym (set_found (laid (led (plane at) (at key) (later ++ me.0.seen)).now.words) i)
 
@@ -143,7 +147,7 @@ module _ {K : Type 0} (at : K → World) where
         let same : key ≡ other = same_some key other (sym sits.about ∙ about) in
         let start : Calls n call ≡ its = same_head (Calls n call) its (sym note ∙ on) in
         subst (λ (x : K × ℕ × Happening). Stepped (plane at) (at x.0) me.0 me.1 x.1 [] x.2 k m') (λ j. (same j, sym word j, start j)) t)
-        (allows (plane at) key slots id me.0 me.1 i (λ (word : ℕ). word) [] (Calls n call) (slot_facts at (at key) opens) call_own (no_starts (at key)) sits.hand (unchanged i))
+        (allows (plane at) key slots id me.0 me.1 i (λ (word : ℕ). word) [] (Calls n call) (slot_facts at (at key) opens) call_own (all_allowed.0, tt) (no_starts (at key)) sits.hand (unchanged i))
 
     module _ (me' : Me Slot (Knows K)) (i word : ℕ) (t : Stepped (plane at) (at key) me.0 me.1 i [] (Calls n call) word me') where
       abbrev seen' : List Happening
@@ -160,6 +164,7 @@ module _ {K : Type 0} (at : K → World) where
         first = m.state;
         was = ap (λ (seen : List Happening). slice_get (led (plane at) (at key) seen).now.sessions n) t.seen ∙ stood;
         calls = tt;
+        allowed = subst (AreAllowed (plane at)) (sym t.seen) (all_allowed.0, allowed_both (plane at) t.others me.0.seen t.allowed all_allowed.1);
         state = refl;
         hand = subst (λ (h : Option ℕ). HandFits (plane at) (at key) me'.0.seen h me'.1) (sym t.hand) tt;
       }

@@ -212,7 +212,7 @@ module _ {K : Type 0} (at : K → World) where
         ap (λ (n : Now). n.keeper) (device_called x true done (alive at (at key) behind guard.opened.goes_on) asks_x) in
         let same : keeper_called x.now.shape x.now.places x.now.keeper done (read_by_keeper x) ≡ keeper_called k.shape k.places k.state done (keeper_read k shown) =
         λ i. keeper_called ((shape_so at (at key) behind ∙ sym its.shape) i) ((places_so at (at key) behind ∙ sym its.places) i) (there at key me k guard its noted.others noted.quiet i) done (sym read_is i) in
-        keeping_on at key me k guard its (KeeperMoves true done) me' k' noted (ap (λ (m : KeeperModel). m.shape) goes) (ap (λ (m : KeeperModel). m.places) goes) (ap (λ (m : KeeperModel). m.state) goes ∙ sym (now ∙ same))
+        keeping_on at key me k guard its (KeeperMoves true done) me' k' noted refl (ap (λ (m : KeeperModel). m.shape) goes) (ap (λ (m : KeeperModel). m.places) goes) (ap (λ (m : KeeperModel). m.state) goes ∙ sym (now ∙ same))
 
     made_is : (led (plane at) (at key) me'.0.seen).past.calls ≡ keeper_calls k.shape k.state done ++ p.calls
     unfolding led

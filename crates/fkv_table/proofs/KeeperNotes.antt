@@ -22,12 +22,12 @@ use Rattle.law_world.proofs.OfRuns.Added.{calls_stay}
 use Rattle.law_world.proofs.OfRuns.Starts.{commit_starts, device_called, turn_starts}
 use Rattle.fkv_seats.specs.declared.views.Role.{Role}
 use Rattle.fkv_seats.specs.declared.views.Role.TheVariants.{Rest}
-use Rattle.fkv_seats.specs.Rule.{Carries, Changes, HandFits, Quiet, Ruled, Stepped, base, led, speaks}
-use Rattle.fkv_seats.proofs.Keeps.{allows}
+use Rattle.fkv_seats.specs.Rule.{AreAllowed, Carries, Changes, HandFits, Quiet, Ruled, Stepped, base, led, speaks}
+use Rattle.fkv_seats.proofs.Keeps.{allowed_both, allows}
 use Rattle.fkv_table.specs.declared.happenings.Happening.{Happening}
 use Rattle.fkv_table.specs.declared.happenings.Happening.TheVariants.{Calls, Moves, Commits, Turns, KeeperMoves}
 use Rattle.fkv_table.specs.Desks.{Slot, Knows}
-use Rattle.fkv_table.specs.Events.{actor_of, event_of}
+use Rattle.fkv_table.specs.Events.{actor_of, event_of, may_stand}
 use Rattle.fkv_table.specs.Keeps.{IsKeeping, IsNoted, Spares, adding}
 use Rattle.fkv_table.specs.Openings.{IsGuardedOpening}
 use Rattle.fkv_table.specs.Planes.{plane}
@@ -84,7 +84,7 @@ module _ {K : Type 0} (at : K → World) where
       → HandFits (plane at) (at key) me.0.seen me.0.hand me.1 → Allows (Ruled (plane at) key) slots id me 0 (λ n. n) (adding at its (step slots 0 0 0 none) me)
   may_note key slots id me its guard about spares hand s h l g b =
       let changes : Changes (plane at) key me.0 [] its 0 (λ n. n) = λ later q. ap laid (spares.words later q) ∙ sym (set_found (laid (led (plane at) (at key) (later ++ me.0.seen)).now.words) 0) in
-      let t = allows (plane at) key slots id me.0 me.1 0 (λ n. n) [] its (slot_facts at (at key) guard) (spares.own, tt) (record { words = λ es. refl; actions = λ es. refl }) hand changes s h l g b in
+      let t = allows (plane at) key slots id me.0 me.1 0 (λ n. n) [] its (slot_facts at (at key) guard) (spares.own, tt) (spares.allowed, tt) (record { words = λ es. refl; actions = λ es. refl }) hand changes s h l g b in
       (t.0, t.1, t.2, t.3, λ other is. subst (λ (x : K). Stepped (plane at) (at x) me.0 me.1 0 [] its (get_or s.words 0 0) (t.0, carried_after me.1 t.1)) (same_some key other (sym about ∙ is)) t.4)
 
   pub noted_so : (key : K) (slots : ℕ) (me me' : Me Slot (Knows K)) (its : Happening) (n : ℕ) → me.0.about ≡ Some key → Spares at key me its → adding at its (step slots 0 0 0 none) me n me' → IsNoted at key me its me'
@@ -94,6 +94,7 @@ module _ {K : Type 0} (at : K → World) where
       record {
         others = t.others;
         quiet = t.quiet;
+        allowed = t.allowed;
         seen = t.seen;
         about = t.about;
         role = t.role;
@@ -123,6 +124,7 @@ module _ {K : Type 0} (at : K → World) where
     unfolding led
     spares_turn = record {
       own = own Turns refl;
+      allowed = refl;
       words = λ others q. ap (λ (n : Now). n.words) (turn_starts (led (plane at) w (others ++ me.0.seen)) (alive at w (others ++ me.0.seen) guard.opened.goes_on));
       slot = λ others q. refl;
     }
@@ -131,6 +133,7 @@ module _ {K : Type 0} (at : K → World) where
     unfolding led
     spares_commit kind = record {
       own = own (Commits kind) refl;
+      allowed = refl;
       words = λ others q. ap (λ (n : Now). n.words) (commit_starts (led (plane at) w (others ++ me.0.seen)) kind (alive at w (others ++ me.0.seen) guard.opened.goes_on));
       slot = λ others q. refl;
     }
@@ -139,6 +142,7 @@ module _ {K : Type 0} (at : K → World) where
     unfolding led
     spares_call granted done asks = record {
       own = own (KeeperMoves granted done) refl;
+      allowed = refl;
       words = λ others q. ap (λ (n : Now). n.words) (device_called (led (plane at) w (others ++ me.0.seen)) granted done (alive at w (others ++ me.0.seen) guard.opened.goes_on) (ask_there others q ∙ asks));
       slot = λ others q.
           let n : Now = (led (plane at) w (others ++ me.0.seen)).now in
@@ -146,14 +150,15 @@ module _ {K : Type 0} (at : K → World) where
     }
 
     -- behind an event that is noted it is the keeper's seat still
-    pub keeping_on : (e : Happening) (me' : Me Slot (Knows K)) (k' : KeeperModel) (noted : IsNoted at key me e me') → k'.shape ≡ k.shape → k'.places ≡ k.places
+    pub keeping_on : (e : Happening) (me' : Me Slot (Knows K)) (k' : KeeperModel) (noted : IsNoted at key me e me') → may_stand e ≡ true → k'.shape ≡ k.shape → k'.places ≡ k.places
         → k'.state ≡ (led (plane at) w (e ∷ (noted.others ++ me.0.seen))).now.keeper → IsKeeping at key me' k'
-    keeping_on e me' k' noted same also is = record {
+    keeping_on e me' k' noted may same also is = record {
       about = noted.about ∙ its.about;
       from = its.from;
       role = noted.role ∙ its.role;
       shape = same ∙ its.shape;
       places = also ∙ its.places;
+      allowed = subst (AreAllowed (plane at)) (sym noted.seen) (may, allowed_both (plane at) noted.others me.0.seen noted.allowed its.allowed);
       state = is ∙ ap (λ (es : List Happening). (led (plane at) w es).now.keeper) (sym noted.seen);
       hand = subst (λ (hand : Option ℕ). HandFits (plane at) w me'.0.seen hand me'.1) (sym noted.hand) tt;
       alone = subst (λ (hand : Option ℕ). base (plane at) hand me'.1 ≡ []) (sym noted.hand) (noted.held ∙ its.alone);
@@ -165,7 +170,7 @@ module _ {K : Type 0} (at : K → World) where
         let x : World = led (plane at) w (noted.others ++ me.0.seen) in
         let now : (happens x (event_of Turns)).now.keeper ≡ keeper_asked x.now.keeper (turn_asked x.now.keeper) = ap (λ (n : Now). n.keeper) (turn_starts x (alive at w (noted.others ++ me.0.seen) guard.opened.goes_on)) in
         let same : keeper_asked x.now.keeper (turn_asked x.now.keeper) ≡ turn_asked k.state = ap (λ (s : KeeperState). keeper_asked s (turn_asked s)) (there noted.others noted.quiet) ∙ begun_so k.state (turn_asked k.state) idle in
-        keeping_on Turns me' k' noted (ap (λ (m : KeeperModel). m.shape) goes) (ap (λ (m : KeeperModel). m.places) goes) (ap (λ (m : KeeperModel). m.state) goes ∙ sym (now ∙ same))
+        keeping_on Turns me' k' noted refl (ap (λ (m : KeeperModel). m.shape) goes) (ap (λ (m : KeeperModel). m.places) goes) (ap (λ (m : KeeperModel). m.state) goes ∙ sym (now ∙ same))
 
     pub commit_on : (kind : CommitKind) (me' : Me Slot (Knows K)) (k' : KeeperModel) → is_in_hand k.state.step ≡ false → IsNoted at key me (Commits kind) me' → k' ≡ record k { state = commit_asked k.state kind } → IsKeeping at key me' k'
     unfolding led
@@ -173,4 +178,4 @@ module _ {K : Type 0} (at : K → World) where
         let x : World = led (plane at) w (noted.others ++ me.0.seen) in
         let now : (happens x (event_of (Commits kind))).now.keeper ≡ keeper_asked x.now.keeper (commit_asked x.now.keeper kind) = ap (λ (n : Now). n.keeper) (commit_starts x kind (alive at w (noted.others ++ me.0.seen) guard.opened.goes_on)) in
         let same : keeper_asked x.now.keeper (commit_asked x.now.keeper kind) ≡ commit_asked k.state kind = ap (λ (s : KeeperState). keeper_asked s (commit_asked s kind)) (there noted.others noted.quiet) ∙ begun_so k.state (commit_asked k.state kind) idle in
-        keeping_on (Commits kind) me' k' noted (ap (λ (m : KeeperModel). m.shape) goes) (ap (λ (m : KeeperModel). m.places) goes) (ap (λ (m : KeeperModel). m.state) goes ∙ sym (now ∙ same))
+        keeping_on (Commits kind) me' k' noted refl (ap (λ (m : KeeperModel). m.shape) goes) (ap (λ (m : KeeperModel). m.places) goes) (ap (λ (m : KeeperModel). m.state) goes ∙ sym (now ∙ same))

@@ -28,8 +28,8 @@ use Rattle.law_world.specs.Runs.Ends.{KeeperStandsAtNoSlot, asks_left_of_keeper}
 use Rattle.law_world.proofs.OfRuns.Ends.{keeper_down}
 use Rattle.law_world.proofs.OfGuarded.Ends.{life_keeper_stands}
 use Rattle.fkv_seats.specs.declared.held.Held.TheVariants.{Drain}
-use Rattle.fkv_seats.specs.Rule.{Carries, HandFits, action_in, base, flat, led}
-use Rattle.fkv_seats.proofs.Keeps.{no_some}
+use Rattle.fkv_seats.specs.Rule.{AreAllowed, Carries, HandFits, action_in, base, flat, led}
+use Rattle.fkv_seats.proofs.Keeps.{allowed_both, no_some}
 use Rattle.fkv_table.specs.declared.happenings.Happening.{Happening}
 use Rattle.fkv_table.specs.declared.happenings.Happening.TheVariants.{KeeperMoves}
 use Rattle.fkv_table.specs.Desks.{Slot, Knows}
@@ -245,6 +245,7 @@ module _ {K : Type 0} (at : K → World) where
         role = ap (λ (v : Knows K). v.role) same.0 ∙ (r.role ∙ its.role);
         shape = same.1 ∙ (r.store.0 ∙ its.shape);
         places = same.2 ∙ (r.store.1 ∙ its.places);
+        allowed = subst (AreAllowed (plane at)) (sym seen_is) (refl, allowed_both (plane at) r.others me.0.seen r.allowed its.allowed);
         state =
             sym (state_so me' k' ask is hand_is r.carries t)
             ∙ (ap (λ (z : Near KeeperState). z.machine) (sym settled_is) ∙ (sym (ap (λ (z : Now). z.keeper) after_now) ∙ ap (λ (es : List Happening). (led (plane at) (at key) es).now.keeper) (sym seen_is)));

@@ -73,7 +73,7 @@ module _ {K : Type 0} (at : K → World) where
   may_keep key slots id me k event granted asks guard its is same place e =
       let named : asked_place (keeper_ask k.shape k.places k.state) ≡ Some place = ap asked_place (sym same) ∙ e in
       let word_is = step_word slots asks place e in
-      let done = allows (plane at) key slots id me.0 me.1 (position place) (asked (keeper_ask k.shape k.places k.state)) [] (KeeperMoves granted true) (slot_facts at (at key) guard) (own at key me k guard its (KeeperMoves granted true) refl, tt)
+      let done = allows (plane at) key slots id me.0 me.1 (position place) (asked (keeper_ask k.shape k.places k.state)) [] (KeeperMoves granted true) (slot_facts at (at key) guard) (own at key me k guard its (KeeperMoves granted true) refl, tt) (refl, tt)
       (record { words = λ es. refl; actions = λ es. refl }) its.hand (changes key me k guard its granted place named) in
       let same_ask : Allows (Ruled (plane at) key) slots id me (position place) (asked asks) (λ n m'. Stepped (plane at) (at key) me.0 me.1 (position place) [] (KeeperMoves granted true) n m') =
       subst (λ (a : Ask KeeperTold). Allows (Ruled (plane at) key) slots id me (position place) (asked a) (λ n m'. Stepped (plane at) (at key) me.0 me.1 (position place) [] (KeeperMoves granted true) n m')) (sym same) done in
@@ -105,6 +105,7 @@ module _ {K : Type 0} (at : K → World) where
         store = (ap (λ (z : KeeperModel). z.shape) went, ap (λ (z : KeeperModel). z.places) went);
         others = t.others;
         quiet = t.quiet;
+        allowed = t.allowed;
         seen = t.seen ∙ ap (λ (h : Happening). h ∷ (t.others ++ me.0.seen)) is;
         about = t.about;
         role = t.role;

@@ -24,6 +24,7 @@ use Rattle.fkv_table.specs.declared.happenings.Happening.TheVariants.{Calls}
 use Rattle.fkv_table.specs.Asks.{step_of}
 use Rattle.fkv_table.specs.Calls.{HasCalled, HasStepped}
 use Rattle.fkv_table.specs.Desks.{Slot, Knows, noted, turned}
+use Rattle.fkv_table.specs.Events.{op_fits}
 use Rattle.fkv_table.specs.Lines.{HasCome, HasLed, HasReplied, IsAlong, LineModel, come_to, session_in, session_or, sitter, stands}
 use Rattle.fkv_table.specs.Openings.{IsGuardedOpening}
 use Rattle.fkv_table.specs.Planes.{plane}
@@ -249,13 +250,13 @@ module _ {K : Type 0} (at : K → World) where
       pub front : (old : Slot) × (l.me.1 ≡ (l.desk, old) ∷ rest l.me.1)
       front = at_front at l.desk l.me along.at_desk empty_here
 
-      module _ (op : Op) (me1 : Me Slot (Knows K)) (e : me1 ≡ (l.me.0, (l.desk, Desk (Calls l.machine.seat.number (call.Op op))) ∷ rest l.me.1)) where
+      module _ (op : Op) (fits : op_fits op ≡ true) (me1 : Me Slot (Knows K)) (e : me1 ≡ (l.me.0, (l.desk, Desk (Calls l.machine.seat.number (call.Op op))) ∷ rest l.me.1)) where
         abbrev start_note : Slot
         start_note = Desk (Calls k.number (call.Op op))
 
         pub begun_here : IsSeated at l.key me1 (noted me1.1) (record l.machine { state = begins k (stands at l) op })
         unfolding begins
-        begun_here = seated_first at l.key l.desk l.me me1 (sitter at l) (record l.machine { state = begins k (stands at l) op }) (call.Op op) rests_here idle empty_here e refl
+        begun_here = seated_first at l.key l.desk l.me me1 (sitter at l) (record l.machine { state = begins k (stands at l) op }) (call.Op op) fits rests_here idle empty_here e refl
 
         alone_now : base (plane at) me1.0.hand me1.1 ≡ (l.desk, start_note) ∷ []
         alone_now =

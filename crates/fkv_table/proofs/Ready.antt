@@ -12,8 +12,8 @@ use Rattle.fkv_world.proofs.Shown.{session_apart}
 use Rattle.law_world.proofs.OfRuns.Nothing.{no_session}
 use Rattle.fkv_seats.specs.declared.views.Role.{Role}
 use Rattle.fkv_seats.specs.declared.views.Role.TheVariants.{Sits}
-use Rattle.fkv_seats.specs.Rule.{GoesOn, HandFits, Quiet, base, desk_of, led}
-use Rattle.fkv_seats.proofs.Keeps.{same_or}
+use Rattle.fkv_seats.specs.Rule.{AreAllowed, GoesOn, HandFits, Quiet, base, desk_of, led}
+use Rattle.fkv_seats.proofs.Keeps.{allowed_both, same_or}
 use Rattle.fkv_table.specs.declared.happenings.Happening.{Happening}
 use Rattle.fkv_table.specs.declared.happenings.Happening.TheVariants.{Calls, Moves, Commits, Turns, KeeperMoves}
 use Rattle.fkv_table.specs.Calls.{IsReady}
@@ -94,6 +94,7 @@ module _ {K : Type 0} (at : K → World) where
               first = r.rests.seated.first;
               was = ap (λ (es : List Happening). slice_get (led (plane at) (at key) es).now.sessions m.seat.number) on.whole ∙ (quiet_session at (at key) m.seat.number on.between me.0.seen quiet ∙ r.rests.seated.was);
               calls = tt;
+              allowed = subst (AreAllowed (plane at)) (sym on.whole) (allowed_both (plane at) on.between me.0.seen on.allowed r.rests.seated.allowed);
               state = r.rests.seated.state;
               hand = subst (λ (hand : Option ℕ). HandFits (plane at) (at key) me'.0.seen hand me'.1) (sym empty) tt;
             };

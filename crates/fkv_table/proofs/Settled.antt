@@ -30,8 +30,8 @@ use Rattle.law_world.proofs.OfRuns.Nothing.{none_ever}
 use Rattle.law_world.proofs.OfGuarded.Ends.{life_ended, life_stands}
 use Rattle.fkv_seats.specs.declared.held.Held.TheVariants.{Drain}
 use Rattle.fkv_seats.specs.declared.views.Role.TheVariants.{Sits}
-use Rattle.fkv_seats.specs.Rule.{Carries, HandFits, action_in, base, flat, led}
-use Rattle.fkv_seats.proofs.Keeps.{no_some}
+use Rattle.fkv_seats.specs.Rule.{AreAllowed, Carries, HandFits, action_in, base, flat, led}
+use Rattle.fkv_seats.proofs.Keeps.{allowed_both, allowed_first, allowed_last, no_some}
 use Rattle.fkv_table.specs.declared.happenings.Happening.{Happening}
 use Rattle.fkv_table.specs.declared.happenings.Happening.TheVariants.{Moves}
 use Rattle.fkv_table.specs.Calls.{IsToldLast}
@@ -241,6 +241,9 @@ module _ {K : Type 0} (at : K → World) where
       seen_is : me'.0.seen ≡ Moves n ∷ behind
       seen_is = ap (λ (v : Knows K). v.seen) (same_view me' m' ask t).0 ∙ r.seen
 
+      all_allowed : AreAllowed (plane at) (Moves n ∷ behind)
+      all_allowed = (refl, allowed_both (plane at) own (r.others ++ me.0.seen) (allowed_first (plane at) own me.0.seen sits.allowed) (allowed_both (plane at) r.others me.0.seen r.allowed (allowed_last (plane at) own me.0.seen sits.allowed)))
+
       pub seat_on : m'.seat ≡ m.seat
       seat_on = (same_view me' m' ask t).1 ∙ r.seat
 
@@ -268,6 +271,7 @@ module _ {K : Type 0} (at : K → World) where
         first = m'.state;
         was = ap (λ (z : List Happening × Seat). slice_get (led (plane at) (at key) z.0).now.sessions z.1.number) (λ i. (seen_is i, seat_on i)) ∙ now_there;
         calls = tt;
+        allowed = subst (AreAllowed (plane at)) (sym seen_is) all_allowed;
         state = refl;
         hand = subst (λ (z : List Happening × Option ℕ). HandFits (plane at) (at key) z.0 z.1 me'.1) (λ i. (sym seen_is i, sym hand' i)) (hand_so y me' m' ask (Moves n ∷ behind) refl acts deep t);
       }

@@ -23,6 +23,7 @@ use Rattle.fkv_table.specs.declared.happenings.Happening.TheVariants.{Calls}
 use Rattle.fkv_table.specs.Asks.{step_of}
 use Rattle.fkv_table.specs.Calls.{IsToldLast}
 use Rattle.fkv_table.specs.Desks.{Slot, Knows, noted, turned}
+use Rattle.fkv_table.specs.Events.{may_stand}
 use Rattle.fkv_table.specs.Openings.{IsGuardedOpening}
 use Rattle.fkv_table.specs.Planes.{plane}
 use Rattle.fkv_table.specs.Sits.{IsAsked, IsIdleEmpty, IsSeated, RepliedIn, Rests, Settled, StandsIn, Went}
@@ -87,13 +88,13 @@ left_alike k s t alike =
 
 module _ {K : Type 0} (at : K → World) where
   -- ---- a call begins
-  pub first_in : (key : K) (desk : ℕ) (me me1 : Me Slot (Knows K)) (m m1 : Sitter) (call : Call) → (r : Rests at key me m) → me.0.hand ≡ None → me1 ≡ (me.0, (desk, Desk (Calls m.seat.number call)) ∷ rest me.1)
+  pub first_in : (key : K) (desk : ℕ) (me me1 : Me Slot (Knows K)) (m m1 : Sitter) (call : Call) → may_stand (Calls m.seat.number call) ≡ true → (r : Rests at key me m) → me.0.hand ≡ None → me1 ≡ (me.0, (desk, Desk (Calls m.seat.number call)) ∷ rest me.1)
       → m1 ≡ record m { state = session_begun m.seat m.state call } → StandAlike (session_begun m.seat m.state call) (session_begun m.seat r.its call) → StandsIn at key me1 (noted me1.1) m1
-  first_in key desk me me1 m m1 call r empty e is alike =
+  first_in key desk me me1 m m1 call may r empty e is alike =
       let s : SessionState = session_begun m.seat r.its call in
       record {
         its = s;
-        seated = subst (λ (x : Sitter). IsSeated at key me1 (noted me1.1) (record x { state = s })) (sym is) (seated_first at key desk me me1 (record m { state = r.its }) (record m { state = s }) call r.seated r.idle empty e refl);
+        seated = subst (λ (x : Sitter). IsSeated at key me1 (noted me1.1) (record x { state = s })) (sym is) (seated_first at key desk me me1 (record m { state = r.its }) (record m { state = s }) call may r.seated r.idle empty e refl);
         alike = subst (λ (x : Sitter). StandAlike x.state s) (sym is) alike;
       }
 

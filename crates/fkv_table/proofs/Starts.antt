@@ -18,7 +18,7 @@ use Rattle.fkv_world.specs.Runs.{World}
 use Rattle.fkv_world.specs.World.{seat_at}
 use Rattle.fkv_seats.specs.declared.held.Held.TheVariants.{Drain}
 use Rattle.fkv_seats.specs.declared.views.Role.TheVariants.{Sits}
-use Rattle.fkv_seats.specs.Rule.{HandFits, Ruled, SatDown, action_in, base, desk_of, first_view, led, left_view, right_view, with_desk}
+use Rattle.fkv_seats.specs.Rule.{AreAllowed, HandFits, Ruled, SatDown, action_in, base, desk_of, first_view, led, left_view, right_view, with_desk}
 use Rattle.fkv_seats.proofs.Seats.{opens, splits}
 use Rattle.fkv_table.specs.declared.happenings.Happening.{Happening}
 use Rattle.fkv_table.specs.Desks.{Slot, Knows}
@@ -114,6 +114,7 @@ module _ {K : Type 0} (at : K → World) (key : K) where
               first = m.state;
               was = (λ i. slice_get (led (plane at) (at key) (nothing i)).now.sessions (number_is i)) ∙ there;
               calls = tt;
+              allowed = subst (AreAllowed (plane at)) (sym nothing) tt;
               state = refl;
               hand = subst (λ (hand : Option ℕ). HandFits (plane at) (at key) me.0.seen hand me.1) (sym empty) tt;
             };
@@ -152,6 +153,7 @@ module _ {K : Type 0} (at : K → World) (key : K) where
             role = ap (λ (v : Knows K). v.role) view;
             shape = ap (λ (x : KeeperModel). x.shape) its;
             places = ap (λ (x : KeeperModel). x.places) its;
+            allowed = subst (AreAllowed (plane at)) (sym nothing) tt;
             state = ap (λ (x : KeeperModel). x.state) its ∙ sym (ap (λ (es : List Happening). (led (plane at) (at key) es).now.keeper) nothing);
             hand = subst (λ (hand : Option ℕ). HandFits (plane at) (at key) me.0.seen hand me.1) (sym empty) tt;
             alone = subst (λ (hand : Option ℕ). base (plane at) hand me.1 ≡ []) (sym empty) held;

@@ -15,8 +15,8 @@ use Rattle.fkv_world.specs.Runs.{World}
 use Rattle.fkv_world.specs.World.{seat_at}
 use Rattle.fkv_seats.specs.declared.views.Role.{Role}
 use Rattle.fkv_seats.specs.declared.views.Role.TheVariants.{Sits}
-use Rattle.fkv_seats.specs.Rule.{AreOwn, Changes, Quiet, Ruled, Stepped, led, number_of}
-use Rattle.fkv_seats.proofs.Keeps.{no_some, allows}
+use Rattle.fkv_seats.specs.Rule.{AreAllowed, AreOwn, Changes, Quiet, Ruled, Stepped, led, number_of}
+use Rattle.fkv_seats.proofs.Keeps.{allowed_first, no_some, allows}
 use Rattle.fkv_table.specs.declared.happenings.Happening.{Happening}
 use Rattle.fkv_table.specs.declared.happenings.Happening.TheVariants.{Moves}
 use Rattle.fkv_table.specs.Asks.{step_of}
@@ -86,6 +86,9 @@ module _ {K : Type 0} (at : K → World) where
     mine : AreOwn (plane at) me.0.role (Moves n ∷ own)
     mine = subst (λ (role : Role). AreOwn (plane at) role (Moves n ∷ own)) (sym sits.role) (own_step at n own sits.calls)
 
+    may : AreAllowed (plane at) (Moves n ∷ own)
+    may = (refl, allowed_first (plane at) own me.0.seen sits.allowed)
+
     pub low : (place : ℕ) → asked_place (session_ask m.seat m.state) ≡ Some place → place < word_count w.now.places
     low place e = place_within at w opens (own ++ me.0.seen) n place m.state (standing [] tt) (ap (λ (k : Seat). asked_place (session_ask k m.state)) (sym sits.chair) ∙ e)
 
@@ -112,7 +115,7 @@ module _ {K : Type 0} (at : K → World) where
       let named : asked_place (session_ask m.seat m.state) ≡ Some place = ap asked_place (sym is) ∙ e in
       let word_is = step_word slots ask place e in
       let number_is : m.seat.number ≡ number_of me.0.role = ap number_of (sym sits.role) in
-      let done = allows (plane at) key slots id me.0 me.1 (position place) (asked (session_ask m.seat m.state)) (own me.1) (Moves m.seat.number) (slot_facts at (at key) opens) (mine key me (own me.1) m opens sits)
+      let done = allows (plane at) key slots id me.0 me.1 (position place) (asked (session_ask m.seat m.state)) (own me.1) (Moves m.seat.number) (slot_facts at (at key) opens) (mine key me (own me.1) m opens sits) (may key me (own me.1) m opens sits)
       (are_starts at (at key) m.seat.number (own me.1) opens.opened.goes_on sits.calls) sits.hand (changes key me (own me.1) m opens sits place named) in
       let same_ask : Allows (Ruled (plane at) key) slots id me (position place) (asked ask) (λ n m'. Stepped (plane at) (at key) me.0 me.1 (position place) (own me.1) (Moves m.seat.number) n m') =
       subst (λ (a : Ask Told). Allows (Ruled (plane at) key) slots id me (position place) (asked a) (λ n m'. Stepped (plane at) (at key) me.0 me.1 (position place) (own me.1) (Moves m.seat.number) n m')) (sym is) done in
@@ -150,6 +153,7 @@ module _ {K : Type 0} (at : K → World) where
         seat = seat_is;
         others = t.others;
         quiet = t.quiet;
+        allowed = t.allowed;
         seen = t.seen ∙ ap (λ (n : ℕ). Moves n ∷ before) number_is;
         about = t.about;
         role = t.role;

@@ -17,22 +17,23 @@ use Rattle.fkv_world.specs.Past.{Past}
 use Rattle.fkv_world.specs.Runs.{World}
 use Rattle.fkv_seats.specs.declared.held.Held.TheVariants.{Drain}
 use Rattle.fkv_seats.specs.declared.views.Role.TheVariants.{Rest}
-use Rattle.fkv_seats.specs.Rule.{Carries, HandFits, IsSeenBy, Quiet, Stepped, base, led, speaks}
+use Rattle.fkv_seats.specs.Rule.{AreAllowed, Carries, HandFits, IsSeenBy, Quiet, Stepped, base, led, speaks}
 use Rattle.fkv_table.specs.declared.happenings.Happening.{Happening}
 use Rattle.fkv_table.specs.declared.happenings.Happening.TheVariants.{KeeperMoves}
 use Rattle.fkv_table.specs.Desks.{Slot, Knows}
-use Rattle.fkv_table.specs.Events.{actor_of, event_of}
+use Rattle.fkv_table.specs.Events.{actor_of, event_of, may_stand}
 use Rattle.fkv_table.specs.Openings.{IsGuardedOpening, IsTableOf}
 use Rattle.fkv_table.specs.Planes.{plane}
 
 module _ {K : Type 0} (at : K → World) where
-  -- The seat is the keeper's of this store, which has no desk in hand, and the machine is what the events that it has seen have led it to.
+  -- The seat is the keeper's of this store, which has no desk in hand, and the machine is what the events that it has seen have led it to. All of these may stand in the list.
   pub record IsKeeping (key : K) (me : Me Slot (Knows K)) (k : KeeperModel) : Type 0 where
     pub about : me.0.about ≡ Some key
     pub from : ℕ
     pub role : me.0.role ≡ Rest from
     pub shape : k.shape ≡ (at key).now.shape
     pub places : k.places ≡ (at key).now.places
+    pub allowed : AreAllowed (plane at) me.0.seen
     pub state : k.state ≡ (led (plane at) (at key) me.0.seen).now.keeper
     pub hand : HandFits (plane at) (at key) me.0.seen me.0.hand me.1
     pub alone : base (plane at) me.0.hand me.1 ≡ []
@@ -78,9 +79,10 @@ module _ {K : Type 0} (at : K → World) where
   abbrev pub adding : Happening → Step Slot → Me Slot (Knows K) → ℕ → Me Slot (Knows K) → Type 0
   adding its st m n m' = (key : K) → m.0.about ≡ Some key → Stepped (plane at) (at key) m.0 m.1 st.word [] its n m'
 
-  -- An event of whom the seat speaks for changes no word and turns to no slot, whatever others have done before it.
+  -- An event of whom the seat speaks for may stand in the list, changes no word and turns to no slot, whatever others have done before it.
   pub record Spares (key : K) (me : Me Slot (Knows K)) (its : Happening) : Type 0 where
     pub own : speaks me.0.role (actor_of its) ≡ true
+    pub allowed : may_stand its ≡ true
     pub words : (others : List Happening) → Quiet (plane at) me.0.role others
         → (led (plane at) (at key) (its ∷ (others ++ me.0.seen))).now.words ≡ (led (plane at) (at key) (others ++ me.0.seen)).now.words
     pub slot : (others : List Happening) → Quiet (plane at) me.0.role others → slot_named (led (plane at) (at key) (others ++ me.0.seen)).now (event_of its) ≡ None
@@ -89,6 +91,7 @@ module _ {K : Type 0} (at : K → World) where
   pub record IsNoted (key : K) (me : Me Slot (Knows K)) (its : Happening) (me' : Me Slot (Knows K)) : Type 0 where
     pub others : List Happening
     pub quiet : Quiet (plane at) me.0.role others
+    pub allowed : AreAllowed (plane at) others
     pub seen : me'.0.seen ≡ its ∷ (others ++ me.0.seen)
     pub about : me'.0.about ≡ me.0.about
     pub role : me'.0.role ≡ me.0.role
@@ -100,6 +103,7 @@ module _ {K : Type 0} (at : K → World) where
     pub store : (k'.shape ≡ k.shape) × (k'.places ≡ k.places)
     pub others : List Happening
     pub quiet : Quiet (plane at) me.0.role others
+    pub allowed : AreAllowed (plane at) others
     pub seen : me'.0.seen ≡ KeeperMoves granted true ∷ (others ++ me.0.seen)
     pub about : me'.0.about ≡ me.0.about
     pub role : me'.0.role ≡ me.0.role

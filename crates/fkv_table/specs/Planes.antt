@@ -9,14 +9,14 @@ use Rattle.fkv_core.specs.Openings.{beginning}
 use Rattle.fkv_core.specs.Worlds.{WorldModel}
 use Rattle.fkv_seats.specs.Rule.{Plane}
 use Rattle.fkv_table.specs.declared.happenings.Happening.{Happening}
-use Rattle.fkv_table.specs.Events.{actor_of, event_of}
+use Rattle.fkv_table.specs.Events.{actor_of, event_of, may_stand}
 use Rattle.fkv_table.specs.Positions.{laid}
 
 -- the world of a store as it was opened, over a device that shows these bytes
 abbrev pub opening_of : {D : Type 0} → (D → List ℕ) → Snapshot (WorldModel D) → World
 opening_of seen key = beginning key.value.now (seen key.value.device)
 
--- its words at their positions, its actions, and what each event moves
+-- its words at their positions, its actions, what each event moves, and which events may stand in the list
 abbrev pub plane : {K : Type 0} → (K → World) → Plane World Happening Action K
 plane at = record {
   opening = at;
@@ -26,4 +26,5 @@ plane at = record {
   actor = actor_of;
   names = λ w its. slot_named w.now (event_of its);
   slots = drain_slots;
+  allowed = may_stand;
 }

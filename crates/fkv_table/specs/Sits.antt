@@ -15,7 +15,7 @@ use Rattle.fkv_world.specs.Runs.{World}
 use Rattle.fkv_world.specs.World.{seat_at, session_called}
 use Rattle.fkv_seats.specs.declared.held.Held.TheVariants.{Drain}
 use Rattle.fkv_seats.specs.declared.views.Role.TheVariants.{Sits}
-use Rattle.fkv_seats.specs.Rule.{HandFits, Quiet, Carries, base, led}
+use Rattle.fkv_seats.specs.Rule.{AreAllowed, HandFits, Quiet, Carries, base, led}
 use Rattle.fkv_table.specs.declared.happenings.Happening.{Happening}
 use Rattle.fkv_table.specs.declared.happenings.Happening.TheVariants.{Calls, Moves}
 use Rattle.fkv_table.specs.Desks.{Slot, Knows}
@@ -33,6 +33,7 @@ called_after k s (its ∷ before) = called_after k s before
 
 module _ {K : Type 0} (at : K → World) where
   -- The seat is the session's of this store, and the machine is what its own events have led it to: those that it has seen, and starts that it has yet to add.
+  -- All that it has seen may stand in the list, and so may these.
   pub record IsSeated (key : K) (me : Me Slot (Knows K)) (own : List Happening) (m : Sitter) : Type 0 where
     pub about : me.0.about ≡ Some key
     pub role : me.0.role ≡ Sits m.seat.number
@@ -40,6 +41,7 @@ module _ {K : Type 0} (at : K → World) where
     pub first : SessionState
     pub was : slice_get (led (plane at) (at key) me.0.seen).now.sessions m.seat.number ≡ Some first
     pub calls : AreCalls m.seat.number own
+    pub allowed : AreAllowed (plane at) (own ++ me.0.seen)
     pub state : m.state ≡ called_after m.seat first own
     pub hand : HandFits (plane at) (at key) me.0.seen me.0.hand me.1
 
@@ -48,6 +50,7 @@ module _ {K : Type 0} (at : K → World) where
     pub seat : m'.seat ≡ m.seat
     pub others : List Happening
     pub quiet : Quiet (plane at) me.0.role others
+    pub allowed : AreAllowed (plane at) others
     pub seen : me'.0.seen ≡ Moves m.seat.number ∷ (own ++ (others ++ me.0.seen))
     pub about : me'.0.about ≡ me.0.about
     pub role : me'.0.role ≡ me.0.role

@@ -1,4 +1,8 @@
 //! What seats add to the list of events.
+ghost use Rattle.std.specs.Prelude.{◌≡◌, ℕ, true};
+ghost use Rattle.fkv_table.specs.Events.{may_stand};
+ghost use Rattle.fkv_table.specs.declared.happenings.Happening.TheVariants.{Calls};
+
 use fkv_base::CommitKind;
 use fkv_map::Call;
 
@@ -16,3 +20,9 @@ pub enum Happening {
     /// It makes its ask or its call of the device: whether memory is granted, and whether the call succeeds.
     KeeperMoves(bool, bool),
 }
+
+/// The numbers of a call are words of the machine, so its start may stand in a table's list.
+#[inline(always)]
+pub(crate) fn law_start_stands(_call: Call)
+    ensures { (number : ℕ) → may_stand (Calls number _call) ≡ true }
+{}

@@ -9,7 +9,7 @@ ghost use Rattle.fkv_table.specs.Calls.{IsReady};
 ghost use Rattle.fkv_table.specs.Lines.{HasLed, IsAlong, LineModel, stands};
 ghost use Rattle.fkv_table.specs.Planes.{opening_of};
 
-use crate::happenings::Happening;
+use crate::happenings::{Happening, law_start_stands};
 use crate::performing::perform;
 use crate::plays::{First, Next, Turn};
 use crate::rule::{Place, Words};
@@ -119,6 +119,7 @@ impl<'t, D: Device> Line for SeatLine<'t, D> {
 
     #[inline(always)]
     fn first(&mut self, op: Op, place: usize) -> u64 {
+        law_start_stands(Call::Op(op));
         let start = Happening::Calls(self.number, Call::Op(op));
         let _ = self
             .words

@@ -16,7 +16,7 @@ ghost use Rattle.fkv_table.specs.Openings.{IsTableOf};
 ghost use Rattle.fkv_table.specs.Planes.{plane, opening_of};
 ghost use Rattle.fkv_table.specs.Sits.{IsAsked, IsIdleEmpty, RepliedIn, Rests, Settled, StandsIn, Went};
 
-use crate::happenings::Happening;
+use crate::happenings::{Happening, law_start_stands};
 use crate::lines::SeatLine;
 use crate::performing::perform;
 use crate::plays::{Adds, First, Next, Notes, Turn};
@@ -196,6 +196,7 @@ fn run_by_machine<D: Device>(
     ensures told { IsToldLast (led (plane (opening_of D.seen)) (opening_of D.seen words.now.key) result.0.seat.me.0.seen) machine.new.seat.number (telling result.1 machine.new.state.finished) }
 {
     law_of_standing();
+    law_start_stands(*call);
     let start = Happening::Calls(machine.number(), *call);
     let _ = words.exchange(&mut pass.seat, desk, Held::Desk(start));
     let first = machine.begin(*call);

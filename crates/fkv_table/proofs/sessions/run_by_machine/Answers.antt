@@ -12,7 +12,7 @@ use Rattle.fkv_table.proofs.sessions.run_by_machine.Goals as goal
 pub run_begun-told-requires-clause-seated : goal.run_begun-told-requires-clause-seated
 run_begun-told-requires-clause-seated g c =
     let me = c.args.pass.seat.me in let desk = c.args.desk in let call = c.args.call.now in let m = c.args.machine.now in let rests = c.requires.ready.rests in
-    first_in (opening_of g.D.Device.seen) c.args.words.now.key desk me c.exchange.new.seat.me m c.begin-first.new.self call rests c.requires.ready.empty
+    first_in (opening_of g.D.Device.seen) c.args.words.now.key desk me c.exchange.new.seat.me m c.begin-first.new.self call (c.law_start_stands.ensures m.seat.number) rests c.requires.ready.empty
     (c.exchange.ensures.3 ∙ ap (λ (n : ℕ). (me.0, (desk, Desk (Calls n call)) ∷ rest me.1)) c.number.ensures.value) c.begin-first.ensures.next (c.law_of_standing.ensures.begins m.seat m.state rests.its call rests.alike)
 
 pub returns-clause-ready : goal.returns-clause-ready

@@ -28,11 +28,11 @@ perform-reply-requires g c =
     let l = line_of s.words.now.key s.words.now.table_id s.seat.me s.machine.value s.desk s.replies.items in
     let along = c.self.invariant.2 in
     let idle : is_busy (stands at l).step ≡ false = subst (λ z. is_busy (stands at z).step ≡ false) (sym c.self.view_is) c.requires.idle in
-    let me1 = c.exchange.new.seat.me in
+    let me1 = c.exchange.new.seat.me in let fits = c.law_start_stands.ensures 0 in
     let e : me1 ≡ (l.me.0, (l.desk, Desk (Calls k.number (call.Op op))) ∷ rest l.me.1) = c.exchange.ensures.3 ∙ ap (λ n. (l.me.0, (l.desk, Desk (Calls n (call.Op op))) ∷ rest l.me.1)) c.self.invariant.1 in
     let asks : asked k (begins k (stands at l) op) ≡ Load c.args.place = subst (λ z. asked z.machine.seat (begins z.machine.seat (stands at z) op) ≡ Load c.args.place) (sym c.self.view_is) c.requires.asked in
     let its = asked_is k (begins k (stands at l) op) (Load c.args.place) asks in
-    let sits = begun_here at l along idle op me1 e in
+    let sits = begun_here at l along idle op fits me1 e in
     record {
       table = c.exchange.ensures.0 ∙ c.self.invariant.0;
       word = within at l.key l.table me1 (noted me1.1) (record l.machine { state = begins k (stands at l) op }) (Load c.args.place) along.opened sits its (c.args.place, refl);
@@ -45,13 +45,13 @@ invariant_of-self g c =
     let l = line_of s.words.now.key s.words.now.table_id s.seat.me s.machine.value s.desk s.replies.items in
     let along = c.self.invariant.2 in
     let idle : is_busy (stands at l).step ≡ false = subst (λ z. is_busy (stands at z).step ≡ false) (sym c.self.view_is) c.requires.idle in
-    let me1 = c.exchange.new.seat.me in
+    let me1 = c.exchange.new.seat.me in let fits = c.law_start_stands.ensures 0 in
     let e : me1 ≡ (l.me.0, (l.desk, Desk (Calls k.number (call.Op op))) ∷ rest l.me.1) = c.exchange.ensures.3 ∙ ap (λ n. (l.me.0, (l.desk, Desk (Calls n (call.Op op))) ∷ rest l.me.1)) c.self.invariant.1 in
     let asks : asked k (begins k (stands at l) op) ≡ Load c.args.place = subst (λ z. asked z.machine.seat (begins z.machine.seat (stands at z) op) ≡ Load c.args.place) (sym c.self.view_is) c.requires.asked in
     let only : c.push.new.self.items ≡ c.perform-reply.result ∷ [] = c.push.ensures.items ∙ ap (λ xs. xs ++ c.perform-reply.result ∷ []) c.clear.ensures in (
       c.perform-reply.ensures.seat.0 ∙ (c.exchange.ensures.0 ∙ c.self.invariant.0),
       c.self.invariant.1,
-      (first_line at l along idle op me1 e (Load c.args.place) asks (c.args.place, refl) l.table.slots c.perform-reply.result c.perform-reply.new.seat.me c.perform-reply.ensures.told c.push.new.self.items only).along,
+      (first_line at l along idle op fits me1 e (Load c.args.place) asks (c.args.place, refl) l.table.slots c.perform-reply.result c.perform-reply.new.seat.me c.perform-reply.ensures.told c.push.new.self.items only).along,
     )
 
 pub returns : goal.returns
@@ -60,13 +60,13 @@ returns g c =
     let l = line_of s.words.now.key s.words.now.table_id s.seat.me s.machine.value s.desk s.replies.items in
     let along = c.self.invariant.2 in
     let idle : is_busy (stands at l).step ≡ false = subst (λ z. is_busy (stands at z).step ≡ false) (sym c.self.view_is) c.requires.idle in
-    let me1 = c.exchange.new.seat.me in
+    let me1 = c.exchange.new.seat.me in let fits = c.law_start_stands.ensures 0 in
     let e : me1 ≡ (l.me.0, (l.desk, Desk (Calls k.number (call.Op op))) ∷ rest l.me.1) = c.exchange.ensures.3 ∙ ap (λ n. (l.me.0, (l.desk, Desk (Calls n (call.Op op))) ∷ rest l.me.1)) c.self.invariant.1 in
     let asks : asked k (begins k (stands at l) op) ≡ Load c.args.place = subst (λ z. asked z.machine.seat (begins z.machine.seat (stands at z) op) ≡ Load c.args.place) (sym c.self.view_is) c.requires.asked in
     let only : c.push.new.self.items ≡ c.perform-reply.result ∷ [] = c.push.ensures.items ∙ ap (λ xs. xs ++ c.perform-reply.result ∷ []) c.clear.ensures in
     let on = line_of l.key l.table c.perform-reply.new.seat.me l.machine l.desk c.push.new.self.items in
-    let step = first_line at l along idle op me1 e (Load c.args.place) asks (c.args.place, refl) l.table.slots c.perform-reply.result c.perform-reply.new.seat.me c.perform-reply.ensures.told c.push.new.self.items only in
-    let so = led_first at l along idle op me1 e (Load c.args.place) asks (c.args.place, refl) l.table.slots c.perform-reply.result c.perform-reply.new.seat.me c.perform-reply.ensures.told c.push.new.self.items only in
+    let step = first_line at l along idle op fits me1 e (Load c.args.place) asks (c.args.place, refl) l.table.slots c.perform-reply.result c.perform-reply.new.seat.me c.perform-reply.ensures.told c.push.new.self.items only in
+    let so = led_first at l along idle op fits me1 e (Load c.args.place) asks (c.args.place, refl) l.table.slots c.perform-reply.result c.perform-reply.new.seat.me c.perform-reply.ensures.told c.push.new.self.items only in
     record {
       next = subst (λ z. stands at on ≡ leads z.machine.seat (begins z.machine.seat (stands at z) op) c.perform-reply.result) c.self.view_is step.next;
       led = subst (λ z. HasLed at z op on) c.self.view_is so;
