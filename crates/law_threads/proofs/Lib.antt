@@ -1,5 +1,6 @@
 mod Course
 mod Histories
+mod Numbers
 mod OfDone
 mod OfDurable
 mod OfFinishes

@@ -9,7 +9,8 @@ use Rattle.fkv_map.specs.declared.operations.Call.{Call}
 use Rattle.fkv_map.specs.History.{point_of}
 use Rattle.fkv_opening.specs.Opened.{IsStoreOf}
 use Rattle.fkv_opening.specs.declared.opened_store.Opened.{Opened}
-use Rattle.fkv_seats.specs.Rule.{led}
+use Rattle.fkv_seats.specs.Rule.{AreAllowed, led}
+use Rattle.fkv_seats.proofs.Keeps.{allowed_both}
 use Rattle.fkv_session.specs.declared.answers.Answer.TheVariants as answer
 use Rattle.fkv_session.specs.declared.answers.Finished.{Finished}
 use Rattle.fkv_session.specs.declared.answers.Told.{Told}
@@ -37,6 +38,7 @@ use Rattle.law_threads.specs.Durable.{IsDurable, ItsDurableNeverFalls, RecoversI
 use Rattle.law_threads.specs.Laws.{IsWithin}
 use Rattle.law_threads.proofs.Course.{OfOthers, seen_answered, seen_called}
 use Rattle.law_threads.proofs.Histories.{events_both}
+use Rattle.law_threads.proofs.Numbers.{calls_fit}
 use Rattle.law_threads.proofs.OfRuns.{IsToldIn, earlier, first, is_told, same_number, same_told, since_call, told_with, was}
 
 -- ---- points that were told stay
@@ -187,21 +189,22 @@ module _ {K : Type 0} (at : K → World) (key : K) (o : Opened) (n : Now) (bytes
       subst (λ (x : ℕ). serial.0 ≤ x) (sym (kept.points number)) (held.current.durable number point there)
 
 -- ---- in all lives
-is_life : {K : Type 0} (at : K → World) (key : K) (o : Opened) (n : Now) (bytes : List ℕ) (events : List Event) → IsOver at key o n bytes → IsWithin o n bytes events → IsLife (record { bytes = bytes; opened = o; world = n; events = events })
-is_life at key o n bytes events over within = record { store = over.store; begins = over.begins; fits = within.fits; few = within.few }
+is_life : {K : Type 0} (at : K → World) (key : K) (o : Opened) (n : Now) (bytes : List ℕ) (seen : List Happening) → IsOver at key o n bytes → AreAllowed (plane at) seen → IsWithin o n bytes (events_of seen)
+    → IsLife (record { bytes = bytes; opened = o; world = n; events = events_of seen })
+is_life at key o n bytes seen over may few = record { store = over.store; begins = over.begins; fits = calls_fit at seen may; few = few }
 
 pub tells_durable : {K : Type 0} (at : K → World) → PrefixLaw → (key : K) (o : Opened) (n : Now) (bytes : List ℕ) (its : CallRun) → IsOver at key o n bytes → HasRun at key its → IsWithin o n bytes (events_of its.behind) → TellsItsDurable o n bytes its
 tells_durable at prefix key o n bytes its over run within serial given =
-    durable_at at key o n bytes its over run serial given (prefix.durable (record { bytes = bytes; opened = o; world = n; events = events_of its.behind }) (is_life at key o n bytes (events_of its.behind) over within))
+    durable_at at key o n bytes its over run serial given (prefix.durable (record { bytes = bytes; opened = o; world = n; events = events_of its.behind }) (is_life at key o n bytes its.behind over run.allowed within))
 
 pub durable_never_falls : {K : Type 0} (at : K → World) → InEachLife ToldNeverFalls → (key : K) (o : Opened) (n : Now) (bytes : List ℕ) (its : CallRun) → IsOver at key o n bytes → HasRun at key its → IsWithin o n bytes (events_of its.behind) → ItsDurableNeverFalls o n bytes its
 durable_never_falls at law key o n bytes its over run within serial given =
-    none_falls_at at key o n bytes its over run serial given (law (record { bytes = bytes; opened = o; world = n; events = events_of its.behind }) (is_life at key o n bytes (events_of its.behind) over within))
+    none_falls_at at key o n bytes its over run serial given (law (record { bytes = bytes; opened = o; world = n; events = events_of its.behind }) (is_life at key o n bytes its.behind over run.allowed within))
 
-pub recovers_durable : {K : Type 0} (at : K → World) → PrefixLaw → (key : K) (o : Opened) (n : Now) (bytes : List ℕ) (its : CallRun) → IsOver at key o n bytes → HasRun at key its → IsWithin o n bytes (events_of its.behind) → RecoversItsDurable o n bytes its
-recovers_durable at prefix key o n bytes its over run here serial given far later image r within left store =
-    let both : events_of (later ++ its.behind) ≡ events_of later ++ events_of its.behind = events_both later its.behind in
-    let there : IsWithin o n bytes (events_of later ++ events_of its.behind) = subst (λ (es : List Event). IsWithin o n bytes es) both within in
+pub recovers_durable : {K : Type 0} (at : K → World) → PrefixLaw → (key : K) (o : Opened) (n : Now) (bytes : List ℕ) (its : CallRun) → IsOver at key o n bytes → HasRun at key its → IsWithin o n bytes (events_of its.behind) → RecoversItsDurable at o n bytes its
+recovers_durable at prefix key o n bytes its over run here serial given far later image r may within left store =
+    let all : AreAllowed (plane at) (later ++ its.behind) = allowed_both (plane at) later its.behind may run.allowed in
     let law : RecoversPrefix o n bytes (events_of later ++ events_of its.behind) =
-    prefix.recovered (record { bytes = bytes; opened = o; world = n; events = events_of later ++ events_of its.behind }) (is_life at key o n bytes (events_of later ++ events_of its.behind) over there) in
+    subst (λ (es : List Event). RecoversPrefix o n bytes es) (events_both later its.behind)
+    (prefix.recovered (record { bytes = bytes; opened = o; world = n; events = events_of (later ++ its.behind) }) (is_life at key o n bytes (later ++ its.behind) over all within)) in
     recovered_at at key o n bytes its over run serial given later law far image r left store

@@ -3,14 +3,14 @@ use Rattle.std.proofs.Common.{◌≡◌, ℕ, ◌≤◌, ◌<◌, ◌∙◌, ap,
 use Rattle.fkv_core.specs.Openings.{beginning}
 use Rattle.fkv_disk.specs.Calls.{MayLeave}
 use Rattle.fkv_opening.specs.declared.opened_store.Opened.{Opened}
-use Rattle.fkv_seats.specs.Rule.{led}
+use Rattle.fkv_seats.specs.Rule.{AreAllowed, led}
+use Rattle.fkv_seats.proofs.Keeps.{allowed_last}
 use Rattle.fkv_world.specs.Past.{Past}
 use Rattle.fkv_world.specs.Runs.{World, run}
 use Rattle.fkv_world.specs.World.{Calls, Event, Now}
 use Rattle.law_world.proofs.OfKeeper.OwnCalls.{opened_stays}
 use Rattle.law_order.specs.OneHistory.EachLife.{IsLife, Life}
 use Rattle.law_order.specs.Prefix.Law.{PrefixLaw, calls_so_far}
-use Rattle.law_order.specs.Served.Fits.{CallsFit}
 use Rattle.law_order.specs.Tickets.Few.{calls_in, with_begun}
 use Rattle.fkv_table.specs.declared.happenings.Happening.{Happening}
 use Rattle.fkv_table.specs.Planes.{plane}
@@ -19,12 +19,9 @@ use Rattle.law_threads.specs.Calls.{IsOver, events_of}
 use Rattle.law_threads.specs.Images.{RecoversWithin}
 use Rattle.law_threads.specs.Laws.{IsWithin}
 use Rattle.law_threads.proofs.Histories.{events_both}
+use Rattle.law_threads.proofs.Numbers.{calls_fit}
 
--- the premises of the order law hold of a life as it was
-fits_before : (later before : List Event) → CallsFit (later ++ before) → CallsFit before
-fits_before [] before fits = fits
-fits_before (event ∷ later) before fits = fits_before later before fits.1
-
+-- the premise of the order law holds of a life as it was
 one_more : (event : Event) (count : ℕ) → count ≤ with_begun event count
 one_more (Calls number call) count = omega arith
 one_more event count = omega arith
@@ -40,7 +37,7 @@ few_before : (later before : List Event) (most : ℕ) → calls_in (later ++ bef
 few_before later before most few = let less = fewer_before later before in omega (arith, less, few)
 
 within_before : (o : Opened) (n : Now) (bytes : List ℕ) (later before : List Event) → IsWithin o n bytes (later ++ before) → IsWithin o n bytes before
-within_before o n bytes later before its = record { fits = fits_before later before its.fits; few = few_before later before _ its.few }
+within_before o n bytes later before few = few_before later before _ few
 
 module _ {K : Type 0} (at : K → World) (key : K) (o : Opened) (n : Now) (bytes : List ℕ) (over : IsOver at key o n bytes) where
   past_so : (es : List Happening) → (led (plane at) (at key) es).past ≡ (run (beginning n bytes) (events_of es)).past
@@ -52,10 +49,11 @@ module _ {K : Type 0} (at : K → World) (key : K) (o : Opened) (n : Now) (bytes
       let here : (let p : Past = (run (beginning n bytes) (events_of es)).past in MayLeave p.opened p.calls image) = subst (λ (p : Past). MayLeave p.opened p.calls image) (past_so es) left in
       subst (λ (opened : List ℕ). MayLeave opened (calls_so_far n bytes (events_of es)) image) (opened_stays (beginning n bytes) (events_of es)) here
 
-pub recovers_within : {K : Type 0} (at : K → World) (key : K) (seen seen' : List Happening) → PrefixLaw → RecoversWithin at key seen seen'
-recovers_within at key seen seen' prefix o n bytes over within far image its =
+pub recovers_within : {K : Type 0} (at : K → World) (key : K) (seen seen' : List Happening) → PrefixLaw → AreAllowed (plane at) seen' → RecoversWithin at key seen seen'
+recovers_within at key seen seen' prefix may o n bytes over within far image its =
     let both : events_of seen' ≡ events_of its.to.0 ++ events_of its.now = ap events_of its.to.1 ∙ events_both its.to.0 its.now in
     let here : IsWithin o n bytes (events_of its.now) = within_before o n bytes (events_of its.to.0) (events_of its.now) (subst (λ (es : List Event). IsWithin o n bytes es) both within) in
     let life : Life = record { bytes = bytes; opened = o; world = n; events = events_of its.now } in
-    let is : IsLife life = record { store = over.store; begins = over.begins; fits = here.fits; few = here.few } in
+    let may_now : AreAllowed (plane at) its.now = allowed_last (plane at) its.to.0 its.now (subst (AreAllowed (plane at)) its.to.1 may) in
+    let is : IsLife life = record { store = over.store; begins = over.begins; fits = calls_fit at its.now may_now; few = here } in
     record { now = its.now; from = its.from; to = its.to; holds = prefix.recovered life is far image (left_so at key o n bytes over its.now image its.left) }

@@ -1,21 +1,27 @@
 -- The thread law, by clauses of the order law.
-use Rattle.std.proofs.Common.{◌⊎◌, inl, inr, ℕ, sym, subst, List}
+use Rattle.std.proofs.Common.{◌≡◌, ◌⊎◌, inl, inr, ℕ, sym, subst, List}
+use mathlib.Core.Option.{some}
+use lib.ListN.{get_elem?}
+use Rattle.atomic_table.specs.Table.{State}
 use Rattle.fkv_core.specs.Openings.{IsOpeningWorld}
 use Rattle.fkv_opening.specs.Opened.{IsStoreOf}
 use Rattle.fkv_opening.specs.declared.opened_store.Opened.{Opened}
 use Rattle.fkv_seats.specs.Kept.{SeesInOrder}
-use Rattle.fkv_seats.specs.Rule.{IsSeenBy}
+use Rattle.fkv_seats.specs.Rule.{AreAllowed, IsSeenBy, Ruled}
+use Rattle.fkv_seats.proofs.Keeps.{allowed_last}
 use Rattle.fkv_world.specs.Runs.{World}
 use Rattle.fkv_world.specs.World.{Event, Now}
 use Rattle.law_order.specs.OneHistory.EachLife.{InEachLife, IsLife, Life}
 use Rattle.law_order.specs.Rules.InTime.{ReadsInTime}
 use Rattle.law_order.specs.Rules.Ordered.{HasLegalHistory, OrdersItsCalls}
 use Rattle.fkv_table.specs.declared.happenings.Happening.{Happening}
+use Rattle.fkv_table.specs.Desks.{Slot, Knows}
 use Rattle.fkv_table.specs.Planes.{plane}
 use Rattle.law_threads.specs.Calls.{events_of}
 use Rattle.law_threads.specs.Laws.{IsSeenIn, IsThreadLaw, IsWithin, SharesOneHistory}
 use Rattle.law_threads.specs.Threads.{IsBeginning, history_seen}
 use Rattle.law_threads.proofs.Histories.{begins_with}
+use Rattle.law_threads.proofs.Numbers.{calls_fit}
 use Rattle.law_threads.proofs.OfDone.{GivesSerialsInTurn, done_so}
 use Rattle.law_threads.proofs.OfPolls.{finished_so, polls_so}
 use Rattle.law_threads.proofs.OfReads.{reads_so}
@@ -37,39 +43,44 @@ thread_law in_turn tickets at = record {
   history = λ key o n bytes its over run law. record { legal = law.legal; ordered = law.ordered; begins = begins_so at key its run n bytes };
 }
 
--- where more is so
-abbrev Implies : (Opened → Now → List ℕ → List Event → Type 0) → (Opened → Now → List ℕ → List Event → Type 0) → Type 0
-Implies If Then = (o : Opened) (n : Now) (bytes : List ℕ) (events : List Event) → IsStoreOf bytes o → IsOpeningWorld o n → If o n bytes events → Then o n bytes events
+-- where more is so of all that may stand in the list
+abbrev Implies : {K : Type 0} → (K → World) → (Opened → Now → List ℕ → List Event → Type 0) → (Opened → Now → List ℕ → List Event → Type 0) → Type 0
+Implies at If Then = (o : Opened) (n : Now) (bytes : List ℕ) (seen : List Happening) → IsStoreOf bytes o → IsOpeningWorld o n → AreAllowed (plane at) seen → If o n bytes (events_of seen) → Then o n bytes (events_of seen)
 
-weaker : {K : Type 0} (at : K → World) (If Then : Opened → Now → List ℕ → List Event → Type 0) → Implies If Then → IsThreadLaw at Then → IsThreadLaw at If
+weaker : {K : Type 0} (at : K → World) (If Then : Opened → Now → List ℕ → List Event → Type 0) → Implies at If Then → IsThreadLaw at Then → IsThreadLaw at If
 weaker at If Then so law = record {
-  done = λ key o n bytes its over run it. law.done key o n bytes its over run (so o n bytes (events_of its.behind) over.store over.begins it);
-  reads = λ key o n bytes its over run it. law.reads key o n bytes its over run (so o n bytes (events_of its.behind) over.store over.begins it);
-  finished = λ key o n bytes its over run it. law.finished key o n bytes its over run (so o n bytes (events_of its.behind) over.store over.begins it);
-  polled = λ key o n bytes asked poll over ran polled it. law.polled key o n bytes asked poll over ran polled (so o n bytes (events_of poll.behind) over.store over.begins it);
-  history = λ key o n bytes its over run it. law.history key o n bytes its over run (so o n bytes (events_of its.behind) over.store over.begins it);
+  done = λ key o n bytes its over run it. law.done key o n bytes its over run (so o n bytes its.behind over.store over.begins run.allowed it);
+  reads = λ key o n bytes its over run it. law.reads key o n bytes its over run (so o n bytes its.behind over.store over.begins run.allowed it);
+  finished = λ key o n bytes its over run it. law.finished key o n bytes its over run (so o n bytes its.behind over.store over.begins run.allowed it);
+  polled = λ key o n bytes asked poll over ran polled it. law.polled key o n bytes asked poll over ran polled (so o n bytes poll.behind over.store over.begins polled.allowed it);
+  history = λ key o n bytes its over run it. law.history key o n bytes its over run (so o n bytes its.behind over.store over.begins run.allowed it);
 }
 
-life : (o : Opened) (n : Now) (bytes : List ℕ) (events : List Event) → Life
+abbrev life : Opened → Now → List ℕ → List Event → Life
 life o n bytes events = record { bytes = bytes; opened = o; world = n; events = events }
 
-is_life : (o : Opened) (n : Now) (bytes : List ℕ) (events : List Event) → IsStoreOf bytes o → IsOpeningWorld o n → IsWithin o n bytes events → IsLife (record { bytes = bytes; opened = o; world = n; events = events })
-is_life o n bytes events store begins within = record { store = store; begins = begins; fits = within.fits; few = within.few }
+is_life : {K : Type 0} (at : K → World) (o : Opened) (n : Now) (bytes : List ℕ) (seen : List Happening) → IsStoreOf bytes o → IsOpeningWorld o n → AreAllowed (plane at) seen → IsWithin o n bytes (events_of seen) → IsLife (life o n bytes (events_of seen))
+is_life at o n bytes seen store begins may few = record { store = store; begins = begins; fits = calls_fit at seen may; few = few }
 
 pub in_lives : {K : Type 0} (at : K → World) → InEachLife HasLegalHistory → InEachLife OrdersItsCalls → InEachLife ReadsInTime → IsThreadLaw at IsOrdered → IsThreadLaw at IsWithin
 in_lives at legal ordered in_time law = weaker at IsWithin IsOrdered
-    (λ o n bytes events store begins it.
-    let its : Life = record { bytes = bytes; opened = o; world = n; events = events } in
-    let is : IsLife its = is_life o n bytes events store begins it in
+    (λ o n bytes seen store begins may it.
+    let its : Life = life o n bytes (events_of seen) in
+    let is : IsLife its = is_life at o n bytes seen store begins may it in
     record { legal = legal its is; ordered = ordered its is; in_time = in_time its is })
     law
 
-seen_in : {K : Type 0} (at : K → World) (n : Now) (bytes : List ℕ) (less more : List Happening) → IsSeenBy (plane at) less more → IsSeenIn at n bytes less more
-seen_in at n bytes less more seen = record { seen = seen; history = subst (λ (x : List Happening). IsBeginning (history_seen n bytes less) (history_seen n bytes x)) (sym seen.1) (begins_with n bytes seen.0 less) }
+seen_in : {K : Type 0} (at : K → World) (n : Now) (bytes : List ℕ) (less more : List Happening) → IsSeenBy (plane at) less more → AreAllowed (plane at) more → IsSeenIn at n bytes less more
+seen_in at n bytes less more seen may = record { seen = seen; allowed = may; history = subst (λ (x : List Happening). IsBeginning (history_seen n bytes less) (history_seen n bytes x)) (sym seen.1) (begins_with n bytes seen.0 less) }
+
+-- all that a pass has seen may stand in the list
+seen_allowed : {K : Type 0} (at : K → World) (key : K) (s : State Slot (Knows K)) → Ruled (plane at) key s → (id : ℕ) (v : Knows K) → get_elem? s.views id ≡ some v → AreAllowed (plane at) v.seen
+seen_allowed at key s ruled id v there =
+    let fits = ruled.each id v there in allowed_last (plane at) fits.later v.seen (subst (AreAllowed (plane at)) fits.whole ruled.allowed)
 
 pub shares : {K : Type 0} (at : K → World) → SeesInOrder (plane at) → SharesOneHistory at
 shares at in_order key o n bytes s id other v u over ruled one two = by_side (in_order key s id other v u ruled one two)
   where
     by_side : IsSeenBy (plane at) v.seen u.seen ⊎ IsSeenBy (plane at) u.seen v.seen → IsSeenIn at n bytes v.seen u.seen ⊎ IsSeenIn at n bytes u.seen v.seen
-    by_side (inl less) = inl (seen_in at n bytes v.seen u.seen less)
-    by_side (inr more) = inr (seen_in at n bytes u.seen v.seen more)
+    by_side (inl less) = inl (seen_in at n bytes v.seen u.seen less (seen_allowed at key s ruled other u two))
+    by_side (inr more) = inr (seen_in at n bytes u.seen v.seen more (seen_allowed at key s ruled id v one))

@@ -20,7 +20,7 @@ use Rattle.fkv_opening.specs.declared.opened_store.Opened.{Opened}
 use Rattle.fkv_plane.specs.declared.asks.Ask.{Ask}
 use Rattle.fkv_plane.specs.declared.asks.Ask.TheVariants.{Done}
 use Rattle.fkv_plane.specs.declared.places.Places.{Places}
-use Rattle.fkv_seats.specs.Rule.{led}
+use Rattle.fkv_seats.specs.Rule.{AreAllowed, led}
 use Rattle.fkv_world.specs.Opened.{IsOpenedWorld}
 use Rattle.fkv_world.specs.Runs.{World, run}
 use Rattle.fkv_world.specs.World.{Event, Now}
@@ -38,6 +38,7 @@ use Rattle.fkv_table.proofs.Lives.{led_run}
 use Rattle.law_threads.specs.Calls.{IsOver, events_of}
 use Rattle.law_threads.specs.Laws.{IsWithin}
 use Rattle.law_threads.specs.Turns.{HasTurned, IsTakenFairly, IsToldFinished, OfEachTurn, TellsFinish}
+use Rattle.law_threads.proofs.Numbers.{calls_fit}
 use Rattle.law_threads.proofs.OfFinishes.{HasFinished, has_finished}
 
 -- ---- the turn's own words
@@ -154,7 +155,7 @@ module _ {K : Type 0} (at : K → World) (prefix : PrefixLaw) (key : K) (seen : 
   told_so = subst (λ (s : KeeperState). IsFinishTold s.last its) state_so finishes.told
 
   is_life : IsLife (record { bytes = bytes; opened = o; world = n; events = events })
-  is_life = record { store = over.store; begins = over.begins; fits = within.fits; few = within.few }
+  is_life = record { store = over.store; begins = over.begins; fits = calls_fit at seen (subst (AreAllowed (plane at)) turned.seen turned.ready.keeping.allowed); few = within }
 
   pub told_finished : IsToldFinished o n bytes events its
   told_finished = record {

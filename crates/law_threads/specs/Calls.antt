@@ -6,7 +6,7 @@ use Rattle.fkv_core.specs.Openings.{IsOpeningWorld, beginning}
 use Rattle.fkv_map.specs.declared.operations.Call.{Call}
 use Rattle.fkv_opening.specs.Opened.{IsStoreOf}
 use Rattle.fkv_opening.specs.declared.opened_store.Opened.{Opened}
-use Rattle.fkv_seats.specs.Rule.{led}
+use Rattle.fkv_seats.specs.Rule.{AreAllowed, led}
 use Rattle.fkv_session.specs.declared.answers.Answer.{Answer}
 use Rattle.fkv_session.specs.Sessions.{Sitter}
 use Rattle.fkv_world.specs.Runs.{World}
@@ -30,7 +30,7 @@ pub record CallRun : Type 0 where
   pub behind : List Happening
 
 module _ {K : Type 0} (at : K → World) where
-  -- The session has run it, with this pass: what `Session::run` requires and ensures.
+  -- The session has run it, with this pass: what `Session::run` requires and ensures. All that the pass has seen behind it may stand in the list.
   pub record HasRun (key : K) (its : CallRun) : Type 0 where
     pub table : TableId
     pub seat : TableId
@@ -42,6 +42,7 @@ module _ {K : Type 0} (at : K → World) where
     pub seen : (let pass = me in pass.0.seen ≡ its.before)
     pub called : HasCalled its.number its.call its.before its.behind
     pub answered : IsAnsweredLast (led (plane at) (at key) its.behind) its.number its.answer
+    pub allowed : AreAllowed (plane at) its.behind
 
   -- A table over the world with which a store opens, that an image holds.
   pub record IsOver (key : K) (o : Opened) (n : Now) (bytes : List ℕ) : Type 0 where

@@ -5,13 +5,16 @@ use Rattle.fkv_disk.specs.Calls.{MayLeave}
 use Rattle.fkv_map.specs.History.{point_of}
 use Rattle.fkv_opening.specs.Opened.{IsStoreOf}
 use Rattle.fkv_opening.specs.declared.opened_store.Opened.{Opened}
+use Rattle.fkv_seats.specs.Rule.{AreAllowed}
 use Rattle.fkv_session.specs.declared.answers.Answer.TheVariants.{Durable}
+use Rattle.fkv_world.specs.Runs.{World}
 use Rattle.fkv_world.specs.World.{Now}
 use Rattle.law_commit.specs.ToldPoints.{ToldPoint, finishes_told}
 use Rattle.law_log.specs.Trace.{IsIn}
 use Rattle.law_opening.specs.Lives.Reaching.{ReachesFar}
 use Rattle.law_order.specs.Prefix.Law.{IsToldDurable, calls_so_far, past_so_far, trace_so_far}
 use Rattle.fkv_table.specs.declared.happenings.Happening.{Happening}
+use Rattle.fkv_table.specs.Planes.{plane}
 use Rattle.law_threads.specs.Calls.{CallRun, events_of}
 use Rattle.law_threads.specs.Laws.{IsWithin}
 
@@ -31,8 +34,8 @@ ItsDurableNeverFalls o n bytes its = (serial : Serial) → its.answer ≡ Durabl
     → (told : ToldPoint) → IsIn told ((past_so_far n bytes (events_of its.before)).told its.number) → told.point ≤ serial.0
 
 -- Each image that a crash may leave then or later recovers a point of the session at or above it, if the life began with an image that reaches far and keeps to
--- the premises of the law of prefixes.
-abbrev pub RecoversItsDurable : Opened → Now → List ℕ → CallRun → Type 0
-RecoversItsDurable o n bytes its = (serial : Serial) → its.answer ≡ Durable serial → ReachesFar bytes
-    → (later : List Happening) (image : List ℕ) (r : Opened) → IsWithin o n bytes (events_of (later ++ its.behind)) → MayLeave bytes (calls_so_far n bytes (events_of (later ++ its.behind))) image → IsStoreOf image r
+-- the premise of the law of prefixes. Later the list has more events that may stand there.
+abbrev pub RecoversItsDurable : {K : Type 0} → (K → World) → Opened → Now → List ℕ → CallRun → Type 0
+RecoversItsDurable at o n bytes its = (serial : Serial) → its.answer ≡ Durable serial → ReachesFar bytes
+    → (later : List Happening) (image : List ℕ) (r : Opened) → AreAllowed (plane at) later → IsWithin o n bytes (events_of (later ++ its.behind)) → MayLeave bytes (calls_so_far n bytes (events_of (later ++ its.behind))) image → IsStoreOf image r
     → serial.0 ≤ point_of r.points.items its.number

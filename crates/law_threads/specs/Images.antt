@@ -20,7 +20,7 @@ module _ {K : Type 0} (at : K → World) where
     pub to : IsSeenBy (plane at) now seen'
     pub holds : HoldsPrefix o n bytes (events_of now) image
 
-  -- So does each image that a crash may leave in the call, if the life began with an image that reaches far and keeps to the premises of the law of prefixes.
+  -- So does each image that a crash may leave in the call, if the life began with an image that reaches far and keeps to the premise of the law of prefixes.
   abbrev pub RecoversWithin : K → List Happening → List Happening → Type 0
   RecoversWithin key seen seen' = (o : Opened) (n : Now) (bytes : List ℕ) → IsOver at key o n bytes → IsWithin o n bytes (events_of seen') → ReachesFar bytes
       → (image : List ℕ) → IsLeftWithin at key seen seen' image → HoldsWithin o n bytes seen seen' image

@@ -4,10 +4,9 @@ use mathlib.Core.Option.{some}
 use lib.ListN.{get_elem?}
 use Rattle.atomic_table.specs.Table.{State}
 use Rattle.fkv_opening.specs.declared.opened_store.Opened.{Opened}
-use Rattle.fkv_seats.specs.Rule.{IsSeenBy, Ruled}
+use Rattle.fkv_seats.specs.Rule.{AreAllowed, IsSeenBy, Ruled}
 use Rattle.fkv_world.specs.Runs.{World}
 use Rattle.fkv_world.specs.World.{Event, Now}
-use Rattle.law_order.specs.Served.Fits.{CallsFit}
 use Rattle.law_order.specs.Tickets.Few.{HasFewCalls}
 use Rattle.fkv_table.specs.declared.happenings.Happening.{Happening}
 use Rattle.fkv_table.specs.Desks.{Slot, Knows}
@@ -16,10 +15,9 @@ use Rattle.law_threads.specs.Calls.{IsOver, OfEachRun}
 use Rattle.law_threads.specs.Polls.{FinishedIsSeen, PollsWhatWasSeen}
 use Rattle.law_threads.specs.Threads.{DoneIsSeen, IsBeginning, ReadsWhatWasSeen, StandsInOneHistory, history_seen}
 
--- the premises of the order law, and of the law of prefixes: numbers below 2^64, and fewer than 2^64 - 1 calls
-pub record IsWithin (o : Opened) (n : Now) (bytes : List ℕ) (events : List Event) : Type 0 where
-  pub fits : CallsFit events
-  pub few : HasFewCalls events
+-- The premise of the order law, and of the law of prefixes: fewer than 2^64 - 1 calls. Their other one, numbers below 2^64, holds of all that may stand in a table's list.
+abbrev pub IsWithin : Opened → Now → List ℕ → List Event → Type 0
+IsWithin o n bytes events = HasFewCalls events
 
 -- The thread law, of lives of which this is so.
 pub record IsThreadLaw {K : Type 0} (at : K → World) (If : Opened → Now → List ℕ → List Event → Type 0) : Type 0 where
@@ -30,9 +28,10 @@ pub record IsThreadLaw {K : Type 0} (at : K → World) (If : Opened → Now → 
   pub history : OfEachRun at If StandsInOneHistory
 
 -- ---- views
--- what one pass has seen is a beginning of what another has, and so are their histories
+-- What one pass has seen is a beginning of what another has, of which all may stand in the list, and so are their histories.
 pub record IsSeenIn {K : Type 0} (at : K → World) (n : Now) (bytes : List ℕ) (less more : List Happening) : Type 0 where
   pub seen : IsSeenBy (plane at) less more
+  pub allowed : AreAllowed (plane at) more
   pub history : IsBeginning (history_seen n bytes less) (history_seen n bytes more)
 
 -- So it is of any two passes at one moment of a table.

@@ -56,7 +56,7 @@ module _ {K : Type 0} (at : K → World) where
     pub seen : (let pass = me in pass.0.seen ≡ behind)
     pub told : (let k = machine in IsTurnTold k.state.last (keeper_ask k.shape k.places k.state) answer)
 
-  -- What it tells as finished is so in each life that keeps to the premises of the law of prefixes.
+  -- What it tells as finished is so in each life that keeps to the premise of the law of prefixes.
   abbrev pub TellsItsFinish : K → List Happening → Result Turn Fault → Type 0
   TellsItsFinish key seen told = (o : Opened) (n : Now) (bytes : List ℕ) → IsOver at key o n bytes → IsWithin o n bytes (events_of seen)
       → (its : Finished) → TellsFinish told its → IsToldFinished o n bytes (events_of seen) its

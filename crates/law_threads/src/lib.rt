@@ -2,7 +2,9 @@
 #![tactic(auto)]
 
 ghost use Rattle.std.specs.Prelude.{List};
+ghost use Rattle.fkv_seats.specs.Rule.{AreAllowed};
 ghost use Rattle.fkv_table.specs.declared.happenings.Happening.{Happening};
+ghost use Rattle.fkv_table.specs.Planes.{plane};
 ghost use Rattle.fkv_world.specs.Runs.{World};
 ghost use Rattle.law_threads.specs.Calls.{OfEachRun};
 ghost use Rattle.law_threads.specs.Durable.{ItsDurableNeverFalls, RecoversItsDurable, TellsItsDurable};
@@ -14,7 +16,7 @@ use law_order::{law_durable_never_falls, law_order, law_prefix};
 use law_world::{law_world_requests, law_world_sessions};
 
 /// Sessions make their calls at one table, each in any thread. `Session::run` says how a call stands in the list of events. In all lives, with commits too, more
-/// is known by the order law (`in_lives`). A done update has taken effect by what the pass has seen, with its serial and reply, and so has one that a poll says
+/// is known by the order law (`in_lives`). Its one premise here is that fewer than 2^64 - 1 calls begin: the table's rule keeps their numbers below 2^64. A done update has taken effect by what the pass has seen, with its serial and reply, and so has one that a poll says
 /// is finished. A read gives its key's value after some beginning of the history that holds what the pass had seen at the call. So does one that a poll answers
 /// (`polled`). The calls stand once in one legal history. It begins with the history of what the pass had seen before. By the law of prefixes a point that is
 /// told as durable is a sealed commit's (`durable`). It is no less than what the session was told before the call (`never_falls`). Each image that is left then
@@ -24,8 +26,8 @@ pub fn law_threads<K>()
     ensures in_lives { (at : K → World) → IsThreadLaw at IsWithin }
     ensures durable { (at : K → World) → OfEachRun at IsWithin TellsItsDurable }
     ensures never_falls { (at : K → World) → OfEachRun at IsWithin ItsDurableNeverFalls }
-    ensures recovered { (at : K → World) → OfEachRun at IsWithin RecoversItsDurable }
-    ensures turns { (at : K → World) (key : K) (seen seen' : List Happening) → RecoversWithin at key seen seen' }
+    ensures recovered { (at : K → World) → OfEachRun at IsWithin (RecoversItsDurable at) }
+    ensures turns { (at : K → World) (key : K) (seen seen' : List Happening) → AreAllowed (plane at) seen' → RecoversWithin at key seen seen' }
     ensures finished { (at : K → World) → OfEachTurn at }
     ensures views { (at : K → World) → SharesOneHistory at }
 {
