@@ -14,7 +14,7 @@ use std::snapshot::Snapshot;
 /// no error of its own: a refusal is one of the answers. A done update has taken effect by what the pass then has seen. A read gives its key's
 /// value after some beginning of the history that holds what the pass had seen. The calls stand in one legal history. A point that is told as durable is
 /// a sealed commit's. It is no less than what the session was told before, and each image that is left then or later recovers a point at or above it.
-/// This is so of the table of each opened store, in all lives, with commits too.
+/// This is so of the table of each opened store, in all lives, with commits too, if fewer than 2^64 - 1 calls begin in them.
 pub fn run<D: Device>(
     session: &mut Session,
     table: &Table<D>,
@@ -28,7 +28,7 @@ pub fn run<D: Device>(
     ensures in_lives { said.IsLawful (said.opening_of D.seen) table.now.table.shared.key (said.run_of session.old.machine.seat.number call result.1 pass.seat.me.0.seen result.0.seat.me.0.seen) said.IsWithin }
     ensures durable { said.OfThisRun (said.opening_of D.seen) table.now.table.shared.key (said.run_of session.old.machine.seat.number call result.1 pass.seat.me.0.seen result.0.seat.me.0.seen) said.IsWithin said.TellsItsDurable }
     ensures never_falls { said.OfThisRun (said.opening_of D.seen) table.now.table.shared.key (said.run_of session.old.machine.seat.number call result.1 pass.seat.me.0.seen result.0.seat.me.0.seen) said.IsWithin said.ItsDurableNeverFalls }
-    ensures recovered { said.OfThisRun (said.opening_of D.seen) table.now.table.shared.key (said.run_of session.old.machine.seat.number call result.1 pass.seat.me.0.seen result.0.seat.me.0.seen) said.IsWithin said.RecoversItsDurable }
+    ensures recovered { said.OfThisRun (said.opening_of D.seen) table.now.table.shared.key (said.run_of session.old.machine.seat.number call result.1 pass.seat.me.0.seen result.0.seat.me.0.seen) said.IsWithin (said.RecoversItsDurable (said.opening_of D.seen)) }
 {
     law_threads::<Snapshot<World<D>>>();
     session.run(table, pass, call)

@@ -18,6 +18,7 @@ returns-clause-called g c = record {
   seen = refl;
   called = c.run.ensures.called;
   answered = answered_to (opening_of g.D.Device.seen) _ _ _ _ _ c.run.ensures.number c.run.ensures.answer;
+  allowed = c.run.ensures.ready.rests.seated.allowed;
 }
 
 pub returns-clause-in_lives : goal.returns-clause-in_lives
@@ -30,4 +31,4 @@ pub returns-clause-never_falls : goal.returns-clause-never_falls
 returns-clause-never_falls g c = of_this (opening_of g.D.Device.seen) _ _ IsWithin ItsDurableNeverFalls (returns-clause-called g c) (c.law_threads.ensures.never_falls (opening_of g.D.Device.seen))
 
 pub returns-clause-recovered : goal.returns-clause-recovered
-returns-clause-recovered g c = of_this (opening_of g.D.Device.seen) _ _ IsWithin RecoversItsDurable (returns-clause-called g c) (c.law_threads.ensures.recovered (opening_of g.D.Device.seen))
+returns-clause-recovered g c = of_this (opening_of g.D.Device.seen) _ _ IsWithin (RecoversItsDurable (opening_of g.D.Device.seen)) (returns-clause-called g c) (c.law_threads.ensures.recovered (opening_of g.D.Device.seen))

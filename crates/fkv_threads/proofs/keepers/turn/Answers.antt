@@ -4,7 +4,7 @@ use Rattle.fkv_table.specs.Planes.{opening_of}
 use Rattle.fkv_threads.proofs.keepers.turn.Goals as goal
 
 pub returns-clause-recovered : goal.returns-clause-recovered
-returns-clause-recovered g c = c.law_threads.ensures.turns (opening_of g.D.Device.seen) _ _ _
+returns-clause-recovered g c = c.law_threads.ensures.turns (opening_of g.D.Device.seen) _ _ _ c.turn.ensures.ready.keeping.allowed
 
 pub returns-clause-finished : goal.returns-clause-finished
 returns-clause-finished g c = c.law_threads.ensures.finished (opening_of g.D.Device.seen) _ _ _
