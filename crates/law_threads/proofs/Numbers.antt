@@ -1,5 +1,5 @@
 -- The numbers of the calls in a table's list are below 2^64.
-use Rattle.std.proofs.Common.{◌≡◌, ℕ, refl, sym, ◌∙◌, Bool, true, false, true≢false, List, [], ◌∷◌, ◌&&◌, arith}
+use Rattle.std.proofs.Common.{◌≡◌, ℕ, refl, sym, Bool, true, false, true≢false, List, [], ◌∷◌, ◌&&◌, arith}
 use Rattle.std.proofs.lemmas.Bool.Decides.{nat_tests}
 use Rattle.fkv_map.specs.Fits.{NumberFits, OpFits}
 use Rattle.fkv_map.specs.declared.operations.Call.TheVariants as call
