@@ -50,7 +50,7 @@ name_so n (Read ticket) is = let same : ticket.0 ≡ n = grind (arith, nat_tests
 
 has_ticket_in : (n : ℕ) (requests : List PendingRequest) → 1 ≤ number_of (is_ticket n) (names_of requests) → HasTicket n requests
 has_ticket_in n [] some = absurd (omega (arith, some))
-has_ticket_in n (it ∷ rest) some = by_test (has_ticket_in n rest) (is_ticket n it.name) refl some
+has_ticket_in n (it ∷ rest) some = by_test (has_ticket_in n rest) (is_ticket n it.name) refl (omega (arith, some))
   where
     by_test : (1 ≤ number_of (is_ticket n) (names_of rest) → HasTicket n rest) → (c : Bool) → is_ticket n it.name ≡ c → 1 ≤ number_of (λ (b : Bool). b) (c ∷ []) + number_of (is_ticket n) (names_of rest) → HasTicket n (it ∷ rest)
     by_test behind true e some = (zero, it, refl, name_so n it.name e)
