@@ -21,7 +21,7 @@ use std::rt::Files;
 /// line of an operation is answered so in every other script without a seed, by the map of the history so far, in a life
 /// that shows the world (`lines`, `file_lines`). The life of a new store is such a one as it begins (`law_new_files`).
 /// In memory a life goes on by each line of a call too, by the keeper's and by each finish, and shows the device behind it (`each_line`).
-/// What a poll has finished is as the history says, and just the commits finish that turns tell as finished. Each life begins so, the first one and each behind a crash (`lives`). A line by which
+/// What a poll has finished is as the history says, a read as at its call, and just the commits finish that turns tell as finished. Each life begins so, the first one and each behind a crash (`lives`). A line by which
 /// a call of the device is to fail, or a crash to strike, leaves it (`armed`). So the pieces of a script that are played in memory go on,
 /// each in the life in hand, or behind a crash in the next one (`runs`). A script for a new store in memory, of which no call is interleaved
 /// with another, has printed so (`in_lives`). The report of a crash is of the store that

@@ -1,11 +1,13 @@
 mod Answers
 mod Coming
-mod Life
+pub mod Life
 pub mod LifeNumbers
 pub mod LifeReads
 mod Moved
 pub mod Numbers
 mod ReadEnds
+pub mod Settled
+pub mod Spared
 mod Steps
 mod Touched
 pub mod Turns

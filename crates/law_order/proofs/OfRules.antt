@@ -7,4 +7,5 @@ pub mod Points
 mod ReadRuns
 pub mod SameEntries
 pub mod Versions
+pub mod WaitingInTime
 pub mod Words

@@ -1,3 +1,4 @@
 pub mod InTime
 pub mod Openings
 pub mod Ordered
+pub mod Waiting

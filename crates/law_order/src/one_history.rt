@@ -6,6 +6,7 @@ ghost use Rattle.law_order.specs.Ordered.Keeps.{KeepsItsOrder};
 ghost use Rattle.law_order.specs.Ordered.Met.{SeeksItsReads};
 ghost use Rattle.law_order.specs.Rules.InTime.{ReadsInTime};
 ghost use Rattle.law_order.specs.Rules.Ordered as laws;
+ghost use Rattle.law_order.specs.Rules.Waiting.{WaitingReadsInTime};
 
 use crate::fits::law_opening_fits;
 use crate::in_turn::{law_ends_open, law_versions_open};
@@ -91,4 +92,15 @@ pub fn law_order()
 {
     law_order_of_rules();
     law_lives_keep_order();
+}
+
+/// In each life a read that waits has the value by then that its answer tells: that of its key at some moment between its call and any later one at which its
+/// session rests with it. What it seeks lies below the head, where no value changes, and no step searches for it again.
+pub fn law_waiting_reads()
+    ensures { lives.InEachLife WaitingReadsInTime }
+{
+    law_life_begins();
+    law_lives_keep_order();
+    law_lives_seek();
+    law_history_beside();
 }

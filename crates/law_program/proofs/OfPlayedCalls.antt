@@ -26,4 +26,5 @@ pub mod Runs
 pub mod Scripts
 pub mod Steps
 mod Tickets
+mod ToldToWait
 mod Waiting

@@ -178,7 +178,7 @@ apart_numbers number other reader trace e one two = let same : number ≡ other 
     clash : (number == other) ≡ false → number ≡ other → ⊥
     clash e same = grind (arith, nat_tests, e, same)
 
-idle_waits : (r : SessionReadings) (s : SessionState) (step : Sitting) → is_busy step ≡ false → SitsReads r s step → AllWait r s.requests
+pub idle_waits : (r : SessionReadings) (s : SessionState) (step : Sitting) → is_busy step ≡ false → SitsReads r s step → AllWait r s.requests
 idle_waits r s (Idle its) idle so = so
 idle_waits r s step idle so = cc
 

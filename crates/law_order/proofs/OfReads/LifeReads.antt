@@ -39,7 +39,7 @@ use Rattle.law_order.proofs.OfReads.Steps.{StepFacts}
 use Rattle.law_order.proofs.OfReads.Turns.{Begins, Goes, Turn, Rests, BeginsOne, GoesOne, moved_to, turn_of}
 
 -- ---- the newest moment
-reads_now : (opening : World) (ghosts : Ghosts) (events : List Event) → AreReadsKnown opening ghosts events → ReadsKnown opening ghosts events
+pub reads_now : (opening : World) (ghosts : Ghosts) (events : List Event) → AreReadsKnown opening ghosts events → ReadsKnown opening ghosts events
 unfolding AreReadsKnown
 reads_now opening ghosts [] all = all
 reads_now opening ghosts (event ∷ before) all = all.1

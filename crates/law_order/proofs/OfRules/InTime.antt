@@ -45,6 +45,10 @@ told_apart : (newer older : List TraceLine) (line : TraceLine) (acts before : Li
 told_apart [] older line acts before = refl
 told_apart (x ∷ newer) older line acts before = ap (λ (y : List GhostEvent). Tells x ∷ y) (told_apart newer older line acts before)
 
+told_of : (newer older : List TraceLine) (line : TraceLine) (acts : List GhostEvent) → map Tells (newer ++ line ∷ older) ++ acts ≡ map Tells newer ++ Tells line ∷ (map Tells older ++ acts)
+told_of [] older line acts = refl
+told_of (x ∷ newer) older line acts = ap (λ (y : List GhostEvent). Tells x ∷ y) (told_of newer older line acts)
+
 log_told : (home : ℕ → ℕ) (g : Ghosts) (lines : List TraceLine) (before : List GhostEvent) → (ghost_run home g (map Tells lines ++ before)).log ≡ (ghost_run home g before).log
 unfolding ghost_run ghosts_after
 log_told home g [] before = refl
@@ -59,11 +63,11 @@ published_behind opening ghosts [] before its = its
 published_behind opening ghosts (event ∷ later) before its = published_behind opening ghosts later before its.1
 
 -- ---- the log's events of a life
-record IsBehind (opening : World) (later before : List Event) : Type 0 where
-  front : List GhostEvent
-  all : mapped opening (later ++ before) ≡ front ++ mapped opening before
+pub record IsBehind (opening : World) (later before : List Event) : Type 0 where
+  pub front : List GhostEvent
+  pub all : mapped opening (later ++ before) ≡ front ++ mapped opening before
 
-behind : (opening : World) (later before : List Event) → IsBehind opening later before
+pub behind : (opening : World) (later before : List Event) → IsBehind opening later before
 unfolding mapped
 behind opening [] before = record { front = []; all = refl }
 behind opening (event ∷ later) before =
@@ -72,11 +76,12 @@ behind opening (event ∷ later) before =
     record { front = these ++ its.front; all = ap (λ (x : List GhostEvent). these ++ x) its.all ∙ sym (append_assoc these its.front (mapped opening before)) }
 
 -- a line that an event tells is told behind what the event does before
-record IsTold (opening : World) (before : List Event) (event : Event) (line : TraceLine) : Type 0 where
-  newer : List GhostEvent
-  older : List GhostEvent
-  all : mapped opening (event ∷ before) ≡ newer ++ (Tells line ∷ (older ++ mapped opening before))
-  log : (home : ℕ → ℕ) (g : Ghosts) → (ghost_run home g (mapped opening (event ∷ before))).log ≡ (ghost_run home g (older ++ mapped opening before)).log
+pub record IsTold (opening : World) (before : List Event) (event : Event) (line : TraceLine) : Type 0 where
+  pub newer : List GhostEvent
+  pub older : List GhostEvent
+  pub its : ghost_events (serials_in opening.now) (run opening before) event ≡ newer ++ Tells line ∷ older
+  pub all : mapped opening (event ∷ before) ≡ newer ++ (Tells line ∷ (older ++ mapped opening before))
+  pub log : (home : ℕ → ℕ) (g : Ghosts) → (ghost_run home g (mapped opening (event ∷ before))).log ≡ (ghost_run home g (older ++ mapped opening before)).log
 
 -- after a crash an event tells nothing
 told_over : (w : World) (event : Event) → w.now.crashed ≡ true → told_by w.now (happens w event).now event ≡ []
@@ -96,6 +101,11 @@ alive_whole : (opening : World) (before : List Event) (event : Event) → (run o
 unfolding mapped ghost_events
 alive_whole opening before event alive = ap (λ (c : Bool). (if c then [] else map Tells (event_adds opening before event) ++ acts opening before event) ++ mapped opening before) alive
 
+alive_event : (opening : World) (before : List Event) (event : Event) → (run opening before).now.crashed ≡ false
+    → ghost_events (serials_in opening.now) (run opening before) event ≡ map Tells (event_adds opening before event) ++ acts opening before event
+unfolding ghost_events
+alive_event opening before event alive = ap (λ (c : Bool). if c then [] else map Tells (event_adds opening before event) ++ acts opening before event) alive
+
 told_alive : (opening : World) (before : List Event) (event : Event) (line : TraceLine) → StandsAt line (event_adds opening before event) → (run opening before).now.crashed ≡ false → IsTold opening before event line
 told_alive opening before event line at alive =
     let apart = alive_whole opening before event alive ∙ ap (λ (x : List TraceLine). (map Tells x ++ acts opening before event) ++ mapped opening before) at.all
@@ -103,12 +113,13 @@ told_alive opening before event line at alive =
     record {
       newer = map Tells at.newer;
       older = map Tells at.older ++ acts opening before event;
+      its = alive_event opening before event alive ∙ (ap (λ (x : List TraceLine). map Tells x ++ acts opening before event) at.all ∙ told_of at.newer at.older line (acts opening before event));
       all = apart;
       log = λ home g. ap (λ (x : List GhostEvent). (ghost_run home g x).log) apart ∙ log_told home g at.newer (Tells line ∷ ((map Tells at.older ++ acts opening before event) ++ mapped opening before))
           ∙ line_log home g line ((map Tells at.older ++ acts opening before event) ++ mapped opening before);
     }
 
-told : (opening : World) (before : List Event) (event : Event) (line : TraceLine) → IsIn line (event_adds opening before event) → IsTold opening before event line
+pub told : (opening : World) (before : List Event) (event : Event) (line : TraceLine) → IsIn line (event_adds opening before event) → IsTold opening before event line
 told opening before event line is_in = by_crash (run opening before).now.crashed refl
   where
     by_crash : (crashed : Bool) → (run opening before).now.crashed ≡ crashed → IsTold opening before event line

@@ -1,5 +1,5 @@
 -- A read keeps its key, and what had taken effect as it was called, whatever the log's events are: so its value is one that its key had since then.
-use Rattle.std.proofs.Common.{◌≡◌, inl, inr, ℕ, ◌∙◌, append_assoc, List, [], ◌∷◌, ◌++◌, refl, sym, ap, subst}
+use Rattle.std.proofs.Common.{◌≡◌, inl, inr, ℕ, ◌∙◌, append_assoc, Option, List, [], ◌∷◌, ◌++◌, refl, sym, ap, subst}
 use Rattle.std.specs.FinMap.{get}
 use Rattle.fkv_map.specs.History.{content}
 use Rattle.fkv_map.specs.Map.{Map, reply_to_read}
@@ -21,7 +21,7 @@ history_append [] older = sym (nil_right (history_of older))
 history_append (effect ∷ newer) older = ap (λ (x : List HistoryEntry). x ++ effect.entry ∷ []) (history_append newer older) ∙ append_assoc (history_of older) (history_of newer) (effect.entry ∷ [])
 
 -- ---- it was called for this key, when this had taken effect
-WasCalled : ℕ → List Effect → Reading → Type 0
+pub WasCalled : ℕ → List Effect → Reading → Type 0
 WasCalled key seen NotCalled = ⊥
 WasCalled key seen (Called k s) = (k ≡ key) × (s ≡ seen)
 WasCalled key seen (Walks k s a) = (k ≡ key) × (s ≡ seen)
@@ -80,7 +80,7 @@ here_called key seen reads reader = elim (at_one reads reader (Called key seen) 
   | inr other ↦ absurd (other.0 refl)
 ]
 
-run_so : (home : ℕ → ℕ) (opening : Ghosts) (between earlier : List GhostEvent) (reader key : ℕ) → AreEnabled home opening (between ++ Tells (CallsRead reader key) ∷ earlier)
+pub run_so : (home : ℕ → ℕ) (opening : Ghosts) (between earlier : List GhostEvent) (reader key : ℕ) → AreEnabled home opening (between ++ Tells (CallsRead reader key) ∷ earlier)
     → WasCalled key (ghost_run home opening earlier).log.history ((ghost_run home opening (between ++ Tells (CallsRead reader key) ∷ earlier)).reads reader)
 unfolding ghost_run ghosts_after AreEnabled
 run_so home opening [] earlier reader key enabled = here_called key (ghost_run home opening earlier).log.history (ghost_run home opening earlier).reads reader
@@ -88,20 +88,31 @@ run_so home opening (event ∷ between) earlier reader key enabled =
     event_so home (ghost_run home opening (between ++ Tells (CallsRead reader key) ∷ earlier)) event key (ghost_run home opening earlier).log.history reader enabled.1 (run_so home opening between earlier reader key enabled.0)
 
 -- ---- its answer
+pub had_in_time : (m : Map) (history seen : List Effect) (key : ℕ) (value : Option ℕ) (reply : Reply) → HadValue m history seen key value → reply ≡ reply_to_read value → IsInTime m (history_of seen) (history_of history) key reply
+had_in_time m history seen key value reply had replied = record {
+  between = history_of had.between;
+  newer = history_of had.newer;
+  all = ap history_of had.all ∙ history_append had.newer (had.between ++ seen)
+      ∙ ap (λ (x : List HistoryEntry). x ++ history_of had.newer) (history_append had.between seen) ∙ append_assoc (history_of seen) (history_of had.between) (history_of had.newer);
+  value = replied ∙ ap reply_to_read (had.its ∙ ap (λ (x : List HistoryEntry). get (content m x) key) (history_append had.between seen));
+}
+
+-- a read that goes down its chain, and one that has its value, was called so
+pub walks_so : (key : ℕ) (seen : List Effect) (reading : Reading) (k : ℕ) (s : List Effect) (a : ℕ) → reading ≡ Walks k s a → WasCalled key seen reading → (k ≡ key) × (s ≡ seen)
+unfolding WasCalled
+walks_so key seen reading k s a is was = subst (WasCalled key seen) is was
+
+has_so : (key : ℕ) (seen : List Effect) (reading : Reading) (k : ℕ) (s : List Effect) (value : Option ℕ) → reading ≡ HasValue k s value → WasCalled key seen reading → (k ≡ key) × (s ≡ seen)
+unfolding WasCalled
+has_so key seen reading k s value is was = subst (WasCalled key seen) is was
+
 answer_so : (home : ℕ → ℕ) (m : Map) (g : Ghosts) (seen : List Effect) (reader key : ℕ) (reply : Reply) → IsSound home m g → WasCalled key seen (g.reads reader) → IsLineEnabled g (AnswersRead reader reply)
     → IsInTime m (history_of seen) (history_of g.log.history) key reply
-unfolding WasCalled
 answer_so home m g seen reader key reply sound was enabled =
-    let same = subst (WasCalled key seen) enabled.3 was in
+    let same = has_so key seen (g.reads reader) enabled.0 enabled.1 enabled.2 enabled.3 was in
     let had : HadValue m g.log.history enabled.1 enabled.0 enabled.2 = (subst (KnowsRead home m g.log g.trace reader) enabled.3 (sound.knows reader)).1 in
-    record {
-      between = history_of had.between;
-      newer = history_of had.newer;
-      all = ap history_of (had.all ∙ ap (λ s. had.newer ++ (had.between ++ s)) same.1) ∙ history_append had.newer (had.between ++ seen)
-          ∙ ap (λ (x : List HistoryEntry). x ++ history_of had.newer) (history_append had.between seen) ∙ append_assoc (history_of seen) (history_of had.between) (history_of had.newer);
-      value = enabled.4 ∙ ap reply_to_read (had.its ∙ ap (λ s. value_in m (had.between ++ s) enabled.0) same.1 ∙ ap (λ k. value_in m (had.between ++ seen) k) same.0
-          ∙ ap (λ (x : List HistoryEntry). get (content m x) key) (history_append had.between seen));
-    }
+    subst (λ k. IsInTime m (history_of seen) (history_of g.log.history) k reply) same.0
+    (subst (λ (s : List Effect). IsInTime m (history_of s) (history_of g.log.history) enabled.0 reply) same.1 (had_in_time m g.log.history enabled.1 enabled.0 enabled.2 reply had enabled.4))
 
 pub in_time : (home : ℕ → ℕ) (m : Map) (version : ℕ) (opening : Ghosts) (between earlier : List GhostEvent) (reader key : ℕ) (reply : Reply) → IsOpened home m version opening
     → AreEnabled home opening (Tells (AnswersRead reader reply) ∷ (between ++ Tells (CallsRead reader key) ∷ earlier))

@@ -16,7 +16,7 @@ use Rattle.fkv_playing.specs.Players.{PlayerState}
 use Rattle.fkv_playing.specs.declared.calls.Telling.{Telling}
 use Rattle.fkv_session.specs.Answers.{IsAnswerTold}
 use Rattle.fkv_session.specs.SessionRun.{telling}
-use Rattle.fkv_session.specs.Sessions.{SessionState}
+use Rattle.fkv_session.specs.Sessions.{SessionState, is_busy}
 use Rattle.fkv_session.specs.declared.answers.Answer.{Answer}
 use Rattle.fkv_session.specs.declared.answers.Answer.TheVariants as answer
 use Rattle.fkv_session.specs.declared.answers.Finished.{Finished}
@@ -26,6 +26,7 @@ use Rattle.fkv_session.specs.declared.answers.Told.TheVariants as told
 use Rattle.fkv_session.specs.declared.sessions.Sitting.{Sitting}
 use Rattle.fkv_session.specs.declared.sessions.Sitting.TheVariants.{Idle}
 use Rattle.fkv_texts.specs.Sessions.{finished_by}
+use Rattle.fkv_world.specs.Opened.{IsOpenedWorld}
 use Rattle.fkv_world.specs.Past.{Answered, Called, Traced}
 use Rattle.fkv_world.specs.Runs.{World, run}
 use Rattle.fkv_world.specs.World.{Calls, Event, Now}
@@ -33,6 +34,7 @@ use Rattle.law_log.specs.Trace.{CallsRead, Effect, GivesResult, IsIn, history_of
 use Rattle.law_opening.specs.Log.Maps.{opening_map}
 use Rattle.law_order.specs.OneHistory.EachLife.{InEachLife, IsLife, Life}
 use Rattle.law_order.specs.Rules.Ordered.{HasLegalHistory, OrdersItsCalls, effects_so_far, lines_so_far}
+use Rattle.law_order.proofs.OfRules.Beginning.{world_opens}
 use Rattle.law_refine.specs.Calls.Calls.{event_adds}
 use Rattle.law_refine.specs.Events.GhostEvents.{serials_in}
 use Rattle.law_refine.specs.Events.Lines.{finished_line, finished_lines, lines_of}
@@ -114,6 +116,12 @@ pub record IsTraced (bytes : List ℕ) (first : Now) (life : List Event) (number
   pub s : SessionState
   pub found : slice_get (run (beginning first bytes) (called_alone number count asked life)).now.sessions number ≡ Some s
   pub at_rest : (let now = s in now.step ≡ Idle its)
+  -- and this it was before, without a call in hand
+  pub opened : IsOpenedWorld (beginning first bytes)
+  pub alive : (run (beginning first bytes) life).now.crashed ≡ false
+  pub was : SessionState
+  pub was_found : slice_get (run (beginning first bytes) life).now.sessions number ≡ Some was
+  pub idle : is_busy was.step ≡ false
 
 pub traced : {D : Type 0} (telling : Telling) (number count : ℕ) (asked : Call) (bytes : List ℕ) (o : Opened) (first : Now) (life : List Event) (before after : PlayerState D) (text : List ℕ)
     → IsQuietLife bytes o first life before.world.now → NobodyCalls before.world.now
@@ -142,6 +150,11 @@ traced telling number count asked bytes o first life before after text quiet nob
       s = answered.s;
       found = is_now;
       at_rest = answered.at_rest;
+      opened = world_opens o first bytes quiet.opening;
+      alive = alive;
+      was = there.s;
+      was_found = there.found;
+      idle = idle;
     }
 
 module _ (legal : InEachLife HasLegalHistory) (ordered : InEachLife OrdersItsCalls) where

@@ -1,12 +1,17 @@
--- The value that a poll gives for a read is its key's, at some moment between the read's call and the answer.
-use Rattle.std.proofs.Common.{◌≡◌, ◌<◌, ◌∙◌, ℕ, List, [], ◌∷◌, ◌++◌, ap, append_assoc, inl, inr, length, refl, sym, subst}
+-- The value that a poll gives for a read is its key's as the read was called.
+use Rattle.std.proofs.Common.{◌≡◌, ◌<◌, ◌+◌, ◌∙◌, ℕ, List, [], ◌∷◌, ◌++◌, ap, append_assoc, arith, inl, inr, length, refl, replicate, sym, subst}
 use Rattle.std.specs.Prelude.{Option, Some, slice_get}
+use Rattle.std.proofs.lemmas.List.{append-nil}
 use Rattle.fkv_base.specs.declared.numbers.Key.{Key}
 use Rattle.fkv_base.specs.declared.numbers.Value.{Value}
 use Rattle.fkv_core.specs.Openings.{beginning}
+use Rattle.fkv_map.specs.History.{content}
+use Rattle.fkv_map.specs.Map.{Map, reply_to}
+use Rattle.fkv_map.specs.declared.history.HistoryEntry.{HistoryEntry}
 use Rattle.fkv_map.specs.declared.operations.Call.{Call}
 use Rattle.fkv_map.specs.declared.operations.Call.TheVariants as call
 use Rattle.fkv_map.specs.declared.operations.Op.TheVariants.{Read}
+use Rattle.fkv_map.specs.declared.operations.Reply.{Reply}
 use Rattle.fkv_opening.specs.declared.opened_store.Opened.{Opened}
 use Rattle.fkv_pending.specs.declared.pending_requests.Ticket.{Ticket}
 use Rattle.fkv_playing.specs.Seats.{SeatState}
@@ -22,21 +27,24 @@ use Rattle.fkv_texts.specs.Polls.{key_of_ticket}
 use Rattle.fkv_world.specs.Opened.{IsOpenedWorld, answers_of}
 use Rattle.fkv_world.specs.Past.{Answered, Called, Traced}
 use Rattle.fkv_world.specs.Runs.{run}
-use Rattle.fkv_world.specs.World.{Calls, Event, Now}
-use Rattle.law_log.specs.Trace.{AnswersRead, CallsRead, IsIn, TraceLine}
+use Rattle.fkv_world.specs.World.{Calls, Event, Moves, Now}
+use Rattle.law_log.specs.Trace.{AnswersRead, CallsRead, Effect, IsIn, TraceLine, history_of}
 use Rattle.law_order.specs.OneHistory.EachLife.{InEachLife, IsLife, Life}
-use Rattle.law_order.specs.Rules.InTime.{ReadsInTime}
-use Rattle.law_order.specs.Rules.Ordered.{ReadsFreshly, lines_so_far}
+use Rattle.law_opening.specs.Log.Maps.{opening_map}
+use Rattle.law_order.specs.Rules.InTime.{IsInTime}
+use Rattle.law_order.specs.Rules.Ordered.{ReadsFreshly, effects_so_far, lines_so_far}
+use Rattle.law_order.specs.Rules.Waiting.{WaitingReadsInTime, waiting_read}
 use Rattle.law_order.proofs.OfReads.LifeNumbers.{life_numbered}
 use Rattle.law_order.proofs.OfReads.Numbers.{own_below}
 use Rattle.law_refine.specs.Calls.Calls.{event_adds}
 use Rattle.law_refine.specs.Events.GhostEvents.{serials_in}
 use Rattle.law_refine.specs.Events.Lines.{event_lines, lines_of, read_reply}
 use Rattle.law_program.specs.PlayedCalls.PlayedCalls.{called_alone}
-use Rattle.law_program.specs.PlayedCalls.Waiting.{AreReadInTime, IsReadCalled, IsReadInTime, SeatsKeepKeys, StandsForKey, key_told, reader_of}
+use Rattle.law_program.specs.PlayedCalls.Waiting.{AreReadAtCalls, IsReadAtCall, IsReadCalled, SeatsKeepKeys, StandsForKey, key_told, reader_of}
 use Rattle.law_program.proofs.OfPlayedCalls.Polled.{IsPolled, IsTraced, finished_in, line_in, polled, trace_of_call}
 use Rattle.law_program.proofs.OfPlayedCalls.InLife.{was_there}
 use Rattle.law_program.proofs.OfPlayedCalls.ReadCalls.{called_before}
+use Rattle.law_program.proofs.OfPlayedCalls.ToldToWait.{call_adds_none}
 use Rattle.law_program.proofs.OfPlayedCalls.Tickets.{accounted, key_of_given, ticket_given}
 use Rattle.law_program.proofs.OfWholeCalls.InLists.{in_right}
 
@@ -46,7 +54,21 @@ line_parted [] line is_in = absurd is_in
 line_parted (x ∷ rest) line (inl same) = ([], rest, ap (λ (y : TraceLine). y ∷ rest) same)
 line_parted (x ∷ rest) line (inr more) = let its = line_parted rest line more in (x ∷ its.0, its.1, ap (λ (xs : List TraceLine). x ∷ xs) its.2)
 
-module _ (fresh : InEachLife ReadsFreshly) (in_time : InEachLife ReadsInTime) (bytes : List ℕ) (o : Opened) (first : Now) (life : List Event) (number count : ℕ) (asked : Call) (its : Told) (list : List Finished)
+-- where nothing took effect in between, a reply of that time is the map's
+none_more : (first between newer : List HistoryEntry) → first ≡ first ++ (between ++ newer) → between ≡ []
+none_more first [] newer all = refl
+none_more first (entry ∷ between) newer all = let long = ap length all in let parts = lengths first (entry ∷ (between ++ newer)) in absurd (omega (arith, long, parts))
+  where
+    lengths : (xs ys : List HistoryEntry) → length (xs ++ ys) ≡ length xs + length ys
+    lengths [] ys = omega arith
+    lengths (x ∷ xs) ys = let rest = lengths xs ys in omega (arith, rest)
+
+alone_so : (m : Map) (effects : List Effect) (key : Key) (reply : Reply) → IsInTime m (history_of effects) (history_of effects) key.0 reply → reply ≡ reply_to (content m (history_of effects)) (Read key)
+alone_so m effects key reply its =
+    its.value
+    ∙ ap (λ (x : List HistoryEntry). reply_to (content m x) (Read key)) (ap (λ (x : List HistoryEntry). history_of effects ++ x) (none_more (history_of effects) its.between its.newer its.all) ∙ append-nil (history_of effects))
+
+module _ (fresh : InEachLife ReadsFreshly) (waiting : InEachLife WaitingReadsInTime) (bytes : List ℕ) (o : Opened) (first : Now) (life : List Event) (number count : ℕ) (asked : Call) (its : Told) (list : List Finished)
     (at : IsTraced bytes first life number count asked its list) (is_life : IsLife (record { bytes = bytes; opened = o; world = first; events = called_alone number count asked life })) where
   abbrev later : List Event
   later = called_alone number count asked life
@@ -72,7 +94,7 @@ module _ (fresh : InEachLife ReadsFreshly) (in_time : InEachLife ReadsInTime) (b
       )
 
   -- of the key that is kept
-  called_so : (ticket : Ticket) (value : Option Value) (key : Key) → IsPolled its list (finished.Read ticket value) → StandsForKey bytes first life number ticket key → IsReadCalled bytes first life number (reader_of bytes first life number ticket) key
+  called_so : (ticket : Ticket) (value : Option Value) (key : Key) → IsPolled its list (finished.Read ticket value) → StandsForKey bytes first life number ticket key → IsReadCalled bytes first life number ticket (reader_of bytes first life number ticket) key
   called_so ticket value key is stands = let before = read_before ticket value is stands.before in (stands.read before.0 before.1).1
 
   -- and one is kept, since the ticket was given
@@ -99,28 +121,43 @@ module _ (fresh : InEachLife ReadsFreshly) (in_time : InEachLife ReadsInTime) (b
       (subst (λ (x : Told). IsIn (AnswersRead (reader_of bytes first life number ticket) (read_reply value)) (event_lines (serials_in first) (call ∷ (run (beginning first bytes) life).past.trace) (Answered number (telling x list)))) (sym is.polled)
       (finished_in number (call ∷ (run (beginning first bytes) life).past.trace) (finished.Read ticket value) list is.is_in))
 
-  read_in_time : (ticket : Ticket) (value : Option Value) (key : Key) → IsPolled its list (finished.Read ticket value) → StandsForKey bytes first life number ticket key → IsReadInTime bytes o first life later number ticket key value
-  read_in_time ticket value key is stands =
-      let read = called_so ticket value key is stands in
-      let calls : Event = Calls number (call.Op (Read key)) in
-      let given = at.given in
-      let mid : given.between ++ life ≡ (given.between ++ read.since) ++ calls ∷ read.earlier
-      = ap (λ (x : List Event). given.between ++ x) read.called ∙ sym (append_assoc given.between read.since (calls ∷ read.earlier)) in
-      let whole : later ≡ given.behind ++ given.answer ∷ ((given.between ++ read.since) ++ calls ∷ read.earlier) = given.so ∙ ap (λ (x : List Event). given.behind ++ given.answer ∷ x) mid in
-      record {
-        read = read;
-        behind = given.behind;
-        answered = given.answer ∷ ((given.between ++ read.since) ++ calls ∷ read.earlier);
-        within = whole;
-        in_time =
-            in_time lived is_life given.behind (given.between ++ read.since) read.earlier calls given.answer (reader_of bytes first life number ticket) key.0 (read_reply value) whole read.line
-            (subst (λ (x : List Event). IsIn (AnswersRead (reader_of bytes first life number ticket) (read_reply value)) (event_adds (beginning first bytes) x given.answer)) mid (answer_line ticket value is));
-      }
+  read_at_call : (ticket : Ticket) (value : Option Value) (key : Key) → IsPolled its list (finished.Read ticket value) → StandsForKey bytes first life number ticket key → IsReadAtCall bytes o first life number ticket key value
+  read_at_call ticket value key is stands = record { read = read; by_map = alone_so (opening_map bytes o) (effects_so_far first bytes read.earlier) key (read_reply value) so }
+    where
+      read : IsReadCalled bytes first life number ticket (reader_of bytes first life number ticket) key
+      read = called_so ticket value key is stands
+
+      calls : Event
+      calls = Calls number (call.Op (Read key))
+
+      there : List Event
+      there = called_alone number read.moves (call.Op (Read key)) read.earlier
+
+      mid : at.given.between ++ life ≡ (at.given.between ++ read.since) ++ there
+      mid = ap (λ (x : List Event). at.given.between ++ x) read.called ∙ sym (append_assoc at.given.between read.since there)
+
+      whole : later ≡ at.given.behind ++ at.given.answer ∷ ((at.given.between ++ read.since) ++ there)
+      whole = at.given.so ∙ ap (λ (x : List Event). at.given.behind ++ at.given.answer ∷ x) mid
+
+      told_there : IsIn (AnswersRead (waiting_read first bytes there number ticket) (read_reply value)) (event_adds (beginning first bytes) ((at.given.between ++ read.since) ++ there) at.given.answer)
+      told_there =
+          subst (λ (n : ℕ). IsIn (AnswersRead n (read_reply value)) (event_adds (beginning first bytes) ((at.given.between ++ read.since) ++ there) at.given.answer)) (sym read.its_number)
+          (subst (λ (x : List Event). IsIn (AnswersRead (reader_of bytes first life number ticket) (read_reply value)) (event_adds (beginning first bytes) x at.given.answer)) mid (answer_line ticket value is))
+
+      by_law : IsInTime (opening_map bytes o) (history_of (effects_so_far first bytes (calls ∷ read.earlier))) (history_of (effects_so_far first bytes there)) key.0 (read_reply value)
+      by_law =
+          waiting lived is_life at.given.behind (at.given.between ++ read.since) (replicate read.moves (Moves number)) read.earlier calls at.given.answer number key.0 ticket (read_reply value) whole read.waits
+          (subst (λ (n : ℕ). IsIn (CallsRead n key.0) (event_adds (beginning first bytes) read.earlier calls)) (sym read.its_number) read.line) told_there
+
+      so : IsInTime (opening_map bytes o) (history_of (effects_so_far first bytes read.earlier)) (history_of (effects_so_far first bytes read.earlier)) key.0 (read_reply value)
+      so =
+          subst (λ (x : List Effect). IsInTime (opening_map bytes o) (history_of x) (history_of (effects_so_far first bytes read.earlier)) key.0 (read_reply value)) (call_adds_none bytes first read.earlier number (call.Op (Read key)))
+          (subst (λ (x : List Effect). IsInTime (opening_map bytes o) (history_of (effects_so_far first bytes (calls ∷ read.earlier))) (history_of x) key.0 (read_reply value)) read.none by_law)
 
   pub reads_answered : IsOpenedWorld (beginning first bytes) → (seats : List SeatState) (given : Answer) → IsAnswerTold its list given → SeatsKeepKeys bytes first life seats → (seat : SeatState) → slice_get seats number ≡ Some seat
-      → AreReadInTime bytes o first life later number seat.waiting given
+      → AreReadAtCalls bytes o first life number seat.waiting given
   reads_answered opened seats given is_told keeps seat there ticket value is_in =
       let is = polled its list given (finished.Read ticket value) is_told is_in in
       let key = key_kept opened ticket value is in
       let kept : key_of_ticket seat.waiting ticket ≡ Some key.0 = keeps.told number seat there ticket ∙ key.1 in
-      record { key = key.0; kept = kept; in_time = read_in_time ticket value key.0 is (keeps.stand number seat there ticket key.0 kept) }
+      record { key = key.0; kept = kept; at_call = read_at_call ticket value key.0 is (keeps.stand number seat there ticket key.0 kept) }

@@ -27,6 +27,7 @@ use Rattle.fkv_world.specs.Runs.{run}
 use Rattle.fkv_world.specs.World.{Calls, Event, Moves, Now}
 use Rattle.law_log.specs.Trace.{CallsRead, IsIn}
 use Rattle.law_order.specs.Rules.Ordered.{lines_so_far}
+use Rattle.law_order.specs.Rules.Waiting.{HasWaiting, waiting_read}
 use Rattle.law_order.proofs.OfReads.Numbers.{called_hand, other_waiting, same_number}
 use Rattle.law_refine.proofs.OfCalls.Called.{is_other}
 use Rattle.law_refine.specs.Events.GhostEvents.{serials_in}
@@ -35,6 +36,7 @@ use Rattle.law_program.specs.PlayedCalls.PlayedCalls.{called_alone}
 use Rattle.law_program.specs.PlayedCalls.Waiting.{IsReadCalled, SeatsKeepKeys, StandsForKey, key_made, key_or, key_told, reader_of}
 use Rattle.law_program.proofs.OfPlayedCalls.Polled.{IsTraced, trace_of_call}
 use Rattle.law_program.proofs.OfPlayedCalls.ReadCalls.{IsReadOf, called_before, called_now}
+use Rattle.law_program.proofs.OfPlayedCalls.ToldToWait.{has_waiting, none_taken}
 
 -- ---- the keys that are kept
 one_mapped : (c : Bool) (read : WaitingRead) (rest : Option WaitingRead) → option_map (λ (x : WaitingRead). x.key) (cond c (Some read) rest) ≡ cond c (Some read.key) (option_map (λ (x : WaitingRead). x.key) rest)
@@ -71,21 +73,25 @@ stands_on bytes first life later front added number ticket key so grown same sta
         subst (λ (n : ℕ). n < length (run (beginning first bytes) later).past.trace) (sym same)
         (subst (λ (x : List Traced). reader_of bytes first life number ticket < length x) (sym grown) (more added (run (beginning first bytes) life).past.trace (reader_of bytes first life number ticket) stands.before))
 
-    called_on : (reader : ℕ) → IsReadCalled bytes first life number reader key → IsReadCalled bytes first later number reader key
+    called_on : (reader : ℕ) → IsReadCalled bytes first life number ticket reader key → IsReadCalled bytes first later number ticket reader key
     called_on reader its = record {
       since = front ++ its.since;
+      moves = its.moves;
       earlier = its.earlier;
-      called = so ∙ (ap (λ (x : List Event). front ++ x) its.called ∙ sym (append_assoc front its.since (Calls number (call.Op (Read key)) ∷ its.earlier)));
+      called = so ∙ (ap (λ (x : List Event). front ++ x) its.called ∙ sym (append_assoc front its.since (called_alone number its.moves (call.Op (Read key)) its.earlier)));
       line = its.line;
+      none = its.none;
+      waits = its.waits;
+      its_number = its.its_number;
     }
 
-    read : (its : ℕ) → IsIn (CallsRead (reader_of bytes first later number ticket) its) (lines_so_far first bytes later) → (its ≡ key.0) × IsReadCalled bytes first later number (reader_of bytes first later number ticket) key
+    read : (its : ℕ) → IsIn (CallsRead (reader_of bytes first later number ticket) its) (lines_so_far first bytes later) → (its ≡ key.0) × IsReadCalled bytes first later number ticket (reader_of bytes first later number ticket) key
     read its is_in =
         let here : IsIn (CallsRead (reader_of bytes first life number ticket) its) (lines_of (serials_in first) (added ++ (run (beginning first bytes) life).past.trace))
         = subst (λ (x : List Traced). IsIn (CallsRead (reader_of bytes first life number ticket) its) (lines_of (serials_in first) x)) grown
         (subst (λ (n : ℕ). IsIn (CallsRead n its) (lines_so_far first bytes later)) same is_in) in
         let was = stands.read its (called_before its (reader_of bytes first life number ticket) (serials_in first) added (run (beginning first bytes) life).past.trace stands.before here) in
-        (was.0, subst (λ (n : ℕ). IsReadCalled bytes first later number n key) (sym same) (called_on (reader_of bytes first life number ticket) was.1))
+        (was.0, subst (λ (n : ℕ). IsReadCalled bytes first later number ticket n key) (sym same) (called_on (reader_of bytes first life number ticket) was.1))
 
 -- ---- by a call of the session
 -- an answer that is no ticket leaves what waits
@@ -158,8 +164,8 @@ module _ (bytes : List ℕ) (first : Now) (life : List Event) (number count : �
         ∙ (if_now (gives_ticket number ticket.0 (Answered number (telling its list))) (read_in_hand number (record { its = Called number asked; effects = at.e } ∷ trace)) (read_waiting number ticket.0 trace) gives
         ∙ called_hand at.e number asked trace)
 
-    stands_now : (ticket : Ticket) (key : Key) → gives_ticket number ticket.0 (Answered number (telling its list)) ≡ true → ((k : Key) → asked ≡ call.Op (Read k) → k ≡ key) → StandsForKey bytes first later number ticket key
-    stands_now ticket key gives only = record {
+    stands_now : (ticket : Ticket) (key : Key) → its ≡ told.PendingRead ticket → gives_ticket number ticket.0 (Answered number (telling its list)) ≡ true → ((k : Key) → asked ≡ call.Op (Read k) → k ≡ key) → StandsForKey bytes first later number ticket key
+    stands_now ticket key waits gives only = record {
       before =
           subst (λ (n : ℕ). n < length (run (beginning first bytes) later).past.trace) (sym (own_now ticket gives))
           (subst (λ (x : List Traced). length trace < length x) (sym at.so) (omega arith));
@@ -169,19 +175,24 @@ module _ (bytes : List ℕ) (first : Now) (life : List Event) (number count : �
           let read : IsReadOf asked k = called_now k (serials_in first) number at.e at.later asked (Answered number (telling its list)) trace here in
           let same : read.its_key ≡ key = only read.its_key read.its_op in (
             read.same ∙ ap (λ (x : Key). x.0) same,
-            subst (λ (n : ℕ). IsReadCalled bytes first later number n key) (sym (own_now ticket gives))
-                (subst (λ (x : Key). IsReadCalled bytes first later number (length trace) x) same (called_here read.its_key read.its_op)),
+            subst (λ (n : ℕ). IsReadCalled bytes first later number ticket n key) (sym (own_now ticket gives))
+                (subst (λ (x : Key). IsReadCalled bytes first later number ticket (length trace) x) same (called_here read.its_key read.its_op)),
           );
     }
       where
-        called_here : (k : Key) → asked ≡ call.Op (Read k) → IsReadCalled bytes first later number (length trace) k
+        called_here : (k : Key) → asked ≡ call.Op (Read k) → IsReadCalled bytes first later number ticket (length trace) k
         called_here k is =
             let its_line = at.line k is in
+            let now : IsTraced bytes first life number count asked (told.PendingRead ticket) list = subst (λ (x : Told). IsTraced bytes first life number count asked x list) waits at in
             record {
-              since = replicate count (Moves number);
+              since = [];
+              moves = count;
               earlier = life;
-              called = ap (λ (x : Call). replicate count (Moves number) ++ Calls number x ∷ life) is;
+              called = ap (λ (x : Call). called_alone number count x life) is;
               line = its_line;
+              none = none_taken bytes first life number count asked ticket list now k is;
+              waits = subst (λ (x : Call). HasWaiting (run (beginning first bytes) (called_alone number count x life)).now number ticket) is (has_waiting bytes first life number count asked ticket list now);
+              its_number = subst (λ (x : Call). waiting_read first bytes (called_alone number count x life) number ticket ≡ length trace) is (own_now ticket gives);
             }
 
   own_number : (number == number) ≡ true
@@ -208,7 +219,8 @@ module _ (bytes : List ℕ) (first : Now) (life : List Event) (number count : �
         → key_of_ticket (waiting ++ read_of told_now (key_of_call asked)) ticket ≡ Some key → StandsForKey bytes first later number ticket key
     kept_told told_now list at ticket key true e found =
         let same : nat_eq told_now.0 ticket.0 ≡ true = grind (arith, nat_tests, e) in
-        stands_now (told.PendingRead told_now) list at ticket key (both_so (number == number) (told_now.0 == ticket.0) own_number ∙ e)
+        let same_number_told : told_now.0 ≡ ticket.0 = grind (arith, nat_tests, e) in
+        stands_now (told.PendingRead told_now) list at ticket key (ap (λ (n : ℕ). told.PendingRead (record { 0 = n })) same_number_told) (both_so (number == number) (told_now.0 == ticket.0) own_number ∙ e)
         (λ k is. found_now told_now k ticket key same (subst (λ (x : Call). key_of_ticket (waiting ++ read_of told_now (key_of_call x)) ticket ≡ Some key) is found))
     kept_told told_now list at ticket key false e found =
         let other : nat_eq told_now.0 ticket.0 ≡ false = grind (arith, nat_tests, e) in

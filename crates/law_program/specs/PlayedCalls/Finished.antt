@@ -15,7 +15,7 @@ use Rattle.fkv_world.specs.World.{Event, Now}
 use Rattle.law_log.specs.Trace.{Effect, IsIn, called_as, history_of}
 use Rattle.law_opening.specs.Log.Maps.{opening_map}
 use Rattle.law_order.specs.Rules.Ordered.{effects_so_far, lines_so_far}
-use Rattle.law_program.specs.PlayedCalls.Waiting.{AreReadInTime}
+use Rattle.law_program.specs.PlayedCalls.Waiting.{AreReadAtCalls}
 
 -- The update that the session called under this serial has taken effect in this life, and is replied so by the map that it found.
 pub record IsRepliedAtEffect (bytes : List ℕ) (o : Opened) (first : Now) (life : List Event) (number serial : ℕ) (reply : Reply) : Type 0 where
@@ -33,9 +33,9 @@ abbrev pub AreRepliedAtEffects : List ℕ → Opened → Now → List Event → 
 AreRepliedAtEffects bytes o first life number answer =
     (serial : Serial) (reply : Reply) → IsIn (finished.Update serial reply) (finished_by answer) → IsRepliedAtEffect bytes o first life number serial.0 reply
 
--- The session is answered. What is finished with it, as the history says: updates as they took effect, and reads since their calls.
+-- The session is answered. What is finished with it, as the history says: updates as they took effect, and reads as they were called.
 pub record IsCallAnswered (bytes : List ℕ) (o : Opened) (first : Now) (life later : List Event) (number : ℕ) (seats : List SeatState) (said : tells.Told) : Type 0 where
   pub answer : Answer
   pub same : said ≡ told.Session number answer
   pub updates : AreRepliedAtEffects bytes o first later number answer
-  pub reads : (seat : SeatState) → slice_get seats number ≡ Some seat → AreReadInTime bytes o first life later number seat.waiting answer
+  pub reads : (seat : SeatState) → slice_get seats number ≡ Some seat → AreReadAtCalls bytes o first life number seat.waiting answer

@@ -3,6 +3,7 @@ use Rattle.std.specs.Prelude.{◌≡◌, ◌<◌, ℕ, List, [], ◌∷◌, ◌+
 use Rattle.fkv_base.specs.declared.numbers.Key.{Key}
 use Rattle.fkv_base.specs.declared.numbers.Value.{Value}
 use Rattle.fkv_core.specs.Openings.{beginning}
+use Rattle.fkv_map.specs.Map.{reply_to}
 use Rattle.fkv_map.specs.declared.operations.Call.TheVariants as call
 use Rattle.fkv_map.specs.declared.operations.Op.TheVariants.{Read}
 use Rattle.fkv_opening.specs.declared.opened_store.Opened.{Opened}
@@ -16,19 +17,25 @@ use Rattle.fkv_texts.specs.declared.polls.WaitingRead.{WaitingRead}
 use Rattle.fkv_world.specs.Past.{Traced}
 use Rattle.fkv_world.specs.Runs.{run}
 use Rattle.fkv_world.specs.World.{Calls, Event, Now}
-use Rattle.law_log.specs.Trace.{CallsRead, IsIn, history_of}
-use Rattle.law_opening.specs.Log.Maps.{opening_map}
-use Rattle.law_order.specs.Rules.InTime.{IsInTime}
+use Rattle.law_log.specs.Trace.{CallsRead, IsIn}
 use Rattle.law_order.specs.Rules.Ordered.{effects_so_far, lines_so_far}
+use Rattle.law_order.specs.Rules.Waiting.{HasWaiting, waiting_read}
+use Rattle.law_program.specs.PlayedCalls.PlayedCalls.{called_alone}
+use Rattle.law_program.specs.WholeCalls.WholeCalls.{map_after}
 use Rattle.law_refine.specs.Calls.Calls.{event_adds}
 use Rattle.law_refine.specs.Events.Lines.{CallMade, gives_ticket, last_call, read_reply, read_waiting}
 
--- the session called a read of this key in the life, and the read has this number
-pub record IsReadCalled (bytes : List ℕ) (first : Now) (life : List Event) (number reader : ℕ) (key : Key) : Type 0 where
+-- The session called a read of this key in the life, and nobody else did anything until it was told this ticket. The read has this number. Nothing took effect
+-- in its call, and behind that it waits.
+pub record IsReadCalled (bytes : List ℕ) (first : Now) (life : List Event) (number : ℕ) (ticket : Ticket) (reader : ℕ) (key : Key) : Type 0 where
   pub since : List Event
+  pub moves : ℕ
   pub earlier : List Event
-  pub called : life ≡ since ++ Calls number (call.Op (Read key)) ∷ earlier
+  pub called : life ≡ since ++ called_alone number moves (call.Op (Read key)) earlier
   pub line : IsIn (CallsRead reader key.0) (event_adds (beginning first bytes) earlier (Calls number (call.Op (Read key))))
+  pub none : effects_so_far first bytes (called_alone number moves (call.Op (Read key)) earlier) ≡ effects_so_far first bytes earlier
+  pub waits : HasWaiting (run (beginning first bytes) (called_alone number moves (call.Op (Read key)) earlier)).now number ticket
+  pub its_number : waiting_read first bytes (called_alone number moves (call.Op (Read key)) earlier) number ticket ≡ reader
 
 -- the number of the call that was told this ticket last
 abbrev pub reader_of : List ℕ → Now → List Event → ℕ → Ticket → ℕ
@@ -37,7 +44,7 @@ reader_of bytes first life number ticket = read_waiting number ticket.0 (run (be
 -- A ticket stands for a call of before; and where that is a read, it is one of this key.
 pub record StandsForKey (bytes : List ℕ) (first : Now) (life : List Event) (number : ℕ) (ticket : Ticket) (key : Key) : Type 0 where
   pub before : reader_of bytes first life number ticket < length (run (beginning first bytes) life).past.trace
-  pub read : (its : ℕ) → IsIn (CallsRead (reader_of bytes first life number ticket) its) (lines_so_far first bytes life) → (its ≡ key.0) × IsReadCalled bytes first life number (reader_of bytes first life number ticket) key
+  pub read : (its : ℕ) → IsIn (CallsRead (reader_of bytes first life number ticket) its) (lines_so_far first bytes life) → (its ≡ key.0) × IsReadCalled bytes first life number ticket (reader_of bytes first life number ticket) key
 
 -- the key of a call, if it has one, and else this one
 abbrev pub key_or : Option Key → Option Key → Option Key
@@ -59,22 +66,19 @@ pub record SeatsKeepKeys (bytes : List ℕ) (first : Now) (life : List Event) (s
   pub stand : (number : ℕ) (seat : SeatState) → slice_get seats number ≡ Some seat → (ticket : Ticket) (key : Key) → key_of_ticket seat.waiting ticket ≡ Some key → StandsForKey bytes first life number ticket key
 
 -- ---- a poll's value
--- The ticket is of a read of this key that the session called in the life. This is the value of the key at some moment between that call and the answer, in the
--- life's one history.
-pub record IsReadInTime (bytes : List ℕ) (o : Opened) (first : Now) (life later : List Event) (number : ℕ) (ticket : Ticket) (key : Key) (value : Option Value) : Type 0 where
-  pub read : IsReadCalled bytes first life number (reader_of bytes first life number ticket) key
-  pub behind : List Event
-  pub answered : List Event
-  pub within : later ≡ behind ++ answered
-  pub in_time : IsInTime (opening_map bytes o) (history_of (effects_so_far first bytes (Calls number (call.Op (Read key)) ∷ read.earlier))) (history_of (effects_so_far first bytes answered)) key.0 (read_reply value)
+-- The ticket is of a read of this key that the session called in the life. This is what the map of that moment replies: the one that the store showed as the read
+-- was called.
+pub record IsReadAtCall (bytes : List ℕ) (o : Opened) (first : Now) (life : List Event) (number : ℕ) (ticket : Ticket) (key : Key) (value : Option Value) : Type 0 where
+  pub read : IsReadCalled bytes first life number ticket (reader_of bytes first life number ticket) key
+  pub by_map : read_reply value ≡ reply_to (map_after o first bytes read.earlier) (Read key)
 
 -- The seat keeps the key of its ticket, and the value is that key's.
-pub record IsKeptAndReadInTime (bytes : List ℕ) (o : Opened) (first : Now) (life later : List Event) (number : ℕ) (waiting : List WaitingRead) (ticket : Ticket) (value : Option Value) : Type 0 where
+pub record IsKeptAndReadAtCall (bytes : List ℕ) (o : Opened) (first : Now) (life : List Event) (number : ℕ) (waiting : List WaitingRead) (ticket : Ticket) (value : Option Value) : Type 0 where
   pub key : Key
   pub kept : key_of_ticket waiting ticket ≡ Some key
-  pub in_time : IsReadInTime bytes o first life later number ticket key value
+  pub at_call : IsReadAtCall bytes o first life number ticket key value
 
 -- so is each read that an answer says is finished
-abbrev pub AreReadInTime : List ℕ → Opened → Now → List Event → List Event → ℕ → List WaitingRead → Answer → Type 0
-AreReadInTime bytes o first life later number waiting answer =
-    (ticket : Ticket) (value : Option Value) → IsIn (finished.Read ticket value) (finished_by answer) → IsKeptAndReadInTime bytes o first life later number waiting ticket value
+abbrev pub AreReadAtCalls : List ℕ → Opened → Now → List Event → ℕ → List WaitingRead → Answer → Type 0
+AreReadAtCalls bytes o first life number waiting answer =
+    (ticket : Ticket) (value : Option Value) → IsIn (finished.Read ticket value) (finished_by answer) → IsKeptAndReadAtCall bytes o first life number waiting ticket value

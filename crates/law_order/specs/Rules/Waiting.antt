@@ -1,0 +1,40 @@
+-- A read that has to wait gives a value that its key had by then.
+use Rattle.std.specs.Prelude.{◌≡◌, ℕ, List, ◌∷◌, ◌++◌, Some, false, slice_get}
+use Rattle.fkv_core.specs.Openings.{beginning}
+use Rattle.fkv_map.specs.declared.operations.Reply.{Reply}
+use Rattle.fkv_opening.specs.declared.opened_store.Opened.{Opened}
+use Rattle.fkv_pending.specs.declared.pending_requests.PendingRequest.{PendingRequest}
+use Rattle.fkv_pending.specs.declared.pending_requests.RequestName.TheVariants.{Read}
+use Rattle.fkv_pending.specs.declared.pending_requests.Ticket.{Ticket}
+use Rattle.fkv_session.specs.Sessions.{SessionState, is_busy}
+use Rattle.fkv_world.specs.Runs.{run}
+use Rattle.fkv_world.specs.World.{Event, Now}
+use Rattle.law_log.specs.Trace.{AnswersRead, CallsRead, IsIn, history_of}
+use Rattle.law_opening.specs.Log.Maps.{opening_map}
+use Rattle.law_order.specs.Rules.InTime.{IsInTime}
+use Rattle.law_order.specs.Rules.Ordered.{effects_so_far}
+use Rattle.law_refine.specs.Calls.Calls.{event_adds}
+use Rattle.law_refine.specs.Events.Lines.{read_waiting}
+
+-- a session at rest has a read that waits under this ticket
+pub record HasWaiting (n : Now) (number : ℕ) (ticket : Ticket) : Type 0 where
+  pub s : SessionState
+  pub found : slice_get n.sessions number ≡ Some s
+  pub idle : is_busy s.step ≡ false
+  pub index : ℕ
+  pub pending : PendingRequest
+  pub got : slice_get s.requests index ≡ Some pending
+  pub its_name : pending.name ≡ Read ticket
+
+-- the number of the read for which the session was told this ticket last
+abbrev pub waiting_read : Now → List ℕ → List Event → ℕ → Ticket → ℕ
+waiting_read n bytes events number ticket = read_waiting number ticket.0 (run (beginning n bytes) events).past.trace
+
+-- Where a read waits at a moment at which its session rests, and is answered later, it gives its key's value at some moment between its call and that one.
+abbrev pub WaitingReadsInTime : Opened → Now → List ℕ → List Event → Type 0
+WaitingReadsInTime o n bytes events =
+    (later between since earlier : List Event) (call answer : Event) (number key : ℕ) (ticket : Ticket) (reply : Reply) → events ≡ later ++ answer ∷ (between ++ (since ++ call ∷ earlier))
+    → HasWaiting (run (beginning n bytes) (since ++ call ∷ earlier)).now number ticket
+    → IsIn (CallsRead (waiting_read n bytes (since ++ call ∷ earlier) number ticket) key) (event_adds (beginning n bytes) earlier call)
+    → IsIn (AnswersRead (waiting_read n bytes (since ++ call ∷ earlier) number ticket) reply) (event_adds (beginning n bytes) (between ++ (since ++ call ∷ earlier)) answer)
+    → IsInTime (opening_map bytes o) (history_of (effects_so_far n bytes (call ∷ earlier))) (history_of (effects_so_far n bytes (since ++ call ∷ earlier))) key reply
