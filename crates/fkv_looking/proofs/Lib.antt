@@ -1,0 +1,3 @@
+mod Hindered
+mod Listing
+mod Short
