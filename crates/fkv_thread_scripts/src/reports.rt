@@ -1,7 +1,7 @@
 //! What is told of a script that ran on threads, behind the crash that ends it.
-ghost use Rattle.std.specs.Prelude.{◌≡◌, IfOk, OnOk};
+ghost use Rattle.std.specs.Prelude.{◌≡◌, ◌↔◌, true, IfOk, OnOk};
 ghost use Rattle.std.specs.Io.KnownBytes.{Appends};
-ghost use Rattle.fkv_thread_scripts.specs.Reports.{agrees, keys_text, points_text, threads_report_text};
+ghost use Rattle.fkv_thread_scripts.specs.Reports.{IsLastFinished, agrees, keys_text, points_text, threads_report_text};
 
 use crate::logs::Log;
 use fkv_base::{Fault, Key, Serial, Value, Version};
@@ -82,6 +82,7 @@ pub fn report_of(
     pairs: &[(Key, Value)],
 ) -> Result<Report, Fault>
     ensures number { IfOk result (λ report. report.number ≡ opened.now.number) }
+    ensures points { IfOk result (λ report. (report.points_agree ≡ true) ↔ IsLastFinished finished.now opened.now.number opened.now.points.items) }
 {
     let mut claims = claims_of(alloc, lines)?;
     for (number, log) in logs.iter().enumerate() {
@@ -97,7 +98,9 @@ pub fn report_of(
 }
 
 /// Whether the recovered commit is the last that was told as finished; of none, commit 0 with points that are 0.
-fn is_last(finished: &Option<Finished>, opened: &Opened) -> bool {
+fn is_last(finished: &Option<Finished>, opened: &Opened) -> bool
+    ensures { (result ≡ true) ↔ IsLastFinished finished.now opened.now.number opened.now.points.items }
+{
     match finished {
         Some(its) => {
             its.number == opened.number && its.points.as_slice() == opened.points.as_slice()
