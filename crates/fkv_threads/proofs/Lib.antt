@@ -1,3 +1,4 @@
+mod Ended
 mod Lawful
 mod Opens
 mod Taken

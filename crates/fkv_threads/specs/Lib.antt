@@ -1,3 +1,4 @@
 pub mod Begun
+pub mod Pieces
 pub mod Runs
 pub mod Said

@@ -7,8 +7,10 @@ mod keepers;
 mod one_thread;
 mod opening;
 mod passes;
+mod pieces;
 
 pub use calls::run;
 pub use keepers::{ask_commit, turn};
 pub use opening::open;
 pub use passes::{close, join};
+pub use pieces::{asks_device, device_ask, device_step, drive, start_turn};

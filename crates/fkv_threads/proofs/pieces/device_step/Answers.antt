@@ -1,0 +1,6 @@
+-- What images hold that a crash may leave in the call, by the thread law.
+use Rattle.fkv_table.specs.Planes.{opening_of}
+use Rattle.fkv_threads.proofs.pieces.device_step.Goals as goal
+
+pub returns-clause-recovered : goal.returns-clause-recovered
+returns-clause-recovered g c = c.law_threads.ensures.turns (opening_of g.D.Device.seen) _ _ _
