@@ -2,14 +2,17 @@
 ghost use Rattle.std.specs.Prelude.{◌≡◌};
 ghost use Rattle.fkv_threads.specs.Said as said;
 
-use crate::{ask_commit, close, join, open, run, turn};
+use crate::{
+    ask_commit, asks_device, close, device_ask, device_step, drive, join, open, run, start_turn,
+    turn,
+};
 use fkv_base::{CommitKind, Fault, Key, Shape, Value};
 use fkv_creating::create_opened;
 use fkv_disk::{Device, MemDisk};
 use fkv_map::{Call, Op};
 use fkv_opening::Opened;
 use fkv_session::Answer;
-use fkv_table::{Keeper, KeeperPass, OpenTable, Pass, Session, Table};
+use fkv_table::{Keeper, KeeperPass, OpenTable, Pass, Session, Table, TurnAsk};
 use std::alloc::Global;
 use std::test::Fail;
 
@@ -37,7 +40,27 @@ fn call_and_meet<D: Device + Drop>(
     read
 }
 
-/// The keeper asks for a commit, and makes a turn. Whether both are done.
+/// The keeper begins a turn, and makes it up to behind its first call of the device. Whether it tells that call just where it makes one.
+fn begin_in_pieces<D: Device + Drop>(
+    table: &Table<D>,
+    keeper: &mut Keeper,
+    pass: &mut KeeperPass<D>,
+    device: &mut D,
+) -> bool
+    requires ready { said.IsKeeperReady (said.opening_of D.seen) table.now.table.shared.key table.now.table.shared.table_id pass.old.seat.table_id pass.old.seat.me keeper.old.machine }
+    requires honest { D.honest device.old }
+    requires after { said.IsAfterSeen (said.opening_of D.seen) table.now.table.shared.key pass.old.seat.me.0.seen (D.seen device.old) (D.may_leave device.old) }
+{
+    start_turn(keeper, table, pass);
+    let asks = matches!(drive(keeper, table, pass), TurnAsk::Device);
+    let tells = device_ask(keeper).is_some();
+    if asks_device(keeper) {
+        device_step(keeper, table, pass, device);
+    }
+    asks == tells
+}
+
+/// The keeper asks for a commit, makes a turn, and begins another one in pieces. Whether all is done.
 fn commit_and_turn<D: Device + Drop>(
     table: &Table<D>,
     mut keeper: Keeper,
@@ -49,8 +72,9 @@ fn commit_and_turn<D: Device + Drop>(
     requires after { said.IsAfterSeen (said.opening_of D.seen) table.now.table.shared.key pass.seat.me.0.seen (D.seen device) (D.may_leave device) }
 {
     let (pass, begun) = ask_commit(&mut keeper, table, pass, CommitKind::Full);
-    let (_, turned) = turn(&mut keeper, table, pass, &mut device);
-    begun.is_ok() && turned.is_ok()
+    let (mut pass, turned) = turn(&mut keeper, table, pass, &mut device);
+    let goes = begin_in_pieces(table, &mut keeper, &mut pass, &mut device);
+    begun.is_ok() && turned.is_ok() && goes
 }
 
 /// So over the table of an opened store, if it has two sessions, behind a commit's beginning and a turn of the keeper.

@@ -3,5 +3,5 @@ use Rattle.fkv_table.specs.Planes.{opening_of}
 use Rattle.fkv_threads.proofs.Taken.{after_none}
 use Rattle.fkv_threads.proofs.one_thread.commit_and_turn.Goals as goal
 
-pub turn-turned-requires-clause-after : goal.turn-turned-requires-clause-after
-turn-turned-requires-clause-after g c = after_none (opening_of g.D.Device.seen) _ _ _ _ _ c.ask_commit-pass.ensures.device c.requires.after
+pub turn-pass-requires-clause-after : goal.turn-pass-requires-clause-after
+turn-pass-requires-clause-after g c = after_none (opening_of g.D.Device.seen) _ _ _ _ _ c.ask_commit-pass.ensures.device c.requires.after
