@@ -36,6 +36,7 @@ test: toolchain
 	@tools/rows/run crates/fkv/out/fkv > /dev/null
 	@tools/openings/run > /dev/null
 	@tools/openings/files > /dev/null
+	@tools/looking/run crates/fkv_look/out/fkv_look > /dev/null
 	@tools/memory/run crates/fkv/out/fkv > /dev/null
 	@tools/memory/opening > /dev/null
 	@tools/memory/creating > /dev/null

@@ -3,4 +3,4 @@ use Rattle.fkv_table.specs.Planes.{opening_of}
 use Rattle.fkv_threads.proofs.pieces.device_step.Goals as goal
 
 pub returns-clause-recovered : goal.returns-clause-recovered
-returns-clause-recovered g c = c.law_threads.ensures.turns (opening_of g.D.Device.seen) _ _ _
+returns-clause-recovered g c = c.law_threads.ensures.turns (opening_of g.D.Device.seen) _ _ _ c.device_step.ensures.at_work.keeping.allowed
