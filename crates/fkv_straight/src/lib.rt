@@ -14,6 +14,8 @@ mod searching;
 mod words;
 
 pub use calls::run;
+pub use changing::update;
 pub use going::Going;
 pub use handing::catch_up;
 pub use lines::Line;
+pub use reading::read;
