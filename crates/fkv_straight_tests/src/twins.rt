@@ -33,15 +33,15 @@ impl Ways {
     }
 
     fn count(&mut self, way: Way, phase: Phase, told: Told) {
-        let counted = match way {
-            Way::Straight => match self.straight.get_mut(number_of(phase)) {
-                Some(count) => count,
-                None => return,
-            },
-            Way::HandedOver => &mut self.handed_over,
-            Way::Machine => &mut self.by_machine,
-        };
-        *counted = counted.saturating_add(1);
+        match way {
+            Way::Straight => {
+                if let Some(count) = self.straight.get_mut(number_of(phase)) {
+                    *count = count.saturating_add(1);
+                }
+            }
+            Way::HandedOver => self.handed_over = self.handed_over.saturating_add(1),
+            Way::Machine => self.by_machine = self.by_machine.saturating_add(1),
+        }
         if matches!(told, Told::Pending(_, _) | Told::PendingRead(_)) {
             self.waiting = self.waiting.saturating_add(1);
         }
@@ -130,20 +130,8 @@ impl Twins {
     /// What the keeper does in both.
     fn keep(self, event: Event) -> Twins {
         let mut twins = self;
-        for engine in [&mut twins.straight, &mut twins.machine] {
-            match event {
-                Event::Turn(steps) => {
-                    engine.begin_turn();
-                    engine.move_keeper(steps);
-                }
-                Event::Goes(steps) => engine.move_keeper(steps),
-                Event::Commit(kind) => {
-                    engine.begin_commit(kind);
-                    engine.move_keeper(u64::MAX);
-                }
-                Event::Call(_, _) => {}
-            }
-        }
+        keep(&mut twins.straight, event);
+        keep(&mut twins.machine, event);
         twins
     }
 
@@ -164,6 +152,22 @@ impl Twins {
         } else {
             Err(Wrong::Keepers)
         }
+    }
+}
+
+/// What the keeper does.
+fn keep(engine: &mut Engine, event: Event) {
+    match event {
+        Event::Turn(steps) => {
+            engine.begin_turn();
+            engine.move_keeper(steps);
+        }
+        Event::Goes(steps) => engine.move_keeper(steps),
+        Event::Commit(kind) => {
+            engine.begin_commit(kind);
+            engine.move_keeper(u64::MAX);
+        }
+        Event::Call(_, _) => {}
     }
 }
 
