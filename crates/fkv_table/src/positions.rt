@@ -13,6 +13,7 @@ pub fn law_positions()
 {}
 
 /// The position of the word of a place.
+#[inline(always)]
 pub(crate) fn position(place: usize) -> usize
     requires { place < 2 ^ 62 }
     ensures { result ≡ position place }
