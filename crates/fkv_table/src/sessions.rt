@@ -275,4 +275,22 @@ impl Session {
         let answer = answer_of(told, self.machine.finished());
         (pass, answer)
     }
+
+    /// Runs an operation to its end, as `run` does, and gives the small answer. An `Answer` has room for the list of a poll, which is cleared and copied at
+    /// each call.
+    pub fn run_op<D: Device>(
+        &mut self,
+        table: &Table<D>,
+        pass: Pass<D>,
+        op: Op,
+    ) -> (Pass<D>, Told)
+        requires ready { IsReady (opening_of D.seen) table.now.table.shared.key table.now.table.shared.table_id pass.seat.table_id pass.seat.me self.old.machine self.old.desk }
+        ensures ready { IsReady (opening_of D.seen) table.now.table.shared.key table.now.table.shared.table_id result.0.seat.table_id result.0.seat.me self.new.machine self.new.desk }
+        ensures number { self.new.machine.seat.number ≡ self.old.machine.seat.number }
+        ensures called { HasCalled self.old.machine.seat.number (call.Op op) pass.seat.me.0.seen result.0.seat.me.0.seen }
+        ensures told { IsToldLast (led (plane (opening_of D.seen)) (opening_of D.seen table.now.table.shared.key) result.0.seat.me.0.seen) self.new.machine.seat.number (telling result.1 self.new.machine.state.finished) }
+    {
+        let words = &table.table.shared;
+        run_told(words, pass, &mut self.machine, self.desk, Call::Op(op))
+    }
 }
