@@ -1,0 +1,5 @@
+pub mod Answers
+pub mod Asked
+pub mod Saved
+pub mod Sizes
+pub mod Stores

@@ -1,0 +1,42 @@
+//! Whole runs of the program.
+use crate::answers::{Answer, answer_words, refuse_words};
+use crate::telling::Teller;
+use crate::words::WordFault;
+use fkv_files::Lockable;
+use std::alloc::Global;
+use std::io::{self, Write};
+use std::rt::Files;
+
+/// Runs the program: does what the words after its name ask for, and writes its answer. The status is 0; 2 where the words or the sizes
+/// are refused; 3 where a store or a file is. An `Err` is memory that was refused, or a writer that failed: then what is written is a
+/// beginning of the answer.
+pub fn run<H: Files, W: Write, E: Write>(
+    rt: &H,
+    alloc: Global,
+    words: &[&str],
+    output: &mut W,
+    teller: &mut Teller<E>,
+) -> io::Result<u8>
+where
+    H::File: Lockable,
+{
+    let answer = answer_words(rt, alloc, words, teller)?;
+    write_answer(&answer, output)
+}
+
+/// Words of which one is no text are none that the program takes: writes the line `options`, and a line of complaint.
+pub fn refuse_unread<W: Write, E: Write>(
+    alloc: Global,
+    output: &mut W,
+    teller: &mut Teller<E>,
+) -> io::Result<u8> {
+    let answer = refuse_words(alloc, WordFault::NoText, teller)?;
+    write_answer(&answer, output)
+}
+
+/// Writes the text of an answer; the status is its own.
+fn write_answer<W: Write>(answer: &Answer, output: &mut W) -> io::Result<u8> {
+    output.write_all(answer.text.as_slice())?;
+    output.flush()?;
+    Ok(answer.status)
+}

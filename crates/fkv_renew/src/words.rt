@@ -1,0 +1,118 @@
+//! The words after the program's name.
+ghost use Rattle.std.specs.Prelude.{◌≡◌, IfOk, IfErr, option_map};
+ghost use Rattle.clap.specs.Simple.{app_of};
+ghost use Rattle.clap.specs.Walk.{texts};
+ghost use Rattle.fkv_renew.specs.Asked.{AreAskedSizes, TellsAsked, command_line};
+
+use crate::sizes::read_sizes;
+use clap::error::ErrorKind;
+use clap::{Arg, Command, value_parser};
+use fkv_lines::{Class, Sizes};
+use std::alloc::{AllocError, Global};
+
+/// What the words ask for.
+#[derive(Drop)]
+pub(crate) struct Asked {
+    /// The file of the store that is renewed.
+    pub(crate) old: String,
+    /// The file that the new store comes to lie in.
+    pub(crate) new: String,
+    /// The sizes of the new store, where some are given.
+    pub(crate) sizes: Option<Sizes>,
+}
+
+/// Why words are refused.
+#[derive(Clone, Copy)]
+pub(crate) enum WordFault {
+    /// Memory was refused.
+    Memory,
+    /// One of them is no text.
+    NoText,
+    /// clap refuses them.
+    Parse(ErrorKind),
+    /// Both `--shape` and `--large` stand there.
+    TwiceSized,
+    /// What stands behind `--shape` or `--large` is no seven numbers.
+    NoSizes,
+    /// A file isn't named.
+    NoFiles,
+}
+
+impl From<AllocError> for WordFault {
+    ghost from_gives = { λ _ fault. fault ≡ WordFault.Memory };
+
+    fn from(_error: AllocError) -> WordFault {
+        WordFault::Memory
+    }
+}
+
+/// What the words after the program's name ask for: OLD and NEW, two files, and `--shape` or `--large` with seven numbers below 2^64,
+/// where one of them is there.
+pub(crate) fn asked_of(alloc: Global, words: &[&str]) -> Result<Asked, WordFault>
+    ensures { TellsAsked (texts words.now) result }
+{
+    let command = command_of(alloc)?;
+    let matches = match command.try_get_matches_from(words) {
+        Ok(matches) => matches,
+        Err(error) => return Err(refused_as(error.kind())),
+    };
+    let sizes = sizes_of(matches.get_strs("shape"), matches.get_strs("large"))?;
+    let (Some(old), Some(new)) = (matches.get_str("OLD"), matches.get_str("NEW")) else {
+        return Err(WordFault::NoFiles);
+    };
+    Ok(Asked {
+        old: String::from_str(alloc, old)?,
+        new: String::from_str(alloc, new)?,
+        sizes,
+    })
+}
+
+/// How a parse was refused.
+fn refused_as(kind: ErrorKind) -> WordFault {
+    match kind {
+        ErrorKind::OutOfMemory => WordFault::Memory,
+        _ => WordFault::Parse(kind),
+    }
+}
+
+/// The sizes that stand behind `--shape` or `--large`.
+fn sizes_of(small: Option<&[&str]>, large: Option<&[&str]>) -> Result<Option<Sizes>, WordFault> {
+    match (small, large) {
+        (None, None) => Ok(None),
+        (Some(words), None) => match read_sizes(Class::Small, words) {
+            Some(sizes) => Ok(Some(sizes)),
+            None => Err(WordFault::NoSizes),
+        },
+        (None, Some(words)) => match read_sizes(Class::Large, words) {
+            Some(sizes) => Ok(Some(sizes)),
+            None => Err(WordFault::NoSizes),
+        },
+        (Some(_), Some(_)) => Err(WordFault::TwiceSized),
+    }
+}
+
+/// How many numbers the sizes of a store are.
+const SIZES: usize = 7;
+
+/// The command line.
+fn command_of<'a>(alloc: Global) -> Result<Command<'a>, AllocError>
+    ensures { IfOk result (λ command. app_of command ≡ command_line) }
+{
+    let old = Arg::new(alloc, "OLD").required(true);
+    let new = Arg::new(alloc, "NEW").required(true);
+    let shape = Arg::new(alloc, "shape")
+        .long("shape")
+        .num_args(SIZES)
+        .value_parser(value_parser!(u64));
+    let large = Arg::new(alloc, "large")
+        .long("large")
+        .num_args(SIZES)
+        .value_parser(value_parser!(u64));
+    Command::new(alloc, "fkv_renew")
+        .no_binary_name(true)
+        .disable_help_flag(true)
+        .arg(old)?
+        .arg(new)?
+        .arg(shape)?
+        .arg(large)
+}
