@@ -1,14 +1,14 @@
 -- What the program answers, by what it is asked for.
 use Rattle.std.specs.Prelude.{◌≡◌, ◌⊎◌, ℕ, ◌+◌, List, codes, length, Option, Some, None}
 use Rattle.fkv_base.specs.declared.faults.Fault.{Fault}
-use Rattle.fkv_base.specs.declared.faults.Fault.TheVariants.{BadShape, Device}
+use Rattle.fkv_base.specs.declared.faults.Fault.TheVariants.{BadShape, Device, Memory}
 use Rattle.fkv_base.specs.declared.numbers.Key.{Key}
+use Rattle.fkv_base.specs.declared.numbers.Serial.{Serial}
 use Rattle.fkv_base.specs.declared.numbers.Value.{Value}
 use Rattle.fkv_base.specs.declared.shapes.Shape.{Shape}
 use Rattle.fkv_files.specs.declared.troubles.Trouble.{Trouble}
 use Rattle.fkv_files.specs.declared.troubles.Trouble.TheVariants as trouble
 use Rattle.fkv_lines.specs.declared.scripts.Sizes.{Sizes}
-use Rattle.fkv_opening.specs.declared.opened_store.Opened.{Opened}
 use Rattle.fkv_renewing.specs.Refused.{IsUnfit}
 use Rattle.fkv_renewing.specs.Room.{HasRoomFor}
 use Rattle.fkv_texts.specs.Lines.{line_of}
@@ -17,6 +17,7 @@ use Rattle.clap.specs.Walk.{Text}
 use Rattle.fkv_renew.specs.Asked.{AreRefusedWords, AskFor}
 use Rattle.fkv_renew.specs.Saved.{saved_text, taken_of}
 use Rattle.fkv_renew.specs.Sizes.{AreNoSizes, HasSizes}
+use Rattle.fkv_renew.specs.declared.new_files.NewTrouble.TheVariants.{NotWritten}
 use Rattle.fkv_renew.specs.declared.renewals.Refusal.{Refusal}
 use Rattle.fkv_renew.specs.declared.renewals.Refusal.TheVariants as refusal
 use Rattle.fkv_renew.specs.declared.saved.Saved.{Saved}
@@ -51,6 +52,18 @@ pub record HasNoRoom (sizes : Option Sizes) (fault : Fault) : Type 0 where
   pub wanted : IsWanted sizes store.opened.shape shape
   pub unfit : IsUnfit shape store.opened.points.items store.pairs.items fault
 
+-- why no new store was written: it has no room, or something else
+abbrev pub IsHindrance : Shape → List Serial → List (Key × Value) → Refusal → Type 0
+IsHindrance shape points pairs (refusal.Unfit fault) = IsUnfit shape points pairs fault
+IsHindrance shape points pairs (refusal.Sizes sizes) = ⊥
+IsHindrance shape points pairs other = Unit {0}
+
+-- the refusal that a fault of `renew` is
+abbrev pub refusal_by : Fault → Refusal
+refusal_by Memory = refusal.Memory
+refusal_by Device = refusal.New NotWritten
+refusal_by other = refusal.Unfit other
+
 -- why a renewal is refused: no store has the sizes that are asked for, or the new one has no room, or something else
 abbrev pub IsRefusal : Option Sizes → Refusal → Type 0
 IsRefusal sizes (refusal.Sizes refused) = (sizes ≡ Some refused) × AreNoSizes refused
@@ -83,3 +96,7 @@ abbrev pub IsAnswer : List Text → ℕ → List ℕ → Type 0
 IsAnswer words status text =
     ((asked : Asked) × AskFor words asked × IsAnswerTo asked.sizes status text)
     ⊎ (AreRefusedWords words × (status ≡ 2) × (text ≡ line_of (codes "options")))
+
+-- words of which one is no text are refused so too
+abbrev pub IsUnreadAnswer : ℕ → List ℕ → Type 0
+IsUnreadAnswer status text = (status ≡ 2) × (text ≡ line_of (codes "options"))

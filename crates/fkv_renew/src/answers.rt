@@ -1,8 +1,9 @@
 //! What the program answers.
-ghost use Rattle.std.specs.Prelude.{◌≡◌, ◌≢◌, IfOk};
-ghost use Rattle.std.specs.Io.KnownBytes.{Appends};
+ghost use Rattle.std.specs.Prelude.{◌≡◌, IfOk, codes};
 ghost use Rattle.clap.specs.Walk.{texts};
-ghost use Rattle.fkv_renew.specs.Answers.{IsAnswer, IsAnswerTo};
+ghost use Rattle.fkv_texts.specs.Lines.{line_of};
+ghost use Rattle.fkv_texts.specs.Refusals.{last_refusal};
+ghost use Rattle.fkv_renew.specs.Answers.{IsAnswer, IsAnswerTo, fault_of_refusal, status_of_refusal};
 
 use crate::complaints::Complaint;
 use crate::renewals::{Refusal, renew_file};
@@ -52,7 +53,10 @@ pub(crate) fn refuse_words<E: Write>(
     alloc: Global,
     fault: WordFault,
     teller: &mut Teller<E>,
-) -> io::Result<Answer> {
+) -> io::Result<Answer>
+    ensures status { IfOk result (λ answer. answer.status ≡ 2) }
+    ensures text { IfOk result (λ answer. answer.text.items ≡ line_of (codes "options")) }
+{
     if let WordFault::Memory = fault {
         return Err(ErrorKind::OutOfMemory.into());
     }
@@ -90,7 +94,10 @@ where
 }
 
 /// The answer to a renewal that is refused.
-fn refuse(alloc: Global, refusal: Refusal) -> io::Result<Answer> {
+fn refuse(alloc: Global, refusal: Refusal) -> io::Result<Answer>
+    ensures status { IfOk result (λ answer. answer.status ≡ status_of_refusal refusal) }
+    ensures text { IfOk result (λ answer. answer.text.items ≡ last_refusal (fault_of_refusal refusal)) }
+{
     let (fault, status) = match refusal {
         Refusal::Sizes(_) => (Fault::BadShape, WORDS_REFUSED),
         Refusal::Old(Trouble::Fault(fault)) => (fault, STORE_REFUSED),

@@ -1,6 +1,7 @@
 //! A renewal, from file to file.
-ghost use Rattle.std.specs.Prelude.{IfOk, IfErr};
-ghost use Rattle.fkv_renew.specs.Answers.{IsRefusal, IsSavedFrom};
+ghost use Rattle.std.specs.Prelude.{◌≡◌, ◌+◌, ◌*◌, ◌≤◌, IfOk, IfErr, OnOk, length};
+ghost use Rattle.fkv_renewing.specs.Room.{HasRoomFor};
+ghost use Rattle.fkv_renew.specs.Answers.{IsHindrance, IsRefusal, IsSavedFrom, refusal_by, saved_of};
 
 use crate::complaints::QuotedPath;
 use crate::new_files::{NewTrouble, discard, expect_none, give_name, make_new, other_name};
@@ -34,6 +35,8 @@ pub(crate) enum Refusal {
 }
 
 impl From<AllocError> for Refusal {
+    ghost from_gives = { λ _ refusal. refusal ≡ Refusal.Memory };
+
     fn from(_error: AllocError) -> Refusal {
         Refusal::Memory
     }
@@ -135,6 +138,8 @@ fn write_new<H: Files, E: Write>(
 ) -> Result<(), Refusal>
 where
     H::File: Lockable,
+    ensures ok { OnOk result (HasRoomFor shape store.now.opened.points.items store.now.pairs.items) }
+    ensures err { IfErr result (IsHindrance shape store.now.opened.points.items store.now.pairs.items) }
 {
     let other = other_name(alloc, asked.new.as_str())?;
     let (other, new) = (other.as_str(), asked.new.as_str());
@@ -162,7 +167,9 @@ where
 }
 
 /// Why nothing is renewed, by a renewal's own fault.
-fn refused_as(fault: Fault) -> Refusal {
+fn refused_as(fault: Fault) -> Refusal
+    ensures { result ≡ refusal_by fault }
+{
     match fault {
         Fault::Memory => Refusal::Memory,
         Fault::Device => Refusal::New(NewTrouble::NotWritten),
@@ -171,7 +178,10 @@ fn refused_as(fault: Fault) -> Refusal {
 }
 
 /// What a renewal of this store to this shape has saved.
-fn saved_of(store: &Store, shape: Shape) -> Saved {
+fn saved_of(store: &Store, shape: Shape) -> Saved
+    requires { length store.now.pairs.items + 1 ≤ shape.disk_pages * shape.page }
+    ensures { result ≡ saved_of store.now shape }
+{
     let (opened, pairs) = (&store.opened, store.pairs.len());
     Saved {
         pairs,

@@ -1,9 +1,19 @@
 //! The sizes of a new store.
+ghost use Rattle.std.specs.Prelude.{◌≡◌, ℕ, IfErr, IfOk, IfSome, None};
+ghost use Rattle.clap.specs.Walk.{texts};
+ghost use Rattle.fkv_base.specs.declared.faults.Fault.TheVariants.{BadShape};
+ghost use Rattle.fkv_lines.specs.declared.scripts.Sizes.{Sizes as TheSizes};
+ghost use Rattle.fkv_renew.specs.Asked.{AreSizesOf, Spells};
+ghost use Rattle.fkv_renew.specs.Sizes.{AreNoSizes, HasSizes};
+
 use fkv_base::{Fault, Shape};
 use fkv_lines::{Class, Sizes};
 
 /// The sizes that seven words spell, for a store of this class.
-pub(crate) fn read_sizes(class: Class, words: &[&str]) -> Option<Sizes> {
+pub(crate) fn read_sizes(class: Class, words: &[&str]) -> Option<Sizes>
+    ensures some { IfSome result (AreSizesOf class (texts words.now)) }
+    ensures none { result ≡ None → (sizes : TheSizes) → AreSizesOf class (texts words.now) sizes → ⊥ }
+{
     let [
         bucket_bits,
         page,
@@ -29,7 +39,10 @@ pub(crate) fn read_sizes(class: Class, words: &[&str]) -> Option<Sizes> {
 }
 
 /// The number below 2^64 that a word spells.
-fn number_of(word: &str) -> Option<u64> {
+fn number_of(word: &str) -> Option<u64>
+    ensures some { IfSome result (Spells word.now) }
+    ensures none { result ≡ None → (number : ℕ) → Spells word.now number → ⊥ }
+{
     match word.parse::<u64>() {
         Ok(number) => Some(number),
         Err(_) => None,
@@ -37,7 +50,10 @@ fn number_of(word: &str) -> Option<u64> {
 }
 
 /// The shape of these sizes, or `BadShape` where no store of their class has them.
-pub(crate) fn shape_of(sizes: Sizes) -> Result<Shape, Fault> {
+pub(crate) fn shape_of(sizes: Sizes) -> Result<Shape, Fault>
+    ensures ok { IfOk result (HasSizes sizes) }
+    ensures err { IfErr result (λ fault. AreNoSizes sizes × (fault ≡ BadShape)) }
+{
     match sizes.class {
         Class::Small => Shape::new(
             sizes.bucket_bits,

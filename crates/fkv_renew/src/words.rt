@@ -1,7 +1,8 @@
 //! The words after the program's name.
-ghost use Rattle.std.specs.Prelude.{◌≡◌, IfOk, IfErr, option_map};
+ghost use Rattle.std.specs.Prelude.{◌≡◌, ◌≢◌, IfOk, IfErr, option_map};
 ghost use Rattle.clap.specs.Simple.{app_of};
 ghost use Rattle.clap.specs.Walk.{texts};
+ghost use Rattle.fkv_lines.specs.declared.scripts.Sizes.{Sizes as TheSizes};
 ghost use Rattle.fkv_renew.specs.Asked.{AreAskedSizes, TellsAsked, command_line};
 
 use crate::sizes::read_sizes;
@@ -68,7 +69,10 @@ pub(crate) fn asked_of(alloc: Global, words: &[&str]) -> Result<Asked, WordFault
 }
 
 /// How a parse was refused.
-fn refused_as(kind: ErrorKind) -> WordFault {
+fn refused_as(kind: ErrorKind) -> WordFault
+    ensures memory { kind ≡ ErrorKind.OutOfMemory → result ≡ WordFault.Memory }
+    ensures other { kind ≢ ErrorKind.OutOfMemory → result ≡ WordFault.Parse kind }
+{
     match kind {
         ErrorKind::OutOfMemory => WordFault::Memory,
         _ => WordFault::Parse(kind),
@@ -76,7 +80,10 @@ fn refused_as(kind: ErrorKind) -> WordFault {
 }
 
 /// The sizes that stand behind `--shape` or `--large`.
-fn sizes_of(small: Option<&[&str]>, large: Option<&[&str]>) -> Result<Option<Sizes>, WordFault> {
+fn sizes_of(small: Option<&[&str]>, large: Option<&[&str]>) -> Result<Option<Sizes>, WordFault>
+    ensures ok { IfOk result (AreAskedSizes (option_map (λ s. texts s.now) small) (option_map (λ s. texts s.now) large)) }
+    ensures err { IfErr result (λ fault. (sizes : Option TheSizes) → AreAskedSizes (option_map (λ s. texts s.now) small) (option_map (λ s. texts s.now) large) sizes → ⊥) }
+{
     match (small, large) {
         (None, None) => Ok(None),
         (Some(words), None) => match read_sizes(Class::Small, words) {
