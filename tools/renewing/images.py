@@ -3,7 +3,6 @@ from files import Pair, need, played, renew
 from samples import CROWD, TABLE, TWO_HOMES, changed_images
 from tables import rows
 
-TEXTS = (b"FKVSTOR1", b"FKVSTOR2")
 # of the images with bytes changed one in so many
 EACH = 16
 LAST = 8190
@@ -68,23 +67,29 @@ def agrees(folder, name, image):
     pair = Pair(folder, image)
     status, lines = played(pair.old, "open\n")
     if status:
-        return refuses(folder, name, image)
+        refuses(folder, name, image)
+        return
     need(name, renew(pair.old, pair.new)[0], 0)
     pair.need_old(name)
     words = lines[0].split()
     need(f"{name}: the new store", played(pair.new, "open\n"), (0, [" ".join([*words[:2], "1", *words[3:]]), *lines[1:]]))
-    return None
 
 
 def made_large(folder):
     """A large store, as a script makes it: its image, and what is told of it."""
     pair = Pair(folder)
     updates = [f"{key % 2} up {key * 4096} {key + 7}" for key in range(40)]
-    lines = ["large 12 16 4 2 2 0 64", *updates, "0 del 0", "k commit", "k finish"]
-    need("a large store", played(pair.old, "\n".join(lines) + "\n")[1][-1], "k finished 1 points 21 20")
-    pairs = " ".join(f"{key * 4096}={key + 7}" for key in range(1, 40))
+    # a turn behind each quarter of a page, so that no update waits for room
+    lines = [line for key, update in enumerate(updates) for line in (update, "k turn")[: 2 if key % 4 == 3 else 1]]
+    script = ["large 12 16 4 2 2 0 64", *lines, "0 del 0", "k commit", "k finish"]
+    need("a large store", played(pair.old, "\n".join(script) + "\n")[1][-1], "k finished 1 points 21 20")
     with open(pair.old, "rb") as file:
-        return file.read(), pairs
+        image = file.read()
+    need("a large store's text", image[:8], b"FKVSTOR2")
+    # where the slot of commit 1 says that the log ends
+    tail = int.from_bytes(image[1024 + 24 : 1024 + 32], "little")
+    pairs = " ".join(f"{key * 4096}={key + 7}" for key in range(1, 40))
+    return image, f"commit 1 tail {tail} points 21 20, checkpoint 1, lost, entries, pairs {pairs}"
 
 
 def renewed(folder):
@@ -105,10 +110,7 @@ def renewed(folder):
 def to_other_sizes(folder):
     """Stores of both classes, to sizes of both."""
     answers = {name: answer for name, _, answer in TABLE}
-    large, pairs = made_large(folder)
-    need("a large store's text", large[:8], TEXTS[1])
-    tail = 42
-    told_large = f"commit 1 tail {tail} points 21 20, checkpoint 1, lost, entries, pairs {pairs}"
+    large, told_large = made_large(folder)
     cases = [
         ("a small store to a large one", TWO_HOMES.image(), answers["two homes"], "--large 12 16 4 2 2 0 64"),
         ("a small store with more sessions", TWO_HOMES.image(), answers["two homes"], "--shape 0 4 2 1 5 0 1"),
