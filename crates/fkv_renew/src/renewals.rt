@@ -35,7 +35,9 @@ pub(crate) enum Refusal {
 }
 
 impl From<AllocError> for Refusal {
-    ghost from_gives = { λ _ refusal. refusal ≡ Refusal.Memory };
+    ghost use Rattle.fkv_renew.specs.declared.renewals.Refusal.TheVariants.{Memory};
+
+    ghost from_gives = { λ _ refusal. refusal ≡ Memory };
 
     fn from(_error: AllocError) -> Refusal {
         Refusal::Memory

@@ -1,5 +1,5 @@
 //! The words after the program's name.
-ghost use Rattle.std.specs.Prelude.{◌≡◌, ◌≢◌, IfOk, IfErr, option_map};
+ghost use Rattle.std.specs.Prelude.{◌≡◌, ◌≢◌, IfOk, IfErr, Option, option_map};
 ghost use Rattle.clap.specs.Simple.{app_of};
 ghost use Rattle.clap.specs.Walk.{texts};
 ghost use Rattle.fkv_lines.specs.declared.scripts.Sizes.{Sizes as TheSizes};
@@ -40,7 +40,9 @@ pub(crate) enum WordFault {
 }
 
 impl From<AllocError> for WordFault {
-    ghost from_gives = { λ _ fault. fault ≡ WordFault.Memory };
+    ghost use Rattle.fkv_renew.specs.declared.words.WordFault.TheVariants.{Memory};
+
+    ghost from_gives = { λ _ fault. fault ≡ Memory };
 
     fn from(_error: AllocError) -> WordFault {
         WordFault::Memory
@@ -81,8 +83,8 @@ fn refused_as(kind: ErrorKind) -> WordFault
 
 /// The sizes that stand behind `--shape` or `--large`.
 fn sizes_of(small: Option<&[&str]>, large: Option<&[&str]>) -> Result<Option<Sizes>, WordFault>
-    ensures ok { IfOk result (AreAskedSizes (option_map (λ s. texts s.now) small) (option_map (λ s. texts s.now) large)) }
-    ensures err { IfErr result (λ fault. (sizes : Option TheSizes) → AreAskedSizes (option_map (λ s. texts s.now) small) (option_map (λ s. texts s.now) large) sizes → ⊥) }
+    ensures ok { IfOk result (AreAskedSizes (option_map (λ s. texts s.now) small.entry) (option_map (λ s. texts s.now) large.entry)) }
+    ensures err { IfErr result (λ fault. (sizes : Option TheSizes) → AreAskedSizes (option_map (λ s. texts s.now) small.entry) (option_map (λ s. texts s.now) large.entry) sizes → ⊥) }
 {
     match (small, large) {
         (None, None) => Ok(None),
