@@ -16,7 +16,7 @@ use Rattle.fkv_texts.specs.Refusals.{last_refusal}
 use Rattle.clap.specs.Walk.{Text}
 use Rattle.fkv_renew.specs.Asked.{AreRefusedWords, AskFor}
 use Rattle.fkv_renew.specs.Saved.{saved_text, taken_of}
-use Rattle.fkv_renew.specs.Sizes.{AreNoSizes, HasSizes}
+use Rattle.fkv_renew.specs.Sizes.{AreSizes, HasSizes}
 use Rattle.fkv_renew.specs.declared.new_files.NewTrouble.TheVariants.{NotWritten}
 use Rattle.fkv_renew.specs.declared.renewals.Refusal.{Refusal}
 use Rattle.fkv_renew.specs.declared.renewals.Refusal.TheVariants as refusal
@@ -66,7 +66,7 @@ refusal_by other = refusal.Unfit other
 
 -- why a renewal is refused: no store has the sizes that are asked for, or the new one has no room, or something else
 abbrev pub IsRefusal : Option Sizes → Refusal → Type 0
-IsRefusal sizes (refusal.Sizes refused) = (sizes ≡ Some refused) × AreNoSizes refused
+IsRefusal sizes (refusal.Sizes refused) = (sizes ≡ Some refused) × (AreSizes refused → ⊥)
 IsRefusal sizes (refusal.Unfit fault) = HasNoRoom sizes fault
 IsRefusal sizes other = Unit {0}
 

@@ -1,19 +1,25 @@
 -- Which shape has which sizes.
 use Rattle.std.specs.Prelude.{◌≡◌}
-use Rattle.fkv_base.specs.Limits.{IsSmall}
+use Rattle.fkv_base.specs.Limits.{IsShape, IsSmall}
 use Rattle.fkv_base.specs.declared.shapes.Shape.{Shape}
 use Rattle.fkv_lines.specs.declared.scripts.Class.{Class}
 use Rattle.fkv_lines.specs.declared.scripts.Class.TheVariants.{Small, Large}
 use Rattle.fkv_lines.specs.declared.scripts.Sizes.{Sizes}
 
--- a shape is of its class: the small ones, and the others
-abbrev pub IsOfClass : Class → Shape → Type 0
-IsOfClass Small shape = IsSmall shape.bucket_bits shape.page shape.frames shape.overflow shape.disk_pages
-IsOfClass Large shape = IsSmall shape.bucket_bits shape.page shape.frames shape.overflow shape.disk_pages → ⊥
+-- a shape of these sizes is of their class: the small ones, and the others
+abbrev pub IsOfClass : Class → Type 0 → Type 0
+IsOfClass Small small = small
+IsOfClass Large small = small → ⊥
 
--- A shape has these sizes, and is of their class.
+-- a store of their class may have these sizes
+abbrev pub AreSizes : Sizes → Type 0
+AreSizes sizes =
+    IsShape sizes.bucket_bits sizes.page sizes.frames sizes.mutable sizes.sessions sizes.overflow sizes.disk_pages
+    × IsOfClass sizes.class (IsSmall sizes.bucket_bits sizes.page sizes.frames sizes.overflow sizes.disk_pages)
+
+-- The shape of these sizes, where a store of their class may have them.
 pub record HasSizes (sizes : Sizes) (shape : Shape) : Type 0 where
-  pub of_class : IsOfClass sizes.class shape
+  pub of_its_class : AreSizes sizes
   pub bucket_bits : shape.bucket_bits ≡ sizes.bucket_bits
   pub page : shape.page ≡ sizes.page
   pub frames : shape.frames ≡ sizes.frames
@@ -21,7 +27,3 @@ pub record HasSizes (sizes : Sizes) (shape : Shape) : Type 0 where
   pub sessions : shape.sessions ≡ sizes.sessions
   pub overflow : shape.overflow ≡ sizes.overflow
   pub disk_pages : shape.disk_pages ≡ sizes.disk_pages
-
--- no shape has them
-abbrev pub AreNoSizes : Sizes → Type 0
-AreNoSizes sizes = (shape : Shape) → HasSizes sizes shape → ⊥

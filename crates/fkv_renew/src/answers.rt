@@ -54,6 +54,7 @@ pub(crate) fn refuse_words<E: Write>(
     fault: WordFault,
     teller: &mut Teller<E>,
 ) -> io::Result<Answer>
+    ensures memory { IfOk result (λ answer. ¬ (fault ≡ WordFault.Memory)) }
     ensures status { IfOk result (λ answer. answer.status ≡ 2) }
     ensures text { IfOk result (λ answer. answer.text.items ≡ line_of (codes "options")) }
 {

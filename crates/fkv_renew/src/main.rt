@@ -38,7 +38,9 @@ fn answered<E: Write>(rt: &HostRuntime, teller: &mut Teller<E>) -> io::Result<u8
         Ok(owned) => owned,
         // A word is no text.
         Err(error) if error.kind() == ErrorKind::InvalidData => {
-            return refuse_unread(rt.alloc(), &mut output, teller);
+            let status = refuse_unread(rt.alloc(), &mut output, teller)?;
+            output.flush()?;
+            return Ok(status);
         }
         Err(error) => return Err(error),
     };
@@ -46,7 +48,9 @@ fn answered<E: Write>(rt: &HostRuntime, teller: &mut Teller<E>) -> io::Result<u8
     for word in &owned {
         words.push(word.as_str())?;
     }
-    run(rt, rt.alloc(), words.as_slice(), &mut output, teller)
+    let status = run(rt, rt.alloc(), words.as_slice(), &mut output, teller)?;
+    output.flush()?;
+    Ok(status)
 }
 
 /// The words after the program's name.

@@ -54,6 +54,5 @@ fn write_answer<W: Write>(answer: &Answer, output: &mut W) -> io::Result<u8>
     ensures part { OnErr result (BreaksOff (λ text. text ≡ answer.now.text.items) (W.contents output.old) (W.contents output.new)) }
 {
     write_text(output, answer.text.as_slice())?;
-    output.flush()?;
     Ok(answer.status)
 }

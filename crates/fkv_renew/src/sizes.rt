@@ -4,7 +4,7 @@ ghost use Rattle.clap.specs.Walk.{texts};
 ghost use Rattle.fkv_base.specs.declared.faults.Fault.TheVariants.{BadShape};
 ghost use Rattle.fkv_lines.specs.declared.scripts.Sizes.{Sizes as TheSizes};
 ghost use Rattle.fkv_renew.specs.Asked.{AreSizesOf, Spells};
-ghost use Rattle.fkv_renew.specs.Sizes.{AreNoSizes, HasSizes};
+ghost use Rattle.fkv_renew.specs.Sizes.{AreSizes, HasSizes};
 
 use fkv_base::{Fault, Shape};
 use fkv_lines::{Class, Sizes};
@@ -51,8 +51,8 @@ fn number_of(word: &str) -> Option<u64>
 
 /// The shape of these sizes, or `BadShape` where no store of their class has them.
 pub(crate) fn shape_of(sizes: Sizes) -> Result<Shape, Fault>
-    ensures ok { IfOk result (HasSizes sizes) }
-    ensures err { IfErr result (λ fault. AreNoSizes sizes × (fault ≡ BadShape)) }
+    ensures sized { IfOk result (HasSizes sizes) }
+    ensures refused { IfErr result (λ fault. (¬ (AreSizes sizes)) × (fault ≡ BadShape)) }
 {
     match sizes.class {
         Class::Small => Shape::new(
