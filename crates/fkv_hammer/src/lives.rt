@@ -5,7 +5,7 @@ use crate::shapes::shape_of;
 use crate::verdicts::{Told, Wrong, judge};
 use fkv_base::{Fault, Key, Value, Version};
 use fkv_creating::create;
-use fkv_disk::{Device, Fuse, MemDisk};
+use fkv_disk::{Device, Fuse, FuseState, MemDisk};
 use fkv_lines::Line;
 use fkv_opening::{Opened, recover};
 use fkv_pairs::content;
@@ -50,7 +50,7 @@ fn found_on(alloc: Global, disk: MemDisk) -> Result<Found, Fault> {
     })
 }
 
-/// One life, which ends at some call of the device or behind its lines, and what a crash then leaves.
+/// One life, and what a crash then leaves. The device fails from a call on that is drawn from all that the life would make, or behind the last.
 fn live<R: Threads + Wait + Sync>(
     rt: &R,
     alloc: Global,
@@ -64,7 +64,8 @@ fn live<R: Threads + Wait + Sync>(
     } = found;
     let number = opened.number;
     let lines = lines_of(alloc, draws)?;
-    let calls = draws.below(120);
+    let whole = count_calls(rt, alloc, &disk, &lines)?;
+    let calls = draws.below(whole.saturating_add(1));
     let Played { logs, keeper } = played(rt, alloc, disk, calls, &lines)?;
     if let Some(fault) = keeper.fault {
         if fault != Fault::Device {
@@ -86,6 +87,27 @@ fn live<R: Threads + Wait + Sync>(
     };
     judge(alloc, &told, &after.opened, &after.pairs)?;
     Ok(after)
+}
+
+/// How many calls of the device these lines make, as they are played over a copy of the store. On threads it may be another number each time.
+fn count_calls<R: Threads + Wait + Sync>(
+    rt: &R,
+    alloc: Global,
+    disk: &MemDisk,
+    lines: &[Line],
+) -> Result<u64, Wrong> {
+    let Played { keeper, .. } = played(rt, alloc, copy_of(alloc, disk)?, u64::MAX, lines)?;
+    if let Some(fault) = keeper.fault {
+        return Err(Wrong::Refused(fault));
+    }
+    match keeper.device.state() {
+        FuseState::Armed(left) => Ok(u64::MAX - left),
+        _ => Ok(0),
+    }
+}
+
+fn copy_of(alloc: Global, disk: &MemDisk) -> Result<MemDisk, Fault> {
+    MemDisk::from_bytes(alloc, disk.bytes().to_vec(alloc)?)
 }
 
 /// Plays lines over the store that this device holds, of whose calls so many pass.

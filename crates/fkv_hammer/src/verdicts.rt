@@ -14,7 +14,7 @@ pub(crate) enum Wrong {
     Refused(Fault),
     #[error("the recovered commit was neither finished last nor begun")]
     Number,
-    #[error("the points are not those of the finished commit")]
+    #[error("the points are not those of the finished commit, or of the one from which the life began")]
     Points,
     #[error("a point is below a durable one that was told")]
     Durable,
@@ -48,9 +48,13 @@ pub(crate) fn judge(
     pairs: &[(Key, Value)],
 ) -> Result<(), Wrong> {
     judge_commit(told, opened)?;
+    let is_first = opened.number == told.number;
     for (log, point) in told.logs.iter().zip(opened.points.as_slice()) {
         if point.0 < log.durable.0 {
             return Err(Wrong::Durable);
+        }
+        if is_first && point.0 != log.first {
+            return Err(Wrong::Points);
         }
     }
     let wanted = replayed(alloc, told, &opened.points)?.pairs()?;
