@@ -1,21 +1,24 @@
 //! A store with the handles that nobody has taken yet.
-ghost use Rattle.std.specs.Prelude.{◌≡◌, IfSome, Some};
+ghost use Rattle.std.specs.Prelude.{◌≡◌, IfOk, IfSome, Some};
+ghost use Rattle.fkv_disk.specs.Device.{LeavesOnly};
+ghost use Rattle.fkv_opening.specs.Opened.{IsStoreOf};
 ghost use Rattle.fkv_posted.specs.Outcomes.{AreOutcomes};
 ghost use Rattle.fkv_posted.specs.Posting.{with_told};
 ghost use Rattle.fkv_posted.specs.Shows.{posted_failures, posted_opened, posted_outcomes};
+ghost use Rattle.fkv_table.specs.Keeps.{IsAfterSeen, IsKeeperReady};
 ghost use Rattle.fkv_table.specs.Planes.{opening_of};
 ghost use Rattle.fkv_table.specs.Starts.{EachAt};
-ghost use Rattle.fkv_threads.specs.Begun.{HasBegun};
+ghost use Rattle.fkv_threads.specs.Begun.{HasBegun, KeeperHasBegun};
 
 use crate::keeping::Keeping;
 use crate::seated::Seated;
 use fkv_base::{CommitKind, Fault, Serial, Shape, Version};
 use fkv_disk::{Device, DeviceAsk};
 use fkv_map::Call;
-use fkv_opening::recover;
+use fkv_opening::{Opened, recover};
 use fkv_posted::{Posted, Told};
 use fkv_session::Answer;
-use fkv_table::{OpenTable, Pass, Table, TurnAsk};
+use fkv_table::{KeeperPass, OpenTable, Pass, Table, TurnAsk};
 use std::alloc::Global;
 use std::sync::Arc;
 
@@ -72,8 +75,9 @@ fn seats(
 {
     let mut seats = Vec::new(alloc);
     for (session, pass) in sessions {
+        let share = Arc::try_clone(table)?;
         seats.push(Some(Seated {
-            table: Arc::try_clone(table)?,
+            table: share,
             session,
             pass: Some(pass),
         }))?;
@@ -89,17 +93,72 @@ fn copied(alloc: Global, points: &[Serial]) -> Result<Vec<Serial>, Fault> {
     Ok(copies)
 }
 
+/// What the image has told.
+fn told_of(alloc: Global, opened: &Opened) -> Result<Recovered, Fault> {
+    let points = copied(alloc, &opened.points)?;
+    Ok(Recovered {
+        shape: opened.shape,
+        number: opened.number,
+        points,
+    })
+}
+
+/// The store of this image, and the medium that it lies on from now on.
+fn opened_from(alloc: Global, bytes: &[u8]) -> Result<(Opened, Medium), Fault>
+    ensures store { IfOk result (λ r. IsStoreOf (⟦<Posted<'static> as Device>⟧.seen r.1) r.0) }
+    ensures honest { IfOk result (λ r. ⟦<Posted<'static> as Device>⟧.honest r.1) }
+    ensures leaves { IfOk result (λ r. LeavesOnly (⟦<Posted<'static> as Device>⟧.seen r.1) (⟦<Posted<'static> as Device>⟧.may_leave r.1)) }
+{
+    let mut shown = Posted::new(bytes);
+    match recover(alloc, &mut shown) {
+        Ok(opened) => Ok((opened, shown.into_posted())),
+        Err(why) => Err(why),
+    }
+}
+
+/// The keeper with a share of the table.
+fn kept(
+    table: Arc<Table<Medium>, Global>,
+    keeper: fkv_table::Keeper,
+    pass: KeeperPass<Medium>,
+    device: Medium,
+) -> Keeping
+    requires ready { IsKeeperReady (opening_of ⟦<Posted<'static> as Device>⟧.seen) table.value.table.shared.key table.value.table.shared.table_id pass.seat.table_id pass.seat.me keeper.machine }
+    requires honest { ⟦<Posted<'static> as Device>⟧.honest device }
+    requires after { IsAfterSeen (opening_of ⟦<Posted<'static> as Device>⟧.seen) table.value.table.shared.key pass.seat.me.0.seen (⟦<Posted<'static> as Device>⟧.seen device) (⟦<Posted<'static> as Device>⟧.may_leave device) }
+{
+    Keeping {
+        table,
+        keeper,
+        pass: Some(pass),
+        device,
+        in_turn: false,
+    }
+}
+
+/// The handles of a table that was just opened, each with its share of it.
+fn handles_of(
+    alloc: Global,
+    table: Arc<Table<Medium>, Global>,
+    sessions: Vec<(fkv_table::Session, Pass<Medium>)>,
+    keeping: Keeping,
+) -> Result<Store, Fault>
+    requires sessions { EachAt sessions.items (λ i x. HasBegun (opening_of ⟦<Posted<'static> as Device>⟧.seen) table.value.table.shared.key table.value.table.shared.table_id i x.0.machine x.0.desk x.1.seat.table_id x.1.seat.me) }
+{
+    let sessions = seats(alloc, &table, sessions)?;
+    Ok(Store {
+        table: Some(table),
+        sessions,
+        keeper: Some(keeping),
+    })
+}
+
 impl Store {
     /// Opens the store of this image, as `recover` does. The bytes are those of the file, all of them synced. They aren't needed behind the call.
+    #[tactic(none)]
     pub fn open(alloc: Global, bytes: &[u8]) -> Result<(Store, Recovered), Fault> {
-        let mut shown = Posted::new(bytes);
-        let opened = recover(alloc, &mut shown)?;
-        let recovered = Recovered {
-            shape: opened.shape,
-            number: opened.number,
-            points: copied(alloc, &opened.points)?,
-        };
-        let medium: Medium = shown.into_posted();
+        let (opened, medium) = opened_from(alloc, bytes)?;
+        let told = told_of(alloc, &opened)?;
         let OpenTable {
             table,
             sessions,
@@ -108,20 +167,10 @@ impl Store {
             device,
         } = fkv_threads::open(alloc, opened, medium)?;
         let table = Arc::new(alloc, table)?;
-        let sessions = seats(alloc, &table, sessions)?;
-        let keeping = Keeping {
-            table: Arc::try_clone(&table)?,
-            keeper,
-            pass: Some(pass),
-            device,
-            in_turn: false,
-        };
-        let store = Store {
-            table: Some(table),
-            sessions,
-            keeper: Some(keeping),
-        };
-        Ok((store, recovered))
+        let share = Arc::try_clone(&table)?;
+        let keeping = kept(share, keeper, pass, device);
+        let store = handles_of(alloc, table, sessions, keeping)?;
+        Ok((store, told))
     }
 
     /// Takes a session's handle. `NoSession` where the shape has none of this number.
