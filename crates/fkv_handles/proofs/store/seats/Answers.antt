@@ -7,7 +7,7 @@ use Rattle.fkv_handles.proofs.Shares.{ready_at}
 use Rattle.fkv_handles.proofs.store.seats.Goals as goal
 
 pub invariant_of-push : goal.invariant_of-push
-invariant_of-push g c =
+invariant_of-push c =
     let items = c.args.sessions.items in
     let at = length c.loop-session.yielded in
     let turn = YieldsList-turn (YieldsList-from_vec {s = c.into_iter-session-iterator.result} items (search rules) (search rules)) c.loop-session.yielded c.loop-session.session-iterator c.loop-session.yielded_by c.next.result
