@@ -12,6 +12,7 @@ pub mod Reads
 pub mod Recovered
 pub mod Rows
 pub mod Rules
+pub mod Said
 pub mod Served
 pub mod Shares
 pub mod Tickets

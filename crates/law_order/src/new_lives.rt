@@ -1,6 +1,5 @@
 //! That the lives exist of which the order law speaks.
-ghost use Rattle.law_order.specs.OneHistory.Committed as after;
-ghost use Rattle.law_order.specs.OneHistory.NewLives as lives;
+ghost use Rattle.law_order.specs.Said as said;
 
 use crate::one_history::law_order;
 use fkv_creating::law_new_stores;
@@ -12,11 +11,11 @@ use law_opening::law_world_exists;
 /// is that of a life which finishes a full commit and a log commit, each seen by two sessions, of which one updates in the midst of the first. A crash may end it
 /// as the second commit has begun.
 pub fn law_life_exists()
-    ensures opened { lives.StoresHaveLives }
-    ensures created { lives.ShapesHaveLives }
-    ensures worked { lives.WorkedLife }
-    ensures committed { after.CommittedLife }
-    ensures crashed { after.CrashedLife }
+    ensures opened { said.StoresHaveLives }
+    ensures created { said.ShapesHaveLives }
+    ensures worked { said.WorkedLife }
+    ensures committed { said.CommittedLife }
+    ensures crashed { said.CrashedLife }
 {
     law_new_stores();
     law_world_exists();

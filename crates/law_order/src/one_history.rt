@@ -1,11 +1,5 @@
 //! The order law of the engine, in every life.
-ghost use Rattle.law_opening.specs.Log.Lives.{KeepsRules};
-ghost use Rattle.law_order.specs.OneHistory.Beside.{HasItsHistory};
-ghost use Rattle.law_order.specs.OneHistory.EachLife as lives;
-ghost use Rattle.law_order.specs.Ordered.Keeps.{KeepsItsOrder};
-ghost use Rattle.law_order.specs.Ordered.Met.{SeeksItsReads};
-ghost use Rattle.law_order.specs.Rules.InTime.{ReadsInTime};
-ghost use Rattle.law_order.specs.Rules.Ordered as laws;
+ghost use Rattle.law_order.specs.Said as said;
 
 use crate::fits::law_opening_fits;
 use crate::in_turn::{law_ends_open, law_versions_open};
@@ -22,7 +16,7 @@ use law_refine::law_latched_in_tries;
 /// Each life keeps order, with no further premise: it begins so, and what the induction is given of phases, latches and versions holds of each life. So each
 /// event of the log beside it is enabled, and what a session is about to change in place is published. And no attempt ends as a shift and isn't made again.
 pub fn law_lives_keep_order()
-    ensures { lives.InEachLife KeepsItsOrder }
+    ensures { said.InEachLife said.KeepsItsOrder }
 {
     law_life_begins();
     law_opening_fits();
@@ -41,7 +35,7 @@ pub fn law_lives_keep_order()
 
 /// In each life each read that waits seeks a record of the device, but for the one that is polled just then. No poll tries it again.
 pub fn law_lives_seek()
-    ensures { lives.InEachLife SeeksItsReads }
+    ensures { said.InEachLife said.SeeksItsReads }
 {
     law_life_begins();
     law_opening_fits();
@@ -60,7 +54,7 @@ pub fn law_lives_seek()
 
 /// So each life keeps to the rules of that log. What `law_log` says of logs holds beside each life.
 pub fn law_lives_keep_rules()
-    ensures { lives.InEachLife KeepsRules }
+    ensures { said.InEachLife said.KeepsRules }
 {
     law_lives_keep_order();
 }
@@ -68,7 +62,7 @@ pub fn law_lives_keep_rules()
 /// And that log has the history of the life, each effect in its version. For a record that is published has the version of its update's request, and so has one
 /// that is changed in place.
 pub fn law_history_beside()
-    ensures { lives.InEachLife HasItsHistory }
+    ensures { said.InEachLife said.HasItsHistory }
 {
     law_life_begins();
     law_lives_keep_order();
@@ -82,12 +76,12 @@ pub fn law_history_beside()
 /// of sessions begin. With commits or without, each action is run once at most. Each protected session then goes by what it loaded since the action's epoch
 /// was raised.
 pub fn law_order()
-    ensures legal { lives.InEachLife laws.HasLegalHistory }
-    ensures ordered { lives.InEachLife laws.OrdersItsCalls }
-    ensures fresh { lives.InEachLife laws.ReadsFreshly }
-    ensures in_time { lives.InEachLife ReadsInTime }
-    ensures guarded { lives.InEachLife laws.IsGuarded }
-    ensures once { lives.InEachLife laws.RunsActionsOnce }
+    ensures legal { said.InEachLife said.HasLegalHistory }
+    ensures ordered { said.InEachLife said.OrdersItsCalls }
+    ensures fresh { said.InEachLife said.ReadsFreshly }
+    ensures in_time { said.InEachLife said.ReadsInTime }
+    ensures guarded { said.InEachLife said.IsGuarded }
+    ensures once { said.InEachLife said.RunsActionsOnce }
 {
     law_order_of_rules();
     law_lives_keep_order();

@@ -1,7 +1,5 @@
 //! What the points of commits keep.
-ghost use Rattle.law_order.specs.OneHistory.EachLife.{InEachLife};
-ghost use Rattle.law_order.specs.Prefix.Law.{HasRisingPoints};
-ghost use Rattle.law_order.specs.Recovered.Points.{CommitsKeepTheirPoints};
+ghost use Rattle.law_order.specs.Said as said;
 
 use crate::{law_order, law_points_open};
 use law_commit::{law_points_between, law_points_split, law_points_taken, law_versions_end};
@@ -13,8 +11,8 @@ use law_world::{
 /// up to that version waits. So each serial up to a session's point has taken effect once, if it is above the session's point of the opening; and no other has.
 /// No point has fallen since the opening, nor from a commit to a newer one. A slot has room for each.
 pub fn law_points_keep()
-    ensures kept { CommitsKeepTheirPoints }
-    ensures rise { InEachLife HasRisingPoints }
+    ensures kept { said.CommitsKeepTheirPoints }
+    ensures rise { said.InEachLife said.HasRisingPoints }
 {
     law_order();
     law_points_open();
