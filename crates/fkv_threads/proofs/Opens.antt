@@ -7,7 +7,7 @@ use Rattle.fkv_disk.specs.Device.{IsAfter}
 use Rattle.fkv_opening.specs.declared.opened_store.Opened.{Opened}
 use Rattle.fkv_world.specs.Opened.{IsOpenedWorld}
 use Rattle.fkv_world.specs.Runs.{World}
-use Rattle.law_opening.specs.Lives.Laws.{GuardOpens}
+use Rattle.law_threads.specs.Below.Lives.Laws.{GuardOpens}
 use Rattle.fkv_seats.specs.Rule.{led}
 use Rattle.fkv_table.specs.declared.happenings.Happening.{Happening}
 use Rattle.fkv_table.specs.Keeps.{IsAfterSeen}

@@ -1,3 +1,4 @@
+pub mod Below
 pub mod OfApart
 mod OfAsked
 mod OfCopies

@@ -1,3 +1,4 @@
+pub mod Below
 pub mod Apart
 pub mod Asked
 pub mod Decided

@@ -15,11 +15,11 @@ use Rattle.fkv_session.specs.Sessions.{SessionState, is_busy, session_begun}
 use Rattle.fkv_world.specs.Past.{Traced, TraceEvent, Called, Answered}
 use Rattle.fkv_world.specs.Runs.{World, happens}
 use Rattle.fkv_world.specs.World as world
-use Rattle.law_world.specs.Runs.Added.{begun_by, call_answered, call_begun, ended_by, told_at, told_by}
-use Rattle.law_world.proofs.OfRuns.Added.{trace_so}
-use Rattle.law_refine.proofs.OfCalls.Telling.{AreOfKeeper, alive_told, is_of_keeper}
-use Rattle.law_refine.proofs.OfCalls.Called.{is_other}
-use Rattle.law_refine.proofs.OfCalls.Life.{AreOthers, keepers_other}
+use Rattle.law_order.specs.Below.Runs.Added.{begun_by, call_answered, call_begun, ended_by, told_at, told_by}
+use Rattle.law_order.proofs.Below.OfRuns.Added.{trace_so}
+use Rattle.law_order.proofs.Below.OfCalls.Telling.{AreOfKeeper, alive_told, is_of_keeper}
+use Rattle.law_order.proofs.Below.OfCalls.Called.{is_other}
+use Rattle.law_order.proofs.Below.OfCalls.Life.{AreOthers, keepers_other}
 use Rattle.law_order.proofs.OfReads.LifeNumbers.{begins_other, begins_trace, goes_other}
 use Rattle.law_order.proofs.OfReads.Turns.{Goes, Turn, Rests, BeginsOne, GoesOne, moved_to, turn_of}
 use Rattle.fkv_table.specs.Calls.{OnlyMoves}

@@ -3,7 +3,7 @@ use Rattle.std.proofs.Common.{◌≡◌, ℕ, suc, ◌+◌, ◌∙◌, refl, sym
 use Rattle.std.specs.Prelude.{Option, Some, None, cond, ◌&&◌, nat_eq, slice_get, if◌then◌else◌}
 use Rattle.std.proofs.lemmas.Bool.Decides.{nat_tests}
 use Rattle.fkv_base.specs.declared.numbers.Serial.{Serial}
-use Rattle.fkv_core.specs.Openings.{beginning}
+use Rattle.law_order.specs.Below.Openings.{beginning}
 use Rattle.fkv_map.specs.declared.operations.Call.{Call}
 use Rattle.fkv_map.specs.declared.operations.Call.TheVariants as call
 use Rattle.fkv_map.specs.declared.operations.Op.{Op}
@@ -21,15 +21,15 @@ use Rattle.fkv_world.specs.Past.{Traced, TraceEvent, Called, Answered}
 use Rattle.fkv_world.specs.Runs.{World, run}
 use Rattle.fkv_world.specs.World.{Event, Now}
 use Rattle.law_log.specs.Trace.{GivesResult, HasReply, IsIn, OrdersCalls, called_as}
-use Rattle.law_refine.specs.Calls.Calls.{effects_of_life, lines_of_life}
-use Rattle.law_refine.specs.Events.GhostEvents.{serial_in, serials_in}
-use Rattle.law_refine.specs.Events.Lines.{lines_of, newest_serial, next_serial}
-use Rattle.law_refine.proofs.OfCalls.Called as ledgers
-use Rattle.law_refine.proofs.OfCalls.Called.{ledger_of, other_told}
-use Rattle.law_refine.proofs.OfCalls.InHand.{WasOpened, was_opened}
-use Rattle.law_refine.proofs.OfCalls.Life.{idle_calm, life_stood, next_at, told_so}
+use Rattle.law_order.specs.Below.Calls.Calls.{effects_of_life, lines_of_life}
+use Rattle.law_order.specs.Below.Events.GhostEvents.{serial_in, serials_in}
+use Rattle.law_order.specs.Below.Events.Lines.{lines_of, newest_serial, next_serial}
+use Rattle.law_order.proofs.Below.OfCalls.Called as ledgers
+use Rattle.law_order.proofs.Below.OfCalls.Called.{ledger_of, other_told}
+use Rattle.law_order.proofs.Below.OfCalls.InHand.{WasOpened, was_opened}
+use Rattle.law_order.proofs.Below.OfCalls.Life.{idle_calm, life_stood, next_at, told_so}
 use Rattle.law_order.specs.Rules.Ordered.{OrdersItsCalls}
-use Rattle.law_refine.proofs.OfCalls.Called.{is_other}
+use Rattle.law_order.proofs.Below.OfCalls.Called.{is_other}
 use Rattle.fkv_table.specs.declared.happenings.Happening.{Happening}
 use Rattle.fkv_table.proofs.Lives.{led_run}
 use Rattle.law_threads.specs.Calls.{CallRun, HasRun, IsOver, events_of}

@@ -21,9 +21,9 @@ use Rattle.fkv_world.specs.OwnEvents.{keeper_events, keeper_got, keeper_part, ke
 use Rattle.fkv_world.specs.Runs.{World, read_by_keeper, run}
 use Rattle.fkv_world.specs.World as world
 use Rattle.fkv_world.specs.World.{Event, near}
-use Rattle.law_world.proofs.OfKeeper.OwnRun.{of_keeper, to_keeper}
-use Rattle.law_commit.specs.BegunCommits.{AtKeeping, BegunCommit, IsInHand, begun_by, commit_opened, commits_begun, life_begun, with_finished}
-use Rattle.law_commit.proofs.Shown.{life_stands}
+use Rattle.law_order.proofs.Below.OfKeeper.OwnRun.{of_keeper, to_keeper}
+use Rattle.law_order.specs.Below.BegunCommits.{AtKeeping, BegunCommit, IsInHand, begun_by, commit_opened, commits_begun, life_begun, with_finished}
+use Rattle.law_order.proofs.Below.Shown.{life_stands}
 
 -- ---- what an event of the world is for the keeper: one call of the device, or events that call no device
 abbrev IsQuiet : KeeperEvent → Type 0

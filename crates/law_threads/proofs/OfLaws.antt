@@ -1,6 +1,6 @@
 -- The thread law, by clauses of the order law.
 use Rattle.std.proofs.Common.{◌⊎◌, inl, inr, ℕ, sym, subst, List}
-use Rattle.fkv_core.specs.Openings.{IsOpeningWorld}
+use Rattle.law_order.specs.Below.Openings.{IsOpeningWorld}
 use Rattle.fkv_opening.specs.Opened.{IsStoreOf}
 use Rattle.fkv_opening.specs.declared.opened_store.Opened.{Opened}
 use Rattle.fkv_seats.specs.Kept.{SeesInOrder}

@@ -4,7 +4,7 @@ use Rattle.std.specs.Prelude.{Option, Some, None, if◌then◌else◌, slice_get
 use Rattle.fkv_base.specs.declared.numbers.Key.{Key}
 use Rattle.fkv_base.specs.declared.numbers.Serial.{Serial}
 use Rattle.fkv_base.specs.declared.numbers.Value.{Value}
-use Rattle.fkv_core.specs.Openings.{beginning}
+use Rattle.law_order.specs.Below.Openings.{beginning}
 use Rattle.fkv_map.specs.declared.operations.Call.{Call}
 use Rattle.fkv_map.specs.declared.operations.Call.TheVariants as call
 use Rattle.fkv_map.specs.declared.operations.Reply.{Reply}
@@ -27,15 +27,15 @@ use Rattle.fkv_world.specs.Runs.{World, happens, run}
 use Rattle.fkv_world.specs.World as world
 use Rattle.fkv_world.specs.World.{Event, Now}
 use Rattle.law_log.specs.Trace.{AnswersRead, CallsRead, GivesResult, IsIn}
-use Rattle.law_refine.specs.Events.Lines.{finished_line, finished_lines, lines_added, lines_of, read_reply, read_in_hand, read_waiting}
+use Rattle.law_order.specs.Below.Events.Lines.{finished_line, finished_lines, lines_added, lines_of, read_reply, read_in_hand, read_waiting}
 use Rattle.fkv_table.specs.declared.happenings.Happening.{Happening}
 use Rattle.fkv_base.specs.declared.faults.Fault.TheVariants as fault
 use Rattle.fkv_pending.specs.declared.mailing.MailTask.TheVariants.{Clear}
 use Rattle.fkv_pending.specs.declared.mailing.Mailing.TheVariants.{LoadsState}
-use Rattle.law_opening.specs.Log.Maps.{opening_map}
-use Rattle.law_world.specs.Runs.Added.{told_at}
-use Rattle.law_refine.specs.Calls.Calls.{event_adds}
-use Rattle.law_refine.specs.Events.GhostEvents.{serials_in}
+use Rattle.law_order.specs.Below.Log.Maps.{opening_map}
+use Rattle.law_order.specs.Below.Runs.Added.{told_at}
+use Rattle.law_order.specs.Below.Calls.Calls.{event_adds}
+use Rattle.law_order.specs.Below.Events.GhostEvents.{serials_in}
 use Rattle.law_order.specs.Rules.InTime.{IsInTime, ReadsInTime}
 use Rattle.law_order.specs.Rules.Ordered.{OrdersItsCalls}
 use Rattle.law_order.specs.Tickets.Few.{HasFewCalls}

@@ -4,7 +4,7 @@ use Rattle.std.specs.Prelude.{Some, None, false}
 use Rattle.std.specs.FinMap.{get}
 use Rattle.fkv_base.specs.declared.faults.Fault.{Fault}
 use Rattle.fkv_base.specs.declared.numbers.Key.{Key}
-use Rattle.fkv_core.specs.Openings.{beginning}
+use Rattle.law_order.specs.Below.Openings.{beginning}
 use Rattle.fkv_map.specs.declared.history.HistoryEntry.{HistoryEntry}
 use Rattle.fkv_map.specs.declared.operations.Call.{Call}
 use Rattle.fkv_map.specs.declared.operations.Call.TheVariants as call
@@ -27,11 +27,11 @@ use Rattle.fkv_world.specs.Runs.{World, happens}
 use Rattle.fkv_world.specs.World as world
 use Rattle.fkv_world.specs.World.{Event, Now}
 use Rattle.law_log.specs.Trace.{AnswersRead, CallsRead, IsIn, TraceLine}
-use Rattle.law_opening.specs.Log.Maps.{opening_map}
-use Rattle.law_world.specs.Runs.Added.{ended_by, told_at}
-use Rattle.law_refine.specs.Calls.Calls.{event_adds}
-use Rattle.law_refine.specs.Events.GhostEvents.{serials_in, traced_by}
-use Rattle.law_refine.specs.Events.Lines.{event_lines, lines_added, read_in_hand}
+use Rattle.law_order.specs.Below.Log.Maps.{opening_map}
+use Rattle.law_order.specs.Below.Runs.Added.{ended_by, told_at}
+use Rattle.law_order.specs.Below.Calls.Calls.{event_adds}
+use Rattle.law_order.specs.Below.Events.GhostEvents.{serials_in, traced_by}
+use Rattle.law_order.specs.Below.Events.Lines.{event_lines, lines_added, read_in_hand}
 use Rattle.law_order.specs.Prefix.Law.{history_so_far}
 use Rattle.law_order.specs.Rules.InTime.{IsInTime, ReadsInTime}
 use Rattle.law_order.proofs.OfReads.Numbers.{called_hand}

@@ -22,9 +22,9 @@ use Rattle.fkv_world.specs.Past.{Traced, TraceEvent, Called, Answered}
 use Rattle.fkv_world.specs.Runs.{World}
 use Rattle.fkv_world.specs.World.{Now}
 use Rattle.law_log.specs.Trace.{AnswersRead, IsIn, TraceLine}
-use Rattle.law_world.specs.Runs.Added.{told_at}
-use Rattle.law_refine.specs.Events.Lines.{answer_lines, event_lines, lines_added, read_in_hand}
-use Rattle.law_refine.proofs.OfCalls.Called.{is_other}
+use Rattle.law_order.specs.Below.Runs.Added.{told_at}
+use Rattle.law_order.specs.Below.Events.Lines.{answer_lines, event_lines, lines_added, read_in_hand}
+use Rattle.law_order.proofs.Below.OfCalls.Called.{is_other}
 use Rattle.law_order.proofs.OfReads.Numbers.{other_hand}
 use Rattle.fkv_table.specs.Calls.{AreOthers, IsToldLast}
 use Rattle.fkv_table.specs.declared.happenings.Happening.{Happening}

@@ -13,10 +13,10 @@ use Rattle.fkv_world.specs.OwnEvents.{session_events}
 use Rattle.fkv_world.specs.Past.{Traced, TraceEvent, Called, Answered}
 use Rattle.fkv_world.specs.Runs.{World, run}
 use Rattle.fkv_world.specs.World.{Event, seat_at}
-use Rattle.law_refine.specs.Events.Lines.{gives_ticket, read_in_hand, read_waiting}
-use Rattle.law_refine.specs.Events.Lines as lines
-use Rattle.law_refine.proofs.OfCalls.InHand.{WasOpened, was_opened}
-use Rattle.law_refine.proofs.OfCalls.Life.{told_so}
+use Rattle.law_order.specs.Below.Events.Lines.{gives_ticket, read_in_hand, read_waiting}
+use Rattle.law_order.specs.Below.Events.Lines as lines
+use Rattle.law_order.proofs.Below.OfCalls.InHand.{WasOpened, was_opened}
+use Rattle.law_order.proofs.Below.OfCalls.Life.{told_so}
 use Rattle.law_order.specs.Tickets.Few.{HasFewCalls}
 use Rattle.law_order.proofs.OfReads.Numbers.{other_waiting}
 use Rattle.law_order.proofs.OfTickets.Begun.{told_few}

@@ -4,7 +4,7 @@ use Rattle.std.specs.Prelude.{Option, Some, None, Result, Ok, Err}
 use Rattle.fkv_base.specs.declared.faults.Fault.{Fault}
 use Rattle.fkv_base.specs.declared.numbers.Serial.{Serial}
 use Rattle.fkv_base.specs.declared.shapes.Shape.{Shape}
-use Rattle.fkv_core.specs.Openings.{beginning}
+use Rattle.law_order.specs.Below.Openings.{beginning}
 use Rattle.fkv_keeper.specs.Answers.{IsFinishTold}
 use Rattle.fkv_keeper.specs.Keeping.{Finality, KeeperState, keeping_ask}
 use Rattle.fkv_keeper.specs.KeeperRun.{is_in_hand}
@@ -24,9 +24,9 @@ use Rattle.fkv_seats.specs.Rule.{led}
 use Rattle.fkv_world.specs.Opened.{IsOpenedWorld}
 use Rattle.fkv_world.specs.Runs.{World, run}
 use Rattle.fkv_world.specs.World.{Event, Now}
-use Rattle.law_commit.specs.Accepted.{serial_at}
-use Rattle.law_commit.specs.BegunCommits.{AtEnd, AtKeeping, BegunCommit, HaveFinished, IsAsLast, OneIsOpen, life_begun}
-use Rattle.law_commit.proofs.Shown.{life_stands}
+use Rattle.law_order.specs.Below.Accepted.{serial_at}
+use Rattle.law_order.specs.Below.BegunCommits.{AtEnd, AtKeeping, BegunCommit, HaveFinished, IsAsLast, OneIsOpen, life_begun}
+use Rattle.law_order.proofs.Below.Shown.{life_stands}
 use Rattle.law_log.specs.Trace.{IsIn}
 use Rattle.law_order.specs.OneHistory.EachLife.{IsLife}
 use Rattle.law_order.specs.Prefix.Law.{BeginsWithTaken, HasFairPoints, IsFairPoint, IsInHandAsTaken, PrefixLaw, TakesFairPoints, past_so_far}

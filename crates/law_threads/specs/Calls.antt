@@ -2,7 +2,7 @@
 use Rattle.std.specs.Prelude.{◌≡◌, ℕ, List, map}
 use Rattle.atomic_table.specs.Seated.{TableId}
 use Rattle.atomic_table.specs.Table.{Me}
-use Rattle.fkv_core.specs.Openings.{IsOpeningWorld, beginning}
+use Rattle.law_order.specs.Below.Openings.{IsOpeningWorld, beginning}
 use Rattle.fkv_map.specs.declared.operations.Call.{Call}
 use Rattle.fkv_opening.specs.Opened.{IsStoreOf}
 use Rattle.fkv_opening.specs.declared.opened_store.Opened.{Opened}

@@ -7,9 +7,9 @@ use Rattle.fkv_opening.specs.Opened.{IsStoreOf}
 use Rattle.fkv_opening.specs.declared.opened_store.Opened.{Opened}
 use Rattle.fkv_session.specs.declared.answers.Answer.TheVariants.{Durable}
 use Rattle.fkv_world.specs.World.{Now}
-use Rattle.law_commit.specs.ToldPoints.{ToldPoint, finishes_told}
+use Rattle.law_order.specs.Below.ToldPoints.{ToldPoint, finishes_told}
 use Rattle.law_log.specs.Trace.{IsIn}
-use Rattle.law_opening.specs.Lives.Reaching.{ReachesFar}
+use Rattle.law_order.specs.Below.Lives.Reaching.{ReachesFar}
 use Rattle.law_order.specs.Prefix.Law.{IsToldDurable, calls_so_far, past_so_far, trace_so_far}
 use Rattle.fkv_table.specs.declared.happenings.Happening.{Happening}
 use Rattle.law_threads.specs.Calls.{CallRun, events_of}

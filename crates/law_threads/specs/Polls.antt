@@ -15,11 +15,11 @@ use Rattle.fkv_session.specs.declared.answers.Finished.TheVariants as finished
 use Rattle.fkv_world.specs.Runs.{World}
 use Rattle.fkv_world.specs.World.{Event, Now}
 use Rattle.law_log.specs.Trace.{HasReply, IsIn}
-use Rattle.law_opening.specs.Log.Maps.{opening_map}
+use Rattle.law_order.specs.Below.Log.Maps.{opening_map}
 use Rattle.law_order.specs.Rules.InTime.{IsInTime}
 use Rattle.law_order.specs.Rules.Ordered.{effects_so_far}
 use Rattle.law_order.specs.Tickets.Few.{HasFewCalls}
-use Rattle.law_refine.specs.Events.Lines.{read_reply}
+use Rattle.law_order.specs.Below.Events.Lines.{read_reply}
 use Rattle.fkv_table.specs.declared.happenings.Happening.{Happening}
 use Rattle.law_threads.specs.Calls.{CallRun, HasRun, IsOver, events_of}
 use Rattle.law_threads.specs.Threads.{history_seen}

@@ -12,7 +12,7 @@ use Rattle.fkv_session.specs.declared.answers.Answer.{Answer}
 use Rattle.fkv_session.specs.declared.answers.Answer.TheVariants as answer
 use Rattle.fkv_world.specs.World.{Now}
 use Rattle.law_log.specs.Trace.{HasReply}
-use Rattle.law_opening.specs.Log.Maps.{opening_map}
+use Rattle.law_order.specs.Below.Log.Maps.{opening_map}
 use Rattle.law_order.specs.Prefix.Law.{history_so_far}
 use Rattle.law_order.specs.Rules.InTime.{IsInTime}
 use Rattle.law_order.specs.Rules.Ordered.{HasLegalHistory, OrdersItsCalls, effects_so_far}

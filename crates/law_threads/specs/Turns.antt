@@ -11,8 +11,8 @@ use Rattle.fkv_map.specs.History.{point_of}
 use Rattle.fkv_opening.specs.declared.opened_store.Opened.{Opened}
 use Rattle.fkv_world.specs.Runs.{World}
 use Rattle.fkv_world.specs.World.{Event, Now}
-use Rattle.law_commit.specs.Accepted.{serial_at}
-use Rattle.law_commit.specs.BegunCommits.{BegunCommit}
+use Rattle.law_order.specs.Below.Accepted.{serial_at}
+use Rattle.law_order.specs.Below.BegunCommits.{BegunCommit}
 use Rattle.law_log.specs.Trace.{IsIn}
 use Rattle.law_order.specs.Prefix.Law.{IsFairPoint, IsInHandAsTaken, past_so_far}
 use Rattle.law_order.specs.Rules.Ordered.{now_after}

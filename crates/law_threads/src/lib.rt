@@ -10,8 +10,10 @@ ghost use Rattle.law_threads.specs.Images.{RecoversWithin};
 ghost use Rattle.law_threads.specs.Laws.{IsThreadLaw, IsWithin, SharesOneHistory};
 ghost use Rattle.law_threads.specs.Turns.{OfEachTurn};
 
-use law_order::{law_durable_never_falls, law_order, law_prefix};
-use law_world::{law_world_requests, law_world_sessions};
+pub use law_order::{law_device_opens, law_guard_opens};
+use law_order::{
+    law_durable_never_falls, law_order, law_prefix, law_world_requests, law_world_sessions,
+};
 
 /// Sessions make their calls at one table, each in any thread. `Session::run` says how a call stands in the list of events. In all lives, with commits too, more
 /// is known by the order law (`in_lives`). A done update has taken effect by what the pass has seen, with its serial and reply, and so has one that a poll says

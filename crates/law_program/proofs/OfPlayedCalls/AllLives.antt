@@ -33,8 +33,8 @@ use Rattle.fkv_runs.specs.declared.settings.Settings.{Settings}
 use Rattle.fkv_texts.specs.Refusals.{last_refusal}
 use Rattle.fkv_world.specs.Runs.{World, run}
 use Rattle.fkv_world.specs.World.{Event}
-use Rattle.law_opening.specs.Lives.Laws.{CreatedReachesFar}
-use Rattle.law_opening.specs.Log.Maps.{opening_map}
+use Rattle.law_order.specs.Below.Lives.Laws.{CreatedReachesFar}
+use Rattle.law_order.specs.Below.Log.Maps.{opening_map}
 use Rattle.law_order.specs.OneHistory.EachLife.{InEachLife, IsLife, Life}
 use Rattle.law_order.specs.Prefix.Law.{AreLives, BeginsBehind, BeginsWithKept, HoldsPrefix, LivesFollow, LivesReachFar, RecoversPrefix, calls_so_far, first_of, kept_of_all, map_of, points_of}
 use Rattle.law_order.specs.Tickets.Few.{HasFewCalls, calls_in}

@@ -22,7 +22,7 @@ use Rattle.fkv_runs.specs.Crashes.{Agrees, kept_behind}
 use Rattle.fkv_runs.specs.Openings.{Begins}
 use Rattle.fkv_scan.specs.Log.{Log}
 use Rattle.fkv_world.specs.World.{Event, Now}
-use Rattle.law_opening.specs.Log.Records as records
+use Rattle.law_order.specs.Below.Log.Records as records
 use Rattle.law_order.specs.OneHistory.EachLife.{Life}
 use Rattle.law_order.specs.Prefix.Law.{first_of, history_so_far, kept_of_all, map_of, points_of}
 use Rattle.law_program.specs.PlayedCalls.AllLives.{first_life, with_events}

@@ -13,7 +13,7 @@ use Rattle.fkv_texts.specs.Refusals.{last_refusal}
 use Rattle.fkv_world.specs.Runs.{World, run}
 use Rattle.fkv_world.specs.World.{Event, Now}
 use Rattle.law_order.specs.OneHistory.EachLife.{InEachLife, IsLife, Life}
-use Rattle.law_opening.specs.Lives.Reaching.{ReachesFar}
+use Rattle.law_order.specs.Below.Lives.Reaching.{ReachesFar}
 use Rattle.law_order.specs.Prefix.Law.{HoldsPrefix, RecoversPrefix, calls_so_far}
 use Rattle.law_program.specs.PlayedCalls.CrashReports.{CrashesTakeWhatIsKept, IsReportOfKept}
 use Rattle.law_order.specs.Tickets.Few.{HasFewCalls}

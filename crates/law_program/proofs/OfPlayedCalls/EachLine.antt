@@ -53,7 +53,7 @@ use Rattle.law_program.proofs.OfPlayedCalls.PolledReads.{reads_answered}
 use Rattle.law_program.proofs.OfPlayedCalls.Replies.{AnswersWholeCalls, at_rest_behind, missing_number, op_answered}
 use Rattle.law_program.proofs.OfPlayedCalls.Steps.{GoesByRules}
 use Rattle.law_program.proofs.OfPlayedCalls.Waiting.{seats_kept}
-use Rattle.law_refine.specs.Results.Results.{NobodyCalls}
+use Rattle.law_order.specs.Below.Results.Results.{NobodyCalls}
 
 -- ---- the events of a call
 session_moves : (number count : ℕ) (asked : Call) → AreMovesOf (Session number asked) (replicate count (Moves number))

@@ -18,7 +18,7 @@ use Rattle.fkv_keeper.specs.declared.answers.KeeperTold.TheVariants.{Begun, Comm
 use Rattle.fkv_opening.specs.declared.opened_store.Opened.{Opened}
 use Rattle.fkv_world.specs.Past.{Answered, KeeperAnswered, TraceEvent, Traced}
 use Rattle.fkv_world.specs.World.{Event, Now}
-use Rattle.law_commit.specs.FinishedCommits.{ToldCommit, commits_told, told_of, with_told}
+use Rattle.law_order.specs.Below.FinishedCommits.{ToldCommit, commits_told, told_of, with_told}
 use Rattle.law_order.specs.OneHistory.EachLife.{InEachLife, IsLife}
 use Rattle.law_order.specs.Prefix.Law.{TellsFinished, trace_so_far}
 use Rattle.law_program.specs.PlayedCalls.FinishedCommits.{FinishesWhatIsTold, finished_so_far, with_commit, with_finished}

@@ -10,8 +10,8 @@ use Rattle.fkv_session.specs.declared.sessions.Sitting.TheVariants.{Idle}
 use Rattle.fkv_world.specs.Runs.{World, happens, run}
 use Rattle.fkv_world.specs.World.{Calls, Event, Moves}
 use Rattle.fkv_world.proofs.Shown.{is_over, session_apart}
-use Rattle.law_world.proofs.OfRuns.Nothing.{no_session}
-use Rattle.law_refine.specs.Results.Results.{NobodyCalls}
+use Rattle.law_order.proofs.Below.OfRuns.Nothing.{no_session}
+use Rattle.law_order.specs.Below.Results.Results.{NobodyCalls}
 use Rattle.law_order.specs.Served.Fits.{CallFits, CallsFit}
 use Rattle.law_order.specs.Tickets.Few.{HasFewCalls}
 use Rattle.law_program.specs.PlayedCalls.PlayedCalls.{called_alone}

@@ -18,18 +18,18 @@ use Rattle.fkv_world.specs.World.{Calls, Commits, Crashes, Event, KeeperMoves, M
 use Rattle.fkv_world.proofs.Shown.{is_over, lived, session_apart, world_of}
 use Rattle.law_log.specs.Trace.{history_of}
 use Rattle.fkv_map.specs.History.{content}
-use Rattle.law_opening.specs.Log.Maps.{opening_map}
+use Rattle.law_order.specs.Below.Log.Maps.{opening_map}
 use Rattle.law_program.specs.PlayedCalls.EachLine.{AreMovesOf, IsMoveOf, begun_by}
 use Rattle.law_program.specs.WholeCalls.WholeCalls.{map_after}
 use Rattle.law_program.specs.PlayedCalls.Waiting.{SeatsKeepKeys, key_told}
 use Rattle.law_program.proofs.OfPlayedCalls.Led.{IsKeepers}
 use Rattle.law_program.proofs.OfPlayedCalls.Waiting.{other_told, stands_on}
 use Rattle.law_order.proofs.OfReads.Numbers.{other_waiting}
-use Rattle.law_refine.proofs.OfCalls.Called.{is_other}
-use Rattle.law_refine.specs.Events.Lines.{read_waiting}
+use Rattle.law_order.proofs.Below.OfCalls.Called.{is_other}
+use Rattle.law_order.specs.Below.Events.Lines.{read_waiting}
 use Rattle.fkv_playing.specs.Seats.{SeatState}
-use Rattle.law_refine.specs.Calls.Calls.{effects_in_log}
-use Rattle.law_refine.specs.Results.Results.{NobodyCalls}
+use Rattle.law_order.specs.Below.Calls.Calls.{effects_in_log}
+use Rattle.law_order.specs.Below.Results.Results.{NobodyCalls}
 
 -- ---- one event
 -- Nothing has taken effect, and no session was told a ticket.

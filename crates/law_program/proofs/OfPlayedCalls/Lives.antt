@@ -22,7 +22,7 @@ use Rattle.fkv_world.specs.World.{Now}
 use Rattle.law_program.specs.PlayedCalls.EachLine.{IsLifeOver}
 use Rattle.law_program.specs.PlayedCalls.Lives.{ArmingGoesOn, CrashesGoOn, LivesBegin}
 use Rattle.law_program.specs.PlayedCalls.PlayedCalls.{IsQuietLife}
-use Rattle.law_refine.specs.Results.Results.{NobodyCalls}
+use Rattle.law_order.specs.Below.Results.Results.{NobodyCalls}
 use Rattle.law_program.specs.PlayedCalls.Waiting.{SeatsKeepKeys}
 use Rattle.law_program.proofs.OfPlayedCalls.NewStores.{PairsAreMap}
 use Rattle.law_program.proofs.OfPlayedCalls.Scripts.{opening_idle, opening_quiet, opening_shows}

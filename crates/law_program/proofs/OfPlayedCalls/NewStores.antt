@@ -10,8 +10,8 @@ use Rattle.fkv_chains.specs.Reached.{Reached, in_scan, led_to, linked}
 use Rattle.fkv_creating.specs.Created.{IsNewStore}
 use Rattle.fkv_opening.specs.Opened.{IsStoreOf}
 use Rattle.fkv_opening.specs.declared.opened_store.Opened.{Opened}
-use Rattle.law_opening.specs.Log.Maps.{opening_map}
-use Rattle.law_opening.specs.Log.Records.{map_of}
+use Rattle.law_order.specs.Below.Log.Maps.{opening_map}
+use Rattle.law_order.specs.Below.Log.Records.{map_of}
 use Rattle.fkv_pairs.specs.Pairs.{ArePairs, HasValue, log_of_store}
 use Rattle.fkv_record.specs.declared.triples.Triple.{Triple}
 use Rattle.fkv_scan.specs.Log.{HasTriple, Log}

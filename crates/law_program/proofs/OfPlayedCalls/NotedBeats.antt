@@ -38,11 +38,11 @@ use Rattle.law_answers.specs.Effects.Kept as told_law
 use Rattle.law_answers.specs.Effects.Kept.{told_behind, updates}
 use Rattle.law_answers.specs.Effects.Laws.{EventsTellTheirEffects}
 use Rattle.law_log.specs.Trace.{history_of}
-use Rattle.law_opening.specs.Lives.Laws.{GuardOpens}
+use Rattle.law_order.specs.Below.Lives.Laws.{GuardOpens}
 use Rattle.law_order.specs.Prefix.Law.{history_so_far}
 use Rattle.law_order.proofs.OfRules.Beginning.{world_opens}
-use Rattle.law_refine.specs.Calls.Calls.{effects_in_log}
-use Rattle.law_world.proofs.OfRuns.Nothing.{in_hand as called_in_hand, no_session}
+use Rattle.law_order.specs.Below.Calls.Calls.{effects_in_log}
+use Rattle.law_order.proofs.Below.OfRuns.Nothing.{in_hand as called_in_hand, no_session}
 use Rattle.law_program.specs.PlayedCalls.EachLine.{ItsNumbersFit, begun_by}
 use Rattle.law_program.specs.PlayedCalls.Interleaved.{IsLifeShown}
 use Rattle.law_program.specs.PlayedCalls.Noted.{IsNoted}

@@ -27,7 +27,7 @@ use Rattle.fkv_playing.specs.declared.calls.Telling.{Telling}
 use Rattle.fkv_playing.specs.declared.calls.Telling.TheVariants.{Finished, Whole}
 use Rattle.fkv_world.specs.World.{Event, Now}
 use Rattle.law_answers.specs.Effects.Laws.{EventsTellTheirEffects}
-use Rattle.law_opening.specs.Lives.Laws.{GuardOpens}
+use Rattle.law_order.specs.Below.Lives.Laws.{GuardOpens}
 use Rattle.law_order.specs.Tickets.Few.{calls_in}
 use Rattle.law_program.specs.PlayedCalls.EachLine.{ItsNumbersFit}
 use Rattle.law_program.specs.PlayedCalls.FewCalls.{left_in}

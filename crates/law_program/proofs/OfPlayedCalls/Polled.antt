@@ -30,13 +30,13 @@ use Rattle.fkv_world.specs.Past.{Answered, Called, Traced}
 use Rattle.fkv_world.specs.Runs.{World, run}
 use Rattle.fkv_world.specs.World.{Calls, Event, Now}
 use Rattle.law_log.specs.Trace.{CallsRead, Effect, GivesResult, IsIn, history_of}
-use Rattle.law_opening.specs.Log.Maps.{opening_map}
+use Rattle.law_order.specs.Below.Log.Maps.{opening_map}
 use Rattle.law_order.specs.OneHistory.EachLife.{InEachLife, IsLife, Life}
 use Rattle.law_order.specs.Rules.Ordered.{HasLegalHistory, OrdersItsCalls, effects_so_far, lines_so_far}
-use Rattle.law_refine.specs.Calls.Calls.{event_adds}
-use Rattle.law_refine.specs.Events.GhostEvents.{serials_in}
-use Rattle.law_refine.specs.Events.Lines.{finished_line, finished_lines, lines_of}
-use Rattle.law_refine.specs.Results.Results.{NobodyCalls}
+use Rattle.law_order.specs.Below.Calls.Calls.{event_adds}
+use Rattle.law_order.specs.Below.Events.GhostEvents.{serials_in}
+use Rattle.law_order.specs.Below.Events.Lines.{finished_line, finished_lines, lines_of}
+use Rattle.law_order.specs.Below.Results.Results.{NobodyCalls}
 use Rattle.law_program.specs.PlayedCalls.Finished.{AreRepliedAtEffects, IsRepliedAtEffect}
 use Rattle.law_program.specs.PlayedCalls.PlayedCalls.{IsQuietLife, called_alone}
 use Rattle.law_program.proofs.OfPlayedCalls.Beats.{EndsCall}

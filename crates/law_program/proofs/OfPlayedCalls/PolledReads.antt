@@ -29,9 +29,9 @@ use Rattle.law_order.specs.Rules.InTime.{ReadsInTime}
 use Rattle.law_order.specs.Rules.Ordered.{ReadsFreshly, lines_so_far}
 use Rattle.law_order.proofs.OfReads.LifeNumbers.{life_numbered}
 use Rattle.law_order.proofs.OfReads.Numbers.{own_below}
-use Rattle.law_refine.specs.Calls.Calls.{event_adds}
-use Rattle.law_refine.specs.Events.GhostEvents.{serials_in}
-use Rattle.law_refine.specs.Events.Lines.{event_lines, lines_of, read_reply}
+use Rattle.law_order.specs.Below.Calls.Calls.{event_adds}
+use Rattle.law_order.specs.Below.Events.GhostEvents.{serials_in}
+use Rattle.law_order.specs.Below.Events.Lines.{event_lines, lines_of, read_reply}
 use Rattle.law_program.specs.PlayedCalls.PlayedCalls.{called_alone}
 use Rattle.law_program.specs.PlayedCalls.Waiting.{AreReadInTime, IsReadCalled, IsReadInTime, SeatsKeepKeys, StandsForKey, key_told, reader_of}
 use Rattle.law_program.proofs.OfPlayedCalls.Polled.{IsPolled, IsTraced, finished_in, line_in, polled, trace_of_call}

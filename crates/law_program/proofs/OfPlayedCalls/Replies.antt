@@ -34,8 +34,8 @@ use Rattle.law_program.specs.WholeCalls.WholeCalls.{IsAnsweredByMap}
 use Rattle.fkv_world.specs.Past.{Effect}
 use Rattle.fkv_world.specs.Runs.{World, run}
 use Rattle.fkv_world.specs.World.{Calls, Event, Now}
-use Rattle.law_refine.specs.Results.Results.{IsResult, NobodyCalls, history_at, in_call}
-use Rattle.law_refine.proofs.OfResults.InCall.{result_told}
+use Rattle.law_order.specs.Below.Results.Results.{IsResult, NobodyCalls, history_at, in_call}
+use Rattle.law_order.proofs.Below.OfResults.InCall.{result_told}
 use Rattle.fkv_map.specs.Fits.{OpFits}
 use Rattle.law_order.specs.Served.Fits.{CallFits}
 use Rattle.law_order.specs.Tickets.Few.{HasFewCalls}

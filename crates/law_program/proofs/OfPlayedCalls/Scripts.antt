@@ -11,7 +11,7 @@ use Rattle.fkv_map.specs.declared.operations.Call.TheVariants as call
 use Rattle.fkv_map.specs.declared.operations.Op.{Op}
 use Rattle.fkv_opening.specs.Opened.{IsStoreOf}
 use Rattle.fkv_opening.specs.declared.opened_store.Opened.{Opened}
-use Rattle.law_opening.specs.Log.Maps.{opening_map}
+use Rattle.law_order.specs.Below.Log.Maps.{opening_map}
 use Rattle.fkv_playing.specs.InTurn.{InTurn}
 use Rattle.fkv_playing.specs.Players.{PlayerState}
 use Rattle.fkv_playing.specs.Texts.{answer_told}
@@ -29,7 +29,7 @@ use Rattle.fkv_runs.specs.declared.settings.Settings.{Settings}
 use Rattle.law_program.specs.WholeCalls.WholeCalls.{map_after}
 use Rattle.fkv_world.specs.Runs.{run}
 use Rattle.fkv_world.specs.World.{Calls, Event, Now}
-use Rattle.law_refine.specs.Results.Results.{NobodyCalls, in_call}
+use Rattle.law_order.specs.Below.Results.Results.{NobodyCalls, in_call}
 use Rattle.fkv_map.specs.Fits.{OpFits}
 use Rattle.law_order.specs.Tickets.Few.{HasFewCalls, calls_in}
 use Rattle.law_program.specs.PlayedCalls.PlayedCalls.{IsLineOfSession, IsQuietLife, IsRefusedSession, LinesReplyAsMap}

@@ -21,16 +21,16 @@ use Rattle.fkv_world.specs.OwnEvents.{session_events}
 use Rattle.fkv_world.specs.Past.{Answered, Called, TraceEvent, Traced}
 use Rattle.fkv_world.specs.Runs.{World, run}
 use Rattle.fkv_world.specs.World.{Event, seat_at}
-use Rattle.law_world.proofs.OfRuns.Nothing.{none_ever}
-use Rattle.law_world.proofs.OfSessions.OwnRun.{of_run, opened_so}
-use Rattle.law_refine.proofs.OfCalls.Life.{told_so}
+use Rattle.law_order.proofs.Below.OfRuns.Nothing.{none_ever}
+use Rattle.law_order.proofs.Below.OfSessions.OwnRun.{of_run, opened_so}
+use Rattle.law_order.proofs.Below.OfCalls.Life.{told_so}
 use Rattle.law_log.specs.Trace.{CallsRead, IsIn}
 use Rattle.law_order.specs.Reads.Reads.{is_given}
 use Rattle.law_order.proofs.OfReads.Numbers.{IsOwn, is_call_of}
 use Rattle.law_order.proofs.OfTickets.Tickets.{is_ticket}
-use Rattle.law_refine.specs.Events.Lines.{CallMade, call_lines, call_made, event_lines, gives_ticket, last_call, lines_of, number_of_call, read_waiting}
-use Rattle.law_refine.specs.Events.Lines as lines
-use Rattle.law_refine.proofs.OfCalls.UpdateLines.{called_below, in_either}
+use Rattle.law_order.specs.Below.Events.Lines.{CallMade, call_lines, call_made, event_lines, gives_ticket, last_call, lines_of, number_of_call, read_waiting}
+use Rattle.law_order.specs.Below.Events.Lines as lines
+use Rattle.law_order.proofs.Below.OfCalls.UpdateLines.{called_below, in_either}
 use Rattle.law_program.specs.PlayedCalls.Waiting.{key_made, key_told}
 use Rattle.law_program.proofs.OfPlayedCalls.Polled.{trace_of_call}
 use Rattle.law_program.proofs.OfPlayedCalls.ReadCalls.{IsReadOf, called_at, called_before, reads_here}

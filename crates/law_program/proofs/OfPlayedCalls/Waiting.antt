@@ -28,9 +28,9 @@ use Rattle.fkv_world.specs.World.{Calls, Event, Moves, Now}
 use Rattle.law_log.specs.Trace.{CallsRead, IsIn}
 use Rattle.law_order.specs.Rules.Ordered.{lines_so_far}
 use Rattle.law_order.proofs.OfReads.Numbers.{called_hand, other_waiting, same_number}
-use Rattle.law_refine.proofs.OfCalls.Called.{is_other}
-use Rattle.law_refine.specs.Events.GhostEvents.{serials_in}
-use Rattle.law_refine.specs.Events.Lines.{gives_ticket, last_call, lines_of, read_in_hand, read_waiting}
+use Rattle.law_order.proofs.Below.OfCalls.Called.{is_other}
+use Rattle.law_order.specs.Below.Events.GhostEvents.{serials_in}
+use Rattle.law_order.specs.Below.Events.Lines.{gives_ticket, last_call, lines_of, read_in_hand, read_waiting}
 use Rattle.law_program.specs.PlayedCalls.PlayedCalls.{called_alone}
 use Rattle.law_program.specs.PlayedCalls.Waiting.{IsReadCalled, SeatsKeepKeys, StandsForKey, key_made, key_or, key_told, reader_of}
 use Rattle.law_program.proofs.OfPlayedCalls.Polled.{IsTraced, trace_of_call}

@@ -14,17 +14,17 @@ use Rattle.fkv_session.specs.declared.sessions.Sitting.TheVariants.{Idle}
 use Rattle.fkv_session.specs.SessionRun.{telling}
 use Rattle.fkv_session.specs.Sessions.{SessionState, is_busy, sitting_ask}
 use Rattle.fkv_world.specs.Actors.{session_goes}
-use Rattle.law_world.specs.Runs.Added.{begun_by, call_answered, call_begun, ended_by, is_calling, session_answered, told_at, told_by}
+use Rattle.law_order.specs.Below.Runs.Added.{begun_by, call_answered, call_begun, ended_by, is_calling, session_answered, told_at, told_by}
 use Rattle.fkv_world.specs.Moves.{session_asks}
 use Rattle.fkv_world.specs.Past.{Answered, Called, TraceEvent, Traced}
 use Rattle.fkv_world.specs.Runs.{World, happens, run}
 use Rattle.fkv_world.specs.World.{Calls, Event, Moves, Now, near, seat_at}
 use Rattle.fkv_world.proofs.Shown.{session_own, session_written}
-use Rattle.law_world.proofs.OfRuns.Added.{trace_so}
+use Rattle.law_order.proofs.Below.OfRuns.Added.{trace_so}
 use Rattle.law_log.specs.Trace.{CallsRead, IsIn, TraceLine}
-use Rattle.law_refine.specs.Calls.Calls.{event_adds}
-use Rattle.law_refine.specs.Events.GhostEvents.{serials_in}
-use Rattle.law_refine.specs.Events.Lines.{event_lines, lines_added}
+use Rattle.law_order.specs.Below.Calls.Calls.{event_adds}
+use Rattle.law_order.specs.Below.Events.GhostEvents.{serials_in}
+use Rattle.law_order.specs.Below.Events.Lines.{event_lines, lines_added}
 use Rattle.law_program.specs.PlayedCalls.PlayedCalls.{called_alone}
 use Rattle.law_program.proofs.OfWholeCalls.InLists.{in_left, in_right}
 

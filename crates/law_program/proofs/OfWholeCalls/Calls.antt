@@ -10,7 +10,7 @@ use Rattle.fkv_map.specs.declared.operations.Op.{Op}
 use Rattle.fkv_map.specs.declared.operations.Op.TheVariants.{Read}
 use Rattle.fkv_map.specs.declared.operations.Reply.TheVariants as reply
 use Rattle.fkv_opening.specs.declared.opened_store.Opened.{Opened}
-use Rattle.law_opening.specs.Log.Maps.{opening_map}
+use Rattle.law_order.specs.Below.Log.Maps.{opening_map}
 use Rattle.fkv_ops.specs.Requests.{is_read}
 use Rattle.law_log.specs.Trace as order
 use Rattle.law_log.specs.Trace.{AnswersRead, CallsRead, GivesResult, IsIn, TraceLine}
@@ -26,12 +26,12 @@ use Rattle.fkv_session.specs.Sessions.{SessionState, is_busy}
 use Rattle.fkv_world.specs.Past.{Answered, Called, Effect, Traced}
 use Rattle.fkv_world.specs.Runs.{World, run}
 use Rattle.fkv_world.specs.World.{Event, Now}
-use Rattle.law_refine.specs.Calls.Calls.{effect_in_log, effects_in_log}
-use Rattle.law_refine.specs.Events.GhostEvents.{serials_in}
-use Rattle.law_refine.specs.Events.Lines.{last_call, lines_of, number_of_call}
-use Rattle.law_refine.specs.Results.Results.{IsResult, NobodyCalls, history_at, in_call}
-use Rattle.law_refine.proofs.OfResults.There.{given_at_rest}
-use Rattle.law_refine.proofs.OfResults.InCall.{result_told}
+use Rattle.law_order.specs.Below.Calls.Calls.{effect_in_log, effects_in_log}
+use Rattle.law_order.specs.Below.Events.GhostEvents.{serials_in}
+use Rattle.law_order.specs.Below.Events.Lines.{last_call, lines_of, number_of_call}
+use Rattle.law_order.specs.Below.Results.Results.{IsResult, NobodyCalls, history_at, in_call}
+use Rattle.law_order.proofs.Below.OfResults.There.{given_at_rest}
+use Rattle.law_order.proofs.Below.OfResults.InCall.{result_told}
 use Rattle.law_program.specs.WholeCalls.WholeCalls.{AreGivenSoFar, HasHappenedAlone, HasReadAlone, IsAnsweredByMap, TellsAlone, TellsRead}
 use Rattle.law_program.proofs.OfWholeCalls.CallTold.{TraceAt, in_call_told}
 use Rattle.law_program.proofs.OfWholeCalls.Whole.{answered_alone}

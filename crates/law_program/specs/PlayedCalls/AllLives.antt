@@ -16,7 +16,7 @@ use Rattle.fkv_runs.specs.declared.pieces.Piece.TheVariants.{Group, Finish, Cras
 use Rattle.fkv_runs.specs.declared.settings.Settings.{Settings}
 use Rattle.fkv_texts.specs.Refusals.{last_refusal}
 use Rattle.fkv_world.specs.World.{Event, Now}
-use Rattle.law_opening.specs.Log.Records as records
+use Rattle.law_order.specs.Below.Log.Records as records
 use Rattle.law_order.specs.OneHistory.EachLife.{Life}
 use Rattle.law_order.specs.Prefix.Law.{AreLives, BeginsBehind, BeginsWithKept, first_of, kept_of_all, map_of}
 use Rattle.law_order.specs.Tickets.Few.{HasFewCalls}

@@ -12,10 +12,10 @@ use Rattle.fkv_runs.specs.Runs.{IsCrashed, RunState}
 use Rattle.fkv_runs.specs.declared.settings.Settings.{Settings}
 use Rattle.fkv_texts.specs.Refusals.{last_refusal}
 use Rattle.fkv_world.specs.World.{Event, Now}
-use Rattle.law_commit.specs.BegunCommits.{BegunCommit}
-use Rattle.law_opening.specs.Log.Maps.{opening_map}
-use Rattle.law_opening.specs.Log.Records.{map_of}
-use Rattle.law_opening.specs.Lives.Reaching.{ReachesFar}
+use Rattle.law_order.specs.Below.BegunCommits.{BegunCommit}
+use Rattle.law_order.specs.Below.Log.Maps.{opening_map}
+use Rattle.law_order.specs.Below.Log.Records.{map_of}
+use Rattle.law_order.specs.Below.Lives.Reaching.{ReachesFar}
 use Rattle.law_order.specs.Prefix.Law.{IsCurrent, IsKeptOf, kept_so_far, past_so_far}
 use Rattle.law_order.specs.Tickets.Few.{HasFewCalls}
 use Rattle.law_program.specs.PlayedCalls.EachLine.{IsLifeOver}

@@ -35,7 +35,7 @@ use Rattle.law_program.specs.PlayedCalls.FinishedCommits.{FinishesWhatIsTold}
 use Rattle.law_program.specs.PlayedCalls.PlayedCalls.{IsQuietLife, IsRefusedSession, IsToldTo}
 use Rattle.law_program.specs.PlayedCalls.Waiting.{SeatsKeepKeys}
 use Rattle.law_program.specs.WholeCalls.WholeCalls.{IsAnsweredByMap, map_after}
-use Rattle.law_refine.specs.Results.Results.{NobodyCalls}
+use Rattle.law_order.specs.Below.Results.Results.{NobodyCalls}
 
 -- ---- a call that is alone, in a life
 -- the event by which a call begins

@@ -4,7 +4,7 @@ use Rattle.fkv_core.specs.declared.events.Told.{Told}
 use Rattle.fkv_core.specs.declared.events.Told.TheVariants.{Turn}
 use Rattle.fkv_keeper.specs.declared.answers.Finished.{Finished}
 use Rattle.fkv_world.specs.World.{Event, Now}
-use Rattle.law_commit.specs.FinishedCommits.{ToldCommit, commits_finished}
+use Rattle.law_order.specs.Below.FinishedCommits.{ToldCommit, commits_finished}
 use Rattle.law_order.specs.Prefix.Law.{past_so_far}
 
 -- the commits that have finished in a life so far, each by its number and its points, the newest first

@@ -13,7 +13,7 @@ use Rattle.fkv_playing.specs.declared.players.Waits.{Waits}
 use Rattle.fkv_runs.specs.Crashes.{IsCrash, crash_text}
 use Rattle.fkv_runs.specs.Openings.{Begins}
 use Rattle.fkv_world.specs.World.{Event, Now}
-use Rattle.law_opening.specs.Log.Records.{map_of}
+use Rattle.law_order.specs.Below.Log.Records.{map_of}
 use Rattle.law_program.specs.PlayedCalls.EachLine.{IsLifeOver}
 use Rattle.law_program.specs.WholeCalls.WholeCalls.{map_after}
 

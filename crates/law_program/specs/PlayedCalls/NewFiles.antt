@@ -14,7 +14,7 @@ use Rattle.fkv_runs.specs.Files.{IsRunOfLife}
 use Rattle.fkv_runs.specs.Openings.{Begins}
 use Rattle.fkv_runs.specs.declared.pieces.Piece.{Piece}
 use Rattle.fkv_world.specs.World.{Now}
-use Rattle.law_refine.specs.Results.Results.{NobodyCalls}
+use Rattle.law_order.specs.Below.Results.Results.{NobodyCalls}
 use Rattle.law_program.specs.PlayedCalls.PlayedCalls.{IsQuietLife}
 use Rattle.law_program.specs.PlayedCalls.Scripts.{ArePiecesOf, EachFits, IsPlayOfMap, SessionOp}
 

@@ -31,7 +31,7 @@ use Rattle.fkv_texts.specs.Refusals.{session_refusal}
 use Rattle.law_program.specs.WholeCalls.WholeCalls.{IsAnsweredByMap}
 use Rattle.fkv_world.specs.Runs.{run}
 use Rattle.fkv_world.specs.World.{Calls, Event, Moves, Now}
-use Rattle.law_refine.specs.Results.Results.{NobodyCalls, in_call}
+use Rattle.law_order.specs.Below.Results.Results.{NobodyCalls, in_call}
 use Rattle.fkv_map.specs.Fits.{OpFits}
 use Rattle.law_order.specs.Served.Fits.{CallFits, CallsFit}
 use Rattle.law_order.specs.Tickets.Few.{HasFewCalls}

@@ -17,11 +17,11 @@ use Rattle.fkv_world.specs.Past.{Traced}
 use Rattle.fkv_world.specs.Runs.{run}
 use Rattle.fkv_world.specs.World.{Calls, Event, Now}
 use Rattle.law_log.specs.Trace.{CallsRead, IsIn, history_of}
-use Rattle.law_opening.specs.Log.Maps.{opening_map}
+use Rattle.law_order.specs.Below.Log.Maps.{opening_map}
 use Rattle.law_order.specs.Rules.InTime.{IsInTime}
 use Rattle.law_order.specs.Rules.Ordered.{effects_so_far, lines_so_far}
-use Rattle.law_refine.specs.Calls.Calls.{event_adds}
-use Rattle.law_refine.specs.Events.Lines.{CallMade, gives_ticket, last_call, read_reply, read_waiting}
+use Rattle.law_order.specs.Below.Calls.Calls.{event_adds}
+use Rattle.law_order.specs.Below.Events.Lines.{CallMade, gives_ticket, last_call, read_reply, read_waiting}
 
 -- the session called a read of this key in the life, and the read has this number
 pub record IsReadCalled (bytes : List ℕ) (first : Now) (life : List Event) (number reader : ℕ) (key : Key) : Type 0 where

@@ -9,7 +9,7 @@ use Rattle.fkv_session.specs.declared.sessions.Sitting.TheVariants.{Idle}
 use Rattle.fkv_session.specs.Sessions.{SessionState}
 use Rattle.fkv_world.specs.Runs.{run}
 use Rattle.fkv_world.specs.World.{Event, Now}
-use Rattle.law_refine.specs.Results.Results.{NobodyCalls, in_call}
+use Rattle.law_order.specs.Below.Results.Results.{NobodyCalls, in_call}
 use Rattle.law_program.specs.WholeCalls.WholeCalls.{AreGivenSoFar, HappensAlone, IsAnsweredByMap, IsToldAlone}
 
 -- what happens alone is answered by the map

@@ -1,0 +1,2 @@
+-- What crates above name of the crates below.
+pub use Rattle.law_order.specs.Below.Lives
