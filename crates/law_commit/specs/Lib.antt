@@ -15,6 +15,7 @@ pub mod PrefixPast
 pub mod Quiet
 pub mod Raises
 pub mod Ranks
+pub mod Said
 pub mod Shares
 pub mod ToldDurable
 pub mod ToldPoints

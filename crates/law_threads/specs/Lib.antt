@@ -4,5 +4,6 @@ pub mod Durable
 pub mod Images
 pub mod Laws
 pub mod Polls
+pub mod Said
 pub mod Threads
 pub mod Turns
