@@ -7,6 +7,7 @@ MOST = 2**64 - 1
 # a page that is full is flushed, and its frame can be used again
 TURNED = whole(["k turn | k turn rest 1", "0 refresh | 0 refresh rest 1"] * 3)
 
+# `answers_are_not_refusals` is shown by these: memory and device are there, and the lines are answered.
 OPERATIONS = [
     told("a value is set and read", f"{ONE}\n0 up 1 10 | 0 #1 done\n0 get 1 | 0 get 1 = 10"),
     Row("the last line needs no end", f"{ONE}\n0 up 1 10\n0 get 1", "0 #1 done\n0 get 1 = 10\n"),
