@@ -1,4 +1,3 @@
-pub mod Said
 pub mod Tables
 pub mod WrongCommits
 pub mod WrongLives
