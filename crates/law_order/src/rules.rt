@@ -1,4 +1,5 @@
 //! Of each life of a store that was opened: what it begins with, and that it has one history, where the events of the log beside it keep to their rules.
+ghost use Rattle.law_order.specs.Rules.InTime.{ReadsInTime};
 ghost use Rattle.law_order.specs.Said as said;
 
 use fkv_core::law_words_open;
@@ -43,7 +44,7 @@ pub fn law_order_of_rules()
     ensures legal { said.OfEachKept said.HasLegalHistory }
     ensures ordered { said.OfEachKept said.OrdersItsCalls }
     ensures fresh { said.OfEachKept said.ReadsFreshly }
-    ensures in_time { said.OfEachKept said.ReadsInTime }
+    ensures in_time { said.OfEachKept ReadsInTime }
     ensures guarded { said.OfEachKept said.IsGuarded }
     ensures once { said.InEachLife said.RunsActionsOnce }
 {
