@@ -16,14 +16,13 @@ pub(crate) struct Keeping<'t, D: Device + Drop> {
 }
 
 impl<'t, D: Device + Drop> Model for Keeping<'t, D> {
-    ghost use Rattle.fkv_table.specs.Keeps.{IsAfterSeen, IsKeeperReady};
-    ghost use Rattle.fkv_table.specs.Planes.{opening_of};
+    ghost use Rattle.fkv_threading.specs.Said as said;
 
     ghost Value = { D };
 
     ghost view = { λ s. s.device };
 
-    ghost invariant = { λ s. IsKeeperReady (opening_of D.seen) s.table.now.table.shared.key s.table.now.table.shared.table_id s.pass.seat.table_id s.pass.seat.me s.keeper.machine × D.honest s.device × IsAfterSeen (opening_of D.seen) s.table.now.table.shared.key s.pass.seat.me.0.seen (D.seen s.device) (D.may_leave s.device) };
+    ghost invariant = { λ s. said.IsKeeperReady (said.opening_of D.seen) s.table.now.table.shared.key s.table.now.table.shared.table_id s.pass.seat.table_id s.pass.seat.me s.keeper.machine × D.honest s.device × said.IsAfterSeen (said.opening_of D.seen) s.table.now.table.shared.key s.pass.seat.me.0.seen (D.seen s.device) (D.may_leave s.device) };
 }
 
 impl<'t, D: Device + Drop> Keeping<'t, D> {

@@ -1,9 +1,5 @@
 //! A store that threads share, from its opening until they have all ended.
-ghost use Rattle.fkv_disk.specs.Device.{LeavesOnly};
-ghost use Rattle.fkv_opening.specs.Opened.{IsStoreOf};
-ghost use Rattle.fkv_table.specs.Planes.{opening_of};
-ghost use Rattle.fkv_table.specs.Starts.{EachAt};
-ghost use Rattle.fkv_threads.specs.Begun.{HasBegun};
+ghost use Rattle.fkv_threading.specs.Said as said;
 
 use crate::gates::Gate;
 use crate::keepers::{KeeperEnd, play_keeper};
@@ -40,9 +36,9 @@ pub fn play<D: Device + Drop + Send, G: Gate + Sync, R: Threads + Wait + Sync>(
     lines: &[Line],
     gate: &G,
 ) -> Result<Played<D>, Fault>
-    requires store { IsStoreOf (D.seen device) opened }
+    requires store { said.IsStoreOf (D.seen device) opened }
     requires honest { D.honest device }
-    requires leaves { LeavesOnly (D.seen device) (D.may_leave device) }
+    requires leaves { said.LeavesOnly (D.seen device) (D.may_leave device) }
 {
     let mut points = Vec::new(alloc);
     for point in &opened.points {
@@ -77,7 +73,7 @@ fn play_over<'t, D: Device + Drop + Send, G: Gate + Sync, R: Threads + Wait + Sy
     lines: &[Line],
     gate: &G,
 ) -> Result<Played<D>, Fault>
-    requires ready { EachAt sessions.items (λ i x. HasBegun (opening_of D.seen) table.now.table.shared.key table.now.table.shared.table_id i x.0.machine x.0.desk x.1.seat.table_id x.1.seat.me) }
+    requires ready { said.EachAt sessions.items (λ i x. said.HasBegun (said.opening_of D.seen) table.now.table.shared.key table.now.table.shared.table_id i x.0.machine x.0.desk x.1.seat.table_id x.1.seat.me) }
 {
     let seats = seated(alloc, table, sessions)?;
     play_seats(rt, alloc, seats, keeping, points, lines, gate)
@@ -89,7 +85,7 @@ fn seated<'t, D: Device>(
     table: &'t Table<D>,
     sessions: Vec<(Session, Pass<D>)>,
 ) -> Result<Vec<Sitting<'t, D>>, Fault>
-    requires ready { EachAt sessions.items (λ i x. HasBegun (opening_of D.seen) table.now.table.shared.key table.now.table.shared.table_id i x.0.machine x.0.desk x.1.seat.table_id x.1.seat.me) }
+    requires ready { said.EachAt sessions.items (λ i x. said.HasBegun (said.opening_of D.seen) table.now.table.shared.key table.now.table.shared.table_id i x.0.machine x.0.desk x.1.seat.table_id x.1.seat.me) }
 {
     let mut seats = Vec::new(alloc);
     for (session, pass) in sessions {

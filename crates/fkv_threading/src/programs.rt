@@ -1,9 +1,7 @@
 //! A script on threads, from the line that makes its store to its report.
 ghost use Rattle.std.specs.Prelude.{◌≡◌, IfOk, OnOk, if◌then◌else◌};
 ghost use Rattle.std.specs.Io.KnownBytes.{Appends};
-ghost use Rattle.fkv_texts.specs.Refusals.{last_refusal};
-ghost use Rattle.fkv_thread_scripts.specs.Reports.{agrees, threads_report_text};
-ghost use Rattle.fkv_threading.specs.Written.{IsRunOnThreads, refused_status, reported_status, reported_text};
+ghost use Rattle.fkv_threading.specs.Said as said;
 
 use crate::gates::Gate;
 use crate::keepers::KeeperEnd;
@@ -35,7 +33,7 @@ pub fn run_threads<G: Gate + Sync, W: Write, R: Threads + Wait + Sync>(
     output: &mut W,
     gate: &G,
 ) -> io::Result<u8>
-    ensures { IfOk result (IsRunOnThreads script.now.opening (Appends (W.contents output.old) (W.contents output.new))) }
+    ensures { IfOk result (said.IsRunOnThreads script.now.opening (Appends (W.contents output.old) (W.contents output.new))) }
 {
     let sizes = match script.opening {
         Some(Opening::Shape(sizes)) => sizes,
@@ -62,7 +60,7 @@ pub fn run_threads_in_file<G: Gate + Sync, W: Write, R: Threads + Wait + Sync, H
 ) -> io::Result<(u8, Option<Trouble>)>
 where
     H::File: Lockable + Send,
-    ensures { IfOk result (λ end. IsRunOnThreads script.now.opening (Appends (W.contents output.old) (W.contents output.new)) end.0) }
+    ensures { IfOk result (λ end. said.IsRunOnThreads script.now.opening (Appends (W.contents output.old) (W.contents output.new)) end.0) }
 {
     let sizes = match script.opening {
         Some(Opening::Shape(sizes)) => sizes,
@@ -92,8 +90,8 @@ fn write_reported<W: Write>(
     output: &mut W,
     reported: Result<Report, Fault>,
 ) -> io::Result<u8>
-    ensures text { OnOk result (Appends (W.contents output.old) (W.contents output.new) (reported_text reported)) }
-    ensures status { IfOk result (λ status. status ≡ reported_status reported) }
+    ensures text { OnOk result (Appends (W.contents output.old) (W.contents output.new) (said.reported_text reported)) }
+    ensures status { IfOk result (λ status. status ≡ said.reported_status reported) }
 {
     match reported {
         Ok(report) => write_report(alloc, output, report),
@@ -104,8 +102,8 @@ fn write_reported<W: Write>(
 
 /// Writes a report, at once.
 fn write_report<W: Write>(alloc: Global, output: &mut W, report: Report) -> io::Result<u8>
-    ensures text { OnOk result (Appends (W.contents output.old) (W.contents output.new) (threads_report_text report)) }
-    ensures status { IfOk result (λ status. status ≡ (if agrees report then 0 else 1)) }
+    ensures text { OnOk result (Appends (W.contents output.old) (W.contents output.new) (said.threads_report_text report)) }
+    ensures status { IfOk result (λ status. status ≡ (if said.agrees report then 0 else 1)) }
 {
     let mut text = Vec::new(alloc);
     write_threads_report(&mut text, report)?;
@@ -115,8 +113,8 @@ fn write_report<W: Write>(alloc: Global, output: &mut W, report: Report) -> io::
 
 /// Writes a refusal, at once.
 fn refuse<W: Write>(alloc: Global, output: &mut W, fault: Fault) -> io::Result<u8>
-    ensures text { OnOk result (Appends (W.contents output.old) (W.contents output.new) (last_refusal fault)) }
-    ensures status { IfOk result (λ status. status ≡ refused_status fault) }
+    ensures text { OnOk result (Appends (W.contents output.old) (W.contents output.new) (said.last_refusal fault)) }
+    ensures status { IfOk result (λ status. status ≡ said.refused_status fault) }
 {
     let mut text = Vec::new(alloc);
     write_refusal(&mut text, fault)?;

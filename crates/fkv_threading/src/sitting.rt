@@ -16,14 +16,13 @@ pub(crate) struct Sitting<'t, D: Device> {
 
 impl<'t, D: Device> Model for Sitting<'t, D> {
     ghost use Rattle.std.specs.Prelude.{ℕ};
-    ghost use Rattle.fkv_table.specs.Calls.{IsReady};
-    ghost use Rattle.fkv_table.specs.Planes.{opening_of};
+    ghost use Rattle.fkv_threading.specs.Said as said;
 
     ghost Value = { ℕ };
 
     ghost view = { λ s. s.session.machine.seat.number };
 
-    ghost invariant = { λ s. IsReady (opening_of D.seen) s.table.now.table.shared.key s.table.now.table.shared.table_id s.pass.seat.table_id s.pass.seat.me s.session.machine s.session.desk };
+    ghost invariant = { λ s. said.IsReady (said.opening_of D.seen) s.table.now.table.shared.key s.table.now.table.shared.table_id s.pass.seat.table_id s.pass.seat.me s.session.machine s.session.desk };
 }
 
 impl<'t, D: Device> Sitting<'t, D> {

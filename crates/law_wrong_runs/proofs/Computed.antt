@@ -18,12 +18,12 @@ use Rattle.law_log.specs.Worked.{entry_of, no_map}
 use Rattle.fkv_plane.specs.declared.places.Places.{Places}
 use Rattle.fkv_session.specs.Sessions.{SessionState, IsOpened}
 use Rattle.fkv_epoch.specs.EpochWorld.{drain_word, own_epoch}
-use Rattle.law_world.specs.GuardSessions.Likenesses.{last_seen}
+use Rattle.law_order.specs.Below.GuardSessions.Likenesses.{last_seen}
 use Rattle.fkv_world.specs.Opened.{IsOpenedWorld}
-use Rattle.law_world.specs.Guarded.Shows as guard
-use Rattle.law_refine.specs.Calls.Calls.{effects_in_log}
-use Rattle.law_refine.specs.Events.Lines.{lines_of}
-use Rattle.law_refine.specs.Events.Worked.{adds_5, first_session, first_words, gives_70, gives_8}
+use Rattle.law_order.specs.Below.Guarded.Shows as guard
+use Rattle.law_order.specs.Below.Calls.Calls.{effects_in_log}
+use Rattle.law_order.specs.Below.Events.Lines.{lines_of}
+use Rattle.law_order.specs.Below.Events.Worked.{adds_5, first_session, first_words, gives_70, gives_8}
 use Rattle.law_wrong_runs.specs.Tables.{add_copies_in_fuzzy_region, in_place_below_seen_read_only, read_gives_opening_state, run_by}
 use Rattle.law_wrong_runs.specs.WrongLives.{LeavesFresh, LeavesLegal, fixed_begun, fixed_events, fuzzy_begun, fuzzy_events, gives_1, levels_after, opened_world, read_events}
 use Rattle.fkv_session.specs.Sessions as session_u

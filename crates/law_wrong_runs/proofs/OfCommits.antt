@@ -17,15 +17,15 @@ use Rattle.fkv_opening.specs.declared.opened_store.Opened.{Opened}
 use Rattle.fkv_session.specs.Sessions.{SessionState}
 use Rattle.fkv_world.specs.Runs.{World, run}
 use Rattle.fkv_world.specs.World.{Now}
-use Rattle.law_commit.specs.BegunCommits.{BegunCommit, commit_opened, life_begun}
-use Rattle.law_commit.specs.PrefixPast.{PrefixPast, prefix_past, serials_asked}
-use Rattle.law_commit.specs.ToldPoints.{ToldPoint}
+use Rattle.law_order.specs.Below.BegunCommits.{BegunCommit, commit_opened, life_begun}
+use Rattle.law_order.specs.Below.PrefixPast.{PrefixPast, prefix_past, serials_asked}
+use Rattle.law_order.specs.Below.ToldPoints.{ToldPoint}
 use Rattle.law_log.specs.Trace.{Effect, IsIn, history_of, upto, value_in}
 use Rattle.law_log.specs.Worked.{entry_of, no_map}
-use Rattle.law_refine.specs.Events.Worked.{adds_5, gives_70}
+use Rattle.law_order.specs.Below.Events.Worked.{adds_5, gives_70}
 use Rattle.law_order.specs.OneHistory.EachLife.{Life}
 use Rattle.law_order.specs.Prefix.Law.{BeginsWithKept, IsToldDurable, TakesFairPoints, kept_of_all, points_of}
-use Rattle.law_refine.specs.Calls.Calls.{effects_in_log}
+use Rattle.law_order.specs.Below.Calls.Calls.{effects_in_log}
 use Rattle.law_wrong_runs.specs.Tables.{add_copies_in_fuzzy_region, commit_keeps_nothing, right_tables, run_by, serial_is_told_as_durable}
 use Rattle.law_wrong_runs.specs.WrongCommits.{AreWrongCommits, FollowsWith, IsBehind, NeverFollowsWith, giving_life, given_map, KeepsItsValues, KeepsLegal, KeepsValues, all_points, given_point, LeavesCurrent, LeavesDurable, TakesFair, asks_durable, begins_commit, new_world, past_by, with_nothing_kept}
 use Rattle.law_wrong_runs.specs.WrongLives.{fuzzy_events, gives_1, opened_world}
@@ -69,8 +69,8 @@ use Rattle.fkv_commit.specs.Deferring as defer_u
 use Rattle.fkv_commit.specs.Starting as start_u
 use Rattle.fkv_keeper.specs.KeeperRun as keeper_run_u
 use Rattle.fkv_world.specs.OwnEvents as own_u
-use Rattle.law_commit.specs.BegunCommits as begun_u
-use Rattle.law_commit.specs.PrefixPast as asked_u
+use Rattle.law_order.specs.Below.BegunCommits as begun_u
+use Rattle.law_order.specs.Below.PrefixPast as asked_u
 
 abbrev world : KeeperState → SessionState → SessionState → World
 world its one other = new_world shape places its one other

@@ -18,17 +18,17 @@ use Rattle.fkv_map.specs.declared.operations.Call.TheVariants as call
 use Rattle.fkv_session.specs.Sessions.{SessionState}
 use Rattle.fkv_world.specs.Runs.{World, run}
 use Rattle.fkv_world.specs.World.{Event, KeeperMoves, Moves, Now}
-use Rattle.law_world.specs.Guarded.KeptGuarded.{ChangesOpenPlaces, OpensNextPage, WritesOpenPlaces, word_written}
+use Rattle.law_order.specs.Below.Guarded.KeptGuarded.{ChangesOpenPlaces, OpensNextPage, WritesOpenPlaces, word_written}
 use Rattle.law_log.specs.Trace.{IsIn, called_as}
-use Rattle.law_refine.specs.Calls.Calls.{effects_in_log}
-use Rattle.law_refine.specs.Events.Lines.{lines_of}
-use Rattle.law_refine.specs.Events.Worked.{gives_70}
+use Rattle.law_order.specs.Below.Calls.Calls.{effects_in_log}
+use Rattle.law_order.specs.Below.Events.Lines.{lines_of}
+use Rattle.law_order.specs.Below.Events.Worked.{gives_70}
 use Rattle.law_wrong_runs.specs.Tables.{action_is_claimed_early, durable_is_refused, effect_is_told_to_nobody, guard_run_by, mapped_by, page_opens_unclosed, run_by, wake_keeps_offsets}
 use Rattle.law_wrong_runs.specs.WrongLives.{ClaimsInTime, FailsAt, IsBeside, LeavesOfKind, LeavesOrdered, durable_events, early_begun, gives_events, guard_of_early, opened_world, unclosed_begun, woken_begun}
 use Rattle.law_wrong_runs.proofs.Computed.{effect_70, places, shape}
-use Rattle.law_world.specs.Guarded.GuardEvents as guard_events_u
-use Rattle.law_world.specs.GuardKeeper.KeeperEvents as keeper_events_u
-use Rattle.law_world.specs.GuardKeeper.MaintainEvents as maintain_events_u
+use Rattle.law_order.specs.Below.Guarded.GuardEvents as guard_events_u
+use Rattle.law_order.specs.Below.GuardKeeper.KeeperEvents as keeper_events_u
+use Rattle.law_order.specs.Below.GuardKeeper.MaintainEvents as maintain_events_u
 use Rattle.fkv_flush.specs.GuardWorld as guard_world_u
 use Rattle.fkv_epoch.specs.Once as once_u
 use Rattle.fkv_epoch.specs.Leaving as leaving_u

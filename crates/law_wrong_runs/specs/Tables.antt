@@ -26,7 +26,7 @@ use Rattle.fkv_session.specs.declared.sessions.Sitting.TheVariants.{CatchesUp, I
 use Rattle.fkv_session.specs.Sessions.{SessionState}
 use Rattle.fkv_world.specs.Runs.{World, past_after, read_by_keeper}
 use Rattle.fkv_world.specs.World.{Event, KeeperMoves, Moves, Now, happens_now}
-use Rattle.law_world.specs.Guarded.GuardEvents.{guard_events}
+use Rattle.law_order.specs.Below.Guarded.GuardEvents.{guard_events}
 
 -- ---- what a wrong table makes of a machine behind its move: from what it was, and from where the right one has led it
 pub record Tables : Type 0 where

@@ -16,15 +16,15 @@ use Rattle.fkv_session.specs.Sessions.{SessionState}
 use Rattle.fkv_world.specs.Opened.{IsOpenedWorld}
 use Rattle.fkv_world.specs.Runs.{World, run}
 use Rattle.fkv_world.specs.World.{Calls, Commits, Event, KeeperMoves, Moves}
-use Rattle.law_commit.specs.BegunCommits.{BegunCommit}
-use Rattle.law_commit.specs.PrefixPast.{PrefixPast, prefix_past}
-use Rattle.law_commit.specs.ToldPoints.{ToldPoint, points_told}
+use Rattle.law_order.specs.Below.BegunCommits.{BegunCommit}
+use Rattle.law_order.specs.Below.PrefixPast.{PrefixPast, prefix_past}
+use Rattle.law_order.specs.Below.ToldPoints.{ToldPoint, points_told}
 use Rattle.law_log.specs.Trace.{IsIn, history_of, upto, value_in}
 use Rattle.law_log.specs.Worked.{no_map}
 use Rattle.law_order.specs.OneHistory.EachLife.{Life}
 use Rattle.law_order.specs.Prefix.Law.{BeginsWithKept, IsCurrent, IsToldDurable, TakesFairPoints, map_of, points_of}
-use Rattle.law_refine.specs.Calls.Calls.{effects_in_log}
-use Rattle.law_refine.specs.Events.Worked.{gives_70}
+use Rattle.law_order.specs.Below.Calls.Calls.{effects_in_log}
+use Rattle.law_order.specs.Below.Events.Worked.{gives_70}
 use Rattle.law_wrong_runs.specs.Tables.{Tables, add_copies_in_fuzzy_region, commit_keeps_nothing, right_tables, run_by, serial_is_told_as_durable}
 use Rattle.law_wrong_runs.specs.WrongLives.{fuzzy_events, gives_events, opened_world}
 

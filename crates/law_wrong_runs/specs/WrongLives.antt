@@ -23,12 +23,12 @@ use Rattle.fkv_session.specs.Sessions.{SessionState}
 use Rattle.fkv_world.specs.Opened.{IsOpenedWorld, answers_of}
 use Rattle.fkv_world.specs.Runs.{World, run}
 use Rattle.fkv_world.specs.World.{Event, Calls, Moves, Now, Turns, KeeperMoves}
-use Rattle.law_refine.specs.Calls.Calls.{effects_in_log}
-use Rattle.law_world.specs.Guarded.KeptGuarded.{ChangesOpenPlaces, OpensNextPage, WritesOpenPlaces}
-use Rattle.law_world.specs.Guarded.LoadedSince.{HaveLoadedSince}
-use Rattle.law_world.specs.Guarded.Shows as guard
-use Rattle.law_refine.specs.Events.Lines.{lines_of}
-use Rattle.law_refine.specs.Events.Worked.{adds_5, first_world, gives_70, gives_8}
+use Rattle.law_order.specs.Below.Calls.Calls.{effects_in_log}
+use Rattle.law_order.specs.Below.Guarded.KeptGuarded.{ChangesOpenPlaces, OpensNextPage, WritesOpenPlaces}
+use Rattle.law_order.specs.Below.Guarded.LoadedSince.{HaveLoadedSince}
+use Rattle.law_order.specs.Below.Guarded.Shows as guard
+use Rattle.law_order.specs.Below.Events.Lines.{lines_of}
+use Rattle.law_order.specs.Below.Events.Worked.{adds_5, first_world, gives_70, gives_8}
 use Rattle.law_wrong_runs.specs.Tables.{Tables, action_is_claimed_early, add_copies_in_fuzzy_region, durable_is_refused, effect_is_told_to_nobody, guard_run_by, in_place_below_seen_read_only, machine_claims_early, mapped_by, page_opens_unclosed, read_gives_opening_state, run_by, wake_keeps_offsets}
 
 -- ---- what a life leaves
