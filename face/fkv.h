@@ -1,0 +1,300 @@
+/*
+ * fkv.h: a key-value store of 64-bit words, whose engine is proved, for C and C++.
+ *
+ * Link build/libfkv.a, which holds this library and fkv_posix.h's part, with -pthread. docs/EMBED.md shows whole programs.
+ *
+ * Two layers. This header has the store itself: it touches no file, starts no thread, takes no lock, never waits, and keeps
+ * nothing in globals. fkv_posix.h puts it into a file and runs its keeper in a thread. Most programs want that one, and of this
+ * header only the calls of a session.
+ *
+ * Handles. A handle is one word that the caller keeps. A store has one handle for itself, one for each of its 1 to 32 sessions,
+ * and one for its keeper:
+ *
+ *     fkv_store     opening, handing out, closing
+ *     fkv_session   reads and updates. Refresh it every 64 calls or so, and poll it while requests of it are pending
+ *     fkv_keeper    turns, in a loop: they write the log, read back what lies on the file alone, and carry commits on
+ *
+ * Threads. One call at a time on one handle. Different handles of one store may be used by different threads at the same time.
+ * A handle may move to another thread if something orders the two threads' calls: a mutex, the start or the join of a thread, an
+ * atomic. No call from a signal handler, and none in a child that was forked from a process with an open store.
+ *
+ * Results. A call gives 0 or more for an answer, and for a refusal minus the number of its fault: `-FKV_ASLEEP`. A call that is
+ * refused has changed nothing, unless its comment says so; what it would have written through a pointer is then not to be read.
+ *
+ * Values are 0 to 2^64 - 2; 2^64 - 1 stands for 'no value' (FKV_ABSENT). Keys are any words.
+ */
+#ifndef FKV_H
+#define FKV_H
+
+#include <stddef.h>
+#include <stdint.h>
+
+#ifdef __cplusplus
+extern "C" {
+#endif
+
+#define FKV_ABSENT UINT64_MAX
+
+/* Bytes of a new store's file. */
+#define FKV_IMAGE_SIZE 1536
+
+/* Sessions of a store, at most: a room of so many points is never too small. */
+#define FKV_MOST_SESSIONS 32
+
+/* Requests of one session that are pending, at most: a poll wants a room of so many. */
+#define FKV_MOST_PENDING 64
+
+/* Bytes of a read that a turn posts. */
+#define FKV_READ_SIZE 24
+
+/* Commits that a store takes in all its life. */
+#define FKV_MOST_COMMITS 8190
+
+/* A handle is the word `at`. It is written by the call that makes the handle, and NULL before. */
+typedef struct { void *at; } fkv_store;
+typedef struct { void *at; } fkv_session;
+typedef struct { void *at; } fkv_keeper;
+
+/*
+ * How large a store is. A store is small or large. It is small if no size is above the first limit, and large otherwise.
+ */
+typedef struct {
+    uint64_t bucket_bits;   /* the index has 2^bucket_bits buckets of seven entries: 0 to 10, of a large store to 24 */
+    uint64_t page;          /* records in a page: a power of two from 4 to 1,024, of a large store to 65,536 */
+    uint64_t frames;        /* pages in memory: a power of two from 2 to 64, of a large store to 4,096 */
+    uint64_t mutable_pages; /* pages whose records are updated in place: 1 to frames - 1 */
+    uint64_t sessions;      /* 1 to 32 */
+    uint64_t overflow;      /* buckets that full ones overflow to: 0 to 1,024, of a large store to 2^24 */
+    uint64_t disk_pages;    /* pages that the log may have in the file: 1 to 65,536, of a large store to 2^30 */
+} fkv_shape;
+
+/* What an opening has told. */
+typedef struct {
+    uint64_t number;     /* the last finished commit, 0 in a new store */
+    uint64_t damage;     /* behind -FKV_DAMAGED: 1 manifest slot, 2 triple, 3 record, 4 link of a record, 5 full bucket */
+    uint64_t damaged_at; /* and which: a slot's, triple's or bucket's number, or a record's address */
+} fkv_opened;
+
+/* What an update has told. */
+typedef struct {
+    uint64_t serial; /* the session's updates count from 1, in all of the store's life; a commit keeps them up to one of these */
+    uint64_t value;  /* what an add or a max that is done has left */
+    uint64_t reason; /* why an update is pending: FKV_FUZZY .. */
+} fkv_update;
+
+/* A request that was pending and is finished. */
+typedef struct {
+    uint64_t kind;  /* FKV_UPDATED, FKV_READ_FOUND or FKV_READ_NONE */
+    uint64_t name;  /* an update's serial, or a read's ticket */
+    uint64_t value; /* what an add or a max has left, or what a read has found */
+} fkv_finished;
+
+/* How far the store has come, as a session sees it. */
+typedef struct {
+    uint64_t phase;   /* FKV_REST .. */
+    uint64_t version; /* the commit in hand, or the one that comes next */
+} fkv_seen;
+
+/* What a turn of the keeper has posted, or what it has done. */
+typedef struct {
+    uint64_t place;       /* behind FKV_READ and FKV_WRITE: where in the file, in bytes */
+    uint64_t length;      /* and how many bytes */
+    const uint8_t *bytes; /* behind FKV_WRITE: what is to be written. Valid until the next call on this keeper */
+    uint64_t finished;    /* behind FKV_OVER: 1 if the turn has finished a commit */
+    uint64_t number;      /* and that commit's number */
+    uint64_t drain_full;  /* 1 if a part was left to a later turn, since no drain slot was free */
+} fkv_turned;
+
+/* Answers of a session's calls. */
+enum { FKV_DONE = 0, FKV_FOUND = 1, FKV_NONE = 2, FKV_PENDING = 3 };
+
+/* Answers of a turn. */
+enum { FKV_OVER = 0, FKV_READ = 1, FKV_WRITE = 2, FKV_SYNC = 3 };
+
+/* Why an update is pending. */
+enum {
+    FKV_FUZZY = 1,     /* its record is about to become read-only */
+    FKV_DISK = 2,      /* its record may lie in the file alone */
+    FKV_LATCH = 3,     /* a commit holds its bucket */
+    FKV_CONTENDED = 4, /* another session was quicker */
+    FKV_NO_ROOM = 5,   /* the next page isn't open yet: the keeper is behind */
+    FKV_FULL = 6       /* the index or the log is full */
+};
+
+/* Kinds of a finished request. */
+enum { FKV_UPDATED = 0, FKV_READ_FOUND = 1, FKV_READ_NONE = 2 };
+
+/* Phases of a commit. */
+enum { FKV_REST = 0, FKV_PREPARE = 1, FKV_IN_PROGRESS = 2, FKV_WAIT_PENDING = 3, FKV_WAIT_FLUSH = 4 };
+
+/* How keys are placed, the same at each opening of a store. See fkv_open. */
+enum { FKV_SPREAD = 0, FKV_SPREAD_ALREADY = 1 };
+
+/* Faults. A refusal is minus one of them; fkv_name_of tells its name. */
+enum {
+    FKV_BAD_SHAPE = 1,       /* a size of the shape is outside its limits */
+    FKV_VALUE_RESERVED = 2,  /* 2^64 - 1 is no value */
+    FKV_PENDING_FULL = 3,    /* 64 requests of the session are pending: refresh, poll, and call again */
+    FKV_INDEX_FULL = 4,      /* the index has no room for another home of keys */
+    FKV_LOG_FULL = 5,        /* the log has no room for another record, and never will have */
+    FKV_VERSIONS_SPENT = 6,  /* the store has taken its last commit */
+    FKV_SERIALS_SPENT = 7,   /* the session has taken its last serial, 2^48 - 1 */
+    FKV_EPOCHS_SPENT = 8,    /* the last epoch is reached */
+    FKV_DRAIN_FULL = 9,      /* a commit: no drain slot is free; ask again behind a turn */
+    FKV_COMMIT_RUNNING = 10, /* a commit: another one runs, or a turn is in hand */
+    FKV_PENDING_LEFT = 11,   /* the session has pending requests: poll until none is left */
+    FKV_ASLEEP = 12,         /* the session sleeps, or its handle was ended */
+    FKV_BROKEN = 13,         /* a call of the device has failed before: the store commits no more. Open it anew */
+    FKV_DEVICE = 14,         /* a call of the device has failed. Of fkv_posix.h: the system refused; errno says why */
+    FKV_NOT_A_STORE = 15,    /* the bytes are no store's */
+    FKV_DAMAGED = 16,        /* the bytes are a store's, and damaged */
+    FKV_SCRIPT = 17,         /* never comes here */
+    FKV_MEMORY = 18,         /* memory was refused */
+    FKV_NO_SESSION = 19,     /* the shape has no session of this number */
+    FKV_AWAKE = 20,          /* the session is awake */
+    FKV_LOST_FULL = 21,      /* a log commit: more than eight ranges of lost records are in hand; a full commit clears them */
+    FKV_HANDLE_OUT = 22,     /* a handle of the store is out still */
+    FKV_HANDLE_TAKEN = 23,   /* the handle was taken before */
+    FKV_ROOM_SMALL = 24      /* the caller's room is too small */
+};
+
+/* The name of the fault of a result, as "Asleep" of -12 or of 12; "Done" of 0, and "Unknown" of any other number. Never NULL. */
+const char *fkv_name_of(int32_t result);
+
+/* ---- The store ------------------------------------------------------------------------------------------------------------ */
+
+/*
+ * Writes a new store's file of this shape, FKV_IMAGE_SIZE bytes. The caller puts them into a file, syncs it and its folder.
+ * 0; -FKV_BAD_SHAPE, -FKV_MEMORY, -FKV_ROOM_SMALL.
+ */
+int32_t fkv_image(const fkv_shape *shape, uint8_t *into, size_t room);
+
+/*
+ * Opens the store of these bytes: all bytes of its file, which were synced before they were read. They are not needed behind the
+ * call, nor kept. `bytes` isn't NULL, though `size` may be 0. `*out` is the address of an fkv_store's word: `&store.at`.
+ *
+ * `keys` says how keys are placed. The index goes by a key's low bits, so with FKV_SPREAD each key is first spread over all 64
+ * bits, one to one. With FKV_SPREAD_ALREADY keys are taken as they are: for keys that are hashes, or random. Say the same at each
+ * opening. A store that is opened the other way finds none of its keys, and nothing tells so.
+ *
+ * `*shape` becomes the store's shape, `*opened` what was told, and `points` each session's last kept serial, as many as fit into
+ * `room`; the rest of the room is 0.
+ * 0; -FKV_NOT_A_STORE, -FKV_DAMAGED (`*opened` says where), -FKV_MEMORY.
+ */
+int32_t fkv_open(const uint8_t *bytes, size_t size, uint32_t keys, void **out, fkv_shape *shape, fkv_opened *opened,
+                 uint64_t *points, size_t room);
+
+/* Hands out session `number`, from 0: `*out` is `&session.at`. Once. 0; -FKV_NO_SESSION, -FKV_HANDLE_TAKEN, -FKV_MEMORY. */
+int32_t fkv_take_session(fkv_store *store, uint64_t number, void **out);
+
+/* Hands out the keeper: `*out` is `&keeper.at`. Once. 0; -FKV_HANDLE_TAKEN, -FKV_MEMORY. */
+int32_t fkv_take_keeper(fkv_store *store, void **out);
+
+/*
+ * Gives the store's memory back, once each handle that was taken is ended. What no commit has kept is lost. -FKV_HANDLE_OUT while
+ * one is out; a handle that wasn't taken then can't be taken any more. Behind a 0, fkv_free_store.
+ */
+int32_t fkv_close(fkv_store *store);
+
+/* Frees the handle's own block, behind an fkv_close that gave 0. The word is dead then. */
+void fkv_free_store(fkv_store store);
+
+/* ---- A session ------------------------------------------------------------------------------------------------------------ */
+
+/*
+ * Reads a key. FKV_FOUND (`*value`), FKV_NONE, or FKV_PENDING: the record lies in the file alone. Then `*value` is a ticket, by which
+ * a later poll tells what was found. -FKV_ASLEEP, -FKV_PENDING_FULL.
+ */
+int32_t fkv_get(fkv_session *session, uint64_t key, uint64_t *value);
+
+/*
+ * Updates of a key. FKV_DONE, or FKV_PENDING: it is accepted, and takes effect at a later poll. Either way `told->serial` is its
+ * serial. -FKV_ASLEEP, -FKV_VALUE_RESERVED, -FKV_PENDING_FULL, -FKV_SERIALS_SPENT, -FKV_INDEX_FULL, -FKV_LOG_FULL.
+ *
+ *   fkv_upsert   gives the key this value
+ *   fkv_add      adds to its value, up to 2^64 - 2; a key without a value gets the number
+ *   fkv_max      raises its value to the number; a key without a value gets the number
+ *   fkv_delete   takes its value away
+ */
+int32_t fkv_upsert(fkv_session *session, uint64_t key, uint64_t value, fkv_update *told);
+int32_t fkv_add(fkv_session *session, uint64_t key, uint64_t number, fkv_update *told);
+int32_t fkv_max(fkv_session *session, uint64_t key, uint64_t number, fkv_update *told);
+int32_t fkv_delete(fkv_session *session, uint64_t key, fkv_update *told);
+
+/*
+ * Lets the session see how far the store has come, and take up a commit. Nothing of the store moves on past a session that is awake
+ * and doesn't refresh: no commit finishes, and no page of memory is used again. 0; -FKV_ASLEEP.
+ */
+int32_t fkv_refresh(fkv_session *session, fkv_seen *seen);
+
+/*
+ * Tries the session's pending requests once more, and tells those that are finished: `*count` of them, in `into`. The answer is how
+ * many are left. -FKV_ASLEEP; -FKV_ROOM_SMALL where `room` is below FKV_MOST_PENDING.
+ */
+int32_t fkv_poll(fkv_session *session, fkv_finished *into, size_t room, uint64_t *count);
+
+/* The session leaves, and nobody waits for it: before its thread blocks. 0; -FKV_ASLEEP, -FKV_PENDING_LEFT. */
+int32_t fkv_sleep(fkv_session *session);
+
+/* The session comes back. 0; -FKV_AWAKE. */
+int32_t fkv_wake(fkv_session *session, fkv_seen *seen);
+
+/* The serial up to which this session's updates are in a finished commit: a crash from now on keeps them. 0; -FKV_ASLEEP. */
+int32_t fkv_durable(fkv_session *session, uint64_t *serial);
+
+/* Puts the session to sleep and gives the handle up. 0; -FKV_PENDING_LEFT. Behind a 0, fkv_free_session. */
+int32_t fkv_end_session(fkv_session *session);
+
+/* Frees the handle's own block, and what it still holds. The word is dead then. */
+void fkv_free_session(fkv_session session);
+
+/* ---- The keeper ----------------------------------------------------------------------------------------------------------- */
+
+/*
+ * Begins a commit, and tells its number; later turns carry it on, and one of them tells that it is finished. A log commit
+ * (`log_only` not 0) writes the log alone, and leaves the index to the last full one: it is shorter, and the next opening longer.
+ * 0; -FKV_BROKEN, -FKV_COMMIT_RUNNING, -FKV_VERSIONS_SPENT, -FKV_LOST_FULL, -FKV_EPOCHS_SPENT, -FKV_DRAIN_FULL.
+ */
+int32_t fkv_commit(fkv_keeper *keeper, uint32_t log_only, uint64_t *number);
+
+/*
+ * Begins a turn, or asks again what the turn in hand has posted. The answer says what the caller does next:
+ *
+ *   FKV_READ    reads `length` bytes (24) of the file at `place`, with zeros past its end, and tells them by fkv_told
+ *   FKV_WRITE   writes the `length` bytes at `bytes` to `place`, all of them. It may lie past the end of the file, which then grows
+ *   FKV_SYNC    syncs the file (fdatasync)
+ *   FKV_OVER    the turn is over. If it has finished a commit, `finished` is 1, `number` is its number, and `points` has each
+ *               session's last serial that it keeps, as many as fit into `room`
+ *
+ * A refusal ends the turn: -FKV_DEVICE (what was told has failed), -FKV_BROKEN (an earlier call has failed: the keeper is dead for
+ * good), -FKV_MEMORY (the next turn tries again), -FKV_EPOCHS_SPENT.
+ *
+ * That a read tells what was written last, and that a sync tells the truth, is what the library rests on. Nobody else writes to
+ * the file meanwhile.
+ */
+int32_t fkv_turn(fkv_keeper *keeper, fkv_turned *turned, uint64_t *points, size_t room);
+
+/*
+ * Tells how the posted call has gone, and goes on with the turn, as fkv_turn does. `failed` isn't 0 where it has failed; behind a
+ * read `bytes` are what was read, `size` of them, and else `size` is 0. `bytes` isn't NULL.
+ */
+int32_t fkv_told(fkv_keeper *keeper, uint32_t failed, const uint8_t *bytes, size_t size, fkv_turned *turned, uint64_t *points,
+                 size_t room);
+
+/* Gives the handle up. What a commit in hand has not finished is lost. Behind it, fkv_free_keeper. */
+void fkv_end_keeper(fkv_keeper *keeper);
+
+/* Frees the handle's own block, and what it still holds. The word is dead then. */
+void fkv_free_keeper(fkv_keeper keeper);
+
+/* ---- Keys ----------------------------------------------------------------------------------------------------------------- */
+
+/* The word under which a key lies in a store of FKV_SPREAD, and the key of such a word: for who reads a store's file otherwise. */
+uint64_t fkv_spread(uint64_t key);
+uint64_t fkv_spread_back(uint64_t word);
+
+#ifdef __cplusplus
+}
+#endif
+
+#endif

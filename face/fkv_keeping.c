@@ -1,0 +1,315 @@
+/* The keeper's thread: its turns, a commit now and then, and who waits for one. */
+#define _POSIX_C_SOURCE 200809L
+#include "fkv_file.h"
+
+#include <errno.h>
+#include <signal.h>
+#include <string.h>
+#include <time.h>
+
+enum {
+    /* Between two turns when nothing is to be done, unless the caller says how long. */
+    USUAL_TURN_US = 500,
+    /* While a commit runs: it waits for sessions, which refresh every few microseconds. */
+    COMMIT_TURN_US = 50,
+    /* Between two polls of a session that waits. */
+    SETTLE_US = 20,
+    MOST_MS = 1000000000
+};
+
+/* A run of the keeper's thread. Nobody else has it. */
+struct run {
+    fkv_file *file;
+    struct timespec next; /* when the next commit by the clock is due */
+    uint32_t log_left;    /* so many log commits before the next full one */
+    uint64_t written;     /* bytes, since the commit in hand began */
+    bool has_called;      /* the last turn has called the file, so the next one may have something to do */
+};
+
+/* ---- Time ----------------------------------------------------------------------------------------------------------------- */
+
+static struct timespec behind(struct timespec from, uint64_t microseconds) {
+    uint64_t nanoseconds = (uint64_t)from.tv_nsec + microseconds % 1000000 * 1000;
+    from.tv_sec += (time_t)(microseconds / 1000000 + nanoseconds / 1000000000);
+    from.tv_nsec = (long)(nanoseconds % 1000000000);
+    return from;
+}
+
+static struct timespec now(void) {
+    struct timespec time;
+    clock_gettime(CLOCK_MONOTONIC, &time);
+    return time;
+}
+
+static bool is_past(struct timespec time) {
+    struct timespec it = now();
+    return it.tv_sec > time.tv_sec || (it.tv_sec == time.tv_sec && it.tv_nsec >= time.tv_nsec);
+}
+
+/* ---- Commits. The file's lock is held. -------------------------------------------------------------------------------------- */
+
+static bool is_due(const struct run *run) {
+    const fkv_file *file = run->file;
+    if (file->in_hand || file->fault) return false;
+    if (file->asked > file->covers) return true;
+    return file->keeping.commit_ms > 0 && file->was_joined && is_past(run->next);
+}
+
+/* The commits that were asked for until now are served by the one that has begun. */
+static void note_begun(struct run *run) {
+    fkv_file *file = run->file;
+    file->in_hand = true;
+    file->covers = file->asked;
+    file->was_joined = file->joined != 0;
+    run->written = 0;
+    run->next = behind(now(), (uint64_t)file->keeping.commit_ms * 1000);
+}
+
+/* From now on there are no turns or no commits, and nobody waits for one. */
+static void note_fault(fkv_file *file, int32_t fault) {
+    if (!file->fault) file->fault = fault;
+    pthread_cond_broadcast(&file->news);
+}
+
+/* Begins a commit where one is due. True where it has begun. */
+static bool begin_commit(struct run *run) {
+    fkv_file *file = run->file;
+    uint64_t number;
+    if (!is_due(run)) return false;
+    bool is_log = run->log_left > 0;
+    int32_t result = fkv_commit(&file->keeper, is_log, &number);
+    if (result == -FKV_LOST_FULL) {
+        is_log = false;
+        result = fkv_commit(&file->keeper, 0, &number);
+    }
+    if (result == 0) {
+        run->log_left = is_log ? run->log_left - 1 : file->keeping.log_commits;
+        note_begun(run);
+        return true;
+    }
+    /* Either of these goes away with turns. */
+    if (result != -FKV_DRAIN_FULL && result != -FKV_COMMIT_RUNNING) note_fault(file, result);
+    return false;
+}
+
+static void note_finished(fkv_file *file, const fkv_turned *turned, const uint64_t *points) {
+    file->in_hand = false;
+    file->finished = file->covers;
+    file->number = turned->number;
+    memcpy(file->points, points, sizeof file->points);
+    pthread_cond_broadcast(&file->news);
+}
+
+/* ---- Turns. The file's lock isn't held. ------------------------------------------------------------------------------------- */
+
+static void tell_progress(const struct run *run) {
+    const fkv_keeping *keeping = &run->file->keeping;
+    fkv_progress progress = {FKV_COMMITTING, run->written, 0};
+    if (keeping->progress) keeping->progress(keeping->user, &progress);
+}
+
+/* Makes a turn, with its calls of the file. */
+static int32_t turn(struct run *run, bool commits, fkv_turned *turned, uint64_t *points) {
+    fkv_file *file = run->file;
+    uint8_t into[FKV_READ_SIZE] = {0};
+    int32_t call = fkv_turn(&file->keeper, turned, points, FKV_MOST_SESSIONS);
+    run->has_called = call > FKV_OVER;
+    while (call > FKV_OVER) {
+        int failed = fkv_call_file(file->fd, call, turned, into);
+        if (!failed && call == FKV_WRITE) run->written += turned->length;
+        if (commits) tell_progress(run);
+        call = fkv_told(&file->keeper, failed != 0, into, call == FKV_READ ? FKV_READ_SIZE : 0, turned, points, FKV_MOST_SESSIONS);
+    }
+    return call;
+}
+
+/* Waits for the next turn. The file's lock is held. */
+static void rest(const struct run *run) {
+    fkv_file *file = run->file;
+    if (run->has_called || file->nudged || file->stops) return;
+    uint32_t usual = file->keeping.turn_us ? file->keeping.turn_us : USUAL_TURN_US;
+    struct timespec until = behind(now(), file->in_hand && usual > COMMIT_TURN_US ? COMMIT_TURN_US : usual);
+    pthread_cond_timedwait(&file->work, &file->lock, &until);
+}
+
+/* A turn, and what it has come to. The file's lock is held, but while the turn goes on. */
+static void go_on(struct run *run) {
+    fkv_file *file = run->file;
+    uint64_t points[FKV_MOST_SESSIONS] = {0};
+    fkv_turned turned = {0};
+    bool begins = begin_commit(run);
+    bool commits = file->in_hand;
+    file->nudged = false;
+    pthread_mutex_unlock(&file->lock);
+    if (begins) tell_progress(run);
+    int32_t result = turn(run, commits, &turned, points);
+    bool finished = result == FKV_OVER && turned.finished;
+    const fkv_keeping *keeping = &file->keeping;
+    if (finished && keeping->committed) keeping->committed(keeping->user, turned.number, points, (size_t)file->shape.sessions);
+    pthread_mutex_lock(&file->lock);
+    if (finished) note_finished(file, &turned, points);
+    /* Memory that was refused may come; the other refusals stay. */
+    if (result < 0 && result != -FKV_MEMORY) note_fault(file, result);
+}
+
+static void *keep(void *its_file) {
+    struct run run = {.file = its_file};
+    fkv_file *file = its_file;
+    pthread_mutex_lock(&file->lock);
+    run.next = behind(now(), (uint64_t)file->keeping.commit_ms * 1000);
+    run.log_left = 0;
+    while (!file->stops) {
+        /* Where commits are spent turns go on; where turns are refused they are refused for good. */
+        if (!file->fault || file->fault == -FKV_VERSIONS_SPENT) go_on(&run);
+        else run.has_called = false, file->nudged = false;
+        rest(&run);
+    }
+    pthread_mutex_unlock(&file->lock);
+    return NULL;
+}
+
+/* ---- Its start and end ------------------------------------------------------------------------------------------------------ */
+
+/* Starts the thread, which takes no signals: they are the program's. */
+static int start_thread(fkv_file *file) {
+    sigset_t all, before;
+    sigfillset(&all);
+    int failed = pthread_sigmask(SIG_SETMASK, &all, &before);
+    if (failed) return failed;
+    failed = pthread_create(&file->thread, NULL, keep, file);
+    pthread_sigmask(SIG_SETMASK, &before, NULL);
+    return failed;
+}
+
+int32_t fkv_start(fkv_file *file, const fkv_keeping *keeping) {
+    int failed = 0;
+    pthread_mutex_lock(&file->lock);
+    bool runs = file->runs;
+    if (!runs) {
+        file->keeping = keeping ? *keeping : (fkv_keeping){0};
+        if (file->keeping.commit_ms > MOST_MS) file->keeping.commit_ms = MOST_MS;
+        file->stops = false;
+        failed = start_thread(file);
+        file->runs = !failed;
+    }
+    pthread_mutex_unlock(&file->lock);
+    if (runs) return -FKV_HANDLE_TAKEN;
+    errno = failed ? failed : errno;
+    return failed ? -FKV_DEVICE : 0;
+}
+
+int32_t fkv_stop(fkv_file *file, uint32_t with_commit) {
+    uint64_t ticket;
+    int32_t result = 0;
+    if (with_commit) {
+        result = fkv_ask_commit(file, &ticket);
+        if (result == 0) result = fkv_wait_commit(file, ticket, NULL);
+    }
+    pthread_mutex_lock(&file->lock);
+    bool ends = file->runs && !file->stops;
+    if (ends) {
+        file->stops = true;
+        pthread_cond_signal(&file->work);
+        pthread_mutex_unlock(&file->lock);
+        pthread_join(file->thread, NULL);
+        pthread_mutex_lock(&file->lock);
+        file->runs = false;
+        pthread_cond_broadcast(&file->news);
+    }
+    /* Another caller ends it. */
+    while (file->runs) pthread_cond_wait(&file->news, &file->lock);
+    pthread_mutex_unlock(&file->lock);
+    return result;
+}
+
+/* ---- Who waits -------------------------------------------------------------------------------------------------------------- */
+
+/* Why nobody serves a commit or a request, or 0. The lock is held. */
+static int32_t refusal(const fkv_file *file) {
+    if (file->fault) return file->fault;
+    return file->runs && !file->stops ? 0 : -FKV_BROKEN;
+}
+
+int32_t fkv_ask_commit(fkv_file *file, uint64_t *ticket) {
+    pthread_mutex_lock(&file->lock);
+    int32_t result = refusal(file);
+    if (result == 0) {
+        *ticket = ++file->asked;
+        pthread_cond_signal(&file->work);
+    }
+    pthread_mutex_unlock(&file->lock);
+    return result;
+}
+
+int32_t fkv_wait_commit(fkv_file *file, uint64_t ticket, fkv_session *session) {
+    fkv_seen seen;
+    int32_t slept = session ? fkv_sleep(session) : -FKV_ASLEEP;
+    if (slept < 0 && slept != -FKV_ASLEEP) return slept;
+    pthread_mutex_lock(&file->lock);
+    while (file->finished < ticket && refusal(file) == 0) pthread_cond_wait(&file->news, &file->lock);
+    int32_t result = file->finished >= ticket ? 0 : refusal(file);
+    pthread_mutex_unlock(&file->lock);
+    if (slept == 0) fkv_wake(session, &seen);
+    return result;
+}
+
+void fkv_nudge(fkv_file *file) {
+    pthread_mutex_lock(&file->lock);
+    file->nudged = true;
+    pthread_cond_signal(&file->work);
+    pthread_mutex_unlock(&file->lock);
+}
+
+int32_t fkv_keeper_fault(fkv_file *file) {
+    pthread_mutex_lock(&file->lock);
+    int32_t fault = file->fault;
+    pthread_mutex_unlock(&file->lock);
+    return fault;
+}
+
+/* Whether requests that are pending are served: they are too where commits alone are spent. */
+static int32_t not_served(fkv_file *file) {
+    pthread_mutex_lock(&file->lock);
+    int32_t why = refusal(file);
+    if (why == -FKV_VERSIONS_SPENT && file->runs) why = 0;
+    pthread_mutex_unlock(&file->lock);
+    return why;
+}
+
+int32_t fkv_settle(fkv_file *file, fkv_session *session, fkv_finished_fn *told, void *user) {
+    fkv_finished finished[FKV_MOST_PENDING];
+    fkv_seen seen;
+    for (;;) {
+        uint64_t count = 0;
+        int32_t result = fkv_refresh(session, &seen);
+        if (result < 0) return result;
+        int32_t left = fkv_poll(session, finished, FKV_MOST_PENDING, &count);
+        for (uint64_t i = 0; i < count && told; i++) told(user, &finished[i]);
+        if (left <= 0) return left;
+        result = not_served(file);
+        if (result < 0) return result;
+        fkv_nudge(file);
+        nanosleep(&(struct timespec){0, SETTLE_US * 1000}, NULL);
+    }
+}
+
+/* The read that is waited for. */
+struct awaited {
+    uint64_t ticket;
+    fkv_finished found;
+};
+
+static void take_awaited(void *its, const fkv_finished *finished) {
+    struct awaited *awaited = its;
+    if (finished->kind != FKV_UPDATED && finished->name == awaited->ticket) awaited->found = *finished;
+}
+
+int32_t fkv_read(fkv_file *file, fkv_session *session, uint64_t key, uint64_t *value) {
+    int32_t result = fkv_get(session, key, value);
+    if (result != FKV_PENDING) return result;
+    struct awaited awaited = {.ticket = *value, .found = {.kind = FKV_READ_NONE}};
+    result = fkv_settle(file, session, take_awaited, &awaited);
+    if (result < 0) return result;
+    *value = awaited.found.value;
+    return awaited.found.kind == FKV_READ_FOUND ? FKV_FOUND : FKV_NONE;
+}

@@ -1,0 +1,382 @@
+/* A store in a file: making, opening, closing, and handing out its sessions. */
+#define _GNU_SOURCE
+#include "fkv_file.h"
+
+#include <errno.h>
+#include <fcntl.h>
+#include <limits.h>
+#include <stdio.h>
+#include <stdlib.h>
+#include <string.h>
+#include <sys/file.h>
+#include <sys/mman.h>
+#include <sys/stat.h>
+#include <unistd.h>
+
+/* A file is read in pieces of so many bytes, each of which is told as progress. */
+enum { PIECE = 1 << 20 };
+
+/* Another name is sought so many times, where files of a making that was cut short stand in the way. */
+enum { MOST_NAMES = 100 };
+
+/* ---- Calls of the file ---------------------------------------------------------------------------------------------------- */
+
+static bool fits_file(uint64_t place, uint64_t length) {
+    return place <= INT64_MAX && length <= INT64_MAX - place;
+}
+
+/* Reads bytes from a place on, with zeros past the end. */
+static int read_at(int fd, uint64_t place, uint8_t *into, size_t length) {
+    size_t done = 0;
+    while (done < length) {
+        ssize_t got = pread(fd, into + done, length - done, (off_t)(place + done));
+        if (got == 0) break;
+        if (got > 0) {
+            done += (size_t)got;
+        } else if (errno != EINTR) {
+            return -1;
+        }
+    }
+    memset(into + done, 0, length - done);
+    return 0;
+}
+
+/* Writes all of the bytes, or fails. A file that ends below them grows. */
+static int write_at(int fd, uint64_t place, const uint8_t *bytes, size_t length) {
+    size_t done = 0;
+    while (done < length) {
+        ssize_t put = pwrite(fd, bytes + done, length - done, (off_t)(place + done));
+        if (put > 0) {
+            done += (size_t)put;
+        } else if (put == 0) {
+            errno = ENOSPC;
+            return -1;
+        } else if (errno != EINTR) {
+            return -1;
+        }
+    }
+    return 0;
+}
+
+int fkv_call_file(int fd, int32_t call, const fkv_turned *turned, uint8_t into[FKV_READ_SIZE]) {
+    if (call == FKV_SYNC) return fdatasync(fd);
+    if (!fits_file(turned->place, turned->length)) {
+        errno = EFBIG;
+        return -1;
+    }
+    if (call == FKV_WRITE) return write_at(fd, turned->place, turned->bytes, (size_t)turned->length);
+    if (call == FKV_READ && turned->length == FKV_READ_SIZE) return read_at(fd, turned->place, into, FKV_READ_SIZE);
+    errno = EINVAL;
+    return -1;
+}
+
+int32_t fkv_turn_file(int fd, fkv_keeper *keeper, fkv_turned *turned, uint64_t *points, size_t room, uint64_t *written) {
+    uint8_t into[FKV_READ_SIZE] = {0};
+    int32_t call = fkv_turn(keeper, turned, points, room);
+    while (call > FKV_OVER) {
+        int failed = fkv_call_file(fd, call, turned, into);
+        if (!failed && call == FKV_WRITE && written) *written += turned->length;
+        call = fkv_told(keeper, failed != 0, into, call == FKV_READ ? FKV_READ_SIZE : 0, turned, points, room);
+    }
+    return call;
+}
+
+/* ---- Making --------------------------------------------------------------------------------------------------------------- */
+
+/* Makes a name in a folder durable. */
+static int sync_folder_of(const char *path) {
+    const char *slash = strrchr(path, '/');
+    char *folder = slash ? strndup(path, slash == path ? 1 : (size_t)(slash - path)) : strdup(".");
+    if (!folder) return -1;
+    int fd = open(folder, O_RDONLY | O_DIRECTORY | O_CLOEXEC);
+    free(folder);
+    if (fd < 0) return -1;
+    int failed = fsync(fd);
+    int why = errno;
+    close(fd);
+    errno = why;
+    return failed;
+}
+
+/* Gives a file its name, if no file has it. */
+static int put_in_place(const char *from, const char *to) {
+    if (renameat2(AT_FDCWD, from, AT_FDCWD, to, RENAME_NOREPLACE) == 0) return 0;
+    if (errno != EINVAL && errno != ENOSYS) return -1;
+    /* A file system without such a rename: a link doesn't replace either. */
+    return link(from, to) == 0 ? unlink(from) : -1;
+}
+
+/* A new file beside the path, open for writing. Its name is put into `name`. */
+static int open_beside(const char *path, char *name, size_t room) {
+    for (int i = 0; i < MOST_NAMES; i++) {
+        int length = snprintf(name, room, "%s.new%d", path, i);
+        if (length < 0 || (size_t)length >= room) {
+            errno = ENAMETOOLONG;
+            return -1;
+        }
+        int fd = open(name, O_WRONLY | O_CREAT | O_EXCL | O_CLOEXEC, 0666);
+        if (fd >= 0 || errno != EEXIST) return fd;
+    }
+    return -1;
+}
+
+/* Writes the bytes to a new file, syncs it, and puts it in place. */
+static int write_file(const char *path, const uint8_t *bytes, size_t length) {
+    char name[PATH_MAX];
+    int fd = open_beside(path, name, sizeof name);
+    if (fd < 0) return -1;
+    int failed = write_at(fd, 0, bytes, length) || fsync(fd);
+    int why = errno;
+    if (close(fd) && !failed) failed = 1, why = errno;
+    if (!failed && put_in_place(name, path)) failed = 1, why = errno;
+    if (failed) {
+        unlink(name);
+        errno = why;
+        return -1;
+    }
+    return sync_folder_of(path);
+}
+
+int32_t fkv_make_file(const char *path, const fkv_shape *shape) {
+    uint8_t image[FKV_IMAGE_SIZE];
+    int32_t result = fkv_image(shape, image, sizeof image);
+    if (result < 0) return result;
+    /* (the rename would tell it too, but behind two syncs) */
+    if (access(path, F_OK) == 0) {
+        errno = EEXIST;
+        return -FKV_DEVICE;
+    }
+    return write_file(path, image, sizeof image) ? -FKV_DEVICE : 0;
+}
+
+/* ---- Opening -------------------------------------------------------------------------------------------------------------- */
+
+/* All bytes of a file, in memory of their own or mapped. */
+struct bytes {
+    uint8_t *at;
+    size_t size;
+};
+
+static void tell_progress(const fkv_how *how, uint64_t done, uint64_t total) {
+    fkv_progress progress = {FKV_OPENING, done, total};
+    if (how->progress) how->progress(how->user, &progress);
+}
+
+/* Reads a file's bytes into memory that holds zeros. Its holes are passed over. */
+static int read_whole(int fd, const fkv_how *how, struct bytes to) {
+    size_t at = 0;
+    while (at < to.size) {
+        off_t data = lseek(fd, (off_t)at, SEEK_DATA);
+        if (data < 0 && errno == ENXIO) break;
+        if (data > 0 && (size_t)data > at) at = (size_t)data;
+        if (at >= to.size) break;
+        size_t length = to.size - at < PIECE ? to.size - at : PIECE;
+        if (read_at(fd, at, to.at + at, length)) return -1;
+        at += length;
+        tell_progress(how, at, to.size);
+    }
+    tell_progress(how, to.size, to.size);
+    return 0;
+}
+
+/* Shows all bytes of a file, which were synced. */
+static int32_t show(int fd, const fkv_how *how, struct bytes *shown) {
+    struct stat known;
+    if (fstat(fd, &known)) return -FKV_DEVICE;
+    if (!S_ISREG(known.st_mode)) {
+        errno = EINVAL;
+        return -FKV_DEVICE;
+    }
+    shown->size = (size_t)known.st_size;
+    /* A map of no bytes is refused. */
+    if (shown->size == 0) return -FKV_NOT_A_STORE;
+    int where = how->mapped ? MAP_PRIVATE : MAP_PRIVATE | MAP_ANONYMOUS | MAP_NORESERVE;
+    int may = how->mapped ? PROT_READ : PROT_READ | PROT_WRITE;
+    void *at = mmap(NULL, shown->size, may, where, how->mapped ? fd : -1, 0);
+    if (at == MAP_FAILED) return errno == ENOMEM ? -FKV_MEMORY : -FKV_DEVICE;
+    shown->at = at;
+    return how->mapped || !read_whole(fd, how, *shown) ? 0 : -FKV_DEVICE;
+}
+
+/* Opens and locks a file. Its number isn't that of a standard stream, though one may be closed. */
+static int open_locked(const char *path) {
+    int fd = open(path, O_RDWR | O_CLOEXEC | O_NOCTTY);
+    if (fd >= 0 && fd <= STDERR_FILENO) {
+        int low = fd;
+        fd = fcntl(low, F_DUPFD_CLOEXEC, STDERR_FILENO + 1);
+        int why = errno;
+        close(low);
+        errno = why;
+    }
+    if (fd < 0) return -1;
+    if (flock(fd, LOCK_EX | LOCK_NB) == 0) return fd;
+    int why = errno;
+    close(fd);
+    errno = why;
+    return -1;
+}
+
+/* Opens the store of a file's bytes. */
+static int32_t open_store(fkv_file *file, const fkv_how *how) {
+    fkv_opened opened = {0, 0, 0};
+    struct bytes shown = {NULL, 0};
+    /* A process that was killed may have written what no sync has kept. What is read is to be durable. */
+    if (fsync(file->fd)) return -FKV_DEVICE;
+    int32_t result = show(file->fd, how, &shown);
+    if (result == 0) {
+        result = fkv_open(shown.at, shown.size, how->keys, &file->store.at, &file->shape, &opened, file->points, FKV_MOST_SESSIONS);
+    }
+    int why = errno;
+    if (shown.at) munmap(shown.at, shown.size);
+    errno = why;
+    file->number = opened.number;
+    if (how->opened) *how->opened = opened;
+    return result;
+}
+
+/* Takes all handles of an open store, and puts its sessions to sleep. */
+static int32_t take_handles(fkv_file *file) {
+    int32_t result = fkv_take_keeper(&file->store, &file->keeper.at);
+    for (uint64_t i = 0; i < file->shape.sessions && result == 0; i++) {
+        result = fkv_take_session(&file->store, i, &file->sessions[i].at);
+        /* One that sleeps already stays so. */
+        if (result == 0) fkv_sleep(&file->sessions[i]);
+    }
+    return result;
+}
+
+/* Gives back what was taken and opened. A session that was abandoned isn't ended, and what it holds goes with its block. */
+static void give_up(fkv_file *file) {
+    for (int i = 0; i < FKV_MOST_SESSIONS; i++) {
+        if (!file->sessions[i].at) continue;
+        fkv_end_session(&file->sessions[i]);
+        fkv_free_session(file->sessions[i]);
+    }
+    if (file->keeper.at) {
+        fkv_end_keeper(&file->keeper);
+        fkv_free_keeper(file->keeper);
+    }
+    if (file->store.at) {
+        fkv_close(&file->store);
+        fkv_free_store(file->store);
+    }
+    int why = errno;
+    if (file->fd >= 0) close(file->fd);
+    pthread_cond_destroy(&file->news);
+    pthread_cond_destroy(&file->work);
+    pthread_mutex_destroy(&file->lock);
+    free(file);
+    errno = why;
+}
+
+/* A file that isn't open yet. NULL where memory was refused. */
+static fkv_file *new_file(void) {
+    fkv_file *file = calloc(1, sizeof *file);
+    if (!file) return NULL;
+    file->fd = -1;
+    pthread_condattr_t by_clock;
+    if (pthread_mutex_init(&file->lock, NULL)) goto no_lock;
+    if (pthread_cond_init(&file->news, NULL)) goto no_news;
+    if (pthread_condattr_init(&by_clock)) goto no_clock;
+    pthread_condattr_setclock(&by_clock, CLOCK_MONOTONIC);
+    int failed = pthread_cond_init(&file->work, &by_clock);
+    pthread_condattr_destroy(&by_clock);
+    if (!failed) return file;
+no_clock:
+    pthread_cond_destroy(&file->news);
+no_news:
+    pthread_mutex_destroy(&file->lock);
+no_lock:
+    free(file);
+    return NULL;
+}
+
+int32_t fkv_open_file(const char *path, const fkv_how *how, fkv_file **out) {
+    static const fkv_how usual;
+    fkv_file *file = new_file();
+    if (!file) return -FKV_MEMORY;
+    file->fd = open_locked(path);
+    int32_t result = file->fd < 0 ? -FKV_DEVICE : open_store(file, how ? how : &usual);
+    if (result == 0) result = take_handles(file);
+    if (result < 0) {
+        give_up(file);
+        return result;
+    }
+    *out = file;
+    return 0;
+}
+
+int32_t fkv_close_file(fkv_file *file) {
+    pthread_mutex_lock(&file->lock);
+    bool is_out = file->joined != 0;
+    pthread_mutex_unlock(&file->lock);
+    if (is_out) return -FKV_HANDLE_OUT;
+    fkv_stop(file, 0);
+    give_up(file);
+    return 0;
+}
+
+fkv_shape fkv_shape_of(const fkv_file *file) {
+    return file->shape;
+}
+
+uint64_t fkv_last_commit(fkv_file *file, uint64_t points[FKV_MOST_SESSIONS]) {
+    pthread_mutex_lock(&file->lock);
+    uint64_t number = file->number;
+    memcpy(points, file->points, sizeof file->points);
+    pthread_mutex_unlock(&file->lock);
+    return number;
+}
+
+/* ---- Sessions ------------------------------------------------------------------------------------------------------------- */
+
+static uint32_t bit_of(const fkv_file *file, const fkv_session *session) {
+    return UINT32_C(1) << (session - file->sessions);
+}
+
+/* The number of a session that is free, of this one or of any. */
+static int32_t free_session(const fkv_file *file, uint64_t number, uint64_t *found) {
+    uint32_t taken = file->joined | file->abandoned;
+    if (number != FKV_ANY_SESSION) {
+        if (number >= file->shape.sessions) return -FKV_NO_SESSION;
+        *found = number;
+        return taken >> number & 1 ? -FKV_HANDLE_TAKEN : 0;
+    }
+    for (uint64_t i = 0; i < file->shape.sessions; i++) {
+        if (taken >> i & 1) continue;
+        *found = i;
+        return 0;
+    }
+    return -FKV_NO_SESSION;
+}
+
+int32_t fkv_join(fkv_file *file, uint64_t number, fkv_session **out) {
+    uint64_t found = 0;
+    fkv_seen seen;
+    pthread_mutex_lock(&file->lock);
+    int32_t result = free_session(file, number, &found);
+    if (result == 0) result = fkv_wake(&file->sessions[found], &seen);
+    if (result == 0) {
+        file->joined |= UINT32_C(1) << found;
+        file->was_joined = true;
+        *out = &file->sessions[found];
+    }
+    pthread_mutex_unlock(&file->lock);
+    return result;
+}
+
+int32_t fkv_leave(fkv_file *file, fkv_session *session) {
+    pthread_mutex_lock(&file->lock);
+    int32_t result = fkv_sleep(session);
+    if (result == -FKV_ASLEEP) result = 0;
+    if (result == 0) file->joined &= ~bit_of(file, session);
+    pthread_mutex_unlock(&file->lock);
+    return result;
+}
+
+void fkv_abandon(fkv_file *file, fkv_session *session) {
+    pthread_mutex_lock(&file->lock);
+    file->joined &= ~bit_of(file, session);
+    file->abandoned |= bit_of(file, session);
+    pthread_mutex_unlock(&file->lock);
+}

@@ -1,0 +1,171 @@
+/*
+ * fkv_posix.h: a store in a file, for POSIX systems. It makes the calls that fkv.h leaves to its caller: of the file, and in a thread
+ * of its own the keeper's turns and commits.
+ *
+ *     fkv_make_file     makes the file of a new store
+ *     fkv_open_file     opens it, for this process alone
+ *     fkv_start         starts the keeper's thread
+ *     fkv_join          gives a thread a session; fkv.h's calls go by it
+ *     fkv_wait_commit   waits until a commit is finished
+ *     fkv_leave, fkv_stop, fkv_close_file
+ *
+ * Threads. The calls that take an fkv_file may be called by any thread at any time, up to fkv_close_file, which is the last. The
+ * calls of a session are for the thread that joined it.
+ *
+ * Results are those of fkv.h. Where one is -FKV_DEVICE, errno says what the system has refused: ENOENT no such file, EEXIST there is
+ * one already, EWOULDBLOCK another process has it open, ENOSPC no room.
+ */
+#ifndef FKV_POSIX_H
+#define FKV_POSIX_H
+
+#include "fkv.h"
+
+#ifdef __cplusplus
+extern "C" {
+#endif
+
+/* An open store in a file. */
+typedef struct fkv_file fkv_file;
+
+/* Long work, and how far it has come. */
+typedef struct {
+    uint32_t work;  /* FKV_OPENING, FKV_COMMITTING */
+    uint64_t done;  /* bytes that were read; bytes that were written since the commit began */
+    uint64_t total; /* bytes of the file; 0 of a commit, since nobody knows how many it takes */
+} fkv_progress;
+
+enum { FKV_OPENING = 0, FKV_COMMITTING = 1 };
+
+typedef void fkv_progress_fn(void *user, const fkv_progress *progress);
+
+/* A commit that is finished: its number, and the last serial of each session that it keeps. */
+typedef void fkv_committed_fn(void *user, uint64_t number, const uint64_t *points, size_t sessions);
+
+/* A request that was pending and is finished. */
+typedef void fkv_finished_fn(void *user, const fkv_finished *finished);
+
+/* ---- The file ------------------------------------------------------------------------------------------------------------- */
+
+/*
+ * Makes the file of a new store of this shape. It is written under another name in the same folder, synced, and put in place by a
+ * rename that replaces nothing; then the folder is synced. So a crash leaves the whole file or none of this name. It isn't open
+ * behind the call.
+ * 0; -FKV_BAD_SHAPE, -FKV_MEMORY, -FKV_DEVICE (errno EEXIST: there is a file of this name, and it stays as it is).
+ */
+int32_t fkv_make_file(const char *path, const fkv_shape *shape);
+
+/* How a store is opened. All zeros, or NULL in its place, is the usual way. */
+typedef struct {
+    uint32_t keys;             /* FKV_SPREAD or FKV_SPREAD_ALREADY: the same at each opening (fkv_open) */
+    uint32_t mapped;           /* not 0: the file is mapped, for one that memory can't hold. A bad disk then kills the process */
+    fkv_progress_fn *progress; /* called while the file is read, or NULL */
+    void *user;                /* handed to it */
+    fkv_opened *opened;        /* becomes what fkv_open has told, behind -FKV_DAMAGED too; or NULL */
+} fkv_how;
+
+/*
+ * Opens the store in this file, and locks the file (flock) so that no other process opens it; the lock ends with the process. All
+ * sessions sleep. No commit is made before fkv_start.
+ * 0; -FKV_NOT_A_STORE, -FKV_DAMAGED, -FKV_MEMORY, -FKV_DEVICE (errno EWOULDBLOCK: another process has it open).
+ */
+int32_t fkv_open_file(const char *path, const fkv_how *how, fkv_file **out);
+
+/* Closes the file, behind fkv_stop. What no commit has kept is lost. 0; -FKV_HANDLE_OUT while a session is joined, and then it stays open. */
+int32_t fkv_close_file(fkv_file *file);
+
+/* The store's shape. */
+fkv_shape fkv_shape_of(const fkv_file *file);
+
+/* The number of the last finished commit, 0 in a new store, and the last serial of each session that it keeps: see fkv_open. */
+uint64_t fkv_last_commit(fkv_file *file, uint64_t points[FKV_MOST_SESSIONS]);
+
+/* ---- Sessions ------------------------------------------------------------------------------------------------------------- */
+
+/* In place of a session's number: any that nobody has. */
+#define FKV_ANY_SESSION UINT64_MAX
+
+/*
+ * Gives the caller session `number`, from 0, awake, until fkv_leave. A session's serials go on where the last life's last commit
+ * left them.
+ * 0; -FKV_NO_SESSION (of FKV_ANY_SESSION: none is left), -FKV_HANDLE_TAKEN.
+ */
+int32_t fkv_join(fkv_file *file, uint64_t number, fkv_session **out);
+
+/* Takes it back, asleep. 0; -FKV_PENDING_LEFT: fkv_settle comes first. */
+int32_t fkv_leave(fkv_file *file, fkv_session *session);
+
+/*
+ * Takes it back with what is pending, which is lost. Nobody gets this session again, and no commit finishes any more: for who closes
+ * a store whose keeper can't go on.
+ */
+void fkv_abandon(fkv_file *file, fkv_session *session);
+
+/*
+ * Refreshes and polls a session until none of its requests is pending, and tells each that is finished; `told` may be NULL. It wants
+ * the keeper's thread.
+ * 0; -FKV_ASLEEP; the fault of the keeper's thread where that can't go on (fkv_keeper_fault); -FKV_BROKEN where it doesn't run.
+ */
+int32_t fkv_settle(fkv_file *file, fkv_session *session, fkv_finished_fn *told, void *user);
+
+/*
+ * Reads a key, and waits where it lies in the file alone: FKV_FOUND (`*value`) or FKV_NONE. It settles the session then, so what else
+ * of its requests was pending is finished, and isn't told. The refusals are those of fkv_get and fkv_settle.
+ */
+int32_t fkv_read(fkv_file *file, fkv_session *session, uint64_t key, uint64_t *value);
+
+/* ---- The keeper's thread -------------------------------------------------------------------------------------------------- */
+
+/* How the keeper's thread goes. All zeros: it commits on request alone. */
+typedef struct {
+    uint32_t commit_ms;          /* a commit each so many milliseconds, unless no session was joined since the last; 0: on request alone */
+    uint32_t log_commits;        /* so many log commits between two full ones; 0: each is full */
+    uint32_t turn_us;            /* microseconds between two turns when nothing is to be done; 0: 500 */
+    fkv_committed_fn *committed; /* called behind each finished commit, or NULL */
+    fkv_progress_fn *progress;   /* called as a commit begins and behind each of its calls of the file, or NULL */
+    void *user;                  /* handed to both. They are called in the keeper's thread: make them short, and call no fkv_file there */
+} fkv_keeping;
+
+/* Starts the keeper's thread. 0; -FKV_HANDLE_TAKEN where it runs already, -FKV_DEVICE (errno) where the system starts none. */
+int32_t fkv_start(fkv_file *file, const fkv_keeping *keeping);
+
+/*
+ * Ends the keeper's thread, behind a last commit if `with_commit` isn't 0. Nothing is committed behind it, until the next fkv_start.
+ * 0; the fault of the last commit. Sessions that are joined have to refresh meanwhile, as for each commit.
+ */
+int32_t fkv_stop(fkv_file *file, uint32_t with_commit);
+
+/* Asks for a commit that begins from now on, and tells the ticket by which fkv_wait_commit waits for it. 0; -FKV_BROKEN: no thread runs. */
+int32_t fkv_ask_commit(fkv_file *file, uint64_t *ticket);
+
+/*
+ * Waits until that commit is finished: what sessions had done when it was asked for survives a crash. `session` is that of the calling
+ * thread, which sleeps meanwhile, so that the commit doesn't wait for its refresh; NULL if it has none, or its session sleeps.
+ * 0; -FKV_PENDING_LEFT: fkv_settle comes first; the fault of the commit; -FKV_BROKEN where no thread runs any more.
+ */
+int32_t fkv_wait_commit(fkv_file *file, uint64_t ticket, fkv_session *session);
+
+/* Asks the keeper for its next turn at once: for who waits for a pending request. fkv_settle and fkv_read do so. */
+void fkv_nudge(fkv_file *file);
+
+/*
+ * Why the keeper's thread has no turns or no commits any more, 0 while it has: -FKV_DEVICE where a call of the file has failed,
+ * -FKV_VERSIONS_SPENT, -FKV_EPOCHS_SPENT. Close the file and open it anew; a store whose commits are spent stays readable.
+ */
+int32_t fkv_keeper_fault(fkv_file *file);
+
+/* ---- For who runs the keeper without a thread of this library --------------------------------------------------------------- */
+
+/*
+ * Makes the call that a turn has posted, over a descriptor: `call` is what fkv_turn or fkv_told has answered. A read goes into `into`.
+ * 0, or -1 where it has failed, with errno.
+ */
+int fkv_call_file(int fd, int32_t call, const fkv_turned *turned, uint8_t into[FKV_READ_SIZE]);
+
+/* A whole turn over a descriptor: FKV_OVER or a refusal, as fkv_turn. `*written`, if it isn't NULL, grows by the bytes that were written. */
+int32_t fkv_turn_file(int fd, fkv_keeper *keeper, fkv_turned *turned, uint64_t *points, size_t room, uint64_t *written);
+
+#ifdef __cplusplus
+}
+#endif
+
+#endif

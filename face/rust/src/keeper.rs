@@ -1,0 +1,162 @@
+//! The keeper's thread.
+use crate::errors::{Error, answer};
+use crate::raw;
+use crate::session::Session;
+use crate::store::{OpenFile, Progress};
+use std::ffi::c_void;
+use std::ptr;
+use std::slice;
+use std::sync::Arc;
+use std::time::Duration;
+
+type TellCommitted = Box<dyn FnMut(u64, &[u64]) + Send>;
+type TellProgress = Box<dyn FnMut(Progress) + Send>;
+
+/// How the keeper's thread goes. By default it commits on request alone.
+#[derive(Default)]
+pub struct Keeping {
+    commit_each: Duration,
+    turn_each: Duration,
+    log_commits: u32,
+    hooks: Hooks,
+}
+
+/// What is called in the keeper's thread.
+#[derive(Default)]
+struct Hooks {
+    committed: Option<TellCommitted>,
+    progress: Option<TellProgress>,
+}
+
+impl Keeping {
+    /// Commits each so long, in whole milliseconds, unless no session was out since the last commit. A store takes 8,190 commits.
+    pub fn commit_each(mut self, time: Duration) -> Keeping {
+        self.commit_each = time;
+        self
+    }
+
+    /// Makes so many log commits between two full ones: these are shorter, and the next opening is longer.
+    pub fn log_commits(mut self, count: u32) -> Keeping {
+        self.log_commits = count;
+        self
+    }
+
+    /// Rests so long between two turns when nothing is to be done, in whole microseconds; by default 500.
+    pub fn turn_each(mut self, time: Duration) -> Keeping {
+        self.turn_each = time;
+        self
+    }
+
+    /// This is called behind each finished commit, in the keeper's thread, with its number, and the last serial of each session that it
+    /// keeps. It has to be short, and to ask for no commit.
+    pub fn committed(mut self, tell: impl FnMut(u64, &[u64]) + Send + 'static) -> Keeping {
+        self.hooks.committed = Some(Box::new(tell));
+        self
+    }
+
+    /// This is called as a commit begins, and behind each of its calls of the file, in the keeper's thread.
+    pub fn progress(mut self, tell: impl FnMut(Progress) + Send + 'static) -> Keeping {
+        self.hooks.progress = Some(Box::new(tell));
+        self
+    }
+}
+
+/// The hooks that the keeper's thread was started with. No other thread has them while it runs.
+unsafe fn hooks_of<'a>(user: *mut c_void) -> &'a mut Hooks {
+    unsafe { &mut *user.cast::<Hooks>() }
+}
+
+extern "C" fn tell_committed(user: *mut c_void, number: u64, points: *const u64, sessions: usize) {
+    let (hooks, points) = unsafe { (hooks_of(user), slice::from_raw_parts(points, sessions)) };
+    if let Some(tell) = &mut hooks.committed {
+        tell(number, points);
+    }
+}
+
+extern "C" fn tell_progress(user: *mut c_void, progress: *const raw::Progress) {
+    let (hooks, progress) = unsafe { (hooks_of(user), &*progress) };
+    if let Some(tell) = &mut hooks.progress {
+        tell(Progress::of_raw(progress));
+    }
+}
+
+fn whole(count: u128) -> u32 {
+    u32::try_from(count).unwrap_or(u32::MAX)
+}
+
+/// A commit that was asked for.
+#[derive(Clone, Copy, Debug, PartialEq, Eq, PartialOrd, Ord)]
+pub struct Ticket(u64);
+
+/// The thread that writes the log, reads back what lies in the file alone, and carries commits on. It ends as this is dropped, and makes
+/// no last commit then: [`Keeper::stop`] does.
+pub struct Keeper {
+    file: Arc<OpenFile>,
+    hooks: *mut Hooks,
+}
+
+// Its calls may be made by any thread. The hooks are the keeper's thread's alone, until that has ended.
+unsafe impl Send for Keeper {}
+unsafe impl Sync for Keeper {}
+
+impl Keeper {
+    pub(crate) fn start(file: Arc<OpenFile>, keeping: Keeping) -> Result<Keeper, Error> {
+        let hooks = Box::into_raw(Box::new(keeping.hooks));
+        let its = raw::Keeping {
+            commit_ms: whole(keeping.commit_each.as_millis()),
+            log_commits: keeping.log_commits,
+            turn_us: whole(keeping.turn_each.as_micros()),
+            committed: Some(tell_committed),
+            progress: Some(tell_progress),
+            user: hooks.cast(),
+        };
+        let result = answer(unsafe { raw::fkv_start(file.at, &its) });
+        if let Err(why) = result {
+            // No thread has them.
+            drop(unsafe { Box::from_raw(hooks) });
+            return Err(why);
+        }
+        Ok(Keeper { file, hooks })
+    }
+
+    /// Asks for a commit that begins from now on. It is refused by the fault of the thread, if it has one.
+    pub fn ask_commit(&self) -> Result<Ticket, Error> {
+        let mut ticket = 0;
+        answer(unsafe { raw::fkv_ask_commit(self.file.at, &mut ticket) })?;
+        Ok(Ticket(ticket))
+    }
+
+    /// Waits until that commit is finished: what sessions had done when it was asked for survives a crash. `session` is the calling
+    /// thread's, if it has one that is awake, and sleeps meanwhile. `PendingLeft`: settle it first; or the fault of the commit.
+    pub fn wait(&self, ticket: Ticket, session: Option<&mut Session>) -> Result<(), Error> {
+        let session = session.map_or(ptr::null_mut(), Session::handle);
+        answer(unsafe { raw::fkv_wait_commit(self.file.at, ticket.0, session) })?;
+        Ok(())
+    }
+
+    /// Asks for the next turn at once: for who polls by himself.
+    pub fn nudge(&self) {
+        unsafe { raw::fkv_nudge(self.file.at) };
+    }
+
+    /// Why there are no turns or no commits any more, if so.
+    pub fn fault(&self) -> Option<Error> {
+        answer(unsafe { raw::fkv_keeper_fault(self.file.at) }).err()
+    }
+
+    /// Ends the thread behind a last commit, and tells how that has gone. Sessions that are out have to refresh or sleep meanwhile.
+    pub fn stop(self) -> Result<(), Error> {
+        answer(unsafe { raw::fkv_stop(self.file.at, 1) })?;
+        Ok(())
+    }
+}
+
+impl Drop for Keeper {
+    fn drop(&mut self) {
+        unsafe {
+            raw::fkv_stop(self.file.at, 0);
+            // The thread has ended.
+            drop(Box::from_raw(self.hooks));
+        }
+    }
+}

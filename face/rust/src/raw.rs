@@ -1,0 +1,138 @@
+//! The calls of fkv.h and fkv_posix.h, as C declares them.
+use std::ffi::{c_char, c_void};
+
+#[repr(C)]
+#[derive(Clone, Copy, Default)]
+pub struct Shape {
+    pub bucket_bits: u64,
+    pub page: u64,
+    pub frames: u64,
+    pub mutable_pages: u64,
+    pub sessions: u64,
+    pub overflow: u64,
+    pub disk_pages: u64,
+}
+
+#[repr(C)]
+#[derive(Default)]
+pub struct Opened {
+    pub number: u64,
+    pub damage: u64,
+    pub damaged_at: u64,
+}
+
+#[repr(C)]
+#[derive(Default)]
+pub struct Update {
+    pub serial: u64,
+    pub value: u64,
+    pub reason: u64,
+}
+
+#[repr(C)]
+#[derive(Clone, Copy, Default)]
+pub struct Finished {
+    pub kind: u64,
+    pub name: u64,
+    pub value: u64,
+}
+
+#[repr(C)]
+#[derive(Default)]
+pub struct Seen {
+    pub phase: u64,
+    pub version: u64,
+}
+
+#[repr(C)]
+pub struct Progress {
+    pub work: u32,
+    pub done: u64,
+    pub total: u64,
+}
+
+/// One word, which C fills and reads.
+#[repr(C)]
+pub struct Session {
+    _at: *mut c_void,
+}
+
+/// An open store in a file. C alone knows what it has.
+#[repr(C)]
+pub struct File {
+    _private: [u8; 0],
+}
+
+pub type TellProgress = extern "C" fn(*mut c_void, *const Progress);
+pub type TellCommitted = extern "C" fn(*mut c_void, u64, *const u64, usize);
+pub type TellFinished = extern "C" fn(*mut c_void, *const Finished);
+
+#[repr(C)]
+pub struct How {
+    pub keys: u32,
+    pub mapped: u32,
+    pub progress: Option<TellProgress>,
+    pub user: *mut c_void,
+    pub opened: *mut Opened,
+}
+
+#[repr(C)]
+pub struct Keeping {
+    pub commit_ms: u32,
+    pub log_commits: u32,
+    pub turn_us: u32,
+    pub committed: Option<TellCommitted>,
+    pub progress: Option<TellProgress>,
+    pub user: *mut c_void,
+}
+
+pub const MOST_SESSIONS: usize = 32;
+pub const MOST_PENDING: usize = 64;
+pub const ANY_SESSION: u64 = u64::MAX;
+
+pub const FOUND: i32 = 1;
+pub const NONE: i32 = 2;
+pub const PENDING: i32 = 3;
+
+unsafe extern "C" {
+    pub fn fkv_name_of(result: i32) -> *const c_char;
+    pub fn fkv_get(session: *mut Session, key: u64, value: *mut u64) -> i32;
+    pub fn fkv_upsert(session: *mut Session, key: u64, value: u64, told: *mut Update) -> i32;
+    pub fn fkv_add(session: *mut Session, key: u64, number: u64, told: *mut Update) -> i32;
+    pub fn fkv_max(session: *mut Session, key: u64, number: u64, told: *mut Update) -> i32;
+    pub fn fkv_delete(session: *mut Session, key: u64, told: *mut Update) -> i32;
+    pub fn fkv_refresh(session: *mut Session, seen: *mut Seen) -> i32;
+    pub fn fkv_poll(
+        session: *mut Session,
+        into: *mut Finished,
+        room: usize,
+        count: *mut u64,
+    ) -> i32;
+    pub fn fkv_sleep(session: *mut Session) -> i32;
+    pub fn fkv_wake(session: *mut Session, seen: *mut Seen) -> i32;
+    pub fn fkv_durable(session: *mut Session, serial: *mut u64) -> i32;
+    pub fn fkv_spread(key: u64) -> u64;
+    pub fn fkv_spread_back(word: u64) -> u64;
+
+    pub fn fkv_make_file(path: *const c_char, shape: *const Shape) -> i32;
+    pub fn fkv_open_file(path: *const c_char, how: *const How, out: *mut *mut File) -> i32;
+    pub fn fkv_close_file(file: *mut File) -> i32;
+    pub fn fkv_shape_of(file: *const File) -> Shape;
+    pub fn fkv_last_commit(file: *mut File, points: *mut u64) -> u64;
+    pub fn fkv_join(file: *mut File, number: u64, out: *mut *mut Session) -> i32;
+    pub fn fkv_leave(file: *mut File, session: *mut Session) -> i32;
+    pub fn fkv_abandon(file: *mut File, session: *mut Session);
+    pub fn fkv_settle(
+        file: *mut File,
+        session: *mut Session,
+        told: Option<TellFinished>,
+        user: *mut c_void,
+    ) -> i32;
+    pub fn fkv_read(file: *mut File, session: *mut Session, key: u64, value: *mut u64) -> i32;
+    pub fn fkv_start(file: *mut File, keeping: *const Keeping) -> i32;
+    pub fn fkv_stop(file: *mut File, with_commit: u32) -> i32;
+    pub fn fkv_ask_commit(file: *mut File, ticket: *mut u64) -> i32;
+    pub fn fkv_wait_commit(file: *mut File, ticket: u64, session: *mut Session) -> i32;
+    pub fn fkv_nudge(file: *mut File);
+    pub fn fkv_keeper_fault(file: *mut File) -> i32;
+}

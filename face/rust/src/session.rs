@@ -1,0 +1,319 @@
+//! A session: what reads and updates a store.
+use crate::errors::{Error, answer};
+use crate::raw;
+use crate::store::OpenFile;
+use std::ffi::c_void;
+use std::ptr;
+use std::sync::Arc;
+
+/// What a read has come to.
+#[derive(Clone, Copy, Debug, PartialEq, Eq)]
+pub enum Read {
+    /// The key has this value.
+    Found(u64),
+    /// The key has no value.
+    Absent,
+    /// The record lies in the file alone: a later poll tells of this ticket.
+    Pending(ReadTicket),
+}
+
+/// The name of a read that is pending.
+#[derive(Clone, Copy, Debug, PartialEq, Eq)]
+pub struct ReadTicket(pub u64);
+
+/// What an update has come to. Its serial says whether a commit keeps it: [`Session::durable`].
+#[derive(Clone, Copy, Debug, PartialEq, Eq)]
+pub enum Update {
+    /// It is done. An add or a max has left this value; of the others it is 0.
+    Done {
+        /// Its serial.
+        serial: u64,
+        /// What an add or a max has left.
+        value: u64,
+    },
+    /// It is accepted, and takes effect at a later poll.
+    Pending {
+        /// Its serial.
+        serial: u64,
+        /// Why it waits.
+        reason: Reason,
+    },
+}
+
+impl Update {
+    /// Its serial: the session's updates count from 1, in all of the store's life.
+    pub fn serial(self) -> u64 {
+        match self {
+            Update::Done { serial, .. } | Update::Pending { serial, .. } => serial,
+        }
+    }
+}
+
+/// Why an update is pending.
+#[derive(Clone, Copy, Debug, PartialEq, Eq)]
+pub enum Reason {
+    /// Its record is about to become read-only.
+    Fuzzy,
+    /// Its record may lie in the file alone.
+    Disk,
+    /// A commit holds its bucket.
+    Latch,
+    /// Another session was quicker.
+    Contended,
+    /// The next page isn't open yet: the keeper is behind.
+    NoRoom,
+    /// The index or the log is full.
+    Full,
+}
+
+impl Reason {
+    fn of(number: u64) -> Reason {
+        match number {
+            1 => Reason::Fuzzy,
+            2 => Reason::Disk,
+            3 => Reason::Latch,
+            4 => Reason::Contended,
+            5 => Reason::NoRoom,
+            _ => Reason::Full,
+        }
+    }
+}
+
+/// A request that was pending and is finished.
+#[derive(Clone, Copy, Debug, PartialEq, Eq)]
+pub enum Finished {
+    /// An update.
+    Updated {
+        /// Its serial.
+        serial: u64,
+        /// What an add or a max has left.
+        value: u64,
+    },
+    /// A read.
+    Read {
+        /// Its name.
+        ticket: ReadTicket,
+        /// What it has found.
+        value: Option<u64>,
+    },
+}
+
+impl Finished {
+    fn of_raw(its: &raw::Finished) -> Finished {
+        match its.kind {
+            0 => Finished::Updated {
+                serial: its.name,
+                value: its.value,
+            },
+            1 => Finished::Read {
+                ticket: ReadTicket(its.name),
+                value: Some(its.value),
+            },
+            _ => Finished::Read {
+                ticket: ReadTicket(its.name),
+                value: None,
+            },
+        }
+    }
+}
+
+/// How far a commit has come.
+#[derive(Clone, Copy, Debug, PartialEq, Eq)]
+pub enum Phase {
+    /// No commit runs.
+    Rest,
+    /// Sessions hear of it.
+    Prepare,
+    /// Sessions go over to the next version.
+    InProgress,
+    /// It waits for pending requests of the version before.
+    WaitPending,
+    /// It is written.
+    WaitFlush,
+}
+
+/// How far the store has come, as a session sees it.
+#[derive(Clone, Copy, Debug, PartialEq, Eq)]
+pub struct Seen {
+    /// The phase of the commit in hand.
+    pub phase: Phase,
+    /// The commit in hand, or the one that comes next.
+    pub version: u64,
+}
+
+impl Seen {
+    fn of_raw(its: &raw::Seen) -> Seen {
+        let phase = match its.phase {
+            0 => Phase::Rest,
+            1 => Phase::Prepare,
+            2 => Phase::InProgress,
+            3 => Phase::WaitPending,
+            _ => Phase::WaitFlush,
+        };
+        Seen {
+            phase,
+            version: its.version,
+        }
+    }
+}
+
+extern "C" fn tell_finished(user: *mut c_void, finished: *const raw::Finished) {
+    // `settle` hands both out, and they live as long as its call.
+    let tell = unsafe { &mut *user.cast::<&mut dyn FnMut(Finished)>() };
+    tell(Finished::of_raw(unsafe { &*finished }));
+}
+
+/// A session. It may go to another thread, and two threads can't use it at once.
+///
+/// While it is awake, refresh it every 64 calls or so: nothing of the store moves on past it. Let it sleep before its thread blocks. As
+/// it is dropped it settles and leaves. Where no keeper can finish its requests any more these are lost, and nobody gets it again.
+pub struct Session {
+    file: Arc<OpenFile>,
+    at: *mut raw::Session,
+}
+
+// The handle may move to any thread. The pointer keeps it from being shared by two.
+unsafe impl Send for Session {}
+
+impl Session {
+    pub(crate) fn new(file: Arc<OpenFile>, at: *mut raw::Session) -> Session {
+        Session { file, at }
+    }
+
+    /// Reads a key. `Asleep`, `PendingFull`.
+    pub fn get(&mut self, key: u64) -> Result<Read, Error> {
+        let mut value = 0;
+        let told = answer(unsafe { raw::fkv_get(self.at, key, &mut value) })?;
+        Ok(match told {
+            raw::FOUND => Read::Found(value),
+            raw::NONE => Read::Absent,
+            _ => Read::Pending(ReadTicket(value)),
+        })
+    }
+
+    /// Reads a key, and waits where it lies in the file alone. Then the session settles, and what else was pending isn't told. Refused as
+    /// [`Session::get`] and [`Session::settle`] are.
+    pub fn read(&mut self, key: u64) -> Result<Option<u64>, Error> {
+        let mut value = 0;
+        let told = answer(unsafe { raw::fkv_read(self.file.at, self.at, key, &mut value) })?;
+        Ok(if told == raw::FOUND {
+            Some(value)
+        } else {
+            None
+        })
+    }
+
+    fn update(
+        &mut self,
+        call: impl FnOnce(*mut raw::Session, *mut raw::Update) -> i32,
+    ) -> Result<Update, Error> {
+        let mut its = raw::Update::default();
+        let told = answer(call(self.at, &mut its))?;
+        Ok(match told {
+            raw::PENDING => Update::Pending {
+                serial: its.serial,
+                reason: Reason::of(its.reason),
+            },
+            _ => Update::Done {
+                serial: its.serial,
+                value: its.value,
+            },
+        })
+    }
+
+    /// Gives the key this value, 0 to 2^64 - 2. `Asleep`, `ValueReserved`, `PendingFull`, `SerialsSpent`, `IndexFull`, `LogFull`, as all
+    /// updates.
+    pub fn upsert(&mut self, key: u64, value: u64) -> Result<Update, Error> {
+        self.update(|at, told| unsafe { raw::fkv_upsert(at, key, value, told) })
+    }
+
+    /// Adds to the key's value, up to 2^64 - 2. A key without a value gets the number.
+    pub fn add(&mut self, key: u64, number: u64) -> Result<Update, Error> {
+        self.update(|at, told| unsafe { raw::fkv_add(at, key, number, told) })
+    }
+
+    /// Raises the key's value to the number. A key without a value gets it.
+    pub fn max(&mut self, key: u64, number: u64) -> Result<Update, Error> {
+        self.update(|at, told| unsafe { raw::fkv_max(at, key, number, told) })
+    }
+
+    /// Takes the key's value away.
+    pub fn delete(&mut self, key: u64) -> Result<Update, Error> {
+        self.update(|at, told| unsafe { raw::fkv_delete(at, key, told) })
+    }
+
+    /// Sees how far the store has come, and takes up a commit. `Asleep`.
+    pub fn refresh(&mut self) -> Result<Seen, Error> {
+        let mut seen = raw::Seen::default();
+        answer(unsafe { raw::fkv_refresh(self.at, &mut seen) })?;
+        Ok(Seen::of_raw(&seen))
+    }
+
+    /// Tries pending requests once more, tells those that are finished, and says how many are left. `Asleep`.
+    pub fn poll(&mut self, mut tell: impl FnMut(Finished)) -> Result<usize, Error> {
+        let mut into = [raw::Finished::default(); raw::MOST_PENDING];
+        let mut count = 0;
+        let left =
+            answer(unsafe { raw::fkv_poll(self.at, into.as_mut_ptr(), into.len(), &mut count) })?;
+        into[..count as usize]
+            .iter()
+            .for_each(|it| tell(Finished::of_raw(it)));
+        Ok(left as usize)
+    }
+
+    /// Refreshes and polls until nothing is pending, and tells what is finished. It wants a keeper: `Broken` where none runs, and the
+    /// keeper's fault where that can't go on. `Asleep`.
+    pub fn settle(&mut self, mut tell: impl FnMut(Finished)) -> Result<(), Error> {
+        let mut tell: &mut dyn FnMut(Finished) = &mut tell;
+        let user = ptr::from_mut(&mut tell).cast();
+        answer(unsafe { raw::fkv_settle(self.file.at, self.at, Some(tell_finished), user) })?;
+        Ok(())
+    }
+
+    /// Leaves, so that nobody waits for it: before its thread blocks. `Asleep`, `PendingLeft`.
+    pub fn sleep(&mut self) -> Result<(), Error> {
+        answer(unsafe { raw::fkv_sleep(self.at) })?;
+        Ok(())
+    }
+
+    /// Comes back. `Awake`.
+    pub fn wake(&mut self) -> Result<Seen, Error> {
+        let mut seen = raw::Seen::default();
+        answer(unsafe { raw::fkv_wake(self.at, &mut seen) })?;
+        Ok(Seen::of_raw(&seen))
+    }
+
+    /// The serial up to which its updates are in a finished commit: a crash from now on keeps them. `Asleep`.
+    pub fn durable(&mut self) -> Result<u64, Error> {
+        let mut serial = 0;
+        answer(unsafe { raw::fkv_durable(self.at, &mut serial) })?;
+        Ok(serial)
+    }
+
+    /// Settles, asks for a commit, and sleeps until it is finished: a crash from then on keeps all that it has done. What was pending
+    /// isn't told. Refused as [`Session::settle`], and by the fault of the commit.
+    pub fn commit(&mut self) -> Result<(), Error> {
+        let mut ticket = 0;
+        self.settle(|_| {})?;
+        answer(unsafe { raw::fkv_ask_commit(self.file.at, &mut ticket) })?;
+        answer(unsafe { raw::fkv_wait_commit(self.file.at, ticket, self.at) })?;
+        Ok(())
+    }
+
+    /// The handle, for a commit that it waits for.
+    pub(crate) fn handle(&mut self) -> *mut raw::Session {
+        self.at
+    }
+}
+
+impl Drop for Session {
+    fn drop(&mut self) {
+        unsafe {
+            // One that sleeps has nothing pending.
+            raw::fkv_settle(self.file.at, self.at, None, ptr::null_mut());
+            if raw::fkv_leave(self.file.at, self.at) < 0 {
+                raw::fkv_abandon(self.file.at, self.at);
+            }
+        }
+    }
+}

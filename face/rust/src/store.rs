@@ -1,0 +1,271 @@
+//! A store in a file.
+use crate::errors::{Error, answer};
+use crate::keeper::{Keeper, Keeping};
+use crate::raw;
+use crate::session::Session;
+use std::ffi::{CString, c_void};
+use std::os::unix::ffi::OsStrExt;
+use std::path::Path;
+use std::sync::Arc;
+use std::{io, ptr};
+
+/// How large a store is. A store is small if no size is above the first limit, and large otherwise.
+#[derive(Clone, Copy, Debug, PartialEq, Eq)]
+pub struct Shape {
+    /// The index has 2^bucket_bits buckets of seven entries: 0 to 10, of a large store to 24.
+    pub bucket_bits: u64,
+    /// Records in a page: a power of two from 4 to 1,024, of a large store to 65,536.
+    pub page: u64,
+    /// Pages in memory: a power of two from 2 to 64, of a large store to 4,096.
+    pub frames: u64,
+    /// Pages whose records are updated in place: 1 to frames - 1.
+    pub mutable_pages: u64,
+    /// Sessions: 1 to 32.
+    pub sessions: u64,
+    /// Buckets that full ones overflow to: 0 to 1,024, of a large store to 2^24.
+    pub overflow: u64,
+    /// Pages that the log may have in the file: 1 to 65,536, of a large store to 2^30.
+    pub disk_pages: u64,
+}
+
+impl Shape {
+    fn to_raw(self) -> raw::Shape {
+        let Shape {
+            bucket_bits,
+            page,
+            frames,
+            mutable_pages,
+            sessions,
+            overflow,
+            disk_pages,
+        } = self;
+        raw::Shape {
+            bucket_bits,
+            page,
+            frames,
+            mutable_pages,
+            sessions,
+            overflow,
+            disk_pages,
+        }
+    }
+
+    fn of_raw(its: raw::Shape) -> Shape {
+        let raw::Shape {
+            bucket_bits,
+            page,
+            frames,
+            mutable_pages,
+            sessions,
+            overflow,
+            disk_pages,
+        } = its;
+        Shape {
+            bucket_bits,
+            page,
+            frames,
+            mutable_pages,
+            sessions,
+            overflow,
+            disk_pages,
+        }
+    }
+}
+
+/// A finished commit.
+#[derive(Clone, Debug, PartialEq, Eq)]
+pub struct Commit {
+    /// Its number; 0 in a new store.
+    pub number: u64,
+    /// The last serial of each session that it keeps.
+    pub points: Vec<u64>,
+}
+
+/// What work is told of.
+#[derive(Clone, Copy, Debug, PartialEq, Eq)]
+pub enum Work {
+    /// The file is read.
+    Opening,
+    /// A commit is written.
+    Committing,
+}
+
+/// How far long work has come.
+#[derive(Clone, Copy, Debug, PartialEq, Eq)]
+pub struct Progress {
+    /// Which work it is.
+    pub work: Work,
+    /// Bytes that were read, or written since the commit began.
+    pub done: u64,
+    /// Bytes of the file. None of a commit, since nobody knows how many it takes.
+    pub total: Option<u64>,
+}
+
+impl Progress {
+    /// What C tells.
+    pub(crate) fn of_raw(its: &raw::Progress) -> Progress {
+        match its.work {
+            0 => Progress {
+                work: Work::Opening,
+                done: its.done,
+                total: Some(its.total),
+            },
+            _ => Progress {
+                work: Work::Committing,
+                done: its.done,
+                total: None,
+            },
+        }
+    }
+}
+
+/// How a store is opened. The default is the usual way.
+#[derive(Default)]
+pub struct How<'a> {
+    is_spread: bool,
+    is_mapped: bool,
+    progress: Option<&'a mut dyn FnMut(Progress)>,
+}
+
+impl<'a> How<'a> {
+    /// Keys are taken as they are, without being spread: for keys that are hashes, or random. The index goes by their low bits. Say the
+    /// same at each opening: a store that is opened the other way finds none of its keys, and nothing tells so.
+    pub fn keys_are_spread(mut self) -> How<'a> {
+        self.is_spread = true;
+        self
+    }
+
+    /// The file is mapped and not read, for one that memory can't hold. A bad disk then kills the process.
+    pub fn mapped(mut self) -> How<'a> {
+        self.is_mapped = true;
+        self
+    }
+
+    /// This is called while the file is read.
+    pub fn progress(mut self, tell: &'a mut dyn FnMut(Progress)) -> How<'a> {
+        self.progress = Some(tell);
+        self
+    }
+}
+
+extern "C" fn tell_opening(user: *mut c_void, progress: *const raw::Progress) {
+    // `open_with` hands both out, and they live as long as its call.
+    let tell = unsafe { &mut *user.cast::<&mut dyn FnMut(Progress)>() };
+    tell(Progress::of_raw(unsafe { &*progress }));
+}
+
+/// The open file, which the last of those that share it closes.
+pub(crate) struct OpenFile {
+    pub(crate) at: *mut raw::File,
+}
+
+// The calls that take a file may be made by any thread.
+unsafe impl Send for OpenFile {}
+unsafe impl Sync for OpenFile {}
+
+impl Drop for OpenFile {
+    fn drop(&mut self) {
+        // Sessions share it, so none is out.
+        unsafe { raw::fkv_close_file(self.at) };
+    }
+}
+
+/// A store in a file that this process alone has open. Clones are the same store.
+#[derive(Clone)]
+pub struct Store {
+    file: Arc<OpenFile>,
+}
+
+fn path_for_c(path: &Path) -> Result<CString, Error> {
+    CString::new(path.as_os_str().as_bytes())
+        .map_err(|_| Error::Device(io::ErrorKind::InvalidInput.into()))
+}
+
+impl Store {
+    /// Makes the file of a new store of this shape, which isn't open behind the call. A crash leaves the whole file, or none of this name.
+    ///
+    /// `BadShape`, `Memory`, or `Device`: with `AlreadyExists` there is a file of this name, and it stays as it is.
+    pub fn make(path: impl AsRef<Path>, shape: &Shape) -> Result<(), Error> {
+        let path = path_for_c(path.as_ref())?;
+        answer(unsafe { raw::fkv_make_file(path.as_ptr(), &shape.to_raw()) })?;
+        Ok(())
+    }
+
+    /// Opens the store in this file, in the usual way.
+    ///
+    /// `NotAStore`, `Damaged`, `Memory`, or `Device`: with `WouldBlock` another process has it open.
+    pub fn open(path: impl AsRef<Path>) -> Result<Store, Error> {
+        Store::open_with(path, How::default())
+    }
+
+    /// Opens the store in this file. No commit is made before [`Store::start`].
+    pub fn open_with(path: impl AsRef<Path>, mut how: How<'_>) -> Result<Store, Error> {
+        let path = path_for_c(path.as_ref())?;
+        let mut opened = raw::Opened::default();
+        let mut at = ptr::null_mut();
+        let user: *mut c_void = match &mut how.progress {
+            Some(tell) => ptr::from_mut(tell).cast(),
+            None => ptr::null_mut(),
+        };
+        let its = raw::How {
+            keys: u32::from(how.is_spread),
+            mapped: u32::from(how.is_mapped),
+            progress: if user.is_null() {
+                None
+            } else {
+                Some(tell_opening)
+            },
+            user,
+            opened: &mut opened,
+        };
+        let result = unsafe { raw::fkv_open_file(path.as_ptr(), &its, &mut at) };
+        if result < 0 {
+            return Err(Error::of(result, &opened));
+        }
+        Ok(Store {
+            file: Arc::new(OpenFile { at }),
+        })
+    }
+
+    /// The store's shape.
+    pub fn shape(&self) -> Shape {
+        Shape::of_raw(unsafe { raw::fkv_shape_of(self.file.at) })
+    }
+
+    /// The last finished commit.
+    pub fn last_commit(&self) -> Commit {
+        let mut points = [0; raw::MOST_SESSIONS];
+        let number = unsafe { raw::fkv_last_commit(self.file.at, points.as_mut_ptr()) };
+        Commit {
+            number,
+            points: points[..self.shape().sessions as usize].to_vec(),
+        }
+    }
+
+    /// Session `number`, from 0, awake, until it is dropped. `NoSession`; `HandleTaken` where it is out.
+    pub fn join(&self, number: u64) -> Result<Session, Error> {
+        let mut at = ptr::null_mut();
+        answer(unsafe { raw::fkv_join(self.file.at, number, &mut at) })?;
+        Ok(Session::new(Arc::clone(&self.file), at))
+    }
+
+    /// Any session that is free. `NoSession` where none is.
+    pub fn join_any(&self) -> Result<Session, Error> {
+        self.join(raw::ANY_SESSION)
+    }
+
+    /// Starts the keeper's thread. `HandleTaken` where it runs already; `Device` where the system starts none.
+    pub fn start(&self, keeping: Keeping) -> Result<Keeper, Error> {
+        Keeper::start(Arc::clone(&self.file), keeping)
+    }
+}
+
+/// The word under which a key lies in a store that spreads its keys.
+pub fn spread(key: u64) -> u64 {
+    unsafe { raw::fkv_spread(key) }
+}
+
+/// The key that lies under such a word.
+pub fn spread_back(word: u64) -> u64 {
+    unsafe { raw::fkv_spread_back(word) }
+}
