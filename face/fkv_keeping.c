@@ -199,7 +199,7 @@ int32_t fkv_start(fkv_file *file, const fkv_keeping *keeping) {
 }
 
 int32_t fkv_stop(fkv_file *file, uint32_t with_commit) {
-    uint64_t ticket;
+    uint64_t ticket = 0;
     int32_t result = 0;
     if (with_commit) {
         result = fkv_ask_commit(file, &ticket);
@@ -312,4 +312,13 @@ int32_t fkv_read(fkv_file *file, fkv_session *session, uint64_t key, uint64_t *v
     if (result < 0) return result;
     *value = awaited.found.value;
     return awaited.found.kind == FKV_READ_FOUND ? FKV_FOUND : FKV_NONE;
+}
+
+int32_t fkv_commit_and_wait(fkv_file *file, fkv_session *session) {
+    uint64_t ticket = 0;
+    int32_t result = session ? fkv_settle(file, session, NULL, NULL) : 0;
+    /* A session that sleeps has nothing pending. */
+    if (result < 0 && result != -FKV_ASLEEP) return result;
+    result = fkv_ask_commit(file, &ticket);
+    return result < 0 ? result : fkv_wait_commit(file, ticket, session);
 }

@@ -144,6 +144,12 @@ int32_t fkv_ask_commit(fkv_file *file, uint64_t *ticket);
  */
 int32_t fkv_wait_commit(fkv_file *file, uint64_t ticket, fkv_session *session);
 
+/*
+ * Settles the session, asks for a commit, and waits until it is finished: all that the session has done survives a crash. What was
+ * pending isn't told. `session` may be NULL. The refusals are those of fkv_settle, fkv_ask_commit and fkv_wait_commit.
+ */
+int32_t fkv_commit_and_wait(fkv_file *file, fkv_session *session);
+
 /* Asks the keeper for its next turn at once: for who waits for a pending request. fkv_settle and fkv_read do so. */
 void fkv_nudge(fkv_file *file);
 

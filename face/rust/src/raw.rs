@@ -133,6 +133,7 @@ unsafe extern "C" {
     pub fn fkv_stop(file: *mut File, with_commit: u32) -> i32;
     pub fn fkv_ask_commit(file: *mut File, ticket: *mut u64) -> i32;
     pub fn fkv_wait_commit(file: *mut File, ticket: u64, session: *mut Session) -> i32;
+    pub fn fkv_commit_and_wait(file: *mut File, session: *mut Session) -> i32;
     pub fn fkv_nudge(file: *mut File);
     pub fn fkv_keeper_fault(file: *mut File) -> i32;
 }

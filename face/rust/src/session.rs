@@ -293,10 +293,7 @@ impl Session {
     /// Settles, asks for a commit, and sleeps until it is finished: a crash from then on keeps all that it has done. What was pending
     /// isn't told. Refused as [`Session::settle`], and by the fault of the commit.
     pub fn commit(&mut self) -> Result<(), Error> {
-        let mut ticket = 0;
-        self.settle(|_| {})?;
-        answer(unsafe { raw::fkv_ask_commit(self.file.at, &mut ticket) })?;
-        answer(unsafe { raw::fkv_wait_commit(self.file.at, ticket, self.at) })?;
+        answer(unsafe { raw::fkv_commit_and_wait(self.file.at, self.at) })?;
         Ok(())
     }
 

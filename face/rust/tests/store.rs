@@ -1,0 +1,238 @@
+//! The crate over real files: each call once, and what it refuses.
+use fkv::{
+    Error, Finished, How, Keeping, Phase, Read, Shape, Store, Update, Work, spread, spread_back,
+};
+use std::io::ErrorKind;
+use std::path::PathBuf;
+use std::sync::atomic::{AtomicU64, Ordering};
+use std::sync::{Arc, mpsc};
+use std::time::Duration;
+use std::{env, fs, process, thread};
+
+const SHAPE: Shape = Shape {
+    bucket_bits: 8,
+    page: 16,
+    frames: 8,
+    mutable_pages: 4,
+    sessions: 3,
+    overflow: 64,
+    disk_pages: 4096,
+};
+
+/// A path of a test's own, at which no file is.
+struct Path(PathBuf);
+
+impl Path {
+    fn new(name: &str) -> Path {
+        let path = env::temp_dir().join(format!("fkv-{}-{name}", process::id()));
+        let _ = fs::remove_file(&path);
+        Path(path)
+    }
+
+    fn store(&self) -> Store {
+        Store::make(&self.0, &SHAPE).unwrap();
+        Store::open(&self.0).unwrap()
+    }
+}
+
+impl Drop for Path {
+    fn drop(&mut self) {
+        let _ = fs::remove_file(&self.0);
+    }
+}
+
+fn is_device(result: Result<impl Sized, Error>, kind: ErrorKind) -> bool {
+    matches!(result, Err(Error::Device(why)) if why.kind() == kind)
+}
+
+#[test]
+fn a_file_is_made_once_and_opened_by_one() {
+    let path = Path::new("made");
+    assert!(matches!(
+        Store::make(&path.0, &Shape { page: 5, ..SHAPE }),
+        Err(Error::BadShape)
+    ));
+    assert!(is_device(Store::open(&path.0), ErrorKind::NotFound));
+    let store = path.store();
+    assert!(is_device(
+        Store::make(&path.0, &SHAPE),
+        ErrorKind::AlreadyExists
+    ));
+    assert!(is_device(Store::open(&path.0), ErrorKind::WouldBlock));
+    assert_eq!(store.shape(), SHAPE);
+    assert_eq!(store.last_commit().number, 0);
+    let session = store.join(1).unwrap();
+    assert!(matches!(store.join(1), Err(Error::HandleTaken)));
+    assert!(matches!(store.join(3), Err(Error::NoSession)));
+    drop(session);
+    drop(store.join(1).unwrap());
+    drop(store);
+    fs::write(&path.0, "no store").unwrap();
+    assert!(matches!(Store::open(&path.0), Err(Error::NotAStore)));
+}
+
+#[test]
+fn calls_answer_as_a_map() {
+    let path = Path::new("calls");
+    let store = path.store();
+    let mut session = store.join_any().unwrap();
+    assert_eq!(session.get(7).unwrap(), Read::Absent);
+    assert_eq!(session.upsert(7, 10).unwrap().serial(), 1);
+    assert_eq!(
+        session.add(7, 5).unwrap(),
+        Update::Done {
+            serial: 2,
+            value: 15
+        }
+    );
+    assert_eq!(
+        session.max(7, 40).unwrap(),
+        Update::Done {
+            serial: 3,
+            value: 40
+        }
+    );
+    assert_eq!(session.get(7).unwrap(), Read::Found(40));
+    assert_eq!(session.delete(7).unwrap().serial(), 4);
+    assert_eq!(session.get(7).unwrap(), Read::Absent);
+    assert!(matches!(
+        session.upsert(7, u64::MAX),
+        Err(Error::ValueReserved)
+    ));
+    assert_eq!(session.refresh().unwrap().phase, Phase::Rest);
+    assert_eq!(session.poll(|_| {}).unwrap(), 0);
+    assert_eq!(session.durable().unwrap(), 0);
+    assert!(matches!(session.wake(), Err(Error::Awake)));
+    session.sleep().unwrap();
+    assert!(matches!(session.get(7), Err(Error::Asleep)));
+    session.wake().unwrap();
+    assert!(matches!(session.commit(), Err(Error::Broken)));
+}
+
+#[test]
+fn commits_are_there_in_the_next_life() {
+    let path = Path::new("commits");
+    let store = path.store();
+    let told = Arc::new(AtomicU64::new(0));
+    let (theirs, (send, receive)) = (Arc::clone(&told), mpsc::channel());
+    let keeping = Keeping::default()
+        .commit_each(Duration::from_millis(5))
+        .log_commits(2)
+        .turn_each(Duration::from_micros(200))
+        .committed(move |number, points| {
+            assert_eq!(points.len(), 3);
+            theirs.store(number, Ordering::SeqCst);
+        })
+        .progress(move |progress| {
+            assert_eq!((progress.work, progress.total), (Work::Committing, None));
+            let _ = send.send(progress.done);
+        });
+    let keeper = store.start(keeping).unwrap();
+    assert!(matches!(
+        store.start(Keeping::default()),
+        Err(Error::HandleTaken)
+    ));
+    thread::scope(|scope| {
+        for number in 0..3 {
+            let mut session = store.join(number).unwrap();
+            scope.spawn(move || {
+                for key in 0..3000 {
+                    while let Err(Error::PendingFull) = session.add(key, number + 1) {
+                        session.settle(|_| {}).unwrap();
+                    }
+                    if key % 16 == 0 {
+                        session.refresh().unwrap();
+                    }
+                }
+                session.settle(|_| {}).unwrap();
+            });
+        }
+    });
+    let mut session = store.join_any().unwrap();
+    for key in 0..3000 {
+        assert_eq!(session.read(key).unwrap(), Some(6));
+    }
+    session.commit().unwrap();
+    let ticket = keeper.ask_commit().unwrap();
+    keeper.nudge();
+    keeper.wait(ticket, Some(&mut session)).unwrap();
+    assert!(keeper.fault().is_none());
+    drop(session);
+    keeper.stop().unwrap();
+    let last = store.last_commit();
+    assert_eq!(
+        (last.number, last.points.iter().sum()),
+        (told.load(Ordering::SeqCst), 9000)
+    );
+    assert!(receive.try_iter().count() > 1);
+    drop(store);
+    let mut read = 0;
+    let mut note = |progress: fkv::Progress| read = progress.done;
+    let store = Store::open_with(&path.0, How::default().progress(&mut note)).unwrap();
+    assert_eq!(read, fs::metadata(&path.0).unwrap().len());
+    assert_eq!(store.last_commit(), last);
+    let _keeper = store.start(Keeping::default()).unwrap();
+    assert_eq!(store.join_any().unwrap().read(7).unwrap(), Some(6));
+}
+
+#[test]
+fn what_was_pending_is_told() {
+    let path = Path::new("pending");
+    let store = path.store();
+    let keeper = store.start(Keeping::default()).unwrap();
+    let mut session = store.join_any().unwrap();
+    for key in 0..3000 {
+        while let Err(Error::PendingFull) = session.upsert(key, key) {
+            session.settle(|_| {}).unwrap();
+        }
+        session.refresh().unwrap();
+    }
+    session.settle(|_| {}).unwrap();
+    let mut tickets = Vec::new();
+    for key in 0..64 {
+        match session.get(key).unwrap() {
+            Read::Found(value) => assert_eq!(value, key),
+            Read::Pending(ticket) => tickets.push((ticket, key)),
+            Read::Absent => panic!("key {key} is lost"),
+        }
+    }
+    let mut answers = Vec::new();
+    session
+        .settle(|finished| match finished {
+            Finished::Read { ticket, value } => answers.push((ticket, value.unwrap())),
+            Finished::Updated { .. } => panic!("no update is pending"),
+        })
+        .unwrap();
+    answers.sort_by_key(|answer| answer.0.0);
+    assert_eq!(answers, tickets);
+    drop(keeper);
+}
+
+#[test]
+fn keys_are_spread_one_to_one() {
+    let path = Path::new("keys");
+    drop(path.store());
+    for key in [0, 1, 1 << 20, u64::MAX] {
+        assert_eq!(spread_back(spread(key)), key);
+    }
+    let store = Store::open_with(&path.0, How::default().keys_are_spread()).unwrap();
+    let _keeper = store.start(Keeping::default()).unwrap();
+    let mut session = store.join_any().unwrap();
+    session.upsert(7, 10).unwrap();
+    session.commit().unwrap();
+    drop((session, _keeper, store));
+    let store = Store::open(&path.0).unwrap();
+    let mut session = store.join_any().unwrap();
+    assert_eq!(session.get(7).unwrap(), Read::Absent);
+    assert_eq!(session.get(spread_back(7)).unwrap(), Read::Found(10));
+}
+
+#[test]
+fn errors_have_the_names_of_the_header() {
+    assert_eq!(
+        (Error::Asleep.number(), Error::Asleep.name()),
+        (12, "Asleep")
+    );
+    assert_eq!(Error::Unknown(-99).to_string(), "Unknown -99");
+    assert_eq!(Error::PendingFull.to_string(), "PendingFull");
+}

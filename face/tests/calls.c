@@ -1,0 +1,258 @@
+/* The calls of fkv.h over a device in memory: each once, what they refuse, and a crash at each call of a commit. */
+#include "device.h"
+
+enum { SESSIONS = 2, KEYS = 100, MOST_TURNS = 1000 };
+
+static const fkv_shape SHAPE = {4, 16, 4, 2, SESSIONS, 16, 64};
+static struct device device;
+
+/* An open store with all its handles. */
+struct opened {
+    fkv_store store;
+    fkv_session sessions[SESSIONS];
+    fkv_keeper keeper;
+    fkv_shape shape;
+    fkv_opened told;
+    uint64_t points[FKV_MOST_SESSIONS];
+};
+
+static struct opened open_bytes(const uint8_t *bytes, size_t size, uint32_t keys) {
+    struct opened it = {0};
+    WANTS("opening", fkv_open(bytes, size, keys, &it.store.at, &it.shape, &it.told, it.points, FKV_MOST_SESSIONS), 0);
+    for (uint64_t i = 0; i < SESSIONS; i++) WANTS("taking a session", fkv_take_session(&it.store, i, &it.sessions[i].at), 0);
+    WANTS("taking the keeper", fkv_take_keeper(&it.store, &it.keeper.at), 0);
+    return it;
+}
+
+static void close_all(struct opened *it) {
+    for (int i = 0; i < SESSIONS; i++) {
+        WANTS("ending a session", fkv_end_session(&it->sessions[i]), 0);
+        fkv_free_session(it->sessions[i]);
+    }
+    fkv_end_keeper(&it->keeper);
+    fkv_free_keeper(it->keeper);
+    WANTS("closing", fkv_close(&it->store), 0);
+    fkv_free_store(it->store);
+}
+
+/* A round: each session refreshes and polls, and the keeper makes a turn. The keeper's answer. */
+static int32_t go_round(struct opened *it, fkv_turned *turned, uint64_t *points) {
+    fkv_finished finished[FKV_MOST_PENDING];
+    fkv_seen seen;
+    uint64_t count;
+    for (int i = 0; i < SESSIONS; i++) {
+        if (fkv_refresh(&it->sessions[i], &seen) < 0) continue;
+        fkv_poll(&it->sessions[i], finished, FKV_MOST_PENDING, &count);
+    }
+    return turn_device(&device, &it->keeper, turned, points, FKV_MOST_SESSIONS);
+}
+
+/* Carries a commit through. The refusal that it has met, or 0. */
+static int32_t commit(struct opened *it, uint32_t log_only, uint64_t *points) {
+    fkv_turned turned = {0};
+    uint64_t number = 0;
+    WANTS("asking for a commit", fkv_commit(&it->keeper, log_only, &number), 0);
+    for (int i = 0; i < MOST_TURNS; i++) {
+        int32_t result = go_round(it, &turned, points);
+        if (result < 0) return result;
+        if (!turned.finished) continue;
+        WANTS("the finished commit", turned.number, number);
+        return 0;
+    }
+    WANTS("whether the commit was finished", false, true);
+    return 0;
+}
+
+/* The value of a key, which may have to be read back; FKV_ABSENT where it has none. */
+static uint64_t value_of(struct opened *it, uint64_t key) {
+    fkv_finished finished[FKV_MOST_PENDING];
+    fkv_turned turned;
+    fkv_seen seen;
+    uint64_t value = 0, count = 0, points[FKV_MOST_SESSIONS];
+    int32_t result = fkv_get(&it->sessions[0], key, &value);
+    if (result == FKV_FOUND) return value;
+    if (result == FKV_NONE) return FKV_ABSENT;
+    WANTS("the answer of a read", result, FKV_PENDING);
+    for (int i = 0; i < MOST_TURNS; i++) {
+        turn_device(&device, &it->keeper, &turned, points, FKV_MOST_SESSIONS);
+        fkv_refresh(&it->sessions[0], &seen);
+        fkv_refresh(&it->sessions[1], &seen);
+        fkv_poll(&it->sessions[0], finished, FKV_MOST_PENDING, &count);
+        if (count == 0) continue;
+        WANTS("the ticket of a read", finished[0].name, value);
+        return finished[0].kind == FKV_READ_FOUND ? finished[0].value : FKV_ABSENT;
+    }
+    WANTS("whether a read was finished", false, true);
+    return 0;
+}
+
+/* An update that is made again until it is accepted. Its serial. */
+static uint64_t add(struct opened *it, int session, uint64_t key, uint64_t number) {
+    fkv_update told;
+    fkv_turned turned;
+    uint64_t points[FKV_MOST_SESSIONS];
+    int32_t result = fkv_add(&it->sessions[session], key, number, &told);
+    for (int i = 0; i < MOST_TURNS && result == -FKV_PENDING_FULL; i++) {
+        go_round(it, &turned, points);
+        result = fkv_add(&it->sessions[session], key, number, &told);
+    }
+    WANTS("whether an add is accepted", result == FKV_DONE || result == FKV_PENDING, true);
+    return told.serial;
+}
+
+/* Updates of each kind on one key, and their refusals. */
+static void updates(void) {
+    fkv_update told;
+    fkv_seen seen;
+    uint64_t value, serial;
+    begin_device(&device, &SHAPE);
+    struct opened it = open_bytes(device.now, device.size, FKV_SPREAD);
+    fkv_session *session = &it.sessions[0];
+    WANTS("the number of a new store", it.told.number, 0);
+    WANTS("its sessions", it.shape.sessions, SESSIONS);
+    WANTS("a read of no value", fkv_get(session, 7, &value), FKV_NONE);
+    WANTS("an upsert", fkv_upsert(session, 7, 10, &told), FKV_DONE);
+    WANTS("its serial", told.serial, it.points[0] + 1);
+    WANTS("an add", fkv_add(session, 7, 5, &told), FKV_DONE);
+    WANTS("what it leaves", told.value, 15);
+    WANTS("a max", fkv_max(session, 7, 40, &told), FKV_DONE);
+    WANTS("what it leaves", told.value, 40);
+    WANTS("a read", fkv_get(session, 7, &value), FKV_FOUND);
+    WANTS("its value", value, 40);
+    WANTS("a delete", fkv_delete(session, 7, &told), FKV_DONE);
+    WANTS("its serial", told.serial, 4);
+    WANTS("a read behind it", fkv_get(session, 7, &value), FKV_NONE);
+    WANTS("an upsert of no value", fkv_upsert(session, 7, FKV_ABSENT, &told), -FKV_VALUE_RESERVED);
+    WANTS("what is durable", fkv_durable(session, &serial), 0);
+    WANTS("that serial", serial, 0);
+    WANTS("waking", fkv_wake(session, &seen), -FKV_AWAKE);
+    WANTS("sleeping", fkv_sleep(session), 0);
+    WANTS("a read asleep", fkv_get(session, 7, &value), -FKV_ASLEEP);
+    WANTS("sleeping again", fkv_sleep(session), -FKV_ASLEEP);
+    WANTS("waking", fkv_wake(session, &seen), 0);
+    WANTS("the phase", seen.phase, FKV_REST);
+    close_all(&it);
+}
+
+/* What openings and handles refuse. */
+static void refusals(void) {
+    fkv_shape bad = SHAPE, shape;
+    fkv_opened told;
+    fkv_store store = {0};
+    fkv_finished finished[1];
+    uint64_t points[1], count;
+    void *handle;
+    bad.page = 5;
+    WANTS("an image of a bad shape", fkv_image(&bad, device.now, FKV_IMAGE_SIZE), -FKV_BAD_SHAPE);
+    WANTS("an image in a small room", fkv_image(&SHAPE, device.now, FKV_IMAGE_SIZE - 1), -FKV_ROOM_SMALL);
+    WANTS("no store", fkv_open((const uint8_t *)"no store", 8, FKV_SPREAD, &store.at, &shape, &told, points, 1), -FKV_NOT_A_STORE);
+    begin_device(&device, &SHAPE);
+    struct opened it = open_bytes(device.now, device.size, FKV_SPREAD);
+    WANTS("a session that is out", fkv_take_session(&it.store, 0, &handle), -FKV_HANDLE_TAKEN);
+    WANTS("a session that isn't there", fkv_take_session(&it.store, SESSIONS, &handle), -FKV_NO_SESSION);
+    WANTS("a keeper that is out", fkv_take_keeper(&it.store, &handle), -FKV_HANDLE_TAKEN);
+    WANTS("a poll into a small room", fkv_poll(&it.sessions[0], finished, 1, &count), -FKV_ROOM_SMALL);
+    WANTS("closing while handles are out", fkv_close(&it.store), -FKV_HANDLE_OUT);
+    close_all(&it);
+}
+
+/* A commit keeps what was done, and an opening finds it, by its keys alone. */
+static void reopening(uint32_t keys) {
+    uint64_t points[FKV_MOST_SESSIONS], serial = 0;
+    begin_device(&device, &SHAPE);
+    struct opened it = open_bytes(device.now, device.size, keys);
+    for (uint64_t key = 0; key < KEYS; key++) add(&it, (int)(key % SESSIONS), key << 20, key);
+    WANTS("a commit", commit(&it, 0, points), 0);
+    WANTS("its points", points[0] + points[1], KEYS);
+    WANTS("what is durable", fkv_durable(&it.sessions[0], &serial), 0);
+    WANTS("that serial", serial, points[0]);
+    WANTS("a log commit", commit(&it, 1, points), 0);
+    for (uint64_t key = 0; key < KEYS; key++) WANTS("a value", value_of(&it, key << 20), key);
+    close_all(&it);
+    it = open_bytes(device.synced, device.synced_size, keys);
+    WANTS("the number of the commit", it.told.number, 2);
+    WANTS("its points", it.points[0] + it.points[1], KEYS);
+    for (uint64_t key = 0; key < KEYS; key++) WANTS("a value", value_of(&it, key << 20), key);
+    close_all(&it);
+    it = open_bytes(device.synced, device.synced_size, keys == FKV_SPREAD ? FKV_SPREAD_ALREADY : FKV_SPREAD);
+    WANTS("a value, opened the other way", value_of(&it, 77 << 20), FKV_ABSENT);
+    close_all(&it);
+}
+
+/* The sum of all values is that of the points, in what a crash leaves. The number of the commit. */
+static uint64_t sum_agrees(const uint8_t *bytes, size_t size) {
+    static uint8_t image[DEVICE_SIZE];
+    uint64_t sum = 0;
+    memcpy(image, bytes, DEVICE_SIZE);
+    memcpy(device.now, image, DEVICE_SIZE);
+    memcpy(device.synced, image, DEVICE_SIZE);
+    device.size = device.synced_size = size;
+    device.fails_at = 0;
+    struct opened it = open_bytes(image, size, FKV_SPREAD);
+    for (uint64_t key = 0; key < KEYS; key++) {
+        uint64_t value = value_of(&it, key);
+        sum += value == FKV_ABSENT ? 0 : value;
+    }
+    WANTS("the sum of the values", sum, it.points[0] + it.points[1]);
+    uint64_t number = it.told.number;
+    close_all(&it);
+    return number;
+}
+
+/* A store with one commit behind it, and adds that it doesn't keep. */
+static struct opened second_commit_ahead(void) {
+    uint64_t points[FKV_MOST_SESSIONS];
+    begin_device(&device, &SHAPE);
+    struct opened it = open_bytes(device.now, device.size, FKV_SPREAD);
+    for (uint64_t i = 0; i < 3 * KEYS; i++) add(&it, (int)(i % SESSIONS), i * 7 % KEYS, 1);
+    WANTS("a first commit", commit(&it, 0, points), 0);
+    for (uint64_t i = 0; i < KEYS; i++) add(&it, (int)(i % SESSIONS), i, 1);
+    return it;
+}
+
+/* The second commit meets a call that fails, each in turn. Then the keeper is dead, and what a crash leaves is one of both commits. */
+static void crashes(void) {
+    uint64_t points[FKV_MOST_SESSIONS], number;
+    fkv_turned turned;
+    bool went = false;
+    for (uint64_t at = 1; !went; at++) {
+        struct opened it = second_commit_ahead();
+        device.calls = 0;
+        device.fails_at = at;
+        int32_t result = commit(&it, 0, points);
+        went = result == 0;
+        if (!went) {
+            WANTS("a turn whose call fails", result, -FKV_DEVICE);
+            WANTS("the next turn", turn_device(&device, &it.keeper, &turned, points, FKV_MOST_SESSIONS), -FKV_BROKEN);
+            WANTS("the next commit", fkv_commit(&it.keeper, 0, &number), -FKV_BROKEN);
+        }
+        for (int i = 0; i < SESSIONS; i++) fkv_free_session(it.sessions[i]);
+        fkv_free_keeper(it.keeper);
+        WANTS("closing", fkv_close(&it.store), 0);
+        fkv_free_store(it.store);
+        static struct device left;
+        left = device;
+        uint64_t from_synced = sum_agrees(left.synced, left.synced_size), from_now = sum_agrees(left.now, left.size);
+        WANTS("the commit of what was synced", from_synced, went ? 2 : 1);
+        WANTS("whether the commit of what was written is one of both", from_now == 1 || from_now == 2, true);
+    }
+}
+
+static void spreading(void) {
+    uint64_t key = 1;
+    for (int i = 0; i < 1000; i++) {
+        WANTS("a key that is spread and back", fkv_spread_back(fkv_spread(key)), key);
+        WANTS("a word that is spread back and forth", fkv_spread(fkv_spread_back(key)), key);
+        key = key * 6364136223846793005u + 1442695040888963407u;
+    }
+}
+
+int main(void) {
+    updates();
+    refusals();
+    reopening(FKV_SPREAD);
+    reopening(FKV_SPREAD_ALREADY);
+    crashes();
+    spreading();
+    return 0;
+}

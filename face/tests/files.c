@@ -1,0 +1,223 @@
+/* The calls of fkv_posix.h over real files: files FOLDER. */
+#define _POSIX_C_SOURCE 200809L
+#include "fkv_posix.h"
+#include "tests.h"
+
+#include <errno.h>
+#include <fcntl.h>
+#include <pthread.h>
+#include <signal.h>
+#include <stdbool.h>
+#include <string.h>
+#include <sys/resource.h>
+#include <sys/stat.h>
+#include <unistd.h>
+
+enum { KEYS = 3000, PATH_ROOM = 500 };
+
+/* Small pages and little memory, so that most records lie in the file alone. */
+static const fkv_shape SHAPE = {8, 16, 8, 4, 3, 64, 4096};
+static const char *folder;
+static uint64_t told_commits, told_progress;
+
+static const char *path_of(const char *name) {
+    static char path[PATH_ROOM];
+    snprintf(path, sizeof path, "%s/%s", folder, name);
+    return path;
+}
+
+static void count_commit(void *user, uint64_t number, const uint64_t *points, size_t sessions) {
+    (void)user;
+    WANTS("how many points are told", sessions, SHAPE.sessions);
+    WANTS("whether a point is told", points[0] > 0, true);
+    WANTS("a commit's number", number, ++told_commits);
+}
+
+static void count_progress(void *user, const fkv_progress *progress) {
+    (void)user;
+    WANTS("whether progress is within the whole", progress->total == 0 || progress->done <= progress->total, true);
+    told_progress++;
+}
+
+static void put(fkv_file *file, fkv_session *session, uint64_t key, uint64_t value) {
+    fkv_update told;
+    fkv_seen seen;
+    while (fkv_upsert(session, key, value, &told) == -FKV_PENDING_FULL) WANTS("settling", fkv_settle(file, session, NULL, NULL), 0);
+    if (key % 16 == 0) WANTS("a refresh", fkv_refresh(session, &seen), 0);
+}
+
+static void wants_values(fkv_file *file, fkv_session *session, uint64_t more) {
+    uint64_t value;
+    for (uint64_t key = 0; key < KEYS; key++) {
+        WANTS("a read", fkv_read(file, session, key, &value), FKV_FOUND);
+        WANTS("its value", value, key + more);
+    }
+    WANTS("a read of no value", fkv_read(file, session, KEYS, &value), FKV_NONE);
+}
+
+/* What is there is never replaced, and one process alone has a file open. */
+static void making(void) {
+    const char *path = path_of("making");
+    fkv_file *file, *other;
+    fkv_shape bad = SHAPE;
+    fkv_opened opened;
+    fkv_how how = {.opened = &opened};
+    bad.sessions = 33;
+    WANTS("a file of a bad shape", fkv_make_file(path, &bad), -FKV_BAD_SHAPE);
+    WANTS("opening no file", fkv_open_file(path, NULL, &file), -FKV_DEVICE);
+    WANTS("why", errno, ENOENT);
+    WANTS("making a file", fkv_make_file(path, &SHAPE), 0);
+    WANTS("making it again", fkv_make_file(path, &SHAPE), -FKV_DEVICE);
+    WANTS("why", errno, EEXIST);
+    WANTS("opening it", fkv_open_file(path, &how, &file), 0);
+    WANTS("the number of a new store", opened.number, 0);
+    WANTS("its sessions", fkv_shape_of(file).sessions, SHAPE.sessions);
+    WANTS("opening it again", fkv_open_file(path, NULL, &other), -FKV_DEVICE);
+    WANTS("why", errno, EWOULDBLOCK);
+    WANTS("closing it", fkv_close_file(file), 0);
+    WANTS("opening it behind that", fkv_open_file(path, NULL, &file), 0);
+    WANTS("closing it", fkv_close_file(file), 0);
+    int foreign = open(path_of("foreign"), O_WRONLY | O_CREAT, 0666);
+    WANTS("opening an empty file", fkv_open_file(path_of("foreign"), NULL, &file), -FKV_NOT_A_STORE);
+    WANTS("writing", write(foreign, "no store", 8), 8);
+    close(foreign);
+    WANTS("opening a foreign file", fkv_open_file(path_of("foreign"), NULL, &file), -FKV_NOT_A_STORE);
+    WANTS("opening a folder", fkv_open_file(folder, NULL, &file), -FKV_DEVICE);
+    WANTS("making in no folder", fkv_make_file(path_of("none/store"), &SHAPE), -FKV_DEVICE);
+}
+
+static void joining(void) {
+    const char *path = path_of("joining");
+    fkv_file *file;
+    fkv_session *one, *two, *any;
+    WANTS("making a file", fkv_make_file(path, &SHAPE), 0);
+    WANTS("opening it", fkv_open_file(path, NULL, &file), 0);
+    WANTS("joining session 1", fkv_join(file, 1, &one), 0);
+    WANTS("joining it again", fkv_join(file, 1, &two), -FKV_HANDLE_TAKEN);
+    WANTS("joining session 3 of 3", fkv_join(file, 3, &two), -FKV_NO_SESSION);
+    WANTS("joining any", fkv_join(file, FKV_ANY_SESSION, &two), 0);
+    WANTS("joining the last", fkv_join(file, FKV_ANY_SESSION, &any), 0);
+    WANTS("joining one more", fkv_join(file, FKV_ANY_SESSION, &any), -FKV_NO_SESSION);
+    WANTS("closing while sessions are out", fkv_close_file(file), -FKV_HANDLE_OUT);
+    WANTS("leaving", fkv_leave(file, two), 0);
+    WANTS("joining what was left", fkv_join(file, 0, &two), 0);
+    WANTS("sleeping", fkv_sleep(two), 0);
+    WANTS("leaving asleep", fkv_leave(file, two), 0);
+    WANTS("leaving", fkv_leave(file, one), 0);
+    fkv_abandon(file, any);
+    WANTS("joining what was abandoned", fkv_join(file, 2, &any), -FKV_HANDLE_TAKEN);
+    WANTS("closing", fkv_close_file(file), 0);
+}
+
+/* What was committed is there in the next life, and what lies in the file alone is read back. */
+static void committing(void) {
+    const char *path = path_of("committing");
+    fkv_file *file;
+    fkv_session *session;
+    fkv_keeping keeping = {.commit_ms = 5, .log_commits = 3, .committed = count_commit, .progress = count_progress};
+    fkv_how how = {.progress = count_progress};
+    uint64_t points[FKV_MOST_SESSIONS], ticket, serial;
+    WANTS("making a file", fkv_make_file(path, &SHAPE), 0);
+    WANTS("opening it", fkv_open_file(path, NULL, &file), 0);
+    WANTS("a commit without a keeper", fkv_ask_commit(file, &ticket), -FKV_BROKEN);
+    WANTS("starting the keeper", fkv_start(file, &keeping), 0);
+    WANTS("starting it again", fkv_start(file, &keeping), -FKV_HANDLE_TAKEN);
+    WANTS("joining", fkv_join(file, 0, &session), 0);
+    for (uint64_t key = 0; key < KEYS; key++) put(file, session, key, key + 1);
+    /* (an update that is pending hasn't taken effect) */
+    WANTS("settling", fkv_settle(file, session, NULL, NULL), 0);
+    wants_values(file, session, 1);
+    WANTS("asking for a commit", fkv_ask_commit(file, &ticket), 0);
+    WANTS("waiting for it", fkv_wait_commit(file, ticket, session), 0);
+    WANTS("what is durable", fkv_durable(session, &serial), 0);
+    WANTS("that serial", serial, KEYS);
+    for (uint64_t key = 0; key < KEYS; key++) put(file, session, key, key + 2);
+    WANTS("settling", fkv_settle(file, session, NULL, NULL), 0);
+    WANTS("leaving", fkv_leave(file, session), 0);
+    WANTS("stopping behind a commit", fkv_stop(file, 1), 0);
+    WANTS("stopping again", fkv_stop(file, 0), 0);
+    WANTS("whether commits were told", told_commits > 1, true);
+    uint64_t number = fkv_last_commit(file, points);
+    WANTS("the last commit", number, told_commits);
+    WANTS("its point", points[0], 2 * KEYS);
+    WANTS("closing", fkv_close_file(file), 0);
+    uint64_t before = told_progress;
+    WANTS("opening it", fkv_open_file(path, &how, &file), 0);
+    WANTS("whether progress of opening was told", told_progress > before, true);
+    WANTS("the recovered commit", fkv_last_commit(file, points), number);
+    WANTS("its point", points[0], 2 * KEYS);
+    WANTS("starting the keeper", fkv_start(file, NULL), 0);
+    WANTS("joining", fkv_join(file, 2, &session), 0);
+    wants_values(file, session, 2);
+    WANTS("leaving", fkv_leave(file, session), 0);
+    WANTS("closing with the keeper", fkv_close_file(file), 0);
+    how.mapped = 1;
+    WANTS("opening it mapped", fkv_open_file(path, &how, &file), 0);
+    WANTS("the recovered commit", fkv_last_commit(file, points), number);
+    WANTS("closing", fkv_close_file(file), 0);
+}
+
+/* A file that can't grow: its first call that fails ends all commits, and the store goes on in memory. */
+static void failing(void) {
+    const char *path = path_of("failing");
+    fkv_file *file;
+    fkv_session *session;
+    fkv_update told;
+    struct rlimit limit, before;
+    uint64_t ticket, value;
+    signal(SIGXFSZ, SIG_IGN);
+    WANTS("making a file", fkv_make_file(path, &SHAPE), 0);
+    WANTS("opening it", fkv_open_file(path, NULL, &file), 0);
+    WANTS("starting the keeper", fkv_start(file, NULL), 0);
+    WANTS("joining", fkv_join(file, 0, &session), 0);
+    WANTS("an add", fkv_add(session, 7, 1, &told), FKV_DONE);
+    getrlimit(RLIMIT_FSIZE, &before);
+    limit = before;
+    limit.rlim_cur = 2000;
+    WANTS("setting a limit", setrlimit(RLIMIT_FSIZE, &limit), 0);
+    WANTS("asking for a commit", fkv_ask_commit(file, &ticket), 0);
+    WANTS("waiting for it", fkv_wait_commit(file, ticket, session), -FKV_DEVICE);
+    setrlimit(RLIMIT_FSIZE, &before);
+    WANTS("the keeper's fault", fkv_keeper_fault(file), -FKV_DEVICE);
+    WANTS("the next commit", fkv_ask_commit(file, &ticket), -FKV_DEVICE);
+    WANTS("a read", fkv_get(session, 7, &value), FKV_FOUND);
+    WANTS("an add", fkv_add(session, 7, 1, &told), FKV_DONE);
+    WANTS("leaving", fkv_leave(file, session), 0);
+    WANTS("closing", fkv_close_file(file), 0);
+    WANTS("opening it", fkv_open_file(path, NULL, &file), 0);
+    WANTS("joining", fkv_join(file, 0, &session), 0);
+    WANTS("a read of what no commit kept", fkv_get(session, 7, &value), FKV_NONE);
+    WANTS("leaving", fkv_leave(file, session), 0);
+    WANTS("closing", fkv_close_file(file), 0);
+}
+
+/* A descriptor of a standard stream isn't the store's, though it is closed. */
+static void streams(void) {
+    fkv_file *file;
+    struct stat before, behind;
+    WANTS("the size before", stat(path_of("joining"), &before), 0);
+    int kept = dup(STDOUT_FILENO);
+    close(STDOUT_FILENO);
+    WANTS("opening it", fkv_open_file(path_of("joining"), NULL, &file), 0);
+    printf("this is for standard output\n");
+    fflush(stdout);
+    WANTS("closing", fkv_close_file(file), 0);
+    dup2(kept, STDOUT_FILENO);
+    close(kept);
+    clearerr(stdout);
+    WANTS("the size behind", stat(path_of("joining"), &behind), 0);
+    WANTS("the file's size", behind.st_size, before.st_size);
+    WANTS("opening it", fkv_open_file(path_of("joining"), NULL, &file), 0);
+    WANTS("closing", fkv_close_file(file), 0);
+}
+
+int main(int count, char **words) {
+    if (count != 2) return 2;
+    folder = words[1];
+    making();
+    joining();
+    committing();
+    failing();
+    streams();
+    return 0;
+}
