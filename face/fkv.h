@@ -28,6 +28,7 @@
 
 #include <stddef.h>
 #include <stdint.h>
+#include <stdlib.h>
 
 #ifdef __cplusplus
 extern "C" {
@@ -196,8 +197,11 @@ int32_t fkv_take_keeper(fkv_store *store, void **out);
  */
 int32_t fkv_close(fkv_store *store);
 
-/* Frees the handle's own block, behind an fkv_close that gave 0. The word is dead then. */
-void fkv_free_store(fkv_store store);
+/*
+ * Frees the handle's own block, behind an fkv_close that gave 0. The word is dead then. The block comes from malloc, so the program's
+ * malloc and free are those that the library is linked with.
+ */
+static inline void fkv_free_store(fkv_store store) { free(store.at); }
 
 /* ---- A session ------------------------------------------------------------------------------------------------------------ */
 
@@ -245,8 +249,8 @@ int32_t fkv_durable(fkv_session *session, uint64_t *serial);
 /* Puts the session to sleep and gives the handle up. 0; -FKV_PENDING_LEFT. Behind a 0, fkv_free_session. */
 int32_t fkv_end_session(fkv_session *session);
 
-/* Frees the handle's own block, and what it still holds. The word is dead then. */
-void fkv_free_session(fkv_session session);
+/* Frees the handle's own block, behind an fkv_end_session that gave 0. The word is dead then. */
+static inline void fkv_free_session(fkv_session session) { free(session.at); }
 
 /* ---- The keeper ----------------------------------------------------------------------------------------------------------- */
 
@@ -284,8 +288,8 @@ int32_t fkv_told(fkv_keeper *keeper, uint32_t failed, const uint8_t *bytes, size
 /* Gives the handle up. What a commit in hand has not finished is lost. Behind it, fkv_free_keeper. */
 void fkv_end_keeper(fkv_keeper *keeper);
 
-/* Frees the handle's own block, and what it still holds. The word is dead then. */
-void fkv_free_keeper(fkv_keeper keeper);
+/* Frees the handle's own block, behind fkv_end_keeper. The word is dead then. */
+static inline void fkv_free_keeper(fkv_keeper keeper) { free(keeper.at); }
 
 /* ---- Keys ----------------------------------------------------------------------------------------------------------------- */
 

@@ -35,16 +35,33 @@ static void close_all(struct opened *it) {
     fkv_free_store(it->store);
 }
 
-/* A round: each session refreshes and polls, and the keeper makes a turn. The keeper's answer. */
-static int32_t go_round(struct opened *it, fkv_turned *turned, uint64_t *points) {
+/* Each session refreshes and polls. How many requests are left. */
+static int64_t poll_all(struct opened *it) {
     fkv_finished finished[FKV_MOST_PENDING];
     fkv_seen seen;
     uint64_t count;
+    int64_t left = 0;
     for (int i = 0; i < SESSIONS; i++) {
-        if (fkv_refresh(&it->sessions[i], &seen) < 0) continue;
-        fkv_poll(&it->sessions[i], finished, FKV_MOST_PENDING, &count);
+        WANTS("a refresh", fkv_refresh(&it->sessions[i], &seen), 0);
+        left += fkv_poll(&it->sessions[i], finished, FKV_MOST_PENDING, &count);
     }
+    return left;
+}
+
+/* A round: each session refreshes and polls, and the keeper makes a turn. The keeper's answer. */
+static int32_t go_round(struct opened *it, fkv_turned *turned, uint64_t *points) {
+    poll_all(it);
     return turn_device(&device, &it->keeper, turned, points, FKV_MOST_SESSIONS);
+}
+
+/* Goes on until nothing is pending. */
+static void settle(struct opened *it) {
+    fkv_turned turned;
+    uint64_t points[FKV_MOST_SESSIONS];
+    for (int i = 0; poll_all(it) > 0; i++) {
+        WANTS("whether requests are finished", i < MOST_TURNS, true);
+        WANTS("a turn", turn_device(&device, &it->keeper, &turned, points, FKV_MOST_SESSIONS), FKV_OVER);
+    }
 }
 
 /* Carries a commit through. The refusal that it has met, or 0. */
@@ -156,26 +173,31 @@ static void refusals(void) {
     close_all(&it);
 }
 
-/* A commit keeps what was done, and an opening finds it, by its keys alone. */
+/* Keys that differ in high bits alone; or such keys as a hash makes of them. */
+static uint64_t key_of(uint32_t keys, uint64_t number) {
+    return keys == FKV_SPREAD ? number << 20 : fkv_spread(number << 20);
+}
+
+/* A commit keeps what was done, and an opening finds it, if it places keys in the same way. */
 static void reopening(uint32_t keys) {
     uint64_t points[FKV_MOST_SESSIONS], serial = 0;
     begin_device(&device, &SHAPE);
     struct opened it = open_bytes(device.now, device.size, keys);
-    for (uint64_t key = 0; key < KEYS; key++) add(&it, (int)(key % SESSIONS), key << 20, key);
+    for (uint64_t key = 0; key < KEYS; key++) add(&it, (int)(key % SESSIONS), key_of(keys, key), key);
     WANTS("a commit", commit(&it, 0, points), 0);
     WANTS("its points", points[0] + points[1], KEYS);
     WANTS("what is durable", fkv_durable(&it.sessions[0], &serial), 0);
     WANTS("that serial", serial, points[0]);
     WANTS("a log commit", commit(&it, 1, points), 0);
-    for (uint64_t key = 0; key < KEYS; key++) WANTS("a value", value_of(&it, key << 20), key);
+    for (uint64_t key = 0; key < KEYS; key++) WANTS("a value", value_of(&it, key_of(keys, key)), key);
     close_all(&it);
     it = open_bytes(device.synced, device.synced_size, keys);
     WANTS("the number of the commit", it.told.number, 2);
     WANTS("its points", it.points[0] + it.points[1], KEYS);
-    for (uint64_t key = 0; key < KEYS; key++) WANTS("a value", value_of(&it, key << 20), key);
+    for (uint64_t key = 0; key < KEYS; key++) WANTS("a value", value_of(&it, key_of(keys, key)), key);
     close_all(&it);
     it = open_bytes(device.synced, device.synced_size, keys == FKV_SPREAD ? FKV_SPREAD_ALREADY : FKV_SPREAD);
-    WANTS("a value, opened the other way", value_of(&it, 77 << 20), FKV_ABSENT);
+    WANTS("a value, opened the other way", value_of(&it, key_of(keys, 77)), FKV_ABSENT);
     close_all(&it);
 }
 
@@ -207,6 +229,7 @@ static struct opened second_commit_ahead(void) {
     for (uint64_t i = 0; i < 3 * KEYS; i++) add(&it, (int)(i % SESSIONS), i * 7 % KEYS, 1);
     WANTS("a first commit", commit(&it, 0, points), 0);
     for (uint64_t i = 0; i < KEYS; i++) add(&it, (int)(i % SESSIONS), i, 1);
+    settle(&it);
     return it;
 }
 
@@ -226,10 +249,7 @@ static void crashes(void) {
             WANTS("the next turn", turn_device(&device, &it.keeper, &turned, points, FKV_MOST_SESSIONS), -FKV_BROKEN);
             WANTS("the next commit", fkv_commit(&it.keeper, 0, &number), -FKV_BROKEN);
         }
-        for (int i = 0; i < SESSIONS; i++) fkv_free_session(it.sessions[i]);
-        fkv_free_keeper(it.keeper);
-        WANTS("closing", fkv_close(&it.store), 0);
-        fkv_free_store(it.store);
+        close_all(&it);
         static struct device left;
         left = device;
         uint64_t from_synced = sum_agrees(left.synced, left.synced_size), from_now = sum_agrees(left.now, left.size);

@@ -15,8 +15,8 @@
 
 enum { KEYS = 3000, PATH_ROOM = 500 };
 
-/* Small pages and little memory, so that most records lie in the file alone. */
-static const fkv_shape SHAPE = {8, 16, 8, 4, 3, 64, 4096};
+/* Small pages and little memory, so that most records lie in the file alone; and an index that has room for all keys. */
+static const fkv_shape SHAPE = {10, 16, 8, 4, 3, 64, 4096};
 static const char *folder;
 static uint64_t told_commits, told_progress;
 
@@ -42,7 +42,12 @@ static void count_progress(void *user, const fkv_progress *progress) {
 static void put(fkv_file *file, fkv_session *session, uint64_t key, uint64_t value) {
     fkv_update told;
     fkv_seen seen;
-    while (fkv_upsert(session, key, value, &told) == -FKV_PENDING_FULL) WANTS("settling", fkv_settle(file, session, NULL, NULL), 0);
+    int32_t result = fkv_upsert(session, key, value, &told);
+    while (result == -FKV_PENDING_FULL) {
+        WANTS("settling", fkv_settle(file, session, NULL, NULL), 0);
+        result = fkv_upsert(session, key, value, &told);
+    }
+    WANTS("whether an upsert is accepted", result == FKV_DONE || result == FKV_PENDING, true);
     if (key % 16 == 0) WANTS("a refresh", fkv_refresh(session, &seen), 0);
 }
 

@@ -8,7 +8,7 @@ enum { SESSIONS = 4, EACH_FILE = 20, PATH_ROOM = 500 };
 
 static const fkv_shape SHAPE = {3, 4, 4, 2, SESSIONS, 2, 64};
 
-/* A store of bytes, with some of its handles, of which a half is used and ended. */
+/* A store of bytes, with some of its handles. */
 static void open_bytes(uint64_t round) {
     uint8_t image[FKV_IMAGE_SIZE];
     uint64_t points[FKV_MOST_SESSIONS];
@@ -24,13 +24,13 @@ static void open_bytes(uint64_t round) {
     for (uint64_t i = 0; i < round % (SESSIONS + 1); i++) {
         WANTS("taking a session", fkv_take_session(&store, i, &session.at), 0);
         WANTS("an add", fkv_add(&session, 7, 1, &update), FKV_DONE);
-        if (i % 2) WANTS("ending it", fkv_end_session(&session), 0);
+        WANTS("ending it", fkv_end_session(&session), 0);
         fkv_free_session(session);
     }
     if (round % 2) {
         WANTS("taking the keeper", fkv_take_keeper(&store, &keeper.at), 0);
         fkv_turn(&keeper, &turned, points, FKV_MOST_SESSIONS);
-        if (round % 4 == 1) fkv_end_keeper(&keeper);
+        fkv_end_keeper(&keeper);
         fkv_free_keeper(keeper);
     }
     WANTS("closing", fkv_close(&store), 0);

@@ -10,7 +10,7 @@ use std::time::Duration;
 use std::{env, fs, process, thread};
 
 const SHAPE: Shape = Shape {
-    bucket_bits: 8,
+    bucket_bits: 10,
     page: 16,
     frames: 8,
     mutable_pages: 4,
