@@ -1,8 +1,10 @@
 # make run     runs a script and prints its answers: the stored one, or SCRIPT=path, by the words of WORDS. The program is built
 #              without proof, and stays in build/unproved
 # make test    the gate: whether generated pages are up to date, what crates name of each other, every proof from nothing, the
-#              must-fail edits, the tests and the program; then tools/openings, and what `make rows`, `make memory` and `make large` do
+#              must-fail edits, the tests and the program; then tools/openings, what `make rows`, `make memory` and `make large` do, and
+#              the library from C, C++ and Rust
 # make fkv     proves the program, says at which crate it is, and leaves it at build/fkv
+# make face    proves the library for C, C++ and Rust, and leaves it at build/libfkv.a, with build/fkv.h and build/fkv_posix.h
 # make rows    runs the built program on whole scripts, and compares what it writes
 # make memory  runs stored scripts, a store's creation and its opening, a commit's copy and the options' words, with each request for memory refused in turn
 # make large   plays scripts of 2^20 keys over a large store, in a file and in memory, and compares with a plain map
@@ -23,7 +25,7 @@ SECONDS ?= 60
 # The crates whose wrong bodies `make audit` tries, as CRATES="fkv_log fkv_ops"; all where nothing is said.
 CRATES ?=
 
-.PHONY: run test fkv rows memory large bench hammer gate audit docs toolchain
+.PHONY: run test fkv face rows memory large bench hammer gate audit docs toolchain
 
 run: toolchain
 	@tools/script/run "$(SCRIPT)" $(WORDS)
@@ -43,9 +45,14 @@ test: toolchain
 	@tools/memory/keeper > /dev/null
 	@tools/memory/options > /dev/null
 	@tools/large/run crates/fkv/out/fkv > /dev/null
+	@tools/face/make
+	@tools/face/run > /dev/null
 
 fkv: toolchain
 	@tools/script/prove
+
+face: toolchain
+	@tools/face/make
 
 rows: fkv
 	tools/rows/run build/fkv

@@ -4,7 +4,7 @@
 
 #include <stdbool.h>
 
-enum { SESSIONS = 4, EACH_FILE = 20, PATH_ROOM = 500 };
+enum { SESSIONS = 4, EACH_FILE = 100, PATH_ROOM = 500 };
 
 static const fkv_shape SHAPE = {3, 4, 4, 2, SESSIONS, 2, 64};
 
