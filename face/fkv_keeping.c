@@ -12,6 +12,8 @@ enum {
     USUAL_TURN_US = 500,
     /* While a commit runs: it waits for sessions, which refresh every few microseconds. */
     COMMIT_TURN_US = 50,
+    /* While no session is joined, which is told at once. */
+    IDLE_TURN_US = 100000,
     /* Between two polls of a session that waits. */
     SETTLE_US = 20,
     MOST_MS = 1000000000
@@ -41,9 +43,8 @@ static struct timespec now(void) {
     return time;
 }
 
-static bool is_past(struct timespec time) {
-    struct timespec it = now();
-    return it.tv_sec > time.tv_sec || (it.tv_sec == time.tv_sec && it.tv_nsec >= time.tv_nsec);
+static bool is_before(struct timespec one, struct timespec other) {
+    return one.tv_sec < other.tv_sec || (one.tv_sec == other.tv_sec && one.tv_nsec < other.tv_nsec);
 }
 
 /* ---- Commits. The file's lock is held. -------------------------------------------------------------------------------------- */
@@ -52,7 +53,7 @@ static bool is_due(const struct run *run) {
     const fkv_file *file = run->file;
     if (file->in_hand || file->fault) return false;
     if (file->asked > file->covers) return true;
-    return file->keeping.commit_ms > 0 && file->was_joined && is_past(run->next);
+    return file->keeping.commit_ms > 0 && file->was_joined && !is_before(now(), run->next);
 }
 
 /* The commits that were asked for until now are served by the one that has begun. */
@@ -65,9 +66,9 @@ static void note_begun(struct run *run) {
     run->next = behind(now(), (uint64_t)file->keeping.commit_ms * 1000);
 }
 
-/* From now on there are no turns or no commits, and nobody waits for one. */
+/* From now on there are no commits, or no turns either, and nobody waits for one. */
 static void note_fault(fkv_file *file, int32_t fault) {
-    if (!file->fault) file->fault = fault;
+    if (!file->fault || file->fault == -FKV_VERSIONS_SPENT) file->fault = fault;
     pthread_cond_broadcast(&file->news);
 }
 
@@ -123,12 +124,19 @@ static int32_t turn(struct run *run, bool commits, fkv_turned *turned, uint64_t 
     return call;
 }
 
-/* Waits for the next turn. The file's lock is held. */
+/* How long nobody needs a turn. */
+static uint32_t rest_us(const fkv_file *file) {
+    uint32_t usual = file->keeping.turn_us ? file->keeping.turn_us : USUAL_TURN_US;
+    if (file->in_hand) return usual < COMMIT_TURN_US ? usual : COMMIT_TURN_US;
+    return file->joined || usual > IDLE_TURN_US ? usual : IDLE_TURN_US;
+}
+
+/* Waits for the next turn, or commit. The file's lock is held. */
 static void rest(const struct run *run) {
     fkv_file *file = run->file;
     if (run->has_called || file->nudged || file->stops) return;
-    uint32_t usual = file->keeping.turn_us ? file->keeping.turn_us : USUAL_TURN_US;
-    struct timespec until = behind(now(), file->in_hand && usual > COMMIT_TURN_US ? COMMIT_TURN_US : usual);
+    struct timespec until = behind(now(), rest_us(file));
+    if (file->keeping.commit_ms > 0 && file->was_joined && is_before(run->next, until)) until = run->next;
     pthread_cond_timedwait(&file->work, &file->lock, &until);
 }
 
@@ -235,6 +243,7 @@ int32_t fkv_ask_commit(fkv_file *file, uint64_t *ticket) {
     int32_t result = refusal(file);
     if (result == 0) {
         *ticket = ++file->asked;
+        file->nudged = true;
         pthread_cond_signal(&file->work);
     }
     pthread_mutex_unlock(&file->lock);

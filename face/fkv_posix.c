@@ -360,6 +360,7 @@ int32_t fkv_join(fkv_file *file, uint64_t number, fkv_session **out) {
         file->joined |= UINT32_C(1) << found;
         file->was_joined = true;
         *out = &file->sessions[found];
+        pthread_cond_signal(&file->work);
     }
     pthread_mutex_unlock(&file->lock);
     return result;

@@ -13,7 +13,7 @@
 #include <sys/stat.h>
 #include <unistd.h>
 
-enum { KEYS = 3000, PATH_ROOM = 500 };
+enum { KEYS = 1000, PATH_ROOM = 500 };
 
 /* Small pages and little memory, so that most records lie in the file alone; and an index that has room for all keys. */
 static const fkv_shape SHAPE = {10, 16, 8, 4, 3, 64, 4096};

@@ -136,7 +136,7 @@ fn commits_are_there_in_the_next_life() {
         for number in 0..3 {
             let mut session = store.join(number).unwrap();
             scope.spawn(move || {
-                for key in 0..3000 {
+                for key in 0..1000 {
                     while let Err(Error::PendingFull) = session.add(key, number + 1) {
                         session.settle(|_| {}).unwrap();
                     }
@@ -149,7 +149,7 @@ fn commits_are_there_in_the_next_life() {
         }
     });
     let mut session = store.join_any().unwrap();
-    for key in 0..3000 {
+    for key in 0..1000 {
         assert_eq!(session.read(key).unwrap(), Some(6));
     }
     session.commit().unwrap();
@@ -162,7 +162,7 @@ fn commits_are_there_in_the_next_life() {
     let last = store.last_commit();
     assert_eq!(
         (last.number, last.points.iter().sum()),
-        (told.load(Ordering::SeqCst), 9000)
+        (told.load(Ordering::SeqCst), 3000)
     );
     assert!(receive.try_iter().count() > 1);
     drop(store);
@@ -181,7 +181,7 @@ fn what_was_pending_is_told() {
     let store = path.store();
     let keeper = store.start(Keeping::default()).unwrap();
     let mut session = store.join_any().unwrap();
-    for key in 0..3000 {
+    for key in 0..1000 {
         while let Err(Error::PendingFull) = session.upsert(key, key) {
             session.settle(|_| {}).unwrap();
         }
@@ -216,15 +216,16 @@ fn keys_are_spread_one_to_one() {
         assert_eq!(spread_back(spread(key)), key);
     }
     let store = Store::open_with(&path.0, How::default().keys_are_spread()).unwrap();
-    let _keeper = store.start(Keeping::default()).unwrap();
+    let keeper = store.start(Keeping::default()).unwrap();
     let mut session = store.join_any().unwrap();
     session.upsert(7, 10).unwrap();
     session.commit().unwrap();
-    drop((session, _keeper, store));
+    drop((session, keeper, store));
     let store = Store::open(&path.0).unwrap();
+    let _keeper = store.start(Keeping::default()).unwrap();
     let mut session = store.join_any().unwrap();
-    assert_eq!(session.get(7).unwrap(), Read::Absent);
-    assert_eq!(session.get(spread_back(7)).unwrap(), Read::Found(10));
+    assert_eq!(session.read(7).unwrap(), None);
+    assert_eq!(session.read(spread_back(7)).unwrap(), Some(10));
 }
 
 #[test]
