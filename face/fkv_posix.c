@@ -245,21 +245,19 @@ static int32_t take_handles(fkv_file *file) {
     return result;
 }
 
-/* Gives back what was taken and opened. A session that was abandoned isn't ended, and what it holds goes with its block. */
+/*
+ * Gives back what was taken and opened. An abandoned session with pending requests isn't ended, and holds the store's table: both stay
+ * until the process ends.
+ */
 static void give_up(fkv_file *file) {
     for (int i = 0; i < FKV_MOST_SESSIONS; i++) {
-        if (!file->sessions[i].at) continue;
-        fkv_end_session(&file->sessions[i]);
-        fkv_free_session(file->sessions[i]);
+        if (file->sessions[i].at && fkv_end_session(&file->sessions[i]) == 0) fkv_free_session(file->sessions[i]);
     }
     if (file->keeper.at) {
         fkv_end_keeper(&file->keeper);
         fkv_free_keeper(file->keeper);
     }
-    if (file->store.at) {
-        fkv_close(&file->store);
-        fkv_free_store(file->store);
-    }
+    if (file->store.at && fkv_close(&file->store) == 0) fkv_free_store(file->store);
     int why = errno;
     if (file->fd >= 0) close(file->fd);
     pthread_cond_destroy(&file->news);

@@ -96,7 +96,7 @@ int32_t fkv_leave(fkv_file *file, fkv_session *session);
 
 /*
  * Takes it back with what is pending, which is lost. Nobody gets this session again, and no commit finishes any more: for who closes
- * a store whose keeper can't go on.
+ * a store whose keeper can't go on. If something was pending, the store's memory stays taken until the process ends.
  */
 void fkv_abandon(fkv_file *file, fkv_session *session);
 
