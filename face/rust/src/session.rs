@@ -167,6 +167,11 @@ extern "C" fn tell_finished(user: *mut c_void, finished: *const raw::Finished) {
 ///
 /// While it is awake, refresh it every 64 calls or so: nothing of the store moves on past it. Let it sleep before its thread blocks. As
 /// it is dropped it settles and leaves. Where no keeper can finish its requests any more these are lost, and nobody gets it again.
+///
+/// ```compile_fail
+/// fn shared<T: Sync>() {}
+/// shared::<fkv::Session>();
+/// ```
 pub struct Session {
     file: Arc<OpenFile>,
     at: *mut raw::Session,

@@ -229,6 +229,15 @@ fn keys_are_spread_one_to_one() {
 }
 
 #[test]
+fn sessions_go_to_other_threads_and_the_rest_is_shared() {
+    fn is_sent<T: Send>() {}
+    fn is_shared<T: Send + Sync>() {}
+    is_sent::<fkv::Session>();
+    is_shared::<Store>();
+    is_shared::<fkv::Keeper>();
+}
+
+#[test]
 fn errors_have_the_names_of_the_header() {
     assert_eq!(
         (Error::Asleep.number(), Error::Asleep.name()),
