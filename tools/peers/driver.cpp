@@ -43,8 +43,8 @@ struct Settings {
     Words timed_mixes{"get", "upsert", "add", "A"}, timed_threads = threads;  // cells of single calls, of fkv
     Words beside_mixes{"A"}, beside_threads{"2"};          // and of the others
     Words only;                                            // the peers that take part; all where nothing is said
-    double cell = 0.04, commit_cell = 0.2, timed_cell = 0.2, until = 540;
-    unsigned rounds = 3, commit_rounds = 2;
+    double cell = 0.03, commit_cell = 0.13, timed_cell = 0.13, until = 470;
+    unsigned rounds = 3, commit_rounds = 3;
 };
 
 Words split(const std::string &text) {
@@ -227,9 +227,9 @@ void recover(const Kind &kind, uint64_t keys, const std::string &folder) {
     const double begun = seconds_of(CLOCK_MONOTONIC);
     std::unique_ptr<Peer> peer = kind.open({keys, 1, folder}, false);
     peer->first();
-    const double opened = seconds_of(CLOCK_MONOTONIC);
+    const double opened = seconds_of(CLOCK_MONOTONIC), processor = seconds_of(CLOCK_PROCESS_CPUTIME_ID);
     const uint64_t sum = peer->sum(keys);
-    std::cout << "{\"recovered\": \"" << kind.name << "\", \"keys\": " << keys << ", \"seconds\": " << opened - begun << ", \"sum\": " << sum << "}" << std::endl;
+    std::cout << "{\"recovered\": \"" << kind.name << "\", \"keys\": " << keys << ", \"seconds\": " << opened - begun << ", \"processor\": " << processor << ", \"sum\": " << sum << "}" << std::endl;
 }
 
 int start(const Words &words) {

@@ -92,6 +92,11 @@ class Figures:
         plain = [it for it in self.cells if it["peer"] == OWN and it["part"] == "plain"]
         return {n: median(it["processor"] / it["wall"] / n for it in plain if it["threads"] == n) for n in self.threads}
 
+    def beside(self, keys, zipf, commits):
+        """Processors that fkv's keeper takes while commits run, on average over all cells of these keys."""
+        cells = [it for it in self.cells if (it["peer"], it["keys"], it["zipf"], it["commits"]) == (OWN, keys, zipf, commits)]
+        return sum(it["process"] - it["processor"] for it in cells) / sum(it["wall"] for it in cells) if cells else None
+
     def commit_time(self, peer, commits, keys):
         """Milliseconds that a commit takes, on average over all cells of this size."""
         cells = [it for it in self.cells if it["peer"] == peer and it["commits"] == commits and it["keys"] == keys and it["finished"]]

@@ -8,15 +8,6 @@ TITLE = "## Beside other stores"
 # The cells by which the library is judged.
 JUDGED_SIZES, JUDGED_MIXES, JUDGED_THREADS = (4096, 65536), ("get", "upsert", "add"), (2, 4)
 LEAST_KEPT, MOST_LATER = 0.9, 2
-PACKAGES = {
-    "libcuckoo": "libcuckoo-dev",
-    "TBB concurrent_hash_map": "libtbb-dev",
-    "dashmap": "librust-dashmap-dev",
-    "LMDB": "liblmdb-dev",
-    "RocksDB": "librocksdb-dev",
-    "LevelDB": "libleveldb-dev",
-    "SQLite": "libsqlite3-dev",
-}
 
 
 def table(head, rows):
@@ -70,11 +61,13 @@ def conditions(figures):
         f"Measured on {time.strftime('%d %B %Y', time.gmtime(told_run['begun'])).lstrip('0')}, on {machine()}, in {told_run['seconds'] / 60:.1f} minutes{' (`QUICK=1`)' if told_run['quick'] else ''}."
         f" The load was {before:.1f} before and {after:.1f} behind it. Beside the run {others:.1f} processors were busy. A thread of fkv got this share of a processor: {share} threads. {verdict}"
     ]
+    if told_run["versions"]:
+        lines.append(f"Debian's packages: {', '.join(told_run['versions'])}.")
     if told_run["missing"]:
         lines.append(f"Left out, since packages are missing: {', '.join(told_run['missing'])}.")
     if figures.end["skipped"]:
         lines.append(f"The time was spent before {figures.end['skipped']} cells, which are left out.")
-    return "\n".join(lines)
+    return "\n\n".join(lines)
 
 
 def ratios(figures, by, part="plain", peers=None, commits="none"):
@@ -134,8 +127,14 @@ def kept(figures, commits):
                 shares = [figures.kept(by_clock, keys, zipf, mix, n, commits) for n in figures.threads]
                 row.append(" / ".join("-" if it is None else f"{100 * it:.0f}" for it in shares))
             if any(it.strip("-/ ") for it in row[2:]):
-                rows.append(row + [f"{figures.commit_time(OWN, commits, keys):.1f}"])
-    return table(["keys", "spread", *(MIXES[it] for it in figures.mixes), "ms a commit"], rows)
+                rows.append(row + [told(figures.beside(keys, zipf, commits))])
+    return table(["keys", "spread", *(MIXES[it] for it in figures.mixes), "processors of the keeper"], rows)
+
+
+def commit_times(figures):
+    columns = [(OWN, "log"), (OWN, "full"), *((it, "log") for it in figures.durable)]
+    rows = [[thousands(keys)] + [told(figures.commit_time(peer, commits, keys)) for peer, commits in columns] for keys in figures.sizes]
+    return table(["keys", "fkv, log commits", "fkv, full commits", *figures.durable], rows)
 
 
 def kept_judged(figures):
@@ -201,9 +200,9 @@ def recovered(figures):
     columns = [(OWN, "log"), (OWN, "full"), *((it, "log") for it in figures.durable)]
     rows = []
     for keys in figures.sizes:
-        found = [[it["seconds"] for it in figures.recovered if (it["recovered"], it["commits"], it["keys"]) == (peer, commits, keys)] for peer, commits in columns]
+        found = [[(it["seconds"], it["processor"]) for it in figures.recovered if (it["recovered"], it["commits"], it["keys"]) == (peer, commits, keys)] for peer, commits in columns]
         if any(found):
-            rows.append([thousands(keys)] + [time_told(it[0] * 1e9 if it else None) for it in found])
+            rows.append([thousands(keys)] + [" / ".join(time_told(1e9 * time) for time in it[0]) if it else "-" for it in found])
     return table(["keys", "fkv, log commits", "fkv, full commits", *figures.durable], rows)
 
 
@@ -217,11 +216,12 @@ def section(figures, pictures):
 
 {conditions(figures)}
 
-- **Keys** are 64-bit words in no order, values too. Each call's key is drawn before anything is timed, the same for all. Zipf has the exponent 0.99.
-- **Calls.** A get, an upsert and an add. YCSB A has half upserts, B one in twenty, F half adds in place of a read and a write.
+- **Keys** are 64-bit words in no order, and so are values. Each call's key is drawn before anything is timed, the same for all. Zipf has the exponent 0.99.
+- **Calls.** YCSB A has half upserts and half gets, B one upsert in twenty calls. F has an add in half of its calls, in place of a read and a write.
 - **fkv** spreads the keys itself. Each session refreshes behind 64 calls. Memory has room for all records, and the index a bucket for each four keys.
-- **Maps** are `std::unordered_map` behind one mutex and behind 64, libcuckoo, TBB and dashmap. dashmap comes twice: as it is, and with 512 shards and the key as its own hash.
-- **LMDB** has one transaction behind a mutex, which a commit ends. In its second column each update is a transaction, which isn't synced but by a commit, and gets wait for nobody. **RocksDB** keeps its log in memory up to a commit. **LevelDB** isn't synced up to a commit. **SQLite** has one connection behind a mutex, whose transaction a commit ends. All are Debian's. They lie in files, and `fdatasync` is the machine's.
+- **Maps** are `std::unordered_map` behind one mutex and in 64 shards, libcuckoo, TBB and dashmap. dashmap comes twice: as it is, and with 512 shards and the key as its own hash.
+- **LMDB** has one transaction behind a mutex, which a commit ends. In its second column each update is a transaction, gets wait for nobody, and a commit syncs.
+- **RocksDB** keeps its log in memory up to a commit. **LevelDB** writes it, and a commit syncs. **SQLite** has one transaction behind a mutex, which a commit ends.
 
 ### Throughput
 
@@ -265,6 +265,10 @@ How many times the peer's calls the library makes, both with a commit each 50 ms
 
 {ratios(figures, by_clock, "pair", figures.durable, "log")}
 
+How many milliseconds a commit takes:
+
+{commit_times(figures)}
+
 ### How long a call takes
 
 Each call is timed until it has taken effect, with {middle} threads. A call that waits for the device, or for a commit, counts until it is through. `one in hand` counts the calls alone that a commit meets.
@@ -287,7 +291,7 @@ What is handed to the system for each million upserts, with {middle} threads and
 
 ### Time to recover
 
-A store is loaded, {thousands(figures.told['calls'])} adds follow with four commits among them, and the process ends without closing it. Another process opens it and reads one value. The file is in the system's memory.
+A store is loaded, {thousands(figures.told['calls'])} adds follow with four commits among them, and the process ends without closing it. Another process opens it and reads one value. The file is in the system's memory. The numbers are by the clock, and the processor time of the process.
 
 ![Time to recover]({pictures}/recover.svg)
 
