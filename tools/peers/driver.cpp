@@ -3,7 +3,7 @@
 //     driver peers                                        names the peers that were built in
 //     driver measure FOLDER NAME=VALUE..                  plays all cells; the names are those of Settings
 //     driver fill PEER KEYS UPDATES FOLDER COMMITS        leaves a store as a crash does: no close, a last commit finished
-//     driver recover PEER KEYS FOLDER                     times the opening of such a store, up to the first value
+//     driver recover PEER KEYS FOLDER                     times the opening of such a store, up to the first value, and the gets after it
 #include <algorithm>
 #include <array>
 #include <cstdio>
@@ -34,6 +34,9 @@ void fail(const std::string &what) {
 namespace {
 
 using Words = std::vector<std::string>;
+
+// Up to how many keys sums are compared: behind loading, and behind each cell of adds and each recovery.
+constexpr uint64_t most_checked = 65536, least_checked = 4096;
 
 // What is measured. Lists stand between commas; times are in seconds.
 struct Settings {
@@ -193,7 +196,6 @@ class Run {
             skipped_++;
             return;
         }
-        // Sums are compared where that takes no time: no add is lost.
         const bool checked = cell.mix.updates == 1024 && cell.mix.update == Update::add && cell.keys <= least_checked;
         const uint64_t before = checked ? peer.sum(cell.keys) : 0;
         const Outcome outcome = measure(peer, cell, board.draws[cell.zipf], turn_++);
@@ -202,7 +204,6 @@ class Run {
     }
 
     static constexpr unsigned most_threads = 4;
-    static constexpr uint64_t most_checked = 65536, least_checked = 4096;
 
     Settings settings_;
     std::string folder_;
@@ -228,8 +229,10 @@ void recover(const Kind &kind, uint64_t keys, const std::string &folder) {
     std::unique_ptr<Peer> peer = kind.open({keys, 1, folder}, false);
     peer->first();
     const double opened = seconds_of(CLOCK_MONOTONIC), processor = seconds_of(CLOCK_PROCESS_CPUTIME_ID);
-    const uint64_t sum = peer->sum(keys);
-    std::cout << "{\"recovered\": \"" << kind.name << "\", \"keys\": " << keys << ", \"seconds\": " << opened - begun << ", \"processor\": " << processor << ", \"sum\": " << sum << "}" << std::endl;
+    const uint64_t read = std::min(keys, least_checked), sum = peer->sum(read);
+    const double each = (seconds_of(CLOCK_MONOTONIC) - opened) / read;
+    std::cout << "{\"recovered\": \"" << kind.name << "\", \"keys\": " << keys << ", \"seconds\": " << opened - begun << ", \"processor\": " << processor
+              << ", \"read\": " << read << ", \"each\": " << each << ", \"sum\": " << sum << "}" << std::endl;
 }
 
 int start(const Words &words) {

@@ -196,20 +196,21 @@ def written(figures, n):
     return table(["keys", "spread", "fkv, log commits", "fkv, full commits", *figures.durable], rows)
 
 
-def recovered(figures):
+def recovered(figures, spelled):
     columns = [(OWN, "log"), (OWN, "full"), *((it, "log") for it in figures.durable)]
     rows = []
     for keys in figures.sizes:
-        found = [[(it["seconds"], it["processor"]) for it in figures.recovered if (it["recovered"], it["commits"], it["keys"]) == (peer, commits, keys)] for peer, commits in columns]
+        found = [[spelled(it) for it in figures.recovered if (it["recovered"], it["commits"], it["keys"]) == (peer, commits, keys)] for peer, commits in columns]
         if any(found):
-            rows.append([thousands(keys)] + [" / ".join(time_told(1e9 * time) for time in it[0]) if it else "-" for it in found])
+            rows.append([thousands(keys)] + [it[0] if it else "-" for it in found])
     return table(["keys", "fkv, log commits", "fkv, full commits", *figures.durable], rows)
 
 
-def section(figures, pictures):
-    """The text. `pictures` is the folder of the pictures, as the page names it."""
-    threads = " / ".join(str(it) for it in figures.threads)
-    middle = 2 if 2 in figures.threads else figures.threads[0]
+def opening_told(it):
+    return f"{time_told(1e9 * it['seconds'])} / {time_told(1e9 * it['processor'])}"
+
+
+def beginning(figures):
     return f"""{TITLE}
 
 `make bench-peers` plays the same calls over the C library and over what a program would use in its place, and writes this section. `make bench-peers QUICK=1` plays fewer of them, in a minute.
@@ -222,8 +223,11 @@ def section(figures, pictures):
 - **Maps** are `std::unordered_map` behind one mutex and in 64 shards, libcuckoo, TBB and dashmap. dashmap comes twice: as it is, and with 512 shards and the key as its own hash.
 - **LMDB** has one transaction behind a mutex, which a commit ends. In its second column each update is a transaction, gets wait for nobody, and a commit syncs.
 - **RocksDB** keeps its log in memory up to a commit. **LevelDB** writes it, and a commit syncs. **SQLite** has one transaction behind a mutex, which a commit ends.
+"""
 
-### Throughput
+
+def throughput(figures, pictures, threads):
+    return f"""### Throughput
 
 Each number is how many times the peer's calls the library makes: above 1 it is ahead. It is the median of the rounds, and the geometric mean of uniform and Zipf. The three numbers are those of {threads} threads, without commits.
 
@@ -246,8 +250,11 @@ By processor time of the threads that call:
 The library's own figures, with {threads} threads:
 
 {own(figures)}
+"""
 
-### Commits each 50 ms
+
+def committed(figures, pictures, threads):
+    return f"""### Commits each 50 ms
 
 {kept_judged(figures)}
 
@@ -268,35 +275,59 @@ How many times the peer's calls the library makes, both with a commit each 50 ms
 How many milliseconds a commit takes:
 
 {commit_times(figures)}
+"""
 
-### How long a call takes
 
-Each call is timed until it has taken effect, with {middle} threads. A call that waits for the device, or for a commit, counts until it is through. `one in hand` counts the calls alone that a commit meets.
+def delayed(figures, pictures, n):
+    return f"""### How long a call takes
+
+Each call is timed until it has taken effect, with {n} threads. A call that waits for the device, or for a commit, counts until it is through. `one in hand` counts the calls alone that a commit meets.
 
 ![How long a call takes]({pictures}/delays.svg)
 
-{delays(figures, middle)}
+{delays(figures, n)}
 
 Stores on the device, with Zipf:
 
-{delays_beside(figures, middle)}
+{delays_beside(figures, n)}
+"""
 
-### Bytes
 
-What is handed to the system for each million upserts, with {middle} threads and a commit each 50 ms. A faster store makes more updates between two commits, and writes each key once for all of them if it updates in place.
+def stored(figures, pictures, n):
+    return f"""### Bytes
+
+What is handed to the system for each million upserts, with {n} threads and a commit each 50 ms. A faster store makes more updates between two commits. If it updates in place, it writes each key once for all of them.
 
 ![Bytes written]({pictures}/bytes.svg)
 
-{written(figures, middle)}
+{written(figures, n)}
 
 ### Time to recover
 
-A store is loaded, {thousands(figures.told['calls'])} adds follow with four commits among them, and the process ends without closing it. Another process opens it and reads one value. The file is in the system's memory. The numbers are by the clock, and the processor time of the process.
+A store is loaded, {thousands(figures.told["calls"])} adds follow with four commits among them, and the process ends without closing it. Another process opens it and reads one value. The file is in the system's memory. The numbers are by the clock, and the processor time of the process.
 
 ![Time to recover]({pictures}/recover.svg)
 
-{recovered(figures)}
+{recovered(figures, opening_told)}
+
+How long a get takes right behind that, one after another. fkv has no record in memory then, and reads each from the file.
+
+{recovered(figures, lambda it: time_told(1e9 * it["each"]))}
 """
+
+
+def section(figures, pictures):
+    """The text. `pictures` is the folder of the pictures, as the page names it."""
+    threads = " / ".join(str(it) for it in figures.threads)
+    n = 2 if 2 in figures.threads else figures.threads[0]
+    parts = [
+        beginning(figures),
+        throughput(figures, pictures, threads),
+        committed(figures, pictures, threads),
+        delayed(figures, pictures, n),
+        stored(figures, pictures, n),
+    ]
+    return "\n".join(parts)
 
 
 def write_page(told_run, path, pictures):
