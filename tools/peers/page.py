@@ -27,6 +27,10 @@ def spread(zipf):
     return "Zipf" if zipf else "uniform"
 
 
+def threads_told(numbers):
+    return " / ".join(str(it) for it in numbers) + (" thread" if list(numbers) == [1] else " threads")
+
+
 def bytes_told(number):
     if number is None:
         return "-"
@@ -91,7 +95,7 @@ def judged(figures, by, words):
     if not cells:
         return f"By {words} nothing was measured."
     behind = sorted(it for it in cells if it[0] < 1)
-    text = f"**By {words}** the library is ahead in {len(cells) - len(behind)} of {len(cells)} cells of get, upsert and add, with 2 and 4 threads, 4,096 and 65,536 keys."
+    text = f"**By {words}** the library is ahead in {len(cells) - len(behind)} of {len(cells)} cells of get, upsert and add, with 2 and 4 threads, 4,096 and 65,536 keys. All peers have locks."
     if not behind:
         return text
     by_peer = {}
@@ -100,7 +104,7 @@ def judged(figures, by, words):
     rows = []
     for peer, found in sorted(by_peer.items(), key=lambda it: it[1][0][0]):
         ratio, keys, zipf, mix, n = found[0]
-        rows.append([peer, str(len(found)), told(mean([it[0] for it in found])), f"{told(ratio)}: {mix}, {thousands(keys)} keys, {spread(zipf)}, {n} threads"])
+        rows.append([peer, str(len(found)), told(mean([it[0] for it in found])), f"{told(ratio)}: {mix}, {thousands(keys)} keys, {spread(zipf)}, {threads_told([n])}"])
     return f"{text} It is behind here:\n\n" + table(["peer", "cells", "times the peer's calls in these", "least"], rows)
 
 
@@ -119,16 +123,19 @@ def own(figures):
 
 
 def kept(figures, commits):
+    """The share that is kept, and how many processors the keeper takes, of the mixes and threads that were played."""
+    own_cells = [it for it in figures.cells if (it["part"], it["peer"], it["commits"]) == ("pair", OWN, commits)]
+    mixes = [it for it in figures.mixes if any(cell["mix"] == it for cell in own_cells)]
+    threads = sorted({it["threads"] for it in own_cells})
     rows = []
     for keys in figures.sizes:
         for zipf in (False, True):
             row = [thousands(keys), spread(zipf)]
-            for mix in figures.mixes:
-                shares = [figures.kept(by_clock, keys, zipf, mix, n, commits) for n in figures.threads]
+            for mix in mixes:
+                shares = [figures.kept(by_clock, keys, zipf, mix, n, commits) for n in threads]
                 row.append(" / ".join("-" if it is None else f"{100 * it:.0f}" for it in shares))
-            if any(it.strip("-/ ") for it in row[2:]):
-                rows.append(row + [told(figures.beside(keys, zipf, commits))])
-    return table(["keys", "spread", *(MIXES[it] for it in figures.mixes), "processors of the keeper"], rows)
+            rows.append(row + [told(figures.beside(keys, zipf, commits))])
+    return f"With {commits} commits and {threads_told(threads)}:\n\n" + table(["keys", "spread", *(MIXES[it] for it in mixes), "keeper"], rows)
 
 
 def commit_times(figures):
@@ -148,7 +155,7 @@ def kept_judged(figures):
             least, (keys, zipf), mix, n = min(cells)
             told_of.append(
                 f"By {words} at least 90 % is kept in {len(cells) - len(below)} of {len(cells)} cells at 4,096 keys, and at 65,536 by Zipf."
-                f" The least is {100 * least:.0f} %: {MIXES[mix]}, {thousands(keys)} keys, {spread(zipf)}, {n} threads."
+                f" The least is {100 * least:.0f} %: {MIXES[mix]}, {thousands(keys)} keys, {spread(zipf)}, {threads_told([n])}."
             )
     later = []
     for keys, zipf in places:
@@ -161,28 +168,38 @@ def kept_judged(figures):
         most, keys, zipf, mix, n = max(later)
         told_of.append(
             f"The 99.9th percentile with log commits is at most twice that without in {sum(it[0] <= MOST_LATER for it in later)} of {len(later)} of these cells."
-            f" The most is {told(most)} times: {MIXES[mix]}, {thousands(keys)} keys, {spread(zipf)}, {n} threads."
+            f" The most is {told(most)} times: {MIXES[mix]}, {thousands(keys)} keys, {spread(zipf)}, {threads_told([n])}."
         )
     return " ".join(told_of)
 
 
-def delay_rows(figures, peer, mix, n):
+def later(figures):
+    """How many times as late the 99.9th percentile comes with log commits."""
+    timed = [it for it in figures.cells if (it["part"], it["peer"]) == ("timed", OWN)]
+    mixes = [it for it in figures.mixes if any(cell["mix"] == it for cell in timed)]
+    threads = sorted({it["threads"] for it in timed})
+    rows = []
     for keys in figures.sizes:
         for zipf in (False, True):
-            for commits, which, words in (("none", "all", "none"), ("log", "all", "each 50 ms"), ("log", "in_commit", "one in hand")):
-                found = figures.delays(peer, keys, zipf, mix, n, commits, which)
-                if found:
-                    yield [peer, MIXES[mix], thousands(keys), spread(zipf), words] + [time_told(it) for it in found]
+            row = [thousands(keys), spread(zipf)]
+            for mix in mixes:
+                both = [[figures.delays(OWN, keys, zipf, mix, n, it, "all") for it in ("none", "log")] for n in threads]
+                row.append(joined([committed[3] / plain[3] if plain and committed else None for plain, committed in both]))
+            rows.append(row)
+    return f"With {threads_told(threads)}:\n\n" + table(["keys", "spread", *(MIXES[it] for it in mixes)], rows)
 
 
 def delays(figures, n):
-    rows = [row for mix in figures.mixes for row in delay_rows(figures, OWN, mix, n)]
-    return table(["store", "calls", "keys", "spread", "commits", *SHARES], rows)
-
-
-def delays_beside(figures, n):
-    rows = [row for peer in figures.durable for row in delay_rows(figures, peer, "A", n) if row[4] != "none" and row[3] == "Zipf"]
-    return table(["store", "calls", "keys", "spread", "commits", *SHARES], rows)
+    """Percentiles of YCSB A: of fkv, and of the other stores with commits."""
+    rows = []
+    for peer in (OWN, *figures.durable):
+        for keys in figures.sizes:
+            for zipf in (False, True) if peer == OWN else (True,):
+                for commits, which, words in (("none", "all", "none"), ("log", "all", "each 50 ms"), ("log", "in_commit", "one in hand")):
+                    found = figures.delays(peer, keys, zipf, "A", n, commits, which)
+                    if found and (peer == OWN or words != "none"):
+                        rows.append([peer, thousands(keys), spread(zipf), words] + [time_told(it) for it in found])
+    return table(["store", "keys", "spread", "commits", *SHARES], rows)
 
 
 def written(figures, n):
@@ -229,7 +246,7 @@ def beginning(figures):
 def throughput(figures, pictures, threads):
     return f"""### Throughput
 
-Each number is how many times the peer's calls the library makes: above 1 it is ahead. It is the median of the rounds, and the geometric mean of uniform and Zipf. The three numbers are those of {threads} threads, without commits.
+Each number is how many times the peer's calls the library makes: above 1 it is ahead. It is the median of the rounds, and the geometric mean of uniform and Zipf. The numbers are those of {threads}, without commits.
 
 {judged(figures, by_clock, "the clock")}
 
@@ -247,24 +264,22 @@ By processor time of the threads that call:
 
 {ratios(figures, by_processor)}
 
-The library's own figures, with {threads} threads:
+The library's own figures, with {threads}:
 
 {own(figures)}
 """
 
 
-def committed(figures, pictures, threads):
+def committed(figures, pictures):
     return f"""### Commits each 50 ms
 
 {kept_judged(figures)}
 
 ![Throughput that is kept]({pictures}/kept.svg)
 
-The share of throughput that is kept with log commits, in percent, by the clock, with {threads} threads:
+The share of throughput that is kept, in percent, by the clock. The last column is how many processors the keeper takes beside the threads that call.
 
 {kept(figures, "log")}
-
-The same with full commits:
 
 {kept(figures, "full")}
 
@@ -281,22 +296,24 @@ How many milliseconds a commit takes:
 def delayed(figures, pictures, n):
     return f"""### How long a call takes
 
-Each call is timed until it has taken effect, with {n} threads. A call that waits for the device, or for a commit, counts until it is through. `one in hand` counts the calls alone that a commit meets.
+Each call is timed until it has taken effect. So a call that waits for the device, or for a commit, counts until it is through.
+
+How many times as late the 99.9th percentile of fkv comes with a log commit each 50 ms as without:
+
+{later(figures)}
 
 ![How long a call takes]({pictures}/delays.svg)
 
+Calls of YCSB A with {threads_told([n])}. `one in hand` counts the calls alone that a commit meets:
+
 {delays(figures, n)}
-
-Stores on the device, with Zipf:
-
-{delays_beside(figures, n)}
 """
 
 
 def stored(figures, pictures, n):
     return f"""### Bytes
 
-What is handed to the system for each million upserts, with {n} threads and a commit each 50 ms. A faster store makes more updates between two commits. If it updates in place, it writes each key once for all of them.
+What is handed to the system for each million upserts, with {threads_told([n])} and a commit each 50 ms. A faster store makes more updates between two commits. If it updates in place, it writes each key once for all of them.
 
 ![Bytes written]({pictures}/bytes.svg)
 
@@ -318,12 +335,12 @@ How long a get takes right behind that, one after another. fkv has no record in 
 
 def section(figures, pictures):
     """The text. `pictures` is the folder of the pictures, as the page names it."""
-    threads = " / ".join(str(it) for it in figures.threads)
+    threads = threads_told(figures.threads)
     n = 2 if 2 in figures.threads else figures.threads[0]
     parts = [
         beginning(figures),
         throughput(figures, pictures, threads),
-        committed(figures, pictures, threads),
+        committed(figures, pictures),
         delayed(figures, pictures, n),
         stored(figures, pictures, n),
     ]

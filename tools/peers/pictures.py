@@ -62,15 +62,15 @@ def ratios(figures, by, words, path):
 def kept(figures, path):
     """The share of its throughput that the library keeps with log commits, by mix."""
     places = [(keys, zipf) for keys in figures.sizes for zipf in (False, True)]
-    width, height, top, left = 270, 150, 66, 52
-    drawing = Drawing(left + (width + 40) * 2, top + (height + 62) * len(figures.sizes))
+    width, height, top, left = 270, 160, 72, 52
+    drawing = Drawing(left + (width + 40) * 2, top + (height + 56) * len(figures.sizes))
     drawing.text(12, 22, "Throughput that is kept with a log commit each 50 ms, by the clock", size=15, bold=True)
     threads_key(drawing, 16, 44, sorted({it["threads"] for it in figures.cells if it["part"] == "pair"}))
     for i, (keys, zipf) in enumerate(places):
-        x, y = left + (i % 2) * (width + 40), top + 10 + (i // 2) * (height + 62)
-        drawing.text(x, y - 2, f"{thousands(keys)} keys, {spread(zipf)}", bold=True)
+        x, y = left + (i % 2) * (width + 40), top + 10 + (i // 2) * (height + 56)
+        drawing.text(x, y - 6, f"{thousands(keys)} keys, {spread(zipf)}", bold=True)
         for share in (0, 0.25, 0.5, 0.75, 0.9, 1):
-            at = y + height * (1 - share / 1.2)
+            at = y + height * (1 - share / 1.25)
             drawing.line(x, at, x + width, at, "#a33b3b" if share == 0.9 else "#dddddd")
             if share != 0.9 or i % 2 == 0:
                 drawing.text(x - 6, at + 4, f"{100 * share:.0f} %", size=10, color="#a33b3b" if share == 0.9 else OTHER, anchor="end")
@@ -81,7 +81,7 @@ def kept(figures, path):
             for k, n in enumerate(figures.threads):
                 share = figures.kept(by_clock, keys, zipf, mix, n, "log")
                 if share:
-                    drawing.dot(middle + (k - (len(figures.threads) - 1) / 2) * 11, y + height * (1 - min(share, 1.2) / 1.2), BY_THREADS.get(n, OTHER))
+                    drawing.dot(middle + (k - (len(figures.threads) - 1) / 2) * 11, y + height * (1 - min(share, 1.2) / 1.25), BY_THREADS.get(n, OTHER))
     drawing.save(path)
 
 
