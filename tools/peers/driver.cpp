@@ -225,10 +225,10 @@ void fill(const Kind &kind, uint64_t keys, uint64_t calls, const std::string &fo
 }
 
 void recover(const Kind &kind, uint64_t keys, const std::string &folder) {
-    const double begun = seconds_of(CLOCK_MONOTONIC);
+    const double begun = seconds_of(CLOCK_MONOTONIC), before = seconds_of(CLOCK_PROCESS_CPUTIME_ID);
     std::unique_ptr<Peer> peer = kind.open({keys, 1, folder}, false);
     peer->first();
-    const double opened = seconds_of(CLOCK_MONOTONIC), processor = seconds_of(CLOCK_PROCESS_CPUTIME_ID);
+    const double opened = seconds_of(CLOCK_MONOTONIC), processor = seconds_of(CLOCK_PROCESS_CPUTIME_ID) - before;
     const uint64_t read = std::min(keys, least_checked), sum = peer->sum(read);
     const double each = (seconds_of(CLOCK_MONOTONIC) - opened) / read;
     std::cout << "{\"recovered\": \"" << kind.name << "\", \"keys\": " << keys << ", \"seconds\": " << opened - begun << ", \"processor\": " << processor

@@ -11,6 +11,8 @@ MIXES = {
     "B": "YCSB B",
     "F": "YCSB F, by adds",
 }
+# On a machine that is too busy a thread may hardly be let run. A cell with fewer calls a thread counts for nothing.
+LEAST_CALLS = 1000
 SHARES = ["50 %", "90 %", "99 %", "99.9 %", "99.99 %", "most"]
 
 
@@ -34,7 +36,9 @@ def thousands(number):
 class Figures:
     def __init__(self, told):
         self.told = told
-        self.cells = [it for it in told["lines"] if "part" in it]
+        played = [it for it in told["lines"] if "part" in it]
+        self.cells = [it for it in played if it["calls"] >= LEAST_CALLS * it["threads"]]
+        self.dropped = len(played) - len(self.cells)
         self.recovered = [it for it in told["lines"] if "recovered" in it]
         self.end = next(it for it in told["lines"] if "skipped" in it)
         self.index = {}
@@ -90,7 +94,8 @@ class Figures:
     def share(self):
         """The share of a processor that a thread of fkv got, by how many of them there were."""
         plain = [it for it in self.cells if it["peer"] == OWN and it["part"] == "plain"]
-        return {n: median(it["processor"] / it["wall"] / n for it in plain if it["threads"] == n) for n in self.threads}
+        shares = {n: [it["processor"] / it["wall"] / n for it in plain if it["threads"] == n] for n in self.threads}
+        return {n: median(found) for n, found in shares.items() if found}
 
     def beside(self, keys, zipf, commits):
         """Processors that fkv's keeper takes while commits run, on average over all cells of these keys."""

@@ -2,7 +2,7 @@
 import os
 import time
 
-from figures import MIXES, OWN, SHARES, Figures, by_clock, by_processor, mean, thousands
+from figures import LEAST_CALLS, MIXES, OWN, SHARES, Figures, by_clock, by_processor, mean, thousands
 
 TITLE = "## Beside other stores"
 # The cells by which the library is judged.
@@ -71,6 +71,8 @@ def conditions(figures):
         lines.append(f"Left out, since packages are missing: {', '.join(told_run['missing'])}.")
     if figures.end["skipped"]:
         lines.append(f"The time was spent before {figures.end['skipped']} cells, which are left out.")
+    if figures.dropped:
+        lines.append(f"In {figures.dropped} cells a thread made fewer than {thousands(LEAST_CALLS)} calls. They are left out.")
     return "\n\n".join(lines)
 
 
