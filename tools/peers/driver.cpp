@@ -129,6 +129,7 @@ class Run {
         std::unique_ptr<Peer> peer = kind.open({keys, most_threads, folder}, true);
         peer->load(keys);
         if (keys <= most_checked && peer->sum(keys) != keys * (keys - 1) / 2) fail(std::string(kind.name) + ": what was loaded isn't there");
+        peer->pause();
         std::cout << "{\"loaded\": \"" << kind.name << "\", \"keys\": " << keys << ", \"seconds\": " << seconds_of(CLOCK_MONOTONIC) - begun << "}" << std::endl;
         return peer;
     }
@@ -196,10 +197,12 @@ class Run {
             skipped_++;
             return;
         }
+        peer.resume();
         const bool checked = cell.mix.updates == 1024 && cell.mix.update == Update::add && cell.keys <= least_checked;
         const uint64_t before = checked ? peer.sum(cell.keys) : 0;
         const Outcome outcome = measure(peer, cell, board.draws[cell.zipf], turn_++);
         if (checked && peer.sum(cell.keys) != before + outcome.updates) fail(std::string(guest.kind->name) + ": an add is lost");
+        peer.pause();
         std::cout << "{\"part\": \"" << part << "\", \"round\": " << round << ", \"peer\": \"" << guest.kind->name << "\", " << spelled(outcome, cell, ticks_) << "}" << std::endl;
     }
 

@@ -1,7 +1,8 @@
 // The loop of calls, made anew for each peer's own types, so that a map that is a header is inlined as in a program that uses it.
 //
-// A Store has a type Session, session(n) and commit(full). A Session has get, upsert and add; enter() and leave(), by the thread that
-// uses it then; idle(), after each 64 calls; and settle(), which waits until the last call has taken effect.
+// A Store has a type Session, session(n) and commit(full); pause() and resume() where a thread of its own goes on. A Session has get,
+// upsert and add; enter() and leave(), by the thread that uses it then; idle(), after each 64 calls; and settle(), which waits until
+// the last call has taken effect.
 #pragma once
 #include <time.h>
 
@@ -84,6 +85,14 @@ class PeerOf final : public Peer {
     }
 
     void commit(bool full) override { store_.commit(full); }
+
+    void pause() override {
+        if constexpr (requires { store_.pause(); }) store_.pause();
+    }
+
+    void resume() override {
+        if constexpr (requires { store_.resume(); }) store_.resume();
+    }
 
   private:
     using Session = typename Store::Session;

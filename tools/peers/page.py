@@ -8,6 +8,7 @@ TITLE = "## Beside other stores"
 # The cells by which the library is judged.
 JUDGED_SIZES, JUDGED_MIXES, JUDGED_THREADS = (4096, 65536), ("get", "upsert", "add"), (2, 4)
 LEAST_KEPT, MOST_LATER = 0.9, 2
+HOW = {"whole": "", "quick": " (`QUICK=1`)", "tiny": " (`--tiny`: these figures mean nothing)"}
 
 
 def table(head, rows):
@@ -62,7 +63,7 @@ def conditions(figures):
     others = figures.others()
     verdict = "The machine was idle but for it." if others < 0.2 else "So figures by the clock say little, and those by processor time hide what waiting for a lock costs."
     lines = [
-        f"Measured on {time.strftime('%d %B %Y', time.gmtime(told_run['begun'])).lstrip('0')}, on {machine()}, in {told_run['seconds'] / 60:.1f} minutes{' (`QUICK=1`)' if told_run['quick'] else ''}."
+        f"Measured on {time.strftime('%d %B %Y', time.gmtime(told_run['begun'])).lstrip('0')}, on {machine()}, in {told_run['seconds'] / 60:.1f} minutes{HOW[told_run['how']]}."
         f" The load was {before:.1f} before and {after:.1f} behind it. Beside the run {others:.1f} processors were busy. A thread of fkv got this share of a processor: {share} threads. {verdict}"
     ]
     if told_run["versions"]:
@@ -172,7 +173,7 @@ def kept_judged(figures):
             f"The 99.9th percentile with log commits is at most twice that without in {sum(it[0] <= MOST_LATER for it in later)} of {len(later)} of these cells."
             f" The most is {told(most)} times: {MIXES[mix]}, {thousands(keys)} keys, {spread(zipf)}, {threads_told([n])}."
         )
-    return " ".join(told_of)
+    return " ".join(told_of) or "Of commits nothing was measured."
 
 
 def later(figures):
@@ -239,8 +240,8 @@ def beginning(figures):
 - **Keys** are 64-bit words in no order, and so are values. Each call's key is drawn before anything is timed, the same for all. Zipf has the exponent 0.99.
 - **Calls.** YCSB A has half upserts and half gets, B one upsert in twenty calls. F has an add in half of its calls, in place of a read and a write.
 - **fkv** spreads the keys itself. Each session refreshes behind 64 calls. Memory has room for all records, and the index a bucket for each four keys.
-- **Maps** are `std::unordered_map` behind one mutex and in 64 shards, libcuckoo, TBB and dashmap. dashmap comes twice: as it is, and with 512 shards and the key as its own hash.
-- **LMDB** has one transaction behind a mutex, which a commit ends. In its second column each update is a transaction, gets wait for nobody, and a commit syncs.
+- **Maps** are `std::unordered_map` behind one mutex and in 64 shards, libcuckoo, TBB and dashmap. dashmap comes twice: as it is, and with 512 shards and each key as its own hash.
+- **LMDB** has one transaction behind a mutex, which a commit ends. By call each update is a transaction, gets wait for nobody, and a commit syncs.
 - **RocksDB** keeps its log in memory up to a commit. **LevelDB** writes it, and a commit syncs. **SQLite** has one transaction behind a mutex, which a commit ends.
 """
 

@@ -53,6 +53,9 @@ class Peer {
     virtual void run(unsigned session, const Plan &plan, Gate &gate, Tally &tally) = 0;
     // Returns when all calls that ended before it began survive a crash. It is called beside the sessions.
     virtual void commit(bool full) = 0;
+    // Between its cells a peer takes no processor time from the others.
+    virtual void pause() {}
+    virtual void resume() {}
 };
 
 struct Kind {

@@ -6,8 +6,10 @@ from drawing import Drawing, scale_of
 from figures import MIXES, OWN, Figures, by_clock, by_processor, thousands
 
 BY_THREADS = {1: "#8fbfe8", 2: "#3f83c4", 4: "#0b3d75"}
-BY_STORE = {OWN: "#0b3d75", "LMDB": "#d9770f", "LMDB, a transaction a call": "#e3b04b", "RocksDB": "#3f9a4d", "LevelDB": "#8e62a8", "SQLite": "#a33b3b"}
+BY_STORE = {OWN: "#0b3d75", "LMDB": "#d9770f", "LMDB (by call)": "#e3b04b", "RocksDB": "#3f9a4d", "LevelDB": "#8e62a8", "SQLite": "#a33b3b"}
 OTHER = "#666666"
+# Dots of smaller ratios are put here.
+LEAST_RATIO = 0.2
 RATIO_MIXES = ("get", "upsert", "add", "A")
 
 
@@ -21,8 +23,28 @@ def threads_key(drawing, x, y, threads):
         x = drawing.text(x + 9, y, f"{n} thread{'s' if n > 1 else ''}") + 18
 
 
+def ratio_ticks(most):
+    near = [it for it in (0.25, 0.5, 1, 2, 4, 8, 16, 32) if it <= most]
+    return near if most < 32 else [it for it in (0.25, 1, 4, 16, 64, 256, 1024) if it <= most]
+
+
+def ratio_panel(drawing, place, y, row, peers, found, most):
+    """For each peer a row of dots, one for each number of threads. `found` has the ratios by peer and threads."""
+    height = row * len(peers)
+    for tick in ratio_ticks(most):
+        drawing.line(place(tick), y, place(tick), y + height, "#444444" if tick == 1 else "#dddddd", 1.5 if tick == 1 else 1)
+        drawing.text(place(tick), y + height + 13, f"{tick:g}", size=10, color=OTHER, anchor="middle")
+    for k, peer in enumerate(peers):
+        at = y + row * (k + 0.5)
+        dots = [(n, place(max(it, LEAST_RATIO))) for n, it in found(peer) if it]
+        if dots:
+            drawing.line(min(x for _, x in dots), at, max(x for _, x in dots), at, "#c5d3e0", 2)
+        for n, x in dots:
+            drawing.dot(x, at, BY_THREADS.get(n, OTHER))
+
+
 def ratios(figures, by, words, path):
-    """For each peer a row of dots, one for each number of threads: how many times its calls the library makes."""
+    """How many times each peer's calls the library makes: a panel for each mix and size."""
     mixes = [it for it in RATIO_MIXES if it in figures.mixes]
     label, width, row, top, gap = 216, 190, 17, 62, 44
     height = row * len(figures.peers)
@@ -30,32 +52,20 @@ def ratios(figures, by, words, path):
     drawing.text(12, 22, f"Times the peer's calls a second, by {words}, without commits", size=15, bold=True)
     threads_key(drawing, 16, 44, figures.threads)
     drawing.text(330, 44, "right of the line at 1 the library is ahead", color=OTHER)
-    found = {
-        (keys, mix, peer, n): figures.over_spreads(by, "plain", peer, keys, mix, n)
-        for keys in figures.sizes for mix in mixes for peer in figures.peers for n in figures.threads
-    }
-    most = max([it for it in found.values() if it] + [8])
-    ticks = [it for it in (0.25, 0.5, 1, 2, 4, 8, 16, 32, 64, 128, 256) if it <= max(most, 8)]
-    ticks = ticks if len(ticks) < 8 else [it for it in (0.25, 1, 4, 16, 64, 256) if it <= most]
+
+    def found(keys, mix):
+        return lambda peer: [(n, figures.over_spreads(by, "plain", peer, keys, mix, n)) for n in figures.threads]
+
+    all_found = [it for keys in figures.sizes for mix in mixes for peer in figures.peers for _, it in found(keys, mix)(peer) if it]
+    most = max(all_found + [8])
     for i, keys in enumerate(figures.sizes):
         y = top + 14 + i * (height + gap)
+        for k, peer in enumerate(figures.peers):
+            drawing.text(label - 8, y + row * (k + 0.5) + 4, peer, anchor="end")
         for j, mix in enumerate(mixes):
             x = label + j * (width + 16)
-            place = scale_of(0.2, most * 1.25, x, x + width)
             drawing.text(x, y - 6, f"{MIXES[mix]}, {thousands(keys)} keys", bold=True)
-            for tick in ticks:
-                drawing.line(place(tick), y, place(tick), y + height, "#444444" if tick == 1 else "#dddddd", 1.5 if tick == 1 else 1)
-                drawing.text(place(tick), y + height + 13, f"{tick:g}", size=10, color=OTHER, anchor="middle")
-            for k, peer in enumerate(figures.peers):
-                at = y + row * k + row / 2
-                if j == 0:
-                    drawing.text(label - 8, at + 4, peer, anchor="end")
-                dots = [(n, found[keys, mix, peer, n]) for n in figures.threads if found[keys, mix, peer, n]]
-                if dots:
-                    ends = [place(max(it, 0.2)) for _, it in dots]
-                    drawing.line(min(ends), at, max(ends), at, "#c5d3e0", 2)
-                for n, it in dots:
-                    drawing.dot(place(max(it, 0.2)), at, BY_THREADS.get(n, OTHER))
+            ratio_panel(drawing, scale_of(LEAST_RATIO, most * 1.25, x, x + width), y, row, figures.peers, found(keys, mix), most)
     drawing.save(path)
 
 

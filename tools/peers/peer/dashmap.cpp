@@ -41,6 +41,6 @@ using PlainMap = Dash<PlainDash, plain_dash_new, plain_dash_get, plain_dash_upse
 using FastMap = Dash<FastDash, fast_dash_new, fast_dash_get, fast_dash_upsert, fast_dash_add, fast_dash_free>;
 
 const peers::Registered plain({40, "dashmap", false, false, peers::opened<PlainMap>});
-const peers::Registered fast({41, "dashmap, 512 shards, no hash", false, false, peers::opened<FastMap>});
+const peers::Registered fast({41, "dashmap (512 shards)", false, false, peers::opened<FastMap>});
 
 }  // namespace

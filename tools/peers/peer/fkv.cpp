@@ -121,15 +121,24 @@ struct Fkv {
     Fkv(const Fkv &) = delete;
 
     ~Fkv() {
-        fkv_stop(file, 0);
+        pause();
         fkv_close_file(file);
+    }
+
+    void pause() {
+        if (runs) must(fkv_stop(file, 0), "stop");
+        runs = false;
+    }
+
+    void resume() {
+        if (!runs) keep(false);
     }
 
     std::unique_ptr<Session> session(unsigned number) { return std::make_unique<Session>(file, number); }
 
     void commit(bool full) {
         if (full != is_full) {
-            must(fkv_stop(file, 0), "stop");
+            pause();
             keep(full);
         }
         uint64_t ticket;
@@ -142,10 +151,11 @@ struct Fkv {
         fkv_keeping keeping{};
         keeping.log_commits = full ? 0 : UINT32_MAX;
         must(fkv_start(file, &keeping), "start");
+        runs = true;
     }
 
     fkv_file *file = nullptr;
-    bool is_full = false;
+    bool runs = false, is_full = false;  // the keeper's thread, and whether it makes full commits
 };
 
 const peers::Registered here({10, "fkv", true, true, peers::opened<Fkv>});

@@ -130,6 +130,6 @@ struct One {
 };
 
 const peers::Registered one({50, "LMDB", true, false, peers::opened<One>});
-const peers::Registered many({51, "LMDB, a transaction a call", true, false, peers::opened<Many>});
+const peers::Registered many({51, "LMDB (by call)", true, false, peers::opened<Many>});
 
 }  // namespace
