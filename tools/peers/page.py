@@ -59,12 +59,12 @@ def machine():
 def conditions(figures):
     told_run = figures.told
     before, after = (it[0] for it in told_run["load"])
-    share = ", ".join(f"{100 * it:.0f} % with {n}" for n, it in figures.share().items())
+    share = ", ".join(f"{100 * it:.0f} % with {threads_told([n])}" for n, it in figures.share().items()) or "none"
     others = figures.others()
     verdict = "The machine was idle but for it." if others < 0.2 else "So figures by the clock say little, and those by processor time hide what waiting for a lock costs."
     lines = [
         f"Measured on {time.strftime('%d %B %Y', time.gmtime(told_run['begun'])).lstrip('0')}, on {machine()}, in {told_run['seconds'] / 60:.1f} minutes{HOW[told_run['how']]}."
-        f" The load was {before:.1f} before and {after:.1f} behind it. Beside the run {others:.1f} processors were busy. A thread of fkv got this share of a processor: {share} threads. {verdict}"
+        f" The load was {before:.1f} before and {after:.1f} behind it. Beside the run {others:.1f} processors were busy. A thread of fkv got this share of a processor: {share}. {verdict}"
     ]
     if told_run["versions"]:
         lines.append(f"Debian's packages: {', '.join(told_run['versions'])}.")
@@ -354,7 +354,10 @@ def write_page(told_run, path, pictures):
     """Puts the section into the page, in place of the one that is there. It returns what it says of the aims."""
     figures = Figures(told_run)
     text = section(figures, os.path.relpath(pictures, os.path.dirname(path)))
-    page = open(path).read() if os.path.exists(path) else ""
+    page = "# Speed of the library\n\n"
+    if os.path.exists(path):
+        with open(path) as file:
+            page = file.read()
     before, found, rest = page.partition(TITLE + "\n")
     at = rest.find("\n## ")
     after = rest[at + 1 :] if found and at >= 0 else ""
