@@ -9,6 +9,8 @@
 # make memory  runs stored scripts, a store's creation and its opening, a commit's copy and the options' words, with each request for memory refused in turn
 # make large   plays scripts of 2^20 keys over a large store, in a file and in memory, and compares with a plain map
 # make bench   times the proved program on scripts of up to 65,536 lines, and recovery of images of up to 2^20 records
+# make bench-peers  plays the same calls over the library of `make face` and over other maps and stores, and writes docs/PEERS.md with
+#              pictures, in ten minutes; with QUICK=1 fewer of them, in one
 # make hammer  runs lives of stores that four threads share, each ended by a crash, for a minute or SECONDS
 # make gate    runs the gate, and writes the processor time of each crate into docs/GATE.md
 # make audit   tries the wrong bodies that the gate leaves out, those of crates/*/audit, or of the crates in CRATES
@@ -25,7 +27,7 @@ SECONDS ?= 60
 # The crates whose wrong bodies `make audit` tries, as CRATES="fkv_log fkv_ops"; all where nothing is said.
 CRATES ?=
 
-.PHONY: run test fkv face rows memory large bench hammer gate audit docs toolchain
+.PHONY: run test fkv face rows memory large bench bench-peers hammer gate audit docs toolchain
 
 run: toolchain
 	@tools/script/run "$(SCRIPT)" $(WORDS)
@@ -76,6 +78,9 @@ bench: fkv
 	tools/bench/run build/fkv
 	tools/bench/threads build/fkv
 	tools/bench/recovery
+
+bench-peers: face
+	tools/peers/run $(if $(QUICK),--quick)
 
 hammer: toolchain
 	tools/hammer/run $(SECONDS)
