@@ -178,6 +178,9 @@ int32_t fkv_image(const fkv_shape *shape, uint8_t *into, size_t room);
  * bits, one to one. With FKV_SPREAD_ALREADY keys are taken as they are: for keys that are hashes, or random. Say the same at each
  * opening. A store that is opened the other way finds none of its keys, and nothing tells so.
  *
+ * Each session is awake behind the call, whether it is taken or not, and commits wait for its refresh: take them all, and put those
+ * to sleep that you don't use.
+ *
  * `*shape` becomes the store's shape, `*opened` what was told, and `points` each session's last kept serial, as many as fit into
  * `room`. What lies behind the last session's says nothing.
  * 0; -FKV_NOT_A_STORE, -FKV_DAMAGED (`*opened` says where), -FKV_MEMORY.
