@@ -144,14 +144,14 @@ enum {
     FKV_DRAIN_FULL = 9,      /* a commit: no drain slot is free; ask again behind a turn */
     FKV_COMMIT_RUNNING = 10, /* a commit: another one runs, or a turn is in hand */
     FKV_PENDING_LEFT = 11,   /* the session has pending requests: poll until none is left */
-    FKV_ASLEEP = 12,         /* the session sleeps, or its handle was ended */
-    FKV_BROKEN = 13,         /* a call of the device has failed before: the store commits no more. Open it anew */
+    FKV_ASLEEP = 12,         /* the session sleeps */
+    FKV_BROKEN = 13,         /* a call of the device has failed before: the store commits no more. Open it anew. Or the keeper was ended */
     FKV_DEVICE = 14,         /* a call of the device has failed. Of fkv_posix.h: the system refused; errno says why */
     FKV_NOT_A_STORE = 15,    /* the bytes are no store's */
     FKV_DAMAGED = 16,        /* the bytes are a store's, and damaged */
     FKV_SCRIPT = 17,         /* never comes here */
     FKV_MEMORY = 18,         /* memory was refused */
-    FKV_NO_SESSION = 19,     /* the shape has no session of this number */
+    FKV_NO_SESSION = 19,     /* the shape has no session of this number, or its handle was ended */
     FKV_AWAKE = 20,          /* the session is awake */
     FKV_LOST_FULL = 21,      /* a log commit: more than eight ranges of lost records are in hand; a full commit clears them */
     FKV_HANDLE_OUT = 22,     /* a handle of the store is out still */
@@ -178,17 +178,23 @@ int32_t fkv_image(const fkv_shape *shape, uint8_t *into, size_t room);
  * bits, one to one. With FKV_SPREAD_ALREADY keys are taken as they are: for keys that are hashes, or random. Say the same at each
  * opening. A store that is opened the other way finds none of its keys, and nothing tells so.
  *
+ * Each session is awake behind the call, whether it is taken or not, and commits wait for its refresh: take them all, and put those
+ * to sleep that you don't use.
+ *
  * `*shape` becomes the store's shape, `*opened` what was told, and `points` each session's last kept serial, as many as fit into
- * `room`; the rest of the room is 0.
+ * `room`. What lies behind the last session's says nothing.
  * 0; -FKV_NOT_A_STORE, -FKV_DAMAGED (`*opened` says where), -FKV_MEMORY.
  */
 int32_t fkv_open(const uint8_t *bytes, size_t size, uint32_t keys, void **out, fkv_shape *shape, fkv_opened *opened,
                  uint64_t *points, size_t room);
 
-/* Hands out session `number`, from 0: `*out` is `&session.at`. Once. 0; -FKV_NO_SESSION, -FKV_HANDLE_TAKEN, -FKV_MEMORY. */
+/*
+ * Hands out session `number`, from 0: `*out` is `&session.at`. Once. It is awake.
+ * 0; -FKV_NO_SESSION, -FKV_HANDLE_TAKEN; -FKV_MEMORY, and then nobody gets it any more.
+ */
 int32_t fkv_take_session(fkv_store *store, uint64_t number, void **out);
 
-/* Hands out the keeper: `*out` is `&keeper.at`. Once. 0; -FKV_HANDLE_TAKEN, -FKV_MEMORY. */
+/* Hands out the keeper: `*out` is `&keeper.at`. Once. 0; -FKV_HANDLE_TAKEN; -FKV_MEMORY, and then nobody gets it any more. */
 int32_t fkv_take_keeper(fkv_store *store, void **out);
 
 /*

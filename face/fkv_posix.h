@@ -70,7 +70,10 @@ typedef struct {
  */
 int32_t fkv_open_file(const char *path, const fkv_how *how, fkv_file **out);
 
-/* Closes the file, behind fkv_stop. What no commit has kept is lost. 0; -FKV_HANDLE_OUT while a session is joined, and then it stays open. */
+/*
+ * Ends the keeper's thread, if one runs, and closes the file. What no commit has kept is lost: fkv_stop makes a last one.
+ * 0; -FKV_HANDLE_OUT while a session is joined, and then the file stays open.
+ */
 int32_t fkv_close_file(fkv_file *file);
 
 /* The store's shape. */
@@ -167,7 +170,10 @@ int32_t fkv_keeper_fault(fkv_file *file);
  */
 int fkv_call_file(int fd, int32_t call, const fkv_turned *turned, uint8_t into[FKV_READ_SIZE]);
 
-/* A whole turn over a descriptor: FKV_OVER or a refusal, as fkv_turn. `*written`, if it isn't NULL, grows by the bytes that were written. */
+/*
+ * A whole turn over a descriptor: FKV_OVER or a refusal, as fkv_turn. `*written`, if it isn't NULL, grows by the bytes that were
+ * written.
+ */
 int32_t fkv_turn_file(int fd, fkv_keeper *keeper, fkv_turned *turned, uint64_t *points, size_t room, uint64_t *written);
 
 #ifdef __cplusplus

@@ -98,10 +98,12 @@ int main(int count, char **words) {
     int32_t made = fkv_make_file(words[1], &shape);
     if (made < 0 && errno != EEXIST) must(made, "make");
     must(fkv_open_file(words[1], NULL, &file), "open");
+    must(fkv_start(file, NULL), "start");
+    check();
+    must(fkv_stop(file, 0), "stop");
+    if (count > 2) return must(fkv_close_file(file), "close");
     fkv_keeping keeping = {.commit_ms = 50, .committed = tell_commit, .progress = tell_progress};
     must(fkv_start(file, &keeping), "start");
-    check();
-    if (count > 2) return must(fkv_close_file(file), "close");
     pthread_t workers[WORKERS];
     for (uintptr_t i = 0; i < WORKERS; i++) pthread_create(&workers[i], NULL, work, (void *)i);
     for (int i = 0; i < WORKERS; i++) pthread_join(workers[i], NULL);

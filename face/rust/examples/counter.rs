@@ -106,6 +106,12 @@ fn main() -> Result<(), Error> {
         made => made?,
     }
     let store = Store::open(path)?;
+    let keeper = store.start(Keeping::default())?;
+    check(&store)?;
+    drop(keeper);
+    if words.len() > 2 {
+        return Ok(());
+    }
     let keeping = Keeping::default()
         .commit_each(Duration::from_millis(50))
         .committed(|number, points| {
@@ -117,10 +123,6 @@ fn main() -> Result<(), Error> {
             }
         });
     let _keeper = store.start(keeping)?;
-    check(&store)?;
-    if words.len() > 2 {
-        return Ok(());
-    }
     thread::scope(|scope| {
         for number in 0..WORKERS {
             let session = store.join(number).expect("nobody has it");
