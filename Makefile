@@ -3,7 +3,9 @@
 # make test    the gate: whether generated pages are up to date, what crates name of each other, every proof from nothing, the
 #              must-fail edits, the tests and the program; then tools/openings, and what `make rows`, `make memory` and `make large` do
 # make fkv     proves the program, says at which crate it is, and leaves it at build/fkv
+# make fkv_renew  proves the program that renews a store, and leaves it at build/fkv_renew
 # make rows    runs the built program on whole scripts, and compares what it writes
+# make renewing   renews stored files by that program, and compares what fkv says of the old and of the new ones
 # make memory  runs stored scripts, a store's creation and its opening, a commit's copy and the options' words, with each request for memory refused in turn
 # make large   plays scripts of 2^20 keys over a large store, in a file and in memory, and compares with a plain map
 # make bench   times the proved program on scripts of up to 65,536 lines, and recovery of images of up to 2^20 records
@@ -23,7 +25,7 @@ SECONDS ?= 60
 # The crates whose wrong bodies `make audit` tries, as CRATES="fkv_log fkv_ops"; all where nothing is said.
 CRATES ?=
 
-.PHONY: run test fkv rows memory large bench hammer gate audit docs toolchain
+.PHONY: run test fkv fkv_renew rows renewing memory large bench hammer gate audit docs toolchain
 
 run: toolchain
 	@tools/script/run "$(SCRIPT)" $(WORDS)
@@ -43,12 +45,19 @@ test: toolchain
 	@tools/memory/keeper > /dev/null
 	@tools/memory/options > /dev/null
 	@tools/large/run crates/fkv/out/fkv > /dev/null
+	@tools/renewing/run crates/fkv/out/fkv crates/fkv_renew/out/fkv_renew > /dev/null
 
 fkv: toolchain
 	@tools/script/prove
 
+fkv_renew: toolchain
+	@tools/script/prove fkv_renew
+
 rows: fkv
 	tools/rows/run build/fkv
+
+renewing: fkv fkv_renew
+	tools/renewing/run build/fkv build/fkv_renew
 
 memory: fkv
 	cd crates/fkv_opening_tests && rt test > /dev/null
