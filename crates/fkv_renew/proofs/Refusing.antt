@@ -1,5 +1,5 @@
 -- What the words ask for, and words that ask for nothing.
-use Rattle.std.proofs.Common.{◌≡◌, ◌∙◌, ◌⊎◌, inl, inr, List, [], true, IfSome, Option, Some, None, Err, refl, sym, ap, subst, codes, option_map}
+use Rattle.std.proofs.Common.{◌≡◌, ◌∙◌, inl, inr, List, [], true, IfSome, Option, Some, None, Err, refl, sym, ap, subst, codes, option_map}
 use Rattle.clap.specs.Faults.{fault_of, is_simple_and_free}
 use Rattle.clap.specs.Kinds.{HasKind, IsAmong, Kinds}
 use Rattle.clap.specs.Matches.{first_value, found_of, matched_of, raw_values}

@@ -1,12 +1,10 @@
 -- What the words after the program's name ask for.
-use Rattle.std.specs.Prelude.{◌≡◌, ◌<◌, ◌^◌, ◌⊎◌, ℕ, true, List, [], ◌∷◌, codes, length, Option, Some, None, IsSomeAnd, slice_get, Result, Ok, Err}
+use Rattle.std.specs.Prelude.{◌≡◌, ◌<◌, ◌^◌, ℕ, true, List, [], codes, length, Option, Some, None, IsSomeAnd, slice_get, Result, Ok, Err}
 use Rattle.std.specs.Str.Parse.{IsNumeral, digits_value, without_leading_plus}
 use Rattle.clap.specs.Faults.{fault_of}
 use Rattle.clap.specs.Simple.{App, Shape as CommandShape, matches_of, new_app, new_rule, on_top, with_rule}
 use Rattle.clap.specs.Walk.{Row, Rule, Text, all_of, first_of}
 use Rattle.clap.specs.declared.builder.value_parser.ValueParser.TheVariants as vp
-use Rattle.fkv_base.specs.Limits.{IsSmall}
-use Rattle.fkv_base.specs.declared.shapes.Shape.{Shape}
 use Rattle.fkv_lines.specs.declared.scripts.Class.{Class}
 use Rattle.fkv_lines.specs.declared.scripts.Class.TheVariants.{Small, Large}
 use Rattle.fkv_lines.specs.declared.scripts.Sizes.{Sizes}

@@ -1,5 +1,4 @@
 use Rattle.std.proofs.Common.{◌∙◌, Bor, List, Option, ap, codes, option_map, sym, ℕ}
-use Rattle.clap.specs.Simple.{app_of}
 use Rattle.clap.specs.Walk.{texts}
 use Rattle.fkv_renew.proofs.Refusing.{asks_so, file_refused, sizes_refused}
 use Rattle.fkv_renew.specs.declared.words.WordFault.TheVariants.{Refused}
