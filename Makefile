@@ -5,7 +5,9 @@
 #              the library from C, C++ and Rust
 # make fkv     proves the program, says at which crate it is, and leaves it at build/fkv
 # make face    proves the library for C, C++ and Rust, and leaves it at build/libfkv.a, with build/fkv.h and build/fkv_posix.h
+# make fkv_renew  proves the program that renews a store, and leaves it at build/fkv_renew
 # make rows    runs the built program on whole scripts, and compares what it writes
+# make renewing   renews stored files by that program, and compares what fkv says of the old and of the new ones
 # make memory  runs stored scripts, a store's creation and its opening, a commit's copy and the options' words, with each request for memory refused in turn
 # make large   plays scripts of 2^20 keys over a large store, in a file and in memory, and compares with a plain map
 # make bench   times the proved program on scripts of up to 65,536 lines, and recovery of images of up to 2^20 records
@@ -27,7 +29,7 @@ SECONDS ?= 60
 # The crates whose wrong bodies `make audit` tries, as CRATES="fkv_log fkv_ops"; all where nothing is said.
 CRATES ?=
 
-.PHONY: run test fkv face rows memory large bench bench-peers hammer gate audit docs toolchain
+.PHONY: run test fkv face fkv_renew rows renewing memory large bench bench-peers hammer gate audit docs toolchain
 
 run: toolchain
 	@tools/script/run "$(SCRIPT)" $(WORDS)
@@ -47,6 +49,7 @@ test: toolchain
 	@tools/memory/keeper > /dev/null
 	@tools/memory/options > /dev/null
 	@tools/large/run crates/fkv/out/fkv > /dev/null
+	@tools/renewing/run crates/fkv/out/fkv crates/fkv_renew/out/fkv_renew > /dev/null
 	@tools/face/make
 	@tools/face/run > /dev/null
 
@@ -56,8 +59,14 @@ fkv: toolchain
 face: toolchain
 	@tools/face/make
 
+fkv_renew: toolchain
+	@tools/script/prove fkv_renew
+
 rows: fkv
 	tools/rows/run build/fkv
+
+renewing: fkv fkv_renew
+	tools/renewing/run build/fkv build/fkv_renew
 
 memory: fkv
 	cd crates/fkv_opening_tests && rt test > /dev/null

@@ -1,4 +1,6 @@
 //! The file of a store: one process alone has it open, and no other file is written over.
+ghost use Rattle.std.specs.Prelude.{◌<◌};
+
 use crate::troubles::Trouble;
 use fkv_disk::{Device, FileDisk};
 use std::fs::{File, Metadata, OpenFile, OpenOptions, TryLockError};
@@ -46,6 +48,25 @@ fn length_of(known: &Metadata) -> Option<u64> {
     }
 }
 
+/// At most so many pages of 4 KiB are kept while a file is read: 32 MiB.
+const MOST_PAGES: usize = 8192;
+
+/// How many pages of 4 KiB to keep while a file of so many bytes is read: all of them, if they aren't too many, since a chain's walk
+/// meets the log's pages in any order. Where its length isn't known, the most.
+pub fn pages_to_keep(length: Option<u64>) -> usize
+    ensures { 0 < result }
+{
+    let Some(length) = length else {
+        return MOST_PAGES;
+    };
+    let pages = length / 4096 + 1;
+    if pages < MOST_PAGES as u64 {
+        pages as usize
+    } else {
+        MOST_PAGES
+    }
+}
+
 /// Opens a file that a new store is to lie in, for this process alone, and makes it where there is none. The bytes of one that is
 /// there stay as they are; it is refused unless it is empty, its front is all zeros, or it begins as a store does. Behind this call
 /// the folder of a new file is synced. Tells how many bytes a regular file has.
@@ -65,7 +86,7 @@ where
     let length = length_of(&known);
     // Nobody has written to it, so nobody may have synced its folder.
     if length == Some(0) {
-        sync_folder(rt, folder_of(path))?;
+        sync_folder_of(rt, path)?;
     }
     let mut disk = FileDisk::new(file);
     if !may_hold_store(&mut disk)? {
@@ -100,9 +121,9 @@ fn folder_of(path: &str) -> &str {
     }
 }
 
-/// Makes a new name in a folder durable.
-fn sync_folder<H: Files>(rt: &H, folder: &str) -> Result<(), Trouble> {
-    let synced = match OpenOptions::new().read(true).open(rt, folder) {
+/// Makes the name of a file durable: syncs the folder that it lies in.
+pub(crate) fn sync_folder_of<H: Files>(rt: &H, path: &str) -> Result<(), Trouble> {
+    let synced = match OpenOptions::new().read(true).open(rt, folder_of(path)) {
         Ok(folder) => folder.sync_all(),
         Err(error) => Err(error),
     };

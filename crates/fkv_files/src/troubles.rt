@@ -14,6 +14,10 @@ pub enum Trouble {
     InUse,
     /// It holds something else than a store.
     Foreign,
+    /// Something has the name that a new file is to have.
+    Taken,
+    /// The system didn't give a new file its name.
+    Unnamed(io::Error),
     /// The folder of a new file could not be synced.
     Folder(io::Error),
     /// It is no regular file, so its bytes can't be kept in memory.
@@ -79,6 +83,8 @@ impl fmt::Display for Trouble {
             Trouble::Foreign => f.write_str(
                 "holds something that is no store, and is left as it is",
             ),
+            Trouble::Taken => f.write_str("is there already, and is left as it is"),
+            Trouble::Unnamed(error) => write!(f, "can't be given its name: {error}"),
             Trouble::Folder(error) => write!(f, "is new, and its folder can't be synced: {error}"),
             Trouble::Irregular => f.write_str("is no regular file"),
             Trouble::Fault(Fault::NotAStore) => f.write_str("holds no store"),

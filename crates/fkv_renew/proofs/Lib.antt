@@ -1,0 +1,5 @@
+mod Answering
+mod CommandLine
+mod Refusing
+mod Renewing
+mod Spelling

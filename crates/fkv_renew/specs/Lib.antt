@@ -1,0 +1,6 @@
+pub mod Answers
+pub mod Asked
+pub mod Renewals
+pub mod Saved
+pub mod Sizes
+pub mod Stores

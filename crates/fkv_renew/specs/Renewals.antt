@@ -1,0 +1,94 @@
+-- A renewal from one device to another.
+use Rattle.std.specs.Prelude.{◌≡◌, ℕ, ◌+◌, List, length, Option, Some, None, IsSomeAnd, unwrap_or}
+use Rattle.fkv_base.specs.declared.faults.Fault.{Fault}
+use Rattle.fkv_base.specs.declared.faults.Fault.TheVariants.{Device as DeviceFailed, Memory as MemoryRefused}
+use Rattle.fkv_base.specs.declared.numbers.Key.{Key}
+use Rattle.fkv_base.specs.declared.numbers.Serial.{Serial}
+use Rattle.fkv_base.specs.declared.numbers.Value.{Value}
+use Rattle.fkv_base.specs.declared.shapes.Shape.{Shape}
+use Rattle.fkv_disk.specs.Device.{LeavesOnly}
+use Rattle.fkv_files.specs.declared.troubles.Trouble.TheVariants as trouble
+use Rattle.fkv_lines.specs.declared.scripts.Sizes.{Sizes}
+use Rattle.fkv_renewing.specs.Refused.{IsUnfit}
+use Rattle.fkv_renewing.specs.Renewed.{AreSomePairs, IsRenewal}
+use Rattle.fkv_renewing.specs.Room.{HasRoomFor}
+use Rattle.fkv_renew.specs.Saved.{taken_of}
+use Rattle.fkv_renew.specs.Sizes.{AreSizes, HasSizes}
+use Rattle.fkv_renew.specs.Stores.{IsHeld}
+use Rattle.fkv_renew.specs.declared.renewals.Refusal.{Refusal}
+use Rattle.fkv_renew.specs.declared.renewals.Refusal.TheVariants.{First, Memory, Sizes as SizesRefused, Unfit}
+use Rattle.fkv_renew.specs.declared.saved.Saved.{Saved}
+use Rattle.fkv_renew.specs.declared.stores.Store.{Store}
+
+-- ---- what is made
+
+-- what the renewal of a store to this shape has saved: the new one has a record for each pair, and is commit 1
+abbrev pub saved_of : Store → Shape → Saved
+saved_of store shape = record {
+  pairs = length store.pairs.items;
+  before = taken_of store.opened.shape store.opened.tail.0 store.opened.number.0;
+  after = taken_of shape (length store.pairs.items + 1) 1;
+}
+
+-- A device, if it is honest, reads as the renewal of this store to this shape, and a crash leaves just that.
+pub record IsRenewalOf {N : Type 0} (honest : N → Type 0) (seen : N → List ℕ) (may_leave : N → List ℕ → Type 0) (store : Store) (shape : Shape) (device : N) : Type 0 where
+  pub reads : honest device → AreSomePairs store.pairs.items → IsRenewal shape store.opened.points.items store.pairs.items (seen device)
+  pub synced : honest device → LeavesOnly (seen device) (may_leave device)
+
+-- From one device to another a store is renewed, to the shape that is wanted or else to its own, which has room for it: the old device, if it is honest, holds this
+-- store; the new one is its renewal; and this is saved.
+pub record Renews {O N : Type 0} (old_honest : O → Type 0) (old_seen : O → List ℕ) (honest : N → Type 0) (seen : N → List ℕ) (may_leave : N → List ℕ → Type 0) (wanted : Option Shape) (old : O) (new : N) (saved : Saved) : Type 0 where
+  pub store : Store
+  pub shape : Shape
+  pub its_shape : shape ≡ unwrap_or wanted store.opened.shape
+  pub held : old_honest old → IsHeld (old_seen old) store
+  pub room : HasRoomFor shape store.opened.points.items store.pairs.items
+  pub renewed : IsRenewalOf honest seen may_leave store shape new
+  pub says : saved ≡ saved_of store shape
+
+-- ---- what is refused
+
+-- why no new store was written: it has no room, or something else
+abbrev pub IsHindrance : Shape → List Serial → List (Key × Value) → Refusal → Type 0
+IsHindrance shape points pairs (Unfit fault) = IsUnfit shape points pairs fault
+IsHindrance shape points pairs (SizesRefused sizes) = ⊥
+IsHindrance shape points pairs other = Unit {0}
+
+-- the refusal that a fault of `renew` is
+abbrev pub refusal_by : Fault → Refusal
+refusal_by MemoryRefused = Memory
+refusal_by DeviceFailed = First (trouble.Fault DeviceFailed)
+refusal_by other = Unfit other
+
+-- A store was opened and its pairs were read, and this is why it wasn't renewed to the shape that is wanted.
+pub record IsHindered (wanted : Option Shape) (its : Refusal) : Type 0 where
+  pub store : Store
+  pub shape : Shape
+  pub its_shape : shape ≡ unwrap_or wanted store.opened.shape
+  pub why : IsHindrance shape store.opened.points.items store.pairs.items its
+
+-- why no store is renewed: it had no room, or something else
+abbrev pub HasNoRoom : Option Shape → Refusal → Type 0
+HasNoRoom wanted (Unfit fault) = IsHindered wanted (Unfit fault)
+HasNoRoom wanted (SizesRefused sizes) = ⊥
+HasNoRoom wanted other = Unit {0}
+
+-- ---- by the sizes that are asked for
+
+-- the shape that has them, where some are asked for
+abbrev pub IsWanted : Option Sizes → Option Shape → Type 0
+IsWanted None wanted = wanted ≡ None
+IsWanted (Some sizes) wanted = IsSomeAnd wanted (HasSizes sizes)
+
+-- two devices are the files of a renewal that saved this
+pub record IsSavedFrom {D : Type 0} (honest : D → Type 0) (seen : D → List ℕ) (may_leave : D → List ℕ → Type 0) (sizes : Option Sizes) (saved : Saved) : Type 0 where
+  pub wanted : Option Shape
+  pub sized : IsWanted sizes wanted
+  pub old : D
+  pub new : D
+  pub renews : Renews honest seen honest seen may_leave wanted old new saved
+
+-- why a renewal is refused: no store has the sizes that are asked for, or the new one has no room, or something else
+abbrev pub IsRefusal : Option Sizes → Refusal → Type 0
+IsRefusal sizes (SizesRefused refused) = (sizes ≡ Some refused) × (AreSizes refused → ⊥)
+IsRefusal sizes other = (wanted : Option Shape) × IsWanted sizes wanted × HasNoRoom wanted other

@@ -1,0 +1,72 @@
+//! What a renewal saves.
+ghost use Rattle.std.specs.Prelude.{◌≡◌, ◌*◌, ◌<◌, ◌≤◌, OnOk};
+ghost use Rattle.std.specs.Io.KnownBytes.{Appends};
+ghost use Rattle.fkv_base.specs.Limits.{last_version};
+ghost use Rattle.fkv_renew.specs.Saved.{change_line, saved_text, taken_of};
+
+use fkv_base::{Addr, Shape, Version};
+use fkv_record::record_place;
+use std::io::{self, Write};
+
+/// How much of its capacities a store takes.
+#[derive(Clone, Copy)]
+pub(crate) struct Taken {
+    /// The addresses of its log that have a record.
+    pub(crate) records: u64,
+    /// The bytes of its image up to the log's end.
+    pub(crate) bytes: u64,
+    /// How many commits it can make still.
+    pub(crate) commits_left: u64,
+}
+
+/// What a renewal has saved.
+#[derive(Clone, Copy)]
+pub(crate) struct Saved {
+    /// How many pairs the store has, before and after.
+    pub(crate) pairs: usize,
+    pub(crate) before: Taken,
+    pub(crate) after: Taken,
+}
+
+impl Taken {
+    /// What a store of this shape takes whose log ends at this address, and whose newest commit has this number.
+    pub(crate) fn of(shape: Shape, tail: Addr, number: Version) -> Taken
+        requires some { 1 ≤ tail.0 }
+        requires on_disk { tail.0 ≤ shape.disk_pages * shape.page }
+        requires few_commits { number.0 < last_version }
+        ensures { result ≡ taken_of shape tail.0 number.0 }
+    {
+        Taken {
+            records: tail.0 - 1,
+            bytes: record_place(shape, tail),
+            commits_left: Version::LAST - 1 - number.0,
+        }
+    }
+}
+
+/// The lines that say what a renewal has saved.
+pub(crate) fn write_saved<W: Write>(output: &mut W, saved: Saved) -> io::Result<()>
+    ensures { OnOk result (Appends (W.contents output.old) (W.contents output.new) (saved_text saved)) }
+{
+    let Saved {
+        pairs,
+        before,
+        after,
+    } = saved;
+    writeln!(output, "renewed pairs {pairs}")?;
+    write_change(output, "records", before.records, after.records)?;
+    write_change(output, "bytes", before.bytes, after.bytes)?;
+    write_change(
+        output,
+        "commits left",
+        before.commits_left,
+        after.commits_left,
+    )
+}
+
+/// One line of them: `records 1047 now 3`.
+fn write_change<W: Write>(output: &mut W, name: &str, before: u64, after: u64) -> io::Result<()>
+    ensures { OnOk result (Appends (W.contents output.old) (W.contents output.new) (change_line name.now before after)) }
+{
+    writeln!(output, "{name} {before} now {after}")
+}

@@ -1,0 +1,77 @@
+//! The sizes of a new store.
+ghost use Rattle.std.specs.Prelude.{◌≡◌, ℕ, IfErr, IfOk, IfSome, None};
+ghost use Rattle.clap.specs.Walk.{texts};
+ghost use Rattle.fkv_base.specs.declared.faults.Fault.TheVariants.{BadShape};
+ghost use Rattle.fkv_lines.specs.declared.scripts.Sizes.{Sizes as TheSizes};
+ghost use Rattle.fkv_renew.specs.Asked.{AreSizesOf, Spells};
+ghost use Rattle.fkv_renew.specs.Sizes.{AreSizes, HasSizes};
+
+use fkv_base::{Fault, Shape};
+use fkv_lines::{Class, Sizes};
+
+/// The sizes that seven words spell, for a store of this class.
+pub(crate) fn read_sizes(class: Class, words: &[&str]) -> Option<Sizes>
+    ensures some { IfSome result (AreSizesOf class (texts words.now)) }
+    ensures none { result ≡ None → (sizes : TheSizes) → AreSizesOf class (texts words.now) sizes → ⊥ }
+{
+    let [
+        bucket_bits,
+        page,
+        frames,
+        mutable,
+        sessions,
+        overflow,
+        disk_pages,
+    ] = words
+    else {
+        return None;
+    };
+    Some(Sizes {
+        class,
+        bucket_bits: number_of(bucket_bits)?,
+        page: number_of(page)?,
+        frames: number_of(frames)?,
+        mutable: number_of(mutable)?,
+        sessions: number_of(sessions)?,
+        overflow: number_of(overflow)?,
+        disk_pages: number_of(disk_pages)?,
+    })
+}
+
+/// The number below 2^64 that a word spells.
+fn number_of(word: &str) -> Option<u64>
+    ensures some { IfSome result (Spells word.now) }
+    ensures none { result ≡ None → (number : ℕ) → Spells word.now number → ⊥ }
+{
+    match word.parse::<u64>() {
+        Ok(number) => Some(number),
+        Err(_) => None,
+    }
+}
+
+/// The shape of these sizes, or `BadShape` where no store of their class has them.
+pub(crate) fn shape_of(sizes: Sizes) -> Result<Shape, Fault>
+    ensures sized { IfOk result (HasSizes sizes) }
+    ensures refused { IfErr result (λ fault. (¬ (AreSizes sizes)) × (fault ≡ BadShape)) }
+{
+    match sizes.class {
+        Class::Small => Shape::new(
+            sizes.bucket_bits,
+            sizes.page,
+            sizes.frames,
+            sizes.mutable,
+            sizes.sessions,
+            sizes.overflow,
+            sizes.disk_pages,
+        ),
+        Class::Large => Shape::large(
+            sizes.bucket_bits,
+            sizes.page,
+            sizes.frames,
+            sizes.mutable,
+            sizes.sessions,
+            sizes.overflow,
+            sizes.disk_pages,
+        ),
+    }
+}

@@ -1,0 +1,32 @@
+//! A store that is renewed.
+ghost use Rattle.std.specs.Prelude.{◌≡◌, IfOk};
+ghost use Rattle.fkv_renew.specs.Stores.{IsHeld};
+
+use fkv_base::{Fault, Key, Value};
+use fkv_disk::{Device, PageSize, Pages, ReadAhead};
+use fkv_files::pages_to_keep;
+use fkv_opening::{Opened, recover};
+use fkv_pairs::content;
+use std::alloc::Global;
+
+/// A store as its image defines it, with its pairs.
+#[derive(Drop)]
+pub(crate) struct Store {
+    pub(crate) opened: Opened,
+    pub(crate) pairs: Vec<(Key, Value)>,
+}
+
+/// The store that a device of so many bytes holds. The device is read page by page, and never written.
+pub(crate) fn read_store<D: Device + Drop>(
+    alloc: Global,
+    device: D,
+    length: Option<u64>,
+) -> Result<(D, Store), Fault>
+    ensures { D.honest device → IfOk result (λ found. IsHeld (D.seen device) found.1) }
+{
+    let pages = Pages::new(alloc, PageSize::Kib4, pages_to_keep(length))?;
+    let mut ahead = ReadAhead::new(device, pages);
+    let opened = recover(alloc, &mut ahead)?;
+    let pairs = content(alloc, &opened, &mut ahead)?;
+    Ok((ahead.into_device(), Store { opened, pairs }))
+}

@@ -1,0 +1,120 @@
+//! The words after the program's name.
+ghost use Rattle.std.specs.Prelude.{◌≡◌, ◌≢◌, IfOk, IfErr, Option, option_map};
+ghost use Rattle.clap.specs.Simple.{app_of};
+ghost use Rattle.clap.specs.Walk.{texts};
+ghost use Rattle.fkv_lines.specs.declared.scripts.Sizes.{Sizes as TheSizes};
+ghost use Rattle.fkv_renew.specs.Asked.{AreAskedSizes, TellsAsked, command_line};
+
+use crate::sizes::read_sizes;
+use clap::error::ErrorKind;
+use clap::{Arg, Command, value_parser};
+use fkv_lines::{Class, Sizes};
+use std::alloc::{AllocError, Global};
+
+/// What the words ask for.
+#[derive(Clone, Copy)]
+pub(crate) struct Asked<'a> {
+    /// The file of the store that is renewed.
+    pub(crate) old: &'a str,
+    /// The file that the new store comes to lie in.
+    pub(crate) new: &'a str,
+    /// The sizes of the new store, where some are given.
+    pub(crate) sizes: Option<Sizes>,
+}
+
+/// Why nothing is asked for.
+#[derive(Clone, Copy)]
+pub(crate) enum WordFault {
+    /// Memory was refused.
+    Memory,
+    /// The words are refused.
+    Refused,
+}
+
+impl From<AllocError> for WordFault {
+    ghost use Rattle.fkv_renew.specs.declared.words.WordFault.TheVariants.{Memory};
+
+    ghost from_gives = { λ _ fault. fault ≡ Memory };
+
+    fn from(_error: AllocError) -> WordFault {
+        WordFault::Memory
+    }
+}
+
+/// What the words after the program's name ask for: OLD and NEW, two files, and `--shape` or `--large` with seven numbers below 2^64,
+/// where one of them is there.
+pub(crate) fn asked_of<'a>(alloc: Global, words: &'a [&'a str]) -> Result<Asked<'a>, WordFault>
+    ensures { TellsAsked (texts words.now) result }
+{
+    let command = command_of(alloc)?;
+    let matches = match command.try_get_matches_from(words) {
+        Ok(matches) => matches,
+        Err(error) => return Err(refused_as(error.kind())),
+    };
+    let Some(old) = matches.get_str("OLD") else {
+        return Err(WordFault::Refused);
+    };
+    let Some(new) = matches.get_str("NEW") else {
+        return Err(WordFault::Refused);
+    };
+    match sizes_of(matches.get_strs("shape"), matches.get_strs("large")) {
+        Ok(sizes) => Ok(Asked { old, new, sizes }),
+        Err(fault) => Err(fault),
+    }
+}
+
+/// How a parse was refused.
+fn refused_as(kind: ErrorKind) -> WordFault
+    ensures memory { kind ≡ ErrorKind.OutOfMemory → result ≡ WordFault.Memory }
+    ensures other { kind ≢ ErrorKind.OutOfMemory → result ≡ WordFault.Refused }
+{
+    match kind {
+        ErrorKind::OutOfMemory => WordFault::Memory,
+        _ => WordFault::Refused,
+    }
+}
+
+/// The sizes that stand behind `--shape` or `--large`.
+fn sizes_of(small: Option<&[&str]>, large: Option<&[&str]>) -> Result<Option<Sizes>, WordFault>
+    ensures ok { IfOk result (AreAskedSizes (option_map (λ s. texts s.now) small.entry) (option_map (λ s. texts s.now) large.entry)) }
+    ensures err { IfErr result (λ fault. (fault ≡ WordFault.Refused) × ((sizes : Option TheSizes) → AreAskedSizes (option_map (λ s. texts s.now) small.entry) (option_map (λ s. texts s.now) large.entry) sizes → ⊥)) }
+{
+    match (small, large) {
+        (None, None) => Ok(None),
+        (Some(words), None) => match read_sizes(Class::Small, words) {
+            Some(sizes) => Ok(Some(sizes)),
+            None => Err(WordFault::Refused),
+        },
+        (None, Some(words)) => match read_sizes(Class::Large, words) {
+            Some(sizes) => Ok(Some(sizes)),
+            None => Err(WordFault::Refused),
+        },
+        (Some(_), Some(_)) => Err(WordFault::Refused),
+    }
+}
+
+/// How many numbers the sizes of a store are.
+const SIZES: usize = 7;
+
+/// The command line.
+fn command_of<'a>(alloc: Global) -> Result<Command<'a>, AllocError>
+    ensures { IfOk result (λ command. app_of command ≡ command_line) }
+{
+    let old = Arg::new(alloc, "OLD").required(true);
+    let new = Arg::new(alloc, "NEW").required(true);
+    let shape = Arg::new(alloc, "shape")
+        .long("shape")
+        .num_args(SIZES)
+        .value_parser(value_parser!(u64));
+    let large = Arg::new(alloc, "large")
+        .long("large")
+        .num_args(SIZES)
+        .value_parser(value_parser!(u64));
+    Command::new(alloc, "fkv_renew")
+        .no_binary_name(true)
+        .disable_help_flag(true)
+        .arg(old)?
+        .arg(new)?
+        .arg(shape)?
+        .arg(large)
+}

@@ -1,0 +1,124 @@
+"""Stored images: what `fkv` opens is renewed with the same pairs and points, and what it refuses is refused so."""
+from files import Pair, need, played, renew
+from samples import CROWD, TABLE, TWO_HOMES, changed_images
+from tables import rows
+
+# of the images with bytes changed one in so many
+EACH = 16
+LAST = 8190
+
+
+def sizes_of(image):
+    return [int.from_bytes(image[at : at + 8], "little") for at in range(8, 64, 8)]
+
+
+def bytes_to(sizes, tail):
+    """Where the log of a store of these sizes ends."""
+    return 1536 + 2 * 16 * 7 * (2 ** sizes[0] + sizes[5]) + 24 * tail
+
+
+def told(answer):
+    """The number, tail, points and pairs of an opened store, from a line that tells them."""
+    words = answer.replace(",", " ,").split()
+    number, tail = int(words[1]), int(words[3])
+    points = words[words.index("points") + 1 : words.index(",")]
+    pairs = [tuple(map(int, word.split("="))) for word in words[words.index("pairs") + 1 :]]
+    return number, tail, points, pairs
+
+
+def opened(number, points, pairs):
+    return [f"open commit {number} points {' '.join(points)} pairs {len(pairs)}", *(f"pair {key} {value}" for key, value in pairs)]
+
+
+def saved(old, tail, number, new, pairs):
+    """What is printed of a renewal from the one sizes to the others."""
+    return (
+        f"renewed pairs {len(pairs)}\n"
+        f"records {tail - 1} now {len(pairs)}\n"
+        f"bytes {bytes_to(old, tail)} now {bytes_to(new, len(pairs) + 1)}\n"
+        f"commits left {LAST - number} now {LAST - 1}\n"
+    )
+
+
+def renews(folder, name, image, answer, words=()):
+    """A store of which this is told is renewed, by sizes that the words give or by its own."""
+    pair = Pair(folder, image)
+    number, tail, points, pairs = told(answer)
+    need(f"{name}: the old store", played(pair.old, "open\n"), (0, opened(number, points, pairs)))
+    old = sizes_of(image)
+    new = list(map(int, words[1:])) or old
+    need(name, renew(pair.old, pair.new, *words), (0, saved(old, tail, number, new, pairs), ""))
+    need(f"{name}: the folder", pair.names(), ["new", "old"])
+    pair.need_old(name)
+    more = ["0"] * (new[4] - len(points))
+    need(f"{name}: the new store", played(pair.new, "open\n"), (0, opened(1, points[: new[4]] + more, pairs)))
+
+
+def refuses(folder, name, image):
+    """A file that `fkv` refuses is refused with the same line."""
+    pair = Pair(folder, image)
+    status, lines = played(pair.old, "open\n")
+    need(f"{name}: a refusal", (status, len(lines)), (3, 1))
+    pair.need_refused(name, renew(pair.old, pair.new), status, f"{lines[0]}\n")
+
+
+def agrees(folder, name, image):
+    """What `fkv` opens is renewed, with the same pairs and points; what it refuses is refused."""
+    pair = Pair(folder, image)
+    status, lines = played(pair.old, "open\n")
+    if status:
+        refuses(folder, name, image)
+        return
+    need(name, renew(pair.old, pair.new)[0], 0)
+    pair.need_old(name)
+    words = lines[0].split()
+    need(f"{name}: the new store", played(pair.new, "open\n"), (0, [" ".join([*words[:2], "1", *words[3:]]), *lines[1:]]))
+
+
+def made_large(folder):
+    """A large store, as a script makes it: its image, and what is told of it."""
+    pair = Pair(folder)
+    updates = [f"{key % 2} up {key * 4096} {key + 7}" for key in range(40)]
+    # a turn behind each quarter of a page, so that no update waits for room
+    lines = [line for key, update in enumerate(updates) for line in (update, "k turn")[: 2 if key % 4 == 3 else 1]]
+    script = ["large 12 16 4 2 2 0 64", *lines, "0 del 0", "k commit", "k finish"]
+    need("a large store", played(pair.old, "\n".join(script) + "\n")[1][-1], "k finished 1 points 21 20")
+    with open(pair.old, "rb") as file:
+        image = file.read()
+    need("a large store's text", image[:8], b"FKVSTOR2")
+    # where the slot of commit 1 says that the log ends
+    tail = int.from_bytes(image[1024 + 24 : 1024 + 32], "little")
+    pairs = " ".join(f"{key * 4096}={key + 7}" for key in range(1, 40))
+    return image, f"commit 1 tail {tail} points 21 20, checkpoint 1, lost, entries, pairs {pairs}"
+
+
+def renewed(folder):
+    """How many images there are; it ends the program where one goes wrong."""
+    table = [*((name, sample.image(), wanted) for name, sample, wanted in TABLE), *rows()]
+    for name, image, wanted in table:
+        if wanted.startswith("commit"):
+            renews(folder, name, image, wanted)
+        else:
+            refuses(folder, name, image)
+    changed = [*changed_images()][::EACH]
+    for name, image in changed:
+        agrees(folder, name, image)
+    others = to_other_sizes(folder)
+    return len(table) + len(changed) + others
+
+
+def to_other_sizes(folder):
+    """Stores of both classes, to sizes of both."""
+    answers = {name: answer for name, _, answer in TABLE}
+    large, told_large = made_large(folder)
+    cases = [
+        ("a small store to a large one", TWO_HOMES.image(), answers["two homes"], "--large 12 16 4 2 2 0 64"),
+        ("a small store with more sessions", TWO_HOMES.image(), answers["two homes"], "--shape 0 4 2 1 5 0 1"),
+        ("a small store with fewer overflow buckets", CROWD.image(), answers["crowd"], "--shape 4 16 4 2 1 0 2"),
+        ("a large store", large, told_large, ""),
+        ("a large store to a small one", large, told_large, "--shape 3 8 2 1 2 9 5"),
+        ("a large store to another", large, told_large, "--large 11 65536 8 3 2 2048 100000"),
+    ]
+    for name, image, answer, words in cases:
+        renews(folder, name, image, answer, tuple(words.split()))
+    return len(cases)
