@@ -1,8 +1,8 @@
 //! What goes through a session's mailbox in every life of the engine.
 ghost use Rattle.std.specs.Prelude.{List, ℕ};
 ghost use Rattle.fkv_pending.specs.Mailbox.{AreInTurn, past_of};
-ghost use Rattle.fkv_world.specs.World.{Event};
-ghost use Rattle.fkv_world.specs.Runs.{World, run};
+ghost use Rattle.law_world.specs.Below.fkv_world.World.{Event};
+ghost use Rattle.law_world.specs.Below.fkv_world.Runs.{World, run};
 ghost use Rattle.law_refine.specs.Mail.MailEvents.{mapped};
 ghost use Rattle.law_refine.specs.Mail.Reads.{EachChangesBy, TakesWhatWasRead};
 ghost use Rattle.law_refine.specs.Mail.Shows.{ArePermitted, IsOpened, Shows, mail_opening, seen_by_mailbox};

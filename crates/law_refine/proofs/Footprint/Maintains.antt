@@ -19,9 +19,9 @@ use Rattle.fkv_log.specs.declared.shifting.ShiftAnswer.{ShiftAnswer}
 use Rattle.fkv_log.specs.declared.shifting.ShiftAnswer.TheVariants as shift
 use Rattle.fkv_log.specs.Shifting.{shift_next}
 use Rattle.fkv_log.specs.Turning.{turn_next}
-use Rattle.fkv_maintain.specs.declared.maintaining.Maintaining.{Maintaining}
-use Rattle.fkv_maintain.specs.declared.maintaining.Maintaining.TheVariants.{Through, Spent, Broken, Scans, Claims, Flushes, Shifts, Turns, Serves}
-use Rattle.fkv_maintain.specs.Maintaining.{MaintainState, maintain_begun, device_asked, maintaining_ask, maintain_ask, scan_ledto, claim_ledto, flush_ledto, shift_ledto, serve_ledto, serve_begun, turn_ledto, maintaining_next, maintain_next, maintaining_given, maintain_given, maintaining_called, maintain_called}
+use Rattle.law_world.specs.Below.fkv_maintain.TheMaintaining.{Maintaining}
+use Rattle.law_world.specs.Below.fkv_maintain.TheMaintaining.TheVariants.{Through, Spent, Broken, Scans, Claims, Flushes, Shifts, Turns, Serves}
+use Rattle.law_world.specs.Below.fkv_maintain.Maintaining.{MaintainState, maintain_begun, device_asked, maintaining_ask, maintain_ask, scan_ledto, claim_ledto, flush_ledto, shift_ledto, serve_ledto, serve_begun, turn_ledto, maintaining_next, maintain_next, maintaining_given, maintain_given, maintaining_called, maintain_called}
 use Rattle.law_refine.specs.Mail.Servers.{maintain_serving}
 use Rattle.law_refine.specs.Footprint.{Part, ThePhase, HasSeats, Spares, stores_phase}
 use Rattle.law_refine.proofs.Footprint.Latching.{passed_spares}

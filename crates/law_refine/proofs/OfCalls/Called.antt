@@ -17,7 +17,7 @@ use Rattle.fkv_session.specs.declared.answers.Finished.TheVariants as finished
 use Rattle.fkv_session.specs.declared.answers.Told.{Told}
 use Rattle.fkv_session.specs.declared.answers.Told.TheVariants as told
 use Rattle.fkv_session.specs.declared.sessions.Sitting.TheVariants.{Idle}
-use Rattle.fkv_world.specs.Past.{Traced, TraceEvent, Called, Answered}
+use Rattle.law_world.specs.Below.fkv_world.Past.{Traced, TraceEvent, Called, Answered}
 use Rattle.law_refine.specs.Events.Lines.{CallMade, call_made, last_call, gives_ticket, next_serial, refused_call, refused_lines, finished_line, finished_lines, answer_lines, call_lines, event_lines, lines_of}
 use Rattle.law_refine.proofs.OfCalls.Named.{AreEach, each_on}
 use Rattle.law_refine.proofs.OfCalls.Standing.{Ledger, update_called, op_of, reads_with, IsCalled, AtAnswer, NoneLater, IsCalm, IsBegun, Stands}

@@ -18,14 +18,14 @@ use Rattle.fkv_session.specs.Replies.{is_of}
 use Rattle.fkv_session.specs.SessionRun.{session_run}
 use Rattle.fkv_session.specs.Sessions.{SessionState, Seat, session_ask, session_next, ticket_after}
 use Rattle.law_world.specs.Runs.Added.{IsEffectOf}
-use Rattle.fkv_world.specs.Opened.{HasBecome, IsOpenedWorld, effects_of}
-use Rattle.fkv_world.specs.OwnEvents.{session_events}
-use Rattle.fkv_world.specs.Past.{Effect}
-use Rattle.fkv_world.specs.Runs.{World, run}
-use Rattle.fkv_world.specs.World.{Event, seat_at}
+use Rattle.law_world.specs.Below.fkv_world.Opened.{HasBecome, IsOpenedWorld, effects_of}
+use Rattle.law_world.specs.Below.fkv_world.OwnEvents.{session_events}
+use Rattle.law_world.specs.Below.fkv_world.Past.{Effect}
+use Rattle.law_world.specs.Below.fkv_world.Runs.{World, run}
+use Rattle.law_world.specs.Below.fkv_world.World.{Event, seat_at}
 use Rattle.law_world.proofs.OfSessions.OwnRun.{here, opened_so}
 use Rattle.law_world.proofs.OfSessions.Effects.{life_made}
-use Rattle.fkv_world.proofs.Shown.{same_seat}
+use Rattle.law_world.proofs.Below.fkv_world.Shown.{same_seat}
 use Rattle.law_world.proofs.OfRuns.Nothing.{none_ever}
 use Rattle.law_refine.specs.Events.GhostEvents.{serials_in}
 use Rattle.law_refine.specs.Calls.Calls.{effects_in_log, effects_of_life, lines_of_life, IsUpdateInHand}

@@ -14,14 +14,14 @@ use Rattle.fkv_session.specs.SessionRun.{SessionEvent, Begins, Replies, Gets, se
 use Rattle.fkv_session.specs.Sessions.{SessionState, Seat, IsOpened, is_busy}
 use Rattle.fkv_session.proofs.Shown.{IsTold, run_holds, run_request, run_told}
 use Rattle.law_world.specs.Runs.Added.{call_answered, told_at, told_by}
-use Rattle.fkv_world.specs.Opened.{HasBecome, IsOpenedWorld, answers_of, life_told}
-use Rattle.fkv_world.specs.OwnEvents.{session_events}
-use Rattle.fkv_world.specs.Past.{Traced, TraceEvent, Called, Answered}
-use Rattle.fkv_world.specs.Runs.{World, happens, run}
-use Rattle.fkv_world.specs.World.{Event, seat_at}
+use Rattle.law_world.specs.Below.fkv_world.Opened.{HasBecome, IsOpenedWorld, answers_of, life_told}
+use Rattle.law_world.specs.Below.fkv_world.OwnEvents.{session_events}
+use Rattle.law_world.specs.Below.fkv_world.Past.{Traced, TraceEvent, Called, Answered}
+use Rattle.law_world.specs.Below.fkv_world.Runs.{World, happens, run}
+use Rattle.law_world.specs.Below.fkv_world.World.{Event, seat_at}
 use Rattle.law_world.proofs.OfSessions.Heard.{life_heard}
 use Rattle.law_world.proofs.OfSessions.OwnRun.{of_run, opened_so}
-use Rattle.fkv_world.proofs.Shown.{same_seat, session_runs, session_runs_on}
+use Rattle.law_world.proofs.Below.fkv_world.Shown.{same_seat, session_runs, session_runs_on}
 use Rattle.law_world.proofs.OfRuns.Added.{trace_so}
 use Rattle.law_refine.specs.Events.GhostEvents.{serial_in, serials_in}
 use Rattle.law_refine.specs.Events.Lines.{newest_serial, next_serial, lines_of}

@@ -24,12 +24,12 @@ use Rattle.fkv_session.specs.SessionRun.{Telling, with_finished, in_hand}
 use Rattle.fkv_session.specs.Sessions.{SessionState, is_busy}
 use Rattle.fkv_session.proofs.Shown.{run_none, run_replies}
 use Rattle.law_world.specs.Runs.Added.{call_answered, told_at, told_by}
-use Rattle.fkv_world.specs.Opened.{HasBecome, IsOpenedWorld, answers_of, effects_of, life_told}
-use Rattle.fkv_world.specs.Opened as world
-use Rattle.fkv_world.specs.OwnEvents.{session_events}
-use Rattle.fkv_world.specs.Past.{Effect, Traced, TraceEvent, Called, Answered}
-use Rattle.fkv_world.specs.Runs.{World, happens, run}
-use Rattle.fkv_world.specs.World.{Event, seat_at}
+use Rattle.law_world.specs.Below.fkv_world.Opened.{HasBecome, IsOpenedWorld, answers_of, effects_of, life_told}
+use Rattle.law_world.specs.Below.fkv_world.Opened as world
+use Rattle.law_world.specs.Below.fkv_world.OwnEvents.{session_events}
+use Rattle.law_world.specs.Below.fkv_world.Past.{Effect, Traced, TraceEvent, Called, Answered}
+use Rattle.law_world.specs.Below.fkv_world.Runs.{World, happens, run}
+use Rattle.law_world.specs.Below.fkv_world.World.{Event, seat_at}
 use Rattle.law_world.proofs.OfSessions.Effects.{life_made}
 use Rattle.law_world.proofs.OfSessions.OwnRun.{of_run, opened_so, to_run}
 use Rattle.law_world.proofs.OfRuns.Added.{trace_so}

@@ -27,8 +27,8 @@ use Rattle.law_world.specs.GuardSessions.Likenesses.{append_undecided, invalidat
 use Rattle.law_world.specs.GuardSessions.Tries.{try_likeness_at}
 use Rattle.law_world.specs.GuardSessions.Attempts.{attempt_likeness_at}
 use Rattle.law_world.specs.GuardSessions.Sessions.{sitting_likeness}
-use Rattle.fkv_world.specs.Runs.{World, run}
-use Rattle.fkv_world.specs.World.{Event, Now}
+use Rattle.law_world.specs.Below.fkv_world.Runs.{World, run}
+use Rattle.law_world.specs.Below.fkv_world.World.{Event, Now}
 use Rattle.law_world.specs.Guarded.GuardEvents as guard
 use Rattle.law_world.specs.Guarded.GuardEvents.{keeper_number}
 use Rattle.law_world.specs.Guarded.Shows.{IsOpened, Shows, guard_opening, seen_by_guard}

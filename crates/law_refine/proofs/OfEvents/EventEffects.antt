@@ -14,11 +14,11 @@ use Rattle.fkv_session.specs.declared.answers.Told.{Told}
 use Rattle.fkv_session.specs.declared.sessions.Sitting.{Sitting}
 use Rattle.fkv_session.specs.declared.sessions.Sitting.TheVariants.{Idle}
 use Rattle.fkv_session.specs.Sessions.{SessionState, Seat, session_ask, session_next}
-use Rattle.fkv_world.specs.Past.{Effect, Past, Traced, effect_made, answer_traced, session_traced, history_after, life_past}
-use Rattle.fkv_world.specs.Runs.{World, happens, run}
-use Rattle.fkv_world.specs.World.{Event, Calls, Moves, Commits, Turns, KeeperMoves, Crashes, seat_at}
+use Rattle.law_world.specs.Below.fkv_world.Past.{Effect, Past, Traced, effect_made, answer_traced, session_traced, history_after, life_past}
+use Rattle.law_world.specs.Below.fkv_world.Runs.{World, happens, run}
+use Rattle.law_world.specs.Below.fkv_world.World.{Event, Calls, Moves, Commits, Turns, KeeperMoves, Crashes, seat_at}
 use Rattle.law_world.proofs.OfRuns.Added.{history_so}
-use Rattle.fkv_world.proofs.Shown.{is_over}
+use Rattle.law_world.proofs.Below.fkv_world.Shown.{is_over}
 use Rattle.law_world.proofs.OfRuns.Nothing.{no_session}
 use Rattle.law_world.specs.Guarded.Shows.{IsOpened}
 use Rattle.law_refine.specs.Events.Effects.{AreQuiet, Stepped, TakesEffect, Quietly, Behind, MakesEffect, no_step, mover_step, step_at}

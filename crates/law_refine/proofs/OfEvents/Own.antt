@@ -27,9 +27,9 @@ use Rattle.fkv_session.specs.declared.answers.Told.{Told}
 use Rattle.fkv_session.specs.declared.sessions.Sitting.{Sitting}
 use Rattle.fkv_session.specs.declared.sessions.Sitting.TheVariants as sitting
 use Rattle.fkv_session.specs.Sessions.{SessionState, Seat, bits_of, room_of, session_ask}
-use Rattle.fkv_world.specs.Past.{Traced}
-use Rattle.fkv_world.specs.Runs.{World}
-use Rattle.fkv_world.specs.World.{Event, Moves, seat_at}
+use Rattle.law_world.specs.Below.fkv_world.Past.{Traced}
+use Rattle.law_world.specs.Below.fkv_world.Runs.{World}
+use Rattle.law_world.specs.Below.fkv_world.World.{Event, Moves, seat_at}
 use Rattle.law_refine.specs.Events.Appends.{reserved_ghosts, append_ghosts}
 use Rattle.law_world.specs.GuardSessions.Tries.{is_for_entry}
 use Rattle.law_refine.specs.Events.GhostEvents.{moved_ghosts, own_ghosts}

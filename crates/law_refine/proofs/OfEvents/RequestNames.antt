@@ -56,10 +56,10 @@ use Rattle.fkv_session.specs.SessionRun.{SessionEvent, Begins, Replies, Gets, be
 use Rattle.fkv_session.specs.Sessions.{SessionState, Seat, bits_of, room_of, is_busy, session_ask, answers, answers_after_turn, request_in_hand, attempts, polls_request, polls_at, update_done, is_no_room, with_request, serial_taken, ticket_after, accepts, shifts, attempted, attempt_left, attempt_ledto, caught_up, catch_ledto, clear_ledto, is_finished, is_owed, request_finished, finishes_request, lacks_room, keeps_request, poll_ledto, turn_ledto, leave_ledto, attempt_moved, caught, own_turn_moved, sitting_next, sitting_given, is_word_ask, asks_after, refusal_of, op_begun, refresh_call, poll_begun, poll_call, sleep_call, wake_call, call_begun}
 use Rattle.fkv_session.proofs.Shown.{attempt_keeps}
 use Rattle.fkv_map.specs.declared.operations.Call.TheVariants.{Refresh}
-use Rattle.fkv_world.specs.OwnEvents.{session_part_of}
-use Rattle.fkv_world.specs.Runs.{World, happens, run}
-use Rattle.fkv_world.specs.World.{Event, Now, seat_at}
-use Rattle.fkv_world.proofs.Shown.{happens_session}
+use Rattle.law_world.specs.Below.fkv_world.OwnEvents.{session_part_of}
+use Rattle.law_world.specs.Below.fkv_world.Runs.{World, happens, run}
+use Rattle.law_world.specs.Below.fkv_world.World.{Event, Now, seat_at}
+use Rattle.law_world.proofs.Below.fkv_world.Shown.{happens_session}
 use Rattle.law_world.specs.Guarded.Shows as guard
 use Rattle.law_world.proofs.OfRuns.Nothing.{none_then}
 use Rattle.law_refine.specs.Events.Names.{is_read_name, IsNamedSo, AreNamedSo, AttemptsNamedSo, RequestsAreNamed}

@@ -29,9 +29,9 @@ use Rattle.fkv_session.specs.declared.sessions.Sitting.TheVariants.{Idle, Attemp
 use Rattle.fkv_session.specs.CatchingUp.{catch_ask}
 use Rattle.fkv_session.specs.OwnTurns.{own_turn_ask, own_turn_begun}
 use Rattle.fkv_session.specs.Sessions.{SessionState, Seat, bits_of, room_of, sitting_ask, session_ask, answers, answers_after_turn, request_in_hand, attempts, polls_request, polls_at, update_done, is_no_room, with_request, serial_taken, ticket_after, accepts, shifts, attempted, attempt_left, attempt_ledto, caught_up, catch_ledto, clear_ledto, is_finished, is_owed, request_finished, finishes_request, lacks_room, keeps_request, poll_ledto, turn_ledto, leave_ledto, attempt_moved, caught, own_turn_moved, sitting_next, is_word_ask, asks_after}
-use Rattle.fkv_world.specs.Past.{Traced}
-use Rattle.fkv_world.specs.Runs.{World, run}
-use Rattle.fkv_world.specs.World.{Event, seat_at}
+use Rattle.law_world.specs.Below.fkv_world.Past.{Traced}
+use Rattle.law_world.specs.Below.fkv_world.Runs.{World, run}
+use Rattle.law_world.specs.Below.fkv_world.World.{Event, seat_at}
 use Rattle.law_world.specs.GuardSessions.Rows.{SittingKnows}
 use Rattle.law_world.specs.Guarded.Shows.{IsOpened}
 use Rattle.law_world.proofs.OfGuarded.Worlds.{life_shows}

@@ -4,14 +4,14 @@ use Rattle.std.specs.Prelude.{slice_get, Some}
 use Rattle.std.proofs.lemmas.Nat.{and_mask}
 use Rattle.fkv_base.specs.declared.shapes.Shape.{Shape}
 use Rattle.fkv_plane.specs.declared.places.Places.{Places}
-use Rattle.fkv_keeper.specs.KeeperRun as keeper
-use Rattle.fkv_keeper.specs.Keeping.{KeeperState}
+use Rattle.law_world.specs.Below.fkv_keeper.KeeperRun as keeper
+use Rattle.law_world.specs.Below.fkv_keeper.Keeping.{KeeperState}
 use Rattle.fkv_session.specs.Sessions.{SessionState, IsOpened}
-use Rattle.fkv_world.specs.Opened.{IsOpenedWorld}
-use Rattle.fkv_world.specs.World.{life_goes}
-use Rattle.fkv_world.specs.Moves.{session_settled, session_asks}
-use Rattle.fkv_world.specs.Past.{history_after, life_past}
-use Rattle.fkv_world.specs.Runs.{run}
+use Rattle.law_world.specs.Below.fkv_world.Opened.{IsOpenedWorld}
+use Rattle.law_world.specs.Below.fkv_world.World.{life_goes}
+use Rattle.law_world.specs.Below.fkv_world.Moves.{session_settled, session_asks}
+use Rattle.law_world.specs.Below.fkv_world.Past.{history_after, life_past}
+use Rattle.law_world.specs.Below.fkv_world.Runs.{run}
 use Rattle.law_world.specs.Runs.Added.{begun_by, ended_by}
 use Rattle.fkv_session.specs.Sessions.{sitting_ask, attempts, polls_at, op_begun, refresh_call, poll_call, sleep_call, wake_call, accepts, shifts, attempt_ledto, catch_ledto, clear_ledto, finishes_request, keeps_request, poll_ledto, turn_ledto, leave_ledto, sitting_next, sitting_given}
 use Rattle.fkv_pending.specs.Attempting.{attempting_ask, look_ledto, try_ledto, put_ledto, attempting_next}

@@ -26,10 +26,10 @@ use Rattle.fkv_session.specs.Sessions.{SessionState, Seat, bits_of}
 use Rattle.fkv_session.specs.Sessions as sessions
 use Rattle.fkv_session.specs.Shares.{HasItsBuckets, shares_added, shares_dropped}
 use Rattle.fkv_session.proofs.Shown.{IsTryOf, KnowsShare, Book, StepShares, run_shares}
-use Rattle.fkv_world.specs.OwnEvents.{session_events}
-use Rattle.fkv_world.specs.Runs.{World, run}
-use Rattle.fkv_world.specs.World.{Event, seat_at}
-use Rattle.fkv_world.proofs.Shown.{same_seat, session_runs}
+use Rattle.law_world.specs.Below.fkv_world.OwnEvents.{session_events}
+use Rattle.law_world.specs.Below.fkv_world.Runs.{World, run}
+use Rattle.law_world.specs.Below.fkv_world.World.{Event, seat_at}
+use Rattle.law_world.proofs.Below.fkv_world.Shown.{same_seat, session_runs}
 use Rattle.law_world.proofs.OfRuns.Nothing.{none_ever}
 use Rattle.law_refine.specs.Index.Finders.{NoWork, KeepsSlot, slot_kept, kept_work, walk_work, append_work, try_work, attempt_part, sitting_part}
 use Rattle.law_refine.specs.Index.Shows.{IsOpened}

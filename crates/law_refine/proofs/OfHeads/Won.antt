@@ -42,8 +42,8 @@ use Rattle.fkv_session.specs.declared.answers.Told.TheVariants as told
 use Rattle.fkv_session.specs.declared.sessions.Sitting.{Sitting}
 use Rattle.fkv_session.specs.declared.sessions.Sitting.TheVariants.{Attempts, Polls}
 use Rattle.fkv_session.specs.Sessions.{SessionState, Seat, bits_of, room_of, session_ask, sitting_ask}
-use Rattle.fkv_world.specs.Past.{Traced}
-use Rattle.fkv_world.specs.World.{Now, seat_at}
+use Rattle.law_world.specs.Below.fkv_world.Past.{Traced}
+use Rattle.law_world.specs.Below.fkv_world.World.{Now, seat_at}
 use Rattle.law_refine.specs.Index.Finders.{KeptSlot, SessionWork, NoWork, Searches, KeepsSlot, PublishesEntry, slot_kept, kept_work, walk_work, append_work, try_work, attempt_part, sitting_part, session_part}
 use Rattle.law_refine.specs.Index.LifeEntries.{AsksFor, won_there}
 use Rattle.law_refine.specs.Events.Appends.{entry_made, reserved_ghosts, publish_ghosts, invalidate_ghosts, append_ghosts}

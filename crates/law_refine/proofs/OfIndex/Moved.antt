@@ -8,7 +8,7 @@ use Rattle.fkv_plane.specs.Asked.{words_after, reply_to}
 use Rattle.fkv_plane.specs.Plane.{action_at}
 use Rattle.fkv_session.specs.declared.answers.Told.{Told}
 use Rattle.fkv_session.specs.Sessions.{SessionState, Seat, session_ask, session_next, is_word_ask}
-use Rattle.fkv_world.specs.Moves.{Near, session_gets, session_settled, session_replied, session_asks}
+use Rattle.law_world.specs.Below.fkv_world.Moves.{Near, session_gets, session_settled, session_replied, session_asks}
 use Rattle.law_refine.specs.Index.Finders.{NoWork, IndexPart, session_part}
 use Rattle.law_refine.proofs.OfIndex.Goes.{IsQuiet, stays_part, goes_on_to}
 use Rattle.law_refine.proofs.OfIndex.SessionParts.{SittingKnows, SessionGoes, Homes, session_goes, given_goes}

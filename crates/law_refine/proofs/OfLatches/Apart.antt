@@ -10,7 +10,7 @@ use Rattle.fkv_session.specs.Sessions.{SessionState, Seat, is_busy}
 use Rattle.fkv_session.specs.SessionRun.{session_run}
 use Rattle.fkv_session.specs.Shares.{sharing}
 use Rattle.fkv_session.proofs.Shown.{run_accounts}
-use Rattle.fkv_world.specs.World.{Now, seat_at}
+use Rattle.law_world.specs.Below.fkv_world.World.{Now, seat_at}
 use Rattle.law_refine.specs.Latches.Latchers.{sitting_latching}
 use Rattle.law_refine.specs.Latches.Shows.{AreApart, Shows}
 use Rattle.law_refine.proofs.OfLatches.Seats.{Sits}

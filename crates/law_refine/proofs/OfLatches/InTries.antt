@@ -25,7 +25,7 @@ use Rattle.fkv_session.specs.CatchingUp.{CatchState}
 use Rattle.fkv_session.specs.Sessions.{SessionState, Seat, bits_of}
 use Rattle.fkv_session.specs.Shares.{HasItsBuckets, is_sharing, latch_of, sharing}
 use Rattle.fkv_session.proofs.Shown.{Book, KnowsShare, StepShares, owed_at, owed_in, there}
-use Rattle.fkv_world.specs.World.{Now, seat_at}
+use Rattle.law_world.specs.Below.fkv_world.World.{Now, seat_at}
 use Rattle.law_refine.specs.Latches.InTries.{HasItsShares, attempt_held, attempt_shares, caught_shares, met_at, own_shares, session_held, session_shares, try_shares}
 use Rattle.law_refine.specs.Latches.Latchers.{attempt_latching, catch_latching, its_latch, session_alone, sitting_latching, try_latching}
 use Rattle.law_refine.proofs.OfLatches.AttemptLatches.{AttemptKnows}

@@ -17,7 +17,7 @@ use Rattle.fkv_latch.proofs.Shown.{moves, changes_other, changes_link}
 use Rattle.fkv_session.specs.declared.answers.Told.{Told}
 use Rattle.fkv_session.specs.declared.answers.Told.TheVariants as told
 use Rattle.fkv_session.specs.Sessions.{SessionState, Seat, bits_of, session_ask, is_word_ask}
-use Rattle.fkv_world.specs.Moves.{Near, session_gets, session_settled, session_replied, session_asks}
+use Rattle.law_world.specs.Below.fkv_world.Moves.{Near, session_gets, session_settled, session_replied, session_asks}
 use Rattle.law_refine.specs.Latches.Latchers.{session_latching}
 use Rattle.law_refine.specs.Latches.LatchEvents.{changed_at, changed_by, asked_by}
 use Rattle.law_refine.specs.Latches.Shows.{KeepsLatch, SparesLatches}

@@ -19,7 +19,7 @@ use Rattle.fkv_session.specs.declared.answers.Told.{Told}
 use Rattle.fkv_session.specs.declared.sessions.Sitting.{Sitting}
 use Rattle.fkv_session.specs.declared.sessions.Sitting.TheVariants.{Idle, Attempts, CatchesUp, ClearsMail, Polls, StoresOwing, Turns, StoresCut, Leaves, LoadsDurable}
 use Rattle.fkv_session.specs.Sessions.{SessionState, Seat, sitting_ask, session_ask, session_next, is_word_ask}
-use Rattle.fkv_world.specs.Moves.{Near, session_gets, session_settled, session_replied, session_asks}
+use Rattle.law_world.specs.Below.fkv_world.Moves.{Near, session_gets, session_settled, session_replied, session_asks}
 use Rattle.law_refine.specs.Mail.Mailers.{attempt_mailing, sitting_mailing, session_mailing, IsAsFar}
 use Rattle.law_refine.proofs.OfMail.AttemptSits.{begun, moved_of}
 use Rattle.law_refine.proofs.OfMail.SessionSits.{SessionSits, SessionLeads, session_next_leads, session_none_leads, session_given_leads, sits_far}

@@ -15,8 +15,8 @@ use Rattle.fkv_pending.specs.Mailing.{mail_asked, mail_ask}
 use Rattle.fkv_pending.specs.MailWorld.{Mailbox, mailbox_of, is_mail_place, Keeping, FindsState, FindsAddress, Reads, GivesHeader, GivesKey, GivesValue, GivesReady, MailWorld, MailEvent, Begins, BeginsPut, Moves, Serves, Changes, is_at_end, has_emptied, keeper_next, mail_happens, mail_run}
 use Rattle.fkv_pending.specs.Mailbox.{MailNote, HasAskedFor, WasServed, HasTaken, HasLetGo, MailPast, asked_then, asked_notes, answered_notes, past_moved, served_notes, past_after, past_of, IsOver, IsAskedFor, AreInTurn}
 use Rattle.fkv_pending.proofs.Shown.{IsSound, Stands, KnowsKeeper, moved_box, happens_sound}
-use Rattle.fkv_world.specs.World.{Event}
-use Rattle.fkv_world.specs.Runs.{World}
+use Rattle.law_world.specs.Below.fkv_world.World.{Event}
+use Rattle.law_world.specs.Below.fkv_world.Runs.{World}
 use Rattle.law_refine.specs.Mail.Reads.{ReadSince}
 use Rattle.law_refine.proofs.OfMail.MailSteps.{asked_stays}
 

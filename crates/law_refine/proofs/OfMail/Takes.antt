@@ -18,9 +18,9 @@ use Rattle.fkv_pending.specs.MailWorld.{Mailbox, mailbox_of, MailWorld, MailEven
 use Rattle.fkv_pending.specs.Mailbox.{MailNote, HasAskedFor, WasServed, HasTaken, HasLetGo, MailPast, asked_then, asked_notes, answered_notes, past_moved, past_of, IsAskedFor, IsServed, AreInTurn}
 use Rattle.fkv_pending.proofs.Shown.{IsSound, KnowsMail, moment_sound}
 use Rattle.fkv_session.specs.Sessions.{SessionState, session_ask}
-use Rattle.fkv_world.specs.Moves.{session_moved}
-use Rattle.fkv_world.specs.Runs.{World, read_by_keeper, run}
-use Rattle.fkv_world.specs.World.{Event, Moves, Now, seat_at, near}
+use Rattle.law_world.specs.Below.fkv_world.Moves.{session_moved}
+use Rattle.law_world.specs.Below.fkv_world.Runs.{World, read_by_keeper, run}
+use Rattle.law_world.specs.Below.fkv_world.World.{Event, Moves, Now, seat_at, near}
 use Rattle.law_refine.specs.Mail.MailEvents.{begins, changed_by, asked_by, own_events, moved_events, life_events, mail_events, mapped}
 use Rattle.law_refine.specs.Mail.Mailers.{session_mailing, IsAsFar}
 use Rattle.law_refine.specs.Mail.Reads.{mail_past, mail_notes, IsTaking, HasTakenRead, TakesWhatWasRead}

@@ -37,8 +37,8 @@ use Rattle.law_world.specs.GuardSessions.Likenesses.{last_seen}
 use Rattle.law_world.specs.GuardSessions.InPlace.{try_changes, attempt_changes, sitting_changes, changed_in_place, SessionMayChange}
 use Rattle.law_world.specs.GuardSessions.Sessions.{sitting_likeness, is_protected_at}
 use Rattle.law_world.specs.GuardSessions.Tries.{try_likeness_at}
-use Rattle.fkv_world.specs.Runs.{World, run}
-use Rattle.fkv_world.specs.World.{Event, Now}
+use Rattle.law_world.specs.Below.fkv_world.Runs.{World, run}
+use Rattle.law_world.specs.Below.fkv_world.World.{Event, Now}
 use Rattle.law_world.specs.Guarded.Shows.{IsOpened, seen_by_guard}
 use Rattle.law_world.proofs.OfGuarded.Worlds.{life_shows}
 use Rattle.law_refine.specs.Events.GhostEvents.{safe_at}

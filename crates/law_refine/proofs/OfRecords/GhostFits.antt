@@ -50,7 +50,7 @@ use Rattle.fkv_session.specs.declared.sessions.Sitting.{Sitting}
 use Rattle.fkv_session.specs.declared.sessions.Sitting.TheVariants.{Attempts, Polls}
 use Rattle.fkv_session.specs.Sessions.{SessionState, Seat, bits_of, room_of, sitting_ask}
 use Rattle.law_world.specs.GuardSessions.InPlace.{try_changes, attempt_changes, sitting_changes}
-use Rattle.fkv_world.specs.Past.{Traced}
+use Rattle.law_world.specs.Below.fkv_world.Past.{Traced}
 use Rattle.law_refine.specs.Events.Appends.{entry_made, reserved_ghosts, publish_ghosts, invalidate_ghosts, append_ghosts}
 use Rattle.law_world.specs.GuardSessions.Tries.{is_for_entry}
 use Rattle.law_local.specs.Tries.TryRows.{cell_of}

@@ -33,7 +33,7 @@ use Rattle.fkv_session.specs.declared.answers.Told.{Told}
 use Rattle.fkv_session.specs.declared.sessions.Sitting.{Sitting}
 use Rattle.fkv_session.specs.declared.sessions.Sitting.TheVariants.{Attempts, CatchesUp, Polls}
 use Rattle.fkv_session.specs.Sessions.{SessionState, Seat, session_ask, sitting_ask}
-use Rattle.fkv_world.specs.Moves.{Near, session_asks, session_gets, session_replied, session_settled}
+use Rattle.law_world.specs.Below.fkv_world.Moves.{Near, session_asks, session_gets, session_replied, session_settled}
 use Rattle.law_refine.specs.Events.Reservations.{Reservation, reservation, append_reserves, try_reserves, attempt_reserves}
 use Rattle.law_refine.specs.Events.Reserved.{sitting_reserves, reserved_by}
 use Rattle.law_refine.proofs.OfRecords.AppendRows.{Standing, FillStands, FillWrites, InvalidateWrites, AppendStands, AppendWrites}

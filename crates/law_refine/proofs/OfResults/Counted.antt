@@ -16,11 +16,11 @@ use Rattle.fkv_session.specs.Replies.{UpdateDone, done_by, done_told, with_effec
 use Rattle.fkv_session.specs.SessionRun.{Telling, in_hand, with_coming}
 use Rattle.fkv_session.specs.Sessions.{SessionState, is_busy}
 use Rattle.fkv_session.proofs.Shown.{run_replies}
-use Rattle.fkv_world.specs.Opened.{HasBecome, effects_of, life_effects, life_told}
-use Rattle.fkv_world.specs.OwnEvents.{session_events}
-use Rattle.fkv_world.specs.Past.{Effect}
-use Rattle.fkv_world.specs.Runs.{World}
-use Rattle.fkv_world.specs.World.{Event, seat_at}
+use Rattle.law_world.specs.Below.fkv_world.Opened.{HasBecome, effects_of, life_effects, life_told}
+use Rattle.law_world.specs.Below.fkv_world.OwnEvents.{session_events}
+use Rattle.law_world.specs.Below.fkv_world.Past.{Effect}
+use Rattle.law_world.specs.Below.fkv_world.Runs.{World}
+use Rattle.law_world.specs.Below.fkv_world.World.{Event, seat_at}
 use Rattle.law_world.proofs.OfSessions.Effects.{life_made}
 use Rattle.law_world.proofs.OfSessions.OwnRun.{of_run, opened_so}
 use Rattle.law_refine.specs.Results.Results.{StaysOrTakes, TakesEffect, history_at}

@@ -9,12 +9,12 @@ use Rattle.fkv_session.specs.SessionRun.{SessionEvent, Replies, session_happens,
 use Rattle.fkv_session.specs.Sessions.{SessionState, Seat, IsOpened, session_ask, session_next}
 use Rattle.fkv_session.proofs.Shown.{run_own}
 use Rattle.law_world.specs.Runs.Added.{IsEffectOf, IsHistoryAfter}
-use Rattle.fkv_world.specs.Opened.{HasBecome, IsOpenedWorld}
-use Rattle.fkv_world.specs.OwnEvents.{session_events, session_part_of}
-use Rattle.fkv_world.specs.Past.{Effect}
-use Rattle.fkv_world.specs.Runs.{World, happens, run}
-use Rattle.fkv_world.specs.World.{Event, seat_at}
-use Rattle.fkv_world.proofs.Shown.{happens_session, same_seat}
+use Rattle.law_world.specs.Below.fkv_world.Opened.{HasBecome, IsOpenedWorld}
+use Rattle.law_world.specs.Below.fkv_world.OwnEvents.{session_events, session_part_of}
+use Rattle.law_world.specs.Below.fkv_world.Past.{Effect}
+use Rattle.law_world.specs.Below.fkv_world.Runs.{World, happens, run}
+use Rattle.law_world.specs.Below.fkv_world.World.{Event, seat_at}
+use Rattle.law_world.proofs.Below.fkv_world.Shown.{happens_session, same_seat}
 use Rattle.law_world.proofs.OfSessions.OwnRun.{here, opened_so}
 use Rattle.law_world.proofs.OfRuns.Added.{history_so}
 use Rattle.law_refine.specs.Calls.Calls.{lines_of_life}

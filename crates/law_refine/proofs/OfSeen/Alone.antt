@@ -22,12 +22,12 @@ use Rattle.fkv_session.specs.SessionRun.{SessionEvent, session_run}
 use Rattle.fkv_session.specs.Sessions.{SessionState, Seat, is_busy, session_ask, session_next}
 use Rattle.fkv_session.proofs.Shown.{run_ended, session_left}
 use Rattle.law_local.specs.Sessions.Known.{is_attempting}
-use Rattle.fkv_world.specs.Actors.{slot_asked}
-use Rattle.fkv_world.specs.Moves.{Near, session_asks, session_moved, session_replied, session_settled}
-use Rattle.fkv_world.specs.OwnEvents.{session_events}
-use Rattle.fkv_world.specs.Runs.{World, run}
-use Rattle.fkv_world.specs.World.{Event, Now, near, seat_at}
-use Rattle.fkv_world.proofs.Shown.{same_seat}
+use Rattle.law_world.specs.Below.fkv_world.Actors.{slot_asked}
+use Rattle.law_world.specs.Below.fkv_world.Moves.{Near, session_asks, session_moved, session_replied, session_settled}
+use Rattle.law_world.specs.Below.fkv_world.OwnEvents.{session_events}
+use Rattle.law_world.specs.Below.fkv_world.Runs.{World, run}
+use Rattle.law_world.specs.Below.fkv_world.World.{Event, Now, near, seat_at}
+use Rattle.law_world.proofs.Below.fkv_world.Shown.{same_seat}
 use Rattle.law_world.specs.Guarded.Shows.{IsOpened, Shows, seen_by_guard}
 use Rattle.law_world.proofs.OfGuarded.Worlds.{is_world_of, life_shows, world_of}
 use Rattle.law_world.proofs.OfGuarded.Outer.{write_outer}

@@ -15,8 +15,8 @@ use Rattle.fkv_plane.specs.declared.places.RecordWord.TheVariants as rec
 use Rattle.fkv_plane.specs.Asked.{asked, asked_place, reply_to}
 use Rattle.fkv_plane.specs.Places.{record_place}
 use Rattle.fkv_session.specs.Sessions.{SessionState, Seat, session_ask, session_next}
-use Rattle.fkv_world.specs.Past.{Effect, Traced, effect_made}
-use Rattle.fkv_world.specs.World.{Event, Moves, Now, seat_at}
+use Rattle.law_world.specs.Below.fkv_world.Past.{Effect, Traced, effect_made}
+use Rattle.law_world.specs.Below.fkv_world.World.{Event, Moves, Now, seat_at}
 use Rattle.law_refine.specs.Events.Reservations.{Reservation}
 use Rattle.law_refine.specs.Events.Reserved.{reserved_by}
 use Rattle.law_refine.specs.Events.Sessions.{sitting_ghosts}

@@ -13,8 +13,8 @@ use Rattle.fkv_session.specs.declared.answers.Finished.TheVariants as finished
 use Rattle.fkv_session.specs.declared.answers.Told.{Told}
 use Rattle.fkv_session.specs.declared.answers.Told.TheVariants as told
 use Rattle.fkv_session.specs.Accounts.{serials_given}
-use Rattle.fkv_world.specs.Opened.{answers_of}
-use Rattle.fkv_world.specs.Past.{Traced, TraceEvent, Called, Answered}
+use Rattle.law_world.specs.Below.fkv_world.Opened.{answers_of}
+use Rattle.law_world.specs.Below.fkv_world.Past.{Traced, TraceEvent, Called, Answered}
 
 -- A call of a session, and its number: how long the trace was as it was made. No other call has that.
 pub record CallMade : Type 0 where

@@ -19,8 +19,8 @@ use Rattle.fkv_session.specs.declared.sessions.Sitting.TheVariants.{Attempts, Ca
 use Rattle.fkv_session.specs.CatchingUp.{CatchState}
 use Rattle.fkv_session.specs.Sessions.{SessionState, Seat, bits_of}
 use Rattle.fkv_session.specs.Shares.{latch_of, sharing}
-use Rattle.fkv_world.specs.World.{Event, Now, seat_at}
-use Rattle.fkv_world.specs.Runs.{World, run}
+use Rattle.law_world.specs.Below.fkv_world.World.{Event, Now, seat_at}
+use Rattle.law_world.specs.Below.fkv_world.Runs.{World, run}
 use Rattle.law_refine.specs.Latches.Latchers.{session_alone}
 use Rattle.law_refine.specs.Latches.Shows.{IsOpened, seen_by_latches}
 

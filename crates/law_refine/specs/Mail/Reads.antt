@@ -14,8 +14,8 @@ use Rattle.fkv_pending.specs.Mailing.{mail_ask, mail_next}
 use Rattle.fkv_pending.specs.MailWorld.{Mailbox, mailbox_of}
 use Rattle.fkv_pending.specs.Mailbox.{MailNote, HasAskedFor, WasServed, HasTaken, MailPast, past_of, SessionChanges, KeeperChanges}
 use Rattle.fkv_session.specs.Sessions.{SessionState}
-use Rattle.fkv_world.specs.World.{Event, Moves, KeeperMoves, Now}
-use Rattle.fkv_world.specs.Runs.{World, run}
+use Rattle.law_world.specs.Below.fkv_world.World.{Event, Moves, KeeperMoves, Now}
+use Rattle.law_world.specs.Below.fkv_world.Runs.{World, run}
 use Rattle.law_refine.specs.Mail.MailEvents.{mapped, record_read}
 use Rattle.law_refine.specs.Mail.Mailers.{session_mailing}
 use Rattle.law_refine.specs.Mail.Servers.{serving_of}

@@ -3,12 +3,12 @@ use Rattle.std.specs.Prelude.{◌≡◌, ℕ, ◌<◌, false, List, [], ◌∷�
 use Rattle.fkv_pending.specs.MailWorld.{MailWorld, mail_run}
 use Rattle.fkv_pending.specs.Mailbox as mailbox
 use Rattle.fkv_pending.specs.Mailbox.{IsMailOpened}
-use Rattle.fkv_keeper.specs.KeeperRun as keeper
-use Rattle.fkv_keeper.specs.Keeping.{keeper_ask}
+use Rattle.law_world.specs.Below.fkv_keeper.KeeperRun as keeper
+use Rattle.law_world.specs.Below.fkv_keeper.Keeping.{keeper_ask}
 use Rattle.fkv_session.specs.Sessions as sessions
 use Rattle.fkv_session.specs.Sessions.{SessionState, session_ask}
-use Rattle.fkv_world.specs.World.{Event, Moves, KeeperMoves, Now, seat_at}
-use Rattle.fkv_world.specs.Runs.{World, run}
+use Rattle.law_world.specs.Below.fkv_world.World.{Event, Moves, KeeperMoves, Now, seat_at}
+use Rattle.law_world.specs.Below.fkv_world.Runs.{World, run}
 use Rattle.law_refine.specs.Footprint.{Spares, TheMailbox}
 use Rattle.law_refine.specs.Mail.MailEvents.{mapped}
 use Rattle.law_refine.specs.Mail.Mailers.{session_mailing, IsAsFar}

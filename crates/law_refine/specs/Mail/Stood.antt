@@ -7,8 +7,8 @@ use Rattle.fkv_flush.specs.GuardFlushed.{stands}
 use Rattle.fkv_flush.specs.GuardLevels.{levels_of}
 use Rattle.fkv_pending.specs.declared.mailing.MailRecord.{MailRecord}
 use Rattle.fkv_pending.specs.Mailbox.{MailNote}
-use Rattle.fkv_world.specs.World.{Event}
-use Rattle.fkv_world.specs.Runs.{World, run}
+use Rattle.law_world.specs.Below.fkv_world.World.{Event}
+use Rattle.law_world.specs.Below.fkv_world.Runs.{World, run}
 use Rattle.law_world.specs.Guarded.GuardEvents.{mapped}
 use Rattle.law_world.specs.Guarded.OpenedStore.{IsOpenedStore}
 use Rattle.law_world.specs.Guarded.Shows.{ArePermitted, guard_opening}

@@ -1,0 +1,6 @@
+-- What crates above name of the crates below.
+pub mod fkv_checkpoint
+pub mod fkv_keeper
+pub mod fkv_maintain
+pub mod fkv_manifest
+pub mod fkv_world
