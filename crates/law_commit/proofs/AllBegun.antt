@@ -26,7 +26,7 @@ use Rattle.fkv_world.specs.Runs.{World, read_by_keeper, run}
 use Rattle.fkv_world.specs.World as world
 use Rattle.fkv_world.specs.World.{Event, Commits, Crashes, KeeperMoves, Moves, Turns, near}
 use Rattle.law_log.specs.Trace.{IsIn}
-use Rattle.law_world.proofs.OfKeeper.OwnRun.{to_keeper}
+use Rattle.law_refine.proofs.Below.law_world.OfKeeper.OwnRun.{to_keeper}
 use Rattle.law_commit.specs.BegunCommits.{BegunCommit, begun_at_end, begun_at_gate, begun_at_writes, begun_by, commit_opened, commits_begun, life_begun, with_finished, with_opening, with_sealed}
 use Rattle.law_commit.specs.Decided.Ended.{Span, span_in, span_of, span_opened}
 

@@ -25,7 +25,7 @@ use Rattle.fkv_keeper.specs.Keeping.{Finality, KeeperState, finish_ledto, finish
 use Rattle.fkv_keeper.specs.KeeperRun.{KeeperEvent, BeginsTurn, BeginsCommit, Replies, Gets, Calls, IsOpened, is_in_hand, keeper_happens, keeper_run}
 use Rattle.fkv_keeper.specs.LastCommits.{is_gate_open}
 use Rattle.fkv_keeper.proofs.Shown.{each_move}
-use Rattle.law_world.proofs.OfStanding.Runs.{happens_at, happens_so}
+use Rattle.law_refine.proofs.Below.law_world.OfStanding.Runs.{happens_at, happens_so}
 use Rattle.law_commit.specs.BegunCommits.{BegunCommit, AtEnd, AtKeeping, HaveFinished, IsInHand, OneIsOpen, commit_opening, begun_at_end, begun_at_writes, begun_by, commits_begun}
 
 -- as far as its writes have come

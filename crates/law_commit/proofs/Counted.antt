@@ -20,7 +20,7 @@ use Rattle.fkv_world.specs.Opened.{HasBecome}
 use Rattle.fkv_world.specs.OwnEvents.{session_events}
 use Rattle.fkv_world.specs.Runs.{World}
 use Rattle.fkv_world.specs.World.{Event, seat_at}
-use Rattle.law_world.proofs.OfSessions.OwnRun.{opened_so, of_run}
+use Rattle.law_refine.proofs.Below.law_world.OfSessions.OwnRun.{opened_so, of_run}
 use Rattle.law_commit.specs.Accepted.{serial_of, serial_at, versions_of, versions_found, versions_accepted, count_upto, point, NeverFall, HasRisingVersion}
 use Rattle.law_commit.proofs.Goes.{attempts_calm, call_calm, moves_on, given_on}
 

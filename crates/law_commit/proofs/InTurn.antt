@@ -16,7 +16,7 @@ use Rattle.fkv_keeper.specs.CheckpointLaws.{GoesOn, IsBegun, IsCommitAfter, IsFi
 use Rattle.fkv_keeper.specs.Keeping.{KeeperState}
 use Rattle.fkv_keeper.specs.KeeperRun.{KeeperEvent, BeginsTurn, BeginsCommit, Replies, Gets, Calls, IsOpened, keeper_happens, keeper_run}
 use Rattle.fkv_keeper.proofs.Shown.{each_move}
-use Rattle.law_world.specs.Standing.Opening.{AreNumbersInTurn, IsNumberInTurn}
+use Rattle.law_refine.specs.Below.law_world.Standing.Opening.{AreNumbersInTurn, IsNumberInTurn}
 use Rattle.law_commit.specs.BegunCommits.{BegunCommit, AreInTurn, ComesNext, HaveFinished, begun_at_end, begun_at_gate, begun_at_writes, begun_by, commit_opening, commits_begun, with_finished, with_sealed}
 use Rattle.law_commit.proofs.BegunStands.{AtGate, AtWrites, StandsAt, run_stands}
 

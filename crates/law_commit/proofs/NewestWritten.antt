@@ -25,11 +25,11 @@ use Rattle.fkv_world.specs.Opened.{IsOpenedWorld}
 use Rattle.fkv_world.specs.OwnEvents.{keeper_events}
 use Rattle.fkv_world.specs.Runs.{World, run}
 use Rattle.fkv_world.specs.World.{Event}
-use Rattle.law_world.proofs.OfKeeper.OwnRun.{of_keeper}
+use Rattle.law_refine.proofs.Below.law_world.OfKeeper.OwnRun.{of_keeper}
 use Rattle.law_commit.specs.BegunCommits.{BegunCommit, HaveFinished, IsInHand, commit_opened, commits_begun, life_begun}
 use Rattle.law_commit.specs.WrittenCommits.{NewestIsWritten, UsesAsKind, life_told}
-use Rattle.law_world.specs.Keeper.Lives.{life_writing}
-use Rattle.law_world.proofs.OfStanding.Runs.{happens_at}
+use Rattle.law_refine.specs.Below.law_world.Keeper.Lives.{life_writing}
+use Rattle.law_refine.proofs.Below.law_world.OfStanding.Runs.{happens_at}
 use Rattle.law_commit.proofs.BegunStands.{IsCalm, StandsAt, no_finish, no_writes, run_stands, same_commit, there}
 use Rattle.law_commit.proofs.LifeBegun.{opening_finished}
 

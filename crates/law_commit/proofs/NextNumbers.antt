@@ -36,7 +36,7 @@ use Rattle.fkv_keeper.specs.CheckpointLaws.{MayFollow}
 use Rattle.fkv_keeper.specs.Keeping.{KeeperState, commit_asked, keeper_ask, keeper_next, keeping_ask, keeping_given, keeping_next, keeping_called, start_ledto, turn_asked}
 use Rattle.fkv_keeper.specs.KeeperRun.{KeeperEvent, BeginsTurn, BeginsCommit, Replies, Gets, Calls, IsOpened, begins, is_in_hand, keeper_happens, keeper_run}
 use Rattle.fkv_keeper.proofs.Shown.{each_move}
-use Rattle.law_world.specs.Standing.Opening.{AreNumbersInTurn, IsNumberInTurn}
+use Rattle.law_refine.specs.Below.law_world.Standing.Opening.{AreNumbersInTurn, IsNumberInTurn}
 use Rattle.fkv_world.specs.Moves.{Near}
 use Rattle.fkv_world.specs.Opened.{IsOpenedWorld}
 use Rattle.fkv_world.specs.OwnEvents.{keeper_got, keeper_slots, keeper_steps, keeper_part, keeper_part_of, keeper_events}

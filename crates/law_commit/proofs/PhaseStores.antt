@@ -19,8 +19,8 @@ use Rattle.fkv_world.specs.OwnEvents.{keeper_events}
 use Rattle.fkv_world.specs.Runs.{World, happens, run}
 use Rattle.fkv_world.specs.World.{Event, KeeperMoves}
 use Rattle.fkv_world.proofs.Shown.{is_over, places_stay, shape_stays}
-use Rattle.law_world.proofs.OfRuns.OneWord.{keeper_writes}
-use Rattle.law_world.proofs.OfKeeper.OwnRun.{of_keeper}
+use Rattle.law_refine.proofs.Below.law_world.OfRuns.OneWord.{keeper_writes}
+use Rattle.law_refine.proofs.Below.law_world.OfKeeper.OwnRun.{of_keeper}
 use Rattle.law_commit.specs.PhaseStores.{IsPhaseStored, StoresItsPhase, phase_at}
 
 -- the phase word has a place of its own

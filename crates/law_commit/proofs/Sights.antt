@@ -19,7 +19,7 @@ use Rattle.fkv_world.specs.Opened.{HasBecome}
 use Rattle.fkv_world.specs.OwnEvents.{session_part_of, session_events}
 use Rattle.fkv_world.specs.Runs.{World, run}
 use Rattle.fkv_world.specs.World.{Event, Now, seat_at}
-use Rattle.law_world.proofs.OfSessions.OwnRun.{opened_so, of_run}
+use Rattle.law_refine.proofs.Below.law_world.OfSessions.OwnRun.{opened_so, of_run}
 use Rattle.fkv_world.proofs.Shown.{session_runs_on}
 use Rattle.law_commit.specs.Views.{View, Sight, IsSeenAs, IsTakenFrom, TakesUp, IsComing, loads_phase, with_loaded, sight_left, sight_moved, sight_by, sight_through, sight_opened, sight_in, sight_found, sight_of}
 use Rattle.law_commit.proofs.Catches.{CatchSees, catch_sees, done_comes}

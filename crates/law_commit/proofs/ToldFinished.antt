@@ -24,7 +24,7 @@ use Rattle.fkv_keeper.proofs.Shown.{run_number}
 use Rattle.fkv_session.specs.declared.sessions.Sitting.{Sitting}
 use Rattle.fkv_session.specs.declared.sessions.Sitting.TheVariants.{Idle}
 use Rattle.fkv_session.specs.Sessions.{SessionState, is_busy}
-use Rattle.law_world.specs.Runs.Added.{begun_by as begins_by, call_answered, call_begun, ended_by, keeper_told, session_answered, told_at, told_by}
+use Rattle.law_refine.specs.Below.law_world.Runs.Added.{begun_by as begins_by, call_answered, call_begun, ended_by, keeper_told, session_answered, told_at, told_by}
 use Rattle.fkv_world.specs.Opened.{IsOpenedWorld}
 use Rattle.fkv_world.specs.OwnEvents.{keeper_events, keeper_got, keeper_part, keeper_slots, keeper_steps}
 use Rattle.fkv_world.specs.Past.{Traced, TraceEvent, Called, CommitAsked, TurnAsked}
@@ -32,7 +32,7 @@ use Rattle.fkv_world.specs.Runs.{World, happens, read_by_keeper, run}
 use Rattle.fkv_world.specs.World as world
 use Rattle.fkv_world.specs.World.{Event, Now, near}
 use Rattle.fkv_world.proofs.Shown.{is_over, keeper_runs, places_stay, shape_stays}
-use Rattle.law_world.proofs.OfRuns.Added.{trace_so}
+use Rattle.law_refine.proofs.Below.law_world.OfRuns.Added.{trace_so}
 use Rattle.law_commit.specs.BegunCommits.{BegunCommit, AtEnd, HaveFinished, IsAsLast, IsInHand, OneIsOpen, begun_at_end, begun_at_gate, begun_at_writes, begun_by, commit_opened, commits_begun, life_begun, with_finished, with_opening, with_sealed}
 use Rattle.law_commit.specs.FinishedCommits.{ToldCommit, commits_finished, commits_told, told_of, with_told}
 use Rattle.law_commit.proofs.BegunStands.{StandsAt, run_stands}

@@ -33,7 +33,7 @@ use Rattle.fkv_session.specs.SessionRun.{session_happens, session_run}
 use Rattle.fkv_session.specs.Sessions.{SessionState, IsOpened}
 use Rattle.fkv_session.specs.Sessions.{sitting_ask, attempts, polls_at, op_begun, refresh_call, poll_call, sleep_call, wake_call, accepts, shifts, attempt_ledto, catch_ledto, clear_ledto, finishes_request, keeps_request, poll_ledto, turn_ledto, leave_ledto, sitting_next, sitting_given}
 use Rattle.fkv_session.specs.Versions.{versions_taken}
-use Rattle.law_world.specs.Runs.Added.{begun_by, ended_by}
+use Rattle.law_refine.specs.Below.law_world.Runs.Added.{begun_by, ended_by}
 use Rattle.fkv_world.specs.Moves.{session_settled, session_asks, keeper_settled, keeper_asks}
 use Rattle.fkv_world.specs.Opened.{IsOpenedWorld}
 use Rattle.fkv_world.specs.OwnEvents.{session_slots, session_steps, session_part, session_events, keeper_slots, keeper_steps, keeper_part, keeper_events}

@@ -22,7 +22,7 @@ use Rattle.fkv_keeper.specs.declared.keepers.Keeping.TheVariants.{Ended, Writes,
 use Rattle.fkv_keeper.specs.declared.last_commits.Checkpoint.{Checkpoint}
 use Rattle.fkv_keeper.specs.Keeping.{Finality, KeeperState, lost_left}
 use Rattle.fkv_keeper.specs.KeeperRun.{KeeperEvent, Calls, keeper_run}
-use Rattle.law_world.specs.Standing.Standing.{standing_opened}
+use Rattle.law_refine.specs.Below.law_world.Standing.Standing.{standing_opened}
 use Rattle.fkv_world.specs.OwnEvents.{keeper_events}
 use Rattle.fkv_world.specs.Runs.{World}
 use Rattle.fkv_world.specs.World.{Event, Now}

@@ -17,7 +17,7 @@ use Rattle.fkv_world.specs.Opened.{HasBecome, IsOpenedWorld}
 use Rattle.fkv_world.specs.Past.{Effect}
 use Rattle.fkv_world.specs.Runs.{World, run}
 use Rattle.fkv_world.specs.World.{Event, Now, seat_at}
-use Rattle.law_world.specs.Guarded.Shows.{IsOpened}
+use Rattle.law_refine.specs.Below.law_world.Guarded.Shows.{IsOpened}
 use Rattle.law_log.specs.Trace.{IsIn}
 use Rattle.law_commit.specs.Accepted.{point}
 use Rattle.law_commit.specs.BegunCommits.{BegunCommit, life_begun}

@@ -24,8 +24,8 @@ use Rattle.fkv_world.specs.OwnEvents.{keeper_events, keeper_part, keeper_part_of
 use Rattle.fkv_world.specs.Runs.{World, read_by_keeper, run}
 use Rattle.fkv_world.specs.World.{Event, Calls, Moves, Commits, Turns, KeeperMoves, Crashes, near}
 use Rattle.fkv_world.proofs.Shown.{keeper_runs, places_stay, shape_stays}
-use Rattle.law_world.specs.Keeper.Lives.{begun_last, keeper_after, life_writing, replies_copied}
-use Rattle.law_world.proofs.OfKeeper.OwnRun.{of_keeper, to_keeper}
+use Rattle.law_refine.specs.Below.law_world.Keeper.Lives.{begun_last, keeper_after, life_writing, replies_copied}
+use Rattle.law_refine.proofs.Below.law_world.OfKeeper.OwnRun.{of_keeper, to_keeper}
 use Rattle.law_refine.specs.Index.IndexEvents.{index_events, mapped}
 use Rattle.law_refine.specs.Index.Shows as index
 use Rattle.law_refine.specs.Index.Shows.{Shows, seen_by_index}

@@ -29,7 +29,7 @@ use Rattle.fkv_world.specs.OwnEvents.{keeper_events, keeper_got, keeper_part, ke
 use Rattle.fkv_world.specs.Runs.{World, happens, read_by_keeper, run}
 use Rattle.fkv_world.specs.World.{Event, Calls, Moves, Commits, Turns, KeeperMoves, Crashes, Now, near, seat_at}
 use Rattle.fkv_world.proofs.Shown.{is_over, keeper_runs, keeper_runs_on, places_stay, shape_stays}
-use Rattle.law_world.proofs.OfRuns.OneWord.{keeper_writes}
+use Rattle.law_refine.proofs.Below.law_world.OfRuns.OneWord.{keeper_writes}
 use Rattle.law_refine.specs.Footprint.{Durable, TheDurable, Spares}
 use Rattle.law_refine.proofs.Footprint.Lives.{keeper_spares}
 use Rattle.law_refine.proofs.Footprint.Sessions.{IsSessionSparing, SessionRests, session_asks_spares}

@@ -8,8 +8,8 @@ use Rattle.fkv_session.specs.Sessions.{SessionState, session_ask}
 use Rattle.fkv_world.specs.Runs.{World, happens, run}
 use Rattle.fkv_world.specs.World.{Event, Calls, Moves, Commits, Turns, KeeperMoves, Crashes, Now, seat_at, session_calls, life_goes}
 use Rattle.fkv_world.proofs.Shown.{is_over, lives}
-use Rattle.law_world.proofs.OfRuns.OneWord.{keeper_writes, session_writes}
-use Rattle.law_world.proofs.OfRuns.Nothing.{no_session}
+use Rattle.law_refine.proofs.Below.law_world.OfRuns.OneWord.{keeper_writes, session_writes}
+use Rattle.law_refine.proofs.Below.law_world.OfRuns.Nothing.{no_session}
 
 -- what holds of the words
 module _ (P : List ℕ → Type 0) (w : World) where

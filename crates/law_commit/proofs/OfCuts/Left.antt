@@ -11,7 +11,7 @@ use Rattle.fkv_world.specs.Opened.{HasBecome}
 use Rattle.fkv_world.specs.OwnEvents.{session_events}
 use Rattle.fkv_world.specs.Runs.{World}
 use Rattle.fkv_world.specs.World.{Event, seat_at}
-use Rattle.law_world.proofs.OfSessions.OwnRun.{of_run, opened_so}
+use Rattle.law_refine.proofs.Below.law_world.OfSessions.OwnRun.{of_run, opened_so}
 use Rattle.law_commit.specs.Accepted.{HasRisingVersion, count_upto, point, serial_at, serial_of, versions_of}
 use Rattle.law_commit.specs.Cuts.{serial_before}
 use Rattle.law_commit.proofs.Counted.{Takes, all_upto, found_so, none_taken, one_taken, run_counted, run_moves, run_risen}

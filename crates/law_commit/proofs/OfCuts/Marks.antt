@@ -31,7 +31,7 @@ use Rattle.fkv_world.specs.OwnEvents.{session_events, session_got, session_part,
 use Rattle.fkv_world.specs.Runs.{World, happens, run}
 use Rattle.fkv_world.specs.World.{Event, Calls, Moves, Now, near, seat_at}
 use Rattle.fkv_world.proofs.Shown.{is_over, places_stay, same_seat, session_runs, session_runs_on}
-use Rattle.law_world.proofs.OfRuns.OneWord.{session_writes}
+use Rattle.law_refine.proofs.Below.law_world.OfRuns.OneWord.{session_writes}
 use Rattle.law_refine.specs.Footprint.{Marks, TheMarks, IsAmong, Spares}
 use Rattle.law_refine.proofs.Footprint.Catches.{is_marking}
 use Rattle.law_refine.proofs.Footprint.Lives.{at_each_moment, keeper_spares}

@@ -25,7 +25,7 @@ use Rattle.fkv_keeper.specs.CheckpointLaws.{IsFinished, MayFollow, SparesDurable
 use Rattle.fkv_keeper.specs.Keeping.{KeeperState, finish_ledto, finished, keeper_ask, keeping_ask, keeping_called, keeping_given, keeping_next, write_ledto}
 use Rattle.fkv_keeper.specs.KeeperRun.{KeeperEvent, BeginsTurn, BeginsCommit, Replies, Gets, Calls, IsOpened, is_in_hand, keeper_happens, keeper_run}
 use Rattle.fkv_keeper.proofs.Shown.{each_move, run_finished, run_spares}
-use Rattle.law_world.proofs.OfStanding.Runs.{happens_at}
+use Rattle.law_refine.proofs.Below.law_world.OfStanding.Runs.{happens_at}
 use Rattle.law_refine.proofs.Footprint.Keepers.{keeper_run_spares}
 use Rattle.law_commit.specs.Cuts.{durable_at, durable_in, stored_behind, stored_by, stored_last}
 use Rattle.law_commit.proofs.BegunStands.{there}

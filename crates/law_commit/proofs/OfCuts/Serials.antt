@@ -20,7 +20,7 @@ use Rattle.fkv_world.specs.OwnEvents.{session_events}
 use Rattle.fkv_world.specs.Runs.{World}
 use Rattle.fkv_world.specs.World.{Event, seat_at}
 use Rattle.fkv_plane.specs.Asked.{word_at}
-use Rattle.law_world.proofs.OfSessions.OwnRun.{of_run, opened_so, seated}
+use Rattle.law_refine.proofs.Below.law_world.OfSessions.OwnRun.{of_run, opened_so, seated}
 use Rattle.law_commit.specs.Cuts.{HasItsWords, IsCutPlace, ShowCuts, word_now}
 use Rattle.law_commit.proofs.Counted.{Takes, run_moves}
 use Rattle.law_commit.proofs.OfCuts.Marks.{life_marks}

@@ -24,11 +24,11 @@ use Rattle.fkv_world.specs.Runs.{World, happens, run}
 use Rattle.fkv_world.specs.World as world
 use Rattle.fkv_world.specs.World.{Event, Calls, Moves, Commits, KeeperMoves, Crashes, Now, life_goes, near, seat_at, session_moves}
 use Rattle.fkv_world.proofs.Shown.{lives, same_seat, session_runs}
-use Rattle.law_world.specs.Guarded.Shows as guard
-use Rattle.law_world.specs.Guarded.Shows.{Shows, seen_by_guard}
-use Rattle.law_world.specs.GuardSessions.Followed.{is_turning, seat_in}
-use Rattle.law_world.proofs.OfGuarded.Worlds.{life_shows}
-use Rattle.law_world.proofs.OfGuardSessions.Finds.{session_rests}
+use Rattle.law_refine.specs.Below.law_world.Guarded.Shows as guard
+use Rattle.law_refine.specs.Below.law_world.Guarded.Shows.{Shows, seen_by_guard}
+use Rattle.law_refine.specs.Below.law_world.GuardSessions.Followed.{is_turning, seat_in}
+use Rattle.law_refine.proofs.Below.law_world.OfGuarded.Worlds.{life_shows}
+use Rattle.law_refine.proofs.Below.law_world.OfGuardSessions.Finds.{session_rests}
 use Rattle.law_refine.specs.Events.Reserved.{tail_at}
 use Rattle.law_refine.proofs.OfEvents.Fixed.{life_rises}
 use Rattle.law_refine.proofs.OfSeen.Alone.{moves_alone}

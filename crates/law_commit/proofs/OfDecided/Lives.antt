@@ -19,7 +19,7 @@ use Rattle.fkv_world.specs.Runs.{World, run}
 use Rattle.fkv_world.specs.World.{Event}
 use Rattle.law_log.specs.Chains.{Cell, Logged, Unborn, Reserved, Published, Dropped}
 use Rattle.law_log.specs.Ghosts.{Ghosts}
-use Rattle.law_world.specs.Guarded.Shows as guard
+use Rattle.law_refine.specs.Below.law_world.Guarded.Shows as guard
 use Rattle.law_refine.specs.Events.GhostEvents.{life_ghosts}
 use Rattle.law_refine.specs.Events.Reserved.{IsOfSession, tail_at}
 use Rattle.law_refine.proofs.OfEvents.Fixed.{life_rises}

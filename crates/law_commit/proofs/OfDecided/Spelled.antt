@@ -23,14 +23,14 @@ use Rattle.fkv_world.specs.World.{Event}
 use Rattle.fkv_world.proofs.Shown.{places_stay}
 use Rattle.law_log.specs.Ghosts.{Ghosts}
 use Rattle.law_log.specs.Trace.{IsIn}
-use Rattle.law_world.specs.Guarded.Shows as guard
+use Rattle.law_refine.specs.Below.law_world.Guarded.Shows as guard
 use Rattle.law_refine.specs.Index.Shows as index
 use Rattle.law_refine.proofs.OfIndex.Permitted.{are_permitted}
 use Rattle.law_refine.proofs.OfIndex.Worlds.{life_shows}
 use Rattle.law_refine.specs.Events.GhostEvents.{home_number, life_ghosts}
 use Rattle.law_refine.specs.Events.Reserved.{tail_at}
 use Rattle.law_refine.specs.Heads.Heads.{LeadToHeads}
-use Rattle.law_world.specs.Keeper.Lives.{replies_copied}
+use Rattle.law_refine.specs.Below.law_world.Keeper.Lives.{replies_copied}
 use Rattle.law_commit.specs.Copied.Covers.{CoverHeads, HasStoodSince, LeadIntoChains, MayBeCopied, before_copy}
 use Rattle.law_commit.specs.Copied.Runs.{HasInHand, copy_events, opening_copy, seen_by_copy}
 use Rattle.law_commit.specs.Decided.Below.{FullCommitsSpellChains, OpensWhole, SpellsChains}

@@ -50,7 +50,7 @@ use Rattle.fkv_flush.specs.GuardLevels.{levels_of}
 use Rattle.fkv_flush.specs.GuardWorld.{Actor, Work, Rests, Reserves, Fills, Invalidates, Shifts, Turns, Flushes, Serves, GuardNow, GuardWorld, GuardEvent, Begins, Resumes, Moves, Publishes, Updates, RaisesReadOnly, RaisesFor, Changes, is_idle, is_guarded, put_near, work_step, guard_happens, guard_run}
 use Rattle.fkv_flush.specs.Guarded.{work_writes, update_writes}
 use Rattle.fkv_flush.proofs.Shown.{Spares, unwritten, writes_passed, moves_work}
-use Rattle.law_world.proofs.OfGuarded.OneStep.{IsOwn, IsQuiet, IsStep}
+use Rattle.law_refine.proofs.Below.law_world.OfGuarded.OneStep.{IsOwn, IsQuiet, IsStep}
 
 -- ---- which asks write the tail's word
 abbrev SparesTail : Option ℕ → Type 0

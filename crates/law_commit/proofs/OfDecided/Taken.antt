@@ -50,19 +50,19 @@ use Rattle.law_log.specs.Chains.{Cell, Logged, Reserved}
 use Rattle.law_log.specs.Ghosts.{Ghosts, GhostEvent, Tells, Reserves, Publishes, Drops, FindsEntry, TakesValue, Changes, Fixes, ghost_run, ghosts_after, set_at}
 use Rattle.law_log.specs.Trace.{TraceLine}
 use Rattle.law_log.proofs.Shown.{at_one}
-use Rattle.law_world.proofs.OfRuns.OneWord.{one_word}
-use Rattle.law_world.specs.Guarded.GuardEvents.{guard_events, keeper_number, life_events}
-use Rattle.law_world.specs.Guarded.Shows as guard
-use Rattle.law_world.specs.Guarded.Shows.{Shows, seen_by_guard}
-use Rattle.law_world.specs.GuardSessions.Attempts.{attempt_likeness_at}
-use Rattle.law_world.specs.GuardSessions.Likenesses.{append_work, fill_work, invalidate_work, last_seen, reserve_work}
-use Rattle.law_world.specs.GuardSessions.OwnTurns.{own_turn_likeness_at, shift_work, turn_work}
-use Rattle.law_world.specs.GuardSessions.Sessions.{session_likeness, sitting_likeness}
-use Rattle.law_world.specs.GuardSessions.Tries.{is_for_entry, try_likeness_at}
-use Rattle.law_world.proofs.OfGuarded.Kept.{moved_is}
-use Rattle.law_world.proofs.OfGuarded.KeeperSteps.{keeper_steps}
-use Rattle.law_world.proofs.OfGuarded.OneStep.{IsStep}
-use Rattle.law_world.proofs.OfGuarded.Worlds.{life_shows}
+use Rattle.law_refine.proofs.Below.law_world.OfRuns.OneWord.{one_word}
+use Rattle.law_refine.specs.Below.law_world.Guarded.GuardEvents.{guard_events, keeper_number, life_events}
+use Rattle.law_refine.specs.Below.law_world.Guarded.Shows as guard
+use Rattle.law_refine.specs.Below.law_world.Guarded.Shows.{Shows, seen_by_guard}
+use Rattle.law_refine.specs.Below.law_world.GuardSessions.Attempts.{attempt_likeness_at}
+use Rattle.law_refine.specs.Below.law_world.GuardSessions.Likenesses.{append_work, fill_work, invalidate_work, last_seen, reserve_work}
+use Rattle.law_refine.specs.Below.law_world.GuardSessions.OwnTurns.{own_turn_likeness_at, shift_work, turn_work}
+use Rattle.law_refine.specs.Below.law_world.GuardSessions.Sessions.{session_likeness, sitting_likeness}
+use Rattle.law_refine.specs.Below.law_world.GuardSessions.Tries.{is_for_entry, try_likeness_at}
+use Rattle.law_refine.proofs.Below.law_world.OfGuarded.Kept.{moved_is}
+use Rattle.law_refine.proofs.Below.law_world.OfGuarded.KeeperSteps.{keeper_steps}
+use Rattle.law_refine.proofs.Below.law_world.OfGuarded.OneStep.{IsStep}
+use Rattle.law_refine.proofs.Below.law_world.OfGuarded.Worlds.{life_shows}
 use Rattle.law_refine.specs.Events.Appends.{append_ghosts, entry_made, reserved_ghosts}
 use Rattle.law_refine.specs.Events.GhostEvents.{fixed_ghosts, ghost_events, home_in, life_ghosts, mapped, moved_ghosts, own_ghosts, safe_at, serials_in, traced_by}
 use Rattle.law_refine.specs.Events.Lines.{lines_added}

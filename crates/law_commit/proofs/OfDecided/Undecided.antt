@@ -24,7 +24,7 @@ use Rattle.fkv_world.specs.World.{Event}
 use Rattle.law_log.specs.Chains.{Cell, Logged, Unborn, Reserved, Published, Dropped}
 use Rattle.law_log.specs.Ghosts.{Log, Ghosts, GhostEvent, Tells, FindsEntry, TakesValue, Reserves, Publishes, Drops, Changes, Fixes, changed, changed_by, dropped, ghost_run, ghosts_after, log_after, published, set_at}
 use Rattle.law_log.proofs.Shown.{at_one}
-use Rattle.law_world.specs.Guarded.Shows as guard
+use Rattle.law_refine.specs.Below.law_world.Guarded.Shows as guard
 use Rattle.law_refine.specs.Events.GhostEvents.{ghost_events, home_in, life_ghosts, mapped, serials_in}
 use Rattle.law_refine.specs.Events.Reservations.{Reservation, append_reserves, attempt_reserves, invalidate_reserves, try_reserves}
 use Rattle.law_refine.specs.Events.Reserved.{IsOfSession, IsUnbornFrom, ReservesNothing, sitting_reserves, tail_at}

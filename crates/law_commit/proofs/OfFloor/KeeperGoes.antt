@@ -53,7 +53,7 @@ use Rattle.fkv_keeper.specs.declared.keepers.Keeping.TheVariants.{Ended, Starts,
 use Rattle.fkv_keeper.specs.KeeperRun.{is_in_hand}
 use Rattle.fkv_keeper.specs.Keeping.{KeeperState, commit_asked, copied, copies, copies_next, copy_asked, copy_driven, copy_ledto, ended, enter_ledto, finish_ledto, finished, keeping_called, keeping_given, keeping_next, maintain_ledto, part_begun, phase_ledto, points_known, seek_ledto, start_ledto, turn_asked, turned, wait_ledto, write_ledto, writes_begun, writes_called}
 use Rattle.fkv_world.specs.World.{keeper_asked}
-use Rattle.law_world.specs.GuardKeeper.KeeperShown.{KeepingKnows}
+use Rattle.law_refine.specs.Below.law_world.GuardKeeper.KeeperShown.{KeepingKnows}
 use Rattle.law_refine.proofs.Footprint.Commits.{finish_stores, seek_stores, start_stores}
 use Rattle.law_commit.specs.Phases.Staged.{Stage, StepAt}
 use Rattle.law_commit.proofs.OfFloor.KeeperFits.{EnterFits, Ground, HandFits, IsEnding, IsSafeEnding, KeeperFits, KeepingFits, SeekFits, StartFits, WaitFits}

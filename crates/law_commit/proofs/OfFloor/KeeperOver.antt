@@ -40,8 +40,8 @@ use Rattle.fkv_keeper.specs.declared.answers.KeeperTold.{KeeperTold}
 use Rattle.fkv_keeper.specs.declared.keepers.Keeping.{Keeping}
 use Rattle.fkv_keeper.specs.declared.keepers.Keeping.TheVariants.{Ended, Starts, Maintains, LoadsPhase, Enters, Copies, Seeks, Waits, Writes, Finishes}
 use Rattle.fkv_keeper.specs.Keeping.{KeeperState, keeping_ask}
-use Rattle.law_world.specs.GuardKeeper.CommitShown.{EnterKnows, IsDeferring, SeekKnows, StartKnows}
-use Rattle.law_world.specs.GuardKeeper.KeeperShown.{KeepingKnows}
+use Rattle.law_refine.specs.Below.law_world.GuardKeeper.CommitShown.{EnterKnows, IsDeferring, SeekKnows, StartKnows}
+use Rattle.law_refine.specs.Below.law_world.GuardKeeper.KeeperShown.{KeepingKnows}
 use Rattle.law_commit.proofs.OfFloor.KeeperFits.{EnterFits, Ground, HandFits, IsEnding, IsSafeEnding, KeeperFits, KeepingFits, SeekFits, StartFits, WaitFits}
 use Rattle.law_commit.proofs.OfFloor.KeeperGoes.{KeeperReply}
 use Rattle.law_commit.proofs.OfFloor.PartsFit.{DeferReply, EnterReply, Raised, SeekReply, StartReply, WaitReply, defer_over}

@@ -44,12 +44,12 @@ use Rattle.fkv_world.specs.Moves.{keeper_gets}
 use Rattle.fkv_world.specs.Opened.{IsOpenedWorld}
 use Rattle.fkv_world.specs.Runs.{World, read_by_keeper, run}
 use Rattle.fkv_world.specs.World.{Event, Now}
-use Rattle.law_world.specs.Guarded.GuardEvents.{guard_events}
-use Rattle.law_world.specs.Guarded.Shows as guard
-use Rattle.law_world.specs.Guarded.Shows.{seen_by_guard}
-use Rattle.law_world.specs.GuardKeeper.KeeperShown.{KeepingKnows}
-use Rattle.law_world.proofs.OfGuarded.Kept.{is_steps}
-use Rattle.law_world.proofs.OfGuarded.Worlds.{life_shows}
+use Rattle.law_refine.specs.Below.law_world.Guarded.GuardEvents.{guard_events}
+use Rattle.law_refine.specs.Below.law_world.Guarded.Shows as guard
+use Rattle.law_refine.specs.Below.law_world.Guarded.Shows.{seen_by_guard}
+use Rattle.law_refine.specs.Below.law_world.GuardKeeper.KeeperShown.{KeepingKnows}
+use Rattle.law_refine.proofs.Below.law_world.OfGuarded.Kept.{is_steps}
+use Rattle.law_refine.proofs.Below.law_world.OfGuarded.Worlds.{life_shows}
 use Rattle.law_paper.specs.Phases as paper
 use Rattle.law_paper.specs.Phases.{PhaseEvent, Phasing, RaisesEnding, RaisesPending, RaisesProgress, StoresNext, WaitsFlush, phase_after, phase_run}
 use Rattle.law_refine.proofs.Footprint.Commits.{finish_stores, seek_stores, start_stores}

@@ -49,7 +49,7 @@ use Rattle.fkv_commit.specs.Starting as starting
 use Rattle.fkv_commit.specs.Starting.{StartState, is_lost_full, phase_found, starting_ask, starting_next}
 use Rattle.fkv_commit.specs.Waiting.{WaitState, waiting_next}
 use Rattle.fkv_flush.specs.GuardLevels.{Levels}
-use Rattle.law_world.specs.GuardKeeper.CommitShown.{EnterKnows, IsDeferring, SeekKnows, StartKnows}
+use Rattle.law_refine.specs.Below.law_world.GuardKeeper.CommitShown.{EnterKnows, IsDeferring, SeekKnows, StartKnows}
 use Rattle.law_commit.specs.Phases.Staged.{Stage, SeekAt, StartAt, EnterAt}
 use Rattle.law_commit.proofs.OfFloor.KeeperFits.{DeferFits, EndingFits, EnterFits, Ground, IsEnding, PendingFits, ProgressFits, SeekFits, StartFits, WaitFits}
 use Rattle.law_commit.proofs.OfPhases.CommitStages.{SoughtAt, goes_on, slot_sought}

@@ -27,10 +27,10 @@ use Rattle.fkv_world.specs.OwnEvents.{session_events}
 use Rattle.fkv_world.specs.Opened.{HasBecome, IsOpenedWorld}
 use Rattle.fkv_world.specs.Runs.{World, read_by_keeper, run}
 use Rattle.fkv_world.specs.World.{Calls, Commits, Crashes, Event, KeeperMoves, Moves, Now, Turns, keeper_asked, life_goes, near, seat_at, session_calls, session_moves, with_keeper, with_session}
-use Rattle.law_world.specs.Guarded.Shows as guard
-use Rattle.law_world.specs.Guarded.Shows.{seen_by_guard}
-use Rattle.law_world.proofs.OfGuarded.Slots.{life_keeper_rests, life_session_rests}
-use Rattle.law_world.proofs.OfGuarded.Worlds.{life_shows}
+use Rattle.law_refine.specs.Below.law_world.Guarded.Shows as guard
+use Rattle.law_refine.specs.Below.law_world.Guarded.Shows.{seen_by_guard}
+use Rattle.law_refine.proofs.Below.law_world.OfGuarded.Slots.{life_keeper_rests, life_session_rests}
+use Rattle.law_refine.proofs.Below.law_world.OfGuarded.Worlds.{life_shows}
 use Rattle.law_refine.specs.Footprint.{Spares, ThePhase}
 use Rattle.law_refine.proofs.Footprint.Keepers.{keeper_stores}
 use Rattle.law_refine.proofs.Footprint.Lives.{keeper_spares}

@@ -37,13 +37,13 @@ use Rattle.fkv_world.specs.Runs.{World, read_by_keeper, run}
 use Rattle.fkv_world.specs.World as world
 use Rattle.fkv_world.specs.World.{Calls, Commits, Crashes, Event, KeeperMoves, Moves, Now, near, seat_at}
 use Rattle.fkv_world.proofs.Shown.{same_seat, session_runs, session_runs_on}
-use Rattle.law_world.specs.Guarded.GuardEvents.{called_events, guard_events, keeper_number, life_events, mapped, moved_events}
-use Rattle.law_world.specs.GuardSessions.Sessions.{called_guard_events}
-use Rattle.law_world.specs.Guarded.Shows as guard
-use Rattle.law_world.specs.Guarded.Shows.{IsSeated, Shows, guard_opening, seen_by_guard}
-use Rattle.law_world.proofs.OfGuarded.KeeperSteps.{keeper_steps, turn_asked_steps}
-use Rattle.law_world.proofs.OfGuarded.OneStep.{of_others}
-use Rattle.law_world.proofs.OfGuarded.Worlds.{life_shows, runs_on}
+use Rattle.law_refine.specs.Below.law_world.Guarded.GuardEvents.{called_events, guard_events, keeper_number, life_events, mapped, moved_events}
+use Rattle.law_refine.specs.Below.law_world.GuardSessions.Sessions.{called_guard_events}
+use Rattle.law_refine.specs.Below.law_world.Guarded.Shows as guard
+use Rattle.law_refine.specs.Below.law_world.Guarded.Shows.{IsSeated, Shows, guard_opening, seen_by_guard}
+use Rattle.law_refine.proofs.Below.law_world.OfGuarded.KeeperSteps.{keeper_steps, turn_asked_steps}
+use Rattle.law_refine.proofs.Below.law_world.OfGuarded.OneStep.{of_others}
+use Rattle.law_refine.proofs.Below.law_world.OfGuarded.Worlds.{life_shows, runs_on}
 use Rattle.law_commit.specs.Phases.Stamped.{SessionStamped, SittingStamped, force_by, loads_by}
 use Rattle.law_commit.specs.Views.{Sight, sight_by, sight_in, sight_opened, sight_through}
 use Rattle.law_commit.proofs.OfPhases.GuardLoads.{LoadsBy, others_stay, stay}

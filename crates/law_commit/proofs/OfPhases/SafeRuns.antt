@@ -21,13 +21,13 @@ use Rattle.fkv_session.specs.OwnTurns.{OwnTurnState}
 use Rattle.fkv_session.specs.Sessions.{SessionState}
 use Rattle.fkv_world.specs.Runs.{World, run}
 use Rattle.fkv_world.specs.World.{Event}
-use Rattle.law_world.specs.Guarded.Shows as guard
-use Rattle.law_world.specs.Guarded.Shows.{Shows, seen_by_guard}
-use Rattle.law_world.specs.GuardKeeper.KeeperShown.{keeping_machine}
-use Rattle.law_world.specs.GuardKeeper.MaintainShown.{maintaining_machine}
-use Rattle.law_world.specs.GuardSessions.OwnTurns.{claim_machine, own_turn_likeness_at}
-use Rattle.law_world.specs.GuardSessions.Sessions.{sitting_likeness}
-use Rattle.law_world.proofs.OfGuarded.Worlds.{life_shows}
+use Rattle.law_refine.specs.Below.law_world.Guarded.Shows as guard
+use Rattle.law_refine.specs.Below.law_world.Guarded.Shows.{Shows, seen_by_guard}
+use Rattle.law_refine.specs.Below.law_world.GuardKeeper.KeeperShown.{keeping_machine}
+use Rattle.law_refine.specs.Below.law_world.GuardKeeper.MaintainShown.{maintaining_machine}
+use Rattle.law_refine.specs.Below.law_world.GuardSessions.OwnTurns.{claim_machine, own_turn_likeness_at}
+use Rattle.law_refine.specs.Below.law_world.GuardSessions.Sessions.{sitting_likeness}
+use Rattle.law_refine.proofs.Below.law_world.OfGuarded.Worlds.{life_shows}
 use Rattle.law_commit.specs.Phases.Running.{IsSafeRun, KeeperRunsSafely, SessionsRunSafely, claim_runs, keeping_runs, maintain_runs, sitting_runs, turn_runs}
 
 -- the guard's machine runs it too

@@ -22,14 +22,14 @@ use Rattle.fkv_session.specs.Sessions.{SessionState}
 use Rattle.fkv_world.specs.Opened.{HasBecome}
 use Rattle.fkv_world.specs.Runs.{World, run}
 use Rattle.fkv_world.specs.World.{Event}
-use Rattle.law_world.proofs.OfSessions.OwnRun.{of_run}
-use Rattle.law_world.specs.Guarded.LoadedSince.{HaveLoadedSince}
-use Rattle.law_world.specs.Guarded.Shows as guard
-use Rattle.law_world.specs.Guarded.Shows.{seen_by_guard}
-use Rattle.law_world.specs.GuardSessions.Catches.{catch_machine, held_machine, protect_machine, refresh_machine}
-use Rattle.law_world.specs.GuardSessions.Sessions.{is_protected_at, is_protected_catching, sitting_likeness}
-use Rattle.law_world.proofs.OfGuarded.LoadedSince.{life_safe_loaded}
-use Rattle.law_world.proofs.OfGuarded.Worlds.{life_shows}
+use Rattle.law_refine.proofs.Below.law_world.OfSessions.OwnRun.{of_run}
+use Rattle.law_refine.specs.Below.law_world.Guarded.LoadedSince.{HaveLoadedSince}
+use Rattle.law_refine.specs.Below.law_world.Guarded.Shows as guard
+use Rattle.law_refine.specs.Below.law_world.Guarded.Shows.{seen_by_guard}
+use Rattle.law_refine.specs.Below.law_world.GuardSessions.Catches.{catch_machine, held_machine, protect_machine, refresh_machine}
+use Rattle.law_refine.specs.Below.law_world.GuardSessions.Sessions.{is_protected_at, is_protected_catching, sitting_likeness}
+use Rattle.law_refine.proofs.Below.law_world.OfGuarded.LoadedSince.{life_safe_loaded}
+use Rattle.law_refine.proofs.Below.law_world.OfGuarded.Worlds.{life_shows}
 use Rattle.law_commit.specs.Phases.Stamped.{CatchStamped, HeldStamped, IsOf, IsUnderWay, ProtectStamped, RefreshStamped, SessionStamped, SittingStamped, is_live, is_live_at}
 use Rattle.law_commit.specs.Views.{Sight, View, sight_found, sight_in, sight_of}
 use Rattle.law_commit.proofs.OfPhases.GuardLoads.{IsBlind, rest_blind}

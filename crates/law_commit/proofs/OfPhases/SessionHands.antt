@@ -60,7 +60,7 @@ use Rattle.fkv_session.specs.declared.own_turns.OwnTurning.{OwnTurning}
 use Rattle.fkv_session.specs.declared.own_turns.OwnTurning.TheVariants as turning
 use Rattle.fkv_session.specs.CatchingUp.{CatchState, catching_ask}
 use Rattle.fkv_session.specs.OwnTurns.{OwnTurnState, claim_ledto, open_ledto, own_turning_ask, own_turning_given, own_turning_next, scan_ledto, shift_ledto}
-use Rattle.law_world.proofs.OfRuns.NoSlots.{IsOffSlots, attempt_off_slots, latch_off, mail_off}
+use Rattle.law_refine.proofs.Below.law_world.OfRuns.NoSlots.{IsOffSlots, attempt_off_slots, latch_off, mail_off}
 use Rattle.law_commit.specs.Phases.Staged.{claim_hand, phase_in, session_hand, sitting_hand, turn_hand}
 use Rattle.law_commit.proofs.SessionSteps.{HoldsBegun, attempt_holds, begun_holds, catch_holds, clear_holds, leave_holds, poll_holds, polls_hold}
 

@@ -56,12 +56,12 @@ use Rattle.fkv_session.specs.declared.sessions.Sitting.TheVariants.{Attempts, Ca
 use Rattle.fkv_session.specs.CatchingUp.{CatchState}
 use Rattle.fkv_session.specs.OwnTurns.{OwnTurnState}
 use Rattle.fkv_session.specs.Sessions.{Seat, SessionState, room_of, session_ask}
-use Rattle.law_world.specs.GuardSessions.Attempts.{attempt_events, attempt_likeness_at}
-use Rattle.law_world.specs.GuardSessions.Catches.{catch_events, catch_machine, protect_machine, refresh_machine}
-use Rattle.law_world.specs.GuardSessions.OwnTurns.{claim_machine, moving_machine, own_turn_likeness_at, scan_machine, shift_machine}
-use Rattle.law_world.specs.GuardSessions.Sessions.{leave_machine, session_guard_events, called_guard_events, session_likeness, sitting_events, sitting_likeness, sitting_onward}
-use Rattle.law_world.specs.GuardSessions.Steps.{GoesOn, Onward, Starts, Stays, changed_at, onward_events, outer_events}
-use Rattle.law_world.specs.GuardSessions.Tries.{append_events, is_for_entry, publish_events, reserved_events, try_events, try_likeness_at}
+use Rattle.law_refine.specs.Below.law_world.GuardSessions.Attempts.{attempt_events, attempt_likeness_at}
+use Rattle.law_refine.specs.Below.law_world.GuardSessions.Catches.{catch_events, catch_machine, protect_machine, refresh_machine}
+use Rattle.law_refine.specs.Below.law_world.GuardSessions.OwnTurns.{claim_machine, moving_machine, own_turn_likeness_at, scan_machine, shift_machine}
+use Rattle.law_refine.specs.Below.law_world.GuardSessions.Sessions.{leave_machine, session_guard_events, called_guard_events, session_likeness, sitting_events, sitting_likeness, sitting_onward}
+use Rattle.law_refine.specs.Below.law_world.GuardSessions.Steps.{GoesOn, Onward, Starts, Stays, changed_at, onward_events, outer_events}
+use Rattle.law_refine.specs.Below.law_world.GuardSessions.Tries.{append_events, is_for_entry, publish_events, reserved_events, try_events, try_likeness_at}
 use Rattle.law_commit.specs.Phases.Stamped.{driven}
 use Rattle.law_commit.proofs.OfPhases.GuardLoads.{IsBlind, LoadsBy, blind_moved, idle_drives, own_moved, rest_blind, stay, tails_through}
 use Rattle.law_commit.proofs.OfPhases.SessionStamps.{IsPlain, sitting_driven}

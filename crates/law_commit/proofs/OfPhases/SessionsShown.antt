@@ -29,8 +29,8 @@ use Rattle.fkv_world.specs.Runs.{World, run}
 use Rattle.fkv_world.specs.World as world
 use Rattle.fkv_world.specs.World.{Calls, Commits, Crashes, Event, KeeperMoves, Moves, Now, near, seat_at}
 use Rattle.fkv_world.proofs.Shown.{same_seat, session_runs, session_runs_on}
-use Rattle.law_world.proofs.OfRuns.Nothing.{none_ever}
-use Rattle.law_world.proofs.OfSessions.OwnRun.{here}
+use Rattle.law_refine.proofs.Below.law_world.OfRuns.Nothing.{none_ever}
+use Rattle.law_refine.proofs.Below.law_world.OfSessions.OwnRun.{here}
 use Rattle.law_paper.specs.Phases as paper
 use Rattle.law_paper.specs.Phases.{AreEnabled, IsEnabled, PhaseEvent, Phasing, phase_after, phase_run}
 use Rattle.law_commit.specs.Phases.Projected.{EventShown, EventsAreShown, SameSession, ShowsSession, ShowsSessions, ShowsWords, Shown, completed_events, events_found, first_seen, is_there, left_events, loaded_events, loads_now, phase_events_by, phase_events_through, reply_events, session_phase_events, sessions_opened}

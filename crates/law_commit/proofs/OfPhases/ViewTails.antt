@@ -24,11 +24,11 @@ use Rattle.fkv_world.specs.OwnEvents.{session_events, session_part_of}
 use Rattle.fkv_world.specs.Runs.{World, read_by_keeper, run}
 use Rattle.fkv_world.specs.World.{Event, Now, seat_at}
 use Rattle.fkv_world.proofs.Shown.{same_seat, session_runs, session_runs_on}
-use Rattle.law_world.proofs.OfSessions.OwnRun.{of_run}
-use Rattle.law_world.specs.Guarded.GuardEvents.{guard_events, keeper_number, mapped}
-use Rattle.law_world.specs.Guarded.Shows as guard
-use Rattle.law_world.specs.Guarded.Shows.{Shows, guard_opening, seen_by_guard}
-use Rattle.law_world.proofs.OfGuarded.Worlds.{life_shows, runs_on}
+use Rattle.law_refine.proofs.Below.law_world.OfSessions.OwnRun.{of_run}
+use Rattle.law_refine.specs.Below.law_world.Guarded.GuardEvents.{guard_events, keeper_number, mapped}
+use Rattle.law_refine.specs.Below.law_world.Guarded.Shows as guard
+use Rattle.law_refine.specs.Below.law_world.Guarded.Shows.{Shows, guard_opening, seen_by_guard}
+use Rattle.law_refine.proofs.Below.law_world.OfGuarded.Worlds.{life_shows, runs_on}
 use Rattle.law_refine.specs.Events.GhostEvents.{safe_at}
 use Rattle.law_commit.specs.Phases.Stamped.{SessionStamped, SittingStamped, force_by, loads_by}
 use Rattle.law_commit.specs.Views.{Sight, View, completed, loads_phase, sight_by, sight_in, sight_left, sight_moved, sight_opened, sight_through, view_said, with_loaded}

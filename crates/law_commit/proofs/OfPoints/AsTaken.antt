@@ -25,8 +25,8 @@ use Rattle.fkv_keeper.specs.declared.keepers.Keeping.TheVariants.{Ended, Starts,
 use Rattle.fkv_keeper.specs.Keeping.{KeeperState, commit_asked, ended, finish_ledto, finished, keeping_called, keeping_given, keeping_next, turn_asked, turned, write_ledto, writes_called}
 use Rattle.fkv_keeper.specs.KeeperRun.{BeginsCommit, BeginsTurn, Calls, Gets, IsOpened, KeeperEvent, Replies, begins, is_in_hand, keeper_happens, keeper_run}
 use Rattle.fkv_world.specs.OwnEvents.{keeper_events}
-use Rattle.law_world.proofs.OfKeeper.OwnRun.{of_keeper}
-use Rattle.law_world.proofs.OfStanding.Runs.{happens_at}
+use Rattle.law_refine.proofs.Below.law_world.OfKeeper.OwnRun.{of_keeper}
+use Rattle.law_refine.proofs.Below.law_world.OfStanding.Runs.{happens_at}
 use Rattle.law_commit.specs.BegunCommits.{AreFinished, BegunCommit, HaveFinished, begun_at_end, begun_at_gate, begun_at_writes, begun_by, commit_opened, commits_begun, with_finished, with_opening, with_sealed}
 use Rattle.law_commit.specs.Points.{BeginsAsTaken, BegunAreAsTaken, IsAsTaken}
 use Rattle.law_commit.proofs.BegunStands.{StandsAt, run_stands, there}

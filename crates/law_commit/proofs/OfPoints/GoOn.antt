@@ -30,7 +30,7 @@ use Rattle.fkv_world.specs.OwnEvents.{session_events}
 use Rattle.fkv_world.specs.Runs.{World, run}
 use Rattle.fkv_world.specs.World.{Event, seat_at}
 use Rattle.fkv_world.proofs.Shown.{same_seat, session_runs}
-use Rattle.law_world.proofs.OfSessions.OwnRun.{opened_so, seated}
+use Rattle.law_refine.proofs.Below.law_world.OfSessions.OwnRun.{opened_so, seated}
 use Rattle.law_commit.specs.Accepted.{HasRisingVersion, point}
 use Rattle.law_commit.specs.Cuts.{HasItsWords, IsCutPlace, word_now}
 use Rattle.law_commit.specs.Floor.Stands.{PaperIsSound, stage_number}

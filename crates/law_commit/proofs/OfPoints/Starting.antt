@@ -30,7 +30,7 @@ use Rattle.fkv_keeper.specs.CheckpointLaws.{IsCommitAfter, MayFollow}
 use Rattle.fkv_keeper.specs.Keeping.{KeeperState, ended, keeping_called, keeping_given, keeping_next, start_ledto}
 use Rattle.fkv_keeper.specs.KeeperRun.{BeginsCommit, BeginsTurn, Calls, Gets, KeeperEvent, Replies, is_in_hand, keeper_happens}
 use Rattle.fkv_keeper.proofs.Shown.{each_move}
-use Rattle.law_world.proofs.OfStanding.Runs.{happens_at}
+use Rattle.law_refine.proofs.Below.law_world.OfStanding.Runs.{happens_at}
 use Rattle.law_commit.proofs.BegunStands.{there}
 use Rattle.law_commit.proofs.InTurn.{not_none, some_commit}
 use Rattle.law_commit.proofs.OfPoints.Taking.{passed_end}

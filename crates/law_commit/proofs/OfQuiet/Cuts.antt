@@ -24,7 +24,7 @@ use Rattle.fkv_world.specs.OwnEvents.{session_events}
 use Rattle.fkv_world.specs.Runs.{World, run}
 use Rattle.fkv_world.specs.World.{Event, seat_at}
 use Rattle.fkv_world.proofs.Shown.{session_runs}
-use Rattle.law_world.proofs.OfSessions.OwnRun.{opened_so, seated}
+use Rattle.law_refine.proofs.Below.law_world.OfSessions.OwnRun.{opened_so, seated}
 use Rattle.law_commit.specs.Accepted.{HasRisingVersion, point, versions_accepted}
 use Rattle.law_commit.specs.Cuts.{HasItsWords, ShowCuts, serial_before, word_now}
 use Rattle.law_commit.specs.PhaseVersions.{HasRisingPhase, phase_version}

@@ -26,8 +26,8 @@ use Rattle.fkv_world.specs.OwnEvents.{session_events, session_got, session_part,
 use Rattle.fkv_world.specs.Runs.{World, run}
 use Rattle.fkv_world.specs.World.{Event, Calls, Commits, Crashes, KeeperMoves, Moves, Now, Turns, near, seat_at}
 use Rattle.fkv_world.proofs.Shown.{session_runs}
-use Rattle.law_local.specs.Sessions.Known.{is_attempting}
-use Rattle.law_world.proofs.OfSessions.OwnRun.{of_run, opened_so, to_run}
+use Rattle.law_refine.specs.Below.law_local.Sessions.Known.{is_attempting}
+use Rattle.law_refine.proofs.Below.law_world.OfSessions.OwnRun.{of_run, opened_so, to_run}
 use Rattle.law_commit.specs.Accepted.{HasRisingVersion}
 use Rattle.law_commit.specs.Quiet.{HasNoneUpto, IsLater, IsLiveLater, LiveAreLater, NoneComesBack, OpensQuiet, pending_rank, rank_now}
 use Rattle.law_commit.specs.Versions.Requests.{AttemptsSo}

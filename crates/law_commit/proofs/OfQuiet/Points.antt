@@ -15,7 +15,7 @@ use Rattle.fkv_world.specs.OwnEvents.{session_events}
 use Rattle.fkv_world.specs.Runs.{World, run}
 use Rattle.fkv_world.specs.World.{Event, seat_at}
 use Rattle.fkv_world.proofs.Shown.{session_runs}
-use Rattle.law_world.proofs.OfSessions.OwnRun.{opened_so}
+use Rattle.law_refine.proofs.Below.law_world.OfSessions.OwnRun.{opened_so}
 use Rattle.law_commit.specs.Accepted.{HasRisingVersion, NeverFall, count_upto, point, serial_at, serial_of, versions_of}
 use Rattle.law_commit.specs.Quiet.{LiveAreLater, OpensQuiet, PointSplitsAt, PointsAlwaysSplit, PointsStay, pending_rank, rank_now}
 use Rattle.law_commit.proofs.Counted.{Takes, found_so, life_counted, life_point, life_risen, none_taken, one_taken, run_moves}

@@ -23,9 +23,9 @@ use Rattle.fkv_session.specs.SessionRun.{Begins, Gets, Replies, SessionEvent, be
 use Rattle.fkv_session.specs.Versions.{IsVersion}
 use Rattle.fkv_session.proofs.Shown.{IsSameRequest}
 use Rattle.fkv_session.proofs.Shown.{attempt_keeps, run_asleep, run_version}
-use Rattle.law_local.specs.Sessions.Known.{KnowsRequests, attempt_after, catch_after, catch_comes_to, with_op}
-use Rattle.law_local.proofs.OfSessions.AttemptInputs.{begun_pending}
-use Rattle.law_local.proofs.OfSessions.Known.{begun_known, given_known, next_known}
+use Rattle.law_refine.specs.Below.law_local.Sessions.Known.{KnowsRequests, attempt_after, catch_after, catch_comes_to, with_op}
+use Rattle.law_refine.proofs.Below.law_local.OfSessions.AttemptInputs.{begun_pending}
+use Rattle.law_refine.proofs.Below.law_local.OfSessions.Known.{begun_known, given_known, next_known}
 use Rattle.law_commit.specs.Accepted.{HasRisingVersion}
 use Rattle.law_commit.specs.Quiet.{IsLater, IsLiveLater}
 use Rattle.law_commit.specs.Versions.Requests.{IsUpdateSo}

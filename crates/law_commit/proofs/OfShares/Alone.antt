@@ -48,8 +48,8 @@ use Rattle.fkv_world.specs.OwnEvents.{session_events}
 use Rattle.fkv_world.specs.Runs.{World, run}
 use Rattle.fkv_world.specs.World.{Event, seat_at}
 use Rattle.fkv_world.proofs.Shown.{places_stay, same_seat}
-use Rattle.law_world.proofs.OfSessions.OwnRun.{of_run, opened_so}
-use Rattle.law_world.specs.Guarded.Shows as guard
+use Rattle.law_refine.proofs.Below.law_world.OfSessions.OwnRun.{of_run, opened_so}
+use Rattle.law_refine.specs.Below.law_world.Guarded.Shows as guard
 use Rattle.law_paper.specs.Apart.{IsBetween}
 use Rattle.law_paper.specs.Phases as paper
 use Rattle.law_refine.specs.Latches.Latchers.{attempt_alone, attempt_latching, catch_latching, held_if, its_latch, session_latching, sitting_alone, sitting_latching, try_alone, try_latching}

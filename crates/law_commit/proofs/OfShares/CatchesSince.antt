@@ -19,8 +19,8 @@ use Rattle.fkv_session.specs.declared.sessions.Sitting.{Sitting}
 use Rattle.fkv_session.specs.declared.sessions.Sitting.TheVariants.{CatchesUp}
 use Rattle.fkv_session.specs.CatchingUp.{CatchState, catch_next, catch_requests, catching_next, catching_requests, finish_ledto, finishes, latch_begun, latch_ledto, latch_marked, latch_wanted, latched, latches}
 use Rattle.fkv_session.specs.Sessions.{Seat, SessionState, session_next}
-use Rattle.law_local.specs.Sessions.Moves.{requests_at}
-use Rattle.law_local.proofs.OfSessions.Moves.{next_requests}
+use Rattle.law_refine.specs.Below.law_local.Sessions.Moves.{requests_at}
+use Rattle.law_refine.proofs.Below.law_local.OfSessions.Moves.{next_requests}
 
 -- it has loaded prepare, and takes it up
 abbrev pub TakesPrepare : CatchState → Catching → Type 0

@@ -19,7 +19,7 @@ use Rattle.fkv_session.specs.Shares.{HasItsBuckets}
 use Rattle.fkv_session.specs.Versions.{IsVersion}
 use Rattle.fkv_session.proofs.Shown.{run_asleep, run_version}
 use Rattle.fkv_world.proofs.Shown.{session_runs_on}
-use Rattle.law_local.proofs.OfSessions.Known.{opened_known}
+use Rattle.law_refine.proofs.Below.law_local.OfSessions.Known.{opened_known}
 use Rattle.law_commit.specs.Floor.Stands.{stage_number}
 use Rattle.law_commit.specs.Phases.Staged.{Stage}
 use Rattle.law_commit.specs.Shares.Waiting.{has_shifted, shifts_by}

@@ -17,7 +17,7 @@ use Rattle.fkv_session.proofs.Shown.{StepLatched}
 use Rattle.fkv_world.specs.OwnEvents.{session_events}
 use Rattle.fkv_world.specs.World.{seat_at}
 use Rattle.fkv_world.proofs.Shown.{same_seat}
-use Rattle.law_world.proofs.OfSessions.OwnRun.{of_run, opened_so}
+use Rattle.law_refine.proofs.Below.law_world.OfSessions.OwnRun.{of_run, opened_so}
 use Rattle.law_commit.specs.Floor.Stands.{PaperHasFloor, PaperIsSound}
 use Rattle.law_commit.specs.Shares.Waiting.{ShareCatching, ShareSitting, SharesInPrepare}
 use Rattle.law_commit.proofs.OfShares.Alone.{CountsLatches, ShowsLatches, meets_none}

@@ -27,8 +27,8 @@ use Rattle.fkv_session.specs.Sessions.{Seat, SessionState, asks_after, attempts,
 use Rattle.fkv_session.specs.Shares.{AllUpdatesShare, HasItsBuckets, is_shift}
 use Rattle.fkv_session.specs.Versions.{IsVersion}
 use Rattle.fkv_session.proofs.Shown.{StepLatched, attempt_ends}
-use Rattle.law_local.specs.Sessions.Known.{KnowsRequests, attempt_after, attempt_comes_to, catch_after, caught_up_at, is_accepted, is_attempting, is_polling, with_op}
-use Rattle.law_local.proofs.OfSessions.Known.{begun_known, given_known, next_known, stays_known}
+use Rattle.law_refine.specs.Below.law_local.Sessions.Known.{KnowsRequests, attempt_after, attempt_comes_to, catch_after, caught_up_at, is_accepted, is_attempting, is_polling, with_op}
+use Rattle.law_refine.proofs.Below.law_local.OfSessions.Known.{begun_known, given_known, next_known, stays_known}
 use Rattle.law_commit.specs.Shares.Since.{HasPrepared}
 use Rattle.law_commit.specs.Shares.Waiting.{is_shifted, shifts_at, shifts_by}
 use Rattle.law_commit.proofs.Goes.{call_calm, given_on, moves_on}

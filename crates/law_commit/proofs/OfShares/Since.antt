@@ -25,13 +25,13 @@ use Rattle.fkv_world.specs.OwnEvents.{session_events, session_part_of}
 use Rattle.fkv_world.specs.Runs.{World, run}
 use Rattle.fkv_world.specs.World.{Event, Now, seat_at}
 use Rattle.fkv_world.proofs.Shown.{same_seat, session_runs}
-use Rattle.law_world.specs.Guarded.Shows as guard
+use Rattle.law_refine.specs.Below.law_world.Guarded.Shows as guard
 use Rattle.law_refine.specs.Latches.Shows as latches
-use Rattle.law_local.specs.Sessions.Inputs.{AttemptsSo, TriesFor}
-use Rattle.law_local.specs.Sessions.Known.{is_attempting}
-use Rattle.law_local.proofs.OfSessions.Lists.{AllBut, AllKnown, all_left}
-use Rattle.law_local.proofs.OfSessions.SessionInputs.{attempt_at_call, attempt_in_poll, run_so}
-use Rattle.law_world.proofs.OfSessions.OwnRun.{of_run, opened_so}
+use Rattle.law_refine.specs.Below.law_local.Sessions.Inputs.{AttemptsSo, TriesFor}
+use Rattle.law_refine.specs.Below.law_local.Sessions.Known.{is_attempting}
+use Rattle.law_refine.proofs.Below.law_local.OfSessions.Lists.{AllBut, AllKnown, all_left}
+use Rattle.law_refine.proofs.Below.law_local.OfSessions.SessionInputs.{attempt_at_call, attempt_in_poll, run_so}
+use Rattle.law_refine.proofs.Below.law_world.OfSessions.OwnRun.{of_run, opened_so}
 use Rattle.law_commit.specs.Floor.Stands.{OpensSeen, PaperHasFloor, PaperIsSound}
 use Rattle.law_commit.specs.Quiet.{rank_now}
 use Rattle.law_commit.specs.Shares.Since.{AllShareSince, AttemptSo, HasPrepared, InHandSo, OlderComeSharing, ShareOnlySince, SharesOnly, SharesSince, TriesSo, WaitSo, seen_by, taken_up, waiting_beside}

@@ -26,8 +26,8 @@ use Rattle.fkv_world.specs.Runs.{World, run}
 use Rattle.fkv_world.specs.World.{Event, Calls, Commits, Crashes, KeeperMoves, Moves, Now, Turns, seat_at}
 use Rattle.fkv_world.proofs.Shown.{session_runs}
 use Rattle.law_log.specs.Trace.{IsIn}
-use Rattle.law_world.specs.Runs.Added.{begun_by, call_answered, call_begun, ended_by, is_calling, keeper_told, session_answered, told_at, told_by}
-use Rattle.law_world.proofs.OfRuns.Added.{trace_so}
+use Rattle.law_refine.specs.Below.law_world.Runs.Added.{begun_by, call_answered, call_begun, ended_by, is_calling, keeper_told, session_answered, told_at, told_by}
+use Rattle.law_refine.proofs.Below.law_world.OfRuns.Added.{trace_so}
 use Rattle.law_commit.specs.Cuts.{word_now}
 use Rattle.law_commit.specs.ToldPoints.{ToldPoint, finishes_at_call, points_told, with_durable, with_point}
 use Rattle.law_commit.proofs.OfPoints.Asked.{absent_now}

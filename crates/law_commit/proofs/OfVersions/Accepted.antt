@@ -31,7 +31,7 @@ use Rattle.fkv_session.specs.Sessions.{IsOpened, Seat, SessionState, asks_after,
 use Rattle.fkv_session.specs.SessionRun.{Begins, Gets, Replies, SessionEvent, all_told, begins, session_happens, session_run}
 use Rattle.fkv_session.specs.Versions.{AreAsTaken, IsAsTaken, IsVersion, TakenAt, WasTakenAt, taken_at_after, versions_taken}
 use Rattle.fkv_session.proofs.Shown.{IsTold, attempt_ends, attempt_keeps, attempt_so, made_in, made_of, run_call, run_request, run_taken, run_told, run_version}
-use Rattle.law_world.proofs.OfRuns.EffectStays.{leave_keeps, turn_keeps}
+use Rattle.law_refine.proofs.Below.law_world.OfRuns.EffectStays.{leave_keeps, turn_keeps}
 use Rattle.law_refine.proofs.OfEvents.SessionEffects.{called_keeps, catch_keeps, clear_keeps, polled_keeps, polls_keeps}
 use Rattle.law_commit.specs.Accepted.{HasRisingVersion}
 use Rattle.law_commit.specs.Versions.Effects.{IsTakenAt}

@@ -18,10 +18,10 @@ use Rattle.fkv_world.specs.Past.{Effect, effect_made, history_after}
 use Rattle.fkv_world.specs.Runs.{World, happens, read_by_keeper, run}
 use Rattle.fkv_world.specs.World.{Event, Moves, Now, life_goes, near, seat_at}
 use Rattle.fkv_world.proofs.Shown.{is_over, lived, same_seat, session_runs}
-use Rattle.law_world.specs.Guarded.Shows as guard
+use Rattle.law_refine.specs.Below.law_world.Guarded.Shows as guard
 use Rattle.law_log.specs.Trace.{IsIn}
-use Rattle.law_world.proofs.OfRuns.Added.{added_history, history_added, history_found}
-use Rattle.law_world.proofs.OfSessions.OwnRun.{of_run}
+use Rattle.law_refine.proofs.Below.law_world.OfRuns.Added.{added_history, history_added, history_found}
+use Rattle.law_refine.proofs.Below.law_world.OfSessions.OwnRun.{of_run}
 use Rattle.law_commit.specs.Accepted.{HasRisingVersion}
 use Rattle.law_commit.specs.Phases.Staged.{OpensAtRest}
 use Rattle.law_commit.specs.Versions.Effects.{HasEffectsOfItsVersions, IsNextAt}

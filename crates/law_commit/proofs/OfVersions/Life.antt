@@ -17,8 +17,8 @@ use Rattle.fkv_world.specs.OwnEvents.{session_events, session_part_of}
 use Rattle.fkv_world.specs.Runs.{World, run}
 use Rattle.fkv_world.specs.World.{Event, Now, seat_at}
 use Rattle.fkv_world.proofs.Shown.{same_seat, session_runs}
-use Rattle.law_world.proofs.OfRuns.Nothing.{none_ever}
-use Rattle.law_world.specs.Guarded.Shows as guard
+use Rattle.law_refine.proofs.Below.law_world.OfRuns.Nothing.{none_ever}
+use Rattle.law_refine.specs.Below.law_world.Guarded.Shows as guard
 use Rattle.law_log.specs.Chains.{Logged, Unborn}
 use Rattle.law_log.specs.Ghosts.{GhostEvent, Ghosts, Log, ghost_run}
 use Rattle.law_refine.specs.Events.GhostEvents.{ghost_events, home_in, life_ghosts, mapped, serials_in}

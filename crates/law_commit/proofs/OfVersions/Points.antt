@@ -10,8 +10,8 @@ use Rattle.fkv_world.specs.Opened.{HasBecome}
 use Rattle.fkv_world.specs.OwnEvents.{session_events}
 use Rattle.fkv_world.specs.Runs.{World}
 use Rattle.fkv_world.specs.World.{Event, seat_at}
-use Rattle.law_world.specs.Guarded.Shows as guard
-use Rattle.law_world.proofs.OfSessions.OwnRun.{opened_so}
+use Rattle.law_refine.specs.Below.law_world.Guarded.Shows as guard
+use Rattle.law_refine.proofs.Below.law_world.OfSessions.OwnRun.{opened_so}
 use Rattle.law_commit.specs.Accepted.{NeverFall, count_upto, serial_at, serial_of, versions_accepted, versions_of}
 use Rattle.law_commit.specs.Phases.Staged.{OpensAtRest}
 use Rattle.law_commit.specs.Versions.Effects.{IsTakenAt, PointSplits}

@@ -18,8 +18,8 @@ use Rattle.fkv_world.specs.Opened.{HasBecome}
 use Rattle.fkv_world.specs.OwnEvents.{session_events}
 use Rattle.fkv_world.specs.Runs.{World}
 use Rattle.fkv_world.specs.World.{Event, seat_at}
-use Rattle.law_world.proofs.OfSessions.OwnRun.{of_run, opened_so, to_run}
-use Rattle.law_world.specs.Guarded.Shows as guard
+use Rattle.law_refine.proofs.Below.law_world.OfSessions.OwnRun.{of_run, opened_so, to_run}
+use Rattle.law_refine.specs.Below.law_world.Guarded.Shows as guard
 use Rattle.law_refine.specs.Events.Names.{AreNamedSo, is_read_name}
 use Rattle.law_refine.proofs.OfEvents.RequestNames.{life_named}
 use Rattle.law_commit.specs.Accepted.{HasRisingVersion}

@@ -39,8 +39,8 @@ use Rattle.fkv_session.specs.Sessions.{SessionState, Seat, bits_of, room_of, ses
 use Rattle.fkv_world.specs.Past.{Traced}
 use Rattle.fkv_world.specs.Runs.{World, happens, run}
 use Rattle.fkv_world.specs.World.{Event, Moves, seat_at}
-use Rattle.law_world.specs.Guarded.Shows as guard
-use Rattle.law_world.specs.GuardSessions.Tries.{is_for_entry}
+use Rattle.law_refine.specs.Below.law_world.Guarded.Shows as guard
+use Rattle.law_refine.specs.Below.law_world.GuardSessions.Tries.{is_for_entry}
 use Rattle.law_refine.specs.Events.Appends.{append_ghosts, entry_made, reserved_ghosts}
 use Rattle.law_refine.specs.Events.Effects.{mover_step, step_at}
 use Rattle.law_refine.specs.Events.GhostEvents.{fixed_ghosts, ghost_events, moved_ghosts, own_ghosts, safe_at, serials_in, traced_by}

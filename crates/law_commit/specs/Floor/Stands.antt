@@ -10,7 +10,7 @@ use Rattle.fkv_session.specs.Sessions.{SessionState}
 use Rattle.fkv_world.specs.Opened.{HasBecome, IsOpenedWorld}
 use Rattle.fkv_world.specs.Runs.{World, run}
 use Rattle.fkv_world.specs.World.{Event, Now}
-use Rattle.law_world.specs.Guarded.Shows.{IsOpened}
+use Rattle.law_refine.specs.Below.law_world.Guarded.Shows.{IsOpened}
 use Rattle.law_paper.specs.Apart.{IsBetween}
 use Rattle.law_paper.specs.Phases as paper
 use Rattle.law_commit.specs.Phases.Staged.{DefersPending, DefersProgress, Flushes, IsStaged, OpensAtRest, Pends, Prepares, Progresses, Rests, Stage}

@@ -6,8 +6,8 @@ use Rattle.fkv_checkpoint.specs.Fuzzy.{CopiedHaveStood, HomesOnce, NoneLeftOut, 
 use Rattle.fkv_world.specs.OwnEvents.{keeper_events}
 use Rattle.fkv_world.specs.Runs.{World, run}
 use Rattle.fkv_world.specs.World.{Event}
-use Rattle.law_world.specs.Keeper.Lives.{life_writing, replies_copied}
-use Rattle.law_world.specs.Guarded.Shows as guard
+use Rattle.law_refine.specs.Below.law_world.Keeper.Lives.{life_writing, replies_copied}
+use Rattle.law_refine.specs.Below.law_world.Guarded.Shows as guard
 use Rattle.law_log.specs.Ghosts.{Ghosts}
 use Rattle.law_refine.specs.Index.Shows as index
 use Rattle.law_refine.specs.Index.Shows.{seen_by_index}

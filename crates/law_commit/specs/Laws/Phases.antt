@@ -5,7 +5,7 @@ use Rattle.fkv_session.specs.Sessions.{SessionState}
 use Rattle.fkv_world.specs.Opened.{HasBecome, IsOpenedWorld}
 use Rattle.fkv_world.specs.Runs.{World, run}
 use Rattle.fkv_world.specs.World.{Event}
-use Rattle.law_world.specs.Guarded.Shows.{IsOpened, seen_by_guard}
+use Rattle.law_refine.specs.Below.law_world.Guarded.Shows.{IsOpened, seen_by_guard}
 use Rattle.law_refine.specs.Events.GhostEvents.{safe_at}
 use Rattle.law_commit.specs.Phases.Projected.{ShowsSessions, sessions_opened}
 use Rattle.law_commit.specs.PhaseVersions.{HasRisingPhase, RestsAreNext}

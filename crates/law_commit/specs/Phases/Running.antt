@@ -18,8 +18,8 @@ use Rattle.fkv_session.specs.OwnTurns.{OwnTurnState}
 use Rattle.fkv_session.specs.Sessions.{SessionState}
 use Rattle.fkv_world.specs.Runs.{World, run}
 use Rattle.fkv_world.specs.World.{Event}
-use Rattle.law_world.specs.Guarded.Shows as guard
-use Rattle.law_world.specs.Guarded.Shows.{seen_by_guard}
+use Rattle.law_refine.specs.Below.law_world.Guarded.Shows as guard
+use Rattle.law_refine.specs.Below.law_world.Guarded.Shows.{seen_by_guard}
 
 abbrev pub claim_runs : Claiming → Option Armed
 claim_runs (claim.Runs slot epoch safe action) = Some (record { slot = slot; epoch = epoch; action = action })

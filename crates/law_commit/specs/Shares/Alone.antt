@@ -12,7 +12,7 @@ use Rattle.fkv_session.specs.Sessions.{SessionState, session_ask}
 use Rattle.fkv_world.specs.Opened.{HasBecome}
 use Rattle.fkv_world.specs.Runs.{World, run}
 use Rattle.fkv_world.specs.World.{Event, seat_at}
-use Rattle.law_world.specs.Guarded.Shows as guard
+use Rattle.law_refine.specs.Below.law_world.Guarded.Shows as guard
 use Rattle.law_paper.specs.Apart.{IsBetween}
 use Rattle.law_refine.specs.Latches.Latchers.{session_alone}
 use Rattle.law_refine.specs.Latches.Shows as latches

@@ -14,7 +14,7 @@ use Rattle.fkv_session.specs.Sessions.{SessionState}
 use Rattle.fkv_world.specs.Opened.{HasBecome}
 use Rattle.fkv_world.specs.Runs.{World}
 use Rattle.fkv_world.specs.World.{Event}
-use Rattle.law_world.specs.Guarded.Shows as guard
+use Rattle.law_refine.specs.Below.law_world.Guarded.Shows as guard
 
 -- In prepare an update shares its latch. One whose request has come with its latch does in each phase. No other does. And a try has the latch alone only while its
 -- session goes by in-progress or wait-pending, if the request is of the session's version.
