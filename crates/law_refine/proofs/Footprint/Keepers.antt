@@ -15,22 +15,22 @@ use Rattle.fkv_plane.specs.Passing.{passed}
 use Rattle.law_world.specs.Below.fkv_checkpoint.CopyStep.{CopyStep}
 use Rattle.law_world.specs.Below.fkv_checkpoint.CopyStep.TheVariants as copy
 use Rattle.law_world.specs.Below.fkv_checkpoint.Copying.{Copier, copy_step_ask, copy_begun}
-use Rattle.fkv_commit.specs.declared.commits.Commit.{Commit}
+use Rattle.law_world.specs.Below.fkv_commit.Commit.{Commit}
 use Rattle.fkv_base.specs.declared.commits.CommitKind.{CommitKind}
-use Rattle.fkv_commit.specs.declared.entering.EnterAnswer.{EnterAnswer}
-use Rattle.fkv_commit.specs.declared.entering.EnterAnswer.TheVariants as enter
-use Rattle.fkv_commit.specs.declared.finishing.FinishAnswer.{FinishAnswer}
-use Rattle.fkv_commit.specs.declared.seeking.SeekAnswer.{SeekAnswer}
-use Rattle.fkv_commit.specs.declared.seeking.SeekAnswer.TheVariants as seek
-use Rattle.fkv_commit.specs.declared.starting.StartAnswer.{StartAnswer}
-use Rattle.fkv_commit.specs.declared.starting.StartAnswer.TheVariants as start
-use Rattle.fkv_commit.specs.declared.waiting.WaitAnswer.{WaitAnswer}
-use Rattle.fkv_commit.specs.declared.waiting.WaitAnswer.TheVariants as wait
-use Rattle.fkv_commit.specs.Entering.{enter_begun, enter_next}
-use Rattle.fkv_commit.specs.Finishing.{finish_next}
-use Rattle.fkv_commit.specs.Seeking.{seek_begun, seek_next}
-use Rattle.fkv_commit.specs.Starting.{start_begun, start_next}
-use Rattle.fkv_commit.specs.Waiting.{wait_begun, wait_next}
+use Rattle.law_world.specs.Below.fkv_commit.EnterAnswer.{EnterAnswer}
+use Rattle.law_world.specs.Below.fkv_commit.EnterAnswer.TheVariants as enter
+use Rattle.law_world.specs.Below.fkv_commit.FinishAnswer.{FinishAnswer}
+use Rattle.law_world.specs.Below.fkv_commit.SeekAnswer.{SeekAnswer}
+use Rattle.law_world.specs.Below.fkv_commit.SeekAnswer.TheVariants as seek
+use Rattle.law_world.specs.Below.fkv_commit.StartAnswer.{StartAnswer}
+use Rattle.law_world.specs.Below.fkv_commit.StartAnswer.TheVariants as start
+use Rattle.law_world.specs.Below.fkv_commit.WaitAnswer.{WaitAnswer}
+use Rattle.law_world.specs.Below.fkv_commit.WaitAnswer.TheVariants as wait
+use Rattle.law_world.specs.Below.fkv_commit.Entering.{enter_begun, enter_next}
+use Rattle.law_world.specs.Below.fkv_commit.Finishing.{finish_next}
+use Rattle.law_world.specs.Below.fkv_commit.Seeking.{seek_begun, seek_next}
+use Rattle.law_world.specs.Below.fkv_commit.Starting.{start_begun, start_next}
+use Rattle.law_world.specs.Below.fkv_commit.Waiting.{wait_begun, wait_next}
 use Rattle.law_world.specs.Below.fkv_manifest.WriteAnswer.{WriteAnswer}
 use Rattle.law_world.specs.Below.fkv_manifest.WriteAnswer.TheVariants as write
 use Rattle.law_world.specs.Below.fkv_manifest.Committing.{commit_next, commit_answer}

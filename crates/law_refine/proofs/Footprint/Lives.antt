@@ -7,8 +7,8 @@ use Rattle.fkv_plane.specs.declared.places.Places.{Places}
 use Rattle.law_world.specs.Below.fkv_keeper.TheKeeping.TheVariants.{Finishes}
 use Rattle.law_world.specs.Below.fkv_keeper.KeeperRun as keeper
 use Rattle.law_world.specs.Below.fkv_keeper.Keeping.{KeeperState, keeper_ask}
-use Rattle.fkv_session.specs.Sessions.{SessionState, Seat}
-use Rattle.fkv_session.specs.SessionRun.{session_run}
+use Rattle.law_world.specs.Below.fkv_session.Sessions.{SessionState, Seat}
+use Rattle.law_world.specs.Below.fkv_session.SessionRun.{session_run}
 use Rattle.law_world.specs.Below.fkv_world.OwnEvents.{keeper_events, session_events}
 use Rattle.law_world.specs.Below.fkv_world.Runs.{World, run}
 use Rattle.law_world.specs.Below.fkv_world.World.{Event, seat_at}

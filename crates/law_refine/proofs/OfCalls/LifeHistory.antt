@@ -3,8 +3,8 @@ use Rattle.std.proofs.Common.{◌≡◌, ℕ, ◌∙◌, List, [], ◌∷◌, re
 use Rattle.std.specs.Prelude.{Option, Some, None, slice_get}
 use Rattle.fkv_epoch.proofs.Shown.{none_some}
 use Rattle.law_log.specs.Ghosts.{Ghosts, GhostEvent, ghost_run}
-use Rattle.fkv_session.specs.Replies.{with_effect}
-use Rattle.fkv_session.specs.Sessions.{SessionState}
+use Rattle.law_world.specs.Below.fkv_session.Replies.{with_effect}
+use Rattle.law_world.specs.Below.fkv_session.Sessions.{SessionState}
 use Rattle.law_world.specs.Below.fkv_world.Opened.{IsOpenedWorld}
 use Rattle.law_world.specs.Below.fkv_world.Past as world
 use Rattle.law_world.specs.Below.fkv_world.Runs.{World, happens, run}

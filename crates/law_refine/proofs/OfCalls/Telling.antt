@@ -13,9 +13,9 @@ use Rattle.law_world.specs.Below.fkv_keeper.TheKeeping.{Keeping}
 use Rattle.law_world.specs.Below.fkv_keeper.TheKeeping.TheVariants.{Ended}
 use Rattle.law_world.specs.Below.fkv_keeper.Keeping.{Finality}
 use Rattle.law_world.specs.Below.fkv_keeper.KeeperRun.{is_in_hand}
-use Rattle.fkv_session.specs.declared.answers.Told.{Told}
-use Rattle.fkv_session.specs.SessionRun.{SessionEvent, Begins, Replies, Gets, session_run}
-use Rattle.fkv_session.specs.Sessions.{SessionState, Seat, is_busy, session_ask, session_begun, session_next}
+use Rattle.law_world.specs.Below.fkv_session.Told.{Told}
+use Rattle.law_world.specs.Below.fkv_session.SessionRun.{SessionEvent, Begins, Replies, Gets, session_run}
+use Rattle.law_world.specs.Below.fkv_session.Sessions.{SessionState, Seat, is_busy, session_ask, session_begun, session_next}
 use Rattle.law_world.specs.Below.fkv_world.Actors.{is_of_session, session_goes}
 use Rattle.law_world.specs.Runs.Added.{call_begun, begun_by, call_answered, session_answered, keeper_told, is_calling, ended_by, told_by}
 use Rattle.law_world.specs.Below.fkv_world.Moves.{Near}

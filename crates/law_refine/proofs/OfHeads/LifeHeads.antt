@@ -24,8 +24,8 @@ use Rattle.fkv_index.specs.OneEntry.{IsHome}
 use Rattle.fkv_index.specs.Publishing.{publish_first}
 use Rattle.fkv_index.specs.Slots.{entry_addr, entry_tag}
 use Rattle.fkv_index.proofs.Shown.{IsSound, WorkKnows, homes_are_there}
-use Rattle.fkv_session.specs.declared.answers.Told.TheVariants.{Slept}
-use Rattle.fkv_session.specs.Sessions.{SessionState, session_ask}
+use Rattle.law_world.specs.Below.fkv_session.Told.TheVariants.{Slept}
+use Rattle.law_world.specs.Below.fkv_session.Sessions.{SessionState, session_ask}
 use Rattle.law_world.specs.Below.fkv_world.Runs.{World, happens, run}
 use Rattle.law_world.specs.Below.fkv_world.World.{Event, Calls, Moves, Commits, Turns, KeeperMoves, Crashes, Now, seat_at}
 use Rattle.law_world.proofs.Below.fkv_world.Shown.{places_stay, shape_stays}

@@ -21,7 +21,7 @@ use Rattle.fkv_index.specs.Searches.{LinksOne, IsLinkBy}
 use Rattle.fkv_index.specs.SlotOrders.{OrdersMove}
 use Rattle.fkv_index.proofs.Shown.{IsSound, event_entries, event_happened, event_orders, sound_lists}
 use Rattle.law_world.specs.Below.fkv_keeper.Keeping.{keeper_ask}
-use Rattle.fkv_session.specs.Sessions.{SessionState, is_busy, session_ask}
+use Rattle.law_world.specs.Below.fkv_session.Sessions.{SessionState, is_busy, session_ask}
 use Rattle.law_world.specs.Below.fkv_world.Moves.{session_moved}
 use Rattle.law_world.specs.Below.fkv_world.Runs.{World, run}
 use Rattle.law_world.specs.Below.fkv_world.World.{Event, Calls, Moves, Commits, Turns, KeeperMoves, Crashes, Now, seat_at, near, session_called}

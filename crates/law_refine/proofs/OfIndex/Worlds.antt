@@ -9,8 +9,8 @@ use Rattle.fkv_index.proofs.Shown.{homes_are_there}
 use Rattle.fkv_index.specs.IndexWorld.{IndexActor, IndexEvent, IndexNow, rested_actor}
 use Rattle.law_world.specs.Below.fkv_keeper.KeeperTold.{KeeperTold}
 use Rattle.law_world.specs.Below.fkv_keeper.Keeping.{keeper_ask}
-use Rattle.fkv_session.specs.declared.answers.Told.{Told}
-use Rattle.fkv_session.specs.Sessions.{SessionState, Seat, is_busy, session_ask, session_begun}
+use Rattle.law_world.specs.Below.fkv_session.Told.{Told}
+use Rattle.law_world.specs.Below.fkv_session.Sessions.{SessionState, Seat, is_busy, session_ask, session_begun}
 use Rattle.law_world.specs.Below.fkv_world.World.{Event, Calls, Moves, Commits, Turns, KeeperMoves, Crashes, Now, seat_at, near, with_session, session_calls, session_moves, life_goes}
 use Rattle.law_world.specs.Below.fkv_world.Moves.{Near, session_moved}
 use Rattle.law_world.specs.Below.fkv_world.Runs.{World, read_by_keeper, happens, run}

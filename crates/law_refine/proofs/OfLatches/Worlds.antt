@@ -16,11 +16,11 @@ use Rattle.fkv_latch.proofs.Shown.{IsSound, run_sound, opening_sound}
 use Rattle.law_world.specs.Below.fkv_keeper.KeeperTold.{KeeperTold}
 use Rattle.law_world.specs.Below.fkv_keeper.KeeperTold.TheVariants.{Device}
 use Rattle.law_world.specs.Below.fkv_keeper.Keeping.{KeeperState, keeper_ask}
-use Rattle.fkv_session.specs.declared.sessions.Sitting.{Sitting}
-use Rattle.fkv_session.specs.declared.sessions.Sitting.TheVariants.{Idle}
-use Rattle.fkv_session.specs.Sessions.{SessionState, Seat, bits_of, is_busy, session_ask, session_begun}
-use Rattle.fkv_session.specs.SessionRun.{Begins, begins, session_happens, session_run}
-use Rattle.fkv_session.specs.Shares.{times_added}
+use Rattle.law_world.specs.Below.fkv_session.Sitting.{Sitting}
+use Rattle.law_world.specs.Below.fkv_session.Sitting.TheVariants.{Idle}
+use Rattle.law_world.specs.Below.fkv_session.Sessions.{SessionState, Seat, bits_of, is_busy, session_ask, session_begun}
+use Rattle.law_world.specs.Below.fkv_session.SessionRun.{Begins, begins, session_happens, session_run}
+use Rattle.law_world.specs.Below.fkv_session.Shares.{times_added}
 use Rattle.law_world.specs.Below.fkv_world.World.{Event, Calls, Moves, Commits, Turns, KeeperMoves, Crashes, Now, seat_at, near, with_session, session_calls, session_moves, life_goes, happens_now}
 use Rattle.law_world.specs.Below.fkv_world.Moves.{Near, session_moved, keeper_settled, keeper_replied, keeper_asks}
 use Rattle.law_world.specs.Below.fkv_world.Runs.{World, run, read_by_keeper}

@@ -6,7 +6,7 @@ use Rattle.fkv_base.specs.declared.shapes.Shape.{Shape}
 use Rattle.fkv_plane.specs.declared.asks.Ask.{Ask}
 use Rattle.fkv_plane.specs.declared.asks.Ask.TheVariants.{Done}
 use Rattle.fkv_plane.specs.declared.places.Places.{Places}
-use Rattle.fkv_commit.specs.Starting.{start_begun}
+use Rattle.law_world.specs.Below.fkv_commit.Starting.{start_begun}
 use Rattle.law_world.specs.Below.fkv_maintain.MaintainAnswer.{MaintainAnswer}
 use Rattle.law_world.specs.Below.fkv_maintain.MaintainAnswer.TheVariants as maintain
 use Rattle.law_world.specs.Below.fkv_maintain.MaintainRun as part

@@ -9,7 +9,7 @@ use Rattle.law_world.specs.Below.fkv_keeper.TheKeeping.TheVariants.{Ended, Start
 use Rattle.law_world.specs.Below.fkv_keeper.KeeperRun.{IsOpened as IsKeeperOpened, is_in_hand, keeper_run}
 use Rattle.law_world.specs.Below.fkv_keeper.Keeping.{KeeperState, keeper_ask}
 use Rattle.law_world.proofs.Below.fkv_keeper.Shown.{IsSound, run_sound}
-use Rattle.fkv_session.specs.Sessions.{SessionState, Seat}
+use Rattle.law_world.specs.Below.fkv_session.Sessions.{SessionState, Seat}
 use Rattle.law_world.specs.Below.fkv_world.OwnEvents.{keeper_events, session_events}
 use Rattle.law_world.specs.Below.fkv_world.Runs.{World, run}
 use Rattle.law_world.specs.Below.fkv_world.World.{Event, Calls, Moves, Commits, Turns, KeeperMoves, Crashes, Now, seat_at}

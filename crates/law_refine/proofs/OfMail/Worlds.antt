@@ -7,19 +7,19 @@ use Rattle.fkv_plane.specs.declared.asks.Ask.{Ask}
 use Rattle.fkv_plane.specs.declared.places.SessionWord.TheVariants as own
 use Rattle.fkv_plane.specs.Asked.{words_after, reply_to}
 use Rattle.fkv_plane.specs.Places.{session_place}
-use Rattle.fkv_flush.specs.declared.serving.Serving.{Serving}
-use Rattle.fkv_flush.specs.declared.serving.Serving.TheVariants as serve
-use Rattle.fkv_flush.specs.Serving.{serve_ask}
+use Rattle.law_world.specs.Below.fkv_flush.TheServing.{Serving}
+use Rattle.law_world.specs.Below.fkv_flush.TheServing.TheVariants as serve
+use Rattle.law_world.specs.Below.fkv_flush.Serving.{serve_ask}
 use Rattle.law_world.specs.Below.fkv_keeper.KeeperTold.{KeeperTold}
 use Rattle.law_world.specs.Below.fkv_keeper.KeeperRun.{is_in_hand, keeper_run}
 use Rattle.law_world.specs.Below.fkv_keeper.Keeping.{KeeperState, keeper_ask}
-use Rattle.fkv_pending.specs.declared.mailing.Mailing.{Mailing}
-use Rattle.fkv_pending.specs.Mailing.{mail_asked, mail_ask, mail_next}
-use Rattle.fkv_pending.specs.MailWorld.{Mailbox, mailbox_of, Keeping, FindsState, MailWorld, MailEvent, mail_run}
-use Rattle.fkv_pending.specs.Mailbox.{MailPast}
-use Rattle.fkv_pending.proofs.Shown.{IsSound, KnowsMail, moved_box}
-use Rattle.fkv_session.specs.declared.answers.Told.{Told}
-use Rattle.fkv_session.specs.Sessions.{SessionState, Seat, is_busy, session_ask, session_begun}
+use Rattle.law_world.specs.Below.fkv_pending.TheMailing.{Mailing}
+use Rattle.law_world.specs.Below.fkv_pending.Mailing.{mail_asked, mail_ask, mail_next}
+use Rattle.law_world.specs.Below.fkv_pending.MailWorld.{Mailbox, mailbox_of, Keeping, FindsState, MailWorld, MailEvent, mail_run}
+use Rattle.law_world.specs.Below.fkv_pending.Mailbox.{MailPast}
+use Rattle.law_world.proofs.Below.fkv_pending.Shown.{IsSound, KnowsMail, moved_box}
+use Rattle.law_world.specs.Below.fkv_session.Told.{Told}
+use Rattle.law_world.specs.Below.fkv_session.Sessions.{SessionState, Seat, is_busy, session_ask, session_begun}
 use Rattle.law_world.specs.Below.fkv_world.Moves.{Near, session_moved}
 use Rattle.law_world.specs.Below.fkv_world.OwnEvents.{keeper_part}
 use Rattle.law_world.specs.Below.fkv_world.Runs.{World, read_by_keeper, happens}

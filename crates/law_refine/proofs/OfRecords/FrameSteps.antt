@@ -8,11 +8,11 @@ use Rattle.fkv_epoch.proofs.Shown.{same_or, some_same}
 use Rattle.fkv_plane.specs.declared.places.Places.{Places}
 use Rattle.fkv_plane.specs.Asked.{word_at}
 use Rattle.fkv_plane.specs.Places.{frames_start}
-use Rattle.fkv_flush.specs.GuardCalm.{IsOther}
-use Rattle.fkv_flush.specs.Guarded.{event_writes, IsPermittedEvent, ArePermittedEvents}
-use Rattle.fkv_flush.specs.GuardWorld as guard
-use Rattle.fkv_flush.specs.GuardWorld.{Actor, Work, GuardWorld, GuardEvent, ToDo, Begins, Resumes, Publishes, Updates, RaisesReadOnly, RaisesFor, Changes, guard_happens, guard_run, is_idle, may_update}
-use Rattle.fkv_flush.proofs.Shown.{IsSound, Spares, unwritten}
+use Rattle.law_world.specs.Below.fkv_flush.GuardCalm.{IsOther}
+use Rattle.law_world.specs.Below.fkv_flush.Guarded.{event_writes, IsPermittedEvent, ArePermittedEvents}
+use Rattle.law_world.specs.Below.fkv_flush.GuardWorld as guard
+use Rattle.law_world.specs.Below.fkv_flush.GuardWorld.{Actor, Work, GuardWorld, GuardEvent, ToDo, Begins, Resumes, Publishes, Updates, RaisesReadOnly, RaisesFor, Changes, guard_happens, guard_run, is_idle, may_update}
+use Rattle.law_world.proofs.Below.fkv_flush.Shown.{IsSound, Spares, unwritten}
 use Rattle.law_world.specs.Below.fkv_keeper.TheKeeping.{Keeping}
 use Rattle.law_world.specs.Below.fkv_keeper.TheKeeping.TheVariants as keeping
 use Rattle.law_world.specs.Below.fkv_keeper.Keeping.{KeeperState}
@@ -20,7 +20,7 @@ use Rattle.law_world.specs.Below.fkv_keeper.KeeperRun.{is_in_hand}
 use Rattle.law_world.specs.Below.fkv_maintain.TheMaintaining.{Maintaining}
 use Rattle.law_world.specs.Below.fkv_maintain.TheMaintaining.TheVariants as maintain
 use Rattle.law_world.specs.Below.fkv_maintain.Maintaining.{MaintainState}
-use Rattle.fkv_session.specs.Sessions.{SessionState, is_busy, session_begun}
+use Rattle.law_world.specs.Below.fkv_session.Sessions.{SessionState, is_busy, session_begun}
 use Rattle.law_world.specs.GuardSessions.Sessions.{sitting_onward}
 use Rattle.law_world.specs.GuardSessions.Steps.{onward_events}
 use Rattle.law_world.specs.GuardKeeper.KeeperEvents.{keeper_move_events, turn_asked_events}

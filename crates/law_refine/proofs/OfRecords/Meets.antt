@@ -8,8 +8,8 @@ use Rattle.law_log.proofs.Shown.{run_on}
 use Rattle.fkv_plane.specs.declared.asks.Ask.{Ask}
 use Rattle.fkv_plane.specs.declared.asks.Ask.TheVariants.{Put, Take, Done}
 use Rattle.fkv_plane.specs.Asked.{reply_to}
-use Rattle.fkv_session.specs.declared.answers.Told.{Told}
-use Rattle.fkv_session.specs.Sessions.{SessionState, Seat, session_ask}
+use Rattle.law_world.specs.Below.fkv_session.Told.{Told}
+use Rattle.law_world.specs.Below.fkv_session.Sessions.{SessionState, Seat, session_ask}
 use Rattle.law_world.specs.GuardSessions.InPlace.{changed_in_place}
 use Rattle.law_world.specs.Below.fkv_world.Runs.{World, happens, run}
 use Rattle.law_world.specs.Below.fkv_world.World.{Event, Moves, seat_at}

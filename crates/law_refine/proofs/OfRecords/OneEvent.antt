@@ -17,10 +17,10 @@ use Rattle.fkv_plane.specs.declared.asks.Ask.TheVariants.{Put, Take, Done}
 use Rattle.fkv_plane.specs.declared.places.RecordWord.{RecordWord}
 use Rattle.fkv_plane.specs.declared.places.RecordWord.TheVariants as rec
 use Rattle.fkv_plane.specs.Asked.{asked, asked_place, reply_to}
-use Rattle.fkv_ops.specs.HeaderWords.{header_said}
-use Rattle.fkv_ops.specs.Values.{value_of, word_of}
-use Rattle.fkv_session.specs.declared.answers.Told.{Told}
-use Rattle.fkv_session.specs.Sessions.{SessionState, Seat, session_ask}
+use Rattle.law_world.specs.Below.fkv_ops.HeaderWords.{header_said}
+use Rattle.law_world.specs.Below.fkv_ops.Values.{value_of, word_of}
+use Rattle.law_world.specs.Below.fkv_session.Told.{Told}
+use Rattle.law_world.specs.Below.fkv_session.Sessions.{SessionState, Seat, session_ask}
 use Rattle.law_world.specs.GuardSessions.InPlace.{changed_in_place, SessionMayChange}
 use Rattle.law_world.specs.Below.fkv_world.Actors.{is_of_session, session_goes}
 use Rattle.law_world.specs.Below.fkv_world.Moves.{session_moved}

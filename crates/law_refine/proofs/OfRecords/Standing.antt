@@ -8,10 +8,10 @@ use Rattle.fkv_plane.specs.declared.places.RecordWord.{RecordWord}
 use Rattle.fkv_plane.specs.declared.places.SharedWord.TheVariants as one
 use Rattle.fkv_plane.specs.Asked.{word_at}
 use Rattle.fkv_plane.specs.Places.{record_place, shared_place}
-use Rattle.fkv_flush.specs.GuardFlushed.{is_open, stands}
-use Rattle.fkv_flush.specs.GuardLevels.{levels_of}
-use Rattle.fkv_flush.specs.GuardWorld.{GuardNow, GuardWorld}
-use Rattle.fkv_flush.proofs.Shown.{stood_open}
+use Rattle.law_world.specs.Below.fkv_flush.GuardFlushed.{is_open, stands}
+use Rattle.law_world.specs.Below.fkv_flush.GuardLevels.{levels_of}
+use Rattle.law_world.specs.Below.fkv_flush.GuardWorld.{GuardNow, GuardWorld}
+use Rattle.law_world.proofs.Below.fkv_flush.Shown.{stood_open}
 use Rattle.law_world.specs.Below.fkv_world.Actors.{place_named}
 use Rattle.law_world.specs.Below.fkv_world.Runs.{World, happens, run}
 use Rattle.law_world.specs.Below.fkv_world.World.{Event, Now}

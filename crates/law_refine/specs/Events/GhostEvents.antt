@@ -6,7 +6,7 @@ use Rattle.fkv_plane.specs.Asked.{word_at}
 use Rattle.fkv_plane.specs.Places.{shared_place}
 use Rattle.fkv_index.specs.declared.homes.Home.{Home}
 use Rattle.fkv_index.specs.Slots.{home_of}
-use Rattle.fkv_session.specs.Sessions.{SessionState, session_ask}
+use Rattle.law_world.specs.Below.fkv_session.Sessions.{SessionState, session_ask}
 use Rattle.law_world.specs.Runs.Added.{told_at, told_by}
 use Rattle.law_world.specs.Below.fkv_world.Past.{Traced}
 use Rattle.law_world.specs.Below.fkv_world.Runs.{World, happens, run}

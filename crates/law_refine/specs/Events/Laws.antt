@@ -3,7 +3,7 @@ use Rattle.std.specs.Prelude.{◌≡◌, ℕ, [], List, Some, slice_get}
 use Rattle.law_world.specs.Below.fkv_keeper.KeeperRun.{IsOpened}
 use Rattle.law_world.specs.Below.fkv_keeper.Keeping.{KeeperState}
 use Rattle.law_log.specs.Ghosts.{Ghosts}
-use Rattle.fkv_session.specs.Sessions.{SessionState}
+use Rattle.law_world.specs.Below.fkv_session.Sessions.{SessionState}
 use Rattle.law_world.specs.Below.fkv_world.Opened.{IsOpenedWorld}
 use Rattle.law_world.specs.Below.fkv_world.Runs.{World, happens, run}
 use Rattle.law_world.specs.Below.fkv_world.World.{Event, seat_at}

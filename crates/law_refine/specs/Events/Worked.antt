@@ -11,11 +11,11 @@ use Rattle.law_log.specs.Trace.{Effect, TraceLine, CallsUpdate, RefusesUpdate, G
 use Rattle.law_log.specs.Worked.{cell_of, empty_log, entry_of}
 use Rattle.fkv_plane.specs.declared.places.Places.{Places}
 use Rattle.law_world.specs.Below.fkv_keeper.Keeping.{KeeperState}
-use Rattle.fkv_ops.specs.declared.answers.Reason.TheVariants.{Disk}
-use Rattle.fkv_session.specs.declared.answers.Finished.TheVariants as finished
-use Rattle.fkv_session.specs.declared.answers.Told.TheVariants as told
-use Rattle.fkv_session.specs.declared.sessions.Sitting.TheVariants.{Idle}
-use Rattle.fkv_session.specs.Sessions.{SessionState}
+use Rattle.law_world.specs.Below.fkv_ops.Reason.TheVariants.{Disk}
+use Rattle.law_world.specs.Below.fkv_session.Finished.TheVariants as finished
+use Rattle.law_world.specs.Below.fkv_session.Told.TheVariants as told
+use Rattle.law_world.specs.Below.fkv_session.Sitting.TheVariants.{Idle}
+use Rattle.law_world.specs.Below.fkv_session.Sessions.{SessionState}
 use Rattle.law_world.specs.Runs.Added.{told_at}
 use Rattle.law_world.specs.Below.fkv_world.Opened.{IsOpenedWorld}
 use Rattle.law_world.specs.Below.fkv_world.Past.{Traced, Called, Answered}

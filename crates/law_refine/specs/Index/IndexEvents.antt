@@ -8,7 +8,7 @@ use Rattle.fkv_plane.specs.Passing.{is_done}
 use Rattle.fkv_index.specs.Finding.{find_next_ask}
 use Rattle.fkv_index.specs.IndexWorld as index
 use Rattle.law_world.specs.Below.fkv_keeper.Keeping.{keeper_ask}
-use Rattle.fkv_session.specs.Sessions.{SessionState, is_busy, session_ask}
+use Rattle.law_world.specs.Below.fkv_session.Sessions.{SessionState, is_busy, session_ask}
 use Rattle.law_world.specs.Below.fkv_world.World.{Event, Calls, Moves, KeeperMoves, Now, seat_at, near, session_called}
 use Rattle.law_world.specs.Below.fkv_world.Moves.{session_moved}
 use Rattle.law_world.specs.Below.fkv_world.Runs.{World, run}

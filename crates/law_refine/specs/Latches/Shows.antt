@@ -9,9 +9,9 @@ use Rattle.fkv_latch.specs.LatchWorld.{LatchActor, LatchWorld, has_latch, latch_
 use Rattle.fkv_latch.specs.Latched as latches
 use Rattle.law_world.specs.Below.fkv_keeper.KeeperRun as keeper
 use Rattle.law_world.specs.Below.fkv_keeper.Keeping.{keeper_ask}
-use Rattle.fkv_session.specs.Sessions as sessions
-use Rattle.fkv_session.specs.Sessions.{SessionState, Seat, is_busy, session_ask}
-use Rattle.fkv_session.specs.Shares.{sharing}
+use Rattle.law_world.specs.Below.fkv_session.Sessions as sessions
+use Rattle.law_world.specs.Below.fkv_session.Sessions.{SessionState, Seat, is_busy, session_ask}
+use Rattle.law_world.specs.Below.fkv_session.Shares.{sharing}
 use Rattle.law_world.specs.Below.fkv_world.World.{Event, Moves, KeeperMoves, Now, seat_at}
 use Rattle.law_world.specs.Below.fkv_world.Runs.{World, run}
 use Rattle.law_refine.specs.Latches.Latchers.{session_latching, session_alone}

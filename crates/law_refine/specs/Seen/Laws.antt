@@ -2,7 +2,7 @@
 use Rattle.std.specs.Prelude.{◌≡◌, ◌≤◌, ◌∷◌, ℕ, List, Some, false, slice_get, true}
 use Rattle.law_world.specs.GuardSessions.Followed.{is_turning}
 use Rattle.law_log.specs.Ghosts.{Ghosts}
-use Rattle.fkv_session.specs.Sessions.{SessionState, is_busy, session_ask}
+use Rattle.law_world.specs.Below.fkv_session.Sessions.{SessionState, is_busy, session_ask}
 use Rattle.law_local.specs.Tries.TryRows.{head_in}
 use Rattle.law_world.specs.Below.fkv_world.Moves.{session_moved, session_replied}
 use Rattle.law_world.specs.Below.fkv_world.Runs.{World, run}
