@@ -3,8 +3,8 @@ ghost use Rattle.law_commit.specs.Said as said;
 
 use crate::floor::law_floor_stands;
 use crate::quiet::law_versions_end;
-use fkv_checkpoint::law_copied;
 use law_paper::law_phases_are_seen;
+use law_refine::law_copied;
 
 /// In every life of a store that was opened each address from the tail with which it began up to the tail is taken: its record is being made, stands, or was
 /// given up. A record that is being made lies at or above the tail of its session's view. So all is decided below what each session that is awake has seen as

@@ -5,22 +5,22 @@ use Rattle.std.specs.Prelude.{Option}
 use Rattle.fkv_base.specs.declared.commits.CommitKind.{CommitKind}
 use Rattle.fkv_base.specs.declared.commits.CommitKind.TheVariants.{Full}
 use Rattle.fkv_base.specs.declared.numbers.Addr.{Addr}
-use Rattle.fkv_checkpoint.specs.Copied.{CopiesTriples}
-use Rattle.fkv_checkpoint.specs.Copying.{Copier}
-use Rattle.fkv_checkpoint.specs.CopyWorld.{CopyWorld}
-use Rattle.fkv_checkpoint.specs.Fuzzy.{AreApart}
-use Rattle.fkv_checkpoint.specs.Triples.{CopiedEntry, all_bytes, copied_of}
-use Rattle.fkv_checkpoint.proofs.Shown.{sound_left_out}
-use Rattle.fkv_commit.specs.declared.commits.Commit.{Commit}
+use Rattle.law_refine.specs.Below.fkv_checkpoint.Copied.{CopiesTriples}
+use Rattle.law_refine.specs.Below.fkv_checkpoint.Copying.{Copier}
+use Rattle.law_refine.specs.Below.fkv_checkpoint.CopyWorld.{CopyWorld}
+use Rattle.law_refine.specs.Below.fkv_checkpoint.Fuzzy.{AreApart}
+use Rattle.law_refine.specs.Below.fkv_checkpoint.Triples.{CopiedEntry, all_bytes, copied_of}
+use Rattle.law_refine.proofs.Below.fkv_checkpoint.Shown.{sound_left_out}
+use Rattle.law_refine.specs.Below.fkv_commit.Commit.{Commit}
 use Rattle.fkv_index.specs.OneEntry.{IsHome}
-use Rattle.fkv_keeper.specs.CheckpointLaws.{IsBeforeWrites}
-use Rattle.fkv_keeper.specs.Keeping.{bytes_copied, triples_written}
+use Rattle.law_refine.specs.Below.fkv_keeper.CheckpointLaws.{IsBeforeWrites}
+use Rattle.law_refine.specs.Below.fkv_keeper.Keeping.{bytes_copied, triples_written}
 use Rattle.fkv_plane.specs.declared.places.Places.{Places}
 use Rattle.fkv_words.specs.PhaseWords.{phase_said}
-use Rattle.fkv_world.specs.OwnEvents.{keeper_events}
-use Rattle.fkv_world.specs.Runs.{World, run}
-use Rattle.fkv_world.specs.World.{Event}
-use Rattle.fkv_world.proofs.Shown.{places_stay}
+use Rattle.law_refine.specs.Below.fkv_world.OwnEvents.{keeper_events}
+use Rattle.law_refine.specs.Below.fkv_world.Runs.{World, run}
+use Rattle.law_refine.specs.Below.fkv_world.World.{Event}
+use Rattle.law_refine.proofs.Below.fkv_world.Shown.{places_stay}
 use Rattle.law_log.specs.Ghosts.{Ghosts}
 use Rattle.law_log.specs.Trace.{IsIn}
 use Rattle.law_refine.specs.Below.law_world.Guarded.Shows as guard
