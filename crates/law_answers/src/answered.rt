@@ -1,9 +1,8 @@
 //! Each call comes to its answer.
 ghost use Rattle.law_answers.specs.Answered.Laws as calls;
 
-use fkv_core::World;
 use fkv_disk::Device;
-use law_world::law_world_ends;
+use law_opening::{World, law_world_ends};
 
 /// A call that is in hand goes on until the trace gets its answer. An event behind which its actor has none in hand any more, in a life that
 /// goes on, gives just that answer; and where an event gives no answer to anybody, the call is in hand still. So it is where that actor alone has moved,

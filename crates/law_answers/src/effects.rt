@@ -1,9 +1,8 @@
 //! The effects that are told are the history.
 ghost use Rattle.law_answers.specs.Effects.Laws as effects;
 
-use fkv_core::World;
 use fkv_disk::Device;
-use law_world::law_world_slots;
+use law_opening::{World, law_world_slots};
 
 /// In a life of a store that was just opened, who asks for a session's effect behind each of its moves, where its call was in hand before
 /// the move, and behind no other event, is told of each update that takes effect, once and as it does: each event adds to the history what

@@ -9,24 +9,24 @@ use Rattle.fkv_plane.specs.declared.asks.Ask.TheVariants.{Load, Store, Swap, Cas
 use Rattle.fkv_plane.specs.declared.places.Places.{Places}
 use Rattle.fkv_plane.specs.Asked.{reply_to}
 use Rattle.fkv_plane.specs.Plane.{action_at}
-use Rattle.fkv_commit.specs.declared.commits.Commit.{Commit}
-use Rattle.fkv_manifest.specs.declared.commits.Committing.{Committing}
-use Rattle.fkv_manifest.specs.declared.commits.Committing.TheVariants.{PutsSlot}
-use Rattle.fkv_manifest.specs.declared.gates.Gating.{Gating}
-use Rattle.fkv_manifest.specs.declared.gates.Gating.TheVariants.{Opens, SyncsOpen}
-use Rattle.fkv_keeper.specs.declared.answers.KeeperTold.{KeeperTold}
-use Rattle.fkv_keeper.specs.declared.answers.KeeperTold.TheVariants.{Device, Turned}
-use Rattle.fkv_keeper.specs.declared.keepers.Keeping.{Keeping}
-use Rattle.fkv_keeper.specs.declared.keepers.Keeping.TheVariants.{Ended, Writes, Finishes}
-use Rattle.fkv_keeper.specs.Keeping.{KeeperState, keeper_ask, keeper_next}
-use Rattle.fkv_keeper.specs.KeeperRun.{BeginsCommit, BeginsTurn, Calls, KeeperEvent, Replies, keeper_run}
-use Rattle.fkv_world.specs.Moves.{Near}
-use Rattle.fkv_world.specs.OwnEvents.{keeper_events, keeper_got, keeper_part, keeper_part_of, keeper_slots, keeper_steps}
-use Rattle.fkv_world.specs.Runs.{World, read_by_keeper, run}
-use Rattle.fkv_world.specs.World as world
-use Rattle.fkv_world.specs.World.{Event, Commits, Crashes, KeeperMoves, Moves, Turns, near}
+use Rattle.law_refine.specs.Below.fkv_commit.Commit.{Commit}
+use Rattle.law_refine.specs.Below.fkv_manifest.TheCommitting.{Committing}
+use Rattle.law_refine.specs.Below.fkv_manifest.TheCommitting.TheVariants.{PutsSlot}
+use Rattle.law_refine.specs.Below.fkv_manifest.TheGating.{Gating}
+use Rattle.law_refine.specs.Below.fkv_manifest.TheGating.TheVariants.{Opens, SyncsOpen}
+use Rattle.law_refine.specs.Below.fkv_keeper.KeeperTold.{KeeperTold}
+use Rattle.law_refine.specs.Below.fkv_keeper.KeeperTold.TheVariants.{Device, Turned}
+use Rattle.law_refine.specs.Below.fkv_keeper.TheKeeping.{Keeping}
+use Rattle.law_refine.specs.Below.fkv_keeper.TheKeeping.TheVariants.{Ended, Writes, Finishes}
+use Rattle.law_refine.specs.Below.fkv_keeper.Keeping.{KeeperState, keeper_ask, keeper_next}
+use Rattle.law_refine.specs.Below.fkv_keeper.KeeperRun.{BeginsCommit, BeginsTurn, Calls, KeeperEvent, Replies, keeper_run}
+use Rattle.law_refine.specs.Below.fkv_world.Moves.{Near}
+use Rattle.law_refine.specs.Below.fkv_world.OwnEvents.{keeper_events, keeper_got, keeper_part, keeper_part_of, keeper_slots, keeper_steps}
+use Rattle.law_refine.specs.Below.fkv_world.Runs.{World, read_by_keeper, run}
+use Rattle.law_refine.specs.Below.fkv_world.World as world
+use Rattle.law_refine.specs.Below.fkv_world.World.{Event, Commits, Crashes, KeeperMoves, Moves, Turns, near}
 use Rattle.law_log.specs.Trace.{IsIn}
-use Rattle.law_world.proofs.OfKeeper.OwnRun.{to_keeper}
+use Rattle.law_refine.proofs.Below.law_world.OfKeeper.OwnRun.{to_keeper}
 use Rattle.law_commit.specs.BegunCommits.{BegunCommit, begun_at_end, begun_at_gate, begun_at_writes, begun_by, commit_opened, commits_begun, life_begun, with_finished, with_opening, with_sealed}
 use Rattle.law_commit.specs.Decided.Ended.{Span, span_in, span_of, span_opened}
 

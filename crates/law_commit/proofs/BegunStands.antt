@@ -5,27 +5,27 @@ use Rattle.fkv_base.specs.declared.shapes.Shape.{Shape}
 use Rattle.fkv_plane.specs.declared.asks.Ask.{Ask}
 use Rattle.fkv_plane.specs.declared.asks.Ask.TheVariants.{Done}
 use Rattle.fkv_plane.specs.declared.places.Places.{Places}
-use Rattle.fkv_commit.specs.declared.commits.Commit.{Commit}
-use Rattle.fkv_commit.specs.declared.finishing.FinishAnswer.{FinishAnswer}
-use Rattle.fkv_commit.specs.declared.waiting.WaitAnswer.{WaitAnswer}
-use Rattle.fkv_commit.specs.declared.waiting.WaitAnswer.TheVariants as wait
-use Rattle.fkv_commit.specs.Finishing.{finish_ask, finish_next}
-use Rattle.fkv_commit.specs.Waiting.{wait_ask, wait_next}
-use Rattle.fkv_manifest.specs.declared.commits.Committing.{Committing}
-use Rattle.fkv_manifest.specs.declared.commits.Committing.TheVariants as committing
-use Rattle.fkv_manifest.specs.declared.gates.Gating.{Gating}
-use Rattle.fkv_manifest.specs.declared.gates.Gating.TheVariants as gate
-use Rattle.fkv_manifest.specs.Committing.{commit_start, commit_step_answer, commit_step_next, gate_after}
-use Rattle.fkv_manifest.specs.Gating.{gate_answer, gate_next, gate_start}
-use Rattle.fkv_keeper.specs.declared.answers.KeeperTold.{KeeperTold}
-use Rattle.fkv_keeper.specs.declared.keepers.Keeping.{Keeping}
-use Rattle.fkv_keeper.specs.declared.keepers.Keeping.TheVariants.{Ended, Starts, Maintains, LoadsPhase, Enters, Copies, Seeks, Waits, Writes, Finishes}
-use Rattle.fkv_keeper.specs.CheckpointLaws.{MayFollow, IsFinished}
-use Rattle.fkv_keeper.specs.Keeping.{Finality, KeeperState, finish_ledto, finished, keeping_called, keeping_given, keeping_next, triples_written, wait_ledto, write_ledto, writes_begun, writes_called}
-use Rattle.fkv_keeper.specs.KeeperRun.{KeeperEvent, BeginsTurn, BeginsCommit, Replies, Gets, Calls, IsOpened, is_in_hand, keeper_happens, keeper_run}
-use Rattle.fkv_keeper.specs.LastCommits.{is_gate_open}
-use Rattle.fkv_keeper.proofs.Shown.{each_move}
-use Rattle.law_world.proofs.OfStanding.Runs.{happens_at, happens_so}
+use Rattle.law_refine.specs.Below.fkv_commit.Commit.{Commit}
+use Rattle.law_refine.specs.Below.fkv_commit.FinishAnswer.{FinishAnswer}
+use Rattle.law_refine.specs.Below.fkv_commit.WaitAnswer.{WaitAnswer}
+use Rattle.law_refine.specs.Below.fkv_commit.WaitAnswer.TheVariants as wait
+use Rattle.law_refine.specs.Below.fkv_commit.Finishing.{finish_ask, finish_next}
+use Rattle.law_refine.specs.Below.fkv_commit.Waiting.{wait_ask, wait_next}
+use Rattle.law_refine.specs.Below.fkv_manifest.TheCommitting.{Committing}
+use Rattle.law_refine.specs.Below.fkv_manifest.TheCommitting.TheVariants as committing
+use Rattle.law_refine.specs.Below.fkv_manifest.TheGating.{Gating}
+use Rattle.law_refine.specs.Below.fkv_manifest.TheGating.TheVariants as gate
+use Rattle.law_refine.specs.Below.fkv_manifest.Committing.{commit_start, commit_step_answer, commit_step_next, gate_after}
+use Rattle.law_refine.specs.Below.fkv_manifest.Gating.{gate_answer, gate_next, gate_start}
+use Rattle.law_refine.specs.Below.fkv_keeper.KeeperTold.{KeeperTold}
+use Rattle.law_refine.specs.Below.fkv_keeper.TheKeeping.{Keeping}
+use Rattle.law_refine.specs.Below.fkv_keeper.TheKeeping.TheVariants.{Ended, Starts, Maintains, LoadsPhase, Enters, Copies, Seeks, Waits, Writes, Finishes}
+use Rattle.law_refine.specs.Below.fkv_keeper.CheckpointLaws.{MayFollow, IsFinished}
+use Rattle.law_refine.specs.Below.fkv_keeper.Keeping.{Finality, KeeperState, finish_ledto, finished, keeping_called, keeping_given, keeping_next, triples_written, wait_ledto, write_ledto, writes_begun, writes_called}
+use Rattle.law_refine.specs.Below.fkv_keeper.KeeperRun.{KeeperEvent, BeginsTurn, BeginsCommit, Replies, Gets, Calls, IsOpened, is_in_hand, keeper_happens, keeper_run}
+use Rattle.law_refine.specs.Below.fkv_keeper.LastCommits.{is_gate_open}
+use Rattle.law_refine.proofs.Below.fkv_keeper.Shown.{each_move}
+use Rattle.law_refine.proofs.Below.law_world.OfStanding.Runs.{happens_at, happens_so}
 use Rattle.law_commit.specs.BegunCommits.{BegunCommit, AtEnd, AtKeeping, HaveFinished, IsInHand, OneIsOpen, commit_opening, begun_at_end, begun_at_writes, begun_by, commits_begun}
 
 -- as far as its writes have come

@@ -7,20 +7,20 @@ use Rattle.fkv_map.specs.declared.operations.Call.{Call}
 use Rattle.fkv_plane.specs.declared.actions.Action.{Action}
 use Rattle.fkv_plane.specs.declared.asks.Ask.{Ask}
 use Rattle.fkv_plane.specs.declared.asks.Ask.TheVariants.{Done}
-use Rattle.fkv_session.specs.declared.sessions.CatchCause.{CatchCause}
-use Rattle.fkv_session.specs.declared.sessions.CatchCause.TheVariants.{Refreshes, Wakes, Shifts}
-use Rattle.fkv_session.specs.declared.sessions.Sitting.{Sitting}
-use Rattle.fkv_session.specs.declared.sessions.Sitting.TheVariants.{Idle, Attempts, CatchesUp, ClearsMail, Polls, StoresOwing, Turns, StoresCut, Leaves, LoadsDurable}
-use Rattle.fkv_session.specs.Replies.{op_called}
-use Rattle.fkv_session.specs.Sessions.{SessionState, Seat, IsOpened, is_busy, asks_after, is_word_ask, caught_up, catch_ledto, session_ask, sitting_next, sitting_given}
-use Rattle.fkv_session.specs.SessionRun.{SessionEvent, Begins, Replies, Gets, begins, session_happens, session_run}
-use Rattle.fkv_session.specs.Versions.{TakenAt, taken_by, versions_taken}
-use Rattle.fkv_session.proofs.Shown.{run_call}
-use Rattle.fkv_world.specs.Opened.{HasBecome}
-use Rattle.fkv_world.specs.OwnEvents.{session_events}
-use Rattle.fkv_world.specs.Runs.{World}
-use Rattle.fkv_world.specs.World.{Event, seat_at}
-use Rattle.law_world.proofs.OfSessions.OwnRun.{opened_so, of_run}
+use Rattle.law_refine.specs.Below.fkv_session.CatchCause.{CatchCause}
+use Rattle.law_refine.specs.Below.fkv_session.CatchCause.TheVariants.{Refreshes, Wakes, Shifts}
+use Rattle.law_refine.specs.Below.fkv_session.Sitting.{Sitting}
+use Rattle.law_refine.specs.Below.fkv_session.Sitting.TheVariants.{Idle, Attempts, CatchesUp, ClearsMail, Polls, StoresOwing, Turns, StoresCut, Leaves, LoadsDurable}
+use Rattle.law_refine.specs.Below.fkv_session.Replies.{op_called}
+use Rattle.law_refine.specs.Below.fkv_session.Sessions.{SessionState, Seat, IsOpened, is_busy, asks_after, is_word_ask, caught_up, catch_ledto, session_ask, sitting_next, sitting_given}
+use Rattle.law_refine.specs.Below.fkv_session.SessionRun.{SessionEvent, Begins, Replies, Gets, begins, session_happens, session_run}
+use Rattle.law_refine.specs.Below.fkv_session.Versions.{TakenAt, taken_by, versions_taken}
+use Rattle.law_refine.proofs.Below.fkv_session.Shown.{run_call}
+use Rattle.law_refine.specs.Below.fkv_world.Opened.{HasBecome}
+use Rattle.law_refine.specs.Below.fkv_world.OwnEvents.{session_events}
+use Rattle.law_refine.specs.Below.fkv_world.Runs.{World}
+use Rattle.law_refine.specs.Below.fkv_world.World.{Event, seat_at}
+use Rattle.law_refine.proofs.Below.law_world.OfSessions.OwnRun.{opened_so, of_run}
 use Rattle.law_commit.specs.Accepted.{serial_of, serial_at, versions_of, versions_found, versions_accepted, count_upto, point, NeverFall, HasRisingVersion}
 use Rattle.law_commit.proofs.Goes.{attempts_calm, call_calm, moves_on, given_on}
 

@@ -13,25 +13,25 @@ use Rattle.fkv_plane.specs.declared.asks.Ask.TheVariants.{Done}
 use Rattle.fkv_epoch.specs.declared.protecting.Protecting.TheVariants as protect
 use Rattle.fkv_epoch.specs.declared.refreshing.Refreshing.TheVariants as refresh
 use Rattle.fkv_epoch.specs.Leaving.{leave_next}
-use Rattle.fkv_ops.specs.declared.answers.Reason.{Reason}
-use Rattle.fkv_ops.specs.declared.answers.Reason.TheVariants as reason
-use Rattle.fkv_ops.specs.declared.answers.TryAnswer.{TryAnswer}
-use Rattle.fkv_ops.specs.declared.answers.TryAnswer.TheVariants as tried
-use Rattle.fkv_ops.specs.declared.requests.Seen.{Seen}
-use Rattle.fkv_ops.specs.Requests.{is_read}
-use Rattle.fkv_pending.specs.declared.mailing.MailAnswer.{MailAnswer}
-use Rattle.fkv_pending.specs.declared.mailing.MailAnswer.TheVariants.{Cleared}
-use Rattle.fkv_pending.specs.declared.pending_requests.PendingRequest.{PendingRequest}
-use Rattle.fkv_pending.specs.Mailing.{mail_next}
-use Rattle.fkv_session.specs.declared.answers.Told.{Told}
-use Rattle.fkv_session.specs.declared.answers.Told.TheVariants as told
-use Rattle.fkv_session.specs.declared.catching_up.Catching.{Catching}
-use Rattle.fkv_session.specs.declared.catching_up.Catching.TheVariants as catching
-use Rattle.fkv_session.specs.declared.sessions.Sitting.{Sitting}
-use Rattle.fkv_session.specs.declared.sessions.Sitting.TheVariants.{Idle, Attempts, CatchesUp, ClearsMail, Polls, StoresOwing, Turns, StoresCut, Leaves, LoadsDurable}
-use Rattle.fkv_session.specs.CatchingUp.{CatchState}
-use Rattle.fkv_session.specs.OwnTurns.{own_turn_given}
-use Rattle.fkv_session.specs.Sessions.{SessionState, Seat, answers, answers_after_turn, ticket_after, attempts, polls_request, polls_at, refusal_of, op_begun, refresh_call, poll_begun, poll_call, sleep_call, wake_call, call_begun, attempt_left, serial_taken, update_done, is_no_room, with_request, accepts, shifts, attempted, attempt_ledto, clear_ledto, is_finished, is_owed, request_finished, lacks_room, finishes_request, keeps_request, poll_ledto, turn_ledto, leave_ledto, attempt_moved, own_turn_moved, sitting_next, sitting_given, refuses}
+use Rattle.law_refine.specs.Below.fkv_ops.Reason.{Reason}
+use Rattle.law_refine.specs.Below.fkv_ops.Reason.TheVariants as reason
+use Rattle.law_refine.specs.Below.fkv_ops.TryAnswer.{TryAnswer}
+use Rattle.law_refine.specs.Below.fkv_ops.TryAnswer.TheVariants as tried
+use Rattle.law_refine.specs.Below.fkv_ops.Seen.{Seen}
+use Rattle.law_refine.specs.Below.fkv_ops.Requests.{is_read}
+use Rattle.law_refine.specs.Below.fkv_pending.MailAnswer.{MailAnswer}
+use Rattle.law_refine.specs.Below.fkv_pending.MailAnswer.TheVariants.{Cleared}
+use Rattle.law_refine.specs.Below.fkv_pending.PendingRequest.{PendingRequest}
+use Rattle.law_refine.specs.Below.fkv_pending.Mailing.{mail_next}
+use Rattle.law_refine.specs.Below.fkv_session.Told.{Told}
+use Rattle.law_refine.specs.Below.fkv_session.Told.TheVariants as told
+use Rattle.law_refine.specs.Below.fkv_session.Catching.{Catching}
+use Rattle.law_refine.specs.Below.fkv_session.Catching.TheVariants as catching
+use Rattle.law_refine.specs.Below.fkv_session.Sitting.{Sitting}
+use Rattle.law_refine.specs.Below.fkv_session.Sitting.TheVariants.{Idle, Attempts, CatchesUp, ClearsMail, Polls, StoresOwing, Turns, StoresCut, Leaves, LoadsDurable}
+use Rattle.law_refine.specs.Below.fkv_session.CatchingUp.{CatchState}
+use Rattle.law_refine.specs.Below.fkv_session.OwnTurns.{own_turn_given}
+use Rattle.law_refine.specs.Below.fkv_session.Sessions.{SessionState, Seat, answers, answers_after_turn, ticket_after, attempts, polls_request, polls_at, refusal_of, op_begun, refresh_call, poll_begun, poll_call, sleep_call, wake_call, call_begun, attempt_left, serial_taken, update_done, is_no_room, with_request, accepts, shifts, attempted, attempt_ledto, clear_ledto, is_finished, is_owed, request_finished, lacks_room, finishes_request, keeps_request, poll_ledto, turn_ledto, leave_ledto, attempt_moved, own_turn_moved, sitting_next, sitting_given, refuses}
 
 -- where it begins to catch up, it goes by what the session goes by, and loads the epoch first; it knows whether it refreshes
 abbrev pub HasBegun : Seen → CatchState → Catching → Type 0

@@ -4,19 +4,19 @@ use Rattle.std.specs.Prelude.{Option, Some, None}
 use Rattle.fkv_base.specs.declared.numbers.Version.{Version}
 use Rattle.fkv_base.specs.declared.shapes.Shape.{Shape}
 use Rattle.fkv_plane.specs.declared.places.Places.{Places}
-use Rattle.fkv_commit.specs.declared.commits.Commit.{Commit}
-use Rattle.fkv_manifest.specs.declared.commits.Committing.{Committing}
-use Rattle.fkv_manifest.specs.declared.commits.Committing.TheVariants as committing
-use Rattle.fkv_manifest.specs.declared.gates.Gating.{Gating}
-use Rattle.fkv_manifest.specs.declared.gates.Gating.TheVariants as gate
-use Rattle.fkv_keeper.specs.declared.answers.KeeperTold.TheVariants.{Turned, Begun}
-use Rattle.fkv_keeper.specs.declared.keepers.Keeping.{Keeping}
-use Rattle.fkv_keeper.specs.declared.keepers.Keeping.TheVariants.{Ended, Starts, Maintains, LoadsPhase, Enters, Copies, Seeks, Waits, Writes, Finishes}
-use Rattle.fkv_keeper.specs.CheckpointLaws.{GoesOn, IsBegun, IsCommitAfter, IsFinished}
-use Rattle.fkv_keeper.specs.Keeping.{KeeperState}
-use Rattle.fkv_keeper.specs.KeeperRun.{KeeperEvent, BeginsTurn, BeginsCommit, Replies, Gets, Calls, IsOpened, keeper_happens, keeper_run}
-use Rattle.fkv_keeper.proofs.Shown.{each_move}
-use Rattle.law_world.specs.Standing.Opening.{AreNumbersInTurn, IsNumberInTurn}
+use Rattle.law_refine.specs.Below.fkv_commit.Commit.{Commit}
+use Rattle.law_refine.specs.Below.fkv_manifest.TheCommitting.{Committing}
+use Rattle.law_refine.specs.Below.fkv_manifest.TheCommitting.TheVariants as committing
+use Rattle.law_refine.specs.Below.fkv_manifest.TheGating.{Gating}
+use Rattle.law_refine.specs.Below.fkv_manifest.TheGating.TheVariants as gate
+use Rattle.law_refine.specs.Below.fkv_keeper.KeeperTold.TheVariants.{Turned, Begun}
+use Rattle.law_refine.specs.Below.fkv_keeper.TheKeeping.{Keeping}
+use Rattle.law_refine.specs.Below.fkv_keeper.TheKeeping.TheVariants.{Ended, Starts, Maintains, LoadsPhase, Enters, Copies, Seeks, Waits, Writes, Finishes}
+use Rattle.law_refine.specs.Below.fkv_keeper.CheckpointLaws.{GoesOn, IsBegun, IsCommitAfter, IsFinished}
+use Rattle.law_refine.specs.Below.fkv_keeper.Keeping.{KeeperState}
+use Rattle.law_refine.specs.Below.fkv_keeper.KeeperRun.{KeeperEvent, BeginsTurn, BeginsCommit, Replies, Gets, Calls, IsOpened, keeper_happens, keeper_run}
+use Rattle.law_refine.proofs.Below.fkv_keeper.Shown.{each_move}
+use Rattle.law_refine.specs.Below.law_world.Standing.Opening.{AreNumbersInTurn, IsNumberInTurn}
 use Rattle.law_commit.specs.BegunCommits.{BegunCommit, AreInTurn, ComesNext, HaveFinished, begun_at_end, begun_at_gate, begun_at_writes, begun_by, commit_opening, commits_begun, with_finished, with_sealed}
 use Rattle.law_commit.proofs.BegunStands.{AtGate, AtWrites, StandsAt, run_stands}
 

@@ -31,3 +31,4 @@ mod Telling
 mod ToldFinished
 mod WorkedPast
 mod WorkedRuns
+pub mod Below

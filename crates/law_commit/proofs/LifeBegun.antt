@@ -1,13 +1,13 @@
 -- The commits that have begun in a life.
 use Rattle.std.proofs.Common.{List, [], ◌∷◌, refl}
-use Rattle.fkv_keeper.specs.Keeping.{KeeperState}
-use Rattle.law_world.specs.Standing.Opening.{AreNumbersInTurn}
-use Rattle.law_world.specs.Keeper.Lives.{keeper_after}
-use Rattle.fkv_world.specs.Opened.{IsOpenedWorld}
-use Rattle.fkv_world.specs.OwnEvents.{keeper_events}
-use Rattle.fkv_world.specs.Runs.{World, run}
-use Rattle.fkv_world.specs.World.{Event}
-use Rattle.law_world.proofs.OfKeeper.OwnRun.{of_keeper}
+use Rattle.law_refine.specs.Below.fkv_keeper.Keeping.{KeeperState}
+use Rattle.law_refine.specs.Below.law_world.Standing.Opening.{AreNumbersInTurn}
+use Rattle.law_refine.specs.Below.law_world.Keeper.Lives.{keeper_after}
+use Rattle.law_refine.specs.Below.fkv_world.Opened.{IsOpenedWorld}
+use Rattle.law_refine.specs.Below.fkv_world.OwnEvents.{keeper_events}
+use Rattle.law_refine.specs.Below.fkv_world.Runs.{World, run}
+use Rattle.law_refine.specs.Below.fkv_world.World.{Event}
+use Rattle.law_refine.proofs.Below.law_world.OfKeeper.OwnRun.{of_keeper}
 use Rattle.law_commit.specs.BegunCommits.{AreInTurn, AtKeeping, HaveFinished, commit_opened, life_begun}
 use Rattle.law_commit.proofs.BegunStands.{run_stands, said_so}
 use Rattle.law_commit.proofs.InTurn.{run_turn}

@@ -6,10 +6,10 @@ use Rattle.fkv_plane.specs.Asked.{word_at}
 use Rattle.fkv_plane.specs.Places.{shared_place}
 use Rattle.fkv_words.specs.declared.phase_words.PhaseSaid.{PhaseSaid}
 use Rattle.fkv_words.specs.PhaseWords.{phase_said}
-use Rattle.fkv_session.specs.declared.sessions.Sitting.{Sitting}
-use Rattle.fkv_session.specs.declared.sessions.Sitting.TheVariants.{Idle, Attempts, CatchesUp, ClearsMail, Polls, StoresOwing, Turns, StoresCut, Leaves, LoadsDurable}
-use Rattle.fkv_session.specs.Sessions.{SessionState, Seat}
-use Rattle.fkv_session.specs.SessionRun.{SessionEvent, Begins, Replies, Gets, session_happens}
+use Rattle.law_refine.specs.Below.fkv_session.Sitting.{Sitting}
+use Rattle.law_refine.specs.Below.fkv_session.Sitting.TheVariants.{Idle, Attempts, CatchesUp, ClearsMail, Polls, StoresOwing, Turns, StoresCut, Leaves, LoadsDurable}
+use Rattle.law_refine.specs.Below.fkv_session.Sessions.{SessionState, Seat}
+use Rattle.law_refine.specs.Below.fkv_session.SessionRun.{SessionEvent, Begins, Replies, Gets, session_happens}
 use Rattle.law_commit.specs.Views.{View, Sight, completed, loads_phase, sight_by, sight_left, sight_moved, view_said, with_loaded}
 use Rattle.law_commit.proofs.Telling.{Tells, TellsBy}
 

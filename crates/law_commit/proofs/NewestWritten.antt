@@ -5,31 +5,31 @@ use Rattle.fkv_base.specs.declared.shapes.Shape.{Shape}
 use Rattle.fkv_plane.specs.declared.asks.Ask.{Ask}
 use Rattle.fkv_plane.specs.declared.asks.Ask.TheVariants.{Done}
 use Rattle.fkv_plane.specs.declared.places.Places.{Places}
-use Rattle.fkv_commit.specs.declared.commits.Commit.{Commit}
+use Rattle.law_refine.specs.Below.fkv_commit.Commit.{Commit}
 use Rattle.fkv_base.specs.declared.commits.CommitKind.{CommitKind}
 use Rattle.fkv_base.specs.declared.commits.CommitKind.TheVariants.{Full, Log}
-use Rattle.fkv_commit.specs.declared.finishing.FinishAnswer.{FinishAnswer}
-use Rattle.fkv_commit.specs.Finishing.{finish_ask, finish_next}
-use Rattle.fkv_manifest.specs.declared.answers.WriteAnswer.{WriteAnswer}
-use Rattle.fkv_manifest.specs.declared.answers.WriteAnswer.TheVariants as write
-use Rattle.fkv_manifest.specs.Committing.{commit_next, commit_answer}
-use Rattle.fkv_keeper.specs.declared.keepers.Keeping.{Keeping}
-use Rattle.fkv_keeper.specs.declared.keepers.Keeping.TheVariants.{Ended, Starts, Maintains, LoadsPhase, Enters, Copies, Seeks, Waits, Writes, Finishes}
-use Rattle.fkv_keeper.specs.CheckpointLaws.{BegunWith, IsBeingWritten, IsBehindWait, MayFollow, UsesAs, begun_with, copy_replies}
-use Rattle.fkv_keeper.specs.Keeping.{KeeperState, finish_ledto, finished, keeping_called, keeping_given, keeping_next, lost_left, write_ledto}
-use Rattle.fkv_keeper.specs.KeeperLaws.{IsWritten}
-use Rattle.fkv_keeper.specs.KeeperRun.{KeeperEvent, BeginsTurn, BeginsCommit, Replies, Gets, Calls, IsOpened, Writing, is_in_hand, keeper_happens, keeper_run, writing, writing_after}
-use Rattle.fkv_keeper.specs.LastCommits.{slot_written}
-use Rattle.fkv_keeper.proofs.Shown.{each_move, run_finished, run_used}
-use Rattle.fkv_world.specs.Opened.{IsOpenedWorld}
-use Rattle.fkv_world.specs.OwnEvents.{keeper_events}
-use Rattle.fkv_world.specs.Runs.{World, run}
-use Rattle.fkv_world.specs.World.{Event}
-use Rattle.law_world.proofs.OfKeeper.OwnRun.{of_keeper}
+use Rattle.law_refine.specs.Below.fkv_commit.FinishAnswer.{FinishAnswer}
+use Rattle.law_refine.specs.Below.fkv_commit.Finishing.{finish_ask, finish_next}
+use Rattle.law_refine.specs.Below.fkv_manifest.WriteAnswer.{WriteAnswer}
+use Rattle.law_refine.specs.Below.fkv_manifest.WriteAnswer.TheVariants as write
+use Rattle.law_refine.specs.Below.fkv_manifest.Committing.{commit_next, commit_answer}
+use Rattle.law_refine.specs.Below.fkv_keeper.TheKeeping.{Keeping}
+use Rattle.law_refine.specs.Below.fkv_keeper.TheKeeping.TheVariants.{Ended, Starts, Maintains, LoadsPhase, Enters, Copies, Seeks, Waits, Writes, Finishes}
+use Rattle.law_refine.specs.Below.fkv_keeper.CheckpointLaws.{BegunWith, IsBeingWritten, IsBehindWait, MayFollow, UsesAs, begun_with, copy_replies}
+use Rattle.law_refine.specs.Below.fkv_keeper.Keeping.{KeeperState, finish_ledto, finished, keeping_called, keeping_given, keeping_next, lost_left, write_ledto}
+use Rattle.law_refine.specs.Below.fkv_keeper.KeeperLaws.{IsWritten}
+use Rattle.law_refine.specs.Below.fkv_keeper.KeeperRun.{KeeperEvent, BeginsTurn, BeginsCommit, Replies, Gets, Calls, IsOpened, Writing, is_in_hand, keeper_happens, keeper_run, writing, writing_after}
+use Rattle.law_refine.specs.Below.fkv_keeper.LastCommits.{slot_written}
+use Rattle.law_refine.proofs.Below.fkv_keeper.Shown.{each_move, run_finished, run_used}
+use Rattle.law_refine.specs.Below.fkv_world.Opened.{IsOpenedWorld}
+use Rattle.law_refine.specs.Below.fkv_world.OwnEvents.{keeper_events}
+use Rattle.law_refine.specs.Below.fkv_world.Runs.{World, run}
+use Rattle.law_refine.specs.Below.fkv_world.World.{Event}
+use Rattle.law_refine.proofs.Below.law_world.OfKeeper.OwnRun.{of_keeper}
 use Rattle.law_commit.specs.BegunCommits.{BegunCommit, HaveFinished, IsInHand, commit_opened, commits_begun, life_begun}
 use Rattle.law_commit.specs.WrittenCommits.{NewestIsWritten, UsesAsKind, life_told}
-use Rattle.law_world.specs.Keeper.Lives.{life_writing}
-use Rattle.law_world.proofs.OfStanding.Runs.{happens_at}
+use Rattle.law_refine.specs.Below.law_world.Keeper.Lives.{life_writing}
+use Rattle.law_refine.proofs.Below.law_world.OfStanding.Runs.{happens_at}
 use Rattle.law_commit.proofs.BegunStands.{IsCalm, StandsAt, no_finish, no_writes, run_stands, same_commit, there}
 use Rattle.law_commit.proofs.LifeBegun.{opening_finished}
 

@@ -19,20 +19,20 @@ use Rattle.fkv_epoch.specs.Arming.{arm_ask}
 use Rattle.fkv_epoch.specs.Claiming.{claim_ask}
 use Rattle.fkv_epoch.specs.Raising.{raise_ask}
 use Rattle.fkv_epoch.specs.Scanning.{scan_ask}
-use Rattle.fkv_log.specs.declared.moving.Moving.{Moving}
-use Rattle.fkv_log.specs.declared.moving.Moving.TheVariants as move
-use Rattle.fkv_log.specs.declared.moving.Offset.{Offset}
-use Rattle.fkv_log.specs.declared.moving.Offset.TheVariants as offset
-use Rattle.fkv_log.specs.declared.shifting.Shifting.{Shifting}
-use Rattle.fkv_log.specs.declared.shifting.Shifting.TheVariants as shift
-use Rattle.fkv_log.specs.declared.turning.Turning.{Turning}
-use Rattle.fkv_log.specs.declared.turning.Turning.TheVariants as turn
-use Rattle.fkv_log.specs.Moving.{Mover, move_ask, moving_ask, offset_place}
-use Rattle.fkv_log.specs.Shifting.{shifting_ask}
-use Rattle.fkv_log.specs.Turning.{turning_ask}
-use Rattle.fkv_session.specs.declared.own_turns.OwnTurning.{OwnTurning}
-use Rattle.fkv_session.specs.declared.own_turns.OwnTurning.TheVariants.{Ended, Scans, Claims, Shifts, Opens}
-use Rattle.fkv_session.specs.OwnTurns.{OwnTurnState, own_turn_ask, own_turning_ask}
+use Rattle.law_refine.specs.Below.fkv_log.TheMoving.{Moving}
+use Rattle.law_refine.specs.Below.fkv_log.TheMoving.TheVariants as move
+use Rattle.law_refine.specs.Below.fkv_log.Offset.{Offset}
+use Rattle.law_refine.specs.Below.fkv_log.Offset.TheVariants as offset
+use Rattle.law_refine.specs.Below.fkv_log.TheShifting.{Shifting}
+use Rattle.law_refine.specs.Below.fkv_log.TheShifting.TheVariants as shift
+use Rattle.law_refine.specs.Below.fkv_log.TheTurning.{Turning}
+use Rattle.law_refine.specs.Below.fkv_log.TheTurning.TheVariants as turn
+use Rattle.law_refine.specs.Below.fkv_log.Moving.{Mover, move_ask, moving_ask, offset_place}
+use Rattle.law_refine.specs.Below.fkv_log.Shifting.{shifting_ask}
+use Rattle.law_refine.specs.Below.fkv_log.Turning.{turning_ask}
+use Rattle.law_refine.specs.Below.fkv_session.OwnTurning.{OwnTurning}
+use Rattle.law_refine.specs.Below.fkv_session.OwnTurning.TheVariants.{Ended, Scans, Claims, Shifts, Opens}
+use Rattle.law_refine.specs.Below.fkv_session.OwnTurns.{OwnTurnState, own_turn_ask, own_turning_ask}
 use Rattle.law_commit.specs.PhaseStores.{SparesPhase, StoresClaimed}
 
 passed_spares : {A B : Type 0} (ask : Ask A) (its : B) → SparesPhase ask → SparesPhase (passed ask its)

@@ -8,19 +8,19 @@ use Rattle.fkv_plane.specs.declared.places.SharedWord.TheVariants as one
 use Rattle.fkv_plane.specs.Asked.{word_at, words_after}
 use Rattle.fkv_plane.specs.Places.{Name, Shared, Drain, Session, Bucket, Overflow, Record, place as place_of}
 use Rattle.fkv_epoch.proofs.Shown.{same_or, word_spared}
-use Rattle.fkv_keeper.specs.declared.answers.KeeperTold.{KeeperTold}
-use Rattle.fkv_keeper.specs.declared.keepers.Keeping.{Keeping}
-use Rattle.fkv_keeper.specs.declared.keepers.Keeping.TheVariants.{Ended, Starts, Maintains, LoadsPhase, Enters, Copies, Seeks, Waits, Writes, Finishes}
-use Rattle.fkv_keeper.specs.CheckpointLaws.{ChangesItsWords, ChangesOnly, IsPlaceOf, MayChange, MayStore}
-use Rattle.fkv_keeper.specs.Keeping.{KeeperState, keeper_ask}
-use Rattle.fkv_keeper.proofs.Shown.{run_stores}
-use Rattle.fkv_world.specs.Opened.{IsOpenedWorld}
-use Rattle.fkv_world.specs.OwnEvents.{keeper_events}
-use Rattle.fkv_world.specs.Runs.{World, happens, run}
-use Rattle.fkv_world.specs.World.{Event, KeeperMoves}
-use Rattle.fkv_world.proofs.Shown.{is_over, places_stay, shape_stays}
-use Rattle.law_world.proofs.OfRuns.OneWord.{keeper_writes}
-use Rattle.law_world.proofs.OfKeeper.OwnRun.{of_keeper}
+use Rattle.law_refine.specs.Below.fkv_keeper.KeeperTold.{KeeperTold}
+use Rattle.law_refine.specs.Below.fkv_keeper.TheKeeping.{Keeping}
+use Rattle.law_refine.specs.Below.fkv_keeper.TheKeeping.TheVariants.{Ended, Starts, Maintains, LoadsPhase, Enters, Copies, Seeks, Waits, Writes, Finishes}
+use Rattle.law_refine.specs.Below.fkv_keeper.CheckpointLaws.{ChangesItsWords, ChangesOnly, IsPlaceOf, MayChange, MayStore}
+use Rattle.law_refine.specs.Below.fkv_keeper.Keeping.{KeeperState, keeper_ask}
+use Rattle.law_refine.proofs.Below.fkv_keeper.Shown.{run_stores}
+use Rattle.law_refine.specs.Below.fkv_world.Opened.{IsOpenedWorld}
+use Rattle.law_refine.specs.Below.fkv_world.OwnEvents.{keeper_events}
+use Rattle.law_refine.specs.Below.fkv_world.Runs.{World, happens, run}
+use Rattle.law_refine.specs.Below.fkv_world.World.{Event, KeeperMoves}
+use Rattle.law_refine.proofs.Below.fkv_world.Shown.{is_over, places_stay, shape_stays}
+use Rattle.law_refine.proofs.Below.law_world.OfRuns.OneWord.{keeper_writes}
+use Rattle.law_refine.proofs.Below.law_world.OfKeeper.OwnRun.{of_keeper}
 use Rattle.law_commit.specs.PhaseStores.{IsPhaseStored, StoresItsPhase, phase_at}
 
 -- the phase word has a place of its own

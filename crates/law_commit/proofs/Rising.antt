@@ -3,14 +3,14 @@ use Rattle.std.proofs.Common.{◌≡◌, ℕ, ◌≤◌, ◌∙◌, List, [], �
 use Rattle.std.specs.Prelude.{Option, Some, slice_get}
 use Rattle.fkv_words.specs.declared.phase_words.PhaseSaid.{PhaseSaid}
 use Rattle.fkv_words.specs.declared.phase_words.PhaseSaid.TheVariants.{Says, Spoiled}
-use Rattle.fkv_session.specs.Sessions.{SessionState, Seat, IsOpened}
-use Rattle.fkv_session.specs.SessionRun.{SessionEvent, session_run}
-use Rattle.fkv_world.specs.Opened.{HasBecome}
-use Rattle.fkv_world.specs.OwnEvents.{session_part_of, session_events}
-use Rattle.fkv_world.specs.Runs.{World, run}
-use Rattle.fkv_world.specs.World.{Event, Now, seat_at}
-use Rattle.law_world.proofs.OfSessions.OwnRun.{of_run, opened_so}
-use Rattle.fkv_world.proofs.Shown.{same_seat, session_runs, session_runs_on}
+use Rattle.law_refine.specs.Below.fkv_session.Sessions.{SessionState, Seat, IsOpened}
+use Rattle.law_refine.specs.Below.fkv_session.SessionRun.{SessionEvent, session_run}
+use Rattle.law_refine.specs.Below.fkv_world.Opened.{HasBecome}
+use Rattle.law_refine.specs.Below.fkv_world.OwnEvents.{session_part_of, session_events}
+use Rattle.law_refine.specs.Below.fkv_world.Runs.{World, run}
+use Rattle.law_refine.specs.Below.fkv_world.World.{Event, Now, seat_at}
+use Rattle.law_refine.proofs.Below.law_world.OfSessions.OwnRun.{of_run, opened_so}
+use Rattle.law_refine.proofs.Below.fkv_world.Shown.{same_seat, session_runs, session_runs_on}
 use Rattle.law_commit.specs.Accepted.{HasRisingVersion}
 use Rattle.law_commit.specs.PhaseVersions.{NoneIsAhead, HasRisingPhase, phase_version, version_said}
 use Rattle.law_commit.specs.Views.{IsSeenAs, View, Sight, sight_found, sight_in, sight_of, sight_through, view_said}

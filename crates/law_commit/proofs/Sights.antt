@@ -5,22 +5,22 @@ use Rattle.fkv_map.specs.declared.operations.Call.{Call}
 use Rattle.fkv_plane.specs.declared.actions.Action.{Action}
 use Rattle.fkv_plane.specs.declared.asks.Ask.{Ask}
 use Rattle.fkv_plane.specs.declared.asks.Ask.TheVariants.{Done}
-use Rattle.fkv_ops.specs.declared.requests.Seen.{Seen}
-use Rattle.fkv_session.specs.declared.catching_up.Catching.{Catching}
-use Rattle.fkv_session.specs.declared.catching_up.Catching.TheVariants as catching
-use Rattle.fkv_session.specs.declared.sessions.CatchCause.{CatchCause}
-use Rattle.fkv_session.specs.declared.sessions.CatchCause.TheVariants.{Refreshes, Wakes, Shifts}
-use Rattle.fkv_session.specs.declared.sessions.Sitting.{Sitting}
-use Rattle.fkv_session.specs.declared.sessions.Sitting.TheVariants.{Idle, Attempts, CatchesUp, ClearsMail, Polls, StoresOwing, Turns, StoresCut, Leaves, LoadsDurable}
-use Rattle.fkv_session.specs.CatchingUp.{CatchState, catch_requests, catch_ask}
-use Rattle.fkv_session.specs.Sessions.{SessionState, Seat, IsOpened, bits_of, is_busy, asks_after, is_word_ask, attempts, caught, caught_up, catch_ledto, session_ask, sitting_next, sitting_given}
-use Rattle.fkv_session.specs.SessionRun.{SessionEvent, Begins, Replies, Gets, begins, session_happens, session_run}
-use Rattle.fkv_world.specs.Opened.{HasBecome}
-use Rattle.fkv_world.specs.OwnEvents.{session_part_of, session_events}
-use Rattle.fkv_world.specs.Runs.{World, run}
-use Rattle.fkv_world.specs.World.{Event, Now, seat_at}
-use Rattle.law_world.proofs.OfSessions.OwnRun.{opened_so, of_run}
-use Rattle.fkv_world.proofs.Shown.{session_runs_on}
+use Rattle.law_refine.specs.Below.fkv_ops.Seen.{Seen}
+use Rattle.law_refine.specs.Below.fkv_session.Catching.{Catching}
+use Rattle.law_refine.specs.Below.fkv_session.Catching.TheVariants as catching
+use Rattle.law_refine.specs.Below.fkv_session.CatchCause.{CatchCause}
+use Rattle.law_refine.specs.Below.fkv_session.CatchCause.TheVariants.{Refreshes, Wakes, Shifts}
+use Rattle.law_refine.specs.Below.fkv_session.Sitting.{Sitting}
+use Rattle.law_refine.specs.Below.fkv_session.Sitting.TheVariants.{Idle, Attempts, CatchesUp, ClearsMail, Polls, StoresOwing, Turns, StoresCut, Leaves, LoadsDurable}
+use Rattle.law_refine.specs.Below.fkv_session.CatchingUp.{CatchState, catch_requests, catch_ask}
+use Rattle.law_refine.specs.Below.fkv_session.Sessions.{SessionState, Seat, IsOpened, bits_of, is_busy, asks_after, is_word_ask, attempts, caught, caught_up, catch_ledto, session_ask, sitting_next, sitting_given}
+use Rattle.law_refine.specs.Below.fkv_session.SessionRun.{SessionEvent, Begins, Replies, Gets, begins, session_happens, session_run}
+use Rattle.law_refine.specs.Below.fkv_world.Opened.{HasBecome}
+use Rattle.law_refine.specs.Below.fkv_world.OwnEvents.{session_part_of, session_events}
+use Rattle.law_refine.specs.Below.fkv_world.Runs.{World, run}
+use Rattle.law_refine.specs.Below.fkv_world.World.{Event, Now, seat_at}
+use Rattle.law_refine.proofs.Below.law_world.OfSessions.OwnRun.{opened_so, of_run}
+use Rattle.law_refine.proofs.Below.fkv_world.Shown.{session_runs_on}
 use Rattle.law_commit.specs.Views.{View, Sight, IsSeenAs, IsTakenFrom, TakesUp, IsComing, loads_phase, with_loaded, sight_left, sight_moved, sight_by, sight_through, sight_opened, sight_in, sight_found, sight_of}
 use Rattle.law_commit.proofs.Catches.{CatchSees, catch_sees, done_comes}
 use Rattle.law_commit.proofs.Goes.{HasBegun, BeginsToCatch, Goes, calm_goes, call_calm, moves_on, given_on}

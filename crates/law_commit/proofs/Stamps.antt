@@ -3,14 +3,14 @@ use Rattle.std.proofs.Common.{◌≡◌, ◌⊎◌, inl, inr, ℕ, List, [], ◌
 use Rattle.std.specs.Prelude.{Option, Some, None, slice_get}
 use Rattle.fkv_words.specs.declared.phase_words.PhaseSaid.{PhaseSaid}
 use Rattle.fkv_words.specs.declared.phase_words.PhaseSaid.TheVariants.{Says, Spoiled}
-use Rattle.fkv_session.specs.declared.sessions.Sitting.{Sitting}
-use Rattle.fkv_session.specs.declared.sessions.Sitting.TheVariants.{Idle, Attempts, CatchesUp, ClearsMail, Polls, StoresOwing, Turns, StoresCut, Leaves, LoadsDurable}
+use Rattle.law_refine.specs.Below.fkv_session.Sitting.{Sitting}
+use Rattle.law_refine.specs.Below.fkv_session.Sitting.TheVariants.{Idle, Attempts, CatchesUp, ClearsMail, Polls, StoresOwing, Turns, StoresCut, Leaves, LoadsDurable}
 use Rattle.fkv_words.specs.PhaseWords.{phase_said}
-use Rattle.fkv_session.specs.Sessions.{SessionState, Seat}
-use Rattle.fkv_session.specs.SessionRun.{SessionEvent, Begins, Replies, Gets, session_happens, session_run}
-use Rattle.fkv_world.specs.OwnEvents.{session_events, session_part_of}
-use Rattle.fkv_world.specs.Runs.{World, run}
-use Rattle.fkv_world.specs.World.{Event, seat_at}
+use Rattle.law_refine.specs.Below.fkv_session.Sessions.{SessionState, Seat}
+use Rattle.law_refine.specs.Below.fkv_session.SessionRun.{SessionEvent, Begins, Replies, Gets, session_happens, session_run}
+use Rattle.law_refine.specs.Below.fkv_world.OwnEvents.{session_events, session_part_of}
+use Rattle.law_refine.specs.Below.fkv_world.Runs.{World, run}
+use Rattle.law_refine.specs.Below.fkv_world.World.{Event, seat_at}
 use Rattle.law_commit.specs.Views.{ComesFrom, IsSightAfter, IsStamped, Sight, View, completed, loads_phase, sight_by, sight_found, sight_in, sight_left, sight_moved, sight_of, sight_through, view_said, with_loaded}
 
 said_stamped : (words : List ℕ) (before : View) (said : PhaseSaid) → IsStamped words (view_said words before said)

@@ -8,31 +8,31 @@ use Rattle.fkv_plane.specs.declared.asks.Ask.TheVariants.{Put, Take, Done}
 use Rattle.fkv_plane.specs.declared.places.Places.{Places}
 use Rattle.fkv_plane.specs.Asked.{reply_to}
 use Rattle.fkv_plane.specs.Plane.{action_at}
-use Rattle.fkv_commit.specs.declared.commits.Commit.{Commit}
+use Rattle.law_refine.specs.Below.fkv_commit.Commit.{Commit}
 use Rattle.fkv_base.specs.declared.commits.CommitKind.{CommitKind}
-use Rattle.fkv_manifest.specs.declared.commits.Committing.{Committing}
-use Rattle.fkv_manifest.specs.declared.commits.Committing.TheVariants as committing
-use Rattle.fkv_manifest.specs.declared.gates.Gating.{Gating}
-use Rattle.fkv_manifest.specs.declared.gates.Gating.TheVariants as gate
-use Rattle.fkv_keeper.specs.declared.answers.KeeperTold.{KeeperTold}
-use Rattle.fkv_keeper.specs.declared.answers.KeeperTold.TheVariants.{Device, Turned}
-use Rattle.fkv_keeper.specs.declared.keepers.Keeping.{Keeping}
-use Rattle.fkv_keeper.specs.declared.keepers.Keeping.TheVariants.{Ended, Starts, Maintains, LoadsPhase, Enters, Copies, Seeks, Waits, Writes, Finishes}
-use Rattle.fkv_keeper.specs.Keeping.{Finality, KeeperState, keeper_ask, keeper_next, keeping_ask}
-use Rattle.fkv_keeper.specs.KeeperRun.{KeeperEvent, BeginsTurn, BeginsCommit, Replies, Gets, Calls, IsOpened, is_calling, is_in_hand, keeper_happens, keeper_run}
-use Rattle.fkv_keeper.proofs.Shown.{run_number}
-use Rattle.fkv_session.specs.declared.sessions.Sitting.{Sitting}
-use Rattle.fkv_session.specs.declared.sessions.Sitting.TheVariants.{Idle}
-use Rattle.fkv_session.specs.Sessions.{SessionState, is_busy}
-use Rattle.law_world.specs.Runs.Added.{begun_by as begins_by, call_answered, call_begun, ended_by, keeper_told, session_answered, told_at, told_by}
-use Rattle.fkv_world.specs.Opened.{IsOpenedWorld}
-use Rattle.fkv_world.specs.OwnEvents.{keeper_events, keeper_got, keeper_part, keeper_slots, keeper_steps}
-use Rattle.fkv_world.specs.Past.{Traced, TraceEvent, Called, CommitAsked, TurnAsked}
-use Rattle.fkv_world.specs.Runs.{World, happens, read_by_keeper, run}
-use Rattle.fkv_world.specs.World as world
-use Rattle.fkv_world.specs.World.{Event, Now, near}
-use Rattle.fkv_world.proofs.Shown.{is_over, keeper_runs, places_stay, shape_stays}
-use Rattle.law_world.proofs.OfRuns.Added.{trace_so}
+use Rattle.law_refine.specs.Below.fkv_manifest.TheCommitting.{Committing}
+use Rattle.law_refine.specs.Below.fkv_manifest.TheCommitting.TheVariants as committing
+use Rattle.law_refine.specs.Below.fkv_manifest.TheGating.{Gating}
+use Rattle.law_refine.specs.Below.fkv_manifest.TheGating.TheVariants as gate
+use Rattle.law_refine.specs.Below.fkv_keeper.KeeperTold.{KeeperTold}
+use Rattle.law_refine.specs.Below.fkv_keeper.KeeperTold.TheVariants.{Device, Turned}
+use Rattle.law_refine.specs.Below.fkv_keeper.TheKeeping.{Keeping}
+use Rattle.law_refine.specs.Below.fkv_keeper.TheKeeping.TheVariants.{Ended, Starts, Maintains, LoadsPhase, Enters, Copies, Seeks, Waits, Writes, Finishes}
+use Rattle.law_refine.specs.Below.fkv_keeper.Keeping.{Finality, KeeperState, keeper_ask, keeper_next, keeping_ask}
+use Rattle.law_refine.specs.Below.fkv_keeper.KeeperRun.{KeeperEvent, BeginsTurn, BeginsCommit, Replies, Gets, Calls, IsOpened, is_calling, is_in_hand, keeper_happens, keeper_run}
+use Rattle.law_refine.proofs.Below.fkv_keeper.Shown.{run_number}
+use Rattle.law_refine.specs.Below.fkv_session.Sitting.{Sitting}
+use Rattle.law_refine.specs.Below.fkv_session.Sitting.TheVariants.{Idle}
+use Rattle.law_refine.specs.Below.fkv_session.Sessions.{SessionState, is_busy}
+use Rattle.law_refine.specs.Below.law_world.Runs.Added.{begun_by as begins_by, call_answered, call_begun, ended_by, keeper_told, session_answered, told_at, told_by}
+use Rattle.law_refine.specs.Below.fkv_world.Opened.{IsOpenedWorld}
+use Rattle.law_refine.specs.Below.fkv_world.OwnEvents.{keeper_events, keeper_got, keeper_part, keeper_slots, keeper_steps}
+use Rattle.law_refine.specs.Below.fkv_world.Past.{Traced, TraceEvent, Called, CommitAsked, TurnAsked}
+use Rattle.law_refine.specs.Below.fkv_world.Runs.{World, happens, read_by_keeper, run}
+use Rattle.law_refine.specs.Below.fkv_world.World as world
+use Rattle.law_refine.specs.Below.fkv_world.World.{Event, Now, near}
+use Rattle.law_refine.proofs.Below.fkv_world.Shown.{is_over, keeper_runs, places_stay, shape_stays}
+use Rattle.law_refine.proofs.Below.law_world.OfRuns.Added.{trace_so}
 use Rattle.law_commit.specs.BegunCommits.{BegunCommit, AtEnd, HaveFinished, IsAsLast, IsInHand, OneIsOpen, begun_at_end, begun_at_gate, begun_at_writes, begun_by, commit_opened, commits_begun, life_begun, with_finished, with_opening, with_sealed}
 use Rattle.law_commit.specs.FinishedCommits.{ToldCommit, commits_finished, commits_told, told_of, with_told}
 use Rattle.law_commit.proofs.BegunStands.{StandsAt, run_stands}

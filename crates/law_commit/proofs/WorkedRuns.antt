@@ -4,13 +4,13 @@ use Rattle.fkv_words.specs.PhaseWords.{phase_said}
 use Rattle.fkv_plane.specs.Passing.{passed}
 use Rattle.fkv_epoch.specs.Arming.{arm_ask, arm_next}
 use Rattle.fkv_epoch.specs.Raising.{raise_ask, raise_next, raise_next_ask, raise_on, free_after}
-use Rattle.fkv_commit.specs.Deferring.{deferring_ask, seek_ledto, raise_ledto, arm_ledto, deferring_next, deferring_on}
-use Rattle.fkv_commit.specs.Entering as enter
-use Rattle.fkv_commit.specs.Seeking as seek
-use Rattle.fkv_commit.specs.Starting as start
-use Rattle.fkv_keeper.specs.KeeperRun.{keeper_happens, keeper_run}
-use Rattle.fkv_keeper.specs.Keeping.{keeping_ask, start_ledto, enter_ledto, keeping_next}
-use Rattle.fkv_keeper.specs.Keeping as keeping
+use Rattle.law_refine.specs.Below.fkv_commit.Deferring.{deferring_ask, seek_ledto, raise_ledto, arm_ledto, deferring_next, deferring_on}
+use Rattle.law_refine.specs.Below.fkv_commit.Entering as enter
+use Rattle.law_refine.specs.Below.fkv_commit.Seeking as seek
+use Rattle.law_refine.specs.Below.fkv_commit.Starting as start
+use Rattle.law_refine.specs.Below.fkv_keeper.KeeperRun.{keeper_happens, keeper_run}
+use Rattle.law_refine.specs.Below.fkv_keeper.Keeping.{keeping_ask, start_ledto, enter_ledto, keeping_next}
+use Rattle.law_refine.specs.Below.fkv_keeper.Keeping as keeping
 use Rattle.law_commit.specs.Raises.{raises}
 use Rattle.law_commit.specs.WorkedRuns.{RaisesOfRuns}
 

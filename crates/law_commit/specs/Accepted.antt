@@ -1,11 +1,11 @@
 -- The versions at which a session has accepted its updates, and how far each version goes.
 use Rattle.std.specs.Prelude.{⊤, ℕ, ◌+◌, ◌≤◌, nat_le, cond, List, [], ◌∷◌, Option, Some, None, slice_get}
-use Rattle.fkv_session.specs.Sessions.{SessionState, Seat}
-use Rattle.fkv_session.specs.SessionRun.{SessionEvent, session_run}
-use Rattle.fkv_session.specs.Versions.{TakenAt, versions_taken}
-use Rattle.fkv_world.specs.OwnEvents.{session_events}
-use Rattle.fkv_world.specs.Runs.{World}
-use Rattle.fkv_world.specs.World.{Event, Now, seat_at}
+use Rattle.law_refine.specs.Below.fkv_session.Sessions.{SessionState, Seat}
+use Rattle.law_refine.specs.Below.fkv_session.SessionRun.{SessionEvent, session_run}
+use Rattle.law_refine.specs.Below.fkv_session.Versions.{TakenAt, versions_taken}
+use Rattle.law_refine.specs.Below.fkv_world.OwnEvents.{session_events}
+use Rattle.law_refine.specs.Below.fkv_world.Runs.{World}
+use Rattle.law_refine.specs.Below.fkv_world.World.{Event, Now, seat_at}
 
 -- the last serial that a session has given
 abbrev pub serial_of : Option SessionState → ℕ

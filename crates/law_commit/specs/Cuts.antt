@@ -8,23 +8,23 @@ use Rattle.fkv_plane.specs.declared.places.Places.{Places}
 use Rattle.fkv_plane.specs.declared.places.SessionWord.TheVariants as own
 use Rattle.fkv_plane.specs.Asked.{word_at}
 use Rattle.fkv_plane.specs.Places.{session_place, word_count}
-use Rattle.fkv_commit.specs.declared.finishing.Finishing.{Finishing}
-use Rattle.fkv_commit.specs.declared.finishing.Finishing.TheVariants.{StoresDurable}
-use Rattle.fkv_commit.specs.Cuts.{serial_said}
-use Rattle.fkv_commit.specs.Finishing.{point_of}
-use Rattle.fkv_keeper.specs.declared.keepers.Keeping.{Keeping}
-use Rattle.fkv_keeper.specs.declared.keepers.Keeping.TheVariants.{Finishes}
-use Rattle.fkv_keeper.specs.Keeping.{KeeperState, keeper_ask}
-use Rattle.fkv_keeper.specs.KeeperRun.{KeeperEvent, Replies, keeper_run}
-use Rattle.fkv_session.specs.CatchingUp.{cut_at, cut_of, version_before}
-use Rattle.fkv_session.specs.InOrder.{taken_up}
-use Rattle.fkv_session.specs.Sessions.{SessionState, Seat}
-use Rattle.fkv_session.specs.SessionRun.{SessionEvent, session_run}
-use Rattle.fkv_session.specs.Versions.{IsVersion}
-use Rattle.fkv_session.specs.Words as session
-use Rattle.fkv_world.specs.OwnEvents.{keeper_events, session_events}
-use Rattle.fkv_world.specs.Runs.{World, run}
-use Rattle.fkv_world.specs.World.{Event, Now, seat_at}
+use Rattle.law_refine.specs.Below.fkv_commit.TheFinishing.{Finishing}
+use Rattle.law_refine.specs.Below.fkv_commit.TheFinishing.TheVariants.{StoresDurable}
+use Rattle.law_refine.specs.Below.fkv_commit.Cuts.{serial_said}
+use Rattle.law_refine.specs.Below.fkv_commit.Finishing.{point_of}
+use Rattle.law_refine.specs.Below.fkv_keeper.TheKeeping.{Keeping}
+use Rattle.law_refine.specs.Below.fkv_keeper.TheKeeping.TheVariants.{Finishes}
+use Rattle.law_refine.specs.Below.fkv_keeper.Keeping.{KeeperState, keeper_ask}
+use Rattle.law_refine.specs.Below.fkv_keeper.KeeperRun.{KeeperEvent, Replies, keeper_run}
+use Rattle.law_refine.specs.Below.fkv_session.CatchingUp.{cut_at, cut_of, version_before}
+use Rattle.law_refine.specs.Below.fkv_session.InOrder.{taken_up}
+use Rattle.law_refine.specs.Below.fkv_session.Sessions.{SessionState, Seat}
+use Rattle.law_refine.specs.Below.fkv_session.SessionRun.{SessionEvent, session_run}
+use Rattle.law_refine.specs.Below.fkv_session.Versions.{IsVersion}
+use Rattle.law_refine.specs.Below.fkv_session.Words as session
+use Rattle.law_refine.specs.Below.fkv_world.OwnEvents.{keeper_events, session_events}
+use Rattle.law_refine.specs.Below.fkv_world.Runs.{World, run}
+use Rattle.law_refine.specs.Below.fkv_world.World.{Event, Now, seat_at}
 
 -- each word of the store is there
 abbrev pub HasItsWords : Now → Type 0

@@ -2,9 +2,9 @@
 use Rattle.std.specs.Prelude.{true, if◌then◌else◌, List, [], ◌∷◌}
 use Rattle.fkv_base.specs.declared.numbers.Serial.{Serial}
 use Rattle.fkv_base.specs.declared.numbers.Version.{Version}
-use Rattle.fkv_keeper.specs.Keeping.{Finality}
-use Rattle.fkv_keeper.specs.declared.answers.KeeperTold.TheVariants.{Turned}
-use Rattle.fkv_world.specs.Past.{Traced, TraceEvent, KeeperAnswered}
+use Rattle.law_refine.specs.Below.fkv_keeper.Keeping.{Finality}
+use Rattle.law_refine.specs.Below.fkv_keeper.KeeperTold.TheVariants.{Turned}
+use Rattle.law_refine.specs.Below.fkv_world.Past.{Traced, TraceEvent, KeeperAnswered}
 use Rattle.law_commit.specs.BegunCommits.{BegunCommit}
 
 -- what is told of a commit that has finished

@@ -1,5 +1,6 @@
 pub mod Accepted
 pub mod BegunCommits
+pub mod Below
 pub mod Copied
 pub mod Cuts
 pub mod Decided
@@ -15,6 +16,7 @@ pub mod PrefixPast
 pub mod Quiet
 pub mod Raises
 pub mod Ranks
+pub mod Said
 pub mod Shares
 pub mod ToldDurable
 pub mod ToldPoints

@@ -7,9 +7,9 @@ use Rattle.fkv_index.specs.declared.finding.Finding.{Finding}
 use Rattle.fkv_index.specs.declared.finding.Linking.TheVariants.{Made}
 use Rattle.fkv_index.specs.declared.homes.Home.{Home}
 use Rattle.fkv_index.specs.Slots.{link_of}
-use Rattle.fkv_session.specs.Sessions.{SessionState, session_ask}
-use Rattle.fkv_world.specs.Runs.{World, run}
-use Rattle.fkv_world.specs.World.{Event, Now, seat_at}
+use Rattle.law_refine.specs.Below.fkv_session.Sessions.{SessionState, session_ask}
+use Rattle.law_refine.specs.Below.fkv_world.Runs.{World, run}
+use Rattle.law_refine.specs.Below.fkv_world.World.{Event, Now, seat_at}
 use Rattle.law_log.specs.Ghosts.{Ghosts, Log}
 use Rattle.law_refine.specs.Index.Finders.{Search, Searches, session_part}
 use Rattle.law_refine.specs.Events.GhostEvents.{life_ghosts}

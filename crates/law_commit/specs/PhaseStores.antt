@@ -10,12 +10,12 @@ use Rattle.fkv_plane.specs.Asked.{word_at}
 use Rattle.fkv_plane.specs.Places.{shared_place}
 use Rattle.fkv_epoch.specs.declared.claiming.Claiming.TheVariants as claim
 use Rattle.fkv_epoch.specs.Claiming.{phase_stored}
-use Rattle.fkv_keeper.specs.CheckpointLaws.{MayStore}
-use Rattle.fkv_keeper.specs.Keeping.{KeeperState}
-use Rattle.fkv_session.specs.declared.own_turns.OwnTurning.TheVariants.{Claims}
-use Rattle.fkv_session.specs.OwnTurns.{OwnTurnState, own_turn_ask}
+use Rattle.law_refine.specs.Below.fkv_keeper.CheckpointLaws.{MayStore}
+use Rattle.law_refine.specs.Below.fkv_keeper.Keeping.{KeeperState}
+use Rattle.law_refine.specs.Below.fkv_session.OwnTurning.TheVariants.{Claims}
+use Rattle.law_refine.specs.Below.fkv_session.OwnTurns.{OwnTurnState, own_turn_ask}
 use Rattle.fkv_base.specs.declared.shapes.Shape.{Shape}
-use Rattle.fkv_world.specs.World.{Now}
+use Rattle.law_refine.specs.Below.fkv_world.World.{Now}
 
 abbrev pub phase_at : Now → ℕ
 phase_at n = word_at n.words (shared_place one.Phase)

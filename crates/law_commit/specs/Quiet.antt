@@ -6,18 +6,18 @@ use Rattle.fkv_words.specs.declared.phase_words.PhaseSaid.{PhaseSaid}
 use Rattle.fkv_words.specs.declared.phase_words.PhaseSaid.TheVariants.{Says, Spoiled}
 use Rattle.fkv_words.specs.PhaseWords.{phase_said}
 use Rattle.fkv_plane.specs.Places.{session_place}
-use Rattle.fkv_commit.specs.Cuts.{cut_of, other_cut_of}
-use Rattle.fkv_session.specs.declared.catching_up.Catching.TheVariants.{Latches}
-use Rattle.fkv_session.specs.declared.sessions.CatchCause.{CatchCause}
-use Rattle.fkv_session.specs.declared.sessions.Sitting.TheVariants.{CatchesUp}
-use Rattle.fkv_session.specs.CatchingUp.{cut_at}
-use Rattle.fkv_session.specs.InOrder.{owing_place}
-use Rattle.fkv_session.specs.Sessions.{SessionState}
-use Rattle.fkv_world.specs.Opened.{HasBecome, IsOpenedWorld}
-use Rattle.fkv_world.specs.Past.{Effect}
-use Rattle.fkv_world.specs.Runs.{World, run}
-use Rattle.fkv_world.specs.World.{Event, Now, seat_at}
-use Rattle.law_world.specs.Guarded.Shows.{IsOpened}
+use Rattle.law_refine.specs.Below.fkv_commit.Cuts.{cut_of, other_cut_of}
+use Rattle.law_refine.specs.Below.fkv_session.Catching.TheVariants.{Latches}
+use Rattle.law_refine.specs.Below.fkv_session.CatchCause.{CatchCause}
+use Rattle.law_refine.specs.Below.fkv_session.Sitting.TheVariants.{CatchesUp}
+use Rattle.law_refine.specs.Below.fkv_session.CatchingUp.{cut_at}
+use Rattle.law_refine.specs.Below.fkv_session.InOrder.{owing_place}
+use Rattle.law_refine.specs.Below.fkv_session.Sessions.{SessionState}
+use Rattle.law_refine.specs.Below.fkv_world.Opened.{HasBecome, IsOpenedWorld}
+use Rattle.law_refine.specs.Below.fkv_world.Past.{Effect}
+use Rattle.law_refine.specs.Below.fkv_world.Runs.{World, run}
+use Rattle.law_refine.specs.Below.fkv_world.World.{Event, Now, seat_at}
+use Rattle.law_refine.specs.Below.law_world.Guarded.Shows.{IsOpened}
 use Rattle.law_log.specs.Trace.{IsIn}
 use Rattle.law_commit.specs.Accepted.{point}
 use Rattle.law_commit.specs.BegunCommits.{BegunCommit, life_begun}

@@ -3,8 +3,8 @@ use Rattle.std.specs.Prelude.{◌≡◌, ◌+◌, ◌<◌, ◌≤◌, ⊤, ℕ, 
 use Rattle.fkv_map.specs.History.{point_of}
 use Rattle.fkv_plane.specs.declared.places.SessionWord.TheVariants.{Durable}
 use Rattle.fkv_plane.specs.Places.{session_place}
-use Rattle.fkv_world.specs.Runs.{World, run}
-use Rattle.fkv_world.specs.World.{Event}
+use Rattle.law_refine.specs.Below.fkv_world.Runs.{World, run}
+use Rattle.law_refine.specs.Below.fkv_world.World.{Event}
 use Rattle.law_log.specs.Trace.{IsIn}
 use Rattle.law_commit.specs.BegunCommits.{BegunCommit, life_begun}
 use Rattle.law_commit.specs.Cuts.{ShowsDurable, word_now}

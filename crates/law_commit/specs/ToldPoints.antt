@@ -1,9 +1,9 @@
 -- What sessions were told as durable, and how many commits had been told as finished when they asked.
 use Rattle.std.specs.Prelude.{ℕ, ◌+◌, ◌==◌, true, if◌then◌else◌, List, [], ◌∷◌}
-use Rattle.fkv_session.specs.declared.answers.Told.{Told}
-use Rattle.fkv_session.specs.declared.answers.Told.TheVariants.{Durable}
-use Rattle.fkv_keeper.specs.declared.answers.KeeperTold.TheVariants.{Turned}
-use Rattle.fkv_world.specs.Past.{Traced, TraceEvent, Called, Answered, KeeperAnswered}
+use Rattle.law_refine.specs.Below.fkv_session.Told.{Told}
+use Rattle.law_refine.specs.Below.fkv_session.Told.TheVariants.{Durable}
+use Rattle.law_refine.specs.Below.fkv_keeper.KeeperTold.TheVariants.{Turned}
+use Rattle.law_refine.specs.Below.fkv_world.Past.{Traced, TraceEvent, Called, Answered, KeeperAnswered}
 
 pub record ToldPoint : Type 0 where
   pub point : ℕ

@@ -13,17 +13,17 @@ use Rattle.fkv_epoch.specs.declared.refreshing.Refreshing.{Refreshing}
 use Rattle.fkv_epoch.specs.declared.refreshing.Refreshing.TheVariants as refresh
 use Rattle.fkv_epoch.specs.declared.protecting.Protecting.{Protecting}
 use Rattle.fkv_epoch.specs.declared.protecting.Protecting.TheVariants as protect
-use Rattle.fkv_ops.specs.declared.requests.Seen.{Seen}
-use Rattle.fkv_session.specs.declared.catching_up.Catching.{Catching}
-use Rattle.fkv_session.specs.declared.catching_up.Catching.TheVariants.{Refreshes, Protects}
-use Rattle.fkv_session.specs.declared.sessions.Sitting.{Sitting}
-use Rattle.fkv_session.specs.declared.sessions.Sitting.TheVariants.{CatchesUp}
-use Rattle.fkv_session.specs.CatchingUp.{CatchState}
-use Rattle.fkv_session.specs.Sessions.{SessionState, Seat}
-use Rattle.fkv_session.specs.SessionRun.{SessionEvent, Replies, session_happens, session_run}
-use Rattle.fkv_world.specs.OwnEvents.{session_part_of, session_events}
-use Rattle.fkv_world.specs.Runs.{World, run}
-use Rattle.fkv_world.specs.World.{Event, Now, seat_at}
+use Rattle.law_refine.specs.Below.fkv_ops.Seen.{Seen}
+use Rattle.law_refine.specs.Below.fkv_session.Catching.{Catching}
+use Rattle.law_refine.specs.Below.fkv_session.Catching.TheVariants.{Refreshes, Protects}
+use Rattle.law_refine.specs.Below.fkv_session.Sitting.{Sitting}
+use Rattle.law_refine.specs.Below.fkv_session.Sitting.TheVariants.{CatchesUp}
+use Rattle.law_refine.specs.Below.fkv_session.CatchingUp.{CatchState}
+use Rattle.law_refine.specs.Below.fkv_session.Sessions.{SessionState, Seat}
+use Rattle.law_refine.specs.Below.fkv_session.SessionRun.{SessionEvent, Replies, session_happens, session_run}
+use Rattle.law_refine.specs.Below.fkv_world.OwnEvents.{session_part_of, session_events}
+use Rattle.law_refine.specs.Below.fkv_world.Runs.{World, run}
+use Rattle.law_refine.specs.Below.fkv_world.World.{Event, Now, seat_at}
 use Rattle.law_commit.specs.Ranks.{rank}
 
 -- the epoch and the tail as they stood, and what the phase word said

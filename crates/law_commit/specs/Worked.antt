@@ -6,21 +6,21 @@ use Rattle.fkv_plane.specs.declared.actions.Action.{Action}
 use Rattle.fkv_plane.specs.declared.asks.Ask.TheVariants.{Load, Put}
 use Rattle.fkv_epoch.specs.declared.refreshing.Refreshing.TheVariants as refresh
 use Rattle.fkv_epoch.specs.declared.protecting.Protecting.TheVariants as protect
-use Rattle.fkv_commit.specs.declared.commits.Commit.{Commit}
+use Rattle.law_refine.specs.Below.fkv_commit.Commit.{Commit}
 use Rattle.fkv_base.specs.declared.commits.CommitKind.TheVariants.{Full, Log}
-use Rattle.fkv_manifest.specs.declared.gates.Gating.TheVariants.{WritesBody, Opens, SyncsOpen}
-use Rattle.fkv_keeper.specs.declared.answers.KeeperTold.TheVariants.{Turned}
-use Rattle.fkv_keeper.specs.declared.keepers.Keeping.TheVariants.{Ended, Starts, Maintains, Enters, Seeks, Finishes}
-use Rattle.fkv_keeper.specs.declared.last_commits.Checkpoint.{Checkpoint}
-use Rattle.fkv_keeper.specs.Keeping.{Finality, KeeperState}
-use Rattle.fkv_session.specs.declared.answers.Told.{Told}
-use Rattle.fkv_session.specs.declared.answers.Told.TheVariants.{Durable, Slept}
-use Rattle.fkv_session.specs.declared.catching_up.Catching.TheVariants.{Refreshes, Protects, StoresCut}
-use Rattle.fkv_session.specs.declared.sessions.CatchCause.{CatchCause}
-use Rattle.fkv_session.specs.declared.sessions.Sitting.TheVariants.{Idle, CatchesUp}
-use Rattle.fkv_session.specs.CatchingUp.{CatchState}
-use Rattle.fkv_world.specs.Past.{Traced, Called, Answered, TurnAsked, KeeperAnswered}
-use Rattle.fkv_world.specs.World.{Turns, Now}
+use Rattle.law_refine.specs.Below.fkv_manifest.TheGating.TheVariants.{WritesBody, Opens, SyncsOpen}
+use Rattle.law_refine.specs.Below.fkv_keeper.KeeperTold.TheVariants.{Turned}
+use Rattle.law_refine.specs.Below.fkv_keeper.TheKeeping.TheVariants.{Ended, Starts, Maintains, Enters, Seeks, Finishes}
+use Rattle.law_refine.specs.Below.fkv_keeper.Checkpoint.{Checkpoint}
+use Rattle.law_refine.specs.Below.fkv_keeper.Keeping.{Finality, KeeperState}
+use Rattle.law_refine.specs.Below.fkv_session.Told.{Told}
+use Rattle.law_refine.specs.Below.fkv_session.Told.TheVariants.{Durable, Slept}
+use Rattle.law_refine.specs.Below.fkv_session.Catching.TheVariants.{Refreshes, Protects, StoresCut}
+use Rattle.law_refine.specs.Below.fkv_session.CatchCause.{CatchCause}
+use Rattle.law_refine.specs.Below.fkv_session.Sitting.TheVariants.{Idle, CatchesUp}
+use Rattle.law_refine.specs.Below.fkv_session.CatchingUp.{CatchState}
+use Rattle.law_refine.specs.Below.fkv_world.Past.{Traced, Called, Answered, TurnAsked, KeeperAnswered}
+use Rattle.law_refine.specs.Below.fkv_world.World.{Turns, Now}
 use Rattle.law_commit.specs.Accepted.{count_upto, serial_at}
 use Rattle.law_commit.specs.BegunCommits.{BegunCommit, commit_opened, commit_opening, begun_at_gate, begun_at_end, kind_opened, triples_opened}
 use Rattle.law_commit.specs.PrefixPast.{asked_where, asked_by}

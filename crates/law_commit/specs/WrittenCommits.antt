@@ -3,13 +3,13 @@ use Rattle.std.specs.Prelude.{◌≡◌, List, [], ◌∷◌, Option, Some}
 use Rattle.fkv_base.specs.declared.shapes.Shape.{Shape}
 use Rattle.fkv_base.specs.declared.commits.CommitKind.{CommitKind}
 use Rattle.fkv_base.specs.declared.commits.CommitKind.TheVariants.{Full, Log}
-use Rattle.fkv_keeper.specs.CheckpointLaws.{BegunWith, begun_with}
-use Rattle.fkv_keeper.specs.Keeping.{Finality}
-use Rattle.fkv_keeper.specs.KeeperRun.{Writing}
-use Rattle.fkv_keeper.specs.LastCommits.{slot_written}
-use Rattle.fkv_world.specs.OwnEvents.{keeper_events}
-use Rattle.fkv_world.specs.Runs.{World}
-use Rattle.fkv_world.specs.World.{Event}
+use Rattle.law_refine.specs.Below.fkv_keeper.CheckpointLaws.{BegunWith, begun_with}
+use Rattle.law_refine.specs.Below.fkv_keeper.Keeping.{Finality}
+use Rattle.law_refine.specs.Below.fkv_keeper.KeeperRun.{Writing}
+use Rattle.law_refine.specs.Below.fkv_keeper.LastCommits.{slot_written}
+use Rattle.law_refine.specs.Below.fkv_world.OwnEvents.{keeper_events}
+use Rattle.law_refine.specs.Below.fkv_world.Runs.{World}
+use Rattle.law_refine.specs.Below.fkv_world.World.{Event}
 use Rattle.law_commit.specs.BegunCommits.{BegunCommit}
 
 -- A full commit uses the checkpoint that it has made, which has its own number and first address. A log commit uses that of the newest finished

@@ -1,7 +1,7 @@
 //! What stands in the words by which a session tells where it has left a version, in every life of a store that was opened.
 ghost use Rattle.law_commit.specs.Laws.Cuts as cuts;
 
-use law_world::law_world_cuts;
+use law_refine::law_world_cuts;
 
 /// In every life of a store that was opened, whatever the other actors do, both cut words of a session and its owing word are at each moment what the session
 /// has stored there last, by its own events; before its first store there, what stood there as the life began. So is its durable word what the keeper has

@@ -1,32 +1,29 @@
 //! Which addresses of a life's log are taken and decided.
-ghost use Rattle.law_commit.specs.Decided.Below as below;
-ghost use Rattle.law_commit.specs.Decided.Ended.{CommitsHaveEnded};
-ghost use Rattle.law_commit.specs.Decided.Later as later;
-ghost use Rattle.law_commit.specs.Decided.Laws as decided;
+ghost use Rattle.law_commit.specs.Said as said;
 
 use crate::floor::law_floor_stands;
 use crate::quiet::law_versions_end;
-use fkv_checkpoint::law_copied;
 use law_paper::law_phases_are_seen;
+use law_refine::law_copied;
 
 /// In every life of a store that was opened each address from the tail with which it began up to the tail is taken: its record is being made, stands, or was
 /// given up. A record that is being made lies at or above the tail of its session's view. So all is decided below what each session that is awake has seen as
 /// tail, and stays so below the tail.
 pub fn law_addresses_taken()
-    ensures taken { decided.TakesUptoTail }
-    ensures above_view { decided.MakesAboveItsView }
-    ensures below_views { decided.DecidesBelowViews }
-    ensures stays { decided.StaysDecided }
-    ensures settled { decided.SettlesDecided }
+    ensures taken { said.TakesUptoTail }
+    ensures above_view { said.MakesAboveItsView }
+    ensures below_views { said.DecidesBelowViews }
+    ensures stays { said.StaysDecided }
+    ensures settled { said.SettlesDecided }
 {}
 
 /// In each life of a store that opened at rest, as its sessions have seen, all is decided below the first address of the commit in hand from in-progress on.
 /// So it was as a full commit's copy began. Once its points are taken and the epoch of its last arming is safe all is decided below its end, and so as it is
 /// written.
 pub fn law_commits_decided()
-    ensures first { decided.DecidesBelowFirst }
-    ensures before_copies { decided.DecidesBeforeCopies }
-    ensures end { decided.DecidesBelowEnd }
+    ensures first { said.DecidesBelowFirst }
+    ensures before_copies { said.DecidesBeforeCopies }
+    ensures end { said.DecidesBelowEnd }
 {
     law_floor_stands();
 }
@@ -35,9 +32,9 @@ pub fn law_commits_decided()
 /// address on is of a later version too. While the phase word says wait-pending or wait-flush, each session that is awake goes by a later version than the
 /// commit in hand. So what it attempts at a call is of a later one; and all that is attempted is, if what polls attempt is.
 pub fn law_later_above()
-    ensures above { later.MakesLaterFrom }
-    ensures goes { later.GoesByLater }
-    ensures attempts { later.AttemptsLaterButPolls }
+    ensures above { said.MakesLaterFrom }
+    ensures goes { said.GoesByLater }
+    ensures attempts { said.AttemptsLaterButPolls }
 {
     law_floor_stands();
 }
@@ -45,8 +42,8 @@ pub fn law_later_above()
 /// In each such life the first address of the commit in hand lies at or below the tail from in-progress on, and so does its end as it is written. So each
 /// record from the first tail to that address stands or was given up.
 pub fn law_commits_settled()
-    ensures first { decided.SettlesBelowFirst }
-    ensures end { decided.SettlesBelowEnd }
+    ensures first { said.SettlesBelowFirst }
+    ensures end { said.SettlesBelowEnd }
 {
     law_phases_are_seen();
     law_floor_stands();
@@ -55,16 +52,16 @@ pub fn law_commits_settled()
 /// In every life of a store that was opened, if each address that stood in a chain was taken then, each that stands in a chain lies below the tail. So does
 /// where the triples lead of the copy that began last. Below the tail with which the life began each chain has just what it had then.
 pub fn law_chains_below()
-    ensures chains { decided.ChainsLieBelowTail }
-    ensures old { decided.ChainsKeepTheOld }
-    ensures triples { decided.TriplesLieBelowTail }
+    ensures chains { said.ChainsLieBelowTail }
+    ensures old { said.ChainsKeepTheOld }
+    ensures triples { said.TriplesLieBelowTail }
 {}
 
 /// Each commit that has begun in a life of a store that opened at rest, but the opening's, has come through three moments. Its first address was the tail as the
 /// keeper loaded that in prepare. Its end was the tail as the keeper loaded that in wait-flush: then it was copied, and a full one had the copy in hand whose
 /// triples it writes. And it was in hand as it was written, with this number, kind, first address and end, and these triples.
 pub fn law_commits_ended()
-    ensures { CommitsHaveEnded }
+    ensures { said.CommitsHaveEnded }
 {}
 
 /// So the commit cuts the log at its version, from then on and for good. Each record from its end on is of a later version: by then no update of its version was
@@ -72,12 +69,12 @@ pub fn law_commits_ended()
 /// later version than its own. A newer commit ends no lower. What a full commit writes are triples, no two of one home, each of a bucket of the index. Each leads into its home's chain, below
 /// the commit's end. They cover the chains as these were when the copy began, and since then the chains have got nothing below the commit's first address.
 pub fn law_commits_cut()
-    ensures later { below.OfEachBegun below.IsLaterFromEnd }
-    ensures young { below.OfEachBegun below.IsYoungBelowEnd }
-    ensures settled { below.OfEachBegun below.IsSettledBelowEnd }
-    ensures old { below.OfEachBegun (below.ButOpenings below.IsOldBelowFirst) }
-    ensures ends { below.EndsRise }
-    ensures triples { below.FullCommitsSpellChains }
+    ensures later { said.OfEachBegun said.IsLaterFromEnd }
+    ensures young { said.OfEachBegun said.IsYoungBelowEnd }
+    ensures settled { said.OfEachBegun said.IsSettledBelowEnd }
+    ensures old { said.OfEachBegun (said.ButOpenings said.IsOldBelowFirst) }
+    ensures ends { said.EndsRise }
+    ensures triples { said.FullCommitsSpellChains }
 {
     law_copied();
     law_phases_are_seen();

@@ -1,6 +1,5 @@
 //! The floor of each live session's view.
-ghost use Rattle.law_commit.specs.Floor.OnPaper.{LivesAreOnPaper};
-ghost use Rattle.law_commit.specs.Floor.Stands.{FloorAlwaysStands, ViewsAreNear};
+ghost use Rattle.law_commit.specs.Said as said;
 
 use law_paper::law_phases_are_seen;
 
@@ -8,7 +7,7 @@ use law_paper::law_phases_are_seen;
 /// its steps. Each of its events is some on paper, or none, and each of these is enabled there. What is on paper shows the life at each moment: the rank of the
 /// phase word, the epoch, what is safe, the tail, and what each session has seen of them.
 pub fn law_lives_are_phases()
-    ensures { LivesAreOnPaper }
+    ensures { said.LivesAreOnPaper }
 {
     law_phases_are_seen();
 }
@@ -19,8 +18,8 @@ pub fn law_lives_are_phases()
 /// commit is written. If one live session goes by in-progress or wait-pending of a version, each other has come to prepare before it. None has come further
 /// than its wait-flush.
 pub fn law_floor_stands()
-    ensures floor { FloorAlwaysStands }
-    ensures near { ViewsAreNear }
+    ensures floor { said.FloorAlwaysStands }
+    ensures near { said.ViewsAreNear }
 {
     law_phases_are_seen();
 }

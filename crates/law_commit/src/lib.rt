@@ -35,3 +35,16 @@ pub use points::{law_points_between, law_points_taken};
 pub use quiet::{law_cuts_show_points, law_versions_end};
 pub use shares::law_shares_not_missed;
 pub use versions::{law_points_split, law_versions_bounded};
+
+// What crates above name of the laws below, beside what `specs/Below.antt` shows.
+pub use law_paper::{
+    law_kept, law_kept_paper_is_sound, law_old_paper_is_sound, law_paper_is_sound,
+    law_phases_are_seen,
+};
+pub use law_refine::{
+    law_copied, law_device_shows_log, law_gates, law_heads, law_latched_in_tries, law_mail,
+    law_of_kept_slots, law_of_the_past, law_records_published, law_stands_show_log,
+    law_world_effects, law_world_flushed, law_world_flushed_is_synced, law_world_is_guarded,
+    law_world_latched, law_world_once, law_world_one_commit_stands, law_world_one_entry,
+    law_world_replies, law_world_requests, law_world_sessions,
+};

@@ -1,5 +1,5 @@
 //! The points that commits take are the sessions' points.
-ghost use Rattle.law_commit.specs.Points.{BegunAreAsTaken, BegunHavePoints, CutsGoOn, LastHasPoints, RisesByVersion, RisesFromLast, SinceAsked, TakesPoints, UpToGiven};
+ghost use Rattle.law_commit.specs.Said as said;
 
 use crate::quiet::{law_cuts_show_points, law_versions_end};
 use law_paper::law_phases_are_seen;
@@ -10,12 +10,12 @@ use law_paper::law_phases_are_seen;
 /// each commit that has begun, with the opening's, at each later moment. The newest that has begun is the one in hand, with the points that were taken, as
 /// long as it isn't finished. The newest finished one's points are those of its number, and none is more than that of the commit in hand.
 pub fn law_points_taken()
-    ensures cuts { CutsGoOn }
-    ensures taken { TakesPoints }
-    ensures begun { BegunHavePoints }
-    ensures in_hand { BegunAreAsTaken }
-    ensures last { LastHasPoints }
-    ensures risen { RisesFromLast }
+    ensures cuts { said.CutsGoOn }
+    ensures taken { said.TakesPoints }
+    ensures begun { said.BegunHavePoints }
+    ensures in_hand { said.BegunAreAsTaken }
+    ensures last { said.LastHasPoints }
+    ensures risen { said.RisesFromLast }
 {
     law_versions_end();
     law_cuts_show_points();
@@ -25,7 +25,7 @@ pub fn law_points_taken()
 /// A session's point of the commit in hand is no less than the last serial that the session had given as the commit was asked for. A point is no more than what
 /// the session has given, nor than the point of a later version.
 pub fn law_points_between()
-    ensures since { SinceAsked }
-    ensures given { UpToGiven }
-    ensures rises { RisesByVersion }
+    ensures since { said.SinceAsked }
+    ensures given { said.UpToGiven }
+    ensures rises { said.RisesByVersion }
 {}

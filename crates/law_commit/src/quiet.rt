@@ -1,5 +1,5 @@
 //! That no update of a version is left once its commit has come to wait-flush.
-ghost use Rattle.law_commit.specs.Quiet.{BegunHaveFlushed, CutsShowPoints, LatchesAtItsVersion, LiveAreLater, NoneComesBack, NoneIsLeft, OwesNone, PointsAlwaysSplit, PointsStay, RanksRise, WaitsFromBefore};
+ghost use Rattle.law_commit.specs.Said as said;
 
 use crate::cuts::law_cuts_stand;
 use crate::floor::law_floor_stands;
@@ -14,16 +14,16 @@ use law_paper::law_phases_are_seen;
 /// session's effects at each later moment: just those have a serial up to it that are of that version or an earlier one. Each commit that has begun has come to
 /// wait-flush, with the opening's. So all of this holds of its number, for ever.
 pub fn law_versions_end()
-    ensures ranks { RanksRise }
-    ensures live { LiveAreLater }
-    ensures gone { NoneComesBack }
-    ensures owes { OwesNone }
-    ensures left { NoneIsLeft }
-    ensures before { WaitsFromBefore }
-    ensures latches { LatchesAtItsVersion }
-    ensures points { PointsStay }
-    ensures splits { PointsAlwaysSplit }
-    ensures begun { BegunHaveFlushed }
+    ensures ranks { said.RanksRise }
+    ensures live { said.LiveAreLater }
+    ensures gone { said.NoneComesBack }
+    ensures owes { said.OwesNone }
+    ensures left { said.NoneIsLeft }
+    ensures before { said.WaitsFromBefore }
+    ensures latches { said.LatchesAtItsVersion }
+    ensures points { said.PointsStay }
+    ensures splits { said.PointsAlwaysSplit }
+    ensures begun { said.BegunHaveFlushed }
 {
     law_floor_stands();
 }
@@ -32,7 +32,7 @@ pub fn law_versions_end()
 /// session has left it, or has told so as it wakes. Or one of the two is the cut of an earlier version at the point, and the other that of the version before
 /// it, at no later serial: the session sleeps since then.
 pub fn law_cuts_show_points()
-    ensures { CutsShowPoints }
+    ensures { said.CutsShowPoints }
 {
     law_versions_end();
     law_cuts_stand();

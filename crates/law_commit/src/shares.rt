@@ -1,9 +1,5 @@
 //! Shares of latches.
-ghost use Rattle.law_commit.specs.Shares.Alone.{BitIsPastPrepare, HoldsAloneBetween, HoldsAloneByRank, MeetsNoneAlone};
-ghost use Rattle.law_commit.specs.Shares.Leaving.{LeavesFromPrepare};
-ghost use Rattle.law_commit.specs.Shares.Since.{AllShareJust, AllShareSince, OlderComeSharing, ShareOnlySince};
-ghost use Rattle.law_commit.specs.Shares.Tries.{SharesInTries};
-ghost use Rattle.law_commit.specs.Shares.Waiting.{SharesInPrepare};
+ghost use Rattle.law_commit.specs.Said as said;
 
 use law_paper::law_phases_are_seen;
 use law_refine::law_world_latched;
@@ -17,17 +13,17 @@ use law_refine::law_world_latched;
 /// session's, again as long as no attempt has ended so. So while a session takes up no other phase, an update shares its latch just if its session has come to
 /// prepare of its version.
 pub fn law_shares_not_missed()
-    ensures alone { HoldsAloneBetween }
-    ensures by_rank { HoldsAloneByRank }
-    ensures tries { SharesInTries }
-    ensures meets { MeetsNoneAlone }
-    ensures bit { BitIsPastPrepare }
-    ensures leaves { LeavesFromPrepare }
-    ensures prepare { SharesInPrepare }
-    ensures only { ShareOnlySince }
-    ensures since { AllShareSince }
-    ensures older { OlderComeSharing }
-    ensures just { AllShareJust }
+    ensures alone { said.HoldsAloneBetween }
+    ensures by_rank { said.HoldsAloneByRank }
+    ensures tries { said.SharesInTries }
+    ensures meets { said.MeetsNoneAlone }
+    ensures bit { said.BitIsPastPrepare }
+    ensures leaves { said.LeavesFromPrepare }
+    ensures prepare { said.SharesInPrepare }
+    ensures only { said.ShareOnlySince }
+    ensures since { said.AllShareSince }
+    ensures older { said.OlderComeSharing }
+    ensures just { said.AllShareJust }
 {
     law_phases_are_seen();
     law_world_latched();

@@ -2,3 +2,4 @@ pub mod OfChanges
 mod OfLives
 mod OfLog
 mod OfWorlds
+pub mod Below

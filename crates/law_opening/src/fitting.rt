@@ -6,8 +6,7 @@ use crate::changing::law_lives_change_published;
 use crate::lives::law_guard_opens;
 use crate::log::law_log_counted;
 use fkv_core::law_words_open;
-use fkv_flush::law_mail;
-use law_world::law_world_flushed_is_synced;
+use law_refine::{law_mail, law_world_flushed_is_synced};
 
 /// In every such life whose calls are of numbers below 2^64 each record of the log keeps a key and a value below 2^64, commits and all, if the log began so. What a
 /// session has loaded of a record shows the log. What it takes from its mailbox was read where a published record is flushed. What an operation makes of a

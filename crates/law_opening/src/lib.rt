@@ -20,3 +20,8 @@ pub use log::{
 };
 pub use published::law_changes_published;
 pub use worlds::law_world_exists;
+
+// What crates above name of the laws below, beside what `specs/Below.antt` shows.
+pub use fkv_core::{World, law_words_open};
+pub use fkv_creating::law_new_stores;
+pub use law_refine::{law_world_ends, law_world_slots};

@@ -2,9 +2,9 @@
 ghost use Rattle.law_opening.specs.Log.Laws as logs;
 
 use crate::lives::{law_guard_opens, law_index_opens};
-use fkv_pairs::law_chain_of_entry;
 use fkv_record::law_spellings_apart;
 use law_log::{law_calls_in_order, law_chains_show_content, law_versions_show_content};
+use law_paper::law_chain_of_entry;
 use law_refine::{law_ghost_fixed, law_ghost_reserved, law_ghost_trace, law_ghost_unborn};
 
 /// The log of an opened store has the records of its image that count, each at its address, with its key, its value and the address that it leads

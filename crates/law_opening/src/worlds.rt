@@ -1,7 +1,7 @@
 //! That each opened store has a world.
 ghost use Rattle.fkv_core.specs.Openings.{IsOpeningWorld};
-ghost use Rattle.fkv_opening.specs.declared.opened_store.Opened.{Opened};
-ghost use Rattle.fkv_world.specs.World.{Now};
+ghost use Rattle.law_paper.specs.Below.fkv_opening.TheOpened.{Opened};
+ghost use Rattle.law_refine.specs.Below.fkv_world.World.{Now};
 
 /// For each opened store there is a world with which its life begins: words, sessions and a keeper, such as `World::open` makes where memory is granted.
 pub fn law_world_exists()

@@ -18,3 +18,4 @@ mod OfShifts
 pub mod OfTickets
 mod OfTold
 mod OfTruth
+pub mod Below

@@ -3,20 +3,20 @@ use Rattle.std.proofs.Common.{◌≡◌, inl, inr, ℕ, ◌∙◌, List, ap, ref
 use Rattle.std.specs.Prelude.{◌⊎◌, ◌++◌, Option}
 use Rattle.fkv_base.specs.declared.commits.CommitKind.{CommitKind}
 use Rattle.fkv_base.specs.declared.commits.CommitKind.TheVariants.{Full}
-use Rattle.fkv_checkpoint.specs.CopyWorld.{CopyWorld}
-use Rattle.fkv_checkpoint.specs.Copying.{Copier}
-use Rattle.fkv_commit.specs.declared.commits.Commit.{Commit}
-use Rattle.fkv_keeper.specs.CheckpointLaws.{IsBeforeWrites}
-use Rattle.fkv_keeper.specs.Keeping.{bytes_copied, triples_written}
-use Rattle.fkv_world.specs.Runs.{World, run}
-use Rattle.fkv_world.specs.World.{Event}
+use Rattle.law_commit.specs.Below.fkv_checkpoint.CopyWorld.{CopyWorld}
+use Rattle.law_commit.specs.Below.fkv_checkpoint.Copying.{Copier}
+use Rattle.law_commit.specs.Below.fkv_commit.Commit.{Commit}
+use Rattle.law_commit.specs.Below.fkv_keeper.CheckpointLaws.{IsBeforeWrites}
+use Rattle.law_commit.specs.Below.fkv_keeper.Keeping.{bytes_copied, triples_written}
+use Rattle.law_commit.specs.Below.fkv_world.Runs.{World, run}
+use Rattle.law_commit.specs.Below.fkv_world.World.{Event}
 use Rattle.law_commit.specs.BegunCommits.{BegunCommit, life_begun}
 use Rattle.law_commit.specs.Copied.Runs.{HasInHand, seen_by_copy}
 use Rattle.law_commit.specs.Decided.Ended.{CommitsHaveEnded, HadMoment, LoadsEnd, Span, span_of, span_opened}
 use Rattle.law_commit.specs.Laws.Copied.{CopiesAreInHand, CopiesBeginForCommits}
 use Rattle.law_commit.specs.Quiet.{OpensQuiet}
 use Rattle.law_log.specs.Trace.{IsIn}
-use Rattle.law_refine.specs.Index.Shows as index
+use Rattle.law_commit.specs.Below.law_refine.Index.Shows as index
 use Rattle.law_order.specs.Opened.{HasWrittenCopy}
 
 module _ (held : CopiesAreInHand) (begun : CopiesBeginForCommits) (opening : World) (lists : ℕ → List ℕ) (in_order : index.IsOpened opening lists) where

@@ -1,3 +1,4 @@
+pub mod Below
 pub mod Apart
 pub mod Asked
 pub mod Decided
@@ -12,6 +13,7 @@ pub mod Reads
 pub mod Recovered
 pub mod Rows
 pub mod Rules
+pub mod Said
 pub mod Served
 pub mod Shares
 pub mod Tickets

@@ -2,27 +2,27 @@
 use Rattle.std.specs.List.{AllByRecursion}
 use Rattle.std.specs.Prelude.{◌≡◌, ◌≢◌, ◌⊎◌, ◌<◌, ◌≤◌, ◌+◌, ◌-◌, ◌++◌, ℕ, List, Some, false, length, true}
 use Rattle.fkv_base.specs.declared.commits.CommitKind.TheVariants.{Full}
-use Rattle.fkv_checkpoint.specs.Fuzzy.{CopiedHaveStood, HomesOnce, NoneLeftOut, begun_at}
-use Rattle.fkv_checkpoint.specs.Triples.{all_bytes}
-use Rattle.fkv_checkpoint.specs.declared.copying.CopyStep.TheVariants.{Ended}
-use Rattle.fkv_commit.specs.Cuts.{serial_said}
-use Rattle.fkv_commit.specs.declared.commits.Commit.{Commit}
-use Rattle.fkv_core.specs.Openings.{IsOpeningWorld, beginning}
+use Rattle.law_commit.specs.Below.fkv_checkpoint.Fuzzy.{CopiedHaveStood, HomesOnce, NoneLeftOut, begun_at}
+use Rattle.law_commit.specs.Below.fkv_checkpoint.Triples.{all_bytes}
+use Rattle.law_commit.specs.Below.fkv_checkpoint.CopyStep.TheVariants.{Ended}
+use Rattle.law_commit.specs.Below.fkv_commit.Cuts.{serial_said}
+use Rattle.law_commit.specs.Below.fkv_commit.Commit.{Commit}
+use Rattle.law_opening.specs.Below.fkv_core.Openings.{IsOpeningWorld, beginning}
 use Rattle.fkv_epoch.specs.EpochWorld.{safe_of}
-use Rattle.fkv_filling.specs.OpeningIndex.{opening_lists}
-use Rattle.fkv_opening.specs.Opened.{IsStoreOf}
-use Rattle.fkv_opening.specs.declared.opened_store.Opened.{Opened}
+use Rattle.law_opening.specs.Below.fkv_filling.OpeningIndex.{opening_lists}
+use Rattle.law_opening.specs.Below.fkv_opening.Opened.{IsStoreOf}
+use Rattle.law_opening.specs.Below.fkv_opening.TheOpened.{Opened}
 use Rattle.fkv_plane.specs.Places.{session_place}
 use Rattle.fkv_plane.specs.declared.places.SessionWord.TheVariants.{Durable}
-use Rattle.fkv_session.specs.InOrder.{AreToldInOrder}
-use Rattle.fkv_session.specs.Sessions.{SessionState}
-use Rattle.fkv_session.specs.Words.{IsCutAsleep, IsMark}
-use Rattle.fkv_session.specs.declared.sessions.CatchCause.TheVariants.{Wakes}
-use Rattle.fkv_session.specs.declared.sessions.Sitting.TheVariants.{CatchesUp}
-use Rattle.fkv_world.specs.Opened.{HasBecome}
-use Rattle.fkv_world.specs.OwnEvents.{keeper_events, session_events}
-use Rattle.fkv_world.specs.Runs.{World, run}
-use Rattle.fkv_world.specs.World.{Event, Now, seat_at}
+use Rattle.law_commit.specs.Below.fkv_session.InOrder.{AreToldInOrder}
+use Rattle.law_commit.specs.Below.fkv_session.Sessions.{SessionState}
+use Rattle.law_commit.specs.Below.fkv_session.Words.{IsCutAsleep, IsMark}
+use Rattle.law_commit.specs.Below.fkv_session.CatchCause.TheVariants.{Wakes}
+use Rattle.law_commit.specs.Below.fkv_session.Sitting.TheVariants.{CatchesUp}
+use Rattle.law_commit.specs.Below.fkv_world.Opened.{HasBecome}
+use Rattle.law_commit.specs.Below.fkv_world.OwnEvents.{keeper_events, session_events}
+use Rattle.law_commit.specs.Below.fkv_world.Runs.{World, run}
+use Rattle.law_commit.specs.Below.fkv_world.World.{Event, Now, seat_at}
 use Rattle.law_commit.specs.Accepted.{HasRisingVersion, NeverFall, point, serial_at}
 use Rattle.law_commit.specs.BegunCommits.{BegunCommit, life_begun}
 use Rattle.law_commit.specs.Copied.Covers.{CoverHeads, HasBegunFor, HasStoodSince, LeadIntoChains, MayBeCopied, before_copy}
@@ -35,13 +35,13 @@ use Rattle.law_commit.specs.Phases.Staged.{HasStage}
 use Rattle.law_commit.specs.Phases.Stamped.{SessionStamped, is_live}
 use Rattle.law_commit.specs.PrefixPast.{prefix_past}
 use Rattle.law_commit.specs.Views.{View, sight_of}
-use Rattle.law_world.specs.Guarded.Shows.{seen_by_guard}
+use Rattle.law_commit.specs.Below.law_world.Guarded.Shows.{seen_by_guard}
 use Rattle.law_log.specs.Ghosts.{Ghosts}
 use Rattle.law_log.specs.Trace.{IsIn}
 use Rattle.law_opening.specs.Log.OpeningLog.{opening_ghosts}
-use Rattle.law_refine.specs.Index.Shows.{seen_by_index}
-use Rattle.law_refine.specs.Events.GhostEvents.{life_ghosts}
-use Rattle.law_world.specs.Keeper.Lives.{life_writing, replies_copied}
+use Rattle.law_commit.specs.Below.law_refine.Index.Shows.{seen_by_index}
+use Rattle.law_commit.specs.Below.law_refine.Events.GhostEvents.{life_ghosts}
+use Rattle.law_commit.specs.Below.law_world.Keeper.Lives.{life_writing, replies_copied}
 
 -- ---- of a session
 -- so it is of each session in each life of an opened store, as it began and as it is now

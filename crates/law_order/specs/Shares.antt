@@ -1,27 +1,27 @@
 -- What the law of `shares` says.
 use Rattle.std.specs.Prelude.{◌≡◌, ◌⊎◌, ◌<◌, ℕ, List, Some, slice_get, true, false}
-use Rattle.fkv_core.specs.Openings.{IsOpeningWorld, beginning}
+use Rattle.law_opening.specs.Below.fkv_core.Openings.{IsOpeningWorld, beginning}
 use Rattle.fkv_latch.specs.Latched.{AreCounted, AreLatchesApart}
 use Rattle.fkv_latch.specs.Latching.{is_exclusive}
 use Rattle.fkv_latch.specs.LatchWorld.{times}
-use Rattle.fkv_opening.specs.Opened.{IsStoreOf}
-use Rattle.fkv_opening.specs.declared.opened_store.Opened.{Opened}
-use Rattle.fkv_ops.specs.Requests.{is_read}
-use Rattle.fkv_ops.specs.Trying.{is_moving_on, is_prepare}
-use Rattle.fkv_pending.specs.declared.attempting.Attempting.TheVariants.{Tries}
+use Rattle.law_opening.specs.Below.fkv_opening.Opened.{IsStoreOf}
+use Rattle.law_opening.specs.Below.fkv_opening.TheOpened.{Opened}
+use Rattle.law_commit.specs.Below.fkv_ops.Requests.{is_read}
+use Rattle.law_commit.specs.Below.fkv_ops.Trying.{is_moving_on, is_prepare}
+use Rattle.law_commit.specs.Below.fkv_pending.TheAttempting.TheVariants.{Tries}
 use Rattle.fkv_plane.specs.declared.asks.Ask.TheVariants.{Add}
 use Rattle.fkv_plane.specs.Asked.{word_at}
-use Rattle.fkv_session.specs.declared.sessions.CatchCause.{CatchCause}
-use Rattle.fkv_session.specs.declared.sessions.Sitting.TheVariants.{CatchesUp}
-use Rattle.fkv_session.specs.Sessions.{SessionState, session_ask}
-use Rattle.fkv_world.specs.Opened.{HasBecome}
-use Rattle.fkv_world.specs.OwnEvents.{session_events}
-use Rattle.fkv_world.specs.Runs.{World, run}
-use Rattle.fkv_world.specs.World.{Event, Now, seat_at}
-use Rattle.law_local.specs.Sessions.Known.{is_attempting}
-use Rattle.law_refine.specs.Latches.InTries.{HasItsShares, session_held}
-use Rattle.law_refine.specs.Latches.Latchers.{session_alone}
-use Rattle.law_refine.specs.Latches.Shows.{AreApart, Shows, seen_by_latches}
+use Rattle.law_commit.specs.Below.fkv_session.CatchCause.{CatchCause}
+use Rattle.law_commit.specs.Below.fkv_session.Sitting.TheVariants.{CatchesUp}
+use Rattle.law_commit.specs.Below.fkv_session.Sessions.{SessionState, session_ask}
+use Rattle.law_commit.specs.Below.fkv_world.Opened.{HasBecome}
+use Rattle.law_commit.specs.Below.fkv_world.OwnEvents.{session_events}
+use Rattle.law_commit.specs.Below.fkv_world.Runs.{World, run}
+use Rattle.law_commit.specs.Below.fkv_world.World.{Event, Now, seat_at}
+use Rattle.law_commit.specs.Below.law_local.Sessions.Known.{is_attempting}
+use Rattle.law_commit.specs.Below.law_refine.Latches.InTries.{HasItsShares, session_held}
+use Rattle.law_commit.specs.Below.law_refine.Latches.Latchers.{session_alone}
+use Rattle.law_commit.specs.Below.law_refine.Latches.Shows.{AreApart, Shows, seen_by_latches}
 use Rattle.law_commit.specs.Shares.Leaving.{HasLoaded}
 use Rattle.law_commit.specs.Shares.Since.{AllShareSo, SharesJust, SharesOnly, SharesSince, seen_by}
 use Rattle.law_commit.specs.Shares.Tries.{SharesInHand}

@@ -1,21 +1,21 @@
 -- What the laws of versions, of how they end and of points say of the lives of opened stores, in the words of `law_commit`.
 use Rattle.std.specs.Prelude.{◌≡◌, ◌≤◌, ◌∷◌, ◌++◌, ℕ, List, Some, true}
-use Rattle.fkv_commit.specs.declared.commits.Commit.{Commit}
+use Rattle.law_commit.specs.Below.fkv_commit.Commit.{Commit}
 use Rattle.fkv_map.specs.History.{point_of}
-use Rattle.fkv_session.specs.InOrder.{owing_place}
-use Rattle.fkv_session.specs.Sessions.{SessionState}
-use Rattle.fkv_session.specs.declared.catching_up.Catching.TheVariants.{Latches}
-use Rattle.fkv_session.specs.declared.sessions.CatchCause.{CatchCause}
-use Rattle.fkv_session.specs.declared.sessions.Sitting.TheVariants.{CatchesUp}
+use Rattle.law_commit.specs.Below.fkv_session.InOrder.{owing_place}
+use Rattle.law_commit.specs.Below.fkv_session.Sessions.{SessionState}
+use Rattle.law_commit.specs.Below.fkv_session.Catching.TheVariants.{Latches}
+use Rattle.law_commit.specs.Below.fkv_session.CatchCause.{CatchCause}
+use Rattle.law_commit.specs.Below.fkv_session.Sitting.TheVariants.{CatchesUp}
 use Rattle.fkv_words.specs.PhaseWords.{phase_said}
-use Rattle.fkv_world.specs.Opened.{HasBecome}
-use Rattle.fkv_world.specs.Runs.{World, run}
-use Rattle.fkv_world.specs.World.{Event, seat_at}
+use Rattle.law_commit.specs.Below.fkv_world.Opened.{HasBecome}
+use Rattle.law_commit.specs.Below.fkv_world.Runs.{World, run}
+use Rattle.law_commit.specs.Below.fkv_world.World.{Event, seat_at}
 use Rattle.law_log.specs.Ghosts.{GhostEvent, Ghosts, ghost_run}
 use Rattle.law_log.specs.Trace.{IsIn}
-use Rattle.law_refine.specs.Events.Effects.{step_at}
-use Rattle.law_refine.specs.Events.GhostEvents.{ghost_events, home_in, life_ghosts, mapped, serials_in}
-use Rattle.law_refine.specs.Events.Reserved.{tail_at}
+use Rattle.law_commit.specs.Below.law_refine.Events.Effects.{step_at}
+use Rattle.law_commit.specs.Below.law_refine.Events.GhostEvents.{ghost_events, home_in, life_ghosts, mapped, serials_in}
+use Rattle.law_commit.specs.Below.law_refine.Events.Reserved.{tail_at}
 use Rattle.law_commit.specs.Accepted.{point, serial_at}
 use Rattle.law_commit.specs.BegunCommits.{BegunCommit, life_begun}
 use Rattle.law_commit.specs.Cuts.{word_now}

@@ -1,7 +1,5 @@
 //! Which addresses of the log are decided in each life of a store that was opened.
-ghost use Rattle.law_order.specs.Decided.Cut as cut;
-ghost use Rattle.law_order.specs.Decided.Laws as decided;
-ghost use Rattle.law_order.specs.Decided.Old as old;
+ghost use Rattle.law_order.specs.Said as said;
 
 use crate::in_turn::{law_ends_open, law_versions_open};
 use crate::rules::law_life_begins;
@@ -15,13 +13,13 @@ use law_opening::{law_lives_change_published, law_log_counted};
 /// decided below what each session that is awake has seen as tail. So it is below the first address of the commit in hand, from in-progress on and as its copy
 /// began; and below its end as it is written. So from the first tail to there each record stands or was given up.
 pub fn law_decided_opens()
-    ensures taken { decided.InItsLife decided.HasTaken }
-    ensures seen { decided.InItsLife decided.HasDecidedSeen }
-    ensures first { decided.InItsLife decided.HasDecidedFirst }
-    ensures copied { decided.InItsLife decided.HadDecidedFirst }
-    ensures end { decided.InItsLife decided.HasDecidedEnd }
-    ensures settled_first { decided.InItsLife decided.HasSettledFirst }
-    ensures settled_end { decided.InItsLife decided.HasSettledEnd }
+    ensures taken { said.InItsLife said.HasTaken }
+    ensures seen { said.InItsLife said.HasDecidedSeen }
+    ensures first { said.InItsLife said.HasDecidedFirst }
+    ensures copied { said.InItsLife said.HadDecidedFirst }
+    ensures end { said.InItsLife said.HasDecidedEnd }
+    ensures settled_first { said.InItsLife said.HasSettledFirst }
+    ensures settled_end { said.InItsLife said.HasSettledEnd }
 {
     law_life_begins();
     law_addresses_taken();
@@ -31,8 +29,8 @@ pub fn law_decided_opens()
 
 /// In each such life each address that stands in a chain lies below the tail. So does where the triples lead of the copy that began last.
 pub fn law_chains_open()
-    ensures chains { decided.InItsLife decided.HasChainsBelow }
-    ensures copies { decided.CopiesBelowTail }
+    ensures chains { said.InItsLife said.HasChainsBelow }
+    ensures copies { said.CopiesBelowTail }
 {
     law_life_begins();
     law_chains_below();
@@ -45,14 +43,14 @@ pub fn law_chains_open()
 /// first address is of no later version than its own. If it is a full one besides, it has written triples that an image can read back, and in an image that has them
 /// these cover the chains.
 pub fn law_cut_opens()
-    ensures ended { cut.OfEachBegun cut.HasComeToItsEnd }
-    ensures later { cut.OfEachBegun cut.IsLaterFromEnd }
-    ensures young { cut.OfEachBegun cut.IsYoungBelowEnd }
-    ensures cut { cut.OfEachBegun cut.CutsItsLog }
-    ensures decided { cut.OfEachBegun cut.DecidesItsLog }
-    ensures ends { cut.EndsRise }
-    ensures old { cut.OfEachBegun cut.IsOldBelow }
-    ensures covers { cut.OfEachBegun cut.CoversItsChains }
+    ensures ended { said.OfEachBegun said.HasComeToItsEnd }
+    ensures later { said.OfEachBegun said.IsLaterFromEnd }
+    ensures young { said.OfEachBegun said.IsYoungBelowEnd }
+    ensures cut { said.OfEachBegun said.CutsItsLog }
+    ensures decided { said.OfEachBegun said.DecidesItsLog }
+    ensures ends { said.EndsRise }
+    ensures old { said.OfEachBegun said.IsOldBelow }
+    ensures covers { said.OfEachBegun said.CoversItsChains }
 {
     law_life_begins();
     law_ends_open();
@@ -65,9 +63,9 @@ pub fn law_cut_opens()
 /// In each such life the log has below the opened end what counted as the store was opened, of the opening's version, and no more. What is published from there
 /// on is of later versions. So lost ranges that lose just what the opening has left out do so at each moment.
 pub fn law_old_opens()
-    ensures before { old.OfEachLife old.KeepsWhatCounted }
-    ensures later { old.OfEachLife old.IsLaterAbove }
-    ensures loses { old.OfEachLife old.LosesAsBefore }
+    ensures before { said.OfEachLife said.KeepsWhatCounted }
+    ensures later { said.OfEachLife said.IsLaterAbove }
+    ensures loses { said.OfEachLife said.LosesAsBefore }
 {
     law_life_begins();
     law_versions_open();

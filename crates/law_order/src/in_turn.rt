@@ -1,7 +1,6 @@
 //! Of each life of a store that was opened: it begins as the laws of phases, versions and points ask. So commits' numbers are in turn, views have their floor,
 //! and one commit always stands.
-ghost use Rattle.law_order.specs.InTurn.Laws as commits;
-ghost use Rattle.law_order.specs.Rules.Openings as opens;
+ghost use Rattle.law_order.specs.Said as said;
 
 use crate::rules::{law_cuts_open, law_life_begins};
 use fkv_disk::Device;
@@ -12,9 +11,9 @@ use law_opening::{law_opened_commit_stands, law_told_opens};
 /// its lives, with commits, crashes and failing calls of the device, each commit that begins has the number behind the newest finished one's. So
 /// `law_world_one_commit_stands` speaks of each, if the opened bytes end behind slots and triples.
 pub fn law_phases_open()
-    ensures rests { commits.OpensItsStoreAtRest }
-    ensures in_turn { commits.NumbersItsCommitsInTurn }
-    ensures told { commits.TellsOfItsLife }
+    ensures rests { said.OpensItsStoreAtRest }
+    ensures in_turn { said.NumbersItsCommitsInTurn }
+    ensures told { said.TellsOfItsLife }
 {
     law_life_begins();
     law_begun();
@@ -26,10 +25,10 @@ pub fn law_phases_open()
 /// commit is written it has seen one at or above its end. So no two live sessions go by phases that exclude each other. The safe read-only offset is at or
 /// below the tail that each live session has seen with its phase. It is at or below the tail of a view that is coming, too.
 pub fn law_floor_opens()
-    ensures floor { commits.HasFloorInItsLife }
-    ensures near { commits.KeepsItsViewsNear }
-    ensures safe { commits.KeepsSafeBelowItsViews }
-    ensures coming { commits.KeepsSafeBelowItsComing }
+    ensures floor { said.HasFloorInItsLife }
+    ensures near { said.KeepsItsViewsNear }
+    ensures safe { said.KeepsSafeBelowItsViews }
+    ensures coming { said.KeepsSafeBelowItsComing }
 {
     law_life_begins();
     law_floor_stands();
@@ -39,7 +38,7 @@ pub fn law_floor_opens()
 /// The log of an opened store's image has no record of a later version than its phase word's, and none from its tail up. So the laws of versions hold of each
 /// of its lives.
 pub fn law_versions_open()
-    ensures { opens.OpensItsVersions }
+    ensures { said.OpensItsVersions }
 {
     law_phases_open();
     law_life_begins();
@@ -48,7 +47,7 @@ pub fn law_versions_open()
 /// The sessions of an opened store have seen that it rests, and its keeper seeks the points of all of them. So the laws of how a version ends hold of each of
 /// its lives.
 pub fn law_ends_open()
-    ensures { opens.OpensItsEnds }
+    ensures { said.OpensItsEnds }
 {
     law_phases_open();
     law_life_begins();
@@ -57,7 +56,7 @@ pub fn law_ends_open()
 /// The points of an opened store's newest commit are its sessions' serials, and its words show them. So the laws of the points that commits take hold of each of
 /// its lives.
 pub fn law_points_open()
-    ensures { opens.OpensItsPoints }
+    ensures { said.OpensItsPoints }
 {
     law_ends_open();
     law_cuts_open();
@@ -66,7 +65,7 @@ pub fn law_points_open()
 /// And behind any steps of an opened store's world one commit stands in each image that a crash leaves of the device: the newest finished one, or, while
 /// the next one is written, that one; with the triples of the checkpoint that the newest finished commit uses.
 pub fn law_commit_always_stands<D: Device>(device: &D)
-    ensures { commits.OneCommitAlwaysStands D.seen D.may_leave device.now }
+    ensures { said.OneCommitAlwaysStands D.seen D.may_leave device.now }
 {
     law_phases_open();
     law_opened_commit_stands(device);

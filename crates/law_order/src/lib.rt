@@ -68,3 +68,9 @@ pub use tickets::law_tickets_apart;
 pub use told::law_world_told;
 pub use truth::law_world_truth;
 pub use versions::{law_lives_bound_versions, law_lives_end_versions, law_lives_take_points};
+
+// What crates above name of the laws below, beside what `specs/Below.antt` shows.
+pub use law_commit::{law_of_the_past, law_world_requests, law_world_sessions};
+pub use law_opening::{
+    law_device_opens, law_guard_opens, law_log_opened, law_long_opens, law_new_stores,
+};

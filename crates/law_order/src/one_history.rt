@@ -1,29 +1,20 @@
 //! The order law of the engine, in every life.
-ghost use Rattle.law_opening.specs.Log.Lives.{KeepsRules};
-ghost use Rattle.law_order.specs.OneHistory.Beside.{HasItsHistory};
-ghost use Rattle.law_order.specs.OneHistory.EachLife as lives;
-ghost use Rattle.law_order.specs.Ordered.Keeps.{KeepsItsOrder};
-ghost use Rattle.law_order.specs.Ordered.Met.{SeeksItsReads};
-ghost use Rattle.law_order.specs.Rules.InTime.{ReadsInTime};
-ghost use Rattle.law_order.specs.Rules.Ordered as laws;
-ghost use Rattle.law_order.specs.Rules.Waiting.{WaitingReadsInTime};
+ghost use Rattle.law_order.specs.Said as said;
 
 use crate::fits::law_opening_fits;
 use crate::in_turn::{law_ends_open, law_versions_open};
 use crate::ordered::{law_reads_met, law_world_ordered};
 use crate::rules::{law_life_begins, law_order_of_rules};
 use law_commit::{
-    law_floor_stands, law_shares_not_missed, law_versions_counted, law_versions_end,
-    law_views_see_tails,
+    law_floor_stands, law_latched_in_tries, law_phases_are_seen, law_shares_not_missed,
+    law_versions_counted, law_versions_end, law_views_see_tails,
 };
 use law_opening::law_latches_open;
-use law_paper::law_phases_are_seen;
-use law_refine::law_latched_in_tries;
 
 /// Each life keeps order, with no further premise: it begins so, and what the induction is given of phases, latches and versions holds of each life. So each
 /// event of the log beside it is enabled, and what a session is about to change in place is published. And no attempt ends as a shift and isn't made again.
 pub fn law_lives_keep_order()
-    ensures { lives.InEachLife KeepsItsOrder }
+    ensures { said.InEachLife said.KeepsItsOrder }
 {
     law_life_begins();
     law_opening_fits();
@@ -42,7 +33,7 @@ pub fn law_lives_keep_order()
 
 /// In each life each read that waits seeks a record of the device, but for the one that is polled just then. No poll tries it again.
 pub fn law_lives_seek()
-    ensures { lives.InEachLife SeeksItsReads }
+    ensures { said.InEachLife said.SeeksItsReads }
 {
     law_life_begins();
     law_opening_fits();
@@ -61,7 +52,7 @@ pub fn law_lives_seek()
 
 /// So each life keeps to the rules of that log. What `law_log` says of logs holds beside each life.
 pub fn law_lives_keep_rules()
-    ensures { lives.InEachLife KeepsRules }
+    ensures { said.InEachLife said.KeepsRules }
 {
     law_lives_keep_order();
 }
@@ -69,7 +60,7 @@ pub fn law_lives_keep_rules()
 /// And that log has the history of the life, each effect in its version. For a record that is published has the version of its update's request, and so has one
 /// that is changed in place.
 pub fn law_history_beside()
-    ensures { lives.InEachLife HasItsHistory }
+    ensures { said.InEachLife said.HasItsHistory }
 {
     law_life_begins();
     law_lives_keep_order();
@@ -83,12 +74,12 @@ pub fn law_history_beside()
 /// of sessions begin. With commits or without, each action is run once at most. Each protected session then goes by what it loaded since the action's epoch
 /// was raised.
 pub fn law_order()
-    ensures legal { lives.InEachLife laws.HasLegalHistory }
-    ensures ordered { lives.InEachLife laws.OrdersItsCalls }
-    ensures fresh { lives.InEachLife laws.ReadsFreshly }
-    ensures in_time { lives.InEachLife ReadsInTime }
-    ensures guarded { lives.InEachLife laws.IsGuarded }
-    ensures once { lives.InEachLife laws.RunsActionsOnce }
+    ensures legal { said.InEachLife said.HasLegalHistory }
+    ensures ordered { said.InEachLife said.OrdersItsCalls }
+    ensures fresh { said.InEachLife said.ReadsFreshly }
+    ensures in_time { said.InEachLife said.ReadsInTime }
+    ensures guarded { said.InEachLife said.IsGuarded }
+    ensures once { said.InEachLife said.RunsActionsOnce }
 {
     law_order_of_rules();
     law_lives_keep_order();
@@ -97,7 +88,7 @@ pub fn law_order()
 /// In each life a read that waits has the value by then that its answer tells: that of its key at some moment between its call and any later one at which its
 /// session rests with it. What it seeks lies below the head, where no value changes, and no step searches for it again.
 pub fn law_waiting_reads()
-    ensures { lives.InEachLife WaitingReadsInTime }
+    ensures { said.InEachLife said.WaitingReadsInTime }
 {
     law_life_begins();
     law_lives_keep_order();

@@ -1,8 +1,7 @@
 //! Each life of a store that was opened keeps to the rules of the order law's log beside it.
 ghost use Rattle.law_order.specs.Ordered.Laws as orders;
 
-use fkv_flush::law_mail;
-use law_world::law_world_flushed_is_synced;
+use law_commit::{law_mail, law_world_flushed_is_synced};
 
 /// Every life that begins as a store was opened, calls with numbers below 2^64, and gives no ticket again while a request waits that has it, keeps order, with
 /// commits too: each event of the log beside it is enabled, what a session is about to change in place is published, and at each moment sessions know what

@@ -1,33 +1,28 @@
 //! The law of prefixes: what follows of its parts. The law itself is `PrefixLaw`; `law_prefix` shows it.
-ghost use Rattle.law_order.specs.OneHistory.EachLife.{InEachLife};
-ghost use Rattle.law_order.specs.Prefix.Durable.{ToldNeverFalls};
-ghost use Rattle.law_order.specs.Prefix.Law as said;
-ghost use Rattle.law_order.specs.Prefix.Slots.{HomesHaveSlots};
-ghost use Rattle.law_order.specs.Prefix.Stores as stores;
+ghost use Rattle.law_order.specs.Said as said;
 
 use crate::in_turn::{law_phases_open, law_points_open};
 use crate::law_images_read_back;
 use crate::rules::{law_cuts_open, law_life_begins};
 use law_commit::{
-    law_begun, law_points_between, law_points_taken, law_told_are_sealed, law_told_never_falls,
+    law_begun, law_heads, law_kept, law_points_between, law_points_taken, law_told_are_sealed,
+    law_told_never_falls, law_world_one_entry,
 };
 use law_opening::{
     law_guard_opens, law_lives_change_published, law_log_begins, law_log_beside, law_log_opened,
 };
-use law_paper::law_kept;
-use law_refine::{law_heads, law_world_one_entry};
 
 /// In each life the commits that are finished are the opening's and those that the keeper has told as finished, in their order. Each has the number and the
 /// points that were told.
 pub fn law_finished_is_told()
-    ensures { InEachLife said.TellsFinished }
+    ensures { said.InEachLife said.TellsFinished }
 {
     law_begun();
 }
 
 /// In each life each commit has the number behind that of the one before, from the opening's on.
 pub fn law_commits_in_turn()
-    ensures { InEachLife said.HasCommitsInTurn }
+    ensures { said.InEachLife said.HasCommitsInTurn }
 {
     law_life_begins();
     law_phases_open();
@@ -37,7 +32,7 @@ pub fn law_commits_in_turn()
 /// In each life a commit's points are fair, from the moment at which they are taken. Each is no less than what its session had given as the commit was asked for,
 /// no more than what the session has given by then, and no less than its point in the commit before. A commit that has begun has the points that were taken.
 pub fn law_points_are_fair()
-    ensures { InEachLife said.HasFairPoints }
+    ensures { said.InEachLife said.HasFairPoints }
 {
     law_points_open();
     law_points_taken();
@@ -47,7 +42,7 @@ pub fn law_points_are_fair()
 /// In each life what a session was told as durable is its point in a commit whose open gate is synced. It is no less than its point in each commit that was told
 /// as finished before its call.
 pub fn law_durable_is_sealed()
-    ensures { InEachLife said.TellsDurable }
+    ensures { said.InEachLife said.TellsDurable }
 {
     law_points_open();
     law_cuts_open();
@@ -56,7 +51,7 @@ pub fn law_durable_is_sealed()
 
 /// And no answer to a session tells less as durable than an earlier one.
 pub fn law_durable_never_falls()
-    ensures { InEachLife ToldNeverFalls }
+    ensures { said.InEachLife said.ToldNeverFalls }
 {
     law_points_open();
     law_cuts_open();
@@ -68,7 +63,7 @@ pub fn law_durable_never_falls()
 /// before. That is legal with the replies that were given, and has each session's serials up to its point once.
 pub fn law_lives()
     ensures reach { said.LivesReachFar }
-    ensures follow { InEachLife said.RecoversPrefix → said.LivesFollow }
+    ensures follow { said.InEachLife said.RecoversPrefix → said.LivesFollow }
 {
     law_images_read_back();
 }
@@ -77,7 +72,7 @@ pub fn law_lives()
 /// commit's. Its points keep just what the log has of these. `law_paper` shows the one of each image with a commit in force, and the other of each commit's
 /// points.
 pub fn law_join()
-    ensures { stores.JoinsValuesAndPoints }
+    ensures { said.JoinsValuesAndPoints }
 {
     law_log_opened();
 }
@@ -86,8 +81,8 @@ pub fn law_join()
 /// versions up to a commit's, and let its points keep just the updates of these. Then its map is the life's first one, behind a replay of these updates. The
 /// replay is legal with the replies that were given.
 pub fn law_replays_kept()
-    ensures pairs { stores.OfEachCommit stores.ReplaysKept }
-    ensures legal { stores.OfEachCommit stores.KeepsLegally }
+    ensures pairs { said.OfEachCommit said.ReplaysKept }
+    ensures legal { said.OfEachCommit said.KeepsLegally }
 {
     law_guard_opens();
     law_log_begins();
@@ -100,7 +95,7 @@ pub fn law_replays_kept()
 /// have the same. For each chain begins where the entry of its home leads, and a home has one entry at most. So recovery's index has room, in each image of the
 /// store's shape.
 pub fn law_slots_open()
-    ensures { HomesHaveSlots }
+    ensures { said.HomesHaveSlots }
 {
     law_life_begins();
     law_lives_change_published();

@@ -1,7 +1,5 @@
 //! Versions, how they end, and the points of commits, in the lives of opened stores.
-ghost use Rattle.law_order.specs.Decided.Laws.{InItsLife};
-ghost use Rattle.law_order.specs.Opened as opened;
-ghost use Rattle.law_order.specs.Versions as versions;
+ghost use Rattle.law_order.specs.Said as said;
 
 use crate::in_turn::{law_ends_open, law_points_open, law_versions_open};
 use crate::rules::law_cuts_open;
@@ -16,16 +14,16 @@ use law_commit::{
 /// so what a session has seen older stays older. An effect is of the version at which its update was accepted. A session's point of a version that it has left
 /// splits its effects by version.
 pub fn law_lives_bound_versions()
-    ensures requests { opened.OfItsSessions versions.AsksFromFirst }
-    ensures reserves { opened.OfItsLives versions.TakesForAttempted }
-    ensures between { opened.OfItsLives versions.TakesFromFirst }
-    ensures cells { InItsLife versions.RecordsUptoNow }
-    ensures always { InItsLife versions.RecordsUptoBetween }
-    ensures from_first { InItsLife versions.RecordsFromFirst }
-    ensures keeps { InItsLife versions.RecordsKeepVersions }
-    ensures older { InItsLife versions.RecordsSeenOlder }
-    ensures effects { opened.OfItsSessions versions.EffectsOfVersions }
-    ensures points { opened.OfItsSessions versions.LeftPointSplits }
+    ensures requests { said.OfItsSessions said.AsksFromFirst }
+    ensures reserves { said.OfItsLives said.TakesForAttempted }
+    ensures between { said.OfItsLives said.TakesFromFirst }
+    ensures cells { said.InItsLife said.RecordsUptoNow }
+    ensures always { said.InItsLife said.RecordsUptoBetween }
+    ensures from_first { said.InItsLife said.RecordsFromFirst }
+    ensures keeps { said.InItsLife said.RecordsKeepVersions }
+    ensures older { said.InItsLife said.RecordsSeenOlder }
+    ensures effects { said.OfItsSessions said.EffectsOfVersions }
+    ensures points { said.OfItsSessions said.LeftPointSplits }
 {
     law_versions_open();
     law_versions_bounded();
@@ -38,16 +36,16 @@ pub fn law_lives_bound_versions()
 /// shares for what waits, each update that waits is of the version that the phase word says. From wait-pending on its point of the commit's number stays, and
 /// splits its effects by version at each later moment. Each commit that has begun has come to wait-flush.
 pub fn law_lives_end_versions()
-    ensures ranks { opened.OfItsLives versions.RankGoesOn }
-    ensures live { opened.OfItsSessions versions.LiveIsLater }
-    ensures gone { opened.OfItsSessions versions.GetsNoneBack }
-    ensures owes { opened.OfItsSessions versions.HasNoneAtZero }
-    ensures left { opened.OfItsSessions versions.HasNoneLeft }
-    ensures before { opened.OfItsSessions versions.UpdatesOwnOrBefore }
-    ensures latches { opened.OfItsSessions versions.LatchesForSaid }
-    ensures points { opened.OfItsSessions versions.PointStays }
-    ensures splits { opened.OfItsSessions versions.PointSplitsThen }
-    ensures begun { opened.OfItsLives versions.BegunFlush }
+    ensures ranks { said.OfItsLives said.RankGoesOn }
+    ensures live { said.OfItsSessions said.LiveIsLater }
+    ensures gone { said.OfItsSessions said.GetsNoneBack }
+    ensures owes { said.OfItsSessions said.HasNoneAtZero }
+    ensures left { said.OfItsSessions said.HasNoneLeft }
+    ensures before { said.OfItsSessions said.UpdatesOwnOrBefore }
+    ensures latches { said.OfItsSessions said.LatchesForSaid }
+    ensures points { said.OfItsSessions said.PointStays }
+    ensures splits { said.OfItsSessions said.PointSplitsThen }
+    ensures begun { said.OfItsLives said.BegunFlush }
 {
     law_ends_open();
     law_versions_end();
@@ -59,15 +57,15 @@ pub fn law_lives_end_versions()
 /// finished one. None of the commit in hand is less than the newest finished one's. A point is no less than what its session had given as the commit was asked
 /// for, and no more than what it has given.
 pub fn law_lives_take_points()
-    ensures shown { opened.OfItsSessions versions.CutsShowItsPoint }
-    ensures cuts { opened.OfItsSessions versions.ItsCutsGoOn }
-    ensures taken { opened.OfItsLives versions.TakesItsPoints }
-    ensures begun { opened.OfItsLives versions.BegunHaveItsPoints }
-    ensures in_hand { opened.OfItsLives versions.NewestIsAsTaken }
-    ensures last { opened.OfItsLives versions.LastHasItsPoints }
-    ensures risen { opened.OfItsLives versions.PointsRiseFromLast }
-    ensures since { opened.OfItsLives versions.PointsSinceAsked }
-    ensures given { opened.OfItsLives versions.PointsUpToGiven }
+    ensures shown { said.OfItsSessions said.CutsShowItsPoint }
+    ensures cuts { said.OfItsSessions said.ItsCutsGoOn }
+    ensures taken { said.OfItsLives said.TakesItsPoints }
+    ensures begun { said.OfItsLives said.BegunHaveItsPoints }
+    ensures in_hand { said.OfItsLives said.NewestIsAsTaken }
+    ensures last { said.OfItsLives said.LastHasItsPoints }
+    ensures risen { said.OfItsLives said.PointsRiseFromLast }
+    ensures since { said.OfItsLives said.PointsSinceAsked }
+    ensures given { said.OfItsLives said.PointsUpToGiven }
 {
     law_cuts_open();
     law_ends_open();

@@ -2,3 +2,4 @@ mod OfApart
 mod OfKept
 mod OfPaper
 mod OfPhases
+pub mod Below

@@ -12,3 +12,6 @@ pub use paper::{
     law_kept_paper_is_sound, law_old_paper_is_sound, law_opened_paper_is_sound, law_paper_is_sound,
 };
 pub use phases::law_phases_are_seen;
+
+// What crates above name of the laws below, beside what `specs/Below.antt` shows.
+pub use fkv_pairs::law_chain_of_entry;

@@ -4,12 +4,11 @@ ghost use Rattle.law_program.specs.Said as said;
 use crate::each_life::law_each_life;
 use crate::interleaved::law_interleaved;
 use crate::noted::law_noted;
-use fkv_creating::law_new_stores;
 use fkv_disk::Device;
 use fkv_runs::Crashes;
-use law_opening::{law_log_opened, law_long_opens};
-use law_order::{law_lives, law_prefix};
-use law_world::law_of_the_past;
+use law_order::{
+    law_lives, law_log_opened, law_long_opens, law_new_stores, law_of_the_past, law_prefix,
+};
 
 /// Over honest devices each crash of a run reports what its points keep of all lives before it. So it is whatever calls are interleaved, wherever the crash strikes, if
 /// the pieces of the run begin few calls. The pairs are the map with which the first life began, behind a replay of the updates that are kept of all lives. The store

@@ -3,9 +3,7 @@ ghost use Rattle.law_program.specs.Said as said;
 
 use crate::each_life::law_each_life;
 use fkv_runs::Crashes;
-use law_opening::law_log_opened;
-use law_order::law_images_recovered;
-use law_world::law_of_the_past;
+use law_order::{law_images_recovered, law_log_opened, law_of_the_past};
 
 /// Take a crash of a run, in a life that began with an image which reaches far. Whatever calls are in hand, its report is of the store that one current commit
 /// keeps of the life. The pairs are the map with which the life began, behind a replay of just the updates up to each session's point. The next life begins with

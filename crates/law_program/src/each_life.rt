@@ -5,7 +5,7 @@ use crate::each_line::law_each_line;
 use crate::interleaved::law_interleaved;
 use fkv_disk::Device;
 use fkv_runs::Crashes;
-use law_opening::law_log_opened;
+use law_order::law_log_opened;
 
 /// Over an honest device of which a crash leaves just a store's image a life of that store begins, which shows the world and the device. So it is behind each
 /// crash: the report is of a store that the image of the crash holds, and its pairs are the map with which the next life begins. So `law_each_line` speaks of the

@@ -2,10 +2,9 @@
 ghost use Rattle.law_program.specs.Said as said;
 
 use crate::played_calls::law_played_scripts;
-use fkv_creating::law_new_stores;
 use fkv_playing::Breaks;
 use fkv_runs::Crashes;
-use law_opening::law_log_opened;
+use law_order::{law_log_opened, law_new_stores};
 
 /// The life of a new store begins quietly, whatever holds it: over bytes as `create` leaves them, and with no call in hand. So
 /// `law_played_calls` speaks of each line that is played over a new store in a file, though nobody can tell what a file holds. And a script of operations

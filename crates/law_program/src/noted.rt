@@ -4,7 +4,7 @@ ghost use Rattle.law_program.specs.Said as said;
 use fkv_disk::Device;
 use fkv_playing::Breaks;
 use law_answers::law_effects_told;
-use law_opening::law_guard_opens;
+use law_order::law_guard_opens;
 
 /// If a player keeps the history, it notes each update as it takes effect, and once. It asks for a session's effect behind each move, and a move is made just where
 /// the session's call is in hand. So what it has noted is the life's own history, behind what was kept of the lives before. Over honest devices that is so

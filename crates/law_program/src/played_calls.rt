@@ -4,8 +4,7 @@ ghost use Rattle.law_program.specs.Said as said;
 use crate::whole_calls::law_whole_calls;
 use fkv_playing::Breaks;
 use fkv_runs::Crashes;
-use law_opening::law_log_opened;
-use law_order::law_order;
+use law_order::{law_log_opened, law_order};
 
 /// In a life of an opened store, with commits too, in which no session has a call in hand, an operation that is played alone prints an answer that is the
 /// map's: each reply is the map's on the history so far, and each read gives its key's value in its content. The life goes on with it, and again no session

@@ -9,3 +9,4 @@ pub mod OfMail
 pub mod OfRecords
 pub mod OfResults
 pub mod OfSeen
+pub mod Below

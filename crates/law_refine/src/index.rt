@@ -1,7 +1,7 @@
 //! How a session's search of the index goes on, at every moment of its runs, and that each home has one entry at most in every life.
 ghost use Rattle.std.specs.Prelude.{List, ℕ};
-ghost use Rattle.fkv_world.specs.World.{Event};
-ghost use Rattle.fkv_world.specs.Runs.{World, run};
+ghost use Rattle.law_world.specs.Below.fkv_world.World.{Event};
+ghost use Rattle.law_world.specs.Below.fkv_world.Runs.{World, run};
 ghost use Rattle.law_refine.specs.Index.LifeEntries.{AtEachMoment, IsIndexNow, AreAnsweredSo, AreSlotsKept, AreOrders, AskForThese, EachMovesIndex};
 ghost use Rattle.law_refine.specs.Index.Searching.{AreSearchesMoved};
 ghost use Rattle.law_refine.specs.Index.Shows.{ArePermitted, IsOpened, Shows, seen_by_index};

@@ -1,8 +1,8 @@
 //! What the latches keep apart holds of every life of the engine.
 ghost use Rattle.std.specs.Prelude.{List};
 ghost use Rattle.fkv_latch.specs.Latched.{AreCounted, AreLatchesApart};
-ghost use Rattle.fkv_world.specs.World.{Event};
-ghost use Rattle.fkv_world.specs.Runs.{World, run};
+ghost use Rattle.law_world.specs.Below.fkv_world.World.{Event};
+ghost use Rattle.law_world.specs.Below.fkv_world.Runs.{World, run};
 ghost use Rattle.law_refine.specs.Latches.InTries.{ShareInTries, StandsBesideNone};
 ghost use Rattle.law_refine.specs.Latches.Shows.{AreApart, ArePermitted, IsOpened, Shows, seen_by_latches};
 

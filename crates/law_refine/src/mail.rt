@@ -1,15 +1,14 @@
 //! What goes through a session's mailbox in every life of the engine.
 ghost use Rattle.std.specs.Prelude.{List, ℕ};
-ghost use Rattle.fkv_pending.specs.Mailbox.{AreInTurn, past_of};
-ghost use Rattle.fkv_world.specs.World.{Event};
-ghost use Rattle.fkv_world.specs.Runs.{World, run};
+ghost use Rattle.law_world.specs.Below.fkv_pending.Mailbox.{AreInTurn, past_of};
+ghost use Rattle.law_world.specs.Below.fkv_world.World.{Event};
+ghost use Rattle.law_world.specs.Below.fkv_world.Runs.{World, run};
 ghost use Rattle.law_refine.specs.Mail.MailEvents.{mapped};
 ghost use Rattle.law_refine.specs.Mail.Reads.{EachChangesBy, TakesWhatWasRead};
 ghost use Rattle.law_refine.specs.Mail.Shows.{ArePermitted, IsOpened, Shows, mail_opening, seen_by_mailbox};
 ghost use Rattle.law_refine.specs.Mail.Stood.{ReadsWhatStood};
 
-use fkv_pending::law_mailbox;
-use law_world::law_world_flushed_is_synced;
+use law_world::{law_mailbox, law_world_flushed_is_synced};
 
 /// Over every life of the engine that begins as a store was opened, whatever its calls, commits, turns and the order of its steps: each
 /// ask of another session, each of the mailbox's session where no task with the mailbox is under way, and each of the keeper where it

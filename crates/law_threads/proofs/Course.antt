@@ -6,20 +6,20 @@ use Rattle.fkv_epoch.proofs.Shown.{some_same}
 use Rattle.fkv_map.specs.declared.operations.Call.{Call}
 use Rattle.fkv_seats.specs.declared.views.Role.TheVariants.{Sits}
 use Rattle.fkv_seats.specs.Rule.{led, speaks}
-use Rattle.fkv_session.specs.declared.answers.Finished.{Finished}
-use Rattle.fkv_session.specs.declared.answers.Told.{Told}
-use Rattle.fkv_session.specs.declared.sessions.Sitting.{Sitting}
-use Rattle.fkv_session.specs.declared.sessions.Sitting.TheVariants.{Idle}
-use Rattle.fkv_session.specs.SessionRun.{telling}
-use Rattle.fkv_session.specs.Sessions.{SessionState, is_busy, session_begun}
-use Rattle.fkv_world.specs.Past.{Traced, TraceEvent, Called, Answered}
-use Rattle.fkv_world.specs.Runs.{World, happens}
-use Rattle.fkv_world.specs.World as world
-use Rattle.law_world.specs.Runs.Added.{begun_by, call_answered, call_begun, ended_by, told_at, told_by}
-use Rattle.law_world.proofs.OfRuns.Added.{trace_so}
-use Rattle.law_refine.proofs.OfCalls.Telling.{AreOfKeeper, alive_told, is_of_keeper}
-use Rattle.law_refine.proofs.OfCalls.Called.{is_other}
-use Rattle.law_refine.proofs.OfCalls.Life.{AreOthers, keepers_other}
+use Rattle.law_order.specs.Below.fkv_session.Finished.{Finished}
+use Rattle.law_order.specs.Below.fkv_session.Told.{Told}
+use Rattle.law_order.specs.Below.fkv_session.Sitting.{Sitting}
+use Rattle.law_order.specs.Below.fkv_session.Sitting.TheVariants.{Idle}
+use Rattle.law_order.specs.Below.fkv_session.SessionRun.{telling}
+use Rattle.law_order.specs.Below.fkv_session.Sessions.{SessionState, is_busy, session_begun}
+use Rattle.law_order.specs.Below.fkv_world.Past.{Traced, TraceEvent, Called, Answered}
+use Rattle.law_order.specs.Below.fkv_world.Runs.{World, happens}
+use Rattle.law_order.specs.Below.fkv_world.World as world
+use Rattle.law_order.specs.Below.law_world.Runs.Added.{begun_by, call_answered, call_begun, ended_by, told_at, told_by}
+use Rattle.law_order.proofs.Below.law_world.OfRuns.Added.{trace_so}
+use Rattle.law_order.proofs.Below.law_refine.OfCalls.Telling.{AreOfKeeper, alive_told, is_of_keeper}
+use Rattle.law_order.proofs.Below.law_refine.OfCalls.Called.{is_other}
+use Rattle.law_order.proofs.Below.law_refine.OfCalls.Life.{AreOthers, keepers_other}
 use Rattle.law_order.proofs.OfReads.LifeNumbers.{begins_other, begins_trace, goes_other}
 use Rattle.law_order.proofs.OfReads.Turns.{Goes, Turn, Rests, BeginsOne, GoesOne, moved_to, turn_of}
 use Rattle.fkv_table.specs.Calls.{OnlyMoves}

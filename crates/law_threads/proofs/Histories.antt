@@ -1,14 +1,14 @@
 -- The history of what was seen is a beginning of that of what is seen later.
 use Rattle.std.proofs.Common.{◌≡◌, inl, inr, ℕ, ◌∙◌, refl, sym, ap, subst, List, [], ◌∷◌, ◌++◌, append-nil, append_assoc}
-use Rattle.fkv_core.specs.Openings.{beginning}
+use Rattle.law_order.specs.Below.fkv_core.Openings.{beginning}
 use Rattle.fkv_map.specs.declared.history.HistoryEntry.{HistoryEntry}
-use Rattle.fkv_world.specs.Past.{Effect}
-use Rattle.fkv_world.specs.Runs.{World, happens, run}
-use Rattle.fkv_world.specs.World.{Event, Now}
+use Rattle.law_order.specs.Below.fkv_world.Past.{Effect}
+use Rattle.law_order.specs.Below.fkv_world.Runs.{World, happens, run}
+use Rattle.law_order.specs.Below.fkv_world.World.{Event, Now}
 use Rattle.law_log.specs.Trace.{history_of}
-use Rattle.law_world.specs.Runs.Added.{IsHistoryAfter}
-use Rattle.law_world.proofs.OfRuns.Added.{history_so}
-use Rattle.law_refine.specs.Calls.Calls.{effects_in_log}
+use Rattle.law_order.specs.Below.law_world.Runs.Added.{IsHistoryAfter}
+use Rattle.law_order.proofs.Below.law_world.OfRuns.Added.{history_so}
+use Rattle.law_order.specs.Below.law_refine.Calls.Calls.{effects_in_log}
 use Rattle.fkv_table.specs.declared.happenings.Happening.{Happening}
 use Rattle.fkv_table.specs.Events.{event_of}
 use Rattle.law_threads.specs.Calls.{events_of}

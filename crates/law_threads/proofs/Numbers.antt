@@ -6,7 +6,7 @@ use Rattle.fkv_map.specs.declared.operations.Call.TheVariants as call
 use Rattle.fkv_map.specs.declared.operations.Op.{Op}
 use Rattle.fkv_map.specs.declared.operations.Op.TheVariants.{Upsert, Delete, Add, Max, Read}
 use Rattle.fkv_seats.specs.Rule.{AreAllowed}
-use Rattle.fkv_world.specs.Runs.{World}
+use Rattle.law_order.specs.Below.fkv_world.Runs.{World}
 use Rattle.law_order.specs.Served.Fits.{CallsFit, EventFits}
 use Rattle.fkv_table.specs.declared.happenings.Happening.{Happening}
 use Rattle.fkv_table.specs.declared.happenings.Happening.TheVariants.{Calls, Moves, Commits, Turns, KeeperMoves}

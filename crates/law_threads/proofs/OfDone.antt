@@ -3,33 +3,33 @@ use Rattle.std.proofs.Common.{◌≡◌, ℕ, suc, ◌+◌, ◌∙◌, refl, sym
 use Rattle.std.specs.Prelude.{Option, Some, None, cond, ◌&&◌, nat_eq, slice_get, if◌then◌else◌}
 use Rattle.std.proofs.lemmas.Bool.Decides.{nat_tests}
 use Rattle.fkv_base.specs.declared.numbers.Serial.{Serial}
-use Rattle.fkv_core.specs.Openings.{beginning}
+use Rattle.law_order.specs.Below.fkv_core.Openings.{beginning}
 use Rattle.fkv_map.specs.declared.operations.Call.{Call}
 use Rattle.fkv_map.specs.declared.operations.Call.TheVariants as call
 use Rattle.fkv_map.specs.declared.operations.Op.{Op}
 use Rattle.fkv_map.specs.declared.operations.Op.TheVariants.{Read}
 use Rattle.fkv_map.specs.declared.operations.Reply.{Reply}
-use Rattle.fkv_opening.specs.declared.opened_store.Opened.{Opened}
-use Rattle.fkv_session.specs.declared.answers.Answer.TheVariants as answer
-use Rattle.fkv_session.specs.declared.answers.Told.{Told}
-use Rattle.fkv_session.specs.declared.answers.Told.TheVariants as told
-use Rattle.fkv_session.specs.Accounts.{AreInTurn, serials_after, serials_given}
-use Rattle.fkv_session.specs.SessionRun.{Telling, telling}
-use Rattle.fkv_session.specs.Sessions.{SessionState}
-use Rattle.fkv_world.specs.Opened.{HasBecome, IsOpenedWorld, answer_to, answers_of, life_told}
-use Rattle.fkv_world.specs.Past.{Traced, TraceEvent, Called, Answered}
-use Rattle.fkv_world.specs.Runs.{World, run}
-use Rattle.fkv_world.specs.World.{Event, Now}
+use Rattle.law_order.specs.Below.fkv_opening.TheOpened.{Opened}
+use Rattle.law_order.specs.Below.fkv_session.Answer.TheVariants as answer
+use Rattle.law_order.specs.Below.fkv_session.Told.{Told}
+use Rattle.law_order.specs.Below.fkv_session.Told.TheVariants as told
+use Rattle.law_order.specs.Below.fkv_session.Accounts.{AreInTurn, serials_after, serials_given}
+use Rattle.law_order.specs.Below.fkv_session.SessionRun.{Telling, telling}
+use Rattle.law_order.specs.Below.fkv_session.Sessions.{SessionState}
+use Rattle.law_order.specs.Below.fkv_world.Opened.{HasBecome, IsOpenedWorld, answer_to, answers_of, life_told}
+use Rattle.law_order.specs.Below.fkv_world.Past.{Traced, TraceEvent, Called, Answered}
+use Rattle.law_order.specs.Below.fkv_world.Runs.{World, run}
+use Rattle.law_order.specs.Below.fkv_world.World.{Event, Now}
 use Rattle.law_log.specs.Trace.{GivesResult, HasReply, IsIn, OrdersCalls, called_as}
-use Rattle.law_refine.specs.Calls.Calls.{effects_of_life, lines_of_life}
-use Rattle.law_refine.specs.Events.GhostEvents.{serial_in, serials_in}
-use Rattle.law_refine.specs.Events.Lines.{lines_of, newest_serial, next_serial}
-use Rattle.law_refine.proofs.OfCalls.Called as ledgers
-use Rattle.law_refine.proofs.OfCalls.Called.{ledger_of, other_told}
-use Rattle.law_refine.proofs.OfCalls.InHand.{WasOpened, was_opened}
-use Rattle.law_refine.proofs.OfCalls.Life.{idle_calm, life_stood, next_at, told_so}
+use Rattle.law_order.specs.Below.law_refine.Calls.Calls.{effects_of_life, lines_of_life}
+use Rattle.law_order.specs.Below.law_refine.Events.GhostEvents.{serial_in, serials_in}
+use Rattle.law_order.specs.Below.law_refine.Events.Lines.{lines_of, newest_serial, next_serial}
+use Rattle.law_order.proofs.Below.law_refine.OfCalls.Called as ledgers
+use Rattle.law_order.proofs.Below.law_refine.OfCalls.Called.{ledger_of, other_told}
+use Rattle.law_order.proofs.Below.law_refine.OfCalls.InHand.{WasOpened, was_opened}
+use Rattle.law_order.proofs.Below.law_refine.OfCalls.Life.{idle_calm, life_stood, next_at, told_so}
 use Rattle.law_order.specs.Rules.Ordered.{OrdersItsCalls}
-use Rattle.law_refine.proofs.OfCalls.Called.{is_other}
+use Rattle.law_order.proofs.Below.law_refine.OfCalls.Called.{is_other}
 use Rattle.fkv_table.specs.declared.happenings.Happening.{Happening}
 use Rattle.fkv_table.proofs.Lives.{led_run}
 use Rattle.law_threads.specs.Calls.{CallRun, HasRun, IsOver, events_of}

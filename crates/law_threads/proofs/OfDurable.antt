@@ -2,33 +2,33 @@
 use Rattle.std.proofs.Common.{◌≡◌, inl, inr, ℕ, ◌<◌, ◌≤◌, ◌∙◌, refl, sym, ap, subst, arith, Bool, true, false, List, [], ◌∷◌, ◌++◌, length, append_assoc}
 use Rattle.std.specs.Prelude.{◌==◌, if◌then◌else◌, slice_get}
 use Rattle.fkv_base.specs.declared.numbers.Serial.{Serial}
-use Rattle.fkv_core.specs.Openings.{beginning}
+use Rattle.law_order.specs.Below.fkv_core.Openings.{beginning}
 use Rattle.fkv_disk.specs.Calls.{MayLeave}
-use Rattle.fkv_keeper.specs.declared.answers.KeeperTold.TheVariants.{Turned}
+use Rattle.law_order.specs.Below.fkv_keeper.KeeperTold.TheVariants.{Turned}
 use Rattle.fkv_map.specs.declared.operations.Call.{Call}
 use Rattle.fkv_map.specs.History.{point_of}
-use Rattle.fkv_opening.specs.Opened.{IsStoreOf}
-use Rattle.fkv_opening.specs.declared.opened_store.Opened.{Opened}
+use Rattle.law_order.specs.Below.fkv_opening.Opened.{IsStoreOf}
+use Rattle.law_order.specs.Below.fkv_opening.TheOpened.{Opened}
 use Rattle.fkv_seats.specs.Rule.{AreAllowed, led}
 use Rattle.fkv_seats.proofs.Keeps.{allowed_both}
-use Rattle.fkv_session.specs.declared.answers.Answer.TheVariants as answer
-use Rattle.fkv_session.specs.declared.answers.Finished.{Finished}
-use Rattle.fkv_session.specs.declared.answers.Told.{Told}
-use Rattle.fkv_session.specs.declared.answers.Told.TheVariants as told
-use Rattle.fkv_world.specs.Past.{Traced, TraceEvent, Called, Answered, KeeperAnswered}
-use Rattle.fkv_world.specs.Runs.{World, happens, run}
-use Rattle.fkv_world.specs.World.{Event, Now}
-use Rattle.law_commit.specs.ToldDurable.{NoneFalls}
-use Rattle.law_commit.specs.ToldPoints.{ToldPoint, and_one_finished, at_call_by, finishes_at_call, finishes_told, points_told, with_durable, with_point}
+use Rattle.law_order.specs.Below.fkv_session.Answer.TheVariants as answer
+use Rattle.law_order.specs.Below.fkv_session.Finished.{Finished}
+use Rattle.law_order.specs.Below.fkv_session.Told.{Told}
+use Rattle.law_order.specs.Below.fkv_session.Told.TheVariants as told
+use Rattle.law_order.specs.Below.fkv_world.Past.{Traced, TraceEvent, Called, Answered, KeeperAnswered}
+use Rattle.law_order.specs.Below.fkv_world.Runs.{World, happens, run}
+use Rattle.law_order.specs.Below.fkv_world.World.{Event, Now}
+use Rattle.law_order.specs.Below.law_commit.ToldDurable.{NoneFalls}
+use Rattle.law_order.specs.Below.law_commit.ToldPoints.{ToldPoint, and_one_finished, at_call_by, finishes_at_call, finishes_told, points_told, with_durable, with_point}
 use Rattle.law_log.specs.Trace.{IsIn}
-use Rattle.law_world.specs.Runs.Added.{told_at, told_by}
-use Rattle.law_world.proofs.OfRuns.Added.{trace_so}
-use Rattle.law_opening.specs.Lives.Reaching.{ReachesFar}
+use Rattle.law_order.specs.Below.law_world.Runs.Added.{told_at, told_by}
+use Rattle.law_order.proofs.Below.law_world.OfRuns.Added.{trace_so}
+use Rattle.law_order.specs.Below.law_opening.Lives.Reaching.{ReachesFar}
 use Rattle.law_order.specs.OneHistory.EachLife.{InEachLife, IsLife}
 use Rattle.law_order.specs.Prefix.Durable.{ToldNeverFalls}
 use Rattle.law_order.specs.Prefix.Law.{HoldsPrefix, IsKeptOf, PrefixLaw, RecoversPrefix, TellsDurable, calls_so_far, past_so_far, trace_so_far}
-use Rattle.law_refine.proofs.OfCalls.Called.{is_other}
-use Rattle.law_refine.proofs.OfCalls.InHand.{WasOpened, was_opened}
+use Rattle.law_order.proofs.Below.law_refine.OfCalls.Called.{is_other}
+use Rattle.law_order.proofs.Below.law_refine.OfCalls.InHand.{WasOpened, was_opened}
 use Rattle.fkv_table.specs.declared.happenings.Happening.{Happening}
 use Rattle.fkv_table.specs.Events.{event_of}
 use Rattle.fkv_table.specs.Planes.{plane}

@@ -2,28 +2,28 @@
 use Rattle.std.proofs.Common.{◌≡◌, ◌⊎◌, inl, inr, ℕ, ◌∙◌, List, [], ◌∷◌, ◌++◌, refl, ap, sym, subst, Bool, true, false}
 use Rattle.std.specs.Prelude.{Option, Some, None, if◌then◌else◌}
 use Rattle.fkv_base.specs.declared.shapes.Shape.{Shape}
-use Rattle.fkv_keeper.specs.CheckpointLaws.{MayFollow}
-use Rattle.fkv_keeper.specs.declared.answers.KeeperTold.{KeeperTold}
-use Rattle.fkv_keeper.specs.declared.answers.KeeperTold.TheVariants.{Device, Turned}
-use Rattle.fkv_keeper.specs.declared.keepers.Keeping.{Keeping}
-use Rattle.fkv_keeper.specs.declared.keepers.Keeping.TheVariants.{Ended, Starts, Maintains, LoadsPhase, Enters, Copies, Seeks, Waits, Writes, Finishes}
-use Rattle.fkv_keeper.specs.Keeping.{KeeperState, keeper_ask, keeper_next, keeping_called, keeping_given, keeping_next}
-use Rattle.fkv_keeper.specs.KeeperRun.{KeeperEvent, BeginsTurn, BeginsCommit, Replies, Gets, Calls, IsOpened, is_calling, keeper_happens, keeper_run}
-use Rattle.fkv_keeper.proofs.Shown.{each_move, run_number}
+use Rattle.law_order.specs.Below.fkv_keeper.CheckpointLaws.{MayFollow}
+use Rattle.law_order.specs.Below.fkv_keeper.KeeperTold.{KeeperTold}
+use Rattle.law_order.specs.Below.fkv_keeper.KeeperTold.TheVariants.{Device, Turned}
+use Rattle.law_order.specs.Below.fkv_keeper.TheKeeping.{Keeping}
+use Rattle.law_order.specs.Below.fkv_keeper.TheKeeping.TheVariants.{Ended, Starts, Maintains, LoadsPhase, Enters, Copies, Seeks, Waits, Writes, Finishes}
+use Rattle.law_order.specs.Below.fkv_keeper.Keeping.{KeeperState, keeper_ask, keeper_next, keeping_called, keeping_given, keeping_next}
+use Rattle.law_order.specs.Below.fkv_keeper.KeeperRun.{KeeperEvent, BeginsTurn, BeginsCommit, Replies, Gets, Calls, IsOpened, is_calling, keeper_happens, keeper_run}
+use Rattle.law_order.proofs.Below.fkv_keeper.Shown.{each_move, run_number}
 use Rattle.fkv_plane.specs.Asked.{reply_to}
 use Rattle.fkv_plane.specs.Plane.{action_at}
 use Rattle.fkv_plane.specs.declared.actions.Action.{Action}
 use Rattle.fkv_plane.specs.declared.asks.Ask.{Ask}
 use Rattle.fkv_plane.specs.declared.asks.Ask.TheVariants.{Put, Take, Done}
 use Rattle.fkv_plane.specs.declared.places.Places.{Places}
-use Rattle.fkv_world.specs.Opened.{IsOpenedWorld}
-use Rattle.fkv_world.specs.OwnEvents.{keeper_events, keeper_got, keeper_part, keeper_part_of, keeper_slots, keeper_steps}
-use Rattle.fkv_world.specs.Runs.{World, read_by_keeper, run}
-use Rattle.fkv_world.specs.World as world
-use Rattle.fkv_world.specs.World.{Event, near}
-use Rattle.law_world.proofs.OfKeeper.OwnRun.{of_keeper, to_keeper}
-use Rattle.law_commit.specs.BegunCommits.{AtKeeping, BegunCommit, IsInHand, begun_by, commit_opened, commits_begun, life_begun, with_finished}
-use Rattle.law_commit.proofs.Shown.{life_stands}
+use Rattle.law_order.specs.Below.fkv_world.Opened.{IsOpenedWorld}
+use Rattle.law_order.specs.Below.fkv_world.OwnEvents.{keeper_events, keeper_got, keeper_part, keeper_part_of, keeper_slots, keeper_steps}
+use Rattle.law_order.specs.Below.fkv_world.Runs.{World, read_by_keeper, run}
+use Rattle.law_order.specs.Below.fkv_world.World as world
+use Rattle.law_order.specs.Below.fkv_world.World.{Event, near}
+use Rattle.law_order.proofs.Below.law_world.OfKeeper.OwnRun.{of_keeper, to_keeper}
+use Rattle.law_order.specs.Below.law_commit.BegunCommits.{AtKeeping, BegunCommit, IsInHand, begun_by, commit_opened, commits_begun, life_begun, with_finished}
+use Rattle.law_order.proofs.Below.law_commit.Shown.{life_stands}
 
 -- ---- what an event of the world is for the keeper: one call of the device, or events that call no device
 abbrev IsQuiet : KeeperEvent → Type 0

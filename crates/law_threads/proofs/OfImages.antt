@@ -1,14 +1,14 @@
 -- What images hold that a crash may leave in a call of the keeper, by the law of prefixes.
 use Rattle.std.proofs.Common.{◌≡◌, ℕ, ◌≤◌, ◌<◌, ◌∙◌, ap, subst, arith, List, [], ◌∷◌, ◌++◌}
-use Rattle.fkv_core.specs.Openings.{beginning}
+use Rattle.law_order.specs.Below.fkv_core.Openings.{beginning}
 use Rattle.fkv_disk.specs.Calls.{MayLeave}
-use Rattle.fkv_opening.specs.declared.opened_store.Opened.{Opened}
+use Rattle.law_order.specs.Below.fkv_opening.TheOpened.{Opened}
 use Rattle.fkv_seats.specs.Rule.{AreAllowed, led}
 use Rattle.fkv_seats.proofs.Keeps.{allowed_last}
-use Rattle.fkv_world.specs.Past.{Past}
-use Rattle.fkv_world.specs.Runs.{World, run}
-use Rattle.fkv_world.specs.World.{Calls, Event, Now}
-use Rattle.law_world.proofs.OfKeeper.OwnCalls.{opened_stays}
+use Rattle.law_order.specs.Below.fkv_world.Past.{Past}
+use Rattle.law_order.specs.Below.fkv_world.Runs.{World, run}
+use Rattle.law_order.specs.Below.fkv_world.World.{Calls, Event, Now}
+use Rattle.law_order.proofs.Below.law_world.OfKeeper.OwnCalls.{opened_stays}
 use Rattle.law_order.specs.OneHistory.EachLife.{IsLife, Life}
 use Rattle.law_order.specs.Prefix.Law.{PrefixLaw, calls_so_far}
 use Rattle.law_order.specs.Tickets.Few.{calls_in, with_begun}

@@ -4,38 +4,38 @@ use Rattle.std.specs.Prelude.{Option, Some, None, if◌then◌else◌, slice_get
 use Rattle.fkv_base.specs.declared.numbers.Key.{Key}
 use Rattle.fkv_base.specs.declared.numbers.Serial.{Serial}
 use Rattle.fkv_base.specs.declared.numbers.Value.{Value}
-use Rattle.fkv_core.specs.Openings.{beginning}
+use Rattle.law_order.specs.Below.fkv_core.Openings.{beginning}
 use Rattle.fkv_map.specs.declared.operations.Call.{Call}
 use Rattle.fkv_map.specs.declared.operations.Call.TheVariants as call
 use Rattle.fkv_map.specs.declared.operations.Reply.{Reply}
-use Rattle.fkv_opening.specs.declared.opened_store.Opened.{Opened}
-use Rattle.fkv_pending.specs.declared.pending_requests.PendingRequest.{PendingRequest}
-use Rattle.fkv_pending.specs.declared.pending_requests.Ticket.{Ticket}
+use Rattle.law_order.specs.Below.fkv_opening.TheOpened.{Opened}
+use Rattle.law_order.specs.Below.fkv_pending.PendingRequest.{PendingRequest}
+use Rattle.law_order.specs.Below.fkv_pending.Ticket.{Ticket}
 use Rattle.fkv_seats.specs.Rule.{led}
-use Rattle.fkv_session.specs.declared.answers.Answer.{Answer}
-use Rattle.fkv_session.specs.declared.answers.Answer.TheVariants as answer
-use Rattle.fkv_session.specs.declared.answers.Finished.{Finished}
-use Rattle.fkv_session.specs.declared.answers.Finished.TheVariants as finished
-use Rattle.fkv_session.specs.declared.answers.Told.{Told}
-use Rattle.fkv_session.specs.declared.answers.Told.TheVariants as told
-use Rattle.fkv_session.specs.declared.sessions.Sitting.TheVariants.{ClearsMail, Idle}
-use Rattle.fkv_session.specs.Answers.{IsAnswerTold}
-use Rattle.fkv_session.specs.SessionRun.{telling}
-use Rattle.fkv_session.specs.Sessions.{Seat, SessionState, poll_begun, poll_call, polls_at, polls_request, refuses, session_begun}
-use Rattle.fkv_world.specs.Past.{Traced, TraceEvent, Answered}
-use Rattle.fkv_world.specs.Runs.{World, happens, run}
-use Rattle.fkv_world.specs.World as world
-use Rattle.fkv_world.specs.World.{Event, Now}
+use Rattle.law_order.specs.Below.fkv_session.Answer.{Answer}
+use Rattle.law_order.specs.Below.fkv_session.Answer.TheVariants as answer
+use Rattle.law_order.specs.Below.fkv_session.Finished.{Finished}
+use Rattle.law_order.specs.Below.fkv_session.Finished.TheVariants as finished
+use Rattle.law_order.specs.Below.fkv_session.Told.{Told}
+use Rattle.law_order.specs.Below.fkv_session.Told.TheVariants as told
+use Rattle.law_order.specs.Below.fkv_session.Sitting.TheVariants.{ClearsMail, Idle}
+use Rattle.law_order.specs.Below.fkv_session.Answers.{IsAnswerTold}
+use Rattle.law_order.specs.Below.fkv_session.SessionRun.{telling}
+use Rattle.law_order.specs.Below.fkv_session.Sessions.{Seat, SessionState, poll_begun, poll_call, polls_at, polls_request, refuses, session_begun}
+use Rattle.law_order.specs.Below.fkv_world.Past.{Traced, TraceEvent, Answered}
+use Rattle.law_order.specs.Below.fkv_world.Runs.{World, happens, run}
+use Rattle.law_order.specs.Below.fkv_world.World as world
+use Rattle.law_order.specs.Below.fkv_world.World.{Event, Now}
 use Rattle.law_log.specs.Trace.{AnswersRead, CallsRead, GivesResult, IsIn}
-use Rattle.law_refine.specs.Events.Lines.{finished_line, finished_lines, lines_added, lines_of, read_reply, read_in_hand, read_waiting}
+use Rattle.law_order.specs.Below.law_refine.Events.Lines.{finished_line, finished_lines, lines_added, lines_of, read_reply, read_in_hand, read_waiting}
 use Rattle.fkv_table.specs.declared.happenings.Happening.{Happening}
 use Rattle.fkv_base.specs.declared.faults.Fault.TheVariants as fault
-use Rattle.fkv_pending.specs.declared.mailing.MailTask.TheVariants.{Clear}
-use Rattle.fkv_pending.specs.declared.mailing.Mailing.TheVariants.{LoadsState}
-use Rattle.law_opening.specs.Log.Maps.{opening_map}
-use Rattle.law_world.specs.Runs.Added.{told_at}
-use Rattle.law_refine.specs.Calls.Calls.{event_adds}
-use Rattle.law_refine.specs.Events.GhostEvents.{serials_in}
+use Rattle.law_order.specs.Below.fkv_pending.MailTask.TheVariants.{Clear}
+use Rattle.law_order.specs.Below.fkv_pending.TheMailing.TheVariants.{LoadsState}
+use Rattle.law_order.specs.Below.law_opening.Log.Maps.{opening_map}
+use Rattle.law_order.specs.Below.law_world.Runs.Added.{told_at}
+use Rattle.law_order.specs.Below.law_refine.Calls.Calls.{event_adds}
+use Rattle.law_order.specs.Below.law_refine.Events.GhostEvents.{serials_in}
 use Rattle.law_order.specs.Rules.InTime.{IsInTime, ReadsInTime}
 use Rattle.law_order.specs.Rules.Ordered.{OrdersItsCalls}
 use Rattle.law_order.specs.Tickets.Few.{HasFewCalls}

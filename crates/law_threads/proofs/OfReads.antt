@@ -4,7 +4,7 @@ use Rattle.std.specs.Prelude.{Some, None, false}
 use Rattle.std.specs.FinMap.{get}
 use Rattle.fkv_base.specs.declared.faults.Fault.{Fault}
 use Rattle.fkv_base.specs.declared.numbers.Key.{Key}
-use Rattle.fkv_core.specs.Openings.{beginning}
+use Rattle.law_order.specs.Below.fkv_core.Openings.{beginning}
 use Rattle.fkv_map.specs.declared.history.HistoryEntry.{HistoryEntry}
 use Rattle.fkv_map.specs.declared.operations.Call.{Call}
 use Rattle.fkv_map.specs.declared.operations.Call.TheVariants as call
@@ -12,26 +12,26 @@ use Rattle.fkv_map.specs.declared.operations.Op.TheVariants.{Read}
 use Rattle.fkv_map.specs.declared.operations.Reply.{Reply}
 use Rattle.fkv_map.specs.History.{content}
 use Rattle.fkv_map.specs.Map.{Map, reply_to_read}
-use Rattle.fkv_opening.specs.declared.opened_store.Opened.{Opened}
+use Rattle.law_order.specs.Below.fkv_opening.TheOpened.{Opened}
 use Rattle.fkv_seats.specs.Rule.{led}
-use Rattle.fkv_session.specs.declared.answers.Answer.{Answer}
-use Rattle.fkv_session.specs.declared.answers.Answer.TheVariants as answer
-use Rattle.fkv_session.specs.Answers.{IsAnswerTold}
-use Rattle.fkv_session.specs.declared.answers.Finished.{Finished}
-use Rattle.fkv_session.specs.declared.answers.Told.{Told}
-use Rattle.fkv_session.specs.declared.answers.Told.TheVariants.{Refused}
-use Rattle.fkv_session.specs.SessionRun.{telling}
-use Rattle.fkv_session.specs.Sessions.{SessionState, refusal_of, session_begun}
-use Rattle.fkv_world.specs.Past.{TraceEvent, Called, Answered}
-use Rattle.fkv_world.specs.Runs.{World, happens}
-use Rattle.fkv_world.specs.World as world
-use Rattle.fkv_world.specs.World.{Event, Now}
+use Rattle.law_order.specs.Below.fkv_session.Answer.{Answer}
+use Rattle.law_order.specs.Below.fkv_session.Answer.TheVariants as answer
+use Rattle.law_order.specs.Below.fkv_session.Answers.{IsAnswerTold}
+use Rattle.law_order.specs.Below.fkv_session.Finished.{Finished}
+use Rattle.law_order.specs.Below.fkv_session.Told.{Told}
+use Rattle.law_order.specs.Below.fkv_session.Told.TheVariants.{Refused}
+use Rattle.law_order.specs.Below.fkv_session.SessionRun.{telling}
+use Rattle.law_order.specs.Below.fkv_session.Sessions.{SessionState, refusal_of, session_begun}
+use Rattle.law_order.specs.Below.fkv_world.Past.{TraceEvent, Called, Answered}
+use Rattle.law_order.specs.Below.fkv_world.Runs.{World, happens}
+use Rattle.law_order.specs.Below.fkv_world.World as world
+use Rattle.law_order.specs.Below.fkv_world.World.{Event, Now}
 use Rattle.law_log.specs.Trace.{AnswersRead, CallsRead, IsIn, TraceLine}
-use Rattle.law_opening.specs.Log.Maps.{opening_map}
-use Rattle.law_world.specs.Runs.Added.{ended_by, told_at}
-use Rattle.law_refine.specs.Calls.Calls.{event_adds}
-use Rattle.law_refine.specs.Events.GhostEvents.{serials_in, traced_by}
-use Rattle.law_refine.specs.Events.Lines.{event_lines, lines_added, read_in_hand}
+use Rattle.law_order.specs.Below.law_opening.Log.Maps.{opening_map}
+use Rattle.law_order.specs.Below.law_world.Runs.Added.{ended_by, told_at}
+use Rattle.law_order.specs.Below.law_refine.Calls.Calls.{event_adds}
+use Rattle.law_order.specs.Below.law_refine.Events.GhostEvents.{serials_in, traced_by}
+use Rattle.law_order.specs.Below.law_refine.Events.Lines.{event_lines, lines_added, read_in_hand}
 use Rattle.law_order.specs.Prefix.Law.{history_so_far}
 use Rattle.law_order.specs.Rules.InTime.{IsInTime, ReadsInTime}
 use Rattle.law_order.proofs.OfReads.Numbers.{called_hand}

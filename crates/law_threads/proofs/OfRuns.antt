@@ -9,22 +9,22 @@ use Rattle.fkv_map.specs.declared.operations.Reply.{Reply}
 use Rattle.fkv_map.specs.declared.operations.Reply.TheVariants as reply
 use Rattle.fkv_seats.specs.declared.views.Role.TheVariants.{Sits}
 use Rattle.fkv_seats.specs.Rule.{Quiet, led}
-use Rattle.fkv_session.specs.declared.answers.Answer.{Answer}
-use Rattle.fkv_session.specs.declared.answers.Answer.TheVariants as answer
-use Rattle.fkv_session.specs.declared.answers.Finished.{Finished}
-use Rattle.fkv_session.specs.declared.answers.Told.{Told}
-use Rattle.fkv_session.specs.declared.answers.Told.TheVariants as told
-use Rattle.fkv_session.specs.declared.sessions.Sitting.TheVariants.{Idle}
-use Rattle.fkv_session.specs.Answers.{IsAnswerTold}
-use Rattle.fkv_session.specs.SessionRun.{Telling, telling, with_finished}
-use Rattle.fkv_session.specs.Sessions.{Seat, SessionState, attempts, is_busy, op_begun}
-use Rattle.fkv_world.specs.Past.{Traced, TraceEvent, Called, Answered}
-use Rattle.fkv_world.specs.Runs.{World}
-use Rattle.fkv_world.specs.World.{Now}
+use Rattle.law_order.specs.Below.fkv_session.Answer.{Answer}
+use Rattle.law_order.specs.Below.fkv_session.Answer.TheVariants as answer
+use Rattle.law_order.specs.Below.fkv_session.Finished.{Finished}
+use Rattle.law_order.specs.Below.fkv_session.Told.{Told}
+use Rattle.law_order.specs.Below.fkv_session.Told.TheVariants as told
+use Rattle.law_order.specs.Below.fkv_session.Sitting.TheVariants.{Idle}
+use Rattle.law_order.specs.Below.fkv_session.Answers.{IsAnswerTold}
+use Rattle.law_order.specs.Below.fkv_session.SessionRun.{Telling, telling, with_finished}
+use Rattle.law_order.specs.Below.fkv_session.Sessions.{Seat, SessionState, attempts, is_busy, op_begun}
+use Rattle.law_order.specs.Below.fkv_world.Past.{Traced, TraceEvent, Called, Answered}
+use Rattle.law_order.specs.Below.fkv_world.Runs.{World}
+use Rattle.law_order.specs.Below.fkv_world.World.{Now}
 use Rattle.law_log.specs.Trace.{AnswersRead, IsIn, TraceLine}
-use Rattle.law_world.specs.Runs.Added.{told_at}
-use Rattle.law_refine.specs.Events.Lines.{answer_lines, event_lines, lines_added, read_in_hand}
-use Rattle.law_refine.proofs.OfCalls.Called.{is_other}
+use Rattle.law_order.specs.Below.law_world.Runs.Added.{told_at}
+use Rattle.law_order.specs.Below.law_refine.Events.Lines.{answer_lines, event_lines, lines_added, read_in_hand}
+use Rattle.law_order.proofs.Below.law_refine.OfCalls.Called.{is_other}
 use Rattle.law_order.proofs.OfReads.Numbers.{other_hand}
 use Rattle.fkv_table.specs.Calls.{AreOthers, IsToldLast}
 use Rattle.fkv_table.specs.declared.happenings.Happening.{Happening}

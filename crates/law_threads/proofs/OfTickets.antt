@@ -1,22 +1,22 @@
 -- The read that waits for a ticket, in a trace in which no ticket comes again.
 use Rattle.std.proofs.Common.{◌≡◌, ℕ, ◌+◌, ◌≤◌, ◌∙◌, refl, sym, ap, subst, arith, Bool, true, false, List, [], ◌∷◌, ◌++◌}
 use Rattle.std.specs.Prelude.{◌==◌, ◌&&◌, if◌then◌else◌, slice_get, Some}
-use Rattle.fkv_pending.specs.declared.pending_requests.Ticket.{Ticket}
-use Rattle.fkv_session.specs.declared.answers.Told.{Told}
-use Rattle.fkv_session.specs.declared.answers.Told.TheVariants as told
-use Rattle.fkv_session.specs.Accounts.{left_pending, number_of, with_pending}
-use Rattle.fkv_session.specs.SessionRun.{Telling}
-use Rattle.fkv_session.specs.Sessions.{SessionState, is_busy}
-use Rattle.fkv_session.specs.Tickets.{AreTicketsInTurn}
-use Rattle.fkv_world.specs.Opened.{HasBecome, IsOpenedWorld, answer_to, answers_of, life_told}
-use Rattle.fkv_world.specs.OwnEvents.{session_events}
-use Rattle.fkv_world.specs.Past.{Traced, TraceEvent, Called, Answered}
-use Rattle.fkv_world.specs.Runs.{World, run}
-use Rattle.fkv_world.specs.World.{Event, seat_at}
-use Rattle.law_refine.specs.Events.Lines.{gives_ticket, read_in_hand, read_waiting}
-use Rattle.law_refine.specs.Events.Lines as lines
-use Rattle.law_refine.proofs.OfCalls.InHand.{WasOpened, was_opened}
-use Rattle.law_refine.proofs.OfCalls.Life.{told_so}
+use Rattle.law_order.specs.Below.fkv_pending.Ticket.{Ticket}
+use Rattle.law_order.specs.Below.fkv_session.Told.{Told}
+use Rattle.law_order.specs.Below.fkv_session.Told.TheVariants as told
+use Rattle.law_order.specs.Below.fkv_session.Accounts.{left_pending, number_of, with_pending}
+use Rattle.law_order.specs.Below.fkv_session.SessionRun.{Telling}
+use Rattle.law_order.specs.Below.fkv_session.Sessions.{SessionState, is_busy}
+use Rattle.law_order.specs.Below.fkv_session.Tickets.{AreTicketsInTurn}
+use Rattle.law_order.specs.Below.fkv_world.Opened.{HasBecome, IsOpenedWorld, answer_to, answers_of, life_told}
+use Rattle.law_order.specs.Below.fkv_world.OwnEvents.{session_events}
+use Rattle.law_order.specs.Below.fkv_world.Past.{Traced, TraceEvent, Called, Answered}
+use Rattle.law_order.specs.Below.fkv_world.Runs.{World, run}
+use Rattle.law_order.specs.Below.fkv_world.World.{Event, seat_at}
+use Rattle.law_order.specs.Below.law_refine.Events.Lines.{gives_ticket, read_in_hand, read_waiting}
+use Rattle.law_order.specs.Below.law_refine.Events.Lines as lines
+use Rattle.law_order.proofs.Below.law_refine.OfCalls.InHand.{WasOpened, was_opened}
+use Rattle.law_order.proofs.Below.law_refine.OfCalls.Life.{told_so}
 use Rattle.law_order.specs.Tickets.Few.{HasFewCalls}
 use Rattle.law_order.proofs.OfReads.Numbers.{other_waiting}
 use Rattle.law_order.proofs.OfTickets.Begun.{told_few}

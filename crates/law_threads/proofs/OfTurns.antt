@@ -4,29 +4,29 @@ use Rattle.std.specs.Prelude.{Option, Some, None, Result, Ok, Err}
 use Rattle.fkv_base.specs.declared.faults.Fault.{Fault}
 use Rattle.fkv_base.specs.declared.numbers.Serial.{Serial}
 use Rattle.fkv_base.specs.declared.shapes.Shape.{Shape}
-use Rattle.fkv_core.specs.Openings.{beginning}
-use Rattle.fkv_keeper.specs.Answers.{IsFinishTold}
-use Rattle.fkv_keeper.specs.Keeping.{Finality, KeeperState, keeping_ask}
-use Rattle.fkv_keeper.specs.KeeperRun.{is_in_hand}
-use Rattle.fkv_keeper.specs.Running.{IsTurnTold}
-use Rattle.fkv_keeper.specs.declared.answers.Finished.{Finished}
-use Rattle.fkv_keeper.specs.declared.answers.KeeperTold.{KeeperTold}
-use Rattle.fkv_keeper.specs.declared.answers.KeeperTold.TheVariants.{Device, Turned, TurnRefused, Begun, CommitRefused}
-use Rattle.fkv_keeper.specs.declared.answers.Turn.{Turn}
-use Rattle.fkv_keeper.specs.declared.keepers.Keeping.{Keeping}
-use Rattle.fkv_keeper.specs.declared.keepers.Keeping.TheVariants.{Ended}
+use Rattle.law_order.specs.Below.fkv_core.Openings.{beginning}
+use Rattle.law_order.specs.Below.fkv_keeper.Answers.{IsFinishTold}
+use Rattle.law_order.specs.Below.fkv_keeper.Keeping.{Finality, KeeperState, keeping_ask}
+use Rattle.law_order.specs.Below.fkv_keeper.KeeperRun.{is_in_hand}
+use Rattle.law_order.specs.Below.fkv_keeper.Running.{IsTurnTold}
+use Rattle.law_order.specs.Below.fkv_keeper.Finished.{Finished}
+use Rattle.law_order.specs.Below.fkv_keeper.KeeperTold.{KeeperTold}
+use Rattle.law_order.specs.Below.fkv_keeper.KeeperTold.TheVariants.{Device, Turned, TurnRefused, Begun, CommitRefused}
+use Rattle.law_order.specs.Below.fkv_keeper.Turn.{Turn}
+use Rattle.law_order.specs.Below.fkv_keeper.TheKeeping.{Keeping}
+use Rattle.law_order.specs.Below.fkv_keeper.TheKeeping.TheVariants.{Ended}
 use Rattle.fkv_map.specs.History.{point_of}
-use Rattle.fkv_opening.specs.declared.opened_store.Opened.{Opened}
+use Rattle.law_order.specs.Below.fkv_opening.TheOpened.{Opened}
 use Rattle.fkv_plane.specs.declared.asks.Ask.{Ask}
 use Rattle.fkv_plane.specs.declared.asks.Ask.TheVariants.{Done}
 use Rattle.fkv_plane.specs.declared.places.Places.{Places}
 use Rattle.fkv_seats.specs.Rule.{AreAllowed, led}
-use Rattle.fkv_world.specs.Opened.{IsOpenedWorld}
-use Rattle.fkv_world.specs.Runs.{World, run}
-use Rattle.fkv_world.specs.World.{Event, Now}
-use Rattle.law_commit.specs.Accepted.{serial_at}
-use Rattle.law_commit.specs.BegunCommits.{AtEnd, AtKeeping, BegunCommit, HaveFinished, IsAsLast, OneIsOpen, life_begun}
-use Rattle.law_commit.proofs.Shown.{life_stands}
+use Rattle.law_order.specs.Below.fkv_world.Opened.{IsOpenedWorld}
+use Rattle.law_order.specs.Below.fkv_world.Runs.{World, run}
+use Rattle.law_order.specs.Below.fkv_world.World.{Event, Now}
+use Rattle.law_order.specs.Below.law_commit.Accepted.{serial_at}
+use Rattle.law_order.specs.Below.law_commit.BegunCommits.{AtEnd, AtKeeping, BegunCommit, HaveFinished, IsAsLast, OneIsOpen, life_begun}
+use Rattle.law_order.proofs.Below.law_commit.Shown.{life_stands}
 use Rattle.law_log.specs.Trace.{IsIn}
 use Rattle.law_order.specs.OneHistory.EachLife.{IsLife}
 use Rattle.law_order.specs.Prefix.Law.{BeginsWithTaken, HasFairPoints, IsFairPoint, IsInHandAsTaken, PrefixLaw, TakesFairPoints, past_so_far}

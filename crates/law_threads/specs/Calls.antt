@@ -2,15 +2,15 @@
 use Rattle.std.specs.Prelude.{◌≡◌, ℕ, List, map}
 use Rattle.atomic_table.specs.Seated.{TableId}
 use Rattle.atomic_table.specs.Table.{Me}
-use Rattle.fkv_core.specs.Openings.{IsOpeningWorld, beginning}
+use Rattle.law_order.specs.Below.fkv_core.Openings.{IsOpeningWorld, beginning}
 use Rattle.fkv_map.specs.declared.operations.Call.{Call}
-use Rattle.fkv_opening.specs.Opened.{IsStoreOf}
-use Rattle.fkv_opening.specs.declared.opened_store.Opened.{Opened}
+use Rattle.law_order.specs.Below.fkv_opening.Opened.{IsStoreOf}
+use Rattle.law_order.specs.Below.fkv_opening.TheOpened.{Opened}
 use Rattle.fkv_seats.specs.Rule.{AreAllowed, led}
-use Rattle.fkv_session.specs.declared.answers.Answer.{Answer}
-use Rattle.fkv_session.specs.Sessions.{Sitter}
-use Rattle.fkv_world.specs.Runs.{World}
-use Rattle.fkv_world.specs.World.{Event, Now}
+use Rattle.law_order.specs.Below.fkv_session.Answer.{Answer}
+use Rattle.law_order.specs.Below.fkv_session.Sessions.{Sitter}
+use Rattle.law_order.specs.Below.fkv_world.Runs.{World}
+use Rattle.law_order.specs.Below.fkv_world.World.{Event, Now}
 use Rattle.fkv_table.specs.Calls.{HasCalled, IsAnsweredLast, IsReady}
 use Rattle.fkv_table.specs.declared.happenings.Happening.{Happening}
 use Rattle.fkv_table.specs.Desks.{Slot, Knows}

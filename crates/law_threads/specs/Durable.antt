@@ -3,15 +3,15 @@ use Rattle.std.specs.Prelude.{◌≡◌, ◌≤◌, ℕ, List, ◌++◌}
 use Rattle.fkv_base.specs.declared.numbers.Serial.{Serial}
 use Rattle.fkv_disk.specs.Calls.{MayLeave}
 use Rattle.fkv_map.specs.History.{point_of}
-use Rattle.fkv_opening.specs.Opened.{IsStoreOf}
-use Rattle.fkv_opening.specs.declared.opened_store.Opened.{Opened}
+use Rattle.law_order.specs.Below.fkv_opening.Opened.{IsStoreOf}
+use Rattle.law_order.specs.Below.fkv_opening.TheOpened.{Opened}
 use Rattle.fkv_seats.specs.Rule.{AreAllowed}
-use Rattle.fkv_session.specs.declared.answers.Answer.TheVariants.{Durable}
-use Rattle.fkv_world.specs.Runs.{World}
-use Rattle.fkv_world.specs.World.{Now}
-use Rattle.law_commit.specs.ToldPoints.{ToldPoint, finishes_told}
+use Rattle.law_order.specs.Below.fkv_session.Answer.TheVariants.{Durable}
+use Rattle.law_order.specs.Below.fkv_world.Runs.{World}
+use Rattle.law_order.specs.Below.fkv_world.World.{Now}
+use Rattle.law_order.specs.Below.law_commit.ToldPoints.{ToldPoint, finishes_told}
 use Rattle.law_log.specs.Trace.{IsIn}
-use Rattle.law_opening.specs.Lives.Reaching.{ReachesFar}
+use Rattle.law_order.specs.Below.law_opening.Lives.Reaching.{ReachesFar}
 use Rattle.law_order.specs.Prefix.Law.{IsToldDurable, calls_so_far, past_so_far, trace_so_far}
 use Rattle.fkv_table.specs.declared.happenings.Happening.{Happening}
 use Rattle.fkv_table.specs.Planes.{plane}

@@ -1,10 +1,10 @@
 -- What images hold that a crash may leave in a call of the keeper.
 use Rattle.std.specs.Prelude.{ℕ, List}
-use Rattle.fkv_opening.specs.declared.opened_store.Opened.{Opened}
+use Rattle.law_order.specs.Below.fkv_opening.TheOpened.{Opened}
 use Rattle.fkv_seats.specs.Rule.{IsSeenBy}
-use Rattle.fkv_world.specs.Runs.{World}
-use Rattle.fkv_world.specs.World.{Now}
-use Rattle.law_opening.specs.Lives.Reaching.{ReachesFar}
+use Rattle.law_order.specs.Below.fkv_world.Runs.{World}
+use Rattle.law_order.specs.Below.fkv_world.World.{Now}
+use Rattle.law_order.specs.Below.law_opening.Lives.Reaching.{ReachesFar}
 use Rattle.law_order.specs.Prefix.Law.{HoldsPrefix}
 use Rattle.fkv_table.specs.declared.happenings.Happening.{Happening}
 use Rattle.fkv_table.specs.Keeps.{IsLeftWithin}

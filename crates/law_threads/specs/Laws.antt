@@ -3,10 +3,10 @@ use Rattle.std.specs.Prelude.{◌≡◌, ◌⊎◌, ℕ, List}
 use mathlib.Core.Option.{some}
 use lib.ListN.{get_elem?}
 use Rattle.atomic_table.specs.Table.{State}
-use Rattle.fkv_opening.specs.declared.opened_store.Opened.{Opened}
+use Rattle.law_order.specs.Below.fkv_opening.TheOpened.{Opened}
 use Rattle.fkv_seats.specs.Rule.{AreAllowed, IsSeenBy, Ruled}
-use Rattle.fkv_world.specs.Runs.{World}
-use Rattle.fkv_world.specs.World.{Event, Now}
+use Rattle.law_order.specs.Below.fkv_world.Runs.{World}
+use Rattle.law_order.specs.Below.fkv_world.World.{Event, Now}
 use Rattle.law_order.specs.Tickets.Few.{HasFewCalls}
 use Rattle.fkv_table.specs.declared.happenings.Happening.{Happening}
 use Rattle.fkv_table.specs.Desks.{Slot, Knows}

@@ -3,16 +3,16 @@ use Rattle.std.specs.Prelude.{◌≡◌, ℕ, List, ◌++◌, true, Some, Result
 use Rattle.atomic_table.specs.Seated.{TableId}
 use Rattle.atomic_table.specs.Table.{Me}
 use Rattle.fkv_base.specs.declared.faults.Fault.{Fault}
-use Rattle.fkv_keeper.specs.declared.answers.Finished.{Finished}
-use Rattle.fkv_keeper.specs.declared.answers.Turn.{Turn}
-use Rattle.fkv_keeper.specs.Keeping.{KeeperModel, keeper_ask}
-use Rattle.fkv_keeper.specs.Running.{IsTurnTold}
+use Rattle.law_order.specs.Below.fkv_keeper.Finished.{Finished}
+use Rattle.law_order.specs.Below.fkv_keeper.Turn.{Turn}
+use Rattle.law_order.specs.Below.fkv_keeper.Keeping.{KeeperModel, keeper_ask}
+use Rattle.law_order.specs.Below.fkv_keeper.Running.{IsTurnTold}
 use Rattle.fkv_map.specs.History.{point_of}
-use Rattle.fkv_opening.specs.declared.opened_store.Opened.{Opened}
-use Rattle.fkv_world.specs.Runs.{World}
-use Rattle.fkv_world.specs.World.{Event, Now}
-use Rattle.law_commit.specs.Accepted.{serial_at}
-use Rattle.law_commit.specs.BegunCommits.{BegunCommit}
+use Rattle.law_order.specs.Below.fkv_opening.TheOpened.{Opened}
+use Rattle.law_order.specs.Below.fkv_world.Runs.{World}
+use Rattle.law_order.specs.Below.fkv_world.World.{Event, Now}
+use Rattle.law_order.specs.Below.law_commit.Accepted.{serial_at}
+use Rattle.law_order.specs.Below.law_commit.BegunCommits.{BegunCommit}
 use Rattle.law_log.specs.Trace.{IsIn}
 use Rattle.law_order.specs.Prefix.Law.{IsFairPoint, IsInHandAsTaken, past_so_far}
 use Rattle.law_order.specs.Rules.Ordered.{now_after}

@@ -2,18 +2,12 @@
 #![tactic(auto)]
 
 ghost use Rattle.std.specs.Prelude.{List};
-ghost use Rattle.fkv_seats.specs.Rule.{AreAllowed};
-ghost use Rattle.fkv_table.specs.declared.happenings.Happening.{Happening};
-ghost use Rattle.fkv_table.specs.Planes.{plane};
-ghost use Rattle.fkv_world.specs.Runs.{World};
-ghost use Rattle.law_threads.specs.Calls.{OfEachRun};
-ghost use Rattle.law_threads.specs.Durable.{ItsDurableNeverFalls, RecoversItsDurable, TellsItsDurable};
-ghost use Rattle.law_threads.specs.Images.{RecoversWithin};
-ghost use Rattle.law_threads.specs.Laws.{IsThreadLaw, IsWithin, SharesOneHistory};
-ghost use Rattle.law_threads.specs.Turns.{OfEachTurn};
+ghost use Rattle.law_threads.specs.Said as said;
 
-use law_order::{law_durable_never_falls, law_order, law_prefix};
-use law_world::{law_world_requests, law_world_sessions};
+pub use law_order::{law_device_opens, law_guard_opens};
+use law_order::{
+    law_durable_never_falls, law_order, law_prefix, law_world_requests, law_world_sessions,
+};
 
 /// Sessions make their calls at one table, each in any thread. `Session::run` says how a call stands in the list of events. In all lives, with commits too, more
 /// is known by the order law (`in_lives`). Its one premise here is that fewer than 2^64 - 1 calls begin: the table's rule keeps their numbers below 2^64. A done update has taken effect by what the pass has seen, with its serial and reply, and so has one that a poll says
@@ -23,13 +17,13 @@ use law_world::{law_world_requests, law_world_sessions};
 /// or later recovers a point at or above it (`recovered`). Each image that a crash may leave in the middle of a turn holds a prefix of the life as it was at
 /// some moment of the turn (`turns`). A commit that a turn tells as finished is sealed, and its points are fair (`finished`). Of two passes at one moment one has seen a beginning of what the other has, and so are their histories.
 pub fn law_threads<K>()
-    ensures in_lives { (at : K → World) → IsThreadLaw at IsWithin }
-    ensures durable { (at : K → World) → OfEachRun at IsWithin TellsItsDurable }
-    ensures never_falls { (at : K → World) → OfEachRun at IsWithin ItsDurableNeverFalls }
-    ensures recovered { (at : K → World) → OfEachRun at IsWithin (RecoversItsDurable at) }
-    ensures turns { (at : K → World) (key : K) (seen seen' : List Happening) → AreAllowed (plane at) seen' → RecoversWithin at key seen seen' }
-    ensures finished { (at : K → World) → OfEachTurn at }
-    ensures views { (at : K → World) → SharesOneHistory at }
+    ensures in_lives { (at : K → said.World) → said.IsThreadLaw at said.IsWithin }
+    ensures durable { (at : K → said.World) → said.OfEachRun at said.IsWithin said.TellsItsDurable }
+    ensures never_falls { (at : K → said.World) → said.OfEachRun at said.IsWithin said.ItsDurableNeverFalls }
+    ensures recovered { (at : K → said.World) → said.OfEachRun at said.IsWithin (said.RecoversItsDurable at) }
+    ensures turns { (at : K → said.World) (key : K) (seen seen' : List said.Happening) → said.AreAllowed (said.plane at) seen' → said.RecoversWithin at key seen seen' }
+    ensures finished { (at : K → said.World) → said.OfEachTurn at }
+    ensures views { (at : K → said.World) → said.SharesOneHistory at }
 {
     law_order();
     law_prefix();

@@ -5,3 +5,4 @@ pub mod OfKeeper
 pub mod OfRuns
 pub mod OfSessions
 pub mod OfStanding
+pub mod Below

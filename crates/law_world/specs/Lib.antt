@@ -1,3 +1,4 @@
+pub mod Below
 pub mod GuardKeeper
 pub mod GuardSessions
 pub mod Guarded

@@ -30,3 +30,10 @@ pub use sessions::{
     law_world_refusals, law_world_replies, law_world_requests, law_world_sessions, law_world_told,
 };
 pub use standing::{law_of_slot_places, law_one_commit_stands};
+
+// What crates above name of the laws below, beside what `specs/Below.antt` shows.
+pub use fkv_checkpoint::law_copied;
+pub use fkv_flush::{law_mail, law_seen};
+pub use fkv_keeper::law_of_slots as law_of_kept_slots;
+pub use fkv_manifest::law_gates;
+pub use fkv_pending::law_mailbox;

@@ -3,9 +3,9 @@ use Rattle.std.proofs.Common.{◌≡◌, inl, ℕ, ◌∙◌, zero, suc, Some, L
 use Rattle.std.specs.Prelude.{slice_get}
 use Rattle.std.proofs.lemmas.Nat.{and_mask}
 use Rattle.fkv_base.specs.declared.shapes.Shape.{Shape}
-use Rattle.fkv_flush.specs.GuardLevels.{Levels}
-use Rattle.fkv_keeper.specs.Keeping.{KeeperState}
-use Rattle.fkv_keeper.specs.NewKeepers.{ArePlacesOfStore}
+use Rattle.law_order.specs.Below.fkv_flush.GuardLevels.{Levels}
+use Rattle.law_order.specs.Below.fkv_keeper.Keeping.{KeeperState}
+use Rattle.law_order.specs.Below.fkv_keeper.NewKeepers.{ArePlacesOfStore}
 use Rattle.fkv_map.specs.declared.operations.Reply.{Reply}
 use Rattle.fkv_map.specs.declared.operations.Reply.TheVariants.{Nothing, Number, Found, Absent}
 use Rattle.fkv_map.specs.declared.history.HistoryEntry.{HistoryEntry}
@@ -16,52 +16,52 @@ use Rattle.fkv_map.proofs.Shown.{content_one_more, get-applied, legal_each, repl
 use Rattle.law_log.specs.Trace.{Effect, IsIn, HasUpdate, GivesResult, CallsUpdate, value_in, history_of}
 use Rattle.law_log.specs.Worked.{entry_of, no_map}
 use Rattle.fkv_plane.specs.declared.places.Places.{Places}
-use Rattle.fkv_session.specs.Sessions.{SessionState, IsOpened}
+use Rattle.law_order.specs.Below.fkv_session.Sessions.{SessionState, IsOpened}
 use Rattle.fkv_epoch.specs.EpochWorld.{drain_word, own_epoch}
-use Rattle.law_world.specs.GuardSessions.Likenesses.{last_seen}
-use Rattle.fkv_world.specs.Opened.{IsOpenedWorld}
-use Rattle.law_world.specs.Guarded.Shows as guard
-use Rattle.law_refine.specs.Calls.Calls.{effects_in_log}
-use Rattle.law_refine.specs.Events.Lines.{lines_of}
-use Rattle.law_refine.specs.Events.Worked.{adds_5, first_session, first_words, gives_70, gives_8}
+use Rattle.law_order.specs.Below.law_world.GuardSessions.Likenesses.{last_seen}
+use Rattle.law_order.specs.Below.fkv_world.Opened.{IsOpenedWorld}
+use Rattle.law_order.specs.Below.law_world.Guarded.Shows as guard
+use Rattle.law_order.specs.Below.law_refine.Calls.Calls.{effects_in_log}
+use Rattle.law_order.specs.Below.law_refine.Events.Lines.{lines_of}
+use Rattle.law_order.specs.Below.law_refine.Events.Worked.{adds_5, first_session, first_words, gives_70, gives_8}
 use Rattle.law_wrong_runs.specs.Tables.{add_copies_in_fuzzy_region, in_place_below_seen_read_only, read_gives_opening_state, run_by}
 use Rattle.law_wrong_runs.specs.WrongLives.{LeavesFresh, LeavesLegal, fixed_begun, fixed_events, fuzzy_begun, fuzzy_events, gives_1, levels_after, opened_world, read_events}
-use Rattle.fkv_session.specs.Sessions as session_u
-use Rattle.fkv_session.specs.CatchingUp as catching_u
-use Rattle.fkv_pending.specs.Attempting as attempting_u
-use Rattle.fkv_pending.specs.Pending as pending_u
-use Rattle.fkv_pending.specs.Mailing as mailing_u
-use Rattle.fkv_ops.specs.Trying as trying_u
-use Rattle.fkv_ops.specs.Walking as walking_u
-use Rattle.fkv_ops.specs.Appending as appending_u
-use Rattle.fkv_ops.specs.HeaderWords as header_words_u
+use Rattle.law_order.specs.Below.fkv_session.Sessions as session_u
+use Rattle.law_order.specs.Below.fkv_session.CatchingUp as catching_u
+use Rattle.law_order.specs.Below.fkv_pending.Attempting as attempting_u
+use Rattle.law_order.specs.Below.fkv_pending.Pending as pending_u
+use Rattle.law_order.specs.Below.fkv_pending.Mailing as mailing_u
+use Rattle.law_order.specs.Below.fkv_ops.Trying as trying_u
+use Rattle.law_order.specs.Below.fkv_ops.Walking as walking_u
+use Rattle.law_order.specs.Below.fkv_ops.Appending as appending_u
+use Rattle.law_order.specs.Below.fkv_ops.HeaderWords as header_words_u
 use Rattle.fkv_index.specs.Finding as finding_u
 use Rattle.fkv_index.specs.Publishing as publishing_u
 use Rattle.fkv_index.specs.Slots as slots_u
-use Rattle.fkv_log.specs.Reserving as reserving_u
-use Rattle.fkv_log.specs.Filling as filling_u
-use Rattle.fkv_log.specs.Loading as loading_u
-use Rattle.fkv_log.specs.Invalidating as invalidating_u
-use Rattle.fkv_log.specs.Moving as moving_u
-use Rattle.fkv_log.specs.Shifting as shifting_u
-use Rattle.fkv_log.specs.Turning as turning_u
+use Rattle.law_order.specs.Below.fkv_log.Reserving as reserving_u
+use Rattle.law_order.specs.Below.fkv_log.Filling as filling_u
+use Rattle.law_order.specs.Below.fkv_log.Loading as loading_u
+use Rattle.law_order.specs.Below.fkv_log.Invalidating as invalidating_u
+use Rattle.law_order.specs.Below.fkv_log.Moving as moving_u
+use Rattle.law_order.specs.Below.fkv_log.Shifting as shifting_u
+use Rattle.law_order.specs.Below.fkv_log.Turning as turning_u
 use Rattle.fkv_epoch.specs.Refreshing as refreshing_u
 use Rattle.fkv_epoch.specs.Scanning as scanning_u
 use Rattle.fkv_epoch.specs.Claiming as claiming_u
 use Rattle.fkv_epoch.specs.Raising as raising_u
 use Rattle.fkv_epoch.specs.Arming as arming_u
 use Rattle.fkv_plane.specs.Passing as passing_u
-use Rattle.fkv_maintain.specs.Maintaining as maintaining_u
-use Rattle.fkv_keeper.specs.Keeping as keeping_u
-use Rattle.fkv_keeper.specs.KeeperAsks as keeper_asks_u
-use Rattle.fkv_flush.specs.Flushing as flushing_u
-use Rattle.fkv_flush.specs.Serving as serving_u
-use Rattle.fkv_world.specs.World as world_u
-use Rattle.fkv_world.specs.Moves as moves_u
-use Rattle.fkv_world.specs.Past as past_u
-use Rattle.fkv_world.specs.Runs as runs_u
+use Rattle.law_order.specs.Below.fkv_maintain.Maintaining as maintaining_u
+use Rattle.law_order.specs.Below.fkv_keeper.Keeping as keeping_u
+use Rattle.law_order.specs.Below.fkv_keeper.KeeperAsks as keeper_asks_u
+use Rattle.law_order.specs.Below.fkv_flush.Flushing as flushing_u
+use Rattle.law_order.specs.Below.fkv_flush.Serving as serving_u
+use Rattle.law_order.specs.Below.fkv_world.World as world_u
+use Rattle.law_order.specs.Below.fkv_world.Moves as moves_u
+use Rattle.law_order.specs.Below.fkv_world.Past as past_u
+use Rattle.law_order.specs.Below.fkv_world.Runs as runs_u
 use Rattle.fkv_words.specs.PhaseWords as phase_words_u
-use Rattle.fkv_world.specs.Runs.{World, run}
+use Rattle.law_order.specs.Below.fkv_world.Runs.{World, run}
 
 unfoldable pub shape : Shape
 unfolding lib.Count.ones

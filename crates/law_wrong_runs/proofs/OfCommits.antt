@@ -5,72 +5,72 @@ use Rattle.std.specs.FinMap.{get, get-empty}
 use Rattle.std.specs.Ordering.{nat_cmp}
 use Rattle.std.proofs.lemmas.Bool.Decides.{nat_tests}
 use Rattle.fkv_base.specs.declared.numbers.Serial.{Serial}
-use Rattle.fkv_commit.specs.declared.commits.Commit.{Commit}
-use Rattle.fkv_keeper.specs.Keeping.{KeeperState}
-use Rattle.fkv_core.specs.Openings.{beginning}
+use Rattle.law_order.specs.Below.fkv_commit.Commit.{Commit}
+use Rattle.law_order.specs.Below.fkv_keeper.Keeping.{KeeperState}
+use Rattle.law_order.specs.Below.fkv_core.Openings.{beginning}
 use Rattle.fkv_map.specs.History.{IsLegal, IsWhole, content, kept, point_of}
 use Rattle.fkv_map.specs.Map.{Map}
 use Rattle.fkv_map.specs.declared.history.HistoryEntry.{HistoryEntry}
 use Rattle.fkv_map.specs.declared.operations.Reply.TheVariants.{Nothing, Number}
 use Rattle.fkv_map.proofs.Shown.{legal_each}
-use Rattle.fkv_opening.specs.declared.opened_store.Opened.{Opened}
-use Rattle.fkv_session.specs.Sessions.{SessionState}
-use Rattle.fkv_world.specs.Runs.{World, run}
-use Rattle.fkv_world.specs.World.{Now}
-use Rattle.law_commit.specs.BegunCommits.{BegunCommit, commit_opened, life_begun}
-use Rattle.law_commit.specs.PrefixPast.{PrefixPast, prefix_past, serials_asked}
-use Rattle.law_commit.specs.ToldPoints.{ToldPoint}
+use Rattle.law_order.specs.Below.fkv_opening.TheOpened.{Opened}
+use Rattle.law_order.specs.Below.fkv_session.Sessions.{SessionState}
+use Rattle.law_order.specs.Below.fkv_world.Runs.{World, run}
+use Rattle.law_order.specs.Below.fkv_world.World.{Now}
+use Rattle.law_order.specs.Below.law_commit.BegunCommits.{BegunCommit, commit_opened, life_begun}
+use Rattle.law_order.specs.Below.law_commit.PrefixPast.{PrefixPast, prefix_past, serials_asked}
+use Rattle.law_order.specs.Below.law_commit.ToldPoints.{ToldPoint}
 use Rattle.law_log.specs.Trace.{Effect, IsIn, history_of, upto, value_in}
 use Rattle.law_log.specs.Worked.{entry_of, no_map}
-use Rattle.law_refine.specs.Events.Worked.{adds_5, gives_70}
+use Rattle.law_order.specs.Below.law_refine.Events.Worked.{adds_5, gives_70}
 use Rattle.law_order.specs.OneHistory.EachLife.{Life}
 use Rattle.law_order.specs.Prefix.Law.{BeginsWithKept, IsToldDurable, TakesFairPoints, kept_of_all, points_of}
-use Rattle.law_refine.specs.Calls.Calls.{effects_in_log}
+use Rattle.law_order.specs.Below.law_refine.Calls.Calls.{effects_in_log}
 use Rattle.law_wrong_runs.specs.Tables.{add_copies_in_fuzzy_region, commit_keeps_nothing, right_tables, run_by, serial_is_told_as_durable}
 use Rattle.law_wrong_runs.specs.WrongCommits.{AreWrongCommits, FollowsWith, IsBehind, NeverFollowsWith, giving_life, given_map, KeepsItsValues, KeepsLegal, KeepsValues, all_points, given_point, LeavesCurrent, LeavesDurable, TakesFair, asks_durable, begins_commit, new_world, past_by, with_nothing_kept}
 use Rattle.law_wrong_runs.specs.WrongLives.{fuzzy_events, gives_1, opened_world}
 use Rattle.law_wrong_runs.proofs.Computed.{effect_70, fuzzy_history, gives_value, is_fuzzy_history, not_80, places, places_fit, right_copied, shape, world_opened}
-use Rattle.fkv_session.specs.Sessions as session_u
-use Rattle.fkv_session.specs.CatchingUp as catching_u
-use Rattle.fkv_pending.specs.Attempting as attempting_u
-use Rattle.fkv_pending.specs.Pending as pending_u
-use Rattle.fkv_pending.specs.Mailing as mailing_u
-use Rattle.fkv_ops.specs.Trying as trying_u
-use Rattle.fkv_ops.specs.Walking as walking_u
-use Rattle.fkv_ops.specs.Appending as appending_u
-use Rattle.fkv_ops.specs.HeaderWords as header_words_u
+use Rattle.law_order.specs.Below.fkv_session.Sessions as session_u
+use Rattle.law_order.specs.Below.fkv_session.CatchingUp as catching_u
+use Rattle.law_order.specs.Below.fkv_pending.Attempting as attempting_u
+use Rattle.law_order.specs.Below.fkv_pending.Pending as pending_u
+use Rattle.law_order.specs.Below.fkv_pending.Mailing as mailing_u
+use Rattle.law_order.specs.Below.fkv_ops.Trying as trying_u
+use Rattle.law_order.specs.Below.fkv_ops.Walking as walking_u
+use Rattle.law_order.specs.Below.fkv_ops.Appending as appending_u
+use Rattle.law_order.specs.Below.fkv_ops.HeaderWords as header_words_u
 use Rattle.fkv_index.specs.Finding as finding_u
 use Rattle.fkv_index.specs.Publishing as publishing_u
 use Rattle.fkv_index.specs.Slots as slots_u
-use Rattle.fkv_log.specs.Reserving as reserving_u
-use Rattle.fkv_log.specs.Filling as filling_u
-use Rattle.fkv_log.specs.Loading as loading_u
-use Rattle.fkv_log.specs.Invalidating as invalidating_u
-use Rattle.fkv_log.specs.Moving as moving_u
-use Rattle.fkv_log.specs.Shifting as shifting_u
-use Rattle.fkv_log.specs.Turning as turning_u
+use Rattle.law_order.specs.Below.fkv_log.Reserving as reserving_u
+use Rattle.law_order.specs.Below.fkv_log.Filling as filling_u
+use Rattle.law_order.specs.Below.fkv_log.Loading as loading_u
+use Rattle.law_order.specs.Below.fkv_log.Invalidating as invalidating_u
+use Rattle.law_order.specs.Below.fkv_log.Moving as moving_u
+use Rattle.law_order.specs.Below.fkv_log.Shifting as shifting_u
+use Rattle.law_order.specs.Below.fkv_log.Turning as turning_u
 use Rattle.fkv_epoch.specs.Refreshing as refreshing_u
 use Rattle.fkv_epoch.specs.Scanning as scanning_u
 use Rattle.fkv_epoch.specs.Claiming as claiming_u
 use Rattle.fkv_epoch.specs.Raising as raising_u
 use Rattle.fkv_epoch.specs.Arming as arming_u
 use Rattle.fkv_plane.specs.Passing as passing_u
-use Rattle.fkv_maintain.specs.Maintaining as maintaining_u
-use Rattle.fkv_keeper.specs.Keeping as keeping_u
-use Rattle.fkv_keeper.specs.KeeperAsks as keeper_asks_u
-use Rattle.fkv_flush.specs.Flushing as flushing_u
-use Rattle.fkv_flush.specs.Serving as serving_u
-use Rattle.fkv_world.specs.World as world_u
-use Rattle.fkv_world.specs.Moves as moves_u
-use Rattle.fkv_world.specs.Past as past_u
-use Rattle.fkv_world.specs.Runs as runs_u
+use Rattle.law_order.specs.Below.fkv_maintain.Maintaining as maintaining_u
+use Rattle.law_order.specs.Below.fkv_keeper.Keeping as keeping_u
+use Rattle.law_order.specs.Below.fkv_keeper.KeeperAsks as keeper_asks_u
+use Rattle.law_order.specs.Below.fkv_flush.Flushing as flushing_u
+use Rattle.law_order.specs.Below.fkv_flush.Serving as serving_u
+use Rattle.law_order.specs.Below.fkv_world.World as world_u
+use Rattle.law_order.specs.Below.fkv_world.Moves as moves_u
+use Rattle.law_order.specs.Below.fkv_world.Past as past_u
+use Rattle.law_order.specs.Below.fkv_world.Runs as runs_u
 use Rattle.fkv_words.specs.PhaseWords as phase_words_u
-use Rattle.fkv_commit.specs.Deferring as defer_u
-use Rattle.fkv_commit.specs.Starting as start_u
-use Rattle.fkv_keeper.specs.KeeperRun as keeper_run_u
-use Rattle.fkv_world.specs.OwnEvents as own_u
-use Rattle.law_commit.specs.BegunCommits as begun_u
-use Rattle.law_commit.specs.PrefixPast as asked_u
+use Rattle.law_order.specs.Below.fkv_commit.Deferring as defer_u
+use Rattle.law_order.specs.Below.fkv_commit.Starting as start_u
+use Rattle.law_order.specs.Below.fkv_keeper.KeeperRun as keeper_run_u
+use Rattle.law_order.specs.Below.fkv_world.OwnEvents as own_u
+use Rattle.law_order.specs.Below.law_commit.BegunCommits as begun_u
+use Rattle.law_order.specs.Below.law_commit.PrefixPast as asked_u
 
 abbrev world : KeeperState → SessionState → SessionState → World
 world its one other = new_world shape places its one other

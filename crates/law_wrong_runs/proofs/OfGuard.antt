@@ -6,67 +6,67 @@ use Rattle.fkv_epoch.specs.EpochWorld.{Claimed, OfHead, drain_word, own_epoch}
 use Rattle.fkv_epoch.specs.EpochWorld as epochs
 use Rattle.fkv_epoch.specs.declared.protecting.Protecting.TheVariants as protect
 use Rattle.fkv_epoch.specs.Once.{Among, Counts, load_of}
-use Rattle.fkv_flush.specs.GuardLevels.{Levels, levels_of}
-use Rattle.fkv_flush.specs.GuardWorld.{GuardWorld, epoch_now}
-use Rattle.fkv_flush.specs.Guarded.{IsOpenPlace}
-use Rattle.fkv_keeper.specs.Keeping.{KeeperState}
+use Rattle.law_order.specs.Below.fkv_flush.GuardLevels.{Levels, levels_of}
+use Rattle.law_order.specs.Below.fkv_flush.GuardWorld.{GuardWorld, epoch_now}
+use Rattle.law_order.specs.Below.fkv_flush.Guarded.{IsOpenPlace}
+use Rattle.law_order.specs.Below.fkv_keeper.Keeping.{KeeperState}
 use Rattle.fkv_plane.specs.declared.places.Places.{Places}
 use Rattle.fkv_plane.specs.declared.places.RecordWord.TheVariants as rec
 use Rattle.fkv_plane.specs.Asked.{word_at}
 use Rattle.fkv_plane.specs.Places.{frames_start, record_place}
 use Rattle.fkv_map.specs.declared.operations.Call.TheVariants as call
-use Rattle.fkv_session.specs.Sessions.{SessionState}
-use Rattle.fkv_world.specs.Runs.{World, run}
-use Rattle.fkv_world.specs.World.{Event, KeeperMoves, Moves, Now}
-use Rattle.law_world.specs.Guarded.KeptGuarded.{ChangesOpenPlaces, OpensNextPage, WritesOpenPlaces, word_written}
+use Rattle.law_order.specs.Below.fkv_session.Sessions.{SessionState}
+use Rattle.law_order.specs.Below.fkv_world.Runs.{World, run}
+use Rattle.law_order.specs.Below.fkv_world.World.{Event, KeeperMoves, Moves, Now}
+use Rattle.law_order.specs.Below.law_world.Guarded.KeptGuarded.{ChangesOpenPlaces, OpensNextPage, WritesOpenPlaces, word_written}
 use Rattle.law_log.specs.Trace.{IsIn, called_as}
-use Rattle.law_refine.specs.Calls.Calls.{effects_in_log}
-use Rattle.law_refine.specs.Events.Lines.{lines_of}
-use Rattle.law_refine.specs.Events.Worked.{gives_70}
+use Rattle.law_order.specs.Below.law_refine.Calls.Calls.{effects_in_log}
+use Rattle.law_order.specs.Below.law_refine.Events.Lines.{lines_of}
+use Rattle.law_order.specs.Below.law_refine.Events.Worked.{gives_70}
 use Rattle.law_wrong_runs.specs.Tables.{action_is_claimed_early, durable_is_refused, effect_is_told_to_nobody, guard_run_by, mapped_by, page_opens_unclosed, run_by, wake_keeps_offsets}
 use Rattle.law_wrong_runs.specs.WrongLives.{ClaimsInTime, FailsAt, IsBeside, LeavesOfKind, LeavesOrdered, durable_events, early_begun, gives_events, guard_of_early, opened_world, unclosed_begun, woken_begun}
 use Rattle.law_wrong_runs.proofs.Computed.{effect_70, places, shape}
-use Rattle.law_world.specs.Guarded.GuardEvents as guard_events_u
-use Rattle.law_world.specs.GuardKeeper.KeeperEvents as keeper_events_u
-use Rattle.law_world.specs.GuardKeeper.MaintainEvents as maintain_events_u
-use Rattle.fkv_flush.specs.GuardWorld as guard_world_u
+use Rattle.law_order.specs.Below.law_world.Guarded.GuardEvents as guard_events_u
+use Rattle.law_order.specs.Below.law_world.GuardKeeper.KeeperEvents as keeper_events_u
+use Rattle.law_order.specs.Below.law_world.GuardKeeper.MaintainEvents as maintain_events_u
+use Rattle.law_order.specs.Below.fkv_flush.GuardWorld as guard_world_u
 use Rattle.fkv_epoch.specs.Once as once_u
 use Rattle.fkv_epoch.specs.Leaving as leaving_u
 use Rattle.fkv_epoch.specs.Protecting as protecting_u
-use Rattle.fkv_session.specs.Sessions as session_u
-use Rattle.fkv_session.specs.CatchingUp as catching_u
-use Rattle.fkv_pending.specs.Attempting as attempting_u
-use Rattle.fkv_pending.specs.Pending as pending_u
-use Rattle.fkv_pending.specs.Mailing as mailing_u
-use Rattle.fkv_ops.specs.Trying as trying_u
-use Rattle.fkv_ops.specs.Walking as walking_u
-use Rattle.fkv_ops.specs.Appending as appending_u
-use Rattle.fkv_ops.specs.HeaderWords as header_words_u
+use Rattle.law_order.specs.Below.fkv_session.Sessions as session_u
+use Rattle.law_order.specs.Below.fkv_session.CatchingUp as catching_u
+use Rattle.law_order.specs.Below.fkv_pending.Attempting as attempting_u
+use Rattle.law_order.specs.Below.fkv_pending.Pending as pending_u
+use Rattle.law_order.specs.Below.fkv_pending.Mailing as mailing_u
+use Rattle.law_order.specs.Below.fkv_ops.Trying as trying_u
+use Rattle.law_order.specs.Below.fkv_ops.Walking as walking_u
+use Rattle.law_order.specs.Below.fkv_ops.Appending as appending_u
+use Rattle.law_order.specs.Below.fkv_ops.HeaderWords as header_words_u
 use Rattle.fkv_index.specs.Finding as finding_u
 use Rattle.fkv_index.specs.Publishing as publishing_u
 use Rattle.fkv_index.specs.Slots as slots_u
-use Rattle.fkv_log.specs.Reserving as reserving_u
-use Rattle.fkv_log.specs.Filling as filling_u
-use Rattle.fkv_log.specs.Loading as loading_u
-use Rattle.fkv_log.specs.Invalidating as invalidating_u
-use Rattle.fkv_log.specs.Moving as moving_u
-use Rattle.fkv_log.specs.Shifting as shifting_u
-use Rattle.fkv_log.specs.Turning as turning_u
+use Rattle.law_order.specs.Below.fkv_log.Reserving as reserving_u
+use Rattle.law_order.specs.Below.fkv_log.Filling as filling_u
+use Rattle.law_order.specs.Below.fkv_log.Loading as loading_u
+use Rattle.law_order.specs.Below.fkv_log.Invalidating as invalidating_u
+use Rattle.law_order.specs.Below.fkv_log.Moving as moving_u
+use Rattle.law_order.specs.Below.fkv_log.Shifting as shifting_u
+use Rattle.law_order.specs.Below.fkv_log.Turning as turning_u
 use Rattle.fkv_epoch.specs.Refreshing as refreshing_u
 use Rattle.fkv_epoch.specs.Scanning as scanning_u
 use Rattle.fkv_epoch.specs.Claiming as claiming_u
 use Rattle.fkv_epoch.specs.Raising as raising_u
 use Rattle.fkv_epoch.specs.Arming as arming_u
 use Rattle.fkv_plane.specs.Passing as passing_u
-use Rattle.fkv_maintain.specs.Maintaining as maintaining_u
-use Rattle.fkv_keeper.specs.Keeping as keeping_u
-use Rattle.fkv_keeper.specs.KeeperAsks as keeper_asks_u
-use Rattle.fkv_flush.specs.Flushing as flushing_u
-use Rattle.fkv_flush.specs.Serving as serving_u
-use Rattle.fkv_world.specs.World as world_u
-use Rattle.fkv_world.specs.Moves as moves_u
-use Rattle.fkv_world.specs.Past as past_u
-use Rattle.fkv_world.specs.Runs as runs_u
+use Rattle.law_order.specs.Below.fkv_maintain.Maintaining as maintaining_u
+use Rattle.law_order.specs.Below.fkv_keeper.Keeping as keeping_u
+use Rattle.law_order.specs.Below.fkv_keeper.KeeperAsks as keeper_asks_u
+use Rattle.law_order.specs.Below.fkv_flush.Flushing as flushing_u
+use Rattle.law_order.specs.Below.fkv_flush.Serving as serving_u
+use Rattle.law_order.specs.Below.fkv_world.World as world_u
+use Rattle.law_order.specs.Below.fkv_world.Moves as moves_u
+use Rattle.law_order.specs.Below.fkv_world.Past as past_u
+use Rattle.law_order.specs.Below.fkv_world.Runs as runs_u
 use Rattle.fkv_words.specs.PhaseWords as phase_words_u
 
 -- ---- an update that is told as refused

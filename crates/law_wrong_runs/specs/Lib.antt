@@ -1,3 +1,4 @@
+pub mod Said
 pub mod Tables
 pub mod WrongCommits
 pub mod WrongLives

@@ -1,32 +1,32 @@
 -- Lives in which a row of one machine's table is wrong.
 use Rattle.std.specs.Prelude.{ℕ, ◌+◌, ◌-◌, nat_le, if◌then◌else◌, true, List, [], ◌∷◌, ◌++◌, slice_get, slice_set, Option, Some, None}
 use Rattle.fkv_base.specs.declared.faults.Fault.TheVariants.{Asleep, LogFull}
-use Rattle.fkv_commit.specs.declared.commits.Commit.{Commit}
+use Rattle.law_order.specs.Below.fkv_commit.Commit.{Commit}
 use Rattle.fkv_epoch.specs.EpochWorld as epochs
 use Rattle.fkv_epoch.specs.EpochWorld.{EpochMachine}
 use Rattle.fkv_epoch.specs.declared.claiming.Claiming.{Claiming}
 use Rattle.fkv_epoch.specs.declared.claiming.Claiming.TheVariants.{LoadsSafe, MeetsSlot, TakesSlot}
-use Rattle.fkv_flush.specs.GuardWorld as guard
-use Rattle.fkv_flush.specs.GuardWorld.{Actor, GuardEvent, GuardNow, GuardWorld, guard_happens}
-use Rattle.fkv_keeper.specs.Keeping.{KeeperState}
-use Rattle.fkv_log.specs.declared.turning.Turning.{Turning}
-use Rattle.fkv_log.specs.declared.turning.Turning.TheVariants.{LoadsClosed, RaisesLimit}
-use Rattle.fkv_maintain.specs.declared.maintaining.Maintaining.{Maintaining}
-use Rattle.fkv_maintain.specs.declared.maintaining.Maintaining.TheVariants.{Claims, Turns}
-use Rattle.fkv_maintain.specs.Maintaining.{MaintainState}
-use Rattle.fkv_ops.specs.declared.requests.Seen.{Seen}
-use Rattle.fkv_ops.specs.declared.trying.Trying.{Trying}
-use Rattle.fkv_ops.specs.declared.trying.Trying.TheVariants as trying
-use Rattle.fkv_ops.specs.declared.trying.OldValue.TheVariants.{InMemory}
-use Rattle.fkv_ops.specs.Trying.{TryState, changes, copies_from}
-use Rattle.fkv_session.specs.declared.answers.Told.TheVariants.{Absent, Done, Durable, Found, Refused}
-use Rattle.fkv_session.specs.declared.sessions.CatchCause.TheVariants.{Wakes}
-use Rattle.fkv_session.specs.declared.sessions.Sitting.{Sitting}
-use Rattle.fkv_session.specs.declared.sessions.Sitting.TheVariants.{CatchesUp, Idle}
-use Rattle.fkv_session.specs.Sessions.{SessionState}
-use Rattle.fkv_world.specs.Runs.{World, past_after, read_by_keeper}
-use Rattle.fkv_world.specs.World.{Event, KeeperMoves, Moves, Now, happens_now}
-use Rattle.law_world.specs.Guarded.GuardEvents.{guard_events}
+use Rattle.law_order.specs.Below.fkv_flush.GuardWorld as guard
+use Rattle.law_order.specs.Below.fkv_flush.GuardWorld.{Actor, GuardEvent, GuardNow, GuardWorld, guard_happens}
+use Rattle.law_order.specs.Below.fkv_keeper.Keeping.{KeeperState}
+use Rattle.law_order.specs.Below.fkv_log.TheTurning.{Turning}
+use Rattle.law_order.specs.Below.fkv_log.TheTurning.TheVariants.{LoadsClosed, RaisesLimit}
+use Rattle.law_order.specs.Below.fkv_maintain.TheMaintaining.{Maintaining}
+use Rattle.law_order.specs.Below.fkv_maintain.TheMaintaining.TheVariants.{Claims, Turns}
+use Rattle.law_order.specs.Below.fkv_maintain.Maintaining.{MaintainState}
+use Rattle.law_order.specs.Below.fkv_ops.Seen.{Seen}
+use Rattle.law_order.specs.Below.fkv_ops.TheTrying.{Trying}
+use Rattle.law_order.specs.Below.fkv_ops.TheTrying.TheVariants as trying
+use Rattle.law_order.specs.Below.fkv_ops.OldValue.TheVariants.{InMemory}
+use Rattle.law_order.specs.Below.fkv_ops.Trying.{TryState, changes, copies_from}
+use Rattle.law_order.specs.Below.fkv_session.Told.TheVariants.{Absent, Done, Durable, Found, Refused}
+use Rattle.law_order.specs.Below.fkv_session.CatchCause.TheVariants.{Wakes}
+use Rattle.law_order.specs.Below.fkv_session.Sitting.{Sitting}
+use Rattle.law_order.specs.Below.fkv_session.Sitting.TheVariants.{CatchesUp, Idle}
+use Rattle.law_order.specs.Below.fkv_session.Sessions.{SessionState}
+use Rattle.law_order.specs.Below.fkv_world.Runs.{World, past_after, read_by_keeper}
+use Rattle.law_order.specs.Below.fkv_world.World.{Event, KeeperMoves, Moves, Now, happens_now}
+use Rattle.law_order.specs.Below.law_world.Guarded.GuardEvents.{guard_events}
 
 -- ---- what a wrong table makes of a machine behind its move: from what it was, and from where the right one has led it
 pub record Tables : Type 0 where

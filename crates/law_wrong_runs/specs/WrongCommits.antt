@@ -1,30 +1,30 @@
 -- Lives by wrong tables in which a clause of the law of prefixes fails: of what is told as durable, and of the points of commits.
 use Rattle.std.specs.Prelude.{◌≡◌, ℕ, true, replicate, List, [], ◌∷◌, ◌++◌, Some}
 use Rattle.std.specs.FinMap.{get}
-use Rattle.fkv_commit.specs.declared.commits.Commit.{Commit}
+use Rattle.law_order.specs.Below.fkv_commit.Commit.{Commit}
 use Rattle.fkv_base.specs.declared.commits.CommitKind.TheVariants.{Full}
 use Rattle.fkv_base.specs.declared.shapes.Shape.{Shape}
 use Rattle.fkv_base.specs.declared.numbers.Serial.{Serial}
-use Rattle.fkv_keeper.specs.Keeping.{KeeperState}
-use Rattle.fkv_keeper.specs.NewKeepers.{ArePlacesOfStore}
+use Rattle.law_order.specs.Below.fkv_keeper.Keeping.{KeeperState}
+use Rattle.law_order.specs.Below.fkv_keeper.NewKeepers.{ArePlacesOfStore}
 use Rattle.fkv_map.specs.History.{IsLegal, content, kept}
 use Rattle.fkv_map.specs.Map.{Map, applied}
 use Rattle.fkv_map.specs.declared.operations.Call.TheVariants as call
-use Rattle.fkv_opening.specs.declared.opened_store.Opened.{Opened}
+use Rattle.law_order.specs.Below.fkv_opening.TheOpened.{Opened}
 use Rattle.fkv_plane.specs.declared.places.Places.{Places}
-use Rattle.fkv_session.specs.Sessions.{SessionState}
-use Rattle.fkv_world.specs.Opened.{IsOpenedWorld}
-use Rattle.fkv_world.specs.Runs.{World, run}
-use Rattle.fkv_world.specs.World.{Calls, Commits, Event, KeeperMoves, Moves}
-use Rattle.law_commit.specs.BegunCommits.{BegunCommit}
-use Rattle.law_commit.specs.PrefixPast.{PrefixPast, prefix_past}
-use Rattle.law_commit.specs.ToldPoints.{ToldPoint, points_told}
+use Rattle.law_order.specs.Below.fkv_session.Sessions.{SessionState}
+use Rattle.law_order.specs.Below.fkv_world.Opened.{IsOpenedWorld}
+use Rattle.law_order.specs.Below.fkv_world.Runs.{World, run}
+use Rattle.law_order.specs.Below.fkv_world.World.{Calls, Commits, Event, KeeperMoves, Moves}
+use Rattle.law_order.specs.Below.law_commit.BegunCommits.{BegunCommit}
+use Rattle.law_order.specs.Below.law_commit.PrefixPast.{PrefixPast, prefix_past}
+use Rattle.law_order.specs.Below.law_commit.ToldPoints.{ToldPoint, points_told}
 use Rattle.law_log.specs.Trace.{IsIn, history_of, upto, value_in}
 use Rattle.law_log.specs.Worked.{no_map}
 use Rattle.law_order.specs.OneHistory.EachLife.{Life}
 use Rattle.law_order.specs.Prefix.Law.{BeginsWithKept, IsCurrent, IsToldDurable, TakesFairPoints, map_of, points_of}
-use Rattle.law_refine.specs.Calls.Calls.{effects_in_log}
-use Rattle.law_refine.specs.Events.Worked.{gives_70}
+use Rattle.law_order.specs.Below.law_refine.Calls.Calls.{effects_in_log}
+use Rattle.law_order.specs.Below.law_refine.Events.Worked.{gives_70}
 use Rattle.law_wrong_runs.specs.Tables.{Tables, add_copies_in_fuzzy_region, commit_keeps_nothing, right_tables, run_by, serial_is_told_as_durable}
 use Rattle.law_wrong_runs.specs.WrongLives.{fuzzy_events, gives_events, opened_world}
 

@@ -3,12 +3,12 @@ use Rattle.std.specs.Prelude.{◌≡◌, ℕ, true, false, None, replicate, List
 use Rattle.fkv_base.specs.declared.shapes.Shape.{Shape}
 use Rattle.fkv_epoch.specs.EpochWorld.{Claimed, drain_word}
 use Rattle.fkv_epoch.specs.Once.{Among}
-use Rattle.fkv_flush.specs.GuardLevels.{Levels, levels_of}
-use Rattle.fkv_flush.specs.GuardWorld.{GuardWorld}
-use Rattle.fkv_keeper.specs.declared.answers.KeeperTold.TheVariants.{Turned}
-use Rattle.fkv_keeper.specs.declared.keepers.Keeping.TheVariants as keeping
-use Rattle.fkv_keeper.specs.Keeping.{KeeperState}
-use Rattle.fkv_keeper.specs.NewKeepers.{ArePlacesOfStore}
+use Rattle.law_order.specs.Below.fkv_flush.GuardLevels.{Levels, levels_of}
+use Rattle.law_order.specs.Below.fkv_flush.GuardWorld.{GuardWorld}
+use Rattle.law_order.specs.Below.fkv_keeper.KeeperTold.TheVariants.{Turned}
+use Rattle.law_order.specs.Below.fkv_keeper.TheKeeping.TheVariants as keeping
+use Rattle.law_order.specs.Below.fkv_keeper.Keeping.{KeeperState}
+use Rattle.law_order.specs.Below.fkv_keeper.NewKeepers.{ArePlacesOfStore}
 use Rattle.fkv_map.specs.declared.operations.Call.{Call}
 use Rattle.fkv_map.specs.declared.operations.Call.TheVariants as call
 use Rattle.fkv_map.specs.declared.operations.Op.{Op}
@@ -17,18 +17,18 @@ use Rattle.fkv_map.specs.History.{IsLegal}
 use Rattle.law_log.specs.Trace.{OrdersCalls, ReadsAreFresh, history_of}
 use Rattle.law_log.specs.Worked.{no_map}
 use Rattle.fkv_plane.specs.declared.places.Places.{Places}
-use Rattle.fkv_session.specs.Kinds.{IsOfKind}
-use Rattle.fkv_session.specs.SessionRun.{Telling}
-use Rattle.fkv_session.specs.Sessions.{SessionState}
-use Rattle.fkv_world.specs.Opened.{IsOpenedWorld, answers_of}
-use Rattle.fkv_world.specs.Runs.{World, run}
-use Rattle.fkv_world.specs.World.{Event, Calls, Moves, Now, Turns, KeeperMoves}
-use Rattle.law_refine.specs.Calls.Calls.{effects_in_log}
-use Rattle.law_world.specs.Guarded.KeptGuarded.{ChangesOpenPlaces, OpensNextPage, WritesOpenPlaces}
-use Rattle.law_world.specs.Guarded.LoadedSince.{HaveLoadedSince}
-use Rattle.law_world.specs.Guarded.Shows as guard
-use Rattle.law_refine.specs.Events.Lines.{lines_of}
-use Rattle.law_refine.specs.Events.Worked.{adds_5, first_world, gives_70, gives_8}
+use Rattle.law_order.specs.Below.fkv_session.Kinds.{IsOfKind}
+use Rattle.law_order.specs.Below.fkv_session.SessionRun.{Telling}
+use Rattle.law_order.specs.Below.fkv_session.Sessions.{SessionState}
+use Rattle.law_order.specs.Below.fkv_world.Opened.{IsOpenedWorld, answers_of}
+use Rattle.law_order.specs.Below.fkv_world.Runs.{World, run}
+use Rattle.law_order.specs.Below.fkv_world.World.{Event, Calls, Moves, Now, Turns, KeeperMoves}
+use Rattle.law_order.specs.Below.law_refine.Calls.Calls.{effects_in_log}
+use Rattle.law_order.specs.Below.law_world.Guarded.KeptGuarded.{ChangesOpenPlaces, OpensNextPage, WritesOpenPlaces}
+use Rattle.law_order.specs.Below.law_world.Guarded.LoadedSince.{HaveLoadedSince}
+use Rattle.law_order.specs.Below.law_world.Guarded.Shows as guard
+use Rattle.law_order.specs.Below.law_refine.Events.Lines.{lines_of}
+use Rattle.law_order.specs.Below.law_refine.Events.Worked.{adds_5, first_world, gives_70, gives_8}
 use Rattle.law_wrong_runs.specs.Tables.{Tables, action_is_claimed_early, add_copies_in_fuzzy_region, durable_is_refused, effect_is_told_to_nobody, guard_run_by, in_place_below_seen_read_only, machine_claims_early, mapped_by, page_opens_unclosed, read_gives_opening_state, run_by, wake_keeps_offsets}
 
 -- ---- what a life leaves

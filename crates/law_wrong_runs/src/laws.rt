@@ -1,8 +1,5 @@
 //! What wrong tables lead to, computed.
-ghost use Rattle.fkv_keeper.specs.Keeping.{KeeperState};
-ghost use Rattle.fkv_session.specs.Sessions.{SessionState};
-ghost use Rattle.law_wrong_runs.specs.WrongCommits.{AreWrongCommits};
-ghost use Rattle.law_wrong_runs.specs.WrongLives.{AreWrongLives};
+ghost use Rattle.law_wrong_runs.specs.Said as said;
 
 /// Two sessions of a store with one bucket, whose key has 70 by one record. A table by which a record that is fixed is changed in place leads to a
 /// history that isn't legal, as does one by which a record is copied while another session may still change it in place; the same events leave legal
@@ -11,7 +8,7 @@ ghost use Rattle.law_wrong_runs.specs.WrongLives.{AreWrongLives};
 /// in its kind. A page that is opened without a look at the closed offset isn't flushed in its frame, a session that keeps its offsets as it wakes
 /// writes a flushed record, and an action that is claimed one epoch early isn't seen by each session.
 pub fn law_of_wrong_lives()
-    ensures { (keeper : KeeperState) (one other : SessionState) → AreWrongLives keeper one other }
+    ensures { (keeper : said.KeeperState) (one other : said.SessionState) → said.AreWrongLives keeper one other }
 {}
 
 /// Two sessions of the same store, of which nothing is kept yet. Session 0 has given a key a value. If it is told its last serial as durable, that is its point
@@ -20,5 +17,5 @@ pub fn law_of_wrong_lives()
 /// what its points keep. If a record is copied that another session may still
 /// change, what is kept of the life isn't legal, so no life can begin with it.
 pub fn law_of_wrong_commits()
-    ensures { (keeper : KeeperState) (one other : SessionState) → AreWrongCommits keeper one other }
+    ensures { (keeper : said.KeeperState) (one other : said.SessionState) → said.AreWrongCommits keeper one other }
 {}

@@ -3,18 +3,18 @@ use Rattle.std.proofs.Common.{◌≡◌, ℕ, suc, ◌-◌, ◌^◌, ◌<◌, �
 use Rattle.std.specs.Prelude.{Option, Some, None, replicate, slice_get}
 use Rattle.fkv_base.specs.Limits.{max_sessions}
 use Rattle.fkv_base.specs.declared.shapes.Shape.{Shape}
-use Rattle.fkv_keeper.specs.KeeperRun.{is_in_hand}
-use Rattle.fkv_session.specs.Sessions.{SessionState, is_busy}
-use Rattle.law_world.specs.Runs.Ends.{asks_left_of, asks_left_of_keeper, moves_alone}
-use Rattle.fkv_world.specs.Runs.{World, run}
-use Rattle.fkv_world.specs.World.{Event, Moves}
-use Rattle.law_world.proofs.OfRuns.Nothing.{none_ever}
-use Rattle.law_world.proofs.OfRuns.Lives.{runs_on}
-use Rattle.law_world.specs.Guarded.EndsAlone.{AreKeeperMoves, most_keeper_asks, most_session_asks}
-use Rattle.law_world.specs.Guarded.OpenedStore.{IsOpenedStore}
-use Rattle.law_world.specs.Guarded.Shows.{IsOpened}
-use Rattle.fkv_core.specs.declared.events.Actor.TheVariants.{Session, Keeper}
-use Rattle.fkv_core.specs.Alone.{Move, in_hand, moves_of}
+use Rattle.law_opening.specs.Below.fkv_keeper.KeeperRun.{is_in_hand}
+use Rattle.law_opening.specs.Below.fkv_session.Sessions.{SessionState, is_busy}
+use Rattle.law_opening.specs.Below.law_world.Runs.Ends.{asks_left_of, asks_left_of_keeper, moves_alone}
+use Rattle.law_opening.specs.Below.fkv_world.Runs.{World, run}
+use Rattle.law_opening.specs.Below.fkv_world.World.{Event, Moves}
+use Rattle.law_opening.proofs.Below.law_world.OfRuns.Nothing.{none_ever}
+use Rattle.law_opening.proofs.Below.law_world.OfRuns.Lives.{runs_on}
+use Rattle.law_opening.specs.Below.law_world.Guarded.EndsAlone.{AreKeeperMoves, most_keeper_asks, most_session_asks}
+use Rattle.law_opening.specs.Below.law_world.Guarded.OpenedStore.{IsOpenedStore}
+use Rattle.law_opening.specs.Below.law_world.Guarded.Shows.{IsOpened}
+use Rattle.law_opening.specs.Below.fkv_core.Actor.TheVariants.{Session, Keeper}
+use Rattle.law_opening.specs.Below.fkv_core.Alone.{Move, in_hand, moves_of}
 use Rattle.law_answers.proofs.OfAnswered.OneEvent.{IsBusy, busy_of, call_of}
 
 -- the moves, in the words of the law by which they end

@@ -3,29 +3,29 @@ use Rattle.std.proofs.Common.{◌≡◌, ℕ, zero, suc, ◌∙◌, refl, sym, a
 use Rattle.std.specs.Prelude.{Option, Some, None, not, ◌&&◌, slice_get}
 use Rattle.fkv_base.specs.declared.commits.CommitKind.{CommitKind}
 use Rattle.fkv_epoch.proofs.Shown.{item_written}
-use Rattle.fkv_keeper.specs.Answers.{IsKeeperTold}
-use Rattle.fkv_keeper.specs.declared.answers.KeeperAsk.{KeeperAsk}
-use Rattle.fkv_keeper.specs.declared.answers.KeeperTold.{KeeperTold}
-use Rattle.fkv_keeper.specs.declared.answers.KeeperTold.TheVariants.{Begun, CommitRefused, Device, TurnRefused, Turned}
-use Rattle.fkv_keeper.specs.declared.keepers.Keeping.{Keeping}
-use Rattle.fkv_keeper.specs.declared.keepers.Keeping.TheVariants.{Ended}
-use Rattle.fkv_keeper.specs.KeeperRun.{is_in_hand}
-use Rattle.fkv_keeper.specs.Keeping.{Finality, KeeperState, commit_asked, end_told, turn_asked}
+use Rattle.law_opening.specs.Below.fkv_keeper.Answers.{IsKeeperTold}
+use Rattle.law_opening.specs.Below.fkv_keeper.KeeperAsk.{KeeperAsk}
+use Rattle.law_opening.specs.Below.fkv_keeper.KeeperTold.{KeeperTold}
+use Rattle.law_opening.specs.Below.fkv_keeper.KeeperTold.TheVariants.{Begun, CommitRefused, Device, TurnRefused, Turned}
+use Rattle.law_opening.specs.Below.fkv_keeper.TheKeeping.{Keeping}
+use Rattle.law_opening.specs.Below.fkv_keeper.TheKeeping.TheVariants.{Ended}
+use Rattle.law_opening.specs.Below.fkv_keeper.KeeperRun.{is_in_hand}
+use Rattle.law_opening.specs.Below.fkv_keeper.Keeping.{Finality, KeeperState, commit_asked, end_told, turn_asked}
 use Rattle.fkv_map.specs.declared.operations.Call.{Call}
-use Rattle.fkv_session.specs.declared.answers.Answer.{Answer}
-use Rattle.fkv_session.specs.declared.answers.Finished.{Finished}
-use Rattle.fkv_session.specs.declared.sessions.Sitting.{Sitting}
-use Rattle.fkv_session.specs.declared.sessions.Sitting.TheVariants.{Idle}
-use Rattle.fkv_session.specs.Sessions.{SessionState, is_busy}
-use Rattle.fkv_world.specs.World.{Calls, Commits, Event, Now, Turns, happens_now, keeper_asked, life_goes, near, seat_at, session_called, with_keeper, with_session}
-use Rattle.fkv_core.specs.declared.events.Actor.{Actor}
-use Rattle.fkv_core.specs.declared.events.Actor.TheVariants.{Session, Keeper}
-use Rattle.fkv_core.specs.declared.events.Event as asked
-use Rattle.fkv_core.specs.declared.events.Event.TheVariants as events
-use Rattle.fkv_core.specs.declared.events.Told.{Told}
-use Rattle.fkv_core.specs.Alone.{in_hand, is_seat_busy}
-use Rattle.fkv_core.specs.Told.{IsKeepingTold, IsNumbered, IsSessionEnd, IsSittingTold, IsTold, keeper_told, may_begin, numbered}
-use Rattle.fkv_core.specs.Worlds.{took_place}
+use Rattle.law_opening.specs.Below.fkv_session.Answer.{Answer}
+use Rattle.law_opening.specs.Below.fkv_session.Finished.{Finished}
+use Rattle.law_opening.specs.Below.fkv_session.Sitting.{Sitting}
+use Rattle.law_opening.specs.Below.fkv_session.Sitting.TheVariants.{Idle}
+use Rattle.law_opening.specs.Below.fkv_session.Sessions.{SessionState, is_busy}
+use Rattle.law_opening.specs.Below.fkv_world.World.{Calls, Commits, Event, Now, Turns, happens_now, keeper_asked, life_goes, near, seat_at, session_called, with_keeper, with_session}
+use Rattle.law_opening.specs.Below.fkv_core.Actor.{Actor}
+use Rattle.law_opening.specs.Below.fkv_core.Actor.TheVariants.{Session, Keeper}
+use Rattle.law_opening.specs.Below.fkv_core.Event as asked
+use Rattle.law_opening.specs.Below.fkv_core.Event.TheVariants as events
+use Rattle.law_opening.specs.Below.fkv_core.TheTold.{Told}
+use Rattle.law_opening.specs.Below.fkv_core.Alone.{in_hand, is_seat_busy}
+use Rattle.law_opening.specs.Below.fkv_core.Told.{IsKeepingTold, IsNumbered, IsSessionEnd, IsSittingTold, IsTold, keeper_told, may_begin, numbered}
+use Rattle.law_opening.specs.Below.fkv_core.Worlds.{took_place}
 use Rattle.law_answers.specs.Answered.Answers.{TellsAnswer}
 use Rattle.law_answers.specs.Answered.Calls.{IsStartOf, IsThere}
 use Rattle.law_answers.proofs.OfAnswered.OneEvent.{keeper_still, session_still}

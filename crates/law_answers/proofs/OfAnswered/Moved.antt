@@ -2,13 +2,13 @@
 use Rattle.std.proofs.Common.{◌≡◌, suc, ◌+◌, ◌∙◌, refl, sym, ap, subst, arith, append_assoc, inl, inr, List, [], ◌∷◌, ◌++◌, length, Bool, true}
 use Rattle.std.specs.Prelude.{⊤}
 use Rattle.std.proofs.lemmas.List.{length-append}
-use Rattle.fkv_world.specs.Past.{TraceEvent}
-use Rattle.fkv_world.specs.Runs.{World, happens, run}
-use Rattle.fkv_core.specs.declared.events.Actor.{Actor}
-use Rattle.fkv_core.specs.declared.events.Actor.TheVariants.{Session, Keeper}
-use Rattle.fkv_core.specs.Alone.{Move, in_hand, moves_of, moving}
-use Rattle.fkv_core.specs.Lives.{answers_of}
-use Rattle.fkv_core.specs.Worlds.{took_place}
+use Rattle.law_opening.specs.Below.fkv_world.Past.{TraceEvent}
+use Rattle.law_opening.specs.Below.fkv_world.Runs.{World, happens, run}
+use Rattle.law_opening.specs.Below.fkv_core.Actor.{Actor}
+use Rattle.law_opening.specs.Below.fkv_core.Actor.TheVariants.{Session, Keeper}
+use Rattle.law_opening.specs.Below.fkv_core.Alone.{Move, in_hand, moves_of, moving}
+use Rattle.law_opening.specs.Below.fkv_core.Lives.{answers_of}
+use Rattle.law_opening.specs.Below.fkv_core.Worlds.{took_place}
 use Rattle.law_answers.specs.Answered.Answers.{IsAnswerOf}
 use Rattle.law_answers.proofs.OfAnswered.OneEvent.{StepsOn, keeper_steps, no_more, session_steps}
 

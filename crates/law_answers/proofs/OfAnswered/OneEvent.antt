@@ -4,28 +4,28 @@ use Rattle.std.specs.Prelude.{Option, Some, None, ◌==◌, not, slice_get}
 use Rattle.std.proofs.lemmas.Bool.{and_parts}
 use Rattle.std.proofs.lemmas.Bool.Decides.{nat_tests}
 use Rattle.fkv_base.specs.declared.commits.CommitKind.TheVariants.{Full}
-use Rattle.fkv_keeper.specs.declared.keepers.Keeping.{Keeping}
-use Rattle.fkv_keeper.specs.declared.keepers.Keeping.TheVariants.{Ended}
-use Rattle.fkv_keeper.specs.KeeperRun.{is_in_hand}
-use Rattle.fkv_keeper.specs.Keeping.{Finality, KeeperState}
+use Rattle.law_opening.specs.Below.fkv_keeper.TheKeeping.{Keeping}
+use Rattle.law_opening.specs.Below.fkv_keeper.TheKeeping.TheVariants.{Ended}
+use Rattle.law_opening.specs.Below.fkv_keeper.KeeperRun.{is_in_hand}
+use Rattle.law_opening.specs.Below.fkv_keeper.Keeping.{Finality, KeeperState}
 use Rattle.fkv_map.specs.declared.operations.Call.TheVariants.{Poll}
-use Rattle.fkv_session.specs.declared.answers.Finished.{Finished}
-use Rattle.fkv_session.specs.declared.sessions.Sitting.{Sitting}
-use Rattle.fkv_session.specs.declared.sessions.Sitting.TheVariants.{Idle}
-use Rattle.fkv_session.specs.SessionRun.{telling}
-use Rattle.fkv_session.specs.Sessions.{SessionState, is_busy}
-use Rattle.fkv_world.specs.Actors.{is_of_keeper, is_of_session, session_goes}
-use Rattle.law_world.specs.Runs.Added.{begun_by, call_answered, ended_by, keeper_told, told_at, told_by}
-use Rattle.fkv_world.specs.Past.{TraceEvent, Answered, KeeperAnswered}
-use Rattle.fkv_world.specs.Runs.{World, happens}
-use Rattle.fkv_world.specs.World.{Calls, Commits, Event, KeeperMoves, Moves, Now, Turns, near, seat_at}
-use Rattle.law_world.proofs.OfRuns.Nothing.{in_hand as called_in_hand, keeper_in_hand, keeper_none_in_hand, no_session, none_in_hand}
-use Rattle.fkv_world.proofs.Shown.{is_over, keeper_apart, keeper_own, session_apart, session_own, session_written}
-use Rattle.law_world.proofs.OfRuns.Added.{trace_so}
-use Rattle.fkv_core.specs.declared.events.Actor.{Actor}
-use Rattle.fkv_core.specs.declared.events.Actor.TheVariants.{Session, Keeper}
-use Rattle.fkv_core.specs.Alone.{has_call, in_hand, is_seat_busy}
-use Rattle.fkv_core.specs.Lives.{answers_of}
+use Rattle.law_opening.specs.Below.fkv_session.Finished.{Finished}
+use Rattle.law_opening.specs.Below.fkv_session.Sitting.{Sitting}
+use Rattle.law_opening.specs.Below.fkv_session.Sitting.TheVariants.{Idle}
+use Rattle.law_opening.specs.Below.fkv_session.SessionRun.{telling}
+use Rattle.law_opening.specs.Below.fkv_session.Sessions.{SessionState, is_busy}
+use Rattle.law_opening.specs.Below.fkv_world.Actors.{is_of_keeper, is_of_session, session_goes}
+use Rattle.law_opening.specs.Below.law_world.Runs.Added.{begun_by, call_answered, ended_by, keeper_told, told_at, told_by}
+use Rattle.law_opening.specs.Below.fkv_world.Past.{TraceEvent, Answered, KeeperAnswered}
+use Rattle.law_opening.specs.Below.fkv_world.Runs.{World, happens}
+use Rattle.law_opening.specs.Below.fkv_world.World.{Calls, Commits, Event, KeeperMoves, Moves, Now, Turns, near, seat_at}
+use Rattle.law_opening.proofs.Below.law_world.OfRuns.Nothing.{in_hand as called_in_hand, keeper_in_hand, keeper_none_in_hand, no_session, none_in_hand}
+use Rattle.law_opening.proofs.Below.fkv_world.Shown.{is_over, keeper_apart, keeper_own, session_apart, session_own, session_written}
+use Rattle.law_opening.proofs.Below.law_world.OfRuns.Added.{trace_so}
+use Rattle.law_opening.specs.Below.fkv_core.Actor.{Actor}
+use Rattle.law_opening.specs.Below.fkv_core.Actor.TheVariants.{Session, Keeper}
+use Rattle.law_opening.specs.Below.fkv_core.Alone.{has_call, in_hand, is_seat_busy}
+use Rattle.law_opening.specs.Below.fkv_core.Lives.{answers_of}
 use Rattle.law_answers.specs.Answered.Answers.{GetsAnswer}
 
 -- a session's call that is in hand

@@ -2,17 +2,17 @@
 use Rattle.std.proofs.Common.{◌≡◌, ℕ, ◌-◌, ◌^◌, ◌≤◌, ◌∙◌, sym, ap, subst, inl, inr, ◌⊎◌, List, ◌∷◌, ◌++◌, length, Bool, true, false}
 use Rattle.std.specs.Prelude.{Option, None}
 use Rattle.fkv_base.specs.Limits.{max_sessions}
-use Rattle.fkv_world.specs.Past.{Answered, KeeperAnswered, TraceEvent}
-use Rattle.fkv_world.specs.Runs.{World, run}
-use Rattle.fkv_world.specs.World.{Event, Now}
-use Rattle.law_world.proofs.OfRuns.Lives.{runs_on}
-use Rattle.fkv_core.specs.declared.events.Actor.{Actor}
-use Rattle.fkv_core.specs.declared.events.Actor.TheVariants.{Session, Keeper}
-use Rattle.fkv_core.specs.declared.events.Event as asked
-use Rattle.fkv_core.specs.declared.events.Told.{Told}
-use Rattle.fkv_core.specs.Alone.{Move, in_hand, moves_of}
-use Rattle.fkv_core.specs.Lives.{IsAnswerSaid, IsSaid, answers_of}
-use Rattle.fkv_core.specs.Worlds.{WorldModel, took_place}
+use Rattle.law_opening.specs.Below.fkv_world.Past.{Answered, KeeperAnswered, TraceEvent}
+use Rattle.law_opening.specs.Below.fkv_world.Runs.{World, run}
+use Rattle.law_opening.specs.Below.fkv_world.World.{Event, Now}
+use Rattle.law_opening.proofs.Below.law_world.OfRuns.Lives.{runs_on}
+use Rattle.law_opening.specs.Below.fkv_core.Actor.{Actor}
+use Rattle.law_opening.specs.Below.fkv_core.Actor.TheVariants.{Session, Keeper}
+use Rattle.law_opening.specs.Below.fkv_core.Event as asked
+use Rattle.law_opening.specs.Below.fkv_core.TheTold.{Told}
+use Rattle.law_opening.specs.Below.fkv_core.Alone.{Move, in_hand, moves_of}
+use Rattle.law_opening.specs.Below.fkv_core.Lives.{IsAnswerSaid, IsSaid, answers_of}
+use Rattle.law_opening.specs.Below.fkv_core.Worlds.{WorldModel, took_place}
 use Rattle.law_answers.specs.Answered.Answers.{IsAnswerOf, TellsAnswer}
 use Rattle.law_answers.specs.Answered.Calls.{IsFinished, IsStepped}
 use Rattle.law_answers.specs.Answered.Lives.{IsOfLife}

@@ -1,13 +1,13 @@
 -- A life begins over a device that is synced.
 use Rattle.std.proofs.Common.{◌≡◌, refl, sym, subst, ℕ, List, []}
-use Rattle.fkv_core.specs.Openings.{IsOpeningWorld, beginning}
-use Rattle.fkv_core.specs.Worlds.{WorldModel}
+use Rattle.law_opening.specs.Below.fkv_core.Openings.{IsOpeningWorld, beginning}
+use Rattle.law_opening.specs.Below.fkv_core.Worlds.{WorldModel}
 use Rattle.fkv_disk.specs.Device.{IsAfter, LeavesOnly}
-use Rattle.fkv_opening.specs.declared.opened_store.Opened.{Opened}
-use Rattle.fkv_world.specs.Opened.{IsOpenedWorld}
-use Rattle.fkv_world.specs.Runs.{run}
-use Rattle.fkv_world.specs.World.{Now}
-use Rattle.law_world.specs.Guarded.OpenedStore.{IsOpenedStore}
+use Rattle.law_opening.specs.Below.fkv_opening.TheOpened.{Opened}
+use Rattle.law_opening.specs.Below.fkv_world.Opened.{IsOpenedWorld}
+use Rattle.law_opening.specs.Below.fkv_world.Runs.{run}
+use Rattle.law_opening.specs.Below.fkv_world.World.{Now}
+use Rattle.law_opening.specs.Below.law_world.Guarded.OpenedStore.{IsOpenedStore}
 use Rattle.law_answers.specs.Answered.Lives.{IsOfLife}
 
 -- what the laws of opened stores say

@@ -8,17 +8,17 @@ use Rattle.fkv_plane.specs.declared.asks.Ask.TheVariants.{Put, Take, Done}
 use Rattle.fkv_plane.specs.Asked.{reply_to}
 use Rattle.fkv_plane.specs.Passing.{is_done}
 use Rattle.fkv_plane.specs.Plane.{action_at}
-use Rattle.fkv_core.specs.Alone.{in_hand, is_seat_busy}
-use Rattle.fkv_core.specs.declared.events.Actor.TheVariants.{Session}
-use Rattle.fkv_session.specs.declared.answers.Told.{Told}
-use Rattle.fkv_session.specs.AsksLeft.{session_asks_left}
-use Rattle.fkv_session.specs.SessionRun.{SessionEvent, Replies, session_run}
-use Rattle.fkv_session.specs.Sessions.{SessionState, Seat, is_busy, session_ask, session_next}
-use Rattle.fkv_session.proofs.Shown.{run_ended, session_left}
-use Rattle.fkv_world.specs.Actors.{is_of_session, slot_asked}
-use Rattle.fkv_world.specs.Moves.{Near}
-use Rattle.fkv_world.specs.OwnEvents.{session_got, session_part, session_part_found, session_part_of, session_slots, session_steps}
-use Rattle.fkv_world.specs.World.{Moves, Now, near, seat_at}
+use Rattle.law_opening.specs.Below.fkv_core.Alone.{in_hand, is_seat_busy}
+use Rattle.law_opening.specs.Below.fkv_core.Actor.TheVariants.{Session}
+use Rattle.law_opening.specs.Below.fkv_session.Told.{Told}
+use Rattle.law_opening.specs.Below.fkv_session.AsksLeft.{session_asks_left}
+use Rattle.law_opening.specs.Below.fkv_session.SessionRun.{SessionEvent, Replies, session_run}
+use Rattle.law_opening.specs.Below.fkv_session.Sessions.{SessionState, Seat, is_busy, session_ask, session_next}
+use Rattle.law_opening.proofs.Below.fkv_session.Shown.{run_ended, session_left}
+use Rattle.law_opening.specs.Below.fkv_world.Actors.{is_of_session, slot_asked}
+use Rattle.law_opening.specs.Below.fkv_world.Moves.{Near}
+use Rattle.law_opening.specs.Below.fkv_world.OwnEvents.{session_got, session_part, session_part_found, session_part_of, session_slots, session_steps}
+use Rattle.law_opening.specs.Below.fkv_world.World.{Moves, Now, near, seat_at}
 use Rattle.law_answers.proofs.OfEffects.Quiet.{HaveReply}
 
 -- a session of this number is there, with its call in hand, and the life goes on

@@ -3,12 +3,12 @@ use Rattle.std.proofs.Common.{◌≡◌, suc, ◌≤◌, ◌∙◌, refl, ap, ar
 use Rattle.std.specs.Prelude.{⊤, Option, Some, None}
 use Rattle.fkv_map.specs.declared.history.HistoryEntry.{HistoryEntry}
 use Rattle.fkv_plane.specs.declared.actions.Action.{Action}
-use Rattle.fkv_session.specs.Replies.{effects_told, with_effect}
-use Rattle.fkv_session.specs.SessionRun.{SessionEvent, Begins, Replies, Gets, session_happens, session_run}
-use Rattle.fkv_session.specs.Sessions.{SessionState, Seat, sitting_given}
-use Rattle.fkv_session.specs.declared.sessions.Sitting.{Sitting}
-use Rattle.fkv_session.specs.declared.sessions.Sitting.TheVariants.{Turns}
-use Rattle.law_world.proofs.OfRuns.EffectStays.{turn_keeps}
+use Rattle.law_opening.specs.Below.fkv_session.Replies.{effects_told, with_effect}
+use Rattle.law_opening.specs.Below.fkv_session.SessionRun.{SessionEvent, Begins, Replies, Gets, session_happens, session_run}
+use Rattle.law_opening.specs.Below.fkv_session.Sessions.{SessionState, Seat, sitting_given}
+use Rattle.law_opening.specs.Below.fkv_session.Sitting.{Sitting}
+use Rattle.law_opening.specs.Below.fkv_session.Sitting.TheVariants.{Turns}
+use Rattle.law_opening.proofs.Below.law_world.OfRuns.EffectStays.{turn_keeps}
 
 -- some reply, and behind it nothing but actions that it gets; the newest first
 abbrev pub HaveReply : List SessionEvent → Type 0

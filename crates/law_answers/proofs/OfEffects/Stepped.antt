@@ -2,19 +2,19 @@
 use Rattle.std.proofs.Common.{◌≡◌, ℕ, ◌∙◌, refl, sym, ap, Bool, List, [], ◌∷◌, ◌++◌}
 use Rattle.std.specs.Prelude.{Option, Some, None, reverse}
 use Rattle.std.proofs.lemmas.List.{append-nil, reverse-append}
-use Rattle.fkv_core.specs.Worlds.{took_place}
-use Rattle.fkv_core.specs.declared.events.Event as asked
-use Rattle.fkv_core.specs.declared.events.Event.TheVariants as ask
-use Rattle.fkv_core.specs.Worlds.{WorldModel}
-use Rattle.fkv_core.specs.declared.events.Told.{Told}
+use Rattle.law_opening.specs.Below.fkv_core.Worlds.{took_place}
+use Rattle.law_opening.specs.Below.fkv_core.Event as asked
+use Rattle.law_opening.specs.Below.fkv_core.Event.TheVariants as ask
+use Rattle.law_opening.specs.Below.fkv_core.Worlds.{WorldModel}
+use Rattle.law_opening.specs.Below.fkv_core.TheTold.{Told}
 use Rattle.fkv_map.specs.declared.history.HistoryEntry.{HistoryEntry}
-use Rattle.fkv_session.specs.Replies.{with_effect}
+use Rattle.law_opening.specs.Below.fkv_session.Replies.{with_effect}
 use Rattle.law_answers.specs.Answered.Calls.{IsStepped}
 use Rattle.law_answers.specs.Answered.Lives.{IsOfLife}
-use Rattle.fkv_world.specs.Opened.{IsOpenedWorld}
-use Rattle.fkv_world.specs.Runs.{World, run}
-use Rattle.fkv_world.specs.World.{Event, Now}
-use Rattle.law_world.specs.Guarded.OpenedStore.{IsOpenedStore}
+use Rattle.law_opening.specs.Below.fkv_world.Opened.{IsOpenedWorld}
+use Rattle.law_opening.specs.Below.fkv_world.Runs.{World, run}
+use Rattle.law_opening.specs.Below.fkv_world.World.{Event, Now}
+use Rattle.law_opening.specs.Below.law_world.Guarded.OpenedStore.{IsOpenedStore}
 use Rattle.law_answers.specs.Effects.Kept.{listed, told_behind, told_behind_step, updates}
 
 -- what `law_effects_told` says of each event

@@ -4,25 +4,25 @@ use Rattle.std.specs.Prelude.{◌&&◌, not, if◌then◌else◌, Option, Some, 
 use Rattle.fkv_map.specs.declared.history.HistoryEntry.{HistoryEntry}
 use Rattle.fkv_map.specs.declared.operations.Call.TheVariants.{Poll}
 use Rattle.fkv_plane.specs.Passing.{is_done}
-use Rattle.fkv_core.specs.Alone.{in_hand, is_seat_busy}
-use Rattle.fkv_core.specs.Showing.{effect_at, effect_of}
-use Rattle.fkv_core.specs.declared.events.Actor.TheVariants.{Session}
-use Rattle.fkv_session.specs.Replies.{effects_told, with_effect}
-use Rattle.fkv_session.specs.SessionRun.{SessionEvent, session_run}
-use Rattle.fkv_session.specs.Sessions.{SessionState, Seat, is_busy, session_ask}
-use Rattle.fkv_world.specs.Actors.{slot_asked}
-use Rattle.law_world.specs.Runs.Added.{IsEffectOf, IsHistoryAfter}
-use Rattle.fkv_world.specs.Opened.{IsOpenedWorld, effects_of}
-use Rattle.fkv_world.specs.OwnEvents.{session_events, session_part_of}
-use Rattle.fkv_world.specs.Past.{Effect}
-use Rattle.fkv_world.specs.Runs.{World, happens, run}
-use Rattle.fkv_world.specs.World.{Event, Calls, Moves, Commits, Turns, KeeperMoves, Crashes, seat_at}
-use Rattle.law_world.proofs.OfRuns.Added.{history_so}
-use Rattle.fkv_world.proofs.Shown.{is_over, same_seat, session_runs}
-use Rattle.law_world.proofs.OfSessions.Effects.{life_made}
-use Rattle.law_world.proofs.OfRuns.Nothing.{no_session, none_ever, none_in_hand}
-use Rattle.law_world.specs.Guarded.OpenedStore.{IsOpenedStore}
-use Rattle.law_world.specs.Guarded.Shows.{IsOpened}
+use Rattle.law_opening.specs.Below.fkv_core.Alone.{in_hand, is_seat_busy}
+use Rattle.law_opening.specs.Below.fkv_core.Showing.{effect_at, effect_of}
+use Rattle.law_opening.specs.Below.fkv_core.Actor.TheVariants.{Session}
+use Rattle.law_opening.specs.Below.fkv_session.Replies.{effects_told, with_effect}
+use Rattle.law_opening.specs.Below.fkv_session.SessionRun.{SessionEvent, session_run}
+use Rattle.law_opening.specs.Below.fkv_session.Sessions.{SessionState, Seat, is_busy, session_ask}
+use Rattle.law_opening.specs.Below.fkv_world.Actors.{slot_asked}
+use Rattle.law_opening.specs.Below.law_world.Runs.Added.{IsEffectOf, IsHistoryAfter}
+use Rattle.law_opening.specs.Below.fkv_world.Opened.{IsOpenedWorld, effects_of}
+use Rattle.law_opening.specs.Below.fkv_world.OwnEvents.{session_events, session_part_of}
+use Rattle.law_opening.specs.Below.fkv_world.Past.{Effect}
+use Rattle.law_opening.specs.Below.fkv_world.Runs.{World, happens, run}
+use Rattle.law_opening.specs.Below.fkv_world.World.{Event, Calls, Moves, Commits, Turns, KeeperMoves, Crashes, seat_at}
+use Rattle.law_opening.proofs.Below.law_world.OfRuns.Added.{history_so}
+use Rattle.law_opening.proofs.Below.fkv_world.Shown.{is_over, same_seat, session_runs}
+use Rattle.law_opening.proofs.Below.law_world.OfSessions.Effects.{life_made}
+use Rattle.law_opening.proofs.Below.law_world.OfRuns.Nothing.{no_session, none_ever, none_in_hand}
+use Rattle.law_opening.specs.Below.law_world.Guarded.OpenedStore.{IsOpenedStore}
+use Rattle.law_opening.specs.Below.law_world.Guarded.Shows.{IsOpened}
 use Rattle.law_answers.specs.Effects.Kept.{effects_kept, told_behind, updates}
 use Rattle.law_answers.proofs.OfEffects.Moved.{IsBusy, asks_on, busy_of, move_replies}
 use Rattle.law_answers.proofs.OfEffects.Quiet.{HaveReply, quiet}

@@ -1,12 +1,12 @@
 -- Whose answer comes.
 use Rattle.std.specs.Prelude.{◌≡◌, ⊤, ◌∷◌, Option, Some, None}
-use Rattle.fkv_core.specs.declared.events.Actor.{Actor}
-use Rattle.fkv_core.specs.declared.events.Actor.TheVariants.{Session, Keeper}
-use Rattle.fkv_core.specs.declared.events.Told.{Told}
-use Rattle.fkv_core.specs.declared.events.Told.TheVariants as told
-use Rattle.fkv_core.specs.Lives.{answers_of}
-use Rattle.fkv_world.specs.Past.{TraceEvent, Answered, KeeperAnswered}
-use Rattle.fkv_world.specs.Runs.{World}
+use Rattle.law_opening.specs.Below.fkv_core.Actor.{Actor}
+use Rattle.law_opening.specs.Below.fkv_core.Actor.TheVariants.{Session, Keeper}
+use Rattle.law_opening.specs.Below.fkv_core.TheTold.{Told}
+use Rattle.law_opening.specs.Below.fkv_core.TheTold.TheVariants as told
+use Rattle.law_opening.specs.Below.fkv_core.Lives.{answers_of}
+use Rattle.law_opening.specs.Below.fkv_world.Past.{TraceEvent, Answered, KeeperAnswered}
+use Rattle.law_opening.specs.Below.fkv_world.Runs.{World}
 
 -- an answer of the trace is to a call of this actor
 abbrev pub IsAnswerOf : Actor → TraceEvent → Type 0

@@ -1,10 +1,10 @@
 -- What the law of `beginnings` says.
 use Rattle.std.specs.Prelude.{◌≡◌, ◌↔◌, [], ℕ, List}
 use Rattle.law_answers.specs.Answered.Lives.{IsOfLife}
-use Rattle.fkv_core.specs.Openings.{IsOpeningWorld, beginning}
-use Rattle.fkv_core.specs.Worlds.{WorldModel}
+use Rattle.law_opening.specs.Below.fkv_core.Openings.{IsOpeningWorld, beginning}
+use Rattle.law_opening.specs.Below.fkv_core.Worlds.{WorldModel}
 use Rattle.fkv_disk.specs.Device.{LeavesOnly}
-use Rattle.fkv_opening.specs.declared.opened_store.Opened.{Opened}
+use Rattle.law_opening.specs.Below.fkv_opening.TheOpened.{Opened}
 use Rattle.fkv_disk.specs.Quiet.{IsQuiet}
 
 -- with a world over an honest device of which a crash leaves just what is read begins a life

@@ -1,13 +1,13 @@
 -- How an actor's call is begun, and moved to its end.
 use Rattle.std.specs.Prelude.{◌≡◌, ◌<◌, ⊤, ℕ, Bool, List, length, Option}
-use Rattle.fkv_core.specs.declared.events.Actor.{Actor}
-use Rattle.fkv_core.specs.declared.events.Actor.TheVariants.{Session, Keeper}
-use Rattle.fkv_core.specs.declared.events.Event.{Event}
-use Rattle.fkv_core.specs.declared.events.Event.TheVariants.{Call, Commit, Turn}
-use Rattle.fkv_core.specs.declared.events.Told.{Told}
-use Rattle.fkv_core.specs.Alone.{IsMovedAlone}
-use Rattle.fkv_core.specs.Worlds.{IsStep, WorldModel}
-use Rattle.fkv_world.specs.World.{Now}
+use Rattle.law_opening.specs.Below.fkv_core.Actor.{Actor}
+use Rattle.law_opening.specs.Below.fkv_core.Actor.TheVariants.{Session, Keeper}
+use Rattle.law_opening.specs.Below.fkv_core.Event.{Event}
+use Rattle.law_opening.specs.Below.fkv_core.Event.TheVariants.{Call, Commit, Turn}
+use Rattle.law_opening.specs.Below.fkv_core.TheTold.{Told}
+use Rattle.law_opening.specs.Below.fkv_core.Alone.{IsMovedAlone}
+use Rattle.law_opening.specs.Below.fkv_core.Worlds.{IsStep, WorldModel}
+use Rattle.law_opening.specs.Below.fkv_world.World.{Now}
 
 -- the event begins a call of this actor
 abbrev pub IsStartOf : Actor → Event → Type 0

@@ -1,18 +1,18 @@
 -- What the laws of `answered` say.
 use Rattle.std.specs.Prelude.{◌≡◌, ◌≤◌, ◌⊎◌, ◌∷◌, ◌++◌, ℕ, List, Option, None, false, true, Bool}
 use Rattle.fkv_base.specs.Limits.{max_sessions}
-use Rattle.fkv_core.specs.Alone.{Move, in_hand, moves_of}
-use Rattle.fkv_core.specs.Lives.{answers_of}
-use Rattle.fkv_core.specs.Openings.{IsOpeningWorld}
-use Rattle.fkv_core.specs.Worlds.{WorldModel, took_place}
-use Rattle.fkv_core.specs.declared.events.Actor.TheVariants.{Keeper, Session}
-use Rattle.fkv_core.specs.declared.events.Actor.{Actor}
-use Rattle.fkv_core.specs.declared.events.Event as asked
-use Rattle.fkv_core.specs.declared.events.Told.{Told}
-use Rattle.fkv_opening.specs.declared.opened_store.Opened.{Opened}
-use Rattle.fkv_world.specs.Runs as runs
-use Rattle.fkv_world.specs.Runs.{happens, run}
-use Rattle.fkv_world.specs.World.{Event, Now}
+use Rattle.law_opening.specs.Below.fkv_core.Alone.{Move, in_hand, moves_of}
+use Rattle.law_opening.specs.Below.fkv_core.Lives.{answers_of}
+use Rattle.law_opening.specs.Below.fkv_core.Openings.{IsOpeningWorld}
+use Rattle.law_opening.specs.Below.fkv_core.Worlds.{WorldModel, took_place}
+use Rattle.law_opening.specs.Below.fkv_core.Actor.TheVariants.{Keeper, Session}
+use Rattle.law_opening.specs.Below.fkv_core.Actor.{Actor}
+use Rattle.law_opening.specs.Below.fkv_core.Event as asked
+use Rattle.law_opening.specs.Below.fkv_core.TheTold.{Told}
+use Rattle.law_opening.specs.Below.fkv_opening.TheOpened.{Opened}
+use Rattle.law_opening.specs.Below.fkv_world.Runs as runs
+use Rattle.law_opening.specs.Below.fkv_world.Runs.{happens, run}
+use Rattle.law_opening.specs.Below.fkv_world.World.{Event, Now}
 use Rattle.law_answers.specs.Answered.Answers.{GetsAnswer, TellsAnswer}
 use Rattle.law_answers.specs.Answered.Calls.{IsFinished, IsStartOf, IsStepped, IsThere}
 use Rattle.law_answers.specs.Answered.Lives.{IsOfLife}

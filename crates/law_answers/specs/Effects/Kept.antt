@@ -1,15 +1,15 @@
 -- The effects that somebody keeps who asks for them behind each move.
 use Rattle.std.specs.Prelude.{ℕ, if◌then◌else◌, List, [], ◌∷◌, map, Option, Some, None}
-use Rattle.fkv_core.specs.Alone.{in_hand}
-use Rattle.fkv_core.specs.Showing.{effect_of}
-use Rattle.fkv_core.specs.declared.events.Actor.TheVariants.{Session}
-use Rattle.fkv_core.specs.declared.events.Event as asked
-use Rattle.fkv_core.specs.declared.events.Event.TheVariants as ask
+use Rattle.law_opening.specs.Below.fkv_core.Alone.{in_hand}
+use Rattle.law_opening.specs.Below.fkv_core.Showing.{effect_of}
+use Rattle.law_opening.specs.Below.fkv_core.Actor.TheVariants.{Session}
+use Rattle.law_opening.specs.Below.fkv_core.Event as asked
+use Rattle.law_opening.specs.Below.fkv_core.Event.TheVariants as ask
 use Rattle.fkv_map.specs.declared.history.HistoryEntry.{HistoryEntry}
-use Rattle.fkv_session.specs.Replies.{with_effect}
-use Rattle.fkv_world.specs.Past.{Effect}
-use Rattle.fkv_world.specs.Runs.{World, run}
-use Rattle.fkv_world.specs.World.{Event, Moves, Now}
+use Rattle.law_opening.specs.Below.fkv_session.Replies.{with_effect}
+use Rattle.law_opening.specs.Below.fkv_world.Past.{Effect}
+use Rattle.law_opening.specs.Below.fkv_world.Runs.{World, run}
+use Rattle.law_opening.specs.Below.fkv_world.World.{Event, Moves, Now}
 
 -- the updates of a history, without the versions of their requests
 abbrev pub updates : List Effect → List HistoryEntry

@@ -2,15 +2,15 @@
 use Rattle.std.specs.Prelude.{◌≡◌, ◌∷◌, ◌++◌, ℕ, List, Option, reverse, Bool}
 use Rattle.law_answers.specs.Answered.Calls.{IsStepped}
 use Rattle.law_answers.specs.Answered.Lives.{IsOfLife}
-use Rattle.fkv_core.specs.Worlds.{WorldModel, took_place}
-use Rattle.fkv_core.specs.declared.events.Event as asked
-use Rattle.fkv_core.specs.declared.events.Told.{Told}
-use Rattle.fkv_session.specs.Replies.{with_effect}
-use Rattle.fkv_world.specs.Opened.{IsOpenedWorld}
-use Rattle.fkv_world.specs.Runs as runs
-use Rattle.fkv_world.specs.Runs.{run}
-use Rattle.fkv_world.specs.World.{Event}
-use Rattle.law_world.specs.Guarded.OpenedStore.{IsOpenedStore}
+use Rattle.law_opening.specs.Below.fkv_core.Worlds.{WorldModel, took_place}
+use Rattle.law_opening.specs.Below.fkv_core.Event as asked
+use Rattle.law_opening.specs.Below.fkv_core.TheTold.{Told}
+use Rattle.law_opening.specs.Below.fkv_session.Replies.{with_effect}
+use Rattle.law_opening.specs.Below.fkv_world.Opened.{IsOpenedWorld}
+use Rattle.law_opening.specs.Below.fkv_world.Runs as runs
+use Rattle.law_opening.specs.Below.fkv_world.Runs.{run}
+use Rattle.law_opening.specs.Below.fkv_world.World.{Event}
+use Rattle.law_opening.specs.Below.law_world.Guarded.OpenedStore.{IsOpenedStore}
 use Rattle.law_answers.specs.Effects.Kept.{effects_kept, listed, told_behind, told_behind_step, updates}
 
 -- what is told behind an event is what it adds to the history

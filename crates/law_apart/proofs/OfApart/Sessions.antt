@@ -8,24 +8,24 @@ use Rattle.fkv_plane.specs.declared.places.Places.{Places}
 use Rattle.fkv_plane.specs.Passing.{is_done, passed}
 use Rattle.law_log.specs.Chains.{VersionsFall}
 use Rattle.law_log.specs.Ghosts.{Log}
-use Rattle.fkv_ops.specs.declared.answers.TryAnswer.{TryAnswer}
-use Rattle.fkv_ops.specs.declared.answers.TryAnswer.TheVariants as answer
-use Rattle.fkv_ops.specs.declared.requests.Occasion.TheVariants.{Call as AtCall, Poll as AtPoll}
-use Rattle.fkv_ops.specs.declared.requests.Seen.{Seen}
-use Rattle.fkv_ops.specs.Trying.{is_prepare, try_ask, try_next}
-use Rattle.fkv_pending.specs.declared.attempting.Attempting.{Attempting}
-use Rattle.fkv_pending.specs.declared.attempting.Attempting.TheVariants.{Ended, Looks, Puts, Tries}
-use Rattle.fkv_pending.specs.declared.pending_requests.PendingRequest.{PendingRequest}
-use Rattle.fkv_pending.specs.Attempting.{AttemptState, attempt_ask, attempt_next, attempting_ask}
-use Rattle.fkv_pending.specs.Pending.{with_latch}
-use Rattle.fkv_session.specs.declared.catching_up.Catching.{Catching}
-use Rattle.fkv_session.specs.declared.catching_up.Catching.TheVariants.{Latches}
-use Rattle.fkv_session.specs.declared.sessions.CatchCause.{CatchCause}
-use Rattle.fkv_session.specs.declared.sessions.CatchCause.TheVariants.{Shifts}
-use Rattle.fkv_session.specs.declared.sessions.Sitting.{Sitting}
-use Rattle.fkv_session.specs.declared.sessions.Sitting.TheVariants.{Attempts, CatchesUp, Polls}
-use Rattle.fkv_session.specs.CatchingUp.{CatchState, catch_requests, catching_requests}
-use Rattle.fkv_session.specs.Sessions.{SessionState, Seat, bits_of, is_busy, request_in_hand, room_of, session_begun, session_next}
+use Rattle.law_local.specs.Below.fkv_ops.TryAnswer.{TryAnswer}
+use Rattle.law_local.specs.Below.fkv_ops.TryAnswer.TheVariants as answer
+use Rattle.law_local.specs.Below.fkv_ops.Occasion.TheVariants.{Call as AtCall, Poll as AtPoll}
+use Rattle.law_local.specs.Below.fkv_ops.Seen.{Seen}
+use Rattle.law_local.specs.Below.fkv_ops.Trying.{is_prepare, try_ask, try_next}
+use Rattle.law_local.specs.Below.fkv_pending.TheAttempting.{Attempting}
+use Rattle.law_local.specs.Below.fkv_pending.TheAttempting.TheVariants.{Ended, Looks, Puts, Tries}
+use Rattle.law_local.specs.Below.fkv_pending.PendingRequest.{PendingRequest}
+use Rattle.law_local.specs.Below.fkv_pending.Attempting.{AttemptState, attempt_ask, attempt_next, attempting_ask}
+use Rattle.law_local.specs.Below.fkv_pending.Pending.{with_latch}
+use Rattle.law_local.specs.Below.fkv_session.Catching.{Catching}
+use Rattle.law_local.specs.Below.fkv_session.Catching.TheVariants.{Latches}
+use Rattle.law_local.specs.Below.fkv_session.CatchCause.{CatchCause}
+use Rattle.law_local.specs.Below.fkv_session.CatchCause.TheVariants.{Shifts}
+use Rattle.law_local.specs.Below.fkv_session.Sitting.{Sitting}
+use Rattle.law_local.specs.Below.fkv_session.Sitting.TheVariants.{Attempts, CatchesUp, Polls}
+use Rattle.law_local.specs.Below.fkv_session.CatchingUp.{CatchState, catch_requests, catching_requests}
+use Rattle.law_local.specs.Below.fkv_session.Sessions.{SessionState, Seat, bits_of, is_busy, request_in_hand, room_of, session_begun, session_next}
 use Rattle.law_local.specs.Sessions.Known.{IsHandedOver, IsKnownAnew, KnowsRequests, attempt_after, attempt_comes_to, catch_after, caught_up_at, is_attempting, is_polling, with_op}
 use Rattle.law_local.specs.Sessions.Moves.{requests_at}
 use Rattle.law_local.specs.Tries.AttemptRows.{AttemptKnows, IsTrueOfAttempt}

@@ -8,20 +8,20 @@ use Rattle.law_log.specs.Chains.{Cell, Dropped, Logged, Published, Reserved, Unb
 use Rattle.law_log.specs.Ghosts.{Log}
 use Rattle.law_log.specs.Trace.{IsIn}
 use Rattle.law_log.proofs.Shown.{Grows, Held, not_unborn}
-use Rattle.fkv_ops.specs.declared.requests.Request.{Request}
-use Rattle.fkv_ops.specs.declared.requests.Seen.{Seen}
-use Rattle.fkv_ops.specs.declared.trying.Trying.{Trying}
-use Rattle.fkv_ops.specs.declared.trying.Trying.TheVariants as try
-use Rattle.fkv_ops.specs.declared.walking.WalkAnswer.{WalkAnswer}
-use Rattle.fkv_ops.specs.declared.walking.WalkAnswer.TheVariants as walk
-use Rattle.fkv_ops.specs.declared.walking.Walking.{Walking}
-use Rattle.fkv_ops.specs.declared.walking.Walking.TheVariants.{Ended, Finds, HasFound, LoadsValue, Meets}
-use Rattle.fkv_ops.specs.Trying.{TryState, is_prepare}
-use Rattle.fkv_ops.specs.Walking.{WalkState}
-use Rattle.fkv_pending.specs.declared.attempting.Attempting.{Attempting}
-use Rattle.fkv_pending.specs.declared.attempting.Attempting.TheVariants as attempt
-use Rattle.fkv_pending.specs.declared.pending_requests.PendingRequest.{PendingRequest}
-use Rattle.fkv_pending.specs.Attempting.{AttemptState}
+use Rattle.law_local.specs.Below.fkv_ops.Request.{Request}
+use Rattle.law_local.specs.Below.fkv_ops.Seen.{Seen}
+use Rattle.law_local.specs.Below.fkv_ops.TheTrying.{Trying}
+use Rattle.law_local.specs.Below.fkv_ops.TheTrying.TheVariants as try
+use Rattle.law_local.specs.Below.fkv_ops.WalkAnswer.{WalkAnswer}
+use Rattle.law_local.specs.Below.fkv_ops.WalkAnswer.TheVariants as walk
+use Rattle.law_local.specs.Below.fkv_ops.TheWalking.{Walking}
+use Rattle.law_local.specs.Below.fkv_ops.TheWalking.TheVariants.{Ended, Finds, HasFound, LoadsValue, Meets}
+use Rattle.law_local.specs.Below.fkv_ops.Trying.{TryState, is_prepare}
+use Rattle.law_local.specs.Below.fkv_ops.Walking.{WalkState}
+use Rattle.law_local.specs.Below.fkv_pending.TheAttempting.{Attempting}
+use Rattle.law_local.specs.Below.fkv_pending.TheAttempting.TheVariants as attempt
+use Rattle.law_local.specs.Below.fkv_pending.PendingRequest.{PendingRequest}
+use Rattle.law_local.specs.Below.fkv_pending.Attempting.{AttemptState}
 use Rattle.law_local.specs.Tries.TryRows.{NoneIsLater, head_in, key_in}
 use Rattle.law_local.specs.Tries.WalkRows.{begin_of}
 use Rattle.law_local.proofs.OfTries.OnWay.{fixed_grows, found_grows}

@@ -9,11 +9,11 @@ use Rattle.fkv_plane.specs.declared.asks.Ask.{Ask}
 use Rattle.fkv_plane.specs.declared.asks.Ask.TheVariants.{Done}
 use Rattle.fkv_plane.specs.declared.places.Places.{Places}
 use Rattle.fkv_plane.specs.Passing.{is_done, passed}
-use Rattle.fkv_log.specs.declared.loading.Loading.{Loading}
-use Rattle.fkv_log.specs.declared.loading.Loading.TheVariants as load
-use Rattle.fkv_log.specs.declared.loading.LoadAnswer.{LoadAnswer}
-use Rattle.fkv_log.specs.declared.loading.LoadAnswer.TheVariants as loaded
-use Rattle.fkv_log.specs.Loading.{load_ask, load_next, load_next_ask}
+use Rattle.law_local.specs.Below.fkv_log.TheLoading.{Loading}
+use Rattle.law_local.specs.Below.fkv_log.TheLoading.TheVariants as load
+use Rattle.law_local.specs.Below.fkv_log.LoadAnswer.{LoadAnswer}
+use Rattle.law_local.specs.Below.fkv_log.LoadAnswer.TheVariants as loaded
+use Rattle.law_local.specs.Below.fkv_log.Loading.{load_ask, load_next, load_next_ask}
 use Rattle.fkv_index.specs.declared.finding.FindAnswer.{FindAnswer}
 use Rattle.fkv_index.specs.declared.finding.FindStep.{FindStep}
 use Rattle.fkv_index.specs.declared.finding.FindStep.TheVariants as find
@@ -29,16 +29,16 @@ use Rattle.law_log.specs.Ghosts.{Log}
 use Rattle.law_log.specs.Enabled.{AreChains, IsLinked, NoneAbove, previous_of}
 use Rattle.law_log.specs.Trace.{IsIn}
 use Rattle.law_log.proofs.Shown.{not_unborn}
-use Rattle.fkv_ops.specs.declared.header_words.HeaderSaid.{HeaderSaid}
-use Rattle.fkv_ops.specs.declared.header_words.HeaderSaid.TheVariants.{Says, Spoiled}
-use Rattle.fkv_ops.specs.declared.requests.Request.{Request}
-use Rattle.fkv_ops.specs.declared.requests.Seen.{Seen}
-use Rattle.fkv_ops.specs.declared.walking.WalkAnswer.{WalkAnswer}
-use Rattle.fkv_ops.specs.declared.walking.WalkAnswer.TheVariants as walk
-use Rattle.fkv_ops.specs.declared.walking.Walking.{Walking}
-use Rattle.fkv_ops.specs.declared.walking.Walking.TheVariants.{Ended, Finds, HasFound, LoadsValue, Meets}
-use Rattle.fkv_ops.specs.HeaderWords.{header_said}
-use Rattle.fkv_ops.specs.Walking.{WalkState, find_ledto, first_met, load_ledto, reached, record_met, slot_found, value_ledto, walk_ask, walk_next, walking_ask, walking_next}
+use Rattle.law_local.specs.Below.fkv_ops.HeaderSaid.{HeaderSaid}
+use Rattle.law_local.specs.Below.fkv_ops.HeaderSaid.TheVariants.{Says, Spoiled}
+use Rattle.law_local.specs.Below.fkv_ops.Request.{Request}
+use Rattle.law_local.specs.Below.fkv_ops.Seen.{Seen}
+use Rattle.law_local.specs.Below.fkv_ops.WalkAnswer.{WalkAnswer}
+use Rattle.law_local.specs.Below.fkv_ops.WalkAnswer.TheVariants as walk
+use Rattle.law_local.specs.Below.fkv_ops.TheWalking.{Walking}
+use Rattle.law_local.specs.Below.fkv_ops.TheWalking.TheVariants.{Ended, Finds, HasFound, LoadsValue, Meets}
+use Rattle.law_local.specs.Below.fkv_ops.HeaderWords.{header_said}
+use Rattle.law_local.specs.Below.fkv_ops.Walking.{WalkState, find_ledto, first_met, load_ledto, reached, record_met, slot_found, value_ledto, walk_ask, walk_next, walking_ask, walking_next}
 use Rattle.law_local.specs.Tries.OnWay.{IsOnWay, IsOrderly}
 use Rattle.law_local.specs.Tries.Replies.{EndsAtHead, IsTrueOfLoad, IsTrueOfWalk, LeadsToHead}
 use Rattle.law_local.specs.Tries.TryRows.{IsWalkFor, NoneIsLater, head_in, key_in}

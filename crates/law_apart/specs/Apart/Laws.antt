@@ -3,12 +3,12 @@ use Rattle.std.specs.Prelude.{◌≡◌, ℕ, Bool, true, false}
 use Rattle.fkv_plane.specs.declared.places.Places.{Places}
 use Rattle.law_log.specs.Chains.{VersionsFall}
 use Rattle.law_log.specs.Ghosts.{Log}
-use Rattle.fkv_ops.specs.declared.requests.Occasion.{Occasion}
-use Rattle.fkv_ops.specs.declared.requests.Request.{Request}
-use Rattle.fkv_ops.specs.declared.requests.Seen.{Seen}
-use Rattle.fkv_ops.specs.declared.trying.Trying.TheVariants.{Walks}
-use Rattle.fkv_ops.specs.Trying.{TryState, must_shift, try_begun, try_next}
-use Rattle.fkv_ops.specs.Walking.{walk_next}
+use Rattle.law_local.specs.Below.fkv_ops.Occasion.{Occasion}
+use Rattle.law_local.specs.Below.fkv_ops.Request.{Request}
+use Rattle.law_local.specs.Below.fkv_ops.Seen.{Seen}
+use Rattle.law_local.specs.Below.fkv_ops.TheTrying.TheVariants.{Walks}
+use Rattle.law_local.specs.Below.fkv_ops.Trying.{TryState, must_shift, try_begun, try_next}
+use Rattle.law_local.specs.Below.fkv_ops.Walking.{walk_next}
 use Rattle.law_local.specs.Tries.OnWay.{IsOrderly}
 use Rattle.law_local.specs.Tries.Replies.{IsTrueReply}
 use Rattle.law_local.specs.Tries.TryRows.{NoneIsLater, NoneLaterPast, TryKnows, key_in}

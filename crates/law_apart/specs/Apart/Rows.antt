@@ -20,21 +20,21 @@ use Rattle.law_log.specs.Chains.{Cell, Published, head_of, version_at}
 use Rattle.law_log.specs.Ghosts.{Log}
 use Rattle.law_log.specs.Enabled.{IsFixed}
 use Rattle.law_log.specs.Trace.{IsIn}
-use Rattle.fkv_ops.specs.declared.requests.Request.{Request}
-use Rattle.fkv_ops.specs.declared.requests.Seen.{Seen}
-use Rattle.fkv_ops.specs.declared.trying.Trying.{Trying}
-use Rattle.fkv_ops.specs.declared.trying.Trying.TheVariants.{Appends, DropsExclusive, LoadsOld, TakesShared, Walks}
-use Rattle.fkv_ops.specs.declared.walking.WalkAnswer.{WalkAnswer}
-use Rattle.fkv_ops.specs.declared.walking.WalkAnswer.TheVariants as walked
-use Rattle.fkv_ops.specs.declared.walking.Walking.{Walking}
-use Rattle.fkv_ops.specs.declared.walking.Walking.TheVariants.{Ended, Finds, HasFound, Meets}
-use Rattle.fkv_ops.specs.Trying.{TryState, is_moving_on, is_prepare, is_wait, try_ask}
-use Rattle.fkv_ops.specs.Walking.{WalkState}
-use Rattle.fkv_pending.specs.declared.attempting.Attempting.{Attempting}
-use Rattle.fkv_pending.specs.declared.attempting.Attempting.TheVariants.{Tries}
-use Rattle.fkv_pending.specs.declared.pending_requests.PendingRequest.{PendingRequest}
-use Rattle.fkv_pending.specs.Attempting.{AttemptState}
-use Rattle.fkv_session.specs.Sessions.{SessionState}
+use Rattle.law_local.specs.Below.fkv_ops.Request.{Request}
+use Rattle.law_local.specs.Below.fkv_ops.Seen.{Seen}
+use Rattle.law_local.specs.Below.fkv_ops.TheTrying.{Trying}
+use Rattle.law_local.specs.Below.fkv_ops.TheTrying.TheVariants.{Appends, DropsExclusive, LoadsOld, TakesShared, Walks}
+use Rattle.law_local.specs.Below.fkv_ops.WalkAnswer.{WalkAnswer}
+use Rattle.law_local.specs.Below.fkv_ops.WalkAnswer.TheVariants as walked
+use Rattle.law_local.specs.Below.fkv_ops.TheWalking.{Walking}
+use Rattle.law_local.specs.Below.fkv_ops.TheWalking.TheVariants.{Ended, Finds, HasFound, Meets}
+use Rattle.law_local.specs.Below.fkv_ops.Trying.{TryState, is_moving_on, is_prepare, is_wait, try_ask}
+use Rattle.law_local.specs.Below.fkv_ops.Walking.{WalkState}
+use Rattle.law_local.specs.Below.fkv_pending.TheAttempting.{Attempting}
+use Rattle.law_local.specs.Below.fkv_pending.TheAttempting.TheVariants.{Tries}
+use Rattle.law_local.specs.Below.fkv_pending.PendingRequest.{PendingRequest}
+use Rattle.law_local.specs.Below.fkv_pending.Attempting.{AttemptState}
+use Rattle.law_local.specs.Below.fkv_session.Sessions.{SessionState}
 use Rattle.law_local.specs.Sessions.Known.{KnowsRequests}
 use Rattle.law_local.specs.Tries.OnWay.{IsFoundAt}
 use Rattle.law_local.specs.Tries.TryRows.{NoneIsLater, head_in, key_in}

@@ -5,17 +5,17 @@ use Rattle.std.specs.List.{AllByRecursion}
 use Rattle.std.proofs.lemmas.List.{append_assoc}
 use Rattle.fkv_base.specs.declared.shapes.Shape.{Shape}
 use Rattle.fkv_plane.specs.declared.places.Places.{Places}
-use Rattle.fkv_checkpoint.specs.CopyWorld.{CopyWorld, CopyEvent, CopyBegins, CopyMoves, IndexMoves, copy_happens, copy_run}
-use Rattle.fkv_checkpoint.specs.Fuzzy.{CopiedHaveStood, HasStood, IsEntryThen, begun_at}
-use Rattle.fkv_checkpoint.specs.Triples.{CopiedEntry}
+use Rattle.law_refine.specs.Below.fkv_checkpoint.CopyWorld.{CopyWorld, CopyEvent, CopyBegins, CopyMoves, IndexMoves, copy_happens, copy_run}
+use Rattle.law_refine.specs.Below.fkv_checkpoint.Fuzzy.{CopiedHaveStood, HasStood, IsEntryThen, begun_at}
+use Rattle.law_refine.specs.Below.fkv_checkpoint.Triples.{CopiedEntry}
 use Rattle.fkv_index.specs.IndexWorld.{IndexEvent, IndexWorld, index_run}
-use Rattle.fkv_keeper.specs.declared.keepers.Keeping.{Keeping}
-use Rattle.fkv_keeper.specs.declared.keepers.Keeping.TheVariants.{LoadsPhase, Copies}
-use Rattle.fkv_keeper.specs.Keeping.{KeeperState}
-use Rattle.fkv_keeper.specs.KeeperRun.{KeeperEvent, Replies, keeper_run}
-use Rattle.fkv_world.specs.OwnEvents.{keeper_part_of}
-use Rattle.fkv_world.specs.Runs.{World, run}
-use Rattle.fkv_world.specs.World.{Event}
+use Rattle.law_refine.specs.Below.fkv_keeper.TheKeeping.{Keeping}
+use Rattle.law_refine.specs.Below.fkv_keeper.TheKeeping.TheVariants.{LoadsPhase, Copies}
+use Rattle.law_refine.specs.Below.fkv_keeper.Keeping.{KeeperState}
+use Rattle.law_refine.specs.Below.fkv_keeper.KeeperRun.{KeeperEvent, Replies, keeper_run}
+use Rattle.law_refine.specs.Below.fkv_world.OwnEvents.{keeper_part_of}
+use Rattle.law_refine.specs.Below.fkv_world.Runs.{World, run}
+use Rattle.law_refine.specs.Below.fkv_world.World.{Event}
 use Rattle.law_refine.specs.Index.IndexEvents.{index_events, mapped}
 use Rattle.law_refine.specs.Index.Shows as index
 use Rattle.law_refine.specs.Index.Shows.{seen_by_index}

@@ -9,22 +9,22 @@ use Rattle.fkv_plane.specs.declared.asks.Ask.TheVariants.{Put, Take, Done}
 use Rattle.fkv_plane.specs.declared.places.Places.{Places}
 use Rattle.fkv_plane.specs.Asked.{reply_to}
 use Rattle.fkv_plane.specs.Plane.{action_at}
-use Rattle.fkv_commit.specs.declared.commits.Commit.{Commit}
+use Rattle.law_refine.specs.Below.fkv_commit.Commit.{Commit}
 use Rattle.fkv_base.specs.declared.commits.CommitKind.TheVariants.{Full}
-use Rattle.fkv_checkpoint.specs.CopyWorld.{CopyEvent, CopyBegins, CopyMoves, IndexMoves}
-use Rattle.fkv_keeper.specs.declared.answers.KeeperTold.{KeeperTold}
-use Rattle.fkv_keeper.specs.declared.answers.KeeperTold.TheVariants.{Device}
-use Rattle.fkv_keeper.specs.declared.keepers.Keeping.{Keeping}
-use Rattle.fkv_keeper.specs.declared.keepers.Keeping.TheVariants.{LoadsPhase, Copies}
-use Rattle.fkv_keeper.specs.CheckpointLaws.{IsCopyBegun, IsCopyPhase}
-use Rattle.fkv_keeper.specs.Keeping.{KeeperState, keeper_ask, keeper_next, keeping_ask}
-use Rattle.fkv_keeper.specs.KeeperRun.{IsOpened, KeeperEvent, Replies, Gets, Calls, BeginsTurn, BeginsCommit, keeper_happens, keeper_run}
-use Rattle.fkv_keeper.proofs.Shown.{each_move}
-use Rattle.fkv_world.specs.Moves.{Near}
-use Rattle.fkv_world.specs.OwnEvents.{keeper_got, keeper_part, keeper_part_of, keeper_slots, keeper_steps}
-use Rattle.fkv_world.specs.Runs.{World, read_by_keeper, run}
-use Rattle.fkv_world.specs.World.{Event, Calls as CallsOf, Moves, Commits, Turns, KeeperMoves, Crashes, Now, near}
-use Rattle.fkv_world.proofs.Shown.{happens_keeper}
+use Rattle.law_refine.specs.Below.fkv_checkpoint.CopyWorld.{CopyEvent, CopyBegins, CopyMoves, IndexMoves}
+use Rattle.law_refine.specs.Below.fkv_keeper.KeeperTold.{KeeperTold}
+use Rattle.law_refine.specs.Below.fkv_keeper.KeeperTold.TheVariants.{Device}
+use Rattle.law_refine.specs.Below.fkv_keeper.TheKeeping.{Keeping}
+use Rattle.law_refine.specs.Below.fkv_keeper.TheKeeping.TheVariants.{LoadsPhase, Copies}
+use Rattle.law_refine.specs.Below.fkv_keeper.CheckpointLaws.{IsCopyBegun, IsCopyPhase}
+use Rattle.law_refine.specs.Below.fkv_keeper.Keeping.{KeeperState, keeper_ask, keeper_next, keeping_ask}
+use Rattle.law_refine.specs.Below.fkv_keeper.KeeperRun.{IsOpened, KeeperEvent, Replies, Gets, Calls, BeginsTurn, BeginsCommit, keeper_happens, keeper_run}
+use Rattle.law_refine.proofs.Below.fkv_keeper.Shown.{each_move}
+use Rattle.law_refine.specs.Below.fkv_world.Moves.{Near}
+use Rattle.law_refine.specs.Below.fkv_world.OwnEvents.{keeper_got, keeper_part, keeper_part_of, keeper_slots, keeper_steps}
+use Rattle.law_refine.specs.Below.fkv_world.Runs.{World, read_by_keeper, run}
+use Rattle.law_refine.specs.Below.fkv_world.World.{Event, Calls as CallsOf, Moves, Commits, Turns, KeeperMoves, Crashes, Now, near}
+use Rattle.law_refine.proofs.Below.fkv_world.Shown.{happens_keeper}
 use Rattle.law_commit.specs.Copied.Covers.{HasBegunFor, MayBeCopied, before_copy, begins_at, begins_copy}
 use Rattle.law_commit.specs.Copied.Runs.{copy_moves, keeper_copies}
 use Rattle.law_commit.specs.PhaseStores.{phase_at}

@@ -11,34 +11,34 @@ use Rattle.fkv_plane.specs.declared.actions.Action.{Action}
 use Rattle.fkv_plane.specs.declared.asks.Ask.{Ask}
 use Rattle.fkv_plane.specs.declared.asks.Ask.TheVariants.{Done}
 use Rattle.fkv_plane.specs.declared.places.Places.{Places}
-use Rattle.fkv_commit.specs.declared.commits.Commit.{Commit}
+use Rattle.law_refine.specs.Below.fkv_commit.Commit.{Commit}
 use Rattle.fkv_base.specs.declared.commits.CommitKind.{CommitKind}
 use Rattle.fkv_base.specs.declared.commits.CommitKind.TheVariants.{Full, Log}
-use Rattle.fkv_commit.specs.declared.entering.EnterAnswer.{EnterAnswer}
-use Rattle.fkv_commit.specs.declared.entering.EnterAnswer.TheVariants as enter
-use Rattle.fkv_commit.specs.declared.finishing.FinishAnswer.{FinishAnswer}
-use Rattle.fkv_commit.specs.declared.seeking.SeekAnswer.{SeekAnswer}
-use Rattle.fkv_commit.specs.declared.seeking.SeekAnswer.TheVariants as seek
-use Rattle.fkv_commit.specs.declared.starting.StartAnswer.{StartAnswer}
-use Rattle.fkv_commit.specs.declared.starting.StartAnswer.TheVariants as start
-use Rattle.fkv_commit.specs.declared.waiting.WaitAnswer.{WaitAnswer}
-use Rattle.fkv_commit.specs.declared.waiting.WaitAnswer.TheVariants as wait
-use Rattle.fkv_commit.specs.Commits.{commit_begun, is_log}
-use Rattle.fkv_commit.specs.Entering.{enter_ask, enter_next}
-use Rattle.fkv_commit.specs.Finishing.{finish_ask, finish_next}
-use Rattle.fkv_commit.specs.Seeking.{seek_ask, seek_next}
-use Rattle.fkv_commit.specs.Starting.{start_ask, start_next}
-use Rattle.fkv_commit.specs.Waiting.{wait_ask, wait_next}
-use Rattle.fkv_manifest.specs.declared.answers.WriteAnswer.{WriteAnswer}
-use Rattle.fkv_manifest.specs.declared.answers.WriteAnswer.TheVariants as write
-use Rattle.fkv_manifest.specs.Committing.{commit_answer, commit_next}
-use Rattle.fkv_maintain.specs.declared.maintaining.MaintainAnswer.{MaintainAnswer}
-use Rattle.fkv_maintain.specs.declared.maintaining.MaintainAnswer.TheVariants as maintain
-use Rattle.fkv_maintain.specs.Maintaining.{maintain_ask, maintain_called, maintain_given, maintain_next}
-use Rattle.fkv_keeper.specs.declared.keepers.Keeping.{Keeping}
-use Rattle.fkv_keeper.specs.declared.keepers.Keeping.TheVariants.{Ended, Starts, Maintains, LoadsPhase, Enters, Copies, Seeks, Waits, Writes, Finishes}
-use Rattle.fkv_keeper.specs.Keeping.{KeeperState, commit_asked, copied, copies, copy_asked, copy_driven, copy_ledto, enter_ledto, finish_ledto, finished, keeping_called, keeping_given, keeping_next, maintain_ledto, part_begun, phase_ledto, points_known, seek_ledto, start_ledto, turn_asked, wait_ledto, write_ledto, writes_begun}
-use Rattle.fkv_keeper.specs.KeeperRun.{KeeperEvent, BeginsTurn, BeginsCommit, Replies, Gets, Calls, begins, is_in_hand, keeper_happens}
+use Rattle.law_refine.specs.Below.fkv_commit.EnterAnswer.{EnterAnswer}
+use Rattle.law_refine.specs.Below.fkv_commit.EnterAnswer.TheVariants as enter
+use Rattle.law_refine.specs.Below.fkv_commit.FinishAnswer.{FinishAnswer}
+use Rattle.law_refine.specs.Below.fkv_commit.SeekAnswer.{SeekAnswer}
+use Rattle.law_refine.specs.Below.fkv_commit.SeekAnswer.TheVariants as seek
+use Rattle.law_refine.specs.Below.fkv_commit.StartAnswer.{StartAnswer}
+use Rattle.law_refine.specs.Below.fkv_commit.StartAnswer.TheVariants as start
+use Rattle.law_refine.specs.Below.fkv_commit.WaitAnswer.{WaitAnswer}
+use Rattle.law_refine.specs.Below.fkv_commit.WaitAnswer.TheVariants as wait
+use Rattle.law_refine.specs.Below.fkv_commit.Commits.{commit_begun, is_log}
+use Rattle.law_refine.specs.Below.fkv_commit.Entering.{enter_ask, enter_next}
+use Rattle.law_refine.specs.Below.fkv_commit.Finishing.{finish_ask, finish_next}
+use Rattle.law_refine.specs.Below.fkv_commit.Seeking.{seek_ask, seek_next}
+use Rattle.law_refine.specs.Below.fkv_commit.Starting.{start_ask, start_next}
+use Rattle.law_refine.specs.Below.fkv_commit.Waiting.{wait_ask, wait_next}
+use Rattle.law_refine.specs.Below.fkv_manifest.WriteAnswer.{WriteAnswer}
+use Rattle.law_refine.specs.Below.fkv_manifest.WriteAnswer.TheVariants as write
+use Rattle.law_refine.specs.Below.fkv_manifest.Committing.{commit_answer, commit_next}
+use Rattle.law_refine.specs.Below.fkv_maintain.MaintainAnswer.{MaintainAnswer}
+use Rattle.law_refine.specs.Below.fkv_maintain.MaintainAnswer.TheVariants as maintain
+use Rattle.law_refine.specs.Below.fkv_maintain.Maintaining.{maintain_ask, maintain_called, maintain_given, maintain_next}
+use Rattle.law_refine.specs.Below.fkv_keeper.TheKeeping.{Keeping}
+use Rattle.law_refine.specs.Below.fkv_keeper.TheKeeping.TheVariants.{Ended, Starts, Maintains, LoadsPhase, Enters, Copies, Seeks, Waits, Writes, Finishes}
+use Rattle.law_refine.specs.Below.fkv_keeper.Keeping.{KeeperState, commit_asked, copied, copies, copy_asked, copy_driven, copy_ledto, enter_ledto, finish_ledto, finished, keeping_called, keeping_given, keeping_next, maintain_ledto, part_begun, phase_ledto, points_known, seek_ledto, start_ledto, turn_asked, wait_ledto, write_ledto, writes_begun}
+use Rattle.law_refine.specs.Below.fkv_keeper.KeeperRun.{KeeperEvent, BeginsTurn, BeginsCommit, Replies, Gets, Calls, begins, is_in_hand, keeper_happens}
 
 -- a commit that was in hand before, as it was begun, and was copied then or is being copied
 pub record WasInHand (s : KeeperState) (c : Commit) : Type 0 where

@@ -5,16 +5,16 @@ use Rattle.std.specs.List.{AllByRecursion}
 use Rattle.std.proofs.lemmas.Bool.Decides.{nat_tests}
 use Rattle.fkv_map.specs.declared.history.HistoryEntry.{HistoryEntry}
 use Rattle.fkv_plane.specs.declared.places.Places.{Places}
-use Rattle.fkv_checkpoint.specs.declared.copying.CopyStep.TheVariants.{Ended}
-use Rattle.fkv_checkpoint.specs.Fuzzy.{HasCopy, IsEntryThen, NoneLeftOut}
-use Rattle.fkv_checkpoint.specs.Triples.{CopiedEntry}
+use Rattle.law_refine.specs.Below.fkv_checkpoint.CopyStep.TheVariants.{Ended}
+use Rattle.law_refine.specs.Below.fkv_checkpoint.Fuzzy.{HasCopy, IsEntryThen, NoneLeftOut}
+use Rattle.law_refine.specs.Below.fkv_checkpoint.Triples.{CopiedEntry}
 use Rattle.fkv_index.specs.Entries.{entry_of}
 use Rattle.fkv_index.specs.IndexWorld.{IndexWorld}
 use Rattle.fkv_index.specs.OneEntry.{IsHome}
 use Rattle.fkv_index.specs.Slots.{entry_addr}
-use Rattle.fkv_world.specs.Runs.{World, run}
-use Rattle.fkv_world.specs.World.{Event, Now}
-use Rattle.fkv_world.proofs.Shown.{places_stay}
+use Rattle.law_refine.specs.Below.fkv_world.Runs.{World, run}
+use Rattle.law_refine.specs.Below.fkv_world.World.{Event, Now}
+use Rattle.law_refine.proofs.Below.fkv_world.Shown.{places_stay}
 use Rattle.law_log.specs.Chains.{Logged, Published, Reserved, head_of}
 use Rattle.law_log.specs.Ghosts.{Changes, Drops, Ghosts, GhostEvent, Log, Publishes, changed, dropped, ghost_run, ghosts_after, published, set_at}
 use Rattle.law_log.specs.Trace.{IsIn}

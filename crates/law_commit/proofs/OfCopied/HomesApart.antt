@@ -2,10 +2,10 @@
 use Rattle.std.proofs.Common.{◌≡◌, ℕ, zero, suc, ◌+◌, ◌*◌, ◌<◌, ◌^◌, arith, ◌∙◌, refl, sym, ap, subst, List, [], ◌∷◌, map}
 use Rattle.std.specs.List.{AllByRecursion}
 use Rattle.std.specs.Prelude.{slice_get, Some}
-use Rattle.fkv_checkpoint.specs.Fuzzy.{AreApart as AreHomesApart}
-use Rattle.fkv_checkpoint.specs.Triples.{CopiedEntry, copied_of}
+use Rattle.law_refine.specs.Below.fkv_checkpoint.Fuzzy.{AreApart as AreHomesApart}
+use Rattle.law_refine.specs.Below.fkv_checkpoint.Triples.{CopiedEntry, copied_of}
 use Rattle.fkv_record.specs.declared.triples.Triple.{Triple}
-use Rattle.fkv_scan.specs.Log.{AreApart, triple_home}
+use Rattle.law_paper.specs.Below.fkv_scan.Log.{AreApart, triple_home}
 
 same_bucket : (a b s t : ℕ) → s < 2 ^ 15 → t < 2 ^ 15 → a * 2 ^ 15 + s ≡ b * 2 ^ 15 + t → a ≡ b
 same_bucket a b s t one other same = omega (arith, one, other, same)

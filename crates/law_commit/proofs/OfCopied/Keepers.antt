@@ -9,21 +9,21 @@ use Rattle.fkv_plane.specs.declared.places.Places.{Places}
 use Rattle.fkv_plane.specs.Asked.{reply_to}
 use Rattle.fkv_plane.specs.Plane.{action_at}
 use Rattle.fkv_plane.proofs.Shown.{passed_reply}
-use Rattle.fkv_checkpoint.specs.Copied.{copying_after, copied_after}
-use Rattle.fkv_checkpoint.specs.Copying.{Copier, copy_ask}
-use Rattle.fkv_checkpoint.specs.CopyWorld.{CopyWorld, CopyEvent, copy_happens, copy_run}
+use Rattle.law_refine.specs.Below.fkv_checkpoint.Copied.{copying_after, copied_after}
+use Rattle.law_refine.specs.Below.fkv_checkpoint.Copying.{Copier, copy_ask}
+use Rattle.law_refine.specs.Below.fkv_checkpoint.CopyWorld.{CopyWorld, CopyEvent, copy_happens, copy_run}
 use Rattle.fkv_index.specs.IndexWorld.{IndexWorld}
-use Rattle.fkv_keeper.specs.declared.answers.KeeperTold.{KeeperTold}
-use Rattle.fkv_keeper.specs.declared.answers.KeeperTold.TheVariants.{Device}
-use Rattle.fkv_keeper.specs.declared.keepers.Keeping.{Keeping}
-use Rattle.fkv_keeper.specs.declared.keepers.Keeping.TheVariants.{LoadsPhase, Copies}
-use Rattle.fkv_keeper.specs.CheckpointLaws.{IsCopyBegun, copy_by, copy_replies, replies_after}
-use Rattle.fkv_keeper.specs.Keeping.{KeeperState, copy_asked, copy_driven, copy_ledto, keeper_ask, keeper_next, keeping_ask, keeping_called, keeping_given, keeping_next, turn_over}
-use Rattle.fkv_keeper.specs.KeeperRun.{KeeperEvent, BeginsTurn, BeginsCommit, Replies, Gets, Calls, keeper_happens, keeper_run}
-use Rattle.fkv_keeper.proofs.Shown.{each_move}
-use Rattle.fkv_world.specs.Moves.{Near}
-use Rattle.fkv_world.specs.OwnEvents.{keeper_got, keeper_slots, keeper_steps}
-use Rattle.fkv_world.proofs.Shown.{keeper_runs_on}
+use Rattle.law_refine.specs.Below.fkv_keeper.KeeperTold.{KeeperTold}
+use Rattle.law_refine.specs.Below.fkv_keeper.KeeperTold.TheVariants.{Device}
+use Rattle.law_refine.specs.Below.fkv_keeper.TheKeeping.{Keeping}
+use Rattle.law_refine.specs.Below.fkv_keeper.TheKeeping.TheVariants.{LoadsPhase, Copies}
+use Rattle.law_refine.specs.Below.fkv_keeper.CheckpointLaws.{IsCopyBegun, copy_by, copy_replies, replies_after}
+use Rattle.law_refine.specs.Below.fkv_keeper.Keeping.{KeeperState, copy_asked, copy_driven, copy_ledto, keeper_ask, keeper_next, keeping_ask, keeping_called, keeping_given, keeping_next, turn_over}
+use Rattle.law_refine.specs.Below.fkv_keeper.KeeperRun.{KeeperEvent, BeginsTurn, BeginsCommit, Replies, Gets, Calls, keeper_happens, keeper_run}
+use Rattle.law_refine.proofs.Below.fkv_keeper.Shown.{each_move}
+use Rattle.law_refine.specs.Below.fkv_world.Moves.{Near}
+use Rattle.law_refine.specs.Below.fkv_world.OwnEvents.{keeper_got, keeper_slots, keeper_steps}
+use Rattle.law_refine.proofs.Below.fkv_world.Shown.{keeper_runs_on}
 use Rattle.law_commit.specs.Copied.Runs.{IsCopyBy, copy_moves, keeper_copies}
 
 -- ---- the copy in hand

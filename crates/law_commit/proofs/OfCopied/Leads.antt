@@ -6,9 +6,9 @@ use Rattle.fkv_index.specs.Entries.{entry_of}
 use Rattle.fkv_index.specs.IndexWorld.{IndexWorld}
 use Rattle.fkv_index.specs.OneEntry.{IsHome}
 use Rattle.fkv_index.specs.Slots.{entry_addr}
-use Rattle.fkv_world.specs.Runs.{World, run}
-use Rattle.fkv_world.specs.World.{Event, Now}
-use Rattle.law_world.specs.Guarded.Shows as guard
+use Rattle.law_refine.specs.Below.fkv_world.Runs.{World, run}
+use Rattle.law_refine.specs.Below.fkv_world.World.{Event, Now}
+use Rattle.law_refine.specs.Below.law_world.Guarded.Shows as guard
 use Rattle.law_log.specs.Ghosts.{Ghosts, Log}
 use Rattle.law_refine.specs.Index.LifeEntries.{lists_seen}
 use Rattle.law_refine.specs.Index.Shows as index

@@ -4,28 +4,28 @@ use Rattle.std.specs.Prelude.{if◌then◌else◌, map, length}
 use Rattle.fkv_base.specs.declared.shapes.Shape.{Shape}
 use Rattle.fkv_plane.specs.declared.asks.Ask.TheVariants.{Done}
 use Rattle.fkv_plane.specs.declared.places.Places.{Places}
-use Rattle.fkv_checkpoint.specs.declared.copying.CopyStep.{CopyStep}
-use Rattle.fkv_checkpoint.specs.declared.copying.CopyStep.TheVariants as copy
-use Rattle.fkv_checkpoint.specs.declared.copying.Copying.{Copying}
-use Rattle.fkv_checkpoint.specs.Copied.{copying_after, copied_after}
-use Rattle.fkv_checkpoint.specs.Copying.{copy_step_ask, copy_ask}
-use Rattle.fkv_checkpoint.specs.CopyWorld.{CopyWorld, IndexMoves, copy_happens, copy_run}
-use Rattle.fkv_checkpoint.specs.Triples.{CopiedEntry, all_bytes}
-use Rattle.fkv_commit.specs.declared.commits.Commit.{Commit}
+use Rattle.law_refine.specs.Below.fkv_checkpoint.CopyStep.{CopyStep}
+use Rattle.law_refine.specs.Below.fkv_checkpoint.CopyStep.TheVariants as copy
+use Rattle.law_refine.specs.Below.fkv_checkpoint.TheCopying.{Copying}
+use Rattle.law_refine.specs.Below.fkv_checkpoint.Copied.{copying_after, copied_after}
+use Rattle.law_refine.specs.Below.fkv_checkpoint.Copying.{copy_step_ask, copy_ask}
+use Rattle.law_refine.specs.Below.fkv_checkpoint.CopyWorld.{CopyWorld, IndexMoves, copy_happens, copy_run}
+use Rattle.law_refine.specs.Below.fkv_checkpoint.Triples.{CopiedEntry, all_bytes}
+use Rattle.law_refine.specs.Below.fkv_commit.Commit.{Commit}
 use Rattle.fkv_base.specs.declared.commits.CommitKind.{CommitKind}
 use Rattle.fkv_base.specs.declared.commits.CommitKind.TheVariants.{Full}
 use Rattle.fkv_index.specs.IndexWorld.{IndexEvent, IndexWorld, index_happens, index_run}
-use Rattle.fkv_keeper.specs.declared.last_commits.Checkpoint.{Checkpoint}
-use Rattle.fkv_keeper.specs.CheckpointLaws.{HasCopied, HoldsCopy, IsBehindWait, IsBeingWritten, UsesAs, UsesItsCopy, copy_replies}
-use Rattle.fkv_keeper.specs.Keeping.{KeeperState, keeper_ask}
-use Rattle.fkv_keeper.specs.KeeperRun.{IsOpened, KeeperEvent, keeper_run}
-use Rattle.fkv_keeper.proofs.Shown.{run_holds, run_used}
-use Rattle.fkv_world.specs.OwnEvents.{keeper_events, keeper_part, keeper_part_of}
-use Rattle.fkv_world.specs.Runs.{World, read_by_keeper, run}
-use Rattle.fkv_world.specs.World.{Event, Calls, Moves, Commits, Turns, KeeperMoves, Crashes, near}
-use Rattle.fkv_world.proofs.Shown.{keeper_runs, places_stay, shape_stays}
-use Rattle.law_world.specs.Keeper.Lives.{begun_last, keeper_after, life_writing, replies_copied}
-use Rattle.law_world.proofs.OfKeeper.OwnRun.{of_keeper, to_keeper}
+use Rattle.law_refine.specs.Below.fkv_keeper.Checkpoint.{Checkpoint}
+use Rattle.law_refine.specs.Below.fkv_keeper.CheckpointLaws.{HasCopied, HoldsCopy, IsBehindWait, IsBeingWritten, UsesAs, UsesItsCopy, copy_replies}
+use Rattle.law_refine.specs.Below.fkv_keeper.Keeping.{KeeperState, keeper_ask}
+use Rattle.law_refine.specs.Below.fkv_keeper.KeeperRun.{IsOpened, KeeperEvent, keeper_run}
+use Rattle.law_refine.proofs.Below.fkv_keeper.Shown.{run_holds, run_used}
+use Rattle.law_refine.specs.Below.fkv_world.OwnEvents.{keeper_events, keeper_part, keeper_part_of}
+use Rattle.law_refine.specs.Below.fkv_world.Runs.{World, read_by_keeper, run}
+use Rattle.law_refine.specs.Below.fkv_world.World.{Event, Calls, Moves, Commits, Turns, KeeperMoves, Crashes, near}
+use Rattle.law_refine.proofs.Below.fkv_world.Shown.{keeper_runs, places_stay, shape_stays}
+use Rattle.law_refine.specs.Below.law_world.Keeper.Lives.{begun_last, keeper_after, life_writing, replies_copied}
+use Rattle.law_refine.proofs.Below.law_world.OfKeeper.OwnRun.{of_keeper, to_keeper}
 use Rattle.law_refine.specs.Index.IndexEvents.{index_events, mapped}
 use Rattle.law_refine.specs.Index.Shows as index
 use Rattle.law_refine.specs.Index.Shows.{Shows, seen_by_index}

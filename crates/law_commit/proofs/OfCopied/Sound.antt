@@ -1,8 +1,8 @@
 -- What the law of a copy says of the copies beside a life.
 use Rattle.std.specs.Prelude.{ℕ, List, length}
-use Rattle.fkv_checkpoint.proofs.Shown.{IsCopySound, copy_opens, copy_sound}
-use Rattle.fkv_world.specs.Runs.{World}
-use Rattle.fkv_world.specs.World.{Event}
+use Rattle.law_refine.proofs.Below.fkv_checkpoint.Shown.{IsCopySound, copy_opens, copy_sound}
+use Rattle.law_refine.specs.Below.fkv_world.Runs.{World}
+use Rattle.law_refine.specs.Below.fkv_world.World.{Event}
 use Rattle.law_refine.specs.Index.Shows as index
 use Rattle.law_commit.specs.Copied.Runs.{copy_events, opening_copy}
 

@@ -8,23 +8,23 @@ use Rattle.fkv_plane.specs.declared.places.SessionWord.TheVariants as own
 use Rattle.fkv_plane.specs.Asked.{word_at}
 use Rattle.fkv_plane.specs.Passing.{passed}
 use Rattle.fkv_plane.specs.Places.{session_place}
-use Rattle.fkv_session.specs.declared.answers.Told.{Told}
-use Rattle.fkv_session.specs.declared.answers.Told.TheVariants as told
-use Rattle.fkv_session.specs.declared.catching_up.Catching.{Catching}
-use Rattle.fkv_session.specs.declared.catching_up.Catching.TheVariants as catching
-use Rattle.fkv_session.specs.declared.sessions.Sitting.{Sitting}
-use Rattle.fkv_session.specs.declared.sessions.Sitting.TheVariants.{Idle, Attempts, CatchesUp, ClearsMail, Polls, StoresOwing, Turns, StoresCut, Leaves, LoadsDurable}
-use Rattle.fkv_session.specs.CatchingUp.{catching_ask, cut_at, cut_of, owing}
-use Rattle.fkv_session.specs.InOrder.{AreToldInOrder, HasTold, TellsCut, TellsOwing, taken_at}
-use Rattle.fkv_session.specs.Sessions.{SessionState, Seat, IsOpened, is_busy, sitting_ask}
-use Rattle.fkv_session.specs.SessionRun.{SessionEvent, session_run}
-use Rattle.fkv_session.specs.Words.{left_with, stored_last}
-use Rattle.fkv_session.proofs.Shown.{IsCatching, IsMarked, StepMarks, event_marks}
-use Rattle.fkv_world.specs.Opened.{HasBecome}
-use Rattle.fkv_world.specs.OwnEvents.{session_events}
-use Rattle.fkv_world.specs.Runs.{World}
-use Rattle.fkv_world.specs.World.{Event, seat_at}
-use Rattle.law_world.proofs.OfSessions.OwnRun.{of_run, opened_so, seated}
+use Rattle.law_refine.specs.Below.fkv_session.Told.{Told}
+use Rattle.law_refine.specs.Below.fkv_session.Told.TheVariants as told
+use Rattle.law_refine.specs.Below.fkv_session.Catching.{Catching}
+use Rattle.law_refine.specs.Below.fkv_session.Catching.TheVariants as catching
+use Rattle.law_refine.specs.Below.fkv_session.Sitting.{Sitting}
+use Rattle.law_refine.specs.Below.fkv_session.Sitting.TheVariants.{Idle, Attempts, CatchesUp, ClearsMail, Polls, StoresOwing, Turns, StoresCut, Leaves, LoadsDurable}
+use Rattle.law_refine.specs.Below.fkv_session.CatchingUp.{catching_ask, cut_at, cut_of, owing}
+use Rattle.law_refine.specs.Below.fkv_session.InOrder.{AreToldInOrder, HasTold, TellsCut, TellsOwing, taken_at}
+use Rattle.law_refine.specs.Below.fkv_session.Sessions.{SessionState, Seat, IsOpened, is_busy, sitting_ask}
+use Rattle.law_refine.specs.Below.fkv_session.SessionRun.{SessionEvent, session_run}
+use Rattle.law_refine.specs.Below.fkv_session.Words.{left_with, stored_last}
+use Rattle.law_refine.proofs.Below.fkv_session.Shown.{IsCatching, IsMarked, StepMarks, event_marks}
+use Rattle.law_refine.specs.Below.fkv_world.Opened.{HasBecome}
+use Rattle.law_refine.specs.Below.fkv_world.OwnEvents.{session_events}
+use Rattle.law_refine.specs.Below.fkv_world.Runs.{World}
+use Rattle.law_refine.specs.Below.fkv_world.World.{Event, seat_at}
+use Rattle.law_refine.proofs.Below.law_world.OfSessions.OwnRun.{of_run, opened_so, seated}
 use Rattle.law_commit.specs.Cuts.{HasItsWords, ShowCuts, ShowsCut, life_leaving, serial_before, serial_leaving, stored_by_session, word_now}
 use Rattle.law_commit.proofs.OfCuts.Marks.{life_marks}
 use Rattle.law_commit.proofs.OfCuts.Told.{told_in_order}

@@ -13,23 +13,23 @@ use Rattle.fkv_plane.specs.Passing.{passed}
 use Rattle.fkv_plane.specs.Places.{session_place}
 use Rattle.fkv_plane.specs.Plane.{action_at}
 use Rattle.fkv_epoch.proofs.Shown.{same_or}
-use Rattle.fkv_commit.specs.declared.finishing.Finishing.{Finishing}
-use Rattle.fkv_commit.specs.declared.finishing.Finishing.TheVariants as finishing
-use Rattle.fkv_commit.specs.Finishing.{finishing_ask, point_of}
-use Rattle.fkv_keeper.specs.declared.answers.KeeperTold.{KeeperTold}
-use Rattle.fkv_keeper.specs.declared.answers.KeeperTold.TheVariants.{Device}
-use Rattle.fkv_keeper.specs.declared.keepers.Keeping.{Keeping}
-use Rattle.fkv_keeper.specs.declared.keepers.Keeping.TheVariants.{Ended, Starts, Maintains, LoadsPhase, Enters, Copies, Seeks, Waits, Writes, Finishes}
-use Rattle.fkv_keeper.specs.Keeping.{KeeperState, keeper_ask, keeper_next, keeping_ask}
-use Rattle.fkv_keeper.specs.KeeperRun.{KeeperEvent, BeginsCommit, BeginsTurn, Calls as CallsDevice, Replies, keeper_happens, keeper_run}
-use Rattle.fkv_session.specs.Sessions.{SessionState, Seat, session_ask}
-use Rattle.fkv_world.specs.Moves.{Near}
-use Rattle.fkv_world.specs.Opened.{IsOpenedWorld}
-use Rattle.fkv_world.specs.OwnEvents.{keeper_events, keeper_got, keeper_part, keeper_part_of, keeper_slots, keeper_steps}
-use Rattle.fkv_world.specs.Runs.{World, happens, read_by_keeper, run}
-use Rattle.fkv_world.specs.World.{Event, Calls, Moves, Commits, Turns, KeeperMoves, Crashes, Now, near, seat_at}
-use Rattle.fkv_world.proofs.Shown.{is_over, keeper_runs, keeper_runs_on, places_stay, shape_stays}
-use Rattle.law_world.proofs.OfRuns.OneWord.{keeper_writes}
+use Rattle.law_refine.specs.Below.fkv_commit.TheFinishing.{Finishing}
+use Rattle.law_refine.specs.Below.fkv_commit.TheFinishing.TheVariants as finishing
+use Rattle.law_refine.specs.Below.fkv_commit.Finishing.{finishing_ask, point_of}
+use Rattle.law_refine.specs.Below.fkv_keeper.KeeperTold.{KeeperTold}
+use Rattle.law_refine.specs.Below.fkv_keeper.KeeperTold.TheVariants.{Device}
+use Rattle.law_refine.specs.Below.fkv_keeper.TheKeeping.{Keeping}
+use Rattle.law_refine.specs.Below.fkv_keeper.TheKeeping.TheVariants.{Ended, Starts, Maintains, LoadsPhase, Enters, Copies, Seeks, Waits, Writes, Finishes}
+use Rattle.law_refine.specs.Below.fkv_keeper.Keeping.{KeeperState, keeper_ask, keeper_next, keeping_ask}
+use Rattle.law_refine.specs.Below.fkv_keeper.KeeperRun.{KeeperEvent, BeginsCommit, BeginsTurn, Calls as CallsDevice, Replies, keeper_happens, keeper_run}
+use Rattle.law_refine.specs.Below.fkv_session.Sessions.{SessionState, Seat, session_ask}
+use Rattle.law_refine.specs.Below.fkv_world.Moves.{Near}
+use Rattle.law_refine.specs.Below.fkv_world.Opened.{IsOpenedWorld}
+use Rattle.law_refine.specs.Below.fkv_world.OwnEvents.{keeper_events, keeper_got, keeper_part, keeper_part_of, keeper_slots, keeper_steps}
+use Rattle.law_refine.specs.Below.fkv_world.Runs.{World, happens, read_by_keeper, run}
+use Rattle.law_refine.specs.Below.fkv_world.World.{Event, Calls, Moves, Commits, Turns, KeeperMoves, Crashes, Now, near, seat_at}
+use Rattle.law_refine.proofs.Below.fkv_world.Shown.{is_over, keeper_runs, keeper_runs_on, places_stay, shape_stays}
+use Rattle.law_refine.proofs.Below.law_world.OfRuns.OneWord.{keeper_writes}
 use Rattle.law_refine.specs.Footprint.{Durable, TheDurable, Spares}
 use Rattle.law_refine.proofs.Footprint.Lives.{keeper_spares}
 use Rattle.law_refine.proofs.Footprint.Sessions.{IsSessionSparing, SessionRests, session_asks_spares}

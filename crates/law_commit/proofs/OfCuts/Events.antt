@@ -3,13 +3,13 @@ use Rattle.std.proofs.Common.{◌≡◌, ℕ, ◌∙◌, List, [], ◌∷◌, le
 use Rattle.std.specs.Prelude.{Option, Some, None, slice_get}
 use Rattle.fkv_map.specs.declared.operations.Call.TheVariants.{Refresh}
 use Rattle.fkv_plane.specs.Asked.{word_at, words_after, words_changed}
-use Rattle.fkv_keeper.specs.Keeping.{keeper_ask}
-use Rattle.fkv_session.specs.Sessions.{SessionState, session_ask}
-use Rattle.fkv_world.specs.Runs.{World, happens, run}
-use Rattle.fkv_world.specs.World.{Event, Calls, Moves, Commits, Turns, KeeperMoves, Crashes, Now, seat_at, session_calls, life_goes}
-use Rattle.fkv_world.proofs.Shown.{is_over, lives}
-use Rattle.law_world.proofs.OfRuns.OneWord.{keeper_writes, session_writes}
-use Rattle.law_world.proofs.OfRuns.Nothing.{no_session}
+use Rattle.law_refine.specs.Below.fkv_keeper.Keeping.{keeper_ask}
+use Rattle.law_refine.specs.Below.fkv_session.Sessions.{SessionState, session_ask}
+use Rattle.law_refine.specs.Below.fkv_world.Runs.{World, happens, run}
+use Rattle.law_refine.specs.Below.fkv_world.World.{Event, Calls, Moves, Commits, Turns, KeeperMoves, Crashes, Now, seat_at, session_calls, life_goes}
+use Rattle.law_refine.proofs.Below.fkv_world.Shown.{is_over, lives}
+use Rattle.law_refine.proofs.Below.law_world.OfRuns.OneWord.{keeper_writes, session_writes}
+use Rattle.law_refine.proofs.Below.law_world.OfRuns.Nothing.{no_session}
 
 -- what holds of the words
 module _ (P : List ℕ → Type 0) (w : World) where

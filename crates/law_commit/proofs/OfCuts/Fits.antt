@@ -13,24 +13,24 @@ use Rattle.fkv_plane.specs.declared.actions.Action.{Action}
 use Rattle.fkv_plane.specs.declared.asks.Ask.{Ask}
 use Rattle.fkv_plane.specs.declared.asks.Ask.TheVariants.{Done}
 use Rattle.fkv_epoch.specs.Leaving.{leave_next}
-use Rattle.fkv_ops.specs.declared.answers.Reason.{Reason}
-use Rattle.fkv_ops.specs.declared.answers.Reason.TheVariants as reason
-use Rattle.fkv_ops.specs.declared.answers.TryAnswer.{TryAnswer}
-use Rattle.fkv_ops.specs.declared.answers.TryAnswer.TheVariants as tried
-use Rattle.fkv_ops.specs.Requests.{is_read}
-use Rattle.fkv_pending.specs.declared.mailing.MailAnswer.{MailAnswer}
-use Rattle.fkv_pending.specs.declared.mailing.MailAnswer.TheVariants.{Cleared}
-use Rattle.fkv_pending.specs.declared.pending_requests.PendingRequest.{PendingRequest}
-use Rattle.fkv_pending.specs.Mailing.{mail_next}
-use Rattle.fkv_session.specs.declared.answers.Told.{Told}
-use Rattle.fkv_session.specs.declared.answers.Told.TheVariants as told
-use Rattle.fkv_session.specs.declared.sessions.CatchCause.{CatchCause}
-use Rattle.fkv_session.specs.declared.sessions.CatchCause.TheVariants.{Refreshes, Shifts, Wakes}
-use Rattle.fkv_session.specs.declared.sessions.Sitting.{Sitting}
-use Rattle.fkv_session.specs.declared.sessions.Sitting.TheVariants.{Idle, Attempts, CatchesUp, ClearsMail, Polls, StoresOwing, Turns, StoresCut, Leaves, LoadsDurable}
-use Rattle.fkv_session.specs.OwnTurns.{own_turn_given}
-use Rattle.fkv_session.specs.Sessions.{IsOpened, SessionState, Seat, accepts, answers, answers_after_turn, asks_after, attempt_ledto, attempt_left, attempt_moved, attempted, attempts, call_begun, catch_ledto, caught, caught_up, clear_ledto, finishes_request, is_busy, is_finished, is_full, is_owed, is_spent, is_word_ask, keeps_request, lacks_room, leave_ledto, op_begun, own_turn_moved, poll_begun, poll_call, poll_ledto, polls_at, polls_request, refresh_call, refusal_of, refuses, request_finished, serial_taken, session_ask, shifts, sitting_given, sitting_next, sleep_call, ticket_after, turn_ledto, update_done, wake_call, with_request, is_no_room}
-use Rattle.fkv_session.specs.SessionRun.{Begins, Gets, Replies, SessionEvent, begins, session_happens, session_run}
+use Rattle.law_refine.specs.Below.fkv_ops.Reason.{Reason}
+use Rattle.law_refine.specs.Below.fkv_ops.Reason.TheVariants as reason
+use Rattle.law_refine.specs.Below.fkv_ops.TryAnswer.{TryAnswer}
+use Rattle.law_refine.specs.Below.fkv_ops.TryAnswer.TheVariants as tried
+use Rattle.law_refine.specs.Below.fkv_ops.Requests.{is_read}
+use Rattle.law_refine.specs.Below.fkv_pending.MailAnswer.{MailAnswer}
+use Rattle.law_refine.specs.Below.fkv_pending.MailAnswer.TheVariants.{Cleared}
+use Rattle.law_refine.specs.Below.fkv_pending.PendingRequest.{PendingRequest}
+use Rattle.law_refine.specs.Below.fkv_pending.Mailing.{mail_next}
+use Rattle.law_refine.specs.Below.fkv_session.Told.{Told}
+use Rattle.law_refine.specs.Below.fkv_session.Told.TheVariants as told
+use Rattle.law_refine.specs.Below.fkv_session.CatchCause.{CatchCause}
+use Rattle.law_refine.specs.Below.fkv_session.CatchCause.TheVariants.{Refreshes, Shifts, Wakes}
+use Rattle.law_refine.specs.Below.fkv_session.Sitting.{Sitting}
+use Rattle.law_refine.specs.Below.fkv_session.Sitting.TheVariants.{Idle, Attempts, CatchesUp, ClearsMail, Polls, StoresOwing, Turns, StoresCut, Leaves, LoadsDurable}
+use Rattle.law_refine.specs.Below.fkv_session.OwnTurns.{own_turn_given}
+use Rattle.law_refine.specs.Below.fkv_session.Sessions.{IsOpened, SessionState, Seat, accepts, answers, answers_after_turn, asks_after, attempt_ledto, attempt_left, attempt_moved, attempted, attempts, call_begun, catch_ledto, caught, caught_up, clear_ledto, finishes_request, is_busy, is_finished, is_full, is_owed, is_spent, is_word_ask, keeps_request, lacks_room, leave_ledto, op_begun, own_turn_moved, poll_begun, poll_call, poll_ledto, polls_at, polls_request, refresh_call, refusal_of, refuses, request_finished, serial_taken, session_ask, shifts, sitting_given, sitting_next, sleep_call, ticket_after, turn_ledto, update_done, wake_call, with_request, is_no_room}
+use Rattle.law_refine.specs.Below.fkv_session.SessionRun.{Begins, Gets, Replies, SessionEvent, begins, session_happens, session_run}
 
 -- an update in hand can take one more serial
 abbrev HasMore : Op → ℕ → Type 0

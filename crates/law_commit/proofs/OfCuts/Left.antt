@@ -2,16 +2,16 @@
 use Rattle.std.proofs.Common.{◌≡◌, ◌⊎◌, ◌≤◌, ◌<◌, ◌+◌, ◌-◌, inl, inr, ℕ, ◌∙◌, List, [], ◌∷◌, refl, arith, sym, ap, Bool, true, false}
 use Rattle.std.specs.Prelude.{◌==◌, nat_le, if◌then◌else◌}
 use Rattle.std.proofs.lemmas.Bool.Decides.{nat_tests}
-use Rattle.fkv_session.specs.Replies.{op_called}
-use Rattle.fkv_session.specs.Sessions.{SessionState, Seat, IsOpened}
-use Rattle.fkv_session.specs.SessionRun.{SessionEvent, Begins, Gets, Replies, session_run}
-use Rattle.fkv_session.specs.Versions.{IsVersion, TakenAt, versions_taken}
-use Rattle.fkv_session.proofs.Shown.{run_call, run_version}
-use Rattle.fkv_world.specs.Opened.{HasBecome}
-use Rattle.fkv_world.specs.OwnEvents.{session_events}
-use Rattle.fkv_world.specs.Runs.{World}
-use Rattle.fkv_world.specs.World.{Event, seat_at}
-use Rattle.law_world.proofs.OfSessions.OwnRun.{of_run, opened_so}
+use Rattle.law_refine.specs.Below.fkv_session.Replies.{op_called}
+use Rattle.law_refine.specs.Below.fkv_session.Sessions.{SessionState, Seat, IsOpened}
+use Rattle.law_refine.specs.Below.fkv_session.SessionRun.{SessionEvent, Begins, Gets, Replies, session_run}
+use Rattle.law_refine.specs.Below.fkv_session.Versions.{IsVersion, TakenAt, versions_taken}
+use Rattle.law_refine.proofs.Below.fkv_session.Shown.{run_call, run_version}
+use Rattle.law_refine.specs.Below.fkv_world.Opened.{HasBecome}
+use Rattle.law_refine.specs.Below.fkv_world.OwnEvents.{session_events}
+use Rattle.law_refine.specs.Below.fkv_world.Runs.{World}
+use Rattle.law_refine.specs.Below.fkv_world.World.{Event, seat_at}
+use Rattle.law_refine.proofs.Below.law_world.OfSessions.OwnRun.{of_run, opened_so}
 use Rattle.law_commit.specs.Accepted.{HasRisingVersion, count_upto, point, serial_at, serial_of, versions_of}
 use Rattle.law_commit.specs.Cuts.{serial_before}
 use Rattle.law_commit.proofs.Counted.{Takes, all_upto, found_so, none_taken, one_taken, run_counted, run_moves, run_risen}

@@ -12,26 +12,26 @@ use Rattle.fkv_plane.specs.Passing.{passed}
 use Rattle.fkv_plane.specs.Places.{word_count}
 use Rattle.fkv_plane.specs.Plane.{action_at}
 use Rattle.fkv_epoch.proofs.Shown.{item_within}
-use Rattle.fkv_pending.specs.declared.pending_requests.PendingRequest.{PendingRequest}
-use Rattle.fkv_session.specs.declared.answers.Told.{Told}
-use Rattle.fkv_session.specs.declared.answers.Told.TheVariants as told
-use Rattle.fkv_session.specs.declared.catching_up.Catching.{Catching}
-use Rattle.fkv_session.specs.declared.catching_up.Catching.TheVariants as catching
-use Rattle.fkv_session.specs.declared.sessions.Sitting.{Sitting}
-use Rattle.fkv_session.specs.declared.sessions.Sitting.TheVariants.{CatchesUp, StoresOwing, StoresCut}
-use Rattle.fkv_session.specs.CatchingUp.{CatchState, catching_ask}
-use Rattle.fkv_session.specs.Sessions.{SessionState, Seat, session_ask, session_next, sitting_ask}
-use Rattle.fkv_session.specs.SessionRun.{SessionEvent, Begins, Replies, session_happens, session_run}
-use Rattle.fkv_session.specs.Words.{IsMark, stored_behind, stored_by, stored_last}
-use Rattle.fkv_keeper.specs.Keeping.{keeper_ask}
-use Rattle.fkv_world.specs.Actors.{is_of_session}
-use Rattle.fkv_world.specs.Moves.{Near}
-use Rattle.fkv_world.specs.Opened.{IsOpenedWorld}
-use Rattle.fkv_world.specs.OwnEvents.{session_events, session_got, session_part, session_part_found, session_part_of, session_slots, session_steps}
-use Rattle.fkv_world.specs.Runs.{World, happens, run}
-use Rattle.fkv_world.specs.World.{Event, Calls, Moves, Now, near, seat_at}
-use Rattle.fkv_world.proofs.Shown.{is_over, places_stay, same_seat, session_runs, session_runs_on}
-use Rattle.law_world.proofs.OfRuns.OneWord.{session_writes}
+use Rattle.law_refine.specs.Below.fkv_pending.PendingRequest.{PendingRequest}
+use Rattle.law_refine.specs.Below.fkv_session.Told.{Told}
+use Rattle.law_refine.specs.Below.fkv_session.Told.TheVariants as told
+use Rattle.law_refine.specs.Below.fkv_session.Catching.{Catching}
+use Rattle.law_refine.specs.Below.fkv_session.Catching.TheVariants as catching
+use Rattle.law_refine.specs.Below.fkv_session.Sitting.{Sitting}
+use Rattle.law_refine.specs.Below.fkv_session.Sitting.TheVariants.{CatchesUp, StoresOwing, StoresCut}
+use Rattle.law_refine.specs.Below.fkv_session.CatchingUp.{CatchState, catching_ask}
+use Rattle.law_refine.specs.Below.fkv_session.Sessions.{SessionState, Seat, session_ask, session_next, sitting_ask}
+use Rattle.law_refine.specs.Below.fkv_session.SessionRun.{SessionEvent, Begins, Replies, session_happens, session_run}
+use Rattle.law_refine.specs.Below.fkv_session.Words.{IsMark, stored_behind, stored_by, stored_last}
+use Rattle.law_refine.specs.Below.fkv_keeper.Keeping.{keeper_ask}
+use Rattle.law_refine.specs.Below.fkv_world.Actors.{is_of_session}
+use Rattle.law_refine.specs.Below.fkv_world.Moves.{Near}
+use Rattle.law_refine.specs.Below.fkv_world.Opened.{IsOpenedWorld}
+use Rattle.law_refine.specs.Below.fkv_world.OwnEvents.{session_events, session_got, session_part, session_part_found, session_part_of, session_slots, session_steps}
+use Rattle.law_refine.specs.Below.fkv_world.Runs.{World, happens, run}
+use Rattle.law_refine.specs.Below.fkv_world.World.{Event, Calls, Moves, Now, near, seat_at}
+use Rattle.law_refine.proofs.Below.fkv_world.Shown.{is_over, places_stay, same_seat, session_runs, session_runs_on}
+use Rattle.law_refine.proofs.Below.law_world.OfRuns.OneWord.{session_writes}
 use Rattle.law_refine.specs.Footprint.{Marks, TheMarks, IsAmong, Spares}
 use Rattle.law_refine.proofs.Footprint.Catches.{is_marking}
 use Rattle.law_refine.proofs.Footprint.Lives.{at_each_moment, keeper_spares}

@@ -10,22 +10,22 @@ use Rattle.fkv_plane.specs.declared.places.Places.{Places}
 use Rattle.fkv_plane.specs.declared.places.SessionWord.TheVariants as own
 use Rattle.fkv_plane.specs.Passing.{passed}
 use Rattle.fkv_plane.specs.Places.{session_place}
-use Rattle.fkv_commit.specs.declared.commits.Commit.{Commit}
-use Rattle.fkv_commit.specs.declared.finishing.FinishAnswer.TheVariants.{Finished}
-use Rattle.fkv_commit.specs.declared.finishing.Finishing.{Finishing}
-use Rattle.fkv_commit.specs.declared.finishing.Finishing.TheVariants as finishing
-use Rattle.fkv_commit.specs.Finishing.{durable_from, finishing_ask, finishing_next, point_of}
-use Rattle.fkv_manifest.specs.declared.answers.WriteAnswer.{WriteAnswer}
-use Rattle.fkv_manifest.specs.declared.answers.WriteAnswer.TheVariants as write
-use Rattle.fkv_manifest.specs.Committing.{commit_answer, commit_next}
-use Rattle.fkv_keeper.specs.declared.answers.KeeperTold.TheVariants.{Turned}
-use Rattle.fkv_keeper.specs.declared.keepers.Keeping.{Keeping}
-use Rattle.fkv_keeper.specs.declared.keepers.Keeping.TheVariants.{Ended, Starts, Maintains, LoadsPhase, Enters, Copies, Seeks, Waits, Writes, Finishes}
-use Rattle.fkv_keeper.specs.CheckpointLaws.{IsFinished, MayFollow, SparesDurable, SparesWord}
-use Rattle.fkv_keeper.specs.Keeping.{KeeperState, finish_ledto, finished, keeper_ask, keeping_ask, keeping_called, keeping_given, keeping_next, write_ledto}
-use Rattle.fkv_keeper.specs.KeeperRun.{KeeperEvent, BeginsTurn, BeginsCommit, Replies, Gets, Calls, IsOpened, is_in_hand, keeper_happens, keeper_run}
-use Rattle.fkv_keeper.proofs.Shown.{each_move, run_finished, run_spares}
-use Rattle.law_world.proofs.OfStanding.Runs.{happens_at}
+use Rattle.law_refine.specs.Below.fkv_commit.Commit.{Commit}
+use Rattle.law_refine.specs.Below.fkv_commit.FinishAnswer.TheVariants.{Finished}
+use Rattle.law_refine.specs.Below.fkv_commit.TheFinishing.{Finishing}
+use Rattle.law_refine.specs.Below.fkv_commit.TheFinishing.TheVariants as finishing
+use Rattle.law_refine.specs.Below.fkv_commit.Finishing.{durable_from, finishing_ask, finishing_next, point_of}
+use Rattle.law_refine.specs.Below.fkv_manifest.WriteAnswer.{WriteAnswer}
+use Rattle.law_refine.specs.Below.fkv_manifest.WriteAnswer.TheVariants as write
+use Rattle.law_refine.specs.Below.fkv_manifest.Committing.{commit_answer, commit_next}
+use Rattle.law_refine.specs.Below.fkv_keeper.KeeperTold.TheVariants.{Turned}
+use Rattle.law_refine.specs.Below.fkv_keeper.TheKeeping.{Keeping}
+use Rattle.law_refine.specs.Below.fkv_keeper.TheKeeping.TheVariants.{Ended, Starts, Maintains, LoadsPhase, Enters, Copies, Seeks, Waits, Writes, Finishes}
+use Rattle.law_refine.specs.Below.fkv_keeper.CheckpointLaws.{IsFinished, MayFollow, SparesDurable, SparesWord}
+use Rattle.law_refine.specs.Below.fkv_keeper.Keeping.{KeeperState, finish_ledto, finished, keeper_ask, keeping_ask, keeping_called, keeping_given, keeping_next, write_ledto}
+use Rattle.law_refine.specs.Below.fkv_keeper.KeeperRun.{KeeperEvent, BeginsTurn, BeginsCommit, Replies, Gets, Calls, IsOpened, is_in_hand, keeper_happens, keeper_run}
+use Rattle.law_refine.proofs.Below.fkv_keeper.Shown.{each_move, run_finished, run_spares}
+use Rattle.law_refine.proofs.Below.law_world.OfStanding.Runs.{happens_at}
 use Rattle.law_refine.proofs.Footprint.Keepers.{keeper_run_spares}
 use Rattle.law_commit.specs.Cuts.{durable_at, durable_in, stored_behind, stored_by, stored_last}
 use Rattle.law_commit.proofs.BegunStands.{there}

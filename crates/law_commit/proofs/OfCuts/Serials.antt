@@ -8,19 +8,19 @@ use Rattle.fkv_plane.specs.declared.asks.Ask.{Ask}
 use Rattle.fkv_plane.specs.declared.asks.Ask.TheVariants.{Load, Store, Swap, Cas, Add, Max, Put, Take, Done}
 use Rattle.fkv_plane.specs.declared.places.SessionWord.TheVariants as own
 use Rattle.fkv_plane.specs.Places.{session_place}
-use Rattle.fkv_commit.specs.Cuts.{is_cut, serial_said}
-use Rattle.fkv_session.specs.declared.answers.Told.{Told}
-use Rattle.fkv_session.specs.CatchingUp.{cut_at}
-use Rattle.fkv_session.specs.Sessions.{SessionState, Seat, IsOpened, session_ask}
-use Rattle.fkv_session.specs.SessionRun.{SessionEvent, Begins, Gets, Replies, session_run}
-use Rattle.fkv_session.specs.Words.{IsMark, IsMarkStore, LeavesVersion, OwesUpdates, HasFinished, GoesToSleep, stored_behind, stored_by, stored_last}
-use Rattle.fkv_session.proofs.Shown.{run_stores}
-use Rattle.fkv_world.specs.Opened.{HasBecome}
-use Rattle.fkv_world.specs.OwnEvents.{session_events}
-use Rattle.fkv_world.specs.Runs.{World}
-use Rattle.fkv_world.specs.World.{Event, seat_at}
+use Rattle.law_refine.specs.Below.fkv_commit.Cuts.{is_cut, serial_said}
+use Rattle.law_refine.specs.Below.fkv_session.Told.{Told}
+use Rattle.law_refine.specs.Below.fkv_session.CatchingUp.{cut_at}
+use Rattle.law_refine.specs.Below.fkv_session.Sessions.{SessionState, Seat, IsOpened, session_ask}
+use Rattle.law_refine.specs.Below.fkv_session.SessionRun.{SessionEvent, Begins, Gets, Replies, session_run}
+use Rattle.law_refine.specs.Below.fkv_session.Words.{IsMark, IsMarkStore, LeavesVersion, OwesUpdates, HasFinished, GoesToSleep, stored_behind, stored_by, stored_last}
+use Rattle.law_refine.proofs.Below.fkv_session.Shown.{run_stores}
+use Rattle.law_refine.specs.Below.fkv_world.Opened.{HasBecome}
+use Rattle.law_refine.specs.Below.fkv_world.OwnEvents.{session_events}
+use Rattle.law_refine.specs.Below.fkv_world.Runs.{World}
+use Rattle.law_refine.specs.Below.fkv_world.World.{Event, seat_at}
 use Rattle.fkv_plane.specs.Asked.{word_at}
-use Rattle.law_world.proofs.OfSessions.OwnRun.{of_run, opened_so, seated}
+use Rattle.law_refine.proofs.Below.law_world.OfSessions.OwnRun.{of_run, opened_so, seated}
 use Rattle.law_commit.specs.Cuts.{HasItsWords, IsCutPlace, ShowCuts, word_now}
 use Rattle.law_commit.proofs.Counted.{Takes, run_moves}
 use Rattle.law_commit.proofs.OfCuts.Marks.{life_marks}

@@ -3,10 +3,10 @@ use Rattle.std.proofs.Common.{◌≡◌, inl, inr, ℕ, ◌∙◌, refl, sym, su
 use Rattle.std.specs.Prelude.{◌==◌, ◌%◌, if◌then◌else◌}
 use Rattle.fkv_plane.specs.declared.places.SessionWord.TheVariants as own
 use Rattle.fkv_plane.specs.Places.{session_place}
-use Rattle.fkv_session.specs.CatchingUp.{cut_of, version_before}
-use Rattle.fkv_session.specs.InOrder.{AreToldInOrder, HasTold, TellsCut, TellsOwing, IsOwedOrOneMore, owing_place, owing_told, taken_up}
-use Rattle.fkv_session.specs.Sessions.{SessionState, Seat}
-use Rattle.fkv_session.specs.Words.{AreMarksTold, IsCutAsleep, IsMark}
+use Rattle.law_refine.specs.Below.fkv_session.CatchingUp.{cut_of, version_before}
+use Rattle.law_refine.specs.Below.fkv_session.InOrder.{AreToldInOrder, HasTold, TellsCut, TellsOwing, IsOwedOrOneMore, owing_place, owing_told, taken_up}
+use Rattle.law_refine.specs.Below.fkv_session.Sessions.{SessionState, Seat}
+use Rattle.law_refine.specs.Below.fkv_session.Words.{AreMarksTold, IsCutAsleep, IsMark}
 
 pub cut_mark : (number version : ℕ) → IsMark number (session_place number (cut_of version))
 cut_mark number version = by_parity (version % 2 == 0)

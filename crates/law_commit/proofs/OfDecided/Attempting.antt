@@ -11,24 +11,24 @@ use Rattle.fkv_words.specs.declared.phase_words.PhaseSaid.{PhaseSaid}
 use Rattle.fkv_words.specs.declared.phase_words.PhaseSaid.TheVariants.{Says, Spoiled}
 use Rattle.fkv_words.specs.PhaseWords.{phase_said}
 use Rattle.fkv_epoch.proofs.Shown.{item_written, some_same}
-use Rattle.fkv_flush.specs.GuardWorld.{GuardWorld}
-use Rattle.fkv_session.specs.declared.answers.Told.{Told}
-use Rattle.fkv_session.specs.declared.sessions.Sitting.{Sitting}
-use Rattle.fkv_session.specs.declared.sessions.Sitting.TheVariants.{Attempts, Polls}
-use Rattle.fkv_session.specs.Sessions.{SessionState, Seat, is_busy, session_ask, session_next}
-use Rattle.fkv_session.specs.SessionRun.{Begins, Replies, session_happens, session_run}
-use Rattle.fkv_world.specs.Actors.{is_of_session, slot_asked}
-use Rattle.fkv_world.specs.Moves.{Near, session_moved}
-use Rattle.fkv_world.specs.OwnEvents.{session_events, session_part, session_part_of, session_slots, session_steps}
-use Rattle.fkv_world.specs.Runs.{World, happens, run}
-use Rattle.fkv_world.specs.World as world
-use Rattle.fkv_world.specs.World.{Event, Calls, Moves, Commits, KeeperMoves, Crashes, Now, life_goes, near, seat_at, session_moves}
-use Rattle.fkv_world.proofs.Shown.{lives, same_seat, session_runs}
-use Rattle.law_world.specs.Guarded.Shows as guard
-use Rattle.law_world.specs.Guarded.Shows.{Shows, seen_by_guard}
-use Rattle.law_world.specs.GuardSessions.Followed.{is_turning, seat_in}
-use Rattle.law_world.proofs.OfGuarded.Worlds.{life_shows}
-use Rattle.law_world.proofs.OfGuardSessions.Finds.{session_rests}
+use Rattle.law_refine.specs.Below.fkv_flush.GuardWorld.{GuardWorld}
+use Rattle.law_refine.specs.Below.fkv_session.Told.{Told}
+use Rattle.law_refine.specs.Below.fkv_session.Sitting.{Sitting}
+use Rattle.law_refine.specs.Below.fkv_session.Sitting.TheVariants.{Attempts, Polls}
+use Rattle.law_refine.specs.Below.fkv_session.Sessions.{SessionState, Seat, is_busy, session_ask, session_next}
+use Rattle.law_refine.specs.Below.fkv_session.SessionRun.{Begins, Replies, session_happens, session_run}
+use Rattle.law_refine.specs.Below.fkv_world.Actors.{is_of_session, slot_asked}
+use Rattle.law_refine.specs.Below.fkv_world.Moves.{Near, session_moved}
+use Rattle.law_refine.specs.Below.fkv_world.OwnEvents.{session_events, session_part, session_part_of, session_slots, session_steps}
+use Rattle.law_refine.specs.Below.fkv_world.Runs.{World, happens, run}
+use Rattle.law_refine.specs.Below.fkv_world.World as world
+use Rattle.law_refine.specs.Below.fkv_world.World.{Event, Calls, Moves, Commits, KeeperMoves, Crashes, Now, life_goes, near, seat_at, session_moves}
+use Rattle.law_refine.proofs.Below.fkv_world.Shown.{lives, same_seat, session_runs}
+use Rattle.law_refine.specs.Below.law_world.Guarded.Shows as guard
+use Rattle.law_refine.specs.Below.law_world.Guarded.Shows.{Shows, seen_by_guard}
+use Rattle.law_refine.specs.Below.law_world.GuardSessions.Followed.{is_turning, seat_in}
+use Rattle.law_refine.proofs.Below.law_world.OfGuarded.Worlds.{life_shows}
+use Rattle.law_refine.proofs.Below.law_world.OfGuardSessions.Finds.{session_rests}
 use Rattle.law_refine.specs.Events.Reserved.{tail_at}
 use Rattle.law_refine.proofs.OfEvents.Fixed.{life_rises}
 use Rattle.law_refine.proofs.OfSeen.Alone.{moves_alone}

@@ -1,7 +1,7 @@
 -- Each address that stands in a chain is taken, so it lies below the tail.
 use Rattle.std.proofs.Common.{◌≡◌, ◌⊎◌, inl, inr, ℕ, ◌<◌, ◌∙◌, List, [], ◌∷◌, refl, ap, sym, subst, arith, Bool, true, false}
 use Rattle.std.specs.Prelude.{nat_lt}
-use Rattle.fkv_checkpoint.specs.Triples.{CopiedEntry}
+use Rattle.law_refine.specs.Below.fkv_checkpoint.Triples.{CopiedEntry}
 use Rattle.law_refine.specs.Index.Shows as index
 use Rattle.law_refine.specs.Heads.Heads.{LeadToHeads}
 use Rattle.law_refine.specs.Events.GhostEvents.{home_number}
@@ -14,9 +14,9 @@ use Rattle.law_commit.proofs.OfCopied.Sound.{life_sound}
 use Rattle.law_refine.specs.Events.Reserved.{ReservesNothing}
 use Rattle.std.proofs.lemmas.Bool.Decides.{nat_tests}
 use Rattle.fkv_map.specs.declared.history.HistoryEntry.{HistoryEntry}
-use Rattle.fkv_world.specs.Runs.{World, run}
-use Rattle.fkv_world.specs.World.{Event}
-use Rattle.law_world.specs.Guarded.Shows as guard
+use Rattle.law_refine.specs.Below.fkv_world.Runs.{World, run}
+use Rattle.law_refine.specs.Below.fkv_world.World.{Event}
+use Rattle.law_refine.specs.Below.law_world.Guarded.Shows as guard
 use Rattle.law_log.specs.Chains.{Cell, Logged, Unborn, Reserved, Published, Dropped}
 use Rattle.law_log.specs.Ghosts.{Log, Ghosts, GhostEvent, Tells, FindsEntry, TakesValue, Reserves, Publishes, Drops, Changes, Fixes, changed, dropped, ghost_run, ghosts_after, log_after, published, set_at}
 use Rattle.law_log.specs.Trace.{IsIn}

@@ -1,8 +1,8 @@
 -- A newer commit ends no lower: its end was the tail at a later moment.
 use Rattle.std.proofs.Common.{◌≡◌, ◌⊎◌, inl, inr, ℕ, ◌<◌, ◌≤◌, ◌∙◌, List, [], ◌∷◌, ◌++◌, arith, ap, sym, subst}
 use Rattle.std.proofs.lemmas.List.{append-nil}
-use Rattle.fkv_world.specs.Runs.{World, run}
-use Rattle.fkv_world.specs.World.{Event}
+use Rattle.law_refine.specs.Below.fkv_world.Runs.{World, run}
+use Rattle.law_refine.specs.Below.fkv_world.World.{Event}
 use Rattle.law_refine.specs.Events.Reserved.{tail_at}
 use Rattle.law_commit.specs.Decided.Below.{EndsRise}
 use Rattle.law_commit.specs.Decided.Ended.{HadMoment, HasEnded, LoadsEnd, Span, span_of, span_opened}

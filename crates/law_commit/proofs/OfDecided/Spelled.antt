@@ -5,32 +5,32 @@ use Rattle.std.specs.Prelude.{Option}
 use Rattle.fkv_base.specs.declared.commits.CommitKind.{CommitKind}
 use Rattle.fkv_base.specs.declared.commits.CommitKind.TheVariants.{Full}
 use Rattle.fkv_base.specs.declared.numbers.Addr.{Addr}
-use Rattle.fkv_checkpoint.specs.Copied.{CopiesTriples}
-use Rattle.fkv_checkpoint.specs.Copying.{Copier}
-use Rattle.fkv_checkpoint.specs.CopyWorld.{CopyWorld}
-use Rattle.fkv_checkpoint.specs.Fuzzy.{AreApart}
-use Rattle.fkv_checkpoint.specs.Triples.{CopiedEntry, all_bytes, copied_of}
-use Rattle.fkv_checkpoint.proofs.Shown.{sound_left_out}
-use Rattle.fkv_commit.specs.declared.commits.Commit.{Commit}
+use Rattle.law_refine.specs.Below.fkv_checkpoint.Copied.{CopiesTriples}
+use Rattle.law_refine.specs.Below.fkv_checkpoint.Copying.{Copier}
+use Rattle.law_refine.specs.Below.fkv_checkpoint.CopyWorld.{CopyWorld}
+use Rattle.law_refine.specs.Below.fkv_checkpoint.Fuzzy.{AreApart}
+use Rattle.law_refine.specs.Below.fkv_checkpoint.Triples.{CopiedEntry, all_bytes, copied_of}
+use Rattle.law_refine.proofs.Below.fkv_checkpoint.Shown.{sound_left_out}
+use Rattle.law_refine.specs.Below.fkv_commit.Commit.{Commit}
 use Rattle.fkv_index.specs.OneEntry.{IsHome}
-use Rattle.fkv_keeper.specs.CheckpointLaws.{IsBeforeWrites}
-use Rattle.fkv_keeper.specs.Keeping.{bytes_copied, triples_written}
+use Rattle.law_refine.specs.Below.fkv_keeper.CheckpointLaws.{IsBeforeWrites}
+use Rattle.law_refine.specs.Below.fkv_keeper.Keeping.{bytes_copied, triples_written}
 use Rattle.fkv_plane.specs.declared.places.Places.{Places}
 use Rattle.fkv_words.specs.PhaseWords.{phase_said}
-use Rattle.fkv_world.specs.OwnEvents.{keeper_events}
-use Rattle.fkv_world.specs.Runs.{World, run}
-use Rattle.fkv_world.specs.World.{Event}
-use Rattle.fkv_world.proofs.Shown.{places_stay}
+use Rattle.law_refine.specs.Below.fkv_world.OwnEvents.{keeper_events}
+use Rattle.law_refine.specs.Below.fkv_world.Runs.{World, run}
+use Rattle.law_refine.specs.Below.fkv_world.World.{Event}
+use Rattle.law_refine.proofs.Below.fkv_world.Shown.{places_stay}
 use Rattle.law_log.specs.Ghosts.{Ghosts}
 use Rattle.law_log.specs.Trace.{IsIn}
-use Rattle.law_world.specs.Guarded.Shows as guard
+use Rattle.law_refine.specs.Below.law_world.Guarded.Shows as guard
 use Rattle.law_refine.specs.Index.Shows as index
 use Rattle.law_refine.proofs.OfIndex.Permitted.{are_permitted}
 use Rattle.law_refine.proofs.OfIndex.Worlds.{life_shows}
 use Rattle.law_refine.specs.Events.GhostEvents.{home_number, life_ghosts}
 use Rattle.law_refine.specs.Events.Reserved.{tail_at}
 use Rattle.law_refine.specs.Heads.Heads.{LeadToHeads}
-use Rattle.law_world.specs.Keeper.Lives.{replies_copied}
+use Rattle.law_refine.specs.Below.law_world.Keeper.Lives.{replies_copied}
 use Rattle.law_commit.specs.Copied.Covers.{CoverHeads, HasStoodSince, LeadIntoChains, MayBeCopied, before_copy}
 use Rattle.law_commit.specs.Copied.Runs.{HasInHand, copy_events, opening_copy, seen_by_copy}
 use Rattle.law_commit.specs.Decided.Below.{FullCommitsSpellChains, OpensWhole, SpellsChains}

@@ -6,12 +6,12 @@ use Rattle.fkv_plane.specs.declared.actions.Action.TheVariants as act
 use Rattle.fkv_plane.specs.declared.places.Places.{Places}
 use Rattle.fkv_plane.specs.Asked.{word_at, words_after}
 use Rattle.fkv_plane.specs.Places.{frames_start}
-use Rattle.fkv_log.specs.declared.reserving.Reserving.TheVariants as reserve
-use Rattle.fkv_log.specs.declared.filling.Filling.TheVariants as fill
-use Rattle.fkv_log.specs.declared.invalidating.Invalidating.TheVariants as invalidate
-use Rattle.fkv_log.specs.Reserving.{reserve_ask}
-use Rattle.fkv_log.specs.Filling.{fill_ask}
-use Rattle.fkv_log.specs.Invalidating.{invalidate_ask}
+use Rattle.law_refine.specs.Below.fkv_log.TheReserving.TheVariants as reserve
+use Rattle.law_refine.specs.Below.fkv_log.TheFilling.TheVariants as fill
+use Rattle.law_refine.specs.Below.fkv_log.TheInvalidating.TheVariants as invalidate
+use Rattle.law_refine.specs.Below.fkv_log.Reserving.{reserve_ask}
+use Rattle.law_refine.specs.Below.fkv_log.Filling.{fill_ask}
+use Rattle.law_refine.specs.Below.fkv_log.Invalidating.{invalidate_ask}
 use Rattle.fkv_epoch.specs.declared.claiming.Claiming.TheVariants as claim
 use Rattle.fkv_epoch.specs.declared.protecting.Protecting.TheVariants as protect
 use Rattle.fkv_epoch.specs.declared.refreshing.Refreshing.TheVariants as refresh
@@ -30,27 +30,27 @@ use Rattle.fkv_epoch.specs.Raising.{raise_ask}
 use Rattle.fkv_epoch.specs.Arming.{arm_ask}
 use Rattle.fkv_epoch.specs.EpochWorld.{EpochMachine, Protects, Refreshes, Leaves, Scans, Claims, Raises, Arms, is_own}
 use Rattle.fkv_epoch.proofs.Shown.{word_written}
-use Rattle.fkv_log.specs.declared.moving.Offset.{Offset}
-use Rattle.fkv_log.specs.declared.moving.Offset.TheVariants.{ReadOnly, Head}
-use Rattle.fkv_log.specs.declared.moving.Moving.{Moving}
-use Rattle.fkv_log.specs.declared.moving.Moving.TheVariants as move
-use Rattle.fkv_log.specs.declared.shifting.Shifting.{Shifting}
-use Rattle.fkv_log.specs.declared.shifting.Shifting.TheVariants as shift
-use Rattle.fkv_log.specs.declared.turning.Turning.{Turning}
-use Rattle.fkv_log.specs.declared.turning.Turning.TheVariants as turn
-use Rattle.fkv_log.specs.Moving.{Mover, offset_place, move_ask, moving_ask}
-use Rattle.fkv_log.specs.Shifting.{shifting_ask}
-use Rattle.fkv_log.specs.Turning.{turning_ask}
-use Rattle.fkv_flush.specs.declared.flushing.Flushing.TheVariants as flush
-use Rattle.fkv_flush.specs.declared.serving.Serving.TheVariants as serve
-use Rattle.fkv_flush.specs.Flushing.{flush_ask}
-use Rattle.fkv_flush.specs.Serving.{serve_ask}
-use Rattle.fkv_flush.specs.GuardAsks.{writes, machine_writes}
-use Rattle.fkv_flush.specs.GuardLevels.{levels_of}
-use Rattle.fkv_flush.specs.GuardWorld.{Actor, Work, Rests, Reserves, Fills, Invalidates, Shifts, Turns, Flushes, Serves, GuardNow, GuardWorld, GuardEvent, Begins, Resumes, Moves, Publishes, Updates, RaisesReadOnly, RaisesFor, Changes, is_idle, is_guarded, put_near, work_step, guard_happens, guard_run}
-use Rattle.fkv_flush.specs.Guarded.{work_writes, update_writes}
-use Rattle.fkv_flush.proofs.Shown.{Spares, unwritten, writes_passed, moves_work}
-use Rattle.law_world.proofs.OfGuarded.OneStep.{IsOwn, IsQuiet, IsStep}
+use Rattle.law_refine.specs.Below.fkv_log.Offset.{Offset}
+use Rattle.law_refine.specs.Below.fkv_log.Offset.TheVariants.{ReadOnly, Head}
+use Rattle.law_refine.specs.Below.fkv_log.TheMoving.{Moving}
+use Rattle.law_refine.specs.Below.fkv_log.TheMoving.TheVariants as move
+use Rattle.law_refine.specs.Below.fkv_log.TheShifting.{Shifting}
+use Rattle.law_refine.specs.Below.fkv_log.TheShifting.TheVariants as shift
+use Rattle.law_refine.specs.Below.fkv_log.TheTurning.{Turning}
+use Rattle.law_refine.specs.Below.fkv_log.TheTurning.TheVariants as turn
+use Rattle.law_refine.specs.Below.fkv_log.Moving.{Mover, offset_place, move_ask, moving_ask}
+use Rattle.law_refine.specs.Below.fkv_log.Shifting.{shifting_ask}
+use Rattle.law_refine.specs.Below.fkv_log.Turning.{turning_ask}
+use Rattle.law_refine.specs.Below.fkv_flush.TheFlushing.TheVariants as flush
+use Rattle.law_refine.specs.Below.fkv_flush.TheServing.TheVariants as serve
+use Rattle.law_refine.specs.Below.fkv_flush.Flushing.{flush_ask}
+use Rattle.law_refine.specs.Below.fkv_flush.Serving.{serve_ask}
+use Rattle.law_refine.specs.Below.fkv_flush.GuardAsks.{writes, machine_writes}
+use Rattle.law_refine.specs.Below.fkv_flush.GuardLevels.{levels_of}
+use Rattle.law_refine.specs.Below.fkv_flush.GuardWorld.{Actor, Work, Rests, Reserves, Fills, Invalidates, Shifts, Turns, Flushes, Serves, GuardNow, GuardWorld, GuardEvent, Begins, Resumes, Moves, Publishes, Updates, RaisesReadOnly, RaisesFor, Changes, is_idle, is_guarded, put_near, work_step, guard_happens, guard_run}
+use Rattle.law_refine.specs.Below.fkv_flush.Guarded.{work_writes, update_writes}
+use Rattle.law_refine.proofs.Below.fkv_flush.Shown.{Spares, unwritten, writes_passed, moves_work}
+use Rattle.law_refine.proofs.Below.law_world.OfGuarded.OneStep.{IsOwn, IsQuiet, IsStep}
 
 -- ---- which asks write the tail's word
 abbrev SparesTail : Option ℕ → Type 0

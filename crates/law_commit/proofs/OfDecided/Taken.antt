@@ -9,60 +9,60 @@ use Rattle.fkv_plane.specs.declared.places.Places.{Places}
 use Rattle.fkv_plane.specs.declared.places.SharedWord.TheVariants as one
 use Rattle.fkv_plane.specs.Asked.{asked, asked_place, reply_to, word_found}
 use Rattle.fkv_plane.specs.Places.{shared_place}
-use Rattle.fkv_log.specs.declared.reserving.ReserveAnswer.TheVariants as answer
-use Rattle.fkv_log.specs.declared.reserving.Reserving.{Reserving}
-use Rattle.fkv_log.specs.declared.reserving.Reserving.TheVariants as reserve
-use Rattle.fkv_log.specs.Reserving.{reserve_next_ask}
-use Rattle.fkv_log.specs.declared.filling.Filling.{Filling}
-use Rattle.fkv_log.specs.declared.filling.Filling.TheVariants as fill
-use Rattle.fkv_log.specs.declared.invalidating.Invalidating.{Invalidating}
-use Rattle.fkv_log.specs.declared.invalidating.Invalidating.TheVariants as invalidate
-use Rattle.fkv_log.specs.Shifting.{ShiftState}
-use Rattle.fkv_log.specs.Turning.{TurnState}
-use Rattle.fkv_flush.specs.GuardLevels.{levels_of}
-use Rattle.fkv_flush.specs.GuardSeen.{LastSeen}
-use Rattle.fkv_flush.specs.GuardWorld.{Actor, GuardEvent, GuardWorld, Work, guard_run, is_idle, shift_rests, turn_rests}
-use Rattle.fkv_flush.specs.GuardWorld as guard_world
+use Rattle.law_refine.specs.Below.fkv_log.ReserveAnswer.TheVariants as answer
+use Rattle.law_refine.specs.Below.fkv_log.TheReserving.{Reserving}
+use Rattle.law_refine.specs.Below.fkv_log.TheReserving.TheVariants as reserve
+use Rattle.law_refine.specs.Below.fkv_log.Reserving.{reserve_next_ask}
+use Rattle.law_refine.specs.Below.fkv_log.TheFilling.{Filling}
+use Rattle.law_refine.specs.Below.fkv_log.TheFilling.TheVariants as fill
+use Rattle.law_refine.specs.Below.fkv_log.TheInvalidating.{Invalidating}
+use Rattle.law_refine.specs.Below.fkv_log.TheInvalidating.TheVariants as invalidate
+use Rattle.law_refine.specs.Below.fkv_log.Shifting.{ShiftState}
+use Rattle.law_refine.specs.Below.fkv_log.Turning.{TurnState}
+use Rattle.law_refine.specs.Below.fkv_flush.GuardLevels.{levels_of}
+use Rattle.law_refine.specs.Below.fkv_flush.GuardSeen.{LastSeen}
+use Rattle.law_refine.specs.Below.fkv_flush.GuardWorld.{Actor, GuardEvent, GuardWorld, Work, guard_run, is_idle, shift_rests, turn_rests}
+use Rattle.law_refine.specs.Below.fkv_flush.GuardWorld as guard_world
 use Rattle.fkv_epoch.proofs.Shown.{some_same}
-use Rattle.fkv_flush.proofs.Shown.{Awake, FitsWork, IsSound, Knows}
-use Rattle.fkv_ops.specs.declared.appending.Appending.{Appending}
-use Rattle.fkv_ops.specs.declared.appending.Appending.TheVariants as appending
-use Rattle.fkv_ops.specs.declared.trying.Trying.{Trying}
-use Rattle.fkv_ops.specs.declared.trying.Trying.TheVariants as trying
-use Rattle.fkv_ops.specs.Appending.{AppendState}
-use Rattle.fkv_ops.specs.Trying.{TryState}
-use Rattle.fkv_pending.specs.declared.attempting.Attempting.{Attempting}
-use Rattle.fkv_pending.specs.declared.attempting.Attempting.TheVariants as attempting
-use Rattle.fkv_pending.specs.declared.pending_requests.PendingRequest.{PendingRequest}
-use Rattle.fkv_pending.specs.Attempting.{AttemptState, attempt_ask, attempt_next}
-use Rattle.fkv_session.specs.declared.answers.Told.{Told}
-use Rattle.fkv_session.specs.declared.own_turns.OwnTurning.{OwnTurning}
-use Rattle.fkv_session.specs.declared.own_turns.OwnTurning.TheVariants as turning
-use Rattle.fkv_session.specs.declared.sessions.Sitting.{Sitting}
-use Rattle.fkv_session.specs.declared.sessions.Sitting.TheVariants as sitting
-use Rattle.fkv_session.specs.OwnTurns.{OwnTurnState}
-use Rattle.fkv_session.specs.Sessions.{SessionState, Seat, bits_of, room_of, session_ask}
-use Rattle.fkv_world.specs.Actors.{place_named}
-use Rattle.fkv_world.specs.Past.{Traced}
-use Rattle.fkv_world.specs.Runs.{World, happens, read_by_keeper, run}
-use Rattle.fkv_world.specs.World.{Event, Calls, Moves, Commits, Turns, KeeperMoves, Crashes, seat_at}
+use Rattle.law_refine.proofs.Below.fkv_flush.Shown.{Awake, FitsWork, IsSound, Knows}
+use Rattle.law_refine.specs.Below.fkv_ops.TheAppending.{Appending}
+use Rattle.law_refine.specs.Below.fkv_ops.TheAppending.TheVariants as appending
+use Rattle.law_refine.specs.Below.fkv_ops.TheTrying.{Trying}
+use Rattle.law_refine.specs.Below.fkv_ops.TheTrying.TheVariants as trying
+use Rattle.law_refine.specs.Below.fkv_ops.Appending.{AppendState}
+use Rattle.law_refine.specs.Below.fkv_ops.Trying.{TryState}
+use Rattle.law_refine.specs.Below.fkv_pending.TheAttempting.{Attempting}
+use Rattle.law_refine.specs.Below.fkv_pending.TheAttempting.TheVariants as attempting
+use Rattle.law_refine.specs.Below.fkv_pending.PendingRequest.{PendingRequest}
+use Rattle.law_refine.specs.Below.fkv_pending.Attempting.{AttemptState, attempt_ask, attempt_next}
+use Rattle.law_refine.specs.Below.fkv_session.Told.{Told}
+use Rattle.law_refine.specs.Below.fkv_session.OwnTurning.{OwnTurning}
+use Rattle.law_refine.specs.Below.fkv_session.OwnTurning.TheVariants as turning
+use Rattle.law_refine.specs.Below.fkv_session.Sitting.{Sitting}
+use Rattle.law_refine.specs.Below.fkv_session.Sitting.TheVariants as sitting
+use Rattle.law_refine.specs.Below.fkv_session.OwnTurns.{OwnTurnState}
+use Rattle.law_refine.specs.Below.fkv_session.Sessions.{SessionState, Seat, bits_of, room_of, session_ask}
+use Rattle.law_refine.specs.Below.fkv_world.Actors.{place_named}
+use Rattle.law_refine.specs.Below.fkv_world.Past.{Traced}
+use Rattle.law_refine.specs.Below.fkv_world.Runs.{World, happens, read_by_keeper, run}
+use Rattle.law_refine.specs.Below.fkv_world.World.{Event, Calls, Moves, Commits, Turns, KeeperMoves, Crashes, seat_at}
 use Rattle.law_log.specs.Chains.{Cell, Logged, Reserved}
 use Rattle.law_log.specs.Ghosts.{Ghosts, GhostEvent, Tells, Reserves, Publishes, Drops, FindsEntry, TakesValue, Changes, Fixes, ghost_run, ghosts_after, set_at}
 use Rattle.law_log.specs.Trace.{TraceLine}
 use Rattle.law_log.proofs.Shown.{at_one}
-use Rattle.law_world.proofs.OfRuns.OneWord.{one_word}
-use Rattle.law_world.specs.Guarded.GuardEvents.{guard_events, keeper_number, life_events}
-use Rattle.law_world.specs.Guarded.Shows as guard
-use Rattle.law_world.specs.Guarded.Shows.{Shows, seen_by_guard}
-use Rattle.law_world.specs.GuardSessions.Attempts.{attempt_likeness_at}
-use Rattle.law_world.specs.GuardSessions.Likenesses.{append_work, fill_work, invalidate_work, last_seen, reserve_work}
-use Rattle.law_world.specs.GuardSessions.OwnTurns.{own_turn_likeness_at, shift_work, turn_work}
-use Rattle.law_world.specs.GuardSessions.Sessions.{session_likeness, sitting_likeness}
-use Rattle.law_world.specs.GuardSessions.Tries.{is_for_entry, try_likeness_at}
-use Rattle.law_world.proofs.OfGuarded.Kept.{moved_is}
-use Rattle.law_world.proofs.OfGuarded.KeeperSteps.{keeper_steps}
-use Rattle.law_world.proofs.OfGuarded.OneStep.{IsStep}
-use Rattle.law_world.proofs.OfGuarded.Worlds.{life_shows}
+use Rattle.law_refine.proofs.Below.law_world.OfRuns.OneWord.{one_word}
+use Rattle.law_refine.specs.Below.law_world.Guarded.GuardEvents.{guard_events, keeper_number, life_events}
+use Rattle.law_refine.specs.Below.law_world.Guarded.Shows as guard
+use Rattle.law_refine.specs.Below.law_world.Guarded.Shows.{Shows, seen_by_guard}
+use Rattle.law_refine.specs.Below.law_world.GuardSessions.Attempts.{attempt_likeness_at}
+use Rattle.law_refine.specs.Below.law_world.GuardSessions.Likenesses.{append_work, fill_work, invalidate_work, last_seen, reserve_work}
+use Rattle.law_refine.specs.Below.law_world.GuardSessions.OwnTurns.{own_turn_likeness_at, shift_work, turn_work}
+use Rattle.law_refine.specs.Below.law_world.GuardSessions.Sessions.{session_likeness, sitting_likeness}
+use Rattle.law_refine.specs.Below.law_world.GuardSessions.Tries.{is_for_entry, try_likeness_at}
+use Rattle.law_refine.proofs.Below.law_world.OfGuarded.Kept.{moved_is}
+use Rattle.law_refine.proofs.Below.law_world.OfGuarded.KeeperSteps.{keeper_steps}
+use Rattle.law_refine.proofs.Below.law_world.OfGuarded.OneStep.{IsStep}
+use Rattle.law_refine.proofs.Below.law_world.OfGuarded.Worlds.{life_shows}
 use Rattle.law_refine.specs.Events.Appends.{append_ghosts, entry_made, reserved_ghosts}
 use Rattle.law_refine.specs.Events.GhostEvents.{fixed_ghosts, ghost_events, home_in, life_ghosts, mapped, moved_ghosts, own_ghosts, safe_at, serials_in, traced_by}
 use Rattle.law_refine.specs.Events.Lines.{lines_added}

@@ -8,14 +8,14 @@ use Rattle.fkv_base.specs.declared.phases.Phase.TheVariants.{InProgress, WaitPen
 use Rattle.fkv_plane.specs.declared.actions.Action.{Action}
 use Rattle.fkv_plane.specs.declared.actions.Action.TheVariants as act
 use Rattle.fkv_plane.specs.Plane.{action_at}
-use Rattle.fkv_commit.specs.Commits.{version_after}
+use Rattle.law_refine.specs.Below.fkv_commit.Commits.{version_after}
 use Rattle.fkv_epoch.specs.EpochWorld.{Armed, epoch_of}
 use Rattle.fkv_epoch.specs.Once.{Among}
-use Rattle.fkv_flush.specs.GuardWorld.{GuardEvent, GuardWorld, guard_run}
-use Rattle.fkv_flush.proofs.Shown.{IsAboutToArm, IsSound}
-use Rattle.fkv_world.specs.World.{Now}
-use Rattle.law_world.specs.Guarded.Shows.{Shows}
-use Rattle.law_world.proofs.OfGuarded.OneStep.{IsStepOf}
+use Rattle.law_refine.specs.Below.fkv_flush.GuardWorld.{GuardEvent, GuardWorld, guard_run}
+use Rattle.law_refine.proofs.Below.fkv_flush.Shown.{IsAboutToArm, IsSound}
+use Rattle.law_refine.specs.Below.fkv_world.World.{Now}
+use Rattle.law_refine.specs.Below.law_world.Guarded.Shows.{Shows}
+use Rattle.law_refine.proofs.Below.law_world.OfGuarded.OneStep.{IsStepOf}
 use Rattle.law_commit.specs.Phases.Staged.{DefersPending, DefersProgress, Flushes, InSlot, OnlyOut, Pends, Prepares, Progresses, Rests, Stage, held, phase_in, stage_out}
 use Rattle.law_commit.specs.Ranks.{rank}
 use Rattle.law_commit.proofs.OfFloor.ArmedSince.{about_since, step_armed}

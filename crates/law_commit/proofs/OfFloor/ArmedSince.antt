@@ -7,9 +7,9 @@ use Rattle.fkv_epoch.specs.declared.arming.Arming.TheVariants as arm
 use Rattle.fkv_epoch.specs.EpochWorld.{Armed, Arms, EpochMachine, armed_by, armed_with, epoch_of}
 use Rattle.fkv_epoch.specs.EpochWorld as epochs
 use Rattle.fkv_epoch.specs.Once.{Among}
-use Rattle.fkv_flush.specs.GuardWorld.{Actor, Begins, GuardEvent, GuardNow, GuardWorld, Moves, Publishes, Resumes, Sees, drives_epochs, epoch_now, guard_happens, guard_run, is_none, machine_moved, sight_moved}
-use Rattle.fkv_flush.proofs.Shown.{IsAboutToArm, IsSound, about_to_arm_on, events_calm, machine_at, run_sound}
-use Rattle.law_world.proofs.OfGuarded.OneStep.{IsQuiet, IsStepOf}
+use Rattle.law_refine.specs.Below.fkv_flush.GuardWorld.{Actor, Begins, GuardEvent, GuardNow, GuardWorld, Moves, Publishes, Resumes, Sees, drives_epochs, epoch_now, guard_happens, guard_run, is_none, machine_moved, sight_moved}
+use Rattle.law_refine.proofs.Below.fkv_flush.Shown.{IsAboutToArm, IsSound, about_to_arm_on, events_calm, machine_at, run_sound}
+use Rattle.law_refine.proofs.Below.law_world.OfGuarded.OneStep.{IsQuiet, IsStepOf}
 
 among_either : {X : Type 0} (y : X) (xs ys : List X) → Among y (xs ++ ys) → Among y xs ⊎ Among y ys
 among_either y [] ys o = inr o

@@ -14,46 +14,46 @@ use Rattle.fkv_plane.specs.declared.actions.Action.{Action}
 use Rattle.fkv_plane.specs.declared.asks.Ask.{Ask}
 use Rattle.fkv_plane.specs.declared.asks.Ask.TheVariants.{Done}
 use Rattle.fkv_plane.specs.declared.places.Places.{Places}
-use Rattle.fkv_checkpoint.specs.Copying.{copy_begun}
-use Rattle.fkv_commit.specs.declared.commits.Commit.{Commit}
-use Rattle.fkv_commit.specs.declared.deferring.Deferred.{Deferred}
-use Rattle.fkv_commit.specs.declared.deferring.Deferring.TheVariants as defer
-use Rattle.fkv_commit.specs.declared.entering.EnterAnswer.{EnterAnswer}
-use Rattle.fkv_commit.specs.declared.entering.EnterAnswer.TheVariants as enter
-use Rattle.fkv_commit.specs.declared.entering.Entering.TheVariants as entering
-use Rattle.fkv_commit.specs.declared.finishing.FinishAnswer.{FinishAnswer}
-use Rattle.fkv_commit.specs.declared.finishing.Finishing.{Finishing}
-use Rattle.fkv_commit.specs.declared.finishing.Finishing.TheVariants as finishing
-use Rattle.fkv_commit.specs.declared.seeking.SeekAnswer.{SeekAnswer}
-use Rattle.fkv_commit.specs.declared.seeking.SeekAnswer.TheVariants as sought
-use Rattle.fkv_commit.specs.declared.seeking.Seeking.TheVariants as seeking
-use Rattle.fkv_commit.specs.declared.starting.StartAnswer.{StartAnswer}
-use Rattle.fkv_commit.specs.declared.starting.StartAnswer.TheVariants as started
-use Rattle.fkv_commit.specs.declared.starting.Starting.TheVariants as starting
-use Rattle.fkv_commit.specs.declared.waiting.WaitAnswer.{WaitAnswer}
-use Rattle.fkv_commit.specs.declared.waiting.WaitAnswer.TheVariants as wait
-use Rattle.fkv_commit.specs.declared.waiting.Waiting.{Waiting}
-use Rattle.fkv_commit.specs.declared.waiting.Waiting.TheVariants as waiting
-use Rattle.fkv_commit.specs.Entering.{enter_ask, enter_begun, enter_next, entering_next}
-use Rattle.fkv_commit.specs.Finishing.{finish_ask, finishing_ask, finishing_next}
-use Rattle.fkv_commit.specs.Seeking.{seek_ask, seek_begun, seek_next, seeking_next}
-use Rattle.fkv_commit.specs.Starting.{start_ask, start_begun, start_next, starting_next}
-use Rattle.fkv_commit.specs.Waiting.{WaitState, wait_ask, wait_begun, wait_next, waiting_ask}
-use Rattle.fkv_flush.specs.GuardLevels.{Levels}
-use Rattle.fkv_manifest.specs.declared.answers.WriteAnswer.{WriteAnswer}
-use Rattle.fkv_manifest.specs.declared.answers.WriteAnswer.TheVariants as write
-use Rattle.fkv_manifest.specs.Committing.{commit_answer, commit_next}
-use Rattle.fkv_maintain.specs.declared.maintaining.MaintainAnswer.{MaintainAnswer}
-use Rattle.fkv_maintain.specs.declared.maintaining.MaintainAnswer.TheVariants as maintain
-use Rattle.fkv_maintain.specs.Maintaining.{maintain_ask, maintain_begun, maintain_called, maintain_given, maintain_next}
-use Rattle.fkv_keeper.specs.declared.answers.KeeperTold.{KeeperTold}
-use Rattle.fkv_keeper.specs.declared.answers.KeeperTold.TheVariants.{CommitRefused, TurnRefused}
-use Rattle.fkv_keeper.specs.declared.keepers.Keeping.{Keeping}
-use Rattle.fkv_keeper.specs.declared.keepers.Keeping.TheVariants.{Ended, Starts, Maintains, LoadsPhase, Enters, Copies, Seeks, Waits, Writes, Finishes}
-use Rattle.fkv_keeper.specs.KeeperRun.{is_in_hand}
-use Rattle.fkv_keeper.specs.Keeping.{KeeperState, commit_asked, copied, copies, copies_next, copy_asked, copy_driven, copy_ledto, ended, enter_ledto, finish_ledto, finished, keeping_called, keeping_given, keeping_next, maintain_ledto, part_begun, phase_ledto, points_known, seek_ledto, start_ledto, turn_asked, turned, wait_ledto, write_ledto, writes_begun, writes_called}
-use Rattle.fkv_world.specs.World.{keeper_asked}
-use Rattle.law_world.specs.GuardKeeper.KeeperShown.{KeepingKnows}
+use Rattle.law_refine.specs.Below.fkv_checkpoint.Copying.{copy_begun}
+use Rattle.law_refine.specs.Below.fkv_commit.Commit.{Commit}
+use Rattle.law_refine.specs.Below.fkv_commit.Deferred.{Deferred}
+use Rattle.law_refine.specs.Below.fkv_commit.TheDeferring.TheVariants as defer
+use Rattle.law_refine.specs.Below.fkv_commit.EnterAnswer.{EnterAnswer}
+use Rattle.law_refine.specs.Below.fkv_commit.EnterAnswer.TheVariants as enter
+use Rattle.law_refine.specs.Below.fkv_commit.TheEntering.TheVariants as entering
+use Rattle.law_refine.specs.Below.fkv_commit.FinishAnswer.{FinishAnswer}
+use Rattle.law_refine.specs.Below.fkv_commit.TheFinishing.{Finishing}
+use Rattle.law_refine.specs.Below.fkv_commit.TheFinishing.TheVariants as finishing
+use Rattle.law_refine.specs.Below.fkv_commit.SeekAnswer.{SeekAnswer}
+use Rattle.law_refine.specs.Below.fkv_commit.SeekAnswer.TheVariants as sought
+use Rattle.law_refine.specs.Below.fkv_commit.TheSeeking.TheVariants as seeking
+use Rattle.law_refine.specs.Below.fkv_commit.StartAnswer.{StartAnswer}
+use Rattle.law_refine.specs.Below.fkv_commit.StartAnswer.TheVariants as started
+use Rattle.law_refine.specs.Below.fkv_commit.TheStarting.TheVariants as starting
+use Rattle.law_refine.specs.Below.fkv_commit.WaitAnswer.{WaitAnswer}
+use Rattle.law_refine.specs.Below.fkv_commit.WaitAnswer.TheVariants as wait
+use Rattle.law_refine.specs.Below.fkv_commit.TheWaiting.{Waiting}
+use Rattle.law_refine.specs.Below.fkv_commit.TheWaiting.TheVariants as waiting
+use Rattle.law_refine.specs.Below.fkv_commit.Entering.{enter_ask, enter_begun, enter_next, entering_next}
+use Rattle.law_refine.specs.Below.fkv_commit.Finishing.{finish_ask, finishing_ask, finishing_next}
+use Rattle.law_refine.specs.Below.fkv_commit.Seeking.{seek_ask, seek_begun, seek_next, seeking_next}
+use Rattle.law_refine.specs.Below.fkv_commit.Starting.{start_ask, start_begun, start_next, starting_next}
+use Rattle.law_refine.specs.Below.fkv_commit.Waiting.{WaitState, wait_ask, wait_begun, wait_next, waiting_ask}
+use Rattle.law_refine.specs.Below.fkv_flush.GuardLevels.{Levels}
+use Rattle.law_refine.specs.Below.fkv_manifest.WriteAnswer.{WriteAnswer}
+use Rattle.law_refine.specs.Below.fkv_manifest.WriteAnswer.TheVariants as write
+use Rattle.law_refine.specs.Below.fkv_manifest.Committing.{commit_answer, commit_next}
+use Rattle.law_refine.specs.Below.fkv_maintain.MaintainAnswer.{MaintainAnswer}
+use Rattle.law_refine.specs.Below.fkv_maintain.MaintainAnswer.TheVariants as maintain
+use Rattle.law_refine.specs.Below.fkv_maintain.Maintaining.{maintain_ask, maintain_begun, maintain_called, maintain_given, maintain_next}
+use Rattle.law_refine.specs.Below.fkv_keeper.KeeperTold.{KeeperTold}
+use Rattle.law_refine.specs.Below.fkv_keeper.KeeperTold.TheVariants.{CommitRefused, TurnRefused}
+use Rattle.law_refine.specs.Below.fkv_keeper.TheKeeping.{Keeping}
+use Rattle.law_refine.specs.Below.fkv_keeper.TheKeeping.TheVariants.{Ended, Starts, Maintains, LoadsPhase, Enters, Copies, Seeks, Waits, Writes, Finishes}
+use Rattle.law_refine.specs.Below.fkv_keeper.KeeperRun.{is_in_hand}
+use Rattle.law_refine.specs.Below.fkv_keeper.Keeping.{KeeperState, commit_asked, copied, copies, copies_next, copy_asked, copy_driven, copy_ledto, ended, enter_ledto, finish_ledto, finished, keeping_called, keeping_given, keeping_next, maintain_ledto, part_begun, phase_ledto, points_known, seek_ledto, start_ledto, turn_asked, turned, wait_ledto, write_ledto, writes_begun, writes_called}
+use Rattle.law_refine.specs.Below.fkv_world.World.{keeper_asked}
+use Rattle.law_refine.specs.Below.law_world.GuardKeeper.KeeperShown.{KeepingKnows}
 use Rattle.law_refine.proofs.Footprint.Commits.{finish_stores, seek_stores, start_stores}
 use Rattle.law_commit.specs.Phases.Staged.{Stage, StepAt}
 use Rattle.law_commit.proofs.OfFloor.KeeperFits.{EnterFits, Ground, HandFits, IsEnding, IsSafeEnding, KeeperFits, KeepingFits, SeekFits, StartFits, WaitFits}

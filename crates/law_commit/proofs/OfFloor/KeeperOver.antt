@@ -14,34 +14,34 @@ use Rattle.fkv_epoch.specs.declared.raising.Raising.TheVariants as raise
 use Rattle.fkv_epoch.specs.EpochWorld.{epoch_of, safe_of}
 use Rattle.fkv_epoch.specs.Raising.{raise_ask}
 use Rattle.fkv_epoch.proofs.Shown.{word_written}
-use Rattle.fkv_commit.specs.declared.commits.Commit.{Commit}
-use Rattle.fkv_commit.specs.declared.deferring.DeferAnswer.TheVariants.{NoSlot}
-use Rattle.fkv_commit.specs.declared.deferring.Deferring.{Deferring}
-use Rattle.fkv_commit.specs.declared.deferring.Deferring.TheVariants as defer
-use Rattle.fkv_commit.specs.declared.entering.EnterAnswer.TheVariants as entered
-use Rattle.fkv_commit.specs.declared.entering.Entering.{Entering}
-use Rattle.fkv_commit.specs.declared.entering.Entering.TheVariants as enter
-use Rattle.fkv_commit.specs.declared.seeking.SeekAnswer.TheVariants as sought
-use Rattle.fkv_commit.specs.declared.seeking.Seeking.{Seeking}
-use Rattle.fkv_commit.specs.declared.seeking.Seeking.TheVariants as seek
-use Rattle.fkv_commit.specs.declared.starting.StartAnswer.TheVariants as started
-use Rattle.fkv_commit.specs.declared.starting.Starting.{Starting}
-use Rattle.fkv_commit.specs.declared.starting.Starting.TheVariants as start
-use Rattle.fkv_commit.specs.declared.waiting.WaitAnswer.TheVariants.{Flushed, Idle, NotYet}
-use Rattle.fkv_commit.specs.declared.waiting.Waiting.{Waiting}
-use Rattle.fkv_commit.specs.declared.waiting.Waiting.TheVariants as waiting
-use Rattle.fkv_commit.specs.Deferring.{DeferState, deferring_ask}
-use Rattle.fkv_commit.specs.Entering.{EnterState, entering_ask}
-use Rattle.fkv_commit.specs.Seeking.{SeekState, seeking_ask}
-use Rattle.fkv_commit.specs.Starting.{StartState, starting_ask}
-use Rattle.fkv_commit.specs.Waiting.{WaitState, waiting_ask}
-use Rattle.fkv_flush.specs.GuardLevels.{Levels}
-use Rattle.fkv_keeper.specs.declared.answers.KeeperTold.{KeeperTold}
-use Rattle.fkv_keeper.specs.declared.keepers.Keeping.{Keeping}
-use Rattle.fkv_keeper.specs.declared.keepers.Keeping.TheVariants.{Ended, Starts, Maintains, LoadsPhase, Enters, Copies, Seeks, Waits, Writes, Finishes}
-use Rattle.fkv_keeper.specs.Keeping.{KeeperState, keeping_ask}
-use Rattle.law_world.specs.GuardKeeper.CommitShown.{EnterKnows, IsDeferring, SeekKnows, StartKnows}
-use Rattle.law_world.specs.GuardKeeper.KeeperShown.{KeepingKnows}
+use Rattle.law_refine.specs.Below.fkv_commit.Commit.{Commit}
+use Rattle.law_refine.specs.Below.fkv_commit.DeferAnswer.TheVariants.{NoSlot}
+use Rattle.law_refine.specs.Below.fkv_commit.TheDeferring.{Deferring}
+use Rattle.law_refine.specs.Below.fkv_commit.TheDeferring.TheVariants as defer
+use Rattle.law_refine.specs.Below.fkv_commit.EnterAnswer.TheVariants as entered
+use Rattle.law_refine.specs.Below.fkv_commit.TheEntering.{Entering}
+use Rattle.law_refine.specs.Below.fkv_commit.TheEntering.TheVariants as enter
+use Rattle.law_refine.specs.Below.fkv_commit.SeekAnswer.TheVariants as sought
+use Rattle.law_refine.specs.Below.fkv_commit.TheSeeking.{Seeking}
+use Rattle.law_refine.specs.Below.fkv_commit.TheSeeking.TheVariants as seek
+use Rattle.law_refine.specs.Below.fkv_commit.StartAnswer.TheVariants as started
+use Rattle.law_refine.specs.Below.fkv_commit.TheStarting.{Starting}
+use Rattle.law_refine.specs.Below.fkv_commit.TheStarting.TheVariants as start
+use Rattle.law_refine.specs.Below.fkv_commit.WaitAnswer.TheVariants.{Flushed, Idle, NotYet}
+use Rattle.law_refine.specs.Below.fkv_commit.TheWaiting.{Waiting}
+use Rattle.law_refine.specs.Below.fkv_commit.TheWaiting.TheVariants as waiting
+use Rattle.law_refine.specs.Below.fkv_commit.Deferring.{DeferState, deferring_ask}
+use Rattle.law_refine.specs.Below.fkv_commit.Entering.{EnterState, entering_ask}
+use Rattle.law_refine.specs.Below.fkv_commit.Seeking.{SeekState, seeking_ask}
+use Rattle.law_refine.specs.Below.fkv_commit.Starting.{StartState, starting_ask}
+use Rattle.law_refine.specs.Below.fkv_commit.Waiting.{WaitState, waiting_ask}
+use Rattle.law_refine.specs.Below.fkv_flush.GuardLevels.{Levels}
+use Rattle.law_refine.specs.Below.fkv_keeper.KeeperTold.{KeeperTold}
+use Rattle.law_refine.specs.Below.fkv_keeper.TheKeeping.{Keeping}
+use Rattle.law_refine.specs.Below.fkv_keeper.TheKeeping.TheVariants.{Ended, Starts, Maintains, LoadsPhase, Enters, Copies, Seeks, Waits, Writes, Finishes}
+use Rattle.law_refine.specs.Below.fkv_keeper.Keeping.{KeeperState, keeping_ask}
+use Rattle.law_refine.specs.Below.law_world.GuardKeeper.CommitShown.{EnterKnows, IsDeferring, SeekKnows, StartKnows}
+use Rattle.law_refine.specs.Below.law_world.GuardKeeper.KeeperShown.{KeepingKnows}
 use Rattle.law_commit.proofs.OfFloor.KeeperFits.{EnterFits, Ground, HandFits, IsEnding, IsSafeEnding, KeeperFits, KeepingFits, SeekFits, StartFits, WaitFits}
 use Rattle.law_commit.proofs.OfFloor.KeeperGoes.{KeeperReply}
 use Rattle.law_commit.proofs.OfFloor.PartsFit.{DeferReply, EnterReply, Raised, SeekReply, StartReply, WaitReply, defer_over}

@@ -15,35 +15,35 @@ use Rattle.fkv_epoch.specs.declared.raising.Raising.{Raising}
 use Rattle.fkv_epoch.specs.declared.raising.Raising.TheVariants as raise
 use Rattle.fkv_epoch.specs.Arming.{arm_ask}
 use Rattle.fkv_epoch.specs.Raising.{raise_ask}
-use Rattle.fkv_checkpoint.specs.declared.copying.CopyStep.{CopyStep}
-use Rattle.fkv_checkpoint.specs.declared.copying.CopyStep.TheVariants as copy
-use Rattle.fkv_checkpoint.specs.Copying.{Copier, copy_step_ask}
-use Rattle.fkv_commit.specs.declared.deferring.Deferred.{Deferred}
-use Rattle.fkv_commit.specs.declared.deferring.Deferring.{Deferring}
-use Rattle.fkv_commit.specs.declared.deferring.Deferring.TheVariants as defer
-use Rattle.fkv_commit.specs.declared.entering.Entering.{Entering}
-use Rattle.fkv_commit.specs.declared.entering.Entering.TheVariants as enter
-use Rattle.fkv_commit.specs.declared.finishing.Finishing.{Finishing}
-use Rattle.fkv_commit.specs.declared.finishing.Finishing.TheVariants as finish
-use Rattle.fkv_commit.specs.declared.seeking.Seeking.{Seeking}
-use Rattle.fkv_commit.specs.declared.seeking.Seeking.TheVariants as seek
-use Rattle.fkv_commit.specs.declared.starting.Starting.{Starting}
-use Rattle.fkv_commit.specs.declared.starting.Starting.TheVariants as start
-use Rattle.fkv_commit.specs.declared.waiting.Waiting.{Waiting}
-use Rattle.fkv_commit.specs.declared.waiting.Waiting.TheVariants as waiting
-use Rattle.fkv_commit.specs.Deferring.{DeferState, deferring_ask}
-use Rattle.fkv_commit.specs.Entering.{EnterState, entering_ask}
-use Rattle.fkv_commit.specs.Finishing.{FinishState, finishing_ask}
-use Rattle.fkv_commit.specs.Seeking.{SeekState, seeking_ask}
-use Rattle.fkv_commit.specs.Starting.{StartState, starting_ask}
-use Rattle.fkv_commit.specs.Waiting.{waiting_ask}
-use Rattle.fkv_manifest.specs.declared.answers.WriteAnswer.{WriteAnswer}
-use Rattle.fkv_manifest.specs.declared.answers.WriteAnswer.TheVariants as write
-use Rattle.fkv_manifest.specs.Committing.{commit_answer}
-use Rattle.fkv_keeper.specs.declared.answers.KeeperTold.{KeeperTold}
-use Rattle.fkv_keeper.specs.declared.keepers.Keeping.{Keeping}
-use Rattle.fkv_keeper.specs.declared.keepers.Keeping.TheVariants.{Ended, Starts, Maintains, LoadsPhase, Enters, Copies, Seeks, Waits, Writes, Finishes}
-use Rattle.fkv_keeper.specs.Keeping.{KeeperState, copy_asked, keeping_ask, write_asked}
+use Rattle.law_refine.specs.Below.fkv_checkpoint.CopyStep.{CopyStep}
+use Rattle.law_refine.specs.Below.fkv_checkpoint.CopyStep.TheVariants as copy
+use Rattle.law_refine.specs.Below.fkv_checkpoint.Copying.{Copier, copy_step_ask}
+use Rattle.law_refine.specs.Below.fkv_commit.Deferred.{Deferred}
+use Rattle.law_refine.specs.Below.fkv_commit.TheDeferring.{Deferring}
+use Rattle.law_refine.specs.Below.fkv_commit.TheDeferring.TheVariants as defer
+use Rattle.law_refine.specs.Below.fkv_commit.TheEntering.{Entering}
+use Rattle.law_refine.specs.Below.fkv_commit.TheEntering.TheVariants as enter
+use Rattle.law_refine.specs.Below.fkv_commit.TheFinishing.{Finishing}
+use Rattle.law_refine.specs.Below.fkv_commit.TheFinishing.TheVariants as finish
+use Rattle.law_refine.specs.Below.fkv_commit.TheSeeking.{Seeking}
+use Rattle.law_refine.specs.Below.fkv_commit.TheSeeking.TheVariants as seek
+use Rattle.law_refine.specs.Below.fkv_commit.TheStarting.{Starting}
+use Rattle.law_refine.specs.Below.fkv_commit.TheStarting.TheVariants as start
+use Rattle.law_refine.specs.Below.fkv_commit.TheWaiting.{Waiting}
+use Rattle.law_refine.specs.Below.fkv_commit.TheWaiting.TheVariants as waiting
+use Rattle.law_refine.specs.Below.fkv_commit.Deferring.{DeferState, deferring_ask}
+use Rattle.law_refine.specs.Below.fkv_commit.Entering.{EnterState, entering_ask}
+use Rattle.law_refine.specs.Below.fkv_commit.Finishing.{FinishState, finishing_ask}
+use Rattle.law_refine.specs.Below.fkv_commit.Seeking.{SeekState, seeking_ask}
+use Rattle.law_refine.specs.Below.fkv_commit.Starting.{StartState, starting_ask}
+use Rattle.law_refine.specs.Below.fkv_commit.Waiting.{waiting_ask}
+use Rattle.law_refine.specs.Below.fkv_manifest.WriteAnswer.{WriteAnswer}
+use Rattle.law_refine.specs.Below.fkv_manifest.WriteAnswer.TheVariants as write
+use Rattle.law_refine.specs.Below.fkv_manifest.Committing.{commit_answer}
+use Rattle.law_refine.specs.Below.fkv_keeper.KeeperTold.{KeeperTold}
+use Rattle.law_refine.specs.Below.fkv_keeper.TheKeeping.{Keeping}
+use Rattle.law_refine.specs.Below.fkv_keeper.TheKeeping.TheVariants.{Ended, Starts, Maintains, LoadsPhase, Enters, Copies, Seeks, Waits, Writes, Finishes}
+use Rattle.law_refine.specs.Below.fkv_keeper.Keeping.{KeeperState, copy_asked, keeping_ask, write_asked}
 use Rattle.law_commit.specs.Phases.Staged.{EnterAt, SeekAt, Stage, StartAt, StepAt}
 
 abbrev pub is_put : {A : Type 0} → Ask A → Bool

@@ -1,7 +1,7 @@
 -- What goes on paper with one more event of a life.
 use Rattle.std.proofs.Common.{◌≡◌, ◌++◌, ◌∙◌, List, [], ◌∷◌, refl, sym, ap, subst}
-use Rattle.fkv_world.specs.Runs.{World}
-use Rattle.fkv_world.specs.World.{Event}
+use Rattle.law_refine.specs.Below.fkv_world.Runs.{World}
+use Rattle.law_refine.specs.Below.fkv_world.World.{Event}
 use Rattle.law_paper.specs.Phases.{AreEnabled, PhaseEvent, Phasing, phase_run}
 use Rattle.law_commit.specs.Floor.OnPaper.{AreOnPaper, IsOnPaper, phasing_first}
 use Rattle.law_commit.specs.Phases.Projected.{ShowsLife}

@@ -3,7 +3,7 @@ use Rattle.std.proofs.Common.{◌≡◌, ℕ, ◌*◌, ◌<◌, ◌≤◌, List,
 use Rattle.std.specs.Prelude.{⊤}
 use Rattle.fkv_base.specs.Limits.{last_version}
 use Rattle.fkv_base.specs.declared.numbers.Version.{Version}
-use Rattle.fkv_commit.specs.Commits.{version_after}
+use Rattle.law_refine.specs.Below.fkv_commit.Commits.{version_after}
 use Rattle.law_paper.specs.Phases as paper
 use Rattle.law_paper.specs.Phases.{AreEnabled, IsEnabled, PhaseEvent, Phasing, RaisesEnding, RaisesPending, RaisesProgress, StoresNext, WaitsFlush, phase_after, phase_run}
 use Rattle.law_commit.specs.Floor.Stands.{stage_number}

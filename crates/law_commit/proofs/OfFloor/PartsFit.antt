@@ -18,38 +18,38 @@ use Rattle.fkv_epoch.specs.declared.raising.Raising.{Raising}
 use Rattle.fkv_epoch.specs.declared.raising.Raising.TheVariants as raise
 use Rattle.fkv_epoch.specs.Arming.{arm_ask, arm_next}
 use Rattle.fkv_epoch.specs.Raising.{raise_ask, raise_next, raise_next_ask}
-use Rattle.fkv_commit.specs.declared.commits.Commit.{Commit}
-use Rattle.fkv_commit.specs.declared.deferring.Deferred.{Deferred}
-use Rattle.fkv_commit.specs.declared.deferring.Deferred.TheVariants.{EntersPhase, ShowsReadOnly}
-use Rattle.fkv_commit.specs.declared.deferring.DeferAnswer.{DeferAnswer}
-use Rattle.fkv_commit.specs.declared.deferring.DeferAnswer.TheVariants.{Held, NoSlot, Spent, Armed}
-use Rattle.fkv_commit.specs.declared.deferring.Deferring.{Deferring}
-use Rattle.fkv_commit.specs.declared.deferring.Deferring.TheVariants as defer
-use Rattle.fkv_commit.specs.declared.entering.Entering.{Entering}
-use Rattle.fkv_commit.specs.declared.entering.Entering.TheVariants as enter
-use Rattle.fkv_commit.specs.declared.seeking.SeekAnswer.{SeekAnswer}
-use Rattle.fkv_commit.specs.declared.seeking.SeekAnswer.TheVariants as sought
-use Rattle.fkv_commit.specs.declared.seeking.Seeking.{Seeking}
-use Rattle.fkv_commit.specs.declared.seeking.Seeking.TheVariants as seek
-use Rattle.fkv_commit.specs.declared.starting.StartAnswer.{StartAnswer}
-use Rattle.fkv_commit.specs.declared.starting.StartAnswer.TheVariants as started
-use Rattle.fkv_commit.specs.declared.starting.Starting.{Starting}
-use Rattle.fkv_commit.specs.declared.starting.Starting.TheVariants as start
-use Rattle.fkv_commit.specs.declared.waiting.WaitAnswer.TheVariants.{Idle, NotYet, Flushed}
-use Rattle.fkv_commit.specs.declared.waiting.Waiting.{Waiting}
-use Rattle.fkv_commit.specs.declared.waiting.Waiting.TheVariants as waiting
-use Rattle.fkv_commit.specs.Commits.{version_after}
-use Rattle.fkv_commit.specs.Cuts.{version_said, serial_said}
-use Rattle.fkv_commit.specs.Deferring.{DeferState, arm_ledto, armed_epoch, defer_ask, defer_begun, defer_next, deferring_ask, deferring_next, raise_ledto}
-use Rattle.fkv_commit.specs.Entering as entering
-use Rattle.fkv_commit.specs.Entering.{EnterState, entering_next}
-use Rattle.fkv_commit.specs.Seeking as seeking
-use Rattle.fkv_commit.specs.Seeking.{SeekState, cut_met, other_met, owing_from, point_taken, points_from, seeking_ask, seeking_next, slot_led}
-use Rattle.fkv_commit.specs.Starting as starting
-use Rattle.fkv_commit.specs.Starting.{StartState, is_lost_full, phase_found, starting_ask, starting_next}
-use Rattle.fkv_commit.specs.Waiting.{WaitState, waiting_next}
-use Rattle.fkv_flush.specs.GuardLevels.{Levels}
-use Rattle.law_world.specs.GuardKeeper.CommitShown.{EnterKnows, IsDeferring, SeekKnows, StartKnows}
+use Rattle.law_refine.specs.Below.fkv_commit.Commit.{Commit}
+use Rattle.law_refine.specs.Below.fkv_commit.Deferred.{Deferred}
+use Rattle.law_refine.specs.Below.fkv_commit.Deferred.TheVariants.{EntersPhase, ShowsReadOnly}
+use Rattle.law_refine.specs.Below.fkv_commit.DeferAnswer.{DeferAnswer}
+use Rattle.law_refine.specs.Below.fkv_commit.DeferAnswer.TheVariants.{Held, NoSlot, Spent, Armed}
+use Rattle.law_refine.specs.Below.fkv_commit.TheDeferring.{Deferring}
+use Rattle.law_refine.specs.Below.fkv_commit.TheDeferring.TheVariants as defer
+use Rattle.law_refine.specs.Below.fkv_commit.TheEntering.{Entering}
+use Rattle.law_refine.specs.Below.fkv_commit.TheEntering.TheVariants as enter
+use Rattle.law_refine.specs.Below.fkv_commit.SeekAnswer.{SeekAnswer}
+use Rattle.law_refine.specs.Below.fkv_commit.SeekAnswer.TheVariants as sought
+use Rattle.law_refine.specs.Below.fkv_commit.TheSeeking.{Seeking}
+use Rattle.law_refine.specs.Below.fkv_commit.TheSeeking.TheVariants as seek
+use Rattle.law_refine.specs.Below.fkv_commit.StartAnswer.{StartAnswer}
+use Rattle.law_refine.specs.Below.fkv_commit.StartAnswer.TheVariants as started
+use Rattle.law_refine.specs.Below.fkv_commit.TheStarting.{Starting}
+use Rattle.law_refine.specs.Below.fkv_commit.TheStarting.TheVariants as start
+use Rattle.law_refine.specs.Below.fkv_commit.WaitAnswer.TheVariants.{Idle, NotYet, Flushed}
+use Rattle.law_refine.specs.Below.fkv_commit.TheWaiting.{Waiting}
+use Rattle.law_refine.specs.Below.fkv_commit.TheWaiting.TheVariants as waiting
+use Rattle.law_refine.specs.Below.fkv_commit.Commits.{version_after}
+use Rattle.law_refine.specs.Below.fkv_commit.Cuts.{version_said, serial_said}
+use Rattle.law_refine.specs.Below.fkv_commit.Deferring.{DeferState, arm_ledto, armed_epoch, defer_ask, defer_begun, defer_next, deferring_ask, deferring_next, raise_ledto}
+use Rattle.law_refine.specs.Below.fkv_commit.Entering as entering
+use Rattle.law_refine.specs.Below.fkv_commit.Entering.{EnterState, entering_next}
+use Rattle.law_refine.specs.Below.fkv_commit.Seeking as seeking
+use Rattle.law_refine.specs.Below.fkv_commit.Seeking.{SeekState, cut_met, other_met, owing_from, point_taken, points_from, seeking_ask, seeking_next, slot_led}
+use Rattle.law_refine.specs.Below.fkv_commit.Starting as starting
+use Rattle.law_refine.specs.Below.fkv_commit.Starting.{StartState, is_lost_full, phase_found, starting_ask, starting_next}
+use Rattle.law_refine.specs.Below.fkv_commit.Waiting.{WaitState, waiting_next}
+use Rattle.law_refine.specs.Below.fkv_flush.GuardLevels.{Levels}
+use Rattle.law_refine.specs.Below.law_world.GuardKeeper.CommitShown.{EnterKnows, IsDeferring, SeekKnows, StartKnows}
 use Rattle.law_commit.specs.Phases.Staged.{Stage, SeekAt, StartAt, EnterAt}
 use Rattle.law_commit.proofs.OfFloor.KeeperFits.{DeferFits, EndingFits, EnterFits, Ground, IsEnding, PendingFits, ProgressFits, SeekFits, StartFits, WaitFits}
 use Rattle.law_commit.proofs.OfPhases.CommitStages.{SoughtAt, goes_on, slot_sought}

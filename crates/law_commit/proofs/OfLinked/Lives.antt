@@ -11,10 +11,10 @@ use Rattle.fkv_index.specs.Finding.{find_ask, find_step_ask}
 use Rattle.fkv_index.specs.IndexWorld.{IndexWorld}
 use Rattle.fkv_index.specs.Slots.{entry_addr, link_of}
 use Rattle.fkv_index.proofs.Shown.{IsSound, SeekKnows, WorkKnows}
-use Rattle.fkv_session.specs.declared.answers.Told.TheVariants.{Slept}
-use Rattle.fkv_session.specs.Sessions.{session_ask}
-use Rattle.fkv_world.specs.Runs.{World, run}
-use Rattle.fkv_world.specs.World.{Event, Now, seat_at}
+use Rattle.law_refine.specs.Below.fkv_session.Told.TheVariants.{Slept}
+use Rattle.law_refine.specs.Below.fkv_session.Sessions.{session_ask}
+use Rattle.law_refine.specs.Below.fkv_world.Runs.{World, run}
+use Rattle.law_refine.specs.Below.fkv_world.World.{Event, Now, seat_at}
 use Rattle.law_log.specs.Ghosts.{Ghosts}
 use Rattle.law_refine.specs.Index.Finders.{SessionWork, Searches}
 use Rattle.law_refine.specs.Index.LifeEntries.{lists_seen}

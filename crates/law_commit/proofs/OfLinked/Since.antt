@@ -9,11 +9,11 @@ use Rattle.fkv_index.specs.declared.homes.Home.{Home}
 use Rattle.fkv_index.specs.IndexWorld.{rested_actor}
 use Rattle.fkv_index.specs.Slots.{link_of}
 use Rattle.fkv_index.proofs.Shown.{homes_are_there}
-use Rattle.fkv_session.specs.Sessions.{Seat, SessionState, is_busy, session_ask, session_begun}
-use Rattle.fkv_world.specs.Actors.{is_of_session, session_goes}
-use Rattle.fkv_world.specs.Runs.{World, happens, run}
-use Rattle.fkv_world.specs.World.{Event, Calls, Moves, Now, life_goes, near, seat_at, session_calls, session_moves}
-use Rattle.fkv_world.proofs.Shown.{is_over, lives, session_apart, session_written}
+use Rattle.law_refine.specs.Below.fkv_session.Sessions.{Seat, SessionState, is_busy, session_ask, session_begun}
+use Rattle.law_refine.specs.Below.fkv_world.Actors.{is_of_session, session_goes}
+use Rattle.law_refine.specs.Below.fkv_world.Runs.{World, happens, run}
+use Rattle.law_refine.specs.Below.fkv_world.World.{Event, Calls, Moves, Now, life_goes, near, seat_at, session_calls, session_moves}
+use Rattle.law_refine.proofs.Below.fkv_world.Shown.{is_over, lives, session_apart, session_written}
 use Rattle.law_log.specs.Ghosts.{Ghosts}
 use Rattle.law_refine.specs.Index.Finders.{IndexPart, Search, NoWork, Searches, session_part}
 use Rattle.law_refine.specs.Index.Shows as index

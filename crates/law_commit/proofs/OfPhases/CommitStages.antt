@@ -16,27 +16,27 @@ use Rattle.fkv_epoch.specs.declared.raising.RaiseAnswer.{RaiseAnswer}
 use Rattle.fkv_epoch.specs.declared.raising.RaiseAnswer.TheVariants as raised
 use Rattle.fkv_epoch.specs.Arming.{arm_ask, arm_next}
 use Rattle.fkv_epoch.specs.Raising.{raise_ask, raise_next, raise_next_ask}
-use Rattle.fkv_commit.specs.declared.deferring.Deferred.{Deferred}
-use Rattle.fkv_commit.specs.declared.deferring.Deferred.TheVariants.{EntersPhase, ShowsReadOnly}
-use Rattle.fkv_commit.specs.declared.deferring.DeferAnswer.{DeferAnswer}
-use Rattle.fkv_commit.specs.declared.deferring.DeferAnswer.TheVariants.{Held, NoSlot, Spent, Armed}
-use Rattle.fkv_commit.specs.declared.deferring.Deferring.{Deferring}
-use Rattle.fkv_commit.specs.declared.deferring.Deferring.TheVariants as defer
-use Rattle.fkv_commit.specs.declared.entering.Entering.{Entering}
-use Rattle.fkv_commit.specs.declared.entering.Entering.TheVariants as enter
-use Rattle.fkv_commit.specs.declared.seeking.Seeking.{Seeking}
-use Rattle.fkv_commit.specs.declared.seeking.Seeking.TheVariants as seek
-use Rattle.fkv_commit.specs.declared.starting.Starting.{Starting}
-use Rattle.fkv_commit.specs.declared.starting.Starting.TheVariants as start
-use Rattle.fkv_commit.specs.Commits.{version_after}
-use Rattle.fkv_commit.specs.Deferring.{DeferState, defer_begun, deferring_ask, defer_ask, deferring_next, defer_next, deferring_on, defer_on, seek_ledto, raise_ledto, arm_ledto}
-use Rattle.fkv_commit.specs.Entering as entering
-use Rattle.fkv_commit.specs.Entering.{EnterState, entering_next}
-use Rattle.fkv_commit.specs.Seeking as seeking
-use Rattle.fkv_commit.specs.Seeking.{SeekState, owing_from, points_from, point_taken, slot_led, cut_met, other_met, seeking_next}
-use Rattle.fkv_commit.specs.Cuts.{version_said, serial_said}
-use Rattle.fkv_commit.specs.Starting as starting
-use Rattle.fkv_commit.specs.Starting.{StartState, is_lost_full, phase_found, starting_next}
+use Rattle.law_refine.specs.Below.fkv_commit.Deferred.{Deferred}
+use Rattle.law_refine.specs.Below.fkv_commit.Deferred.TheVariants.{EntersPhase, ShowsReadOnly}
+use Rattle.law_refine.specs.Below.fkv_commit.DeferAnswer.{DeferAnswer}
+use Rattle.law_refine.specs.Below.fkv_commit.DeferAnswer.TheVariants.{Held, NoSlot, Spent, Armed}
+use Rattle.law_refine.specs.Below.fkv_commit.TheDeferring.{Deferring}
+use Rattle.law_refine.specs.Below.fkv_commit.TheDeferring.TheVariants as defer
+use Rattle.law_refine.specs.Below.fkv_commit.TheEntering.{Entering}
+use Rattle.law_refine.specs.Below.fkv_commit.TheEntering.TheVariants as enter
+use Rattle.law_refine.specs.Below.fkv_commit.TheSeeking.{Seeking}
+use Rattle.law_refine.specs.Below.fkv_commit.TheSeeking.TheVariants as seek
+use Rattle.law_refine.specs.Below.fkv_commit.TheStarting.{Starting}
+use Rattle.law_refine.specs.Below.fkv_commit.TheStarting.TheVariants as start
+use Rattle.law_refine.specs.Below.fkv_commit.Commits.{version_after}
+use Rattle.law_refine.specs.Below.fkv_commit.Deferring.{DeferState, defer_begun, deferring_ask, defer_ask, deferring_next, defer_next, deferring_on, defer_on, seek_ledto, raise_ledto, arm_ledto}
+use Rattle.law_refine.specs.Below.fkv_commit.Entering as entering
+use Rattle.law_refine.specs.Below.fkv_commit.Entering.{EnterState, entering_next}
+use Rattle.law_refine.specs.Below.fkv_commit.Seeking as seeking
+use Rattle.law_refine.specs.Below.fkv_commit.Seeking.{SeekState, owing_from, points_from, point_taken, slot_led, cut_met, other_met, seeking_next}
+use Rattle.law_refine.specs.Below.fkv_commit.Cuts.{version_said, serial_said}
+use Rattle.law_refine.specs.Below.fkv_commit.Starting as starting
+use Rattle.law_refine.specs.Below.fkv_commit.Starting.{StartState, is_lost_full, phase_found, starting_next}
 use Rattle.law_commit.specs.Phases.Staged.{Stage, Rests, Prepares, DefersProgress, Progresses, DefersPending, Pends, Flushes, DefersAt, IsReadOnly, DefersReadOnly, StartsIt, StartAt, EnterAt, SeekAt, stage_phase, stage_version, defer_moves, start_moves, enter_moves, seek_moves}
 
 -- ---- a deferral

@@ -6,14 +6,14 @@ use Rattle.fkv_epoch.specs.declared.protecting.Protecting.TheVariants as protect
 use Rattle.fkv_epoch.specs.declared.refreshing.Refreshing.TheVariants as refresh
 use Rattle.fkv_epoch.specs.EpochWorld as epochs
 use Rattle.fkv_epoch.specs.EpochWorld.{EpochMachine, EpochPast, Loads, Sight, epoch_of, in_force_by, is_at_rest, loaded, past_moved, past_seen, sight_of, with_load}
-use Rattle.fkv_flush.specs.GuardCalm.{AreOther, IsOther}
-use Rattle.fkv_flush.specs.GuardPhase.{PhaseTails, tail_loaded, tail_taken_up, tails_after, tails_in_force, tails_moved, tails_seen, with_tail}
-use Rattle.fkv_flush.specs.GuardWorld.{Actor, Begins, Calls, Changes, CallsElse, GuardEvent, GuardWorld, Moves, Publishes, RaisesFor, RaisesReadOnly, Reads, Resumes, Sees, Updates, Work, Shifts, Turns, drives_epochs, epoch_now, guard_happens, guard_run, is_idle, is_none, levels, machine_moved, sight_moved, shift_drives, turn_drives}
-use Rattle.fkv_flush.specs.GuardWorld as guard
-use Rattle.fkv_log.specs.declared.shifting.Shifting.{Shifting}
-use Rattle.fkv_log.specs.declared.shifting.Shifting.TheVariants as shift
-use Rattle.fkv_log.specs.declared.turning.Turning.{Turning}
-use Rattle.fkv_log.specs.declared.turning.Turning.TheVariants as turn
+use Rattle.law_refine.specs.Below.fkv_flush.GuardCalm.{AreOther, IsOther}
+use Rattle.law_refine.specs.Below.fkv_flush.GuardPhase.{PhaseTails, tail_loaded, tail_taken_up, tails_after, tails_in_force, tails_moved, tails_seen, with_tail}
+use Rattle.law_refine.specs.Below.fkv_flush.GuardWorld.{Actor, Begins, Calls, Changes, CallsElse, GuardEvent, GuardWorld, Moves, Publishes, RaisesFor, RaisesReadOnly, Reads, Resumes, Sees, Updates, Work, Shifts, Turns, drives_epochs, epoch_now, guard_happens, guard_run, is_idle, is_none, levels, machine_moved, sight_moved, shift_drives, turn_drives}
+use Rattle.law_refine.specs.Below.fkv_flush.GuardWorld as guard
+use Rattle.law_refine.specs.Below.fkv_log.TheShifting.{Shifting}
+use Rattle.law_refine.specs.Below.fkv_log.TheShifting.TheVariants as shift
+use Rattle.law_refine.specs.Below.fkv_log.TheTurning.{Turning}
+use Rattle.law_refine.specs.Below.fkv_log.TheTurning.TheVariants as turn
 use Rattle.law_commit.specs.Phases.Stamped.{force_by, loads_by}
 
 -- the tails found with the phase, behind these events of the guard's world

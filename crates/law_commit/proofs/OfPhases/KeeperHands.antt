@@ -18,69 +18,69 @@ use Rattle.fkv_epoch.specs.Claiming.{claim_ask, claim_given, claim_next}
 use Rattle.fkv_epoch.specs.Raising.{raise_ask}
 use Rattle.fkv_epoch.specs.Arming.{arm_ask}
 use Rattle.fkv_epoch.specs.Scanning.{scan_ask, scan_next}
-use Rattle.fkv_log.specs.declared.moving.MoveAnswer.{MoveAnswer}
-use Rattle.fkv_log.specs.declared.moving.MoveAnswer.TheVariants as moved
-use Rattle.fkv_log.specs.declared.shifting.ShiftAnswer.{ShiftAnswer}
-use Rattle.fkv_log.specs.declared.shifting.ShiftAnswer.TheVariants as shift
-use Rattle.fkv_log.specs.Shifting.{shift_next}
-use Rattle.fkv_log.specs.Turning.{turn_next}
-use Rattle.fkv_flush.specs.declared.answers.DeviceAnswer.{DeviceAnswer}
-use Rattle.fkv_flush.specs.declared.answers.DeviceAnswer.TheVariants as device
-use Rattle.fkv_flush.specs.declared.flushing.Flushing.{Flushing}
-use Rattle.fkv_flush.specs.declared.flushing.Flushing.TheVariants as flush
-use Rattle.fkv_flush.specs.declared.serving.Serving.{Serving}
-use Rattle.fkv_flush.specs.declared.serving.Serving.TheVariants as serve
-use Rattle.fkv_flush.specs.Flushing.{bytes_done, bytes_next, flush_ask, flush_done, flush_next}
-use Rattle.fkv_flush.specs.Serving.{mailbox_from, serve_ask, serve_next, serve_read}
-use Rattle.fkv_checkpoint.specs.declared.copying.CopyStep.{CopyStep}
-use Rattle.fkv_checkpoint.specs.declared.copying.CopyStep.TheVariants as copy
-use Rattle.fkv_checkpoint.specs.Copying.{Copier, copy_begun, copy_step_ask}
-use Rattle.fkv_commit.specs.declared.commits.Commit.{Commit}
+use Rattle.law_refine.specs.Below.fkv_log.MoveAnswer.{MoveAnswer}
+use Rattle.law_refine.specs.Below.fkv_log.MoveAnswer.TheVariants as moved
+use Rattle.law_refine.specs.Below.fkv_log.ShiftAnswer.{ShiftAnswer}
+use Rattle.law_refine.specs.Below.fkv_log.ShiftAnswer.TheVariants as shift
+use Rattle.law_refine.specs.Below.fkv_log.Shifting.{shift_next}
+use Rattle.law_refine.specs.Below.fkv_log.Turning.{turn_next}
+use Rattle.law_refine.specs.Below.fkv_flush.DeviceAnswer.{DeviceAnswer}
+use Rattle.law_refine.specs.Below.fkv_flush.DeviceAnswer.TheVariants as device
+use Rattle.law_refine.specs.Below.fkv_flush.TheFlushing.{Flushing}
+use Rattle.law_refine.specs.Below.fkv_flush.TheFlushing.TheVariants as flush
+use Rattle.law_refine.specs.Below.fkv_flush.TheServing.{Serving}
+use Rattle.law_refine.specs.Below.fkv_flush.TheServing.TheVariants as serve
+use Rattle.law_refine.specs.Below.fkv_flush.Flushing.{bytes_done, bytes_next, flush_ask, flush_done, flush_next}
+use Rattle.law_refine.specs.Below.fkv_flush.Serving.{mailbox_from, serve_ask, serve_next, serve_read}
+use Rattle.law_refine.specs.Below.fkv_checkpoint.CopyStep.{CopyStep}
+use Rattle.law_refine.specs.Below.fkv_checkpoint.CopyStep.TheVariants as copy
+use Rattle.law_refine.specs.Below.fkv_checkpoint.Copying.{Copier, copy_begun, copy_step_ask}
+use Rattle.law_refine.specs.Below.fkv_commit.Commit.{Commit}
 use Rattle.fkv_base.specs.declared.commits.CommitKind.{CommitKind}
-use Rattle.fkv_commit.specs.declared.deferring.Deferred.{Deferred}
-use Rattle.fkv_commit.specs.declared.deferring.Deferred.TheVariants.{EntersPhase, ShowsReadOnly}
-use Rattle.fkv_commit.specs.declared.deferring.DeferAnswer.TheVariants.{NoSlot, Armed}
-use Rattle.fkv_commit.specs.declared.deferring.Deferring.{Deferring}
-use Rattle.fkv_commit.specs.declared.deferring.Deferring.TheVariants as defer
-use Rattle.fkv_commit.specs.declared.entering.EnterAnswer.{EnterAnswer}
-use Rattle.fkv_commit.specs.declared.entering.EnterAnswer.TheVariants as enter
-use Rattle.fkv_commit.specs.declared.entering.Entering.{Entering}
-use Rattle.fkv_commit.specs.declared.entering.Entering.TheVariants as entering
-use Rattle.fkv_commit.specs.declared.finishing.FinishAnswer.{FinishAnswer}
-use Rattle.fkv_commit.specs.declared.finishing.Finishing.{Finishing}
-use Rattle.fkv_commit.specs.declared.finishing.Finishing.TheVariants as finishing
-use Rattle.fkv_commit.specs.declared.seeking.SeekAnswer.{SeekAnswer}
-use Rattle.fkv_commit.specs.declared.seeking.SeekAnswer.TheVariants as seek
-use Rattle.fkv_commit.specs.declared.seeking.Seeking.{Seeking}
-use Rattle.fkv_commit.specs.declared.seeking.Seeking.TheVariants as seeking
-use Rattle.fkv_commit.specs.declared.starting.StartAnswer.{StartAnswer}
-use Rattle.fkv_commit.specs.declared.starting.StartAnswer.TheVariants as start
-use Rattle.fkv_commit.specs.declared.starting.Starting.{Starting}
-use Rattle.fkv_commit.specs.declared.starting.Starting.TheVariants as starting
-use Rattle.fkv_commit.specs.declared.waiting.WaitAnswer.{WaitAnswer}
-use Rattle.fkv_commit.specs.declared.waiting.WaitAnswer.TheVariants as wait
-use Rattle.fkv_commit.specs.declared.waiting.Waiting.{Waiting}
-use Rattle.fkv_commit.specs.declared.waiting.Waiting.TheVariants as waiting
-use Rattle.fkv_commit.specs.Commits.{version_after}
-use Rattle.fkv_commit.specs.Deferring.{DeferState, action_of, defer_ask, deferring_ask}
-use Rattle.fkv_commit.specs.Entering.{EnterState, enter_begun, enter_next, entering_ask}
-use Rattle.fkv_commit.specs.Finishing.{FinishState, finish_next, finishing_ask}
-use Rattle.fkv_commit.specs.Seeking.{SeekState, seek_begun, seek_next, seeking_ask}
-use Rattle.fkv_commit.specs.Starting.{StartState, start_begun, start_next, starting_ask}
-use Rattle.fkv_commit.specs.Waiting.{wait_begun, wait_next, waiting_ask}
-use Rattle.fkv_manifest.specs.declared.answers.WriteAnswer.{WriteAnswer}
-use Rattle.fkv_manifest.specs.declared.answers.WriteAnswer.TheVariants as write
-use Rattle.fkv_manifest.specs.Committing.{commit_next, commit_answer}
-use Rattle.fkv_maintain.specs.declared.maintaining.MaintainAnswer.{MaintainAnswer}
-use Rattle.fkv_maintain.specs.declared.maintaining.MaintainAnswer.TheVariants as maintain
-use Rattle.fkv_maintain.specs.declared.maintaining.Maintaining.{Maintaining}
-use Rattle.fkv_maintain.specs.declared.maintaining.Maintaining.TheVariants as maintaining
-use Rattle.fkv_maintain.specs.Maintaining.{MaintainState, claim_ledto, device_asked, flush_ledto, maintain_ask, maintain_begun, maintain_called, maintain_given, maintain_next, maintaining_ask, maintaining_called, maintaining_given, maintaining_next, scan_ledto, serve_begun, serve_ledto, shift_ledto, turn_ledto}
-use Rattle.fkv_keeper.specs.declared.answers.KeeperTold.{KeeperTold}
-use Rattle.fkv_keeper.specs.declared.answers.KeeperTold.TheVariants.{TurnRefused, CommitRefused}
-use Rattle.fkv_keeper.specs.declared.keepers.Keeping.{Keeping}
-use Rattle.fkv_keeper.specs.declared.keepers.Keeping.TheVariants.{Ended, Starts, Maintains, LoadsPhase, Enters, Copies, Seeks, Waits, Writes, Finishes}
-use Rattle.fkv_keeper.specs.Keeping.{KeeperState, commit_asked, copies, copies_next, copy_asked, copy_driven, copy_ledto, device_passed, ended, enter_ledto, finish_ledto, finished, keeper_next, keeping_ask, keeping_called, keeping_given, keeping_next, maintain_ledto, part_begun, phase_ledto, seek_ledto, start_ledto, turn_asked, turned, wait_ledto, write_asked, write_ledto, writes_begun, writes_called}
+use Rattle.law_refine.specs.Below.fkv_commit.Deferred.{Deferred}
+use Rattle.law_refine.specs.Below.fkv_commit.Deferred.TheVariants.{EntersPhase, ShowsReadOnly}
+use Rattle.law_refine.specs.Below.fkv_commit.DeferAnswer.TheVariants.{NoSlot, Armed}
+use Rattle.law_refine.specs.Below.fkv_commit.TheDeferring.{Deferring}
+use Rattle.law_refine.specs.Below.fkv_commit.TheDeferring.TheVariants as defer
+use Rattle.law_refine.specs.Below.fkv_commit.EnterAnswer.{EnterAnswer}
+use Rattle.law_refine.specs.Below.fkv_commit.EnterAnswer.TheVariants as enter
+use Rattle.law_refine.specs.Below.fkv_commit.TheEntering.{Entering}
+use Rattle.law_refine.specs.Below.fkv_commit.TheEntering.TheVariants as entering
+use Rattle.law_refine.specs.Below.fkv_commit.FinishAnswer.{FinishAnswer}
+use Rattle.law_refine.specs.Below.fkv_commit.TheFinishing.{Finishing}
+use Rattle.law_refine.specs.Below.fkv_commit.TheFinishing.TheVariants as finishing
+use Rattle.law_refine.specs.Below.fkv_commit.SeekAnswer.{SeekAnswer}
+use Rattle.law_refine.specs.Below.fkv_commit.SeekAnswer.TheVariants as seek
+use Rattle.law_refine.specs.Below.fkv_commit.TheSeeking.{Seeking}
+use Rattle.law_refine.specs.Below.fkv_commit.TheSeeking.TheVariants as seeking
+use Rattle.law_refine.specs.Below.fkv_commit.StartAnswer.{StartAnswer}
+use Rattle.law_refine.specs.Below.fkv_commit.StartAnswer.TheVariants as start
+use Rattle.law_refine.specs.Below.fkv_commit.TheStarting.{Starting}
+use Rattle.law_refine.specs.Below.fkv_commit.TheStarting.TheVariants as starting
+use Rattle.law_refine.specs.Below.fkv_commit.WaitAnswer.{WaitAnswer}
+use Rattle.law_refine.specs.Below.fkv_commit.WaitAnswer.TheVariants as wait
+use Rattle.law_refine.specs.Below.fkv_commit.TheWaiting.{Waiting}
+use Rattle.law_refine.specs.Below.fkv_commit.TheWaiting.TheVariants as waiting
+use Rattle.law_refine.specs.Below.fkv_commit.Commits.{version_after}
+use Rattle.law_refine.specs.Below.fkv_commit.Deferring.{DeferState, action_of, defer_ask, deferring_ask}
+use Rattle.law_refine.specs.Below.fkv_commit.Entering.{EnterState, enter_begun, enter_next, entering_ask}
+use Rattle.law_refine.specs.Below.fkv_commit.Finishing.{FinishState, finish_next, finishing_ask}
+use Rattle.law_refine.specs.Below.fkv_commit.Seeking.{SeekState, seek_begun, seek_next, seeking_ask}
+use Rattle.law_refine.specs.Below.fkv_commit.Starting.{StartState, start_begun, start_next, starting_ask}
+use Rattle.law_refine.specs.Below.fkv_commit.Waiting.{wait_begun, wait_next, waiting_ask}
+use Rattle.law_refine.specs.Below.fkv_manifest.WriteAnswer.{WriteAnswer}
+use Rattle.law_refine.specs.Below.fkv_manifest.WriteAnswer.TheVariants as write
+use Rattle.law_refine.specs.Below.fkv_manifest.Committing.{commit_next, commit_answer}
+use Rattle.law_refine.specs.Below.fkv_maintain.MaintainAnswer.{MaintainAnswer}
+use Rattle.law_refine.specs.Below.fkv_maintain.MaintainAnswer.TheVariants as maintain
+use Rattle.law_refine.specs.Below.fkv_maintain.TheMaintaining.{Maintaining}
+use Rattle.law_refine.specs.Below.fkv_maintain.TheMaintaining.TheVariants as maintaining
+use Rattle.law_refine.specs.Below.fkv_maintain.Maintaining.{MaintainState, claim_ledto, device_asked, flush_ledto, maintain_ask, maintain_begun, maintain_called, maintain_given, maintain_next, maintaining_ask, maintaining_called, maintaining_given, maintaining_next, scan_ledto, serve_begun, serve_ledto, shift_ledto, turn_ledto}
+use Rattle.law_refine.specs.Below.fkv_keeper.KeeperTold.{KeeperTold}
+use Rattle.law_refine.specs.Below.fkv_keeper.KeeperTold.TheVariants.{TurnRefused, CommitRefused}
+use Rattle.law_refine.specs.Below.fkv_keeper.TheKeeping.{Keeping}
+use Rattle.law_refine.specs.Below.fkv_keeper.TheKeeping.TheVariants.{Ended, Starts, Maintains, LoadsPhase, Enters, Copies, Seeks, Waits, Writes, Finishes}
+use Rattle.law_refine.specs.Below.fkv_keeper.Keeping.{KeeperState, commit_asked, copies, copies_next, copy_asked, copy_driven, copy_ledto, device_passed, ended, enter_ledto, finish_ledto, finished, keeper_next, keeping_ask, keeping_called, keeping_given, keeping_next, maintain_ledto, part_begun, phase_ledto, seek_ledto, start_ledto, turn_asked, turned, wait_ledto, write_asked, write_ledto, writes_begun, writes_called}
 use Rattle.law_commit.specs.Phases.Staged.{DefersAt, DefersReadOnly, EnterAt, SeekAt, Stage, StartAt, StepAt, Prepares, DefersProgress, Progresses, DefersPending, Pends, claim_hand, defer_moves, enter_moves, keeper_hand, keeping_hand, keeping_moves, maintain_hand, is_resting, phase_in, seek_moves, stage_out, stage_phase, stage_version, start_moves}
 use Rattle.law_commit.proofs.OfPhases.SessionHands.{PutsNone, claim_given_hand, claim_next_none, claim_puts, passed_puts, raise_puts, arm_puts, scan_puts, shift_puts, turn_puts}
 

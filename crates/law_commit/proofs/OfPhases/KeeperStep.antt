@@ -19,37 +19,37 @@ use Rattle.fkv_plane.specs.Passing.{passed}
 use Rattle.fkv_plane.specs.Places.{shared_place}
 use Rattle.fkv_plane.specs.Plane.{action_at}
 use Rattle.fkv_epoch.specs.Claiming.{claim_ask, phase_stored}
-use Rattle.fkv_commit.specs.declared.deferring.Deferring.{Deferring}
-use Rattle.fkv_commit.specs.declared.deferring.Deferring.TheVariants as defer
-use Rattle.fkv_commit.specs.declared.entering.EnterAnswer.TheVariants as enter
-use Rattle.fkv_commit.specs.declared.entering.Entering.{Entering}
-use Rattle.fkv_commit.specs.declared.entering.Entering.TheVariants as entering
-use Rattle.fkv_commit.specs.declared.finishing.Finishing.{Finishing}
-use Rattle.fkv_commit.specs.declared.finishing.Finishing.TheVariants as finishing
-use Rattle.fkv_commit.specs.declared.seeking.Seeking.{Seeking}
-use Rattle.fkv_commit.specs.declared.seeking.Seeking.TheVariants as seeking
-use Rattle.fkv_commit.specs.declared.starting.StartAnswer.TheVariants as start
-use Rattle.fkv_commit.specs.declared.starting.Starting.{Starting}
-use Rattle.fkv_commit.specs.declared.starting.Starting.TheVariants as starting
-use Rattle.fkv_commit.specs.Commits.{version_after}
-use Rattle.fkv_commit.specs.Deferring.{DeferState, deferring_ask}
-use Rattle.fkv_commit.specs.Entering.{EnterState, entering_ask}
-use Rattle.fkv_commit.specs.Finishing.{FinishState, finishing_ask}
-use Rattle.fkv_commit.specs.Seeking.{SeekState, seeking_ask}
-use Rattle.fkv_commit.specs.Starting.{StartState, starting_ask}
-use Rattle.fkv_maintain.specs.declared.maintaining.MaintainAnswer.{MaintainAnswer}
-use Rattle.fkv_maintain.specs.declared.maintaining.MaintainAnswer.TheVariants as maintain
-use Rattle.fkv_maintain.specs.declared.maintaining.Maintaining.{Maintaining}
-use Rattle.fkv_maintain.specs.declared.maintaining.Maintaining.TheVariants as maintaining
-use Rattle.fkv_maintain.specs.Maintaining.{MaintainState, maintaining_ask}
-use Rattle.fkv_keeper.specs.declared.answers.KeeperTold.{KeeperTold}
-use Rattle.fkv_keeper.specs.declared.answers.KeeperTold.TheVariants.{Device, Turned, TurnRefused, Begun, CommitRefused}
-use Rattle.fkv_keeper.specs.declared.keepers.Keeping.{Keeping}
-use Rattle.fkv_keeper.specs.declared.keepers.Keeping.TheVariants.{Ended, Starts, Maintains, LoadsPhase, Enters, Copies, Seeks, Waits, Writes, Finishes}
-use Rattle.fkv_keeper.specs.Keeping.{KeeperState, device_passed, keeper_ask, keeper_called, keeper_given, keeper_next, keeping_ask}
-use Rattle.fkv_world.specs.Actors.{slot_asked}
-use Rattle.fkv_world.specs.Moves.{keeper_asks, keeper_gets, keeper_moved, keeper_settled}
-use Rattle.fkv_world.specs.World.{Now, near, with_keeper}
+use Rattle.law_refine.specs.Below.fkv_commit.TheDeferring.{Deferring}
+use Rattle.law_refine.specs.Below.fkv_commit.TheDeferring.TheVariants as defer
+use Rattle.law_refine.specs.Below.fkv_commit.EnterAnswer.TheVariants as enter
+use Rattle.law_refine.specs.Below.fkv_commit.TheEntering.{Entering}
+use Rattle.law_refine.specs.Below.fkv_commit.TheEntering.TheVariants as entering
+use Rattle.law_refine.specs.Below.fkv_commit.TheFinishing.{Finishing}
+use Rattle.law_refine.specs.Below.fkv_commit.TheFinishing.TheVariants as finishing
+use Rattle.law_refine.specs.Below.fkv_commit.TheSeeking.{Seeking}
+use Rattle.law_refine.specs.Below.fkv_commit.TheSeeking.TheVariants as seeking
+use Rattle.law_refine.specs.Below.fkv_commit.StartAnswer.TheVariants as start
+use Rattle.law_refine.specs.Below.fkv_commit.TheStarting.{Starting}
+use Rattle.law_refine.specs.Below.fkv_commit.TheStarting.TheVariants as starting
+use Rattle.law_refine.specs.Below.fkv_commit.Commits.{version_after}
+use Rattle.law_refine.specs.Below.fkv_commit.Deferring.{DeferState, deferring_ask}
+use Rattle.law_refine.specs.Below.fkv_commit.Entering.{EnterState, entering_ask}
+use Rattle.law_refine.specs.Below.fkv_commit.Finishing.{FinishState, finishing_ask}
+use Rattle.law_refine.specs.Below.fkv_commit.Seeking.{SeekState, seeking_ask}
+use Rattle.law_refine.specs.Below.fkv_commit.Starting.{StartState, starting_ask}
+use Rattle.law_refine.specs.Below.fkv_maintain.MaintainAnswer.{MaintainAnswer}
+use Rattle.law_refine.specs.Below.fkv_maintain.MaintainAnswer.TheVariants as maintain
+use Rattle.law_refine.specs.Below.fkv_maintain.TheMaintaining.{Maintaining}
+use Rattle.law_refine.specs.Below.fkv_maintain.TheMaintaining.TheVariants as maintaining
+use Rattle.law_refine.specs.Below.fkv_maintain.Maintaining.{MaintainState, maintaining_ask}
+use Rattle.law_refine.specs.Below.fkv_keeper.KeeperTold.{KeeperTold}
+use Rattle.law_refine.specs.Below.fkv_keeper.KeeperTold.TheVariants.{Device, Turned, TurnRefused, Begun, CommitRefused}
+use Rattle.law_refine.specs.Below.fkv_keeper.TheKeeping.{Keeping}
+use Rattle.law_refine.specs.Below.fkv_keeper.TheKeeping.TheVariants.{Ended, Starts, Maintains, LoadsPhase, Enters, Copies, Seeks, Waits, Writes, Finishes}
+use Rattle.law_refine.specs.Below.fkv_keeper.Keeping.{KeeperState, device_passed, keeper_ask, keeper_called, keeper_given, keeper_next, keeping_ask}
+use Rattle.law_refine.specs.Below.fkv_world.Actors.{slot_asked}
+use Rattle.law_refine.specs.Below.fkv_world.Moves.{keeper_asks, keeper_gets, keeper_moved, keeper_settled}
+use Rattle.law_refine.specs.Below.fkv_world.World.{Now, near, with_keeper}
 use Rattle.law_refine.specs.Footprint.{Spares, ThePhase}
 use Rattle.law_refine.proofs.Footprint.Commits.{finish_stores, seek_stores, start_stores}
 use Rattle.law_refine.proofs.Footprint.Keepers.{keeper_stores}

@@ -14,23 +14,23 @@ use Rattle.fkv_plane.specs.declared.places.SharedWord.TheVariants as one
 use Rattle.fkv_plane.specs.Asked.{word_at}
 use Rattle.fkv_plane.specs.Places.{shared_place}
 use Rattle.fkv_plane.specs.Plane.{action_at}
-use Rattle.fkv_flush.specs.GuardWorld.{GuardWorld}
-use Rattle.fkv_keeper.specs.declared.keepers.Keeping.{Keeping}
-use Rattle.fkv_keeper.specs.declared.keepers.Keeping.TheVariants.{Ended}
-use Rattle.fkv_keeper.specs.Keeping.{KeeperState, commit_asked, keeper_ask, turn_asked}
-use Rattle.fkv_keeper.specs.KeeperRun.{is_in_hand}
-use Rattle.fkv_session.specs.declared.sessions.Sitting.{Sitting}
-use Rattle.fkv_session.specs.declared.sessions.Sitting.TheVariants.{Idle}
-use Rattle.fkv_session.specs.Sessions.{Seat, SessionState, is_busy, session_ask, session_begun}
-use Rattle.fkv_session.specs.Versions.{IsVersion}
-use Rattle.fkv_world.specs.OwnEvents.{session_events}
-use Rattle.fkv_world.specs.Opened.{HasBecome, IsOpenedWorld}
-use Rattle.fkv_world.specs.Runs.{World, read_by_keeper, run}
-use Rattle.fkv_world.specs.World.{Calls, Commits, Crashes, Event, KeeperMoves, Moves, Now, Turns, keeper_asked, life_goes, near, seat_at, session_calls, session_moves, with_keeper, with_session}
-use Rattle.law_world.specs.Guarded.Shows as guard
-use Rattle.law_world.specs.Guarded.Shows.{seen_by_guard}
-use Rattle.law_world.proofs.OfGuarded.Slots.{life_keeper_rests, life_session_rests}
-use Rattle.law_world.proofs.OfGuarded.Worlds.{life_shows}
+use Rattle.law_refine.specs.Below.fkv_flush.GuardWorld.{GuardWorld}
+use Rattle.law_refine.specs.Below.fkv_keeper.TheKeeping.{Keeping}
+use Rattle.law_refine.specs.Below.fkv_keeper.TheKeeping.TheVariants.{Ended}
+use Rattle.law_refine.specs.Below.fkv_keeper.Keeping.{KeeperState, commit_asked, keeper_ask, turn_asked}
+use Rattle.law_refine.specs.Below.fkv_keeper.KeeperRun.{is_in_hand}
+use Rattle.law_refine.specs.Below.fkv_session.Sitting.{Sitting}
+use Rattle.law_refine.specs.Below.fkv_session.Sitting.TheVariants.{Idle}
+use Rattle.law_refine.specs.Below.fkv_session.Sessions.{Seat, SessionState, is_busy, session_ask, session_begun}
+use Rattle.law_refine.specs.Below.fkv_session.Versions.{IsVersion}
+use Rattle.law_refine.specs.Below.fkv_world.OwnEvents.{session_events}
+use Rattle.law_refine.specs.Below.fkv_world.Opened.{HasBecome, IsOpenedWorld}
+use Rattle.law_refine.specs.Below.fkv_world.Runs.{World, read_by_keeper, run}
+use Rattle.law_refine.specs.Below.fkv_world.World.{Calls, Commits, Crashes, Event, KeeperMoves, Moves, Now, Turns, keeper_asked, life_goes, near, seat_at, session_calls, session_moves, with_keeper, with_session}
+use Rattle.law_refine.specs.Below.law_world.Guarded.Shows as guard
+use Rattle.law_refine.specs.Below.law_world.Guarded.Shows.{seen_by_guard}
+use Rattle.law_refine.proofs.Below.law_world.OfGuarded.Slots.{life_keeper_rests, life_session_rests}
+use Rattle.law_refine.proofs.Below.law_world.OfGuarded.Worlds.{life_shows}
 use Rattle.law_refine.specs.Footprint.{Spares, ThePhase}
 use Rattle.law_refine.proofs.Footprint.Keepers.{keeper_stores}
 use Rattle.law_refine.proofs.Footprint.Lives.{keeper_spares}

@@ -17,33 +17,33 @@ use Rattle.fkv_epoch.specs.Protecting.{protect_ask}
 use Rattle.fkv_epoch.specs.Refreshing.{refresh_ask}
 use Rattle.fkv_epoch.specs.EpochWorld.{EpochMachine, Loads, epoch_of}
 use Rattle.fkv_epoch.proofs.Shown.{some_same}
-use Rattle.fkv_flush.specs.GuardCalm.{AreOther}
-use Rattle.fkv_flush.specs.GuardWorld.{GuardEvent, GuardWorld, guard_run}
+use Rattle.law_refine.specs.Below.fkv_flush.GuardCalm.{AreOther}
+use Rattle.law_refine.specs.Below.fkv_flush.GuardWorld.{GuardEvent, GuardWorld, guard_run}
 use Rattle.fkv_latch.specs.declared.latching.Latching.{Latching}
 use Rattle.fkv_latch.specs.declared.latching.Latching.TheVariants as latching
 use Rattle.fkv_latch.specs.Latching.{latch_ask}
-use Rattle.fkv_session.specs.declared.answers.Told.{Told}
-use Rattle.fkv_session.specs.declared.answers.Told.TheVariants.{Slept}
-use Rattle.fkv_session.specs.declared.catching_up.Catching.{Catching}
-use Rattle.fkv_session.specs.declared.catching_up.Catching.TheVariants as catching
-use Rattle.fkv_session.specs.declared.sessions.Sitting.{Sitting}
-use Rattle.fkv_session.specs.declared.sessions.Sitting.TheVariants.{Idle, Attempts, CatchesUp, ClearsMail, Polls, StoresOwing, Turns, StoresCut, Leaves, LoadsDurable}
-use Rattle.fkv_session.specs.CatchingUp.{catching_ask}
-use Rattle.fkv_session.specs.Sessions.{Seat, SessionState, is_busy, session_ask, session_begun, session_next, sitting_ask}
-use Rattle.fkv_session.specs.SessionRun.{Begins, Replies, SessionEvent, session_happens, session_run}
-use Rattle.fkv_world.specs.Moves.{Near, session_moved}
-use Rattle.fkv_world.specs.OwnEvents.{session_events, session_got, session_part, session_part_found, session_part_of, session_slots, session_steps}
-use Rattle.fkv_world.specs.Runs.{World, read_by_keeper, run}
-use Rattle.fkv_world.specs.World as world
-use Rattle.fkv_world.specs.World.{Calls, Commits, Crashes, Event, KeeperMoves, Moves, Now, near, seat_at}
-use Rattle.fkv_world.proofs.Shown.{same_seat, session_runs, session_runs_on}
-use Rattle.law_world.specs.Guarded.GuardEvents.{called_events, guard_events, keeper_number, life_events, mapped, moved_events}
-use Rattle.law_world.specs.GuardSessions.Sessions.{called_guard_events}
-use Rattle.law_world.specs.Guarded.Shows as guard
-use Rattle.law_world.specs.Guarded.Shows.{IsSeated, Shows, guard_opening, seen_by_guard}
-use Rattle.law_world.proofs.OfGuarded.KeeperSteps.{keeper_steps, turn_asked_steps}
-use Rattle.law_world.proofs.OfGuarded.OneStep.{of_others}
-use Rattle.law_world.proofs.OfGuarded.Worlds.{life_shows, runs_on}
+use Rattle.law_refine.specs.Below.fkv_session.Told.{Told}
+use Rattle.law_refine.specs.Below.fkv_session.Told.TheVariants.{Slept}
+use Rattle.law_refine.specs.Below.fkv_session.Catching.{Catching}
+use Rattle.law_refine.specs.Below.fkv_session.Catching.TheVariants as catching
+use Rattle.law_refine.specs.Below.fkv_session.Sitting.{Sitting}
+use Rattle.law_refine.specs.Below.fkv_session.Sitting.TheVariants.{Idle, Attempts, CatchesUp, ClearsMail, Polls, StoresOwing, Turns, StoresCut, Leaves, LoadsDurable}
+use Rattle.law_refine.specs.Below.fkv_session.CatchingUp.{catching_ask}
+use Rattle.law_refine.specs.Below.fkv_session.Sessions.{Seat, SessionState, is_busy, session_ask, session_begun, session_next, sitting_ask}
+use Rattle.law_refine.specs.Below.fkv_session.SessionRun.{Begins, Replies, SessionEvent, session_happens, session_run}
+use Rattle.law_refine.specs.Below.fkv_world.Moves.{Near, session_moved}
+use Rattle.law_refine.specs.Below.fkv_world.OwnEvents.{session_events, session_got, session_part, session_part_found, session_part_of, session_slots, session_steps}
+use Rattle.law_refine.specs.Below.fkv_world.Runs.{World, read_by_keeper, run}
+use Rattle.law_refine.specs.Below.fkv_world.World as world
+use Rattle.law_refine.specs.Below.fkv_world.World.{Calls, Commits, Crashes, Event, KeeperMoves, Moves, Now, near, seat_at}
+use Rattle.law_refine.proofs.Below.fkv_world.Shown.{same_seat, session_runs, session_runs_on}
+use Rattle.law_refine.specs.Below.law_world.Guarded.GuardEvents.{called_events, guard_events, keeper_number, life_events, mapped, moved_events}
+use Rattle.law_refine.specs.Below.law_world.GuardSessions.Sessions.{called_guard_events}
+use Rattle.law_refine.specs.Below.law_world.Guarded.Shows as guard
+use Rattle.law_refine.specs.Below.law_world.Guarded.Shows.{IsSeated, Shows, guard_opening, seen_by_guard}
+use Rattle.law_refine.proofs.Below.law_world.OfGuarded.KeeperSteps.{keeper_steps, turn_asked_steps}
+use Rattle.law_refine.proofs.Below.law_world.OfGuarded.OneStep.{of_others}
+use Rattle.law_refine.proofs.Below.law_world.OfGuarded.Worlds.{life_shows, runs_on}
 use Rattle.law_commit.specs.Phases.Stamped.{SessionStamped, SittingStamped, force_by, loads_by}
 use Rattle.law_commit.specs.Views.{Sight, sight_by, sight_in, sight_opened, sight_through}
 use Rattle.law_commit.proofs.OfPhases.GuardLoads.{LoadsBy, others_stay, stay}

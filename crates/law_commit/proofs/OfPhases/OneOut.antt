@@ -4,8 +4,8 @@ use Rattle.std.specs.Prelude.{Option, Some, None, slice_get, slice_set}
 use Rattle.fkv_plane.specs.declared.actions.Action.{Action}
 use Rattle.fkv_plane.specs.Plane.{action_at, found_action}
 use Rattle.fkv_epoch.proofs.Shown.{item_spared, same_or}
-use Rattle.fkv_keeper.specs.Keeping.{KeeperState}
-use Rattle.fkv_session.specs.Sessions.{SessionState}
+use Rattle.law_refine.specs.Below.fkv_keeper.Keeping.{KeeperState}
+use Rattle.law_refine.specs.Below.fkv_session.Sessions.{SessionState}
 use Rattle.law_commit.specs.Phases.Staged.{Holder, InSlot, OnlyOut, WithKeeper, WithSession, hand_found, held_at, keeper_hand, phase_in, session_hand}
 
 -- ---- what moves

@@ -5,9 +5,9 @@ use Rattle.fkv_base.specs.declared.numbers.Version.{Version}
 use Rattle.fkv_base.specs.declared.phases.Phase.{Phase}
 use Rattle.fkv_base.specs.declared.phases.Phase.TheVariants.{Rest}
 use Rattle.fkv_epoch.specs.EpochWorld.{epoch_of, safe_of}
-use Rattle.fkv_session.specs.Sessions.{SessionState}
-use Rattle.fkv_world.specs.World.{Now}
-use Rattle.law_world.specs.Guarded.Shows as guard
+use Rattle.law_refine.specs.Below.fkv_session.Sessions.{SessionState}
+use Rattle.law_refine.specs.Below.fkv_world.World.{Now}
+use Rattle.law_refine.specs.Below.law_world.Guarded.Shows as guard
 use Rattle.law_paper.specs.Phases.{Sees, rests}
 use Rattle.law_commit.specs.Phases.Projected.{BeginsAtRest, OpeningsAreSound, first_seen, is_there, paper_view, phasing_opened}
 use Rattle.law_commit.specs.Ranks.{rank}

@@ -9,15 +9,15 @@ use Rattle.fkv_plane.specs.declared.places.SharedWord.TheVariants as one
 use Rattle.fkv_plane.specs.Asked.{word_at}
 use Rattle.fkv_plane.specs.Places.{shared_place}
 use Rattle.fkv_epoch.specs.EpochWorld.{epoch_of, safe_of}
-use Rattle.fkv_flush.specs.GuardWorld.{GuardEvent, GuardWorld, guard_run}
-use Rattle.fkv_flush.proofs.Shown.{events_calm}
-use Rattle.fkv_world.specs.Opened.{IsOpenedWorld}
-use Rattle.fkv_world.specs.Runs.{World, read_by_keeper, run}
-use Rattle.fkv_world.specs.World.{Event}
-use Rattle.law_world.specs.Guarded.GuardEvents.{guard_events, mapped}
-use Rattle.law_world.specs.Guarded.Shows as guard
-use Rattle.law_world.specs.Guarded.Shows.{guard_opening, seen_by_guard}
-use Rattle.law_world.proofs.OfGuarded.Worlds.{life_shows, runs_on}
+use Rattle.law_refine.specs.Below.fkv_flush.GuardWorld.{GuardEvent, GuardWorld, guard_run}
+use Rattle.law_refine.proofs.Below.fkv_flush.Shown.{events_calm}
+use Rattle.law_refine.specs.Below.fkv_world.Opened.{IsOpenedWorld}
+use Rattle.law_refine.specs.Below.fkv_world.Runs.{World, read_by_keeper, run}
+use Rattle.law_refine.specs.Below.fkv_world.World.{Event}
+use Rattle.law_refine.specs.Below.law_world.Guarded.GuardEvents.{guard_events, mapped}
+use Rattle.law_refine.specs.Below.law_world.Guarded.Shows as guard
+use Rattle.law_refine.specs.Below.law_world.Guarded.Shows.{guard_opening, seen_by_guard}
+use Rattle.law_refine.proofs.Below.law_world.OfGuarded.Worlds.{life_shows, runs_on}
 use Rattle.law_paper.specs.Phases as paper
 use Rattle.law_paper.specs.Phases.{AreEnabled, PhaseEvent, Phasing, RaisesElse, Reserves, phase_after, phase_run}
 use Rattle.law_commit.specs.Phases.Projected.{QuietEventsAreShown, ShowsLife, ShowsSessions, session_phase_events}

@@ -3,17 +3,17 @@ use Rattle.std.proofs.Common.{◌≡◌, ℕ, ◌<◌, ◌≤◌, ◌∙◌, Lis
 use Rattle.std.specs.Prelude.{Option, Some, None, slice_get}
 use Rattle.fkv_epoch.specs.EpochWorld.{epoch_of, safe_of}
 use Rattle.fkv_epoch.proofs.Shown.{safe_is_below}
-use Rattle.fkv_flush.specs.GuardWorld.{epoch_world}
-use Rattle.fkv_session.specs.Sessions.{SessionState}
-use Rattle.fkv_session.specs.SessionRun.{session_run}
-use Rattle.fkv_world.specs.Opened.{HasBecome, IsOpenedWorld}
-use Rattle.fkv_world.specs.OwnEvents.{session_events}
-use Rattle.fkv_world.specs.Runs.{World, run}
-use Rattle.fkv_world.specs.World.{Event, seat_at}
-use Rattle.fkv_world.proofs.Shown.{session_runs}
-use Rattle.law_world.specs.Guarded.Shows as guard
-use Rattle.law_world.specs.Guarded.Shows.{seen_by_guard}
-use Rattle.law_world.proofs.OfGuarded.Worlds.{life_shows}
+use Rattle.law_refine.specs.Below.fkv_flush.GuardWorld.{epoch_world}
+use Rattle.law_refine.specs.Below.fkv_session.Sessions.{SessionState}
+use Rattle.law_refine.specs.Below.fkv_session.SessionRun.{session_run}
+use Rattle.law_refine.specs.Below.fkv_world.Opened.{HasBecome, IsOpenedWorld}
+use Rattle.law_refine.specs.Below.fkv_world.OwnEvents.{session_events}
+use Rattle.law_refine.specs.Below.fkv_world.Runs.{World, run}
+use Rattle.law_refine.specs.Below.fkv_world.World.{Event, seat_at}
+use Rattle.law_refine.proofs.Below.fkv_world.Shown.{session_runs}
+use Rattle.law_refine.specs.Below.law_world.Guarded.Shows as guard
+use Rattle.law_refine.specs.Below.law_world.Guarded.Shows.{seen_by_guard}
+use Rattle.law_refine.proofs.Below.law_world.OfGuarded.Worlds.{life_shows}
 use Rattle.law_paper.specs.Phases as paper
 use Rattle.law_paper.specs.Phases.{MayBeSafe, Phasing}
 use Rattle.law_commit.specs.Phases.Projected.{SafeIsEnabled, ShowsSession, ShowsSessions, is_coming}

@@ -4,30 +4,30 @@ use Rattle.std.specs.Prelude.{Option, Some, slice_get}
 use Rattle.fkv_epoch.specs.declared.claiming.Claiming.{Claiming}
 use Rattle.fkv_epoch.specs.declared.claiming.Claiming.TheVariants as claim
 use Rattle.fkv_epoch.specs.EpochWorld.{Armed, Claims, EpochMachine, safe_of}
-use Rattle.fkv_flush.specs.GuardSeen.{LastSeen}
-use Rattle.fkv_flush.specs.GuardWorld.{Actor, GuardWorld}
-use Rattle.fkv_flush.proofs.Shown.{FitsMachine, machine_at}
-use Rattle.fkv_maintain.specs.declared.maintaining.Maintaining.{Maintaining}
-use Rattle.fkv_maintain.specs.declared.maintaining.Maintaining.TheVariants as maintain
-use Rattle.fkv_maintain.specs.Maintaining.{MaintainState}
-use Rattle.fkv_keeper.specs.declared.keepers.Keeping.{Keeping}
-use Rattle.fkv_keeper.specs.declared.keepers.Keeping.TheVariants.{Maintains}
-use Rattle.fkv_keeper.specs.Keeping.{KeeperState}
-use Rattle.fkv_session.specs.declared.own_turns.OwnTurning.{OwnTurning}
-use Rattle.fkv_session.specs.declared.own_turns.OwnTurning.TheVariants as turning
-use Rattle.fkv_session.specs.declared.sessions.Sitting.{Sitting}
-use Rattle.fkv_session.specs.declared.sessions.Sitting.TheVariants.{Turns}
-use Rattle.fkv_session.specs.OwnTurns.{OwnTurnState}
-use Rattle.fkv_session.specs.Sessions.{SessionState}
-use Rattle.fkv_world.specs.Runs.{World, run}
-use Rattle.fkv_world.specs.World.{Event}
-use Rattle.law_world.specs.Guarded.Shows as guard
-use Rattle.law_world.specs.Guarded.Shows.{Shows, seen_by_guard}
-use Rattle.law_world.specs.GuardKeeper.KeeperShown.{keeping_machine}
-use Rattle.law_world.specs.GuardKeeper.MaintainShown.{maintaining_machine}
-use Rattle.law_world.specs.GuardSessions.OwnTurns.{claim_machine, own_turn_likeness_at}
-use Rattle.law_world.specs.GuardSessions.Sessions.{sitting_likeness}
-use Rattle.law_world.proofs.OfGuarded.Worlds.{life_shows}
+use Rattle.law_refine.specs.Below.fkv_flush.GuardSeen.{LastSeen}
+use Rattle.law_refine.specs.Below.fkv_flush.GuardWorld.{Actor, GuardWorld}
+use Rattle.law_refine.proofs.Below.fkv_flush.Shown.{FitsMachine, machine_at}
+use Rattle.law_refine.specs.Below.fkv_maintain.TheMaintaining.{Maintaining}
+use Rattle.law_refine.specs.Below.fkv_maintain.TheMaintaining.TheVariants as maintain
+use Rattle.law_refine.specs.Below.fkv_maintain.Maintaining.{MaintainState}
+use Rattle.law_refine.specs.Below.fkv_keeper.TheKeeping.{Keeping}
+use Rattle.law_refine.specs.Below.fkv_keeper.TheKeeping.TheVariants.{Maintains}
+use Rattle.law_refine.specs.Below.fkv_keeper.Keeping.{KeeperState}
+use Rattle.law_refine.specs.Below.fkv_session.OwnTurning.{OwnTurning}
+use Rattle.law_refine.specs.Below.fkv_session.OwnTurning.TheVariants as turning
+use Rattle.law_refine.specs.Below.fkv_session.Sitting.{Sitting}
+use Rattle.law_refine.specs.Below.fkv_session.Sitting.TheVariants.{Turns}
+use Rattle.law_refine.specs.Below.fkv_session.OwnTurns.{OwnTurnState}
+use Rattle.law_refine.specs.Below.fkv_session.Sessions.{SessionState}
+use Rattle.law_refine.specs.Below.fkv_world.Runs.{World, run}
+use Rattle.law_refine.specs.Below.fkv_world.World.{Event}
+use Rattle.law_refine.specs.Below.law_world.Guarded.Shows as guard
+use Rattle.law_refine.specs.Below.law_world.Guarded.Shows.{Shows, seen_by_guard}
+use Rattle.law_refine.specs.Below.law_world.GuardKeeper.KeeperShown.{keeping_machine}
+use Rattle.law_refine.specs.Below.law_world.GuardKeeper.MaintainShown.{maintaining_machine}
+use Rattle.law_refine.specs.Below.law_world.GuardSessions.OwnTurns.{claim_machine, own_turn_likeness_at}
+use Rattle.law_refine.specs.Below.law_world.GuardSessions.Sessions.{sitting_likeness}
+use Rattle.law_refine.proofs.Below.law_world.OfGuarded.Worlds.{life_shows}
 use Rattle.law_commit.specs.Phases.Running.{IsSafeRun, KeeperRunsSafely, SessionsRunSafely, claim_runs, keeping_runs, maintain_runs, sitting_runs, turn_runs}
 
 -- the guard's machine runs it too

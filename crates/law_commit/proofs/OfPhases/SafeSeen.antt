@@ -10,26 +10,26 @@ use Rattle.fkv_epoch.specs.EpochWorld.{EpochMachine, Loads, OfPhase, own_epoch, 
 use Rattle.fkv_epoch.specs.Once.{InForceSinceRaise, SeenSinceRaise, goes_by}
 use Rattle.fkv_epoch.proofs.Shown.{is_protected}
 use Rattle.fkv_epoch.specs.Protected.{is_protecting}
-use Rattle.fkv_flush.specs.GuardWorld.{Actor, GuardWorld, epoch_world}
-use Rattle.fkv_flush.specs.Guarded.{GoesBy}
-use Rattle.fkv_flush.proofs.Shown.{Fits, FitsMachine, IsSound, machine_at}
-use Rattle.fkv_session.specs.declared.catching_up.Catching.{Catching}
-use Rattle.fkv_session.specs.declared.catching_up.Catching.TheVariants as catching
-use Rattle.fkv_session.specs.declared.sessions.Sitting.{Sitting}
-use Rattle.fkv_session.specs.declared.sessions.Sitting.TheVariants.{Idle, Attempts, CatchesUp, ClearsMail, Polls, StoresOwing, Turns, StoresCut, Leaves, LoadsDurable}
-use Rattle.fkv_session.specs.CatchingUp.{CatchState}
-use Rattle.fkv_session.specs.Sessions.{SessionState}
-use Rattle.fkv_world.specs.Opened.{HasBecome}
-use Rattle.fkv_world.specs.Runs.{World, run}
-use Rattle.fkv_world.specs.World.{Event}
-use Rattle.law_world.proofs.OfSessions.OwnRun.{of_run}
-use Rattle.law_world.specs.Guarded.LoadedSince.{HaveLoadedSince}
-use Rattle.law_world.specs.Guarded.Shows as guard
-use Rattle.law_world.specs.Guarded.Shows.{seen_by_guard}
-use Rattle.law_world.specs.GuardSessions.Catches.{catch_machine, held_machine, protect_machine, refresh_machine}
-use Rattle.law_world.specs.GuardSessions.Sessions.{is_protected_at, is_protected_catching, sitting_likeness}
-use Rattle.law_world.proofs.OfGuarded.LoadedSince.{life_safe_loaded}
-use Rattle.law_world.proofs.OfGuarded.Worlds.{life_shows}
+use Rattle.law_refine.specs.Below.fkv_flush.GuardWorld.{Actor, GuardWorld, epoch_world}
+use Rattle.law_refine.specs.Below.fkv_flush.Guarded.{GoesBy}
+use Rattle.law_refine.proofs.Below.fkv_flush.Shown.{Fits, FitsMachine, IsSound, machine_at}
+use Rattle.law_refine.specs.Below.fkv_session.Catching.{Catching}
+use Rattle.law_refine.specs.Below.fkv_session.Catching.TheVariants as catching
+use Rattle.law_refine.specs.Below.fkv_session.Sitting.{Sitting}
+use Rattle.law_refine.specs.Below.fkv_session.Sitting.TheVariants.{Idle, Attempts, CatchesUp, ClearsMail, Polls, StoresOwing, Turns, StoresCut, Leaves, LoadsDurable}
+use Rattle.law_refine.specs.Below.fkv_session.CatchingUp.{CatchState}
+use Rattle.law_refine.specs.Below.fkv_session.Sessions.{SessionState}
+use Rattle.law_refine.specs.Below.fkv_world.Opened.{HasBecome}
+use Rattle.law_refine.specs.Below.fkv_world.Runs.{World, run}
+use Rattle.law_refine.specs.Below.fkv_world.World.{Event}
+use Rattle.law_refine.proofs.Below.law_world.OfSessions.OwnRun.{of_run}
+use Rattle.law_refine.specs.Below.law_world.Guarded.LoadedSince.{HaveLoadedSince}
+use Rattle.law_refine.specs.Below.law_world.Guarded.Shows as guard
+use Rattle.law_refine.specs.Below.law_world.Guarded.Shows.{seen_by_guard}
+use Rattle.law_refine.specs.Below.law_world.GuardSessions.Catches.{catch_machine, held_machine, protect_machine, refresh_machine}
+use Rattle.law_refine.specs.Below.law_world.GuardSessions.Sessions.{is_protected_at, is_protected_catching, sitting_likeness}
+use Rattle.law_refine.proofs.Below.law_world.OfGuarded.LoadedSince.{life_safe_loaded}
+use Rattle.law_refine.proofs.Below.law_world.OfGuarded.Worlds.{life_shows}
 use Rattle.law_commit.specs.Phases.Stamped.{CatchStamped, HeldStamped, IsOf, IsUnderWay, ProtectStamped, RefreshStamped, SessionStamped, SittingStamped, is_live, is_live_at}
 use Rattle.law_commit.specs.Views.{Sight, View, sight_found, sight_in, sight_of}
 use Rattle.law_commit.proofs.OfPhases.GuardLoads.{IsBlind, rest_blind}

@@ -7,14 +7,14 @@ use Rattle.fkv_plane.specs.declared.asks.Ask.{Ask}
 use Rattle.fkv_plane.specs.declared.asks.Ask.TheVariants.{Done}
 use Rattle.fkv_plane.specs.declared.places.Places.{Places}
 use Rattle.fkv_epoch.specs.Leaving.{leave_next}
-use Rattle.fkv_pending.specs.declared.pending_requests.PendingRequest.{PendingRequest}
-use Rattle.fkv_pending.specs.Mailing.{mail_next}
-use Rattle.fkv_session.specs.declared.answers.Told.{Told}
-use Rattle.fkv_session.specs.declared.sessions.CatchCause.TheVariants.{Refreshes, Shifts}
-use Rattle.fkv_session.specs.declared.sessions.Sitting.{Sitting}
-use Rattle.fkv_session.specs.declared.sessions.Sitting.TheVariants.{Idle, Attempts, CatchesUp, ClearsMail, Polls, StoresOwing, Turns, StoresCut, Leaves, LoadsDurable}
-use Rattle.fkv_session.specs.OwnTurns.{own_turn_given}
-use Rattle.fkv_session.specs.Sessions.{SessionState, Seat, attempts, shifts, turn_ledto, attempt_moved, caught, own_turn_moved, sitting_ask, session_ask, sitting_next, session_next, sitting_given, session_given, session_begun, asks_after, is_word_ask}
+use Rattle.law_refine.specs.Below.fkv_pending.PendingRequest.{PendingRequest}
+use Rattle.law_refine.specs.Below.fkv_pending.Mailing.{mail_next}
+use Rattle.law_refine.specs.Below.fkv_session.Told.{Told}
+use Rattle.law_refine.specs.Below.fkv_session.CatchCause.TheVariants.{Refreshes, Shifts}
+use Rattle.law_refine.specs.Below.fkv_session.Sitting.{Sitting}
+use Rattle.law_refine.specs.Below.fkv_session.Sitting.TheVariants.{Idle, Attempts, CatchesUp, ClearsMail, Polls, StoresOwing, Turns, StoresCut, Leaves, LoadsDurable}
+use Rattle.law_refine.specs.Below.fkv_session.OwnTurns.{own_turn_given}
+use Rattle.law_refine.specs.Below.fkv_session.Sessions.{SessionState, Seat, attempts, shifts, turn_ledto, attempt_moved, caught, own_turn_moved, sitting_ask, session_ask, sitting_next, session_next, sitting_given, session_given, session_begun, asks_after, is_word_ask}
 use Rattle.fkv_base.specs.Limits.{drain_slots}
 use Rattle.fkv_base.specs.declared.shapes.Shape.{Shape}
 use Rattle.fkv_plane.specs.declared.actions.Action.TheVariants as act
@@ -41,26 +41,26 @@ use Rattle.fkv_epoch.specs.Protecting.{protect_ask}
 use Rattle.fkv_epoch.specs.Raising.{raise_ask}
 use Rattle.fkv_epoch.specs.Refreshing.{refresh_ask}
 use Rattle.fkv_epoch.specs.Scanning.{scan_ask, scan_next}
-use Rattle.fkv_log.specs.declared.moving.Moving.{Moving}
-use Rattle.fkv_log.specs.declared.moving.Moving.TheVariants as move
-use Rattle.fkv_log.specs.declared.moving.MoveAnswer.{MoveAnswer}
-use Rattle.fkv_log.specs.declared.moving.Offset.{Offset}
-use Rattle.fkv_log.specs.declared.moving.Offset.TheVariants.{Head, ReadOnly}
-use Rattle.fkv_log.specs.declared.shifting.ShiftAnswer.{ShiftAnswer}
-use Rattle.fkv_log.specs.declared.shifting.Shifting.{Shifting}
-use Rattle.fkv_log.specs.declared.shifting.Shifting.TheVariants as shift
-use Rattle.fkv_log.specs.declared.turning.Turning.{Turning}
-use Rattle.fkv_log.specs.declared.turning.Turning.TheVariants as turn
-use Rattle.fkv_log.specs.Moving.{Mover, action_awaited, moving_ask}
-use Rattle.fkv_log.specs.Shifting.{shift_next, shifting_ask}
-use Rattle.fkv_log.specs.Turning.{turn_next, turning_ask}
-use Rattle.fkv_session.specs.declared.catching_up.Catching.{Catching}
-use Rattle.fkv_session.specs.declared.catching_up.Catching.TheVariants as catching
-use Rattle.fkv_session.specs.declared.own_turns.OwnTurning.{OwnTurning}
-use Rattle.fkv_session.specs.declared.own_turns.OwnTurning.TheVariants as turning
-use Rattle.fkv_session.specs.CatchingUp.{CatchState, catching_ask}
-use Rattle.fkv_session.specs.OwnTurns.{OwnTurnState, claim_ledto, open_ledto, own_turning_ask, own_turning_given, own_turning_next, scan_ledto, shift_ledto}
-use Rattle.law_world.proofs.OfRuns.NoSlots.{IsOffSlots, attempt_off_slots, latch_off, mail_off}
+use Rattle.law_refine.specs.Below.fkv_log.TheMoving.{Moving}
+use Rattle.law_refine.specs.Below.fkv_log.TheMoving.TheVariants as move
+use Rattle.law_refine.specs.Below.fkv_log.MoveAnswer.{MoveAnswer}
+use Rattle.law_refine.specs.Below.fkv_log.Offset.{Offset}
+use Rattle.law_refine.specs.Below.fkv_log.Offset.TheVariants.{Head, ReadOnly}
+use Rattle.law_refine.specs.Below.fkv_log.ShiftAnswer.{ShiftAnswer}
+use Rattle.law_refine.specs.Below.fkv_log.TheShifting.{Shifting}
+use Rattle.law_refine.specs.Below.fkv_log.TheShifting.TheVariants as shift
+use Rattle.law_refine.specs.Below.fkv_log.TheTurning.{Turning}
+use Rattle.law_refine.specs.Below.fkv_log.TheTurning.TheVariants as turn
+use Rattle.law_refine.specs.Below.fkv_log.Moving.{Mover, action_awaited, moving_ask}
+use Rattle.law_refine.specs.Below.fkv_log.Shifting.{shift_next, shifting_ask}
+use Rattle.law_refine.specs.Below.fkv_log.Turning.{turn_next, turning_ask}
+use Rattle.law_refine.specs.Below.fkv_session.Catching.{Catching}
+use Rattle.law_refine.specs.Below.fkv_session.Catching.TheVariants as catching
+use Rattle.law_refine.specs.Below.fkv_session.OwnTurning.{OwnTurning}
+use Rattle.law_refine.specs.Below.fkv_session.OwnTurning.TheVariants as turning
+use Rattle.law_refine.specs.Below.fkv_session.CatchingUp.{CatchState, catching_ask}
+use Rattle.law_refine.specs.Below.fkv_session.OwnTurns.{OwnTurnState, claim_ledto, open_ledto, own_turning_ask, own_turning_given, own_turning_next, scan_ledto, shift_ledto}
+use Rattle.law_refine.proofs.Below.law_world.OfRuns.NoSlots.{IsOffSlots, attempt_off_slots, latch_off, mail_off}
 use Rattle.law_commit.specs.Phases.Staged.{claim_hand, phase_in, session_hand, sitting_hand, turn_hand}
 use Rattle.law_commit.proofs.SessionSteps.{HoldsBegun, attempt_holds, begun_holds, catch_holds, clear_holds, leave_holds, poll_holds, polls_hold}
 

@@ -22,46 +22,46 @@ use Rattle.fkv_epoch.specs.declared.scanning.Scanning.{Scanning}
 use Rattle.fkv_epoch.specs.declared.scanning.Scanning.TheVariants as scan
 use Rattle.fkv_epoch.specs.EpochWorld as epochs
 use Rattle.fkv_epoch.specs.EpochWorld.{EpochMachine, is_at_rest}
-use Rattle.fkv_flush.specs.GuardAsks.{writes}
-use Rattle.fkv_flush.specs.GuardCalm.{AreOther}
-use Rattle.fkv_flush.specs.GuardSeen.{LastSeen}
-use Rattle.fkv_flush.specs.GuardWorld as guard
-use Rattle.fkv_flush.specs.GuardWorld.{Actor, GuardEvent, GuardWorld, Moves, drives_epochs, guard_happens, guard_run, is_idle}
-use Rattle.fkv_flush.proofs.Shown.{Fits, FitsMachine}
+use Rattle.law_refine.specs.Below.fkv_flush.GuardAsks.{writes}
+use Rattle.law_refine.specs.Below.fkv_flush.GuardCalm.{AreOther}
+use Rattle.law_refine.specs.Below.fkv_flush.GuardSeen.{LastSeen}
+use Rattle.law_refine.specs.Below.fkv_flush.GuardWorld as guard
+use Rattle.law_refine.specs.Below.fkv_flush.GuardWorld.{Actor, GuardEvent, GuardWorld, Moves, drives_epochs, guard_happens, guard_run, is_idle}
+use Rattle.law_refine.proofs.Below.fkv_flush.Shown.{Fits, FitsMachine}
 use Rattle.fkv_index.specs.declared.publishing.Publishing.{Publishing}
 use Rattle.fkv_index.specs.declared.publishing.Publishing.TheVariants.{SwapsEntry}
-use Rattle.fkv_log.specs.declared.moving.Moving.{Moving}
-use Rattle.fkv_log.specs.declared.moving.Moving.TheVariants as move
-use Rattle.fkv_log.specs.declared.reserving.ReserveAnswer.{ReserveAnswer}
-use Rattle.fkv_log.specs.declared.reserving.ReserveAnswer.TheVariants.{Reserved}
-use Rattle.fkv_log.specs.declared.shifting.Shifting.{Shifting}
-use Rattle.fkv_log.specs.declared.shifting.Shifting.TheVariants as shift
-use Rattle.fkv_log.specs.Moving.{Mover}
-use Rattle.fkv_log.specs.Reserving.{reserve_next_ask}
-use Rattle.fkv_ops.specs.Appending.{AppendState}
-use Rattle.fkv_ops.specs.Trying.{TryState}
-use Rattle.fkv_ops.specs.declared.appending.Appending.{Appending}
-use Rattle.fkv_ops.specs.declared.appending.Appending.TheVariants as appending
-use Rattle.fkv_ops.specs.declared.trying.Trying.{Trying}
-use Rattle.fkv_ops.specs.declared.trying.Trying.TheVariants.{Appends, ChangesValue, SwapsValue}
-use Rattle.fkv_pending.specs.Attempting.{AttemptState}
-use Rattle.fkv_pending.specs.declared.attempting.Attempting.{Attempting}
-use Rattle.fkv_pending.specs.declared.attempting.Attempting.TheVariants.{Tries}
-use Rattle.fkv_session.specs.declared.catching_up.Catching.{Catching}
-use Rattle.fkv_session.specs.declared.catching_up.Catching.TheVariants as catching
-use Rattle.fkv_session.specs.declared.own_turns.OwnTurning.{OwnTurning}
-use Rattle.fkv_session.specs.declared.own_turns.OwnTurning.TheVariants as turning
-use Rattle.fkv_session.specs.declared.sessions.Sitting.{Sitting}
-use Rattle.fkv_session.specs.declared.sessions.Sitting.TheVariants.{Attempts, CatchesUp, Leaves, Polls, Turns}
-use Rattle.fkv_session.specs.CatchingUp.{CatchState}
-use Rattle.fkv_session.specs.OwnTurns.{OwnTurnState}
-use Rattle.fkv_session.specs.Sessions.{Seat, SessionState, room_of, session_ask}
-use Rattle.law_world.specs.GuardSessions.Attempts.{attempt_events, attempt_likeness_at}
-use Rattle.law_world.specs.GuardSessions.Catches.{catch_events, catch_machine, protect_machine, refresh_machine}
-use Rattle.law_world.specs.GuardSessions.OwnTurns.{claim_machine, moving_machine, own_turn_likeness_at, scan_machine, shift_machine}
-use Rattle.law_world.specs.GuardSessions.Sessions.{leave_machine, session_guard_events, called_guard_events, session_likeness, sitting_events, sitting_likeness, sitting_onward}
-use Rattle.law_world.specs.GuardSessions.Steps.{GoesOn, Onward, Starts, Stays, changed_at, onward_events, outer_events}
-use Rattle.law_world.specs.GuardSessions.Tries.{append_events, is_for_entry, publish_events, reserved_events, try_events, try_likeness_at}
+use Rattle.law_refine.specs.Below.fkv_log.TheMoving.{Moving}
+use Rattle.law_refine.specs.Below.fkv_log.TheMoving.TheVariants as move
+use Rattle.law_refine.specs.Below.fkv_log.ReserveAnswer.{ReserveAnswer}
+use Rattle.law_refine.specs.Below.fkv_log.ReserveAnswer.TheVariants.{Reserved}
+use Rattle.law_refine.specs.Below.fkv_log.TheShifting.{Shifting}
+use Rattle.law_refine.specs.Below.fkv_log.TheShifting.TheVariants as shift
+use Rattle.law_refine.specs.Below.fkv_log.Moving.{Mover}
+use Rattle.law_refine.specs.Below.fkv_log.Reserving.{reserve_next_ask}
+use Rattle.law_refine.specs.Below.fkv_ops.Appending.{AppendState}
+use Rattle.law_refine.specs.Below.fkv_ops.Trying.{TryState}
+use Rattle.law_refine.specs.Below.fkv_ops.TheAppending.{Appending}
+use Rattle.law_refine.specs.Below.fkv_ops.TheAppending.TheVariants as appending
+use Rattle.law_refine.specs.Below.fkv_ops.TheTrying.{Trying}
+use Rattle.law_refine.specs.Below.fkv_ops.TheTrying.TheVariants.{Appends, ChangesValue, SwapsValue}
+use Rattle.law_refine.specs.Below.fkv_pending.Attempting.{AttemptState}
+use Rattle.law_refine.specs.Below.fkv_pending.TheAttempting.{Attempting}
+use Rattle.law_refine.specs.Below.fkv_pending.TheAttempting.TheVariants.{Tries}
+use Rattle.law_refine.specs.Below.fkv_session.Catching.{Catching}
+use Rattle.law_refine.specs.Below.fkv_session.Catching.TheVariants as catching
+use Rattle.law_refine.specs.Below.fkv_session.OwnTurning.{OwnTurning}
+use Rattle.law_refine.specs.Below.fkv_session.OwnTurning.TheVariants as turning
+use Rattle.law_refine.specs.Below.fkv_session.Sitting.{Sitting}
+use Rattle.law_refine.specs.Below.fkv_session.Sitting.TheVariants.{Attempts, CatchesUp, Leaves, Polls, Turns}
+use Rattle.law_refine.specs.Below.fkv_session.CatchingUp.{CatchState}
+use Rattle.law_refine.specs.Below.fkv_session.OwnTurns.{OwnTurnState}
+use Rattle.law_refine.specs.Below.fkv_session.Sessions.{Seat, SessionState, room_of, session_ask}
+use Rattle.law_refine.specs.Below.law_world.GuardSessions.Attempts.{attempt_events, attempt_likeness_at}
+use Rattle.law_refine.specs.Below.law_world.GuardSessions.Catches.{catch_events, catch_machine, protect_machine, refresh_machine}
+use Rattle.law_refine.specs.Below.law_world.GuardSessions.OwnTurns.{claim_machine, moving_machine, own_turn_likeness_at, scan_machine, shift_machine}
+use Rattle.law_refine.specs.Below.law_world.GuardSessions.Sessions.{leave_machine, session_guard_events, called_guard_events, session_likeness, sitting_events, sitting_likeness, sitting_onward}
+use Rattle.law_refine.specs.Below.law_world.GuardSessions.Steps.{GoesOn, Onward, Starts, Stays, changed_at, onward_events, outer_events}
+use Rattle.law_refine.specs.Below.law_world.GuardSessions.Tries.{append_events, is_for_entry, publish_events, reserved_events, try_events, try_likeness_at}
 use Rattle.law_commit.specs.Phases.Stamped.{driven}
 use Rattle.law_commit.proofs.OfPhases.GuardLoads.{IsBlind, LoadsBy, blind_moved, idle_drives, own_moved, rest_blind, stay, tails_through}
 use Rattle.law_commit.proofs.OfPhases.SessionStamps.{IsPlain, sitting_driven}

@@ -22,17 +22,17 @@ use Rattle.fkv_epoch.specs.declared.claiming.Claiming.{Claiming}
 use Rattle.fkv_epoch.specs.declared.claiming.Claiming.TheVariants as claim
 use Rattle.fkv_epoch.specs.Claiming.{claim_ask, phase_stored}
 use Rattle.fkv_epoch.proofs.Shown.{same_or, word_spared, word_written}
-use Rattle.fkv_session.specs.declared.answers.Told.{Told}
-use Rattle.fkv_session.specs.declared.own_turns.OwnTurning.{OwnTurning}
-use Rattle.fkv_session.specs.declared.own_turns.OwnTurning.TheVariants as turning
-use Rattle.fkv_session.specs.declared.sessions.Sitting.{Sitting}
-use Rattle.fkv_session.specs.declared.sessions.Sitting.TheVariants.{Turns}
-use Rattle.fkv_session.specs.OwnTurns.{OwnTurnState, own_turning_ask}
-use Rattle.fkv_session.specs.Sessions.{Seat, SessionState, session_ask, session_given, session_next, sitting_ask}
-use Rattle.fkv_commit.specs.Commits.{version_after}
-use Rattle.fkv_world.specs.Actors.{slot_asked}
-use Rattle.fkv_world.specs.Moves.{session_asks, session_gets, session_moved, session_settled}
-use Rattle.fkv_world.specs.World.{Now, near, seat_at, with_session}
+use Rattle.law_refine.specs.Below.fkv_session.Told.{Told}
+use Rattle.law_refine.specs.Below.fkv_session.OwnTurning.{OwnTurning}
+use Rattle.law_refine.specs.Below.fkv_session.OwnTurning.TheVariants as turning
+use Rattle.law_refine.specs.Below.fkv_session.Sitting.{Sitting}
+use Rattle.law_refine.specs.Below.fkv_session.Sitting.TheVariants.{Turns}
+use Rattle.law_refine.specs.Below.fkv_session.OwnTurns.{OwnTurnState, own_turning_ask}
+use Rattle.law_refine.specs.Below.fkv_session.Sessions.{Seat, SessionState, session_ask, session_given, session_next, sitting_ask}
+use Rattle.law_refine.specs.Below.fkv_commit.Commits.{version_after}
+use Rattle.law_refine.specs.Below.fkv_world.Actors.{slot_asked}
+use Rattle.law_refine.specs.Below.fkv_world.Moves.{session_asks, session_gets, session_moved, session_settled}
+use Rattle.law_refine.specs.Below.fkv_world.World.{Now, near, seat_at, with_session}
 use Rattle.law_refine.specs.Footprint.{Spares, ThePhase, stores_phase}
 use Rattle.law_refine.proofs.Footprint.OwnTurns.{turn_stores}
 use Rattle.law_refine.proofs.Footprint.Sessions.{sitting_stores}

@@ -7,15 +7,15 @@ use Rattle.fkv_plane.specs.declared.asks.Ask.TheVariants.{Done}
 use Rattle.fkv_plane.specs.Passing.{is_done}
 use Rattle.fkv_epoch.specs.EpochWorld.{EpochMachine, Loads, epoch_of}
 use Rattle.fkv_map.specs.declared.operations.Call.{Call}
-use Rattle.fkv_session.specs.declared.catching_up.Catching.{Catching}
-use Rattle.fkv_session.specs.declared.catching_up.Catching.TheVariants as catching
-use Rattle.fkv_session.specs.declared.sessions.CatchCause.{CatchCause}
-use Rattle.fkv_session.specs.declared.sessions.CatchCause.TheVariants.{Refreshes, Wakes, Shifts}
-use Rattle.fkv_session.specs.declared.sessions.Sitting.{Sitting}
-use Rattle.fkv_session.specs.declared.sessions.Sitting.TheVariants.{Idle, Attempts, CatchesUp, ClearsMail, Polls, StoresOwing, Turns, StoresCut, Leaves, LoadsDurable}
-use Rattle.fkv_session.specs.CatchingUp.{catch_ask, catch_requests}
-use Rattle.fkv_session.specs.Sessions.{SessionState, Seat, attempts, bits_of, caught, caught_up, catch_ledto, is_busy, sitting_given, sitting_next}
-use Rattle.fkv_session.specs.SessionRun.{begins}
+use Rattle.law_refine.specs.Below.fkv_session.Catching.{Catching}
+use Rattle.law_refine.specs.Below.fkv_session.Catching.TheVariants as catching
+use Rattle.law_refine.specs.Below.fkv_session.CatchCause.{CatchCause}
+use Rattle.law_refine.specs.Below.fkv_session.CatchCause.TheVariants.{Refreshes, Wakes, Shifts}
+use Rattle.law_refine.specs.Below.fkv_session.Sitting.{Sitting}
+use Rattle.law_refine.specs.Below.fkv_session.Sitting.TheVariants.{Idle, Attempts, CatchesUp, ClearsMail, Polls, StoresOwing, Turns, StoresCut, Leaves, LoadsDurable}
+use Rattle.law_refine.specs.Below.fkv_session.CatchingUp.{catch_ask, catch_requests}
+use Rattle.law_refine.specs.Below.fkv_session.Sessions.{SessionState, Seat, attempts, bits_of, caught, caught_up, catch_ledto, is_busy, sitting_given, sitting_next}
+use Rattle.law_refine.specs.Below.fkv_session.SessionRun.{begins}
 use Rattle.law_commit.specs.Phases.Stamped.{CatchStamped, IsOf, IsUnderWay, SessionStamped, SittingStamped, driven, force_by, loads_by}
 use Rattle.law_commit.specs.Views.{Sight, View, loads_phase, sight_left, sight_moved, with_loaded}
 use Rattle.law_commit.proofs.Goes.{BeginsToCatch, Goes, HasBegun, calm_goes, call_calm, given_on, moves_on}

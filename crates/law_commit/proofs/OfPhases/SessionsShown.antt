@@ -16,21 +16,21 @@ use Rattle.fkv_plane.specs.Places.{shared_place}
 use Rattle.fkv_epoch.specs.EpochWorld as epochs
 use Rattle.fkv_epoch.specs.EpochWorld.{epoch_of}
 use Rattle.fkv_epoch.proofs.Shown.{some_same}
-use Rattle.fkv_pending.specs.declared.pending_requests.PendingRequest.{PendingRequest}
-use Rattle.fkv_session.specs.declared.answers.Told.{Told}
-use Rattle.fkv_session.specs.declared.sessions.Sitting.{Sitting}
-use Rattle.fkv_session.specs.declared.sessions.Sitting.TheVariants.{Idle, Attempts, CatchesUp, ClearsMail, Polls, StoresOwing, Turns, StoresCut, Leaves, LoadsDurable}
-use Rattle.fkv_session.specs.OwnTurns.{own_turn_ask, own_turn_given}
-use Rattle.fkv_session.specs.Sessions.{IsOpened, Seat, SessionState, answers, answers_after_turn, asks_after, attempts, call_begun, is_busy, is_word_ask, op_begun, poll_begun, poll_call, polls_at, polls_request, refresh_call, refusal_of, refuses, session_ask, session_next, sitting_given, sleep_call, turn_ledto, wake_call}
-use Rattle.fkv_session.specs.SessionRun.{Begins, Gets, Replies, SessionEvent, begins, session_happens, session_run}
-use Rattle.fkv_world.specs.Opened.{HasBecome, IsOpenedWorld}
-use Rattle.fkv_world.specs.OwnEvents.{session_events, session_part, session_part_found, session_part_of}
-use Rattle.fkv_world.specs.Runs.{World, run}
-use Rattle.fkv_world.specs.World as world
-use Rattle.fkv_world.specs.World.{Calls, Commits, Crashes, Event, KeeperMoves, Moves, Now, near, seat_at}
-use Rattle.fkv_world.proofs.Shown.{same_seat, session_runs, session_runs_on}
-use Rattle.law_world.proofs.OfRuns.Nothing.{none_ever}
-use Rattle.law_world.proofs.OfSessions.OwnRun.{here}
+use Rattle.law_refine.specs.Below.fkv_pending.PendingRequest.{PendingRequest}
+use Rattle.law_refine.specs.Below.fkv_session.Told.{Told}
+use Rattle.law_refine.specs.Below.fkv_session.Sitting.{Sitting}
+use Rattle.law_refine.specs.Below.fkv_session.Sitting.TheVariants.{Idle, Attempts, CatchesUp, ClearsMail, Polls, StoresOwing, Turns, StoresCut, Leaves, LoadsDurable}
+use Rattle.law_refine.specs.Below.fkv_session.OwnTurns.{own_turn_ask, own_turn_given}
+use Rattle.law_refine.specs.Below.fkv_session.Sessions.{IsOpened, Seat, SessionState, answers, answers_after_turn, asks_after, attempts, call_begun, is_busy, is_word_ask, op_begun, poll_begun, poll_call, polls_at, polls_request, refresh_call, refusal_of, refuses, session_ask, session_next, sitting_given, sleep_call, turn_ledto, wake_call}
+use Rattle.law_refine.specs.Below.fkv_session.SessionRun.{Begins, Gets, Replies, SessionEvent, begins, session_happens, session_run}
+use Rattle.law_refine.specs.Below.fkv_world.Opened.{HasBecome, IsOpenedWorld}
+use Rattle.law_refine.specs.Below.fkv_world.OwnEvents.{session_events, session_part, session_part_found, session_part_of}
+use Rattle.law_refine.specs.Below.fkv_world.Runs.{World, run}
+use Rattle.law_refine.specs.Below.fkv_world.World as world
+use Rattle.law_refine.specs.Below.fkv_world.World.{Calls, Commits, Crashes, Event, KeeperMoves, Moves, Now, near, seat_at}
+use Rattle.law_refine.proofs.Below.fkv_world.Shown.{same_seat, session_runs, session_runs_on}
+use Rattle.law_refine.proofs.Below.law_world.OfRuns.Nothing.{none_ever}
+use Rattle.law_refine.proofs.Below.law_world.OfSessions.OwnRun.{here}
 use Rattle.law_paper.specs.Phases as paper
 use Rattle.law_paper.specs.Phases.{AreEnabled, IsEnabled, PhaseEvent, Phasing, phase_after, phase_run}
 use Rattle.law_commit.specs.Phases.Projected.{EventShown, EventsAreShown, SameSession, ShowsSession, ShowsSessions, ShowsWords, Shown, completed_events, events_found, first_seen, is_there, left_events, loaded_events, loads_now, phase_events_by, phase_events_through, reply_events, session_phase_events, sessions_opened}

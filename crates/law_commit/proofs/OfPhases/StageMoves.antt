@@ -7,13 +7,13 @@ use Rattle.fkv_plane.specs.declared.actions.Action.{Action}
 use Rattle.fkv_plane.specs.declared.actions.Action.TheVariants as act
 use Rattle.fkv_plane.specs.declared.asks.Ask.TheVariants.{Put}
 use Rattle.fkv_plane.specs.Asked.{reply_to, words_after}
-use Rattle.fkv_keeper.specs.declared.answers.KeeperTold.{KeeperTold}
-use Rattle.fkv_keeper.specs.declared.keepers.Keeping.{Keeping}
-use Rattle.fkv_keeper.specs.declared.keepers.Keeping.TheVariants.{Starts, Seeks, Finishes}
-use Rattle.fkv_keeper.specs.Keeping.{KeeperState, commit_asked, keeper_ask, keeper_called, keeper_next, turn_asked}
-use Rattle.fkv_session.specs.Sessions.{SessionState}
-use Rattle.fkv_world.specs.Moves.{keeper_gets}
-use Rattle.fkv_world.specs.World.{Now, keeper_asked}
+use Rattle.law_refine.specs.Below.fkv_keeper.KeeperTold.{KeeperTold}
+use Rattle.law_refine.specs.Below.fkv_keeper.TheKeeping.{Keeping}
+use Rattle.law_refine.specs.Below.fkv_keeper.TheKeeping.TheVariants.{Starts, Seeks, Finishes}
+use Rattle.law_refine.specs.Below.fkv_keeper.Keeping.{KeeperState, commit_asked, keeper_ask, keeper_called, keeper_next, turn_asked}
+use Rattle.law_refine.specs.Below.fkv_session.Sessions.{SessionState}
+use Rattle.law_refine.specs.Below.fkv_world.Moves.{keeper_gets}
+use Rattle.law_refine.specs.Below.fkv_world.World.{Now, keeper_asked}
 use Rattle.law_refine.proofs.Footprint.Commits.{finish_stores, seek_stores, start_stores}
 use Rattle.law_refine.proofs.Footprint.Keepers.{keeper_stores}
 use Rattle.law_commit.specs.Phases.Staged.{KeeperAt, Stage, StageAfter, keeper_hand, keeping_moves, keeping_number, session_hand, stage_run}

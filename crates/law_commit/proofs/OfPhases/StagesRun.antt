@@ -2,28 +2,28 @@
 use Rattle.std.proofs.Common.{◌≡◌, inl, inr, refl}
 use Rattle.fkv_base.specs.declared.numbers.Version.{Version}
 use Rattle.fkv_base.specs.declared.phases.Phase.TheVariants.{InProgress, WaitPending}
-use Rattle.fkv_commit.specs.declared.deferring.Deferred.{Deferred}
-use Rattle.fkv_commit.specs.declared.deferring.Deferred.TheVariants.{EntersPhase}
-use Rattle.fkv_commit.specs.declared.deferring.DeferAnswer.TheVariants.{Held, NoSlot, Spent, Armed}
-use Rattle.fkv_commit.specs.declared.deferring.Deferring.{Deferring}
-use Rattle.fkv_commit.specs.declared.deferring.Deferring.TheVariants as defer
-use Rattle.fkv_commit.specs.declared.entering.EnterAnswer.TheVariants as enter
-use Rattle.fkv_commit.specs.declared.entering.Entering.{Entering}
-use Rattle.fkv_commit.specs.declared.entering.Entering.TheVariants as entering
-use Rattle.fkv_commit.specs.declared.finishing.Finishing.{Finishing}
-use Rattle.fkv_commit.specs.declared.finishing.Finishing.TheVariants as finishing
-use Rattle.fkv_commit.specs.declared.seeking.Seeking.{Seeking}
-use Rattle.fkv_commit.specs.declared.seeking.Seeking.TheVariants as seeking
-use Rattle.fkv_commit.specs.declared.starting.StartAnswer.TheVariants as start
-use Rattle.fkv_commit.specs.declared.starting.Starting.{Starting}
-use Rattle.fkv_commit.specs.declared.starting.Starting.TheVariants as starting
-use Rattle.fkv_commit.specs.Commits.{version_after}
-use Rattle.fkv_commit.specs.Entering.{EnterState}
-use Rattle.fkv_commit.specs.Seeking.{SeekState}
-use Rattle.fkv_commit.specs.Starting.{StartState}
-use Rattle.fkv_keeper.specs.declared.keepers.Keeping.{Keeping}
-use Rattle.fkv_keeper.specs.declared.keepers.Keeping.TheVariants.{Ended, Starts, Maintains, LoadsPhase, Enters, Copies, Seeks, Waits, Writes, Finishes}
-use Rattle.fkv_keeper.specs.Keeping.{KeeperState}
+use Rattle.law_refine.specs.Below.fkv_commit.Deferred.{Deferred}
+use Rattle.law_refine.specs.Below.fkv_commit.Deferred.TheVariants.{EntersPhase}
+use Rattle.law_refine.specs.Below.fkv_commit.DeferAnswer.TheVariants.{Held, NoSlot, Spent, Armed}
+use Rattle.law_refine.specs.Below.fkv_commit.TheDeferring.{Deferring}
+use Rattle.law_refine.specs.Below.fkv_commit.TheDeferring.TheVariants as defer
+use Rattle.law_refine.specs.Below.fkv_commit.EnterAnswer.TheVariants as enter
+use Rattle.law_refine.specs.Below.fkv_commit.TheEntering.{Entering}
+use Rattle.law_refine.specs.Below.fkv_commit.TheEntering.TheVariants as entering
+use Rattle.law_refine.specs.Below.fkv_commit.TheFinishing.{Finishing}
+use Rattle.law_refine.specs.Below.fkv_commit.TheFinishing.TheVariants as finishing
+use Rattle.law_refine.specs.Below.fkv_commit.TheSeeking.{Seeking}
+use Rattle.law_refine.specs.Below.fkv_commit.TheSeeking.TheVariants as seeking
+use Rattle.law_refine.specs.Below.fkv_commit.StartAnswer.TheVariants as start
+use Rattle.law_refine.specs.Below.fkv_commit.TheStarting.{Starting}
+use Rattle.law_refine.specs.Below.fkv_commit.TheStarting.TheVariants as starting
+use Rattle.law_refine.specs.Below.fkv_commit.Commits.{version_after}
+use Rattle.law_refine.specs.Below.fkv_commit.Entering.{EnterState}
+use Rattle.law_refine.specs.Below.fkv_commit.Seeking.{SeekState}
+use Rattle.law_refine.specs.Below.fkv_commit.Starting.{StartState}
+use Rattle.law_refine.specs.Below.fkv_keeper.TheKeeping.{Keeping}
+use Rattle.law_refine.specs.Below.fkv_keeper.TheKeeping.TheVariants.{Ended, Starts, Maintains, LoadsPhase, Enters, Copies, Seeks, Waits, Writes, Finishes}
+use Rattle.law_refine.specs.Below.fkv_keeper.Keeping.{KeeperState}
 use Rattle.law_commit.specs.Phases.Staged.{Stage, Rests, Prepares, DefersProgress, Progresses, DefersPending, Pends, Flushes, DefersAt, EarlyAt, EnterAt, FinishAt, KeeperAt, SeekAt, StartAt, StepAt, stage_run}
 
 -- ---- the keeper's step is so at another stage if its parts are, and none of them flushes

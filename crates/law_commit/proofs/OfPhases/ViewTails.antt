@@ -5,30 +5,30 @@ use Rattle.fkv_base.specs.declared.shapes.Shape.{Shape}
 use Rattle.fkv_epoch.specs.declared.refreshing.Refreshing.TheVariants as refresh
 use Rattle.fkv_epoch.specs.EpochWorld as epochs
 use Rattle.fkv_epoch.specs.EpochWorld.{EpochMachine, Loads, sight_of, with_load}
-use Rattle.fkv_flush.specs.GuardPhase.{KeepsTails, PhaseTails, phase_tails, tails_after, with_tail}
-use Rattle.fkv_flush.specs.GuardWorld.{GuardEvent, GuardWorld, guard_run, levels}
-use Rattle.fkv_flush.specs.Guarded as flush
+use Rattle.law_refine.specs.Below.fkv_flush.GuardPhase.{KeepsTails, PhaseTails, phase_tails, tails_after, with_tail}
+use Rattle.law_refine.specs.Below.fkv_flush.GuardWorld.{GuardEvent, GuardWorld, guard_run, levels}
+use Rattle.law_refine.specs.Below.fkv_flush.Guarded as flush
 use Rattle.fkv_plane.specs.declared.places.Places.{Places}
 use Rattle.fkv_plane.specs.declared.places.SharedWord.TheVariants as one
 use Rattle.fkv_plane.specs.Asked.{word_at}
 use Rattle.fkv_plane.specs.Places.{shared_place}
-use Rattle.fkv_session.specs.declared.sessions.Sitting.{Sitting}
-use Rattle.fkv_session.specs.declared.sessions.Sitting.TheVariants.{CatchesUp, Idle}
-use Rattle.fkv_session.specs.Sessions.{Seat, SessionState, is_busy}
-use Rattle.fkv_session.specs.SessionRun.{Begins, Gets, Replies, SessionEvent, session_happens, session_run}
+use Rattle.law_refine.specs.Below.fkv_session.Sitting.{Sitting}
+use Rattle.law_refine.specs.Below.fkv_session.Sitting.TheVariants.{CatchesUp, Idle}
+use Rattle.law_refine.specs.Below.fkv_session.Sessions.{Seat, SessionState, is_busy}
+use Rattle.law_refine.specs.Below.fkv_session.SessionRun.{Begins, Gets, Replies, SessionEvent, session_happens, session_run}
 use Rattle.fkv_words.specs.declared.phase_words.PhaseSaid.{PhaseSaid}
 use Rattle.fkv_words.specs.declared.phase_words.PhaseSaid.TheVariants.{Says, Spoiled}
 use Rattle.fkv_words.specs.PhaseWords.{phase_said}
-use Rattle.fkv_world.specs.Opened.{HasBecome}
-use Rattle.fkv_world.specs.OwnEvents.{session_events, session_part_of}
-use Rattle.fkv_world.specs.Runs.{World, read_by_keeper, run}
-use Rattle.fkv_world.specs.World.{Event, Now, seat_at}
-use Rattle.fkv_world.proofs.Shown.{same_seat, session_runs, session_runs_on}
-use Rattle.law_world.proofs.OfSessions.OwnRun.{of_run}
-use Rattle.law_world.specs.Guarded.GuardEvents.{guard_events, keeper_number, mapped}
-use Rattle.law_world.specs.Guarded.Shows as guard
-use Rattle.law_world.specs.Guarded.Shows.{Shows, guard_opening, seen_by_guard}
-use Rattle.law_world.proofs.OfGuarded.Worlds.{life_shows, runs_on}
+use Rattle.law_refine.specs.Below.fkv_world.Opened.{HasBecome}
+use Rattle.law_refine.specs.Below.fkv_world.OwnEvents.{session_events, session_part_of}
+use Rattle.law_refine.specs.Below.fkv_world.Runs.{World, read_by_keeper, run}
+use Rattle.law_refine.specs.Below.fkv_world.World.{Event, Now, seat_at}
+use Rattle.law_refine.proofs.Below.fkv_world.Shown.{same_seat, session_runs, session_runs_on}
+use Rattle.law_refine.proofs.Below.law_world.OfSessions.OwnRun.{of_run}
+use Rattle.law_refine.specs.Below.law_world.Guarded.GuardEvents.{guard_events, keeper_number, mapped}
+use Rattle.law_refine.specs.Below.law_world.Guarded.Shows as guard
+use Rattle.law_refine.specs.Below.law_world.Guarded.Shows.{Shows, guard_opening, seen_by_guard}
+use Rattle.law_refine.proofs.Below.law_world.OfGuarded.Worlds.{life_shows, runs_on}
 use Rattle.law_refine.specs.Events.GhostEvents.{safe_at}
 use Rattle.law_commit.specs.Phases.Stamped.{SessionStamped, SittingStamped, force_by, loads_by}
 use Rattle.law_commit.specs.Views.{Sight, View, completed, loads_phase, sight_by, sight_in, sight_left, sight_moved, sight_opened, sight_through, view_said, with_loaded}

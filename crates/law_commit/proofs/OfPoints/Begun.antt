@@ -2,14 +2,14 @@
 use Rattle.std.proofs.Common.{◌≡◌, ℕ, ◌≤◌, ◌∙◌, List, [], ◌∷◌, ◌++◌, refl, arith, ap, sym}
 use Rattle.std.specs.Prelude.{Option, Some, None, slice_get}
 use Rattle.fkv_base.specs.declared.numbers.Serial.{Serial}
-use Rattle.fkv_commit.specs.declared.commits.Commit.{Commit}
-use Rattle.fkv_keeper.specs.declared.keepers.Keeping.TheVariants.{Writes}
-use Rattle.fkv_session.specs.Sessions.{SessionState}
-use Rattle.fkv_session.specs.Versions.{versions_taken}
-use Rattle.fkv_world.specs.OwnEvents.{session_events}
-use Rattle.fkv_world.specs.Runs.{World, run}
-use Rattle.fkv_world.specs.World.{Event}
-use Rattle.fkv_world.proofs.Shown.{session_runs}
+use Rattle.law_refine.specs.Below.fkv_commit.Commit.{Commit}
+use Rattle.law_refine.specs.Below.fkv_keeper.TheKeeping.TheVariants.{Writes}
+use Rattle.law_refine.specs.Below.fkv_session.Sessions.{SessionState}
+use Rattle.law_refine.specs.Below.fkv_session.Versions.{versions_taken}
+use Rattle.law_refine.specs.Below.fkv_world.OwnEvents.{session_events}
+use Rattle.law_refine.specs.Below.fkv_world.Runs.{World, run}
+use Rattle.law_refine.specs.Below.fkv_world.World.{Event}
+use Rattle.law_refine.proofs.Below.fkv_world.Shown.{session_runs}
 use Rattle.law_commit.specs.Accepted.{point, serial_at}
 use Rattle.law_commit.specs.BegunCommits.{life_begun}
 use Rattle.law_commit.specs.Decided.Ended.{Span}

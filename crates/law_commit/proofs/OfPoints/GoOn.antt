@@ -4,33 +4,33 @@ use Rattle.std.specs.Prelude.{not, ◌==◌, ◌%◌, if◌then◌else◌, Optio
 use Rattle.std.proofs.lemmas.Bool.Decides.{nat_tests}
 use Rattle.fkv_base.specs.Limits.{last_version}
 use Rattle.fkv_base.specs.declared.numbers.Version.{Version}
-use Rattle.fkv_commit.specs.Cuts.{cut_of, other_cut_of, version_said}
+use Rattle.law_refine.specs.Below.fkv_commit.Cuts.{cut_of, other_cut_of, version_said}
 use Rattle.fkv_epoch.proofs.Shown.{some_same}
-use Rattle.fkv_ops.specs.declared.requests.Seen.{Seen}
+use Rattle.law_refine.specs.Below.fkv_ops.Seen.{Seen}
 use Rattle.fkv_plane.specs.declared.asks.Ask.{Ask}
 use Rattle.fkv_plane.specs.declared.asks.Ask.TheVariants.{Load, Store, Swap, Cas, Add, Max, Put, Take, Done}
 use Rattle.fkv_plane.specs.declared.places.SessionWord.TheVariants as own
 use Rattle.fkv_plane.specs.Asked.{word_at, words_after}
 use Rattle.fkv_plane.specs.Places.{session_place}
-use Rattle.fkv_session.specs.declared.answers.Told.{Told}
-use Rattle.fkv_session.specs.declared.catching_up.Catching.{Catching}
-use Rattle.fkv_session.specs.declared.catching_up.Catching.TheVariants as catching
-use Rattle.fkv_session.specs.declared.sessions.CatchCause.{CatchCause}
-use Rattle.fkv_session.specs.declared.sessions.Sitting.{Sitting}
-use Rattle.fkv_session.specs.declared.sessions.Sitting.TheVariants.{CatchesUp, StoresCut}
-use Rattle.fkv_session.specs.Asleep.{IsStepAsleep}
-use Rattle.fkv_session.specs.CatchingUp.{cut_at}
-use Rattle.fkv_session.specs.Cuts.{version_left}
-use Rattle.fkv_session.specs.Sessions.{IsOpened, Seat, SessionState, session_ask}
-use Rattle.fkv_session.specs.SessionRun.{SessionEvent, session_run}
-use Rattle.fkv_session.specs.Words.{AreMarkStores, GoesToSleep, HasFinished, IsMark, IsMarkStore, LeavesVersion, OwesUpdates, serial_left, stored_by, stored_last}
-use Rattle.fkv_session.proofs.Shown.{IsCatching, StepMarks, run_asleep, run_marks, run_stores}
-use Rattle.fkv_world.specs.Opened.{HasBecome, IsOpenedWorld}
-use Rattle.fkv_world.specs.OwnEvents.{session_events}
-use Rattle.fkv_world.specs.Runs.{World, run}
-use Rattle.fkv_world.specs.World.{Event, seat_at}
-use Rattle.fkv_world.proofs.Shown.{same_seat, session_runs}
-use Rattle.law_world.proofs.OfSessions.OwnRun.{opened_so, seated}
+use Rattle.law_refine.specs.Below.fkv_session.Told.{Told}
+use Rattle.law_refine.specs.Below.fkv_session.Catching.{Catching}
+use Rattle.law_refine.specs.Below.fkv_session.Catching.TheVariants as catching
+use Rattle.law_refine.specs.Below.fkv_session.CatchCause.{CatchCause}
+use Rattle.law_refine.specs.Below.fkv_session.Sitting.{Sitting}
+use Rattle.law_refine.specs.Below.fkv_session.Sitting.TheVariants.{CatchesUp, StoresCut}
+use Rattle.law_refine.specs.Below.fkv_session.Asleep.{IsStepAsleep}
+use Rattle.law_refine.specs.Below.fkv_session.CatchingUp.{cut_at}
+use Rattle.law_refine.specs.Below.fkv_session.Cuts.{version_left}
+use Rattle.law_refine.specs.Below.fkv_session.Sessions.{IsOpened, Seat, SessionState, session_ask}
+use Rattle.law_refine.specs.Below.fkv_session.SessionRun.{SessionEvent, session_run}
+use Rattle.law_refine.specs.Below.fkv_session.Words.{AreMarkStores, GoesToSleep, HasFinished, IsMark, IsMarkStore, LeavesVersion, OwesUpdates, serial_left, stored_by, stored_last}
+use Rattle.law_refine.proofs.Below.fkv_session.Shown.{IsCatching, StepMarks, run_asleep, run_marks, run_stores}
+use Rattle.law_refine.specs.Below.fkv_world.Opened.{HasBecome, IsOpenedWorld}
+use Rattle.law_refine.specs.Below.fkv_world.OwnEvents.{session_events}
+use Rattle.law_refine.specs.Below.fkv_world.Runs.{World, run}
+use Rattle.law_refine.specs.Below.fkv_world.World.{Event, seat_at}
+use Rattle.law_refine.proofs.Below.fkv_world.Shown.{same_seat, session_runs}
+use Rattle.law_refine.proofs.Below.law_world.OfSessions.OwnRun.{opened_so, seated}
 use Rattle.law_commit.specs.Accepted.{HasRisingVersion, point}
 use Rattle.law_commit.specs.Cuts.{HasItsWords, IsCutPlace, word_now}
 use Rattle.law_commit.specs.Floor.Stands.{PaperIsSound, stage_number}

@@ -2,11 +2,11 @@
 use Rattle.std.proofs.Common.{◌≡◌, inl, inr, ◌∙◌, List, ◌∷◌, refl, arith, ap, sym, subst, Bool, true, false}
 use Rattle.fkv_base.specs.declared.numbers.Serial.{Serial}
 use Rattle.fkv_base.specs.declared.numbers.Version.{Version}
-use Rattle.fkv_keeper.specs.declared.keepers.Keeping.{Keeping}
-use Rattle.fkv_keeper.specs.declared.keepers.Keeping.TheVariants.{Ended, Starts, Maintains, LoadsPhase, Enters, Copies, Seeks, Waits, Writes, Finishes}
-use Rattle.fkv_keeper.specs.Keeping.{Finality, KeeperState}
+use Rattle.law_refine.specs.Below.fkv_keeper.TheKeeping.{Keeping}
+use Rattle.law_refine.specs.Below.fkv_keeper.TheKeeping.TheVariants.{Ended, Starts, Maintains, LoadsPhase, Enters, Copies, Seeks, Waits, Writes, Finishes}
+use Rattle.law_refine.specs.Below.fkv_keeper.Keeping.{Finality, KeeperState}
 use Rattle.fkv_map.specs.History.{point_of}
-use Rattle.fkv_world.specs.Runs.{run}
+use Rattle.law_refine.specs.Below.fkv_world.Runs.{run}
 use Rattle.law_log.specs.Trace.{IsIn}
 use Rattle.law_commit.specs.Accepted.{point}
 use Rattle.law_commit.specs.BegunCommits.{AreFinished, AtEnd, AtKeeping, BegunCommit, HaveFinished, IsAsLast, life_begun}

@@ -3,14 +3,14 @@ use Rattle.std.proofs.Common.{◌≡◌, ℕ, ◌+◌, ◌≤◌, List, [], ◌�
 use Rattle.std.specs.Prelude.{Option, Some, None, nat_le, cond, slice_get}
 use Rattle.std.proofs.lemmas.Bool.Decides.{nat_tests}
 use Rattle.fkv_map.specs.declared.operations.Op.{Op}
-use Rattle.fkv_session.specs.Sessions.{Seat, SessionState}
-use Rattle.fkv_session.specs.SessionRun.{SessionEvent}
-use Rattle.fkv_session.specs.Versions.{TakenAt, taken_at_after, versions_taken}
-use Rattle.fkv_world.specs.Opened.{HasBecome}
-use Rattle.fkv_world.specs.OwnEvents.{session_events}
-use Rattle.fkv_world.specs.Runs.{World, run}
-use Rattle.fkv_world.specs.World.{Event, seat_at}
-use Rattle.fkv_world.proofs.Shown.{session_runs}
+use Rattle.law_refine.specs.Below.fkv_session.Sessions.{Seat, SessionState}
+use Rattle.law_refine.specs.Below.fkv_session.SessionRun.{SessionEvent}
+use Rattle.law_refine.specs.Below.fkv_session.Versions.{TakenAt, taken_at_after, versions_taken}
+use Rattle.law_refine.specs.Below.fkv_world.Opened.{HasBecome}
+use Rattle.law_refine.specs.Below.fkv_world.OwnEvents.{session_events}
+use Rattle.law_refine.specs.Below.fkv_world.Runs.{World, run}
+use Rattle.law_refine.specs.Below.fkv_world.World.{Event, seat_at}
+use Rattle.law_refine.proofs.Below.fkv_world.Shown.{session_runs}
 use Rattle.law_commit.specs.Accepted.{count_upto, point, serial_at, serial_of, versions_accepted, versions_of}
 use Rattle.law_commit.specs.Points.{RisesByVersion, UpToGiven}
 use Rattle.law_commit.proofs.Counted.{found_so, life_counted}

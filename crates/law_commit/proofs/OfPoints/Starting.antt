@@ -13,24 +13,24 @@ use Rattle.fkv_words.specs.PhaseWords.{phase_said}
 use Rattle.fkv_plane.specs.declared.asks.Ask.{Ask}
 use Rattle.fkv_plane.specs.declared.asks.Ask.TheVariants.{Done}
 use Rattle.fkv_plane.specs.declared.places.Places.{Places}
-use Rattle.fkv_commit.specs.declared.commits.Commit.{Commit}
-use Rattle.fkv_commit.specs.declared.deferring.DeferAnswer.{DeferAnswer}
-use Rattle.fkv_commit.specs.declared.deferring.DeferAnswer.TheVariants.{Armed, Held, Spent}
-use Rattle.fkv_commit.specs.declared.starting.StartAnswer.{StartAnswer}
-use Rattle.fkv_commit.specs.declared.starting.StartAnswer.TheVariants as started
-use Rattle.fkv_commit.specs.declared.starting.Starting.{Starting}
-use Rattle.fkv_commit.specs.declared.starting.Starting.TheVariants as start
-use Rattle.fkv_commit.specs.Commits.{commit_begun}
-use Rattle.fkv_commit.specs.Deferring.{defer_ask, defer_begun, defer_next}
-use Rattle.fkv_commit.specs.Starting.{StartState, defer_led, is_lost_full, phase_found, refused, seek_led, start_ask, start_begun, start_next, starting_ask, starting_next}
-use Rattle.fkv_keeper.specs.declared.answers.KeeperTold.TheVariants.{CommitRefused, TurnRefused}
-use Rattle.fkv_keeper.specs.declared.keepers.Keeping.{Keeping}
-use Rattle.fkv_keeper.specs.declared.keepers.Keeping.TheVariants.{Ended, Starts, Maintains, LoadsPhase, Enters, Copies, Seeks, Waits, Writes, Finishes}
-use Rattle.fkv_keeper.specs.CheckpointLaws.{IsCommitAfter, MayFollow}
-use Rattle.fkv_keeper.specs.Keeping.{KeeperState, ended, keeping_called, keeping_given, keeping_next, start_ledto}
-use Rattle.fkv_keeper.specs.KeeperRun.{BeginsCommit, BeginsTurn, Calls, Gets, KeeperEvent, Replies, is_in_hand, keeper_happens}
-use Rattle.fkv_keeper.proofs.Shown.{each_move}
-use Rattle.law_world.proofs.OfStanding.Runs.{happens_at}
+use Rattle.law_refine.specs.Below.fkv_commit.Commit.{Commit}
+use Rattle.law_refine.specs.Below.fkv_commit.DeferAnswer.{DeferAnswer}
+use Rattle.law_refine.specs.Below.fkv_commit.DeferAnswer.TheVariants.{Armed, Held, Spent}
+use Rattle.law_refine.specs.Below.fkv_commit.StartAnswer.{StartAnswer}
+use Rattle.law_refine.specs.Below.fkv_commit.StartAnswer.TheVariants as started
+use Rattle.law_refine.specs.Below.fkv_commit.TheStarting.{Starting}
+use Rattle.law_refine.specs.Below.fkv_commit.TheStarting.TheVariants as start
+use Rattle.law_refine.specs.Below.fkv_commit.Commits.{commit_begun}
+use Rattle.law_refine.specs.Below.fkv_commit.Deferring.{defer_ask, defer_begun, defer_next}
+use Rattle.law_refine.specs.Below.fkv_commit.Starting.{StartState, defer_led, is_lost_full, phase_found, refused, seek_led, start_ask, start_begun, start_next, starting_ask, starting_next}
+use Rattle.law_refine.specs.Below.fkv_keeper.KeeperTold.TheVariants.{CommitRefused, TurnRefused}
+use Rattle.law_refine.specs.Below.fkv_keeper.TheKeeping.{Keeping}
+use Rattle.law_refine.specs.Below.fkv_keeper.TheKeeping.TheVariants.{Ended, Starts, Maintains, LoadsPhase, Enters, Copies, Seeks, Waits, Writes, Finishes}
+use Rattle.law_refine.specs.Below.fkv_keeper.CheckpointLaws.{IsCommitAfter, MayFollow}
+use Rattle.law_refine.specs.Below.fkv_keeper.Keeping.{KeeperState, ended, keeping_called, keeping_given, keeping_next, start_ledto}
+use Rattle.law_refine.specs.Below.fkv_keeper.KeeperRun.{BeginsCommit, BeginsTurn, Calls, Gets, KeeperEvent, Replies, is_in_hand, keeper_happens}
+use Rattle.law_refine.proofs.Below.fkv_keeper.Shown.{each_move}
+use Rattle.law_refine.proofs.Below.law_world.OfStanding.Runs.{happens_at}
 use Rattle.law_commit.proofs.BegunStands.{there}
 use Rattle.law_commit.proofs.InTurn.{not_none, some_commit}
 use Rattle.law_commit.proofs.OfPoints.Taking.{passed_end}

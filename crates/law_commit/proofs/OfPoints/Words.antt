@@ -4,8 +4,8 @@ use Rattle.std.specs.Prelude.{max, min}
 use Rattle.std.proofs.Math.Nat.{max-eq_left, max-eq_right, min-eq_left, min-le_left, min-le_right}
 use Rattle.std.proofs.lemmas.Bool.Decides.{nat_tests}
 use Rattle.fkv_base.specs.Limits.{last_serial, last_version}
-use Rattle.fkv_commit.specs.Cuts.{is_cut, serial_said, version_said}
-use Rattle.fkv_session.specs.CatchingUp.{cut_at}
+use Rattle.law_refine.specs.Below.fkv_commit.Cuts.{is_cut, serial_said, version_said}
+use Rattle.law_refine.specs.Below.fkv_session.CatchingUp.{cut_at}
 use Rattle.law_commit.specs.Quiet.{SaysFirst, ShowsPoint, SleepsSince}
 
 -- ---- a word that is the cut of a version at a serial

@@ -6,25 +6,25 @@ use Rattle.fkv_base.specs.declared.numbers.Version.{Version}
 use Rattle.fkv_plane.specs.declared.places.SessionWord.TheVariants as own
 use Rattle.fkv_plane.specs.Asked.{word_at}
 use Rattle.fkv_plane.specs.Places.{session_place}
-use Rattle.fkv_commit.specs.Cuts.{cut_of, other_cut_of}
-use Rattle.fkv_session.specs.declared.catching_up.Catching.{Catching}
-use Rattle.fkv_session.specs.declared.catching_up.Catching.TheVariants as catching
-use Rattle.fkv_session.specs.declared.sessions.CatchCause.TheVariants.{Refreshes, Shifts, Wakes}
-use Rattle.fkv_session.specs.declared.sessions.Sitting.{Sitting}
-use Rattle.fkv_session.specs.declared.sessions.Sitting.TheVariants.{Idle, Attempts, CatchesUp, ClearsMail, Polls, StoresOwing, Turns, StoresCut, Leaves, LoadsDurable}
-use Rattle.fkv_session.specs.Asleep.{IsStepAsleep}
-use Rattle.fkv_session.specs.CatchingUp.{cut_at}
-use Rattle.fkv_session.specs.Sessions.{IsOpened, Seat, SessionState}
-use Rattle.fkv_session.specs.SessionRun.{SessionEvent, session_run}
-use Rattle.fkv_session.specs.Versions.{IsVersion}
-use Rattle.fkv_session.specs.Words.{IsCutAsleep, left_with, stored_last}
-use Rattle.fkv_session.proofs.Shown.{HasCut, IsCatching, IsMarked, StepMarks, run_asleep, run_version}
-use Rattle.fkv_world.specs.Opened.{HasBecome}
-use Rattle.fkv_world.specs.OwnEvents.{session_events}
-use Rattle.fkv_world.specs.Runs.{World, run}
-use Rattle.fkv_world.specs.World.{Event, seat_at}
-use Rattle.fkv_world.proofs.Shown.{session_runs}
-use Rattle.law_world.proofs.OfSessions.OwnRun.{opened_so, seated}
+use Rattle.law_refine.specs.Below.fkv_commit.Cuts.{cut_of, other_cut_of}
+use Rattle.law_refine.specs.Below.fkv_session.Catching.{Catching}
+use Rattle.law_refine.specs.Below.fkv_session.Catching.TheVariants as catching
+use Rattle.law_refine.specs.Below.fkv_session.CatchCause.TheVariants.{Refreshes, Shifts, Wakes}
+use Rattle.law_refine.specs.Below.fkv_session.Sitting.{Sitting}
+use Rattle.law_refine.specs.Below.fkv_session.Sitting.TheVariants.{Idle, Attempts, CatchesUp, ClearsMail, Polls, StoresOwing, Turns, StoresCut, Leaves, LoadsDurable}
+use Rattle.law_refine.specs.Below.fkv_session.Asleep.{IsStepAsleep}
+use Rattle.law_refine.specs.Below.fkv_session.CatchingUp.{cut_at}
+use Rattle.law_refine.specs.Below.fkv_session.Sessions.{IsOpened, Seat, SessionState}
+use Rattle.law_refine.specs.Below.fkv_session.SessionRun.{SessionEvent, session_run}
+use Rattle.law_refine.specs.Below.fkv_session.Versions.{IsVersion}
+use Rattle.law_refine.specs.Below.fkv_session.Words.{IsCutAsleep, left_with, stored_last}
+use Rattle.law_refine.proofs.Below.fkv_session.Shown.{HasCut, IsCatching, IsMarked, StepMarks, run_asleep, run_version}
+use Rattle.law_refine.specs.Below.fkv_world.Opened.{HasBecome}
+use Rattle.law_refine.specs.Below.fkv_world.OwnEvents.{session_events}
+use Rattle.law_refine.specs.Below.fkv_world.Runs.{World, run}
+use Rattle.law_refine.specs.Below.fkv_world.World.{Event, seat_at}
+use Rattle.law_refine.proofs.Below.fkv_world.Shown.{session_runs}
+use Rattle.law_refine.proofs.Below.law_world.OfSessions.OwnRun.{opened_so, seated}
 use Rattle.law_commit.specs.Accepted.{HasRisingVersion, point, versions_accepted}
 use Rattle.law_commit.specs.Cuts.{HasItsWords, ShowCuts, serial_before, word_now}
 use Rattle.law_commit.specs.PhaseVersions.{HasRisingPhase, phase_version}

@@ -11,39 +11,39 @@ use Rattle.fkv_plane.specs.Asked.{reply_to}
 use Rattle.fkv_plane.specs.Passing.{passed}
 use Rattle.fkv_plane.specs.Places.{session_place}
 use Rattle.fkv_base.specs.declared.shapes.Shape.{Shape}
-use Rattle.fkv_commit.specs.declared.finishing.Finishing.{Finishing}
-use Rattle.fkv_commit.specs.declared.finishing.Finishing.TheVariants as finish
-use Rattle.fkv_commit.specs.declared.seeking.Seeking.{Seeking}
-use Rattle.fkv_commit.specs.declared.seeking.Seeking.TheVariants as seek
-use Rattle.fkv_commit.specs.declared.starting.Starting.{Starting}
-use Rattle.fkv_commit.specs.declared.starting.Starting.TheVariants as start
-use Rattle.fkv_commit.specs.declared.entering.Entering.{Entering}
-use Rattle.fkv_commit.specs.declared.entering.Entering.TheVariants as enter
-use Rattle.fkv_commit.specs.declared.deferring.Deferred.{Deferred}
-use Rattle.fkv_commit.specs.declared.deferring.Deferred.TheVariants.{EntersPhase}
-use Rattle.fkv_commit.specs.declared.deferring.Deferring.{Deferring}
-use Rattle.fkv_commit.specs.declared.deferring.Deferring.TheVariants as defer
+use Rattle.law_refine.specs.Below.fkv_commit.TheFinishing.{Finishing}
+use Rattle.law_refine.specs.Below.fkv_commit.TheFinishing.TheVariants as finish
+use Rattle.law_refine.specs.Below.fkv_commit.TheSeeking.{Seeking}
+use Rattle.law_refine.specs.Below.fkv_commit.TheSeeking.TheVariants as seek
+use Rattle.law_refine.specs.Below.fkv_commit.TheStarting.{Starting}
+use Rattle.law_refine.specs.Below.fkv_commit.TheStarting.TheVariants as start
+use Rattle.law_refine.specs.Below.fkv_commit.TheEntering.{Entering}
+use Rattle.law_refine.specs.Below.fkv_commit.TheEntering.TheVariants as enter
+use Rattle.law_refine.specs.Below.fkv_commit.Deferred.{Deferred}
+use Rattle.law_refine.specs.Below.fkv_commit.Deferred.TheVariants.{EntersPhase}
+use Rattle.law_refine.specs.Below.fkv_commit.TheDeferring.{Deferring}
+use Rattle.law_refine.specs.Below.fkv_commit.TheDeferring.TheVariants as defer
 use Rattle.fkv_base.specs.declared.phases.Phase.TheVariants as phases
-use Rattle.fkv_commit.specs.Commits.{version_after}
-use Rattle.fkv_commit.specs.Entering.{EnterState}
-use Rattle.fkv_commit.specs.Seeking.{SeekState, seeking_ask}
-use Rattle.fkv_commit.specs.Starting.{StartState}
-use Rattle.fkv_keeper.specs.declared.answers.KeeperTold.{KeeperTold}
-use Rattle.fkv_keeper.specs.declared.keepers.Keeping.{Keeping}
-use Rattle.fkv_keeper.specs.declared.keepers.Keeping.TheVariants.{Ended, Starts, Maintains, LoadsPhase, Enters, Copies, Seeks, Waits, Writes, Finishes}
-use Rattle.fkv_keeper.specs.Keeping.{KeeperState, commit_asked, keeper_ask, keeping_ask, turn_asked}
-use Rattle.fkv_pending.specs.declared.pending_requests.PendingRequest.{PendingRequest}
-use Rattle.fkv_session.specs.declared.sessions.Sitting.{Sitting}
-use Rattle.fkv_session.specs.declared.sessions.Sitting.TheVariants.{Attempts, Idle, Polls}
-use Rattle.fkv_session.specs.Sessions.{SessionState, is_busy}
-use Rattle.fkv_session.specs.SessionRun.{session_run}
-use Rattle.fkv_world.specs.Moves.{keeper_gets}
-use Rattle.fkv_world.specs.Opened.{HasBecome}
-use Rattle.fkv_world.specs.OwnEvents.{session_events}
-use Rattle.fkv_world.specs.Runs.{World, run}
-use Rattle.fkv_world.specs.World.{Event, Now, seat_at}
-use Rattle.fkv_world.proofs.Shown.{session_runs}
-use Rattle.law_world.proofs.OfSessions.OwnRun.{of_run, opened_so, seated}
+use Rattle.law_refine.specs.Below.fkv_commit.Commits.{version_after}
+use Rattle.law_refine.specs.Below.fkv_commit.Entering.{EnterState}
+use Rattle.law_refine.specs.Below.fkv_commit.Seeking.{SeekState, seeking_ask}
+use Rattle.law_refine.specs.Below.fkv_commit.Starting.{StartState}
+use Rattle.law_refine.specs.Below.fkv_keeper.KeeperTold.{KeeperTold}
+use Rattle.law_refine.specs.Below.fkv_keeper.TheKeeping.{Keeping}
+use Rattle.law_refine.specs.Below.fkv_keeper.TheKeeping.TheVariants.{Ended, Starts, Maintains, LoadsPhase, Enters, Copies, Seeks, Waits, Writes, Finishes}
+use Rattle.law_refine.specs.Below.fkv_keeper.Keeping.{KeeperState, commit_asked, keeper_ask, keeping_ask, turn_asked}
+use Rattle.law_refine.specs.Below.fkv_pending.PendingRequest.{PendingRequest}
+use Rattle.law_refine.specs.Below.fkv_session.Sitting.{Sitting}
+use Rattle.law_refine.specs.Below.fkv_session.Sitting.TheVariants.{Attempts, Idle, Polls}
+use Rattle.law_refine.specs.Below.fkv_session.Sessions.{SessionState, is_busy}
+use Rattle.law_refine.specs.Below.fkv_session.SessionRun.{session_run}
+use Rattle.law_refine.specs.Below.fkv_world.Moves.{keeper_gets}
+use Rattle.law_refine.specs.Below.fkv_world.Opened.{HasBecome}
+use Rattle.law_refine.specs.Below.fkv_world.OwnEvents.{session_events}
+use Rattle.law_refine.specs.Below.fkv_world.Runs.{World, run}
+use Rattle.law_refine.specs.Below.fkv_world.World.{Event, Now, seat_at}
+use Rattle.law_refine.proofs.Below.fkv_world.Shown.{session_runs}
+use Rattle.law_refine.proofs.Below.law_world.OfSessions.OwnRun.{of_run, opened_so, seated}
 use Rattle.law_commit.specs.Cuts.{word_now}
 use Rattle.law_commit.specs.Floor.Stands.{stage_number}
 use Rattle.law_commit.specs.Phases.Staged.{DefersAt, DefersPending, DefersProgress, EnterAt, FinishAt, FitsVersion, Flushes, IsStaged, Pends, Prepares, Progresses, Rests, SeekAt, Stage, StartAt, StepAt, defer_moves, enter_moves, finish_moves, finish_number, is_resting, keeping_moves, keeping_number, seek_moves, stage_run, start_moves}

@@ -3,7 +3,7 @@ use Rattle.std.proofs.Common.{ℕ, ◌+◌, ◌*◌, ◌≤◌, arith, ap}
 use Rattle.fkv_base.specs.declared.numbers.Version.{Version}
 use Rattle.fkv_base.specs.declared.phases.Phase.{Phase}
 use Rattle.fkv_base.specs.declared.phases.Phase.TheVariants.{Rest, Prepare, InProgress, WaitPending, WaitFlush}
-use Rattle.fkv_world.specs.Runs.{run}
+use Rattle.law_refine.specs.Below.fkv_world.Runs.{run}
 use Rattle.law_commit.specs.Floor.Stands.{FloorAlwaysStands, HasFloor, stage_number}
 use Rattle.law_commit.specs.Phases.Staged.{DefersPending, DefersProgress, Flushes, Pends, Prepares, Progresses, Rests, Stage}
 use Rattle.law_commit.specs.Quiet.{LiveAreLater, pending_rank}

@@ -5,30 +5,30 @@ use Rattle.std.specs.List.{count_by}
 use Rattle.std.proofs.lemmas.Bool.Decides.{nat_tests}
 use Rattle.std.proofs.lemmas.List.Sums.{sum_by-cons}
 use Rattle.fkv_base.specs.declared.numbers.Version.{Version}
-use Rattle.fkv_ops.specs.Requests.{is_read}
-use Rattle.fkv_pending.specs.Pending.{is_update_of}
-use Rattle.fkv_pending.specs.declared.pending_requests.PendingRequest.{PendingRequest}
+use Rattle.law_refine.specs.Below.fkv_ops.Requests.{is_read}
+use Rattle.law_refine.specs.Below.fkv_pending.Pending.{is_update_of}
+use Rattle.law_refine.specs.Below.fkv_pending.PendingRequest.{PendingRequest}
 use Rattle.fkv_plane.specs.declared.places.SessionWord.TheVariants as own
 use Rattle.fkv_plane.specs.Asked.{word_at}
 use Rattle.fkv_plane.specs.Places.{session_place}
-use Rattle.fkv_session.specs.declared.catching_up.Catching.{Catching}
-use Rattle.fkv_session.specs.declared.catching_up.Catching.TheVariants as catching
-use Rattle.fkv_session.specs.declared.sessions.Sitting.{Sitting}
-use Rattle.fkv_session.specs.declared.sessions.Sitting.TheVariants.{Idle, Attempts, CatchesUp, ClearsMail, Polls, StoresOwing, Turns, StoresCut, Leaves, LoadsDurable}
-use Rattle.fkv_session.specs.Asleep.{IsStepAsleep}
-use Rattle.fkv_session.specs.CatchingUp.{owing}
-use Rattle.fkv_session.specs.InOrder.{IsOwedOrOneMore}
-use Rattle.fkv_session.specs.Versions.{IsAttemptOfRequest}
-use Rattle.fkv_session.specs.Sessions.{IsOpened, Seat, SessionState}
-use Rattle.fkv_session.specs.SessionRun.{SessionEvent, session_run}
-use Rattle.fkv_session.specs.Words.{left_with, serial_left, stored_last}
-use Rattle.fkv_session.proofs.Shown.{IsCatching, IsMarked, StepMarks, run_asleep, run_marks, run_near, run_request}
-use Rattle.fkv_world.specs.Opened.{HasBecome}
-use Rattle.fkv_world.specs.OwnEvents.{session_events}
-use Rattle.fkv_world.specs.Runs.{World, run}
-use Rattle.fkv_world.specs.World.{Event, seat_at}
-use Rattle.fkv_world.proofs.Shown.{session_runs}
-use Rattle.law_world.proofs.OfSessions.OwnRun.{opened_so, seated}
+use Rattle.law_refine.specs.Below.fkv_session.Catching.{Catching}
+use Rattle.law_refine.specs.Below.fkv_session.Catching.TheVariants as catching
+use Rattle.law_refine.specs.Below.fkv_session.Sitting.{Sitting}
+use Rattle.law_refine.specs.Below.fkv_session.Sitting.TheVariants.{Idle, Attempts, CatchesUp, ClearsMail, Polls, StoresOwing, Turns, StoresCut, Leaves, LoadsDurable}
+use Rattle.law_refine.specs.Below.fkv_session.Asleep.{IsStepAsleep}
+use Rattle.law_refine.specs.Below.fkv_session.CatchingUp.{owing}
+use Rattle.law_refine.specs.Below.fkv_session.InOrder.{IsOwedOrOneMore}
+use Rattle.law_refine.specs.Below.fkv_session.Versions.{IsAttemptOfRequest}
+use Rattle.law_refine.specs.Below.fkv_session.Sessions.{IsOpened, Seat, SessionState}
+use Rattle.law_refine.specs.Below.fkv_session.SessionRun.{SessionEvent, session_run}
+use Rattle.law_refine.specs.Below.fkv_session.Words.{left_with, serial_left, stored_last}
+use Rattle.law_refine.proofs.Below.fkv_session.Shown.{IsCatching, IsMarked, StepMarks, run_asleep, run_marks, run_near, run_request}
+use Rattle.law_refine.specs.Below.fkv_world.Opened.{HasBecome}
+use Rattle.law_refine.specs.Below.fkv_world.OwnEvents.{session_events}
+use Rattle.law_refine.specs.Below.fkv_world.Runs.{World, run}
+use Rattle.law_refine.specs.Below.fkv_world.World.{Event, seat_at}
+use Rattle.law_refine.proofs.Below.fkv_world.Shown.{session_runs}
+use Rattle.law_refine.proofs.Below.law_world.OfSessions.OwnRun.{opened_so, seated}
 use Rattle.law_commit.specs.Cuts.{word_now}
 use Rattle.law_commit.specs.Floor.Stands.{stage_number}
 use Rattle.law_commit.specs.PhaseVersions.{HasRisingPhase, phase_version}

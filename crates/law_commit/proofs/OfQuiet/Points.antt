@@ -3,19 +3,19 @@ use Rattle.std.proofs.Common.{◌≡◌, ◌⊎◌, inl, inr, ℕ, ◌+◌, ◌<
 use Rattle.std.specs.Prelude.{nat_le, Some, slice_get}
 use Rattle.std.proofs.lemmas.Bool.Decides.{nat_tests}
 use Rattle.fkv_map.specs.declared.operations.Call.{Call}
-use Rattle.fkv_session.specs.declared.sessions.Sitting.TheVariants.{Attempts}
-use Rattle.fkv_session.specs.Asleep.{IsStepAsleep}
-use Rattle.fkv_session.specs.Replies.{op_called}
-use Rattle.fkv_session.specs.Sessions.{IsOpened, Seat, SessionState, is_busy}
-use Rattle.fkv_session.specs.SessionRun.{Begins, Gets, Replies, SessionEvent, session_run}
-use Rattle.fkv_session.specs.Versions.{IsVersion, TakenAt, versions_taken}
-use Rattle.fkv_session.proofs.Shown.{run_asleep, run_call}
-use Rattle.fkv_world.specs.Opened.{HasBecome}
-use Rattle.fkv_world.specs.OwnEvents.{session_events}
-use Rattle.fkv_world.specs.Runs.{World, run}
-use Rattle.fkv_world.specs.World.{Event, seat_at}
-use Rattle.fkv_world.proofs.Shown.{session_runs}
-use Rattle.law_world.proofs.OfSessions.OwnRun.{opened_so}
+use Rattle.law_refine.specs.Below.fkv_session.Sitting.TheVariants.{Attempts}
+use Rattle.law_refine.specs.Below.fkv_session.Asleep.{IsStepAsleep}
+use Rattle.law_refine.specs.Below.fkv_session.Replies.{op_called}
+use Rattle.law_refine.specs.Below.fkv_session.Sessions.{IsOpened, Seat, SessionState, is_busy}
+use Rattle.law_refine.specs.Below.fkv_session.SessionRun.{Begins, Gets, Replies, SessionEvent, session_run}
+use Rattle.law_refine.specs.Below.fkv_session.Versions.{IsVersion, TakenAt, versions_taken}
+use Rattle.law_refine.proofs.Below.fkv_session.Shown.{run_asleep, run_call}
+use Rattle.law_refine.specs.Below.fkv_world.Opened.{HasBecome}
+use Rattle.law_refine.specs.Below.fkv_world.OwnEvents.{session_events}
+use Rattle.law_refine.specs.Below.fkv_world.Runs.{World, run}
+use Rattle.law_refine.specs.Below.fkv_world.World.{Event, seat_at}
+use Rattle.law_refine.proofs.Below.fkv_world.Shown.{session_runs}
+use Rattle.law_refine.proofs.Below.law_world.OfSessions.OwnRun.{opened_so}
 use Rattle.law_commit.specs.Accepted.{HasRisingVersion, NeverFall, count_upto, point, serial_at, serial_of, versions_of}
 use Rattle.law_commit.specs.Quiet.{LiveAreLater, OpensQuiet, PointSplitsAt, PointsAlwaysSplit, PointsStay, pending_rank, rank_now}
 use Rattle.law_commit.proofs.Counted.{Takes, found_so, life_counted, life_point, life_risen, none_taken, one_taken, run_moves}

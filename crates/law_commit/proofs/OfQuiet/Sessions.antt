@@ -5,27 +5,27 @@ use Rattle.fkv_base.specs.declared.faults.Fault.{Fault}
 use Rattle.fkv_base.specs.declared.numbers.Version.{Version}
 use Rattle.fkv_map.specs.declared.operations.Call.{Call}
 use Rattle.fkv_map.specs.declared.operations.Op.{Op}
-use Rattle.fkv_ops.specs.Requests.{is_read}
-use Rattle.fkv_ops.specs.declared.requests.Occasion.{Occasion}
-use Rattle.fkv_ops.specs.declared.requests.Occasion.TheVariants.{Call as AtCall, Poll as AtPoll}
-use Rattle.fkv_ops.specs.declared.requests.Seen.{Seen}
-use Rattle.fkv_pending.specs.declared.pending_requests.PendingRequest.{PendingRequest}
-use Rattle.fkv_pending.specs.Attempting.{AttemptState, attempt_begun}
-use Rattle.fkv_pending.specs.Pending.{with_latch}
+use Rattle.law_refine.specs.Below.fkv_ops.Requests.{is_read}
+use Rattle.law_refine.specs.Below.fkv_ops.Occasion.{Occasion}
+use Rattle.law_refine.specs.Below.fkv_ops.Occasion.TheVariants.{Call as AtCall, Poll as AtPoll}
+use Rattle.law_refine.specs.Below.fkv_ops.Seen.{Seen}
+use Rattle.law_refine.specs.Below.fkv_pending.PendingRequest.{PendingRequest}
+use Rattle.law_refine.specs.Below.fkv_pending.Attempting.{AttemptState, attempt_begun}
+use Rattle.law_refine.specs.Below.fkv_pending.Pending.{with_latch}
 use Rattle.fkv_plane.specs.declared.asks.Ask.{Ask}
 use Rattle.fkv_plane.specs.declared.asks.Ask.TheVariants.{Done}
-use Rattle.fkv_session.specs.declared.sessions.CatchCause.TheVariants.{Refreshes, Shifts, Wakes}
-use Rattle.fkv_session.specs.declared.sessions.Sitting.{Sitting}
-use Rattle.fkv_session.specs.declared.sessions.Sitting.TheVariants.{CatchesUp, Idle, LoadsDurable}
-use Rattle.fkv_session.specs.Asleep.{IsStepAsleep}
-use Rattle.fkv_session.specs.Sessions.{IsOpened, Seat, SessionState, asks_after, attempts, bits_of, catch_ledto, caught, is_busy, is_word_ask, request_in_hand, room_of, session_ask, session_begun, session_next, sitting_given, sitting_next}
-use Rattle.fkv_session.specs.SessionRun.{Begins, Gets, Replies, SessionEvent, begins, session_happens, session_run}
-use Rattle.fkv_session.specs.Versions.{IsVersion}
-use Rattle.fkv_session.proofs.Shown.{IsSameRequest}
-use Rattle.fkv_session.proofs.Shown.{attempt_keeps, run_asleep, run_version}
-use Rattle.law_local.specs.Sessions.Known.{KnowsRequests, attempt_after, catch_after, catch_comes_to, with_op}
-use Rattle.law_local.proofs.OfSessions.AttemptInputs.{begun_pending}
-use Rattle.law_local.proofs.OfSessions.Known.{begun_known, given_known, next_known}
+use Rattle.law_refine.specs.Below.fkv_session.CatchCause.TheVariants.{Refreshes, Shifts, Wakes}
+use Rattle.law_refine.specs.Below.fkv_session.Sitting.{Sitting}
+use Rattle.law_refine.specs.Below.fkv_session.Sitting.TheVariants.{CatchesUp, Idle, LoadsDurable}
+use Rattle.law_refine.specs.Below.fkv_session.Asleep.{IsStepAsleep}
+use Rattle.law_refine.specs.Below.fkv_session.Sessions.{IsOpened, Seat, SessionState, asks_after, attempts, bits_of, catch_ledto, caught, is_busy, is_word_ask, request_in_hand, room_of, session_ask, session_begun, session_next, sitting_given, sitting_next}
+use Rattle.law_refine.specs.Below.fkv_session.SessionRun.{Begins, Gets, Replies, SessionEvent, begins, session_happens, session_run}
+use Rattle.law_refine.specs.Below.fkv_session.Versions.{IsVersion}
+use Rattle.law_refine.proofs.Below.fkv_session.Shown.{IsSameRequest}
+use Rattle.law_refine.proofs.Below.fkv_session.Shown.{attempt_keeps, run_asleep, run_version}
+use Rattle.law_refine.specs.Below.law_local.Sessions.Known.{KnowsRequests, attempt_after, catch_after, catch_comes_to, with_op}
+use Rattle.law_refine.proofs.Below.law_local.OfSessions.AttemptInputs.{begun_pending}
+use Rattle.law_refine.proofs.Below.law_local.OfSessions.Known.{begun_known, given_known, next_known}
 use Rattle.law_commit.specs.Accepted.{HasRisingVersion}
 use Rattle.law_commit.specs.Quiet.{IsLater, IsLiveLater}
 use Rattle.law_commit.specs.Versions.Requests.{IsUpdateSo}

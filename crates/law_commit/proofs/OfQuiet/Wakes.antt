@@ -12,29 +12,29 @@ use Rattle.fkv_plane.specs.declared.asks.Ask.{Ask}
 use Rattle.fkv_plane.specs.declared.asks.Ask.TheVariants.{Load, Store, Swap, Cas, Add, Max, Put, Take, Done}
 use Rattle.fkv_plane.specs.declared.places.Places.{Places}
 use Rattle.fkv_plane.specs.Places.{session_place}
-use Rattle.fkv_commit.specs.Cuts.{cut_of}
+use Rattle.law_refine.specs.Below.fkv_commit.Cuts.{cut_of}
 use Rattle.fkv_epoch.specs.Leaving.{leave_next}
 use Rattle.fkv_epoch.specs.declared.values.Seen as loaded
 use Rattle.fkv_epoch.specs.declared.refreshing.RefreshAnswer.{RefreshAnswer}
 use Rattle.fkv_latch.specs.declared.latching.LatchAnswer.{LatchAnswer}
 use Rattle.fkv_latch.specs.declared.latching.LatchAnswer.TheVariants.{Taken}
-use Rattle.fkv_ops.specs.declared.requests.Seen.{Seen}
-use Rattle.fkv_pending.specs.declared.pending_requests.PendingRequest.{PendingRequest}
-use Rattle.fkv_pending.specs.Mailing.{mail_next}
-use Rattle.fkv_pending.specs.Pending.{is_unlatched}
+use Rattle.law_refine.specs.Below.fkv_ops.Seen.{Seen}
+use Rattle.law_refine.specs.Below.fkv_pending.PendingRequest.{PendingRequest}
+use Rattle.law_refine.specs.Below.fkv_pending.Mailing.{mail_next}
+use Rattle.law_refine.specs.Below.fkv_pending.Pending.{is_unlatched}
 use Rattle.fkv_words.specs.PhaseWords.{phase_said}
-use Rattle.fkv_session.specs.declared.answers.Told.{Told}
-use Rattle.fkv_session.specs.declared.catching_up.Catching.{Catching}
-use Rattle.fkv_session.specs.declared.catching_up.Catching.TheVariants as catching
-use Rattle.fkv_session.specs.declared.sessions.CatchCause.TheVariants.{Refreshes, Wakes, Shifts}
-use Rattle.fkv_session.specs.declared.sessions.Sitting.{Sitting}
-use Rattle.fkv_session.specs.declared.sessions.Sitting.TheVariants.{Idle, Attempts, CatchesUp, ClearsMail, Polls, StoresOwing, Turns, StoresCut, Leaves, LoadsDurable}
-use Rattle.fkv_session.specs.CatchingUp.{CatchState, catch_requests, refresh_begun, wake_begun, catching_next, cuts, enters_prepare, finish_ledto, finishes, is_same_version, latch_begun, latch_ledto, latch_wanted, latches, protect_ledto, seen_after}
-use Rattle.fkv_session.specs.OwnTurns.{own_turn_ask, own_turn_given}
-use Rattle.fkv_session.specs.Sessions.{IsOpened, SessionState, Seat, asks_after, bits_of, caught, is_busy, is_word_ask, session_ask, attempt_moved, attempts, call_begun, catch_ledto, op_begun, own_turn_moved, poll_begun, poll_call, polls_at, refresh_call, refusal_of, refuses, shifts, sitting_given, sitting_next, sleep_call, turn_ledto, wake_call}
-use Rattle.fkv_session.specs.SessionRun.{Begins, Gets, Replies, SessionEvent, begins, session_happens, session_run}
-use Rattle.fkv_session.specs.Words.{GoesToSleep, HasFinished, IsMark, IsMarkStore, LeavesVersion, OwesUpdates, stored_by, stored_last}
-use Rattle.fkv_session.proofs.Shown.{IsCatching, IsMarked, StepMarks, run_slept, run_stores}
+use Rattle.law_refine.specs.Below.fkv_session.Told.{Told}
+use Rattle.law_refine.specs.Below.fkv_session.Catching.{Catching}
+use Rattle.law_refine.specs.Below.fkv_session.Catching.TheVariants as catching
+use Rattle.law_refine.specs.Below.fkv_session.CatchCause.TheVariants.{Refreshes, Wakes, Shifts}
+use Rattle.law_refine.specs.Below.fkv_session.Sitting.{Sitting}
+use Rattle.law_refine.specs.Below.fkv_session.Sitting.TheVariants.{Idle, Attempts, CatchesUp, ClearsMail, Polls, StoresOwing, Turns, StoresCut, Leaves, LoadsDurable}
+use Rattle.law_refine.specs.Below.fkv_session.CatchingUp.{CatchState, catch_requests, refresh_begun, wake_begun, catching_next, cuts, enters_prepare, finish_ledto, finishes, is_same_version, latch_begun, latch_ledto, latch_wanted, latches, protect_ledto, seen_after}
+use Rattle.law_refine.specs.Below.fkv_session.OwnTurns.{own_turn_ask, own_turn_given}
+use Rattle.law_refine.specs.Below.fkv_session.Sessions.{IsOpened, SessionState, Seat, asks_after, bits_of, caught, is_busy, is_word_ask, session_ask, attempt_moved, attempts, call_begun, catch_ledto, op_begun, own_turn_moved, poll_begun, poll_call, polls_at, refresh_call, refusal_of, refuses, shifts, sitting_given, sitting_next, sleep_call, turn_ledto, wake_call}
+use Rattle.law_refine.specs.Below.fkv_session.SessionRun.{Begins, Gets, Replies, SessionEvent, begins, session_happens, session_run}
+use Rattle.law_refine.specs.Below.fkv_session.Words.{GoesToSleep, HasFinished, IsMark, IsMarkStore, LeavesVersion, OwesUpdates, stored_by, stored_last}
+use Rattle.law_refine.proofs.Below.fkv_session.Shown.{IsCatching, IsMarked, StepMarks, run_slept, run_stores}
 use Rattle.law_commit.specs.Cuts.{ShowsCut, serial_before}
 use Rattle.law_commit.specs.Quiet.{SleptAt}
 use Rattle.law_commit.proofs.OfCuts.Always.{run_marks}

@@ -5,33 +5,33 @@ use Rattle.std.specs.Option.{is_some}
 use Rattle.fkv_map.specs.Keys.{key_of}
 use Rattle.fkv_plane.specs.declared.asks.Ask.{Ask}
 use Rattle.fkv_plane.specs.declared.asks.Ask.TheVariants.{Done}
-use Rattle.fkv_ops.specs.declared.answers.DiskRecord.{DiskRecord}
-use Rattle.fkv_ops.specs.declared.answers.Reason.TheVariants as reason
-use Rattle.fkv_ops.specs.declared.answers.TryAnswer.{TryAnswer}
-use Rattle.fkv_ops.specs.declared.answers.TryAnswer.TheVariants as answer
-use Rattle.fkv_ops.specs.declared.header_words.HeaderSaid.{HeaderSaid}
-use Rattle.fkv_ops.specs.declared.header_words.HeaderSaid.TheVariants.{Says, Spoiled}
-use Rattle.fkv_ops.specs.declared.requests.HeldRecord.{HeldRecord}
-use Rattle.fkv_ops.specs.declared.requests.Occasion.{Occasion}
-use Rattle.fkv_ops.specs.declared.requests.Request.{Request}
-use Rattle.fkv_ops.specs.declared.requests.Seen.{Seen}
-use Rattle.fkv_ops.specs.HeaderWords.{header_said}
-use Rattle.fkv_ops.specs.Requests.{is_read}
-use Rattle.fkv_ops.specs.Trying.{is_prepare, is_wait, told_value, try_ask}
-use Rattle.fkv_ops.specs.Values.{value_of}
-use Rattle.fkv_ops.proofs.Shown.{IsTrying, begun_trying, ended_keeps, next_trying}
-use Rattle.fkv_pending.specs.declared.attempting.Attempting.{Attempting}
-use Rattle.fkv_pending.specs.declared.attempting.Attempting.TheVariants.{Ended, Looks, Puts, Tries}
-use Rattle.fkv_pending.specs.declared.mailing.MailAnswer.{MailAnswer}
-use Rattle.fkv_pending.specs.declared.mailing.MailAnswer.TheVariants as mail
-use Rattle.fkv_pending.specs.declared.mailing.MailRecord.{MailRecord}
-use Rattle.fkv_pending.specs.declared.pending_requests.PendingRequest.{PendingRequest}
-use Rattle.fkv_pending.specs.Pending.{with_asked, with_held, with_latch, with_sought}
-use Rattle.fkv_pending.specs.Attempting.{AttemptState, attempt_begun, attempt_ended, attempt_next, attempting_next, goes_on, held_kept, held_of, is_poll, is_seeking_read, look_ledto, mail_moved, moved_on, new_attempt, put_ledto, puts, puts_addr, read_on, tried, tries, try_ledto, try_moved, waits_for_disk}
-use Rattle.fkv_pending.proofs.Shown.{AttemptRestsOrAsks, attempt_begun_rests, attempt_rests}
-use Rattle.fkv_session.specs.Sessions.{Seat, bits_of, room_of}
-use Rattle.fkv_session.specs.Shares.{HasItsBuckets}
-use Rattle.fkv_session.proofs.Shown.{trial_at}
+use Rattle.law_refine.specs.Below.fkv_ops.DiskRecord.{DiskRecord}
+use Rattle.law_refine.specs.Below.fkv_ops.Reason.TheVariants as reason
+use Rattle.law_refine.specs.Below.fkv_ops.TryAnswer.{TryAnswer}
+use Rattle.law_refine.specs.Below.fkv_ops.TryAnswer.TheVariants as answer
+use Rattle.law_refine.specs.Below.fkv_ops.HeaderSaid.{HeaderSaid}
+use Rattle.law_refine.specs.Below.fkv_ops.HeaderSaid.TheVariants.{Says, Spoiled}
+use Rattle.law_refine.specs.Below.fkv_ops.HeldRecord.{HeldRecord}
+use Rattle.law_refine.specs.Below.fkv_ops.Occasion.{Occasion}
+use Rattle.law_refine.specs.Below.fkv_ops.Request.{Request}
+use Rattle.law_refine.specs.Below.fkv_ops.Seen.{Seen}
+use Rattle.law_refine.specs.Below.fkv_ops.HeaderWords.{header_said}
+use Rattle.law_refine.specs.Below.fkv_ops.Requests.{is_read}
+use Rattle.law_refine.specs.Below.fkv_ops.Trying.{is_prepare, is_wait, told_value, try_ask}
+use Rattle.law_refine.specs.Below.fkv_ops.Values.{value_of}
+use Rattle.law_refine.proofs.Below.fkv_ops.Shown.{IsTrying, begun_trying, ended_keeps, next_trying}
+use Rattle.law_refine.specs.Below.fkv_pending.TheAttempting.{Attempting}
+use Rattle.law_refine.specs.Below.fkv_pending.TheAttempting.TheVariants.{Ended, Looks, Puts, Tries}
+use Rattle.law_refine.specs.Below.fkv_pending.MailAnswer.{MailAnswer}
+use Rattle.law_refine.specs.Below.fkv_pending.MailAnswer.TheVariants as mail
+use Rattle.law_refine.specs.Below.fkv_pending.MailRecord.{MailRecord}
+use Rattle.law_refine.specs.Below.fkv_pending.PendingRequest.{PendingRequest}
+use Rattle.law_refine.specs.Below.fkv_pending.Pending.{with_asked, with_held, with_latch, with_sought}
+use Rattle.law_refine.specs.Below.fkv_pending.Attempting.{AttemptState, attempt_begun, attempt_ended, attempt_next, attempting_next, goes_on, held_kept, held_of, is_poll, is_seeking_read, look_ledto, mail_moved, moved_on, new_attempt, put_ledto, puts, puts_addr, read_on, tried, tries, try_ledto, try_moved, waits_for_disk}
+use Rattle.law_refine.proofs.Below.fkv_pending.Shown.{AttemptRestsOrAsks, attempt_begun_rests, attempt_rests}
+use Rattle.law_refine.specs.Below.fkv_session.Sessions.{Seat, bits_of, room_of}
+use Rattle.law_refine.specs.Below.fkv_session.Shares.{HasItsBuckets}
+use Rattle.law_refine.proofs.Below.fkv_session.Shown.{trial_at}
 use Rattle.law_commit.specs.Shares.Since.{HasPrepared}
 
 -- What is known of a request: it is of no later version than its session's. It shares its latch only from prepare of its version on, or since T. And it does if C.

@@ -7,20 +7,20 @@ use Rattle.fkv_latch.specs.declared.latching.LatchAnswer.TheVariants.{Taken}
 use Rattle.fkv_latch.specs.Latching.{latch_next, latch_next_ask}
 use Rattle.fkv_epoch.specs.declared.refreshing.RefreshAnswer.{RefreshAnswer}
 use Rattle.fkv_epoch.specs.Refreshing.{refresh_ask, refresh_finish, refresh_next}
-use Rattle.fkv_ops.specs.Trying.{is_prepare}
-use Rattle.fkv_pending.specs.declared.pending_requests.PendingRequest.{PendingRequest}
-use Rattle.fkv_pending.specs.Pending.{is_unlatched}
+use Rattle.law_refine.specs.Below.fkv_ops.Trying.{is_prepare}
+use Rattle.law_refine.specs.Below.fkv_pending.PendingRequest.{PendingRequest}
+use Rattle.law_refine.specs.Below.fkv_pending.Pending.{is_unlatched}
 use Rattle.fkv_plane.specs.declared.asks.Ask.{Ask}
 use Rattle.fkv_plane.specs.declared.asks.Ask.TheVariants.{Done}
 use Rattle.fkv_plane.specs.declared.places.Places.{Places}
-use Rattle.fkv_session.specs.declared.catching_up.Catching.{Catching}
-use Rattle.fkv_session.specs.declared.catching_up.Catching.TheVariants.{Ended, Finishes, Latches, Protects, Refreshes, StoresCut, StoresOwing}
-use Rattle.fkv_session.specs.declared.sessions.Sitting.{Sitting}
-use Rattle.fkv_session.specs.declared.sessions.Sitting.TheVariants.{CatchesUp}
-use Rattle.fkv_session.specs.CatchingUp.{CatchState, catch_next, catch_requests, catching_next, catching_requests, finish_ledto, finishes, latch_begun, latch_ledto, latch_marked, latch_wanted, latched, latches}
-use Rattle.fkv_session.specs.Sessions.{Seat, SessionState, session_next}
-use Rattle.law_local.specs.Sessions.Moves.{requests_at}
-use Rattle.law_local.proofs.OfSessions.Moves.{next_requests}
+use Rattle.law_refine.specs.Below.fkv_session.Catching.{Catching}
+use Rattle.law_refine.specs.Below.fkv_session.Catching.TheVariants.{Ended, Finishes, Latches, Protects, Refreshes, StoresCut, StoresOwing}
+use Rattle.law_refine.specs.Below.fkv_session.Sitting.{Sitting}
+use Rattle.law_refine.specs.Below.fkv_session.Sitting.TheVariants.{CatchesUp}
+use Rattle.law_refine.specs.Below.fkv_session.CatchingUp.{CatchState, catch_next, catch_requests, catching_next, catching_requests, finish_ledto, finishes, latch_begun, latch_ledto, latch_marked, latch_wanted, latched, latches}
+use Rattle.law_refine.specs.Below.fkv_session.Sessions.{Seat, SessionState, session_next}
+use Rattle.law_refine.specs.Below.law_local.Sessions.Moves.{requests_at}
+use Rattle.law_refine.proofs.Below.law_local.OfSessions.Moves.{next_requests}
 
 -- it has loaded prepare, and takes it up
 abbrev pub TakesPrepare : CatchState → Catching → Type 0

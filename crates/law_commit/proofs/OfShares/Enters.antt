@@ -19,14 +19,14 @@ use Rattle.fkv_latch.specs.Latching.{is_exclusive, latch_ask, latch_next, latch_
 use Rattle.fkv_latch.specs.LatchWorld.{has_latch}
 use Rattle.fkv_index.specs.Slots.{home_of}
 use Rattle.fkv_map.specs.Keys.{key_of}
-use Rattle.fkv_ops.specs.declared.requests.Seen.{Seen}
-use Rattle.fkv_pending.specs.declared.pending_requests.PendingRequest.{PendingRequest}
-use Rattle.fkv_pending.specs.Pending.{is_unlatched}
+use Rattle.law_refine.specs.Below.fkv_ops.Seen.{Seen}
+use Rattle.law_refine.specs.Below.fkv_pending.PendingRequest.{PendingRequest}
+use Rattle.law_refine.specs.Below.fkv_pending.Pending.{is_unlatched}
 use Rattle.fkv_words.specs.PhaseWords.{phase_said}
-use Rattle.fkv_session.specs.declared.catching_up.Catching.{Catching}
-use Rattle.fkv_session.specs.declared.catching_up.Catching.TheVariants.{Ended, Refreshes, Protects, StoresCut, StoresOwing, Latches, Finishes}
-use Rattle.fkv_session.specs.CatchingUp.{CatchState, catch_requests, catch_next, catching_next, catching_requests, cuts, enters_prepare, finish_ledto, finishes, is_same_version, latch_begun, latch_ledto, latch_marked, latch_wanted, latched, latches, protect_ledto, refresh_ledto, seen_after, takes_up}
-use Rattle.fkv_session.specs.Sessions.{Seat, bits_of}
+use Rattle.law_refine.specs.Below.fkv_session.Catching.{Catching}
+use Rattle.law_refine.specs.Below.fkv_session.Catching.TheVariants.{Ended, Refreshes, Protects, StoresCut, StoresOwing, Latches, Finishes}
+use Rattle.law_refine.specs.Below.fkv_session.CatchingUp.{CatchState, catch_requests, catch_next, catching_next, catching_requests, cuts, enters_prepare, finish_ledto, finishes, is_same_version, latch_begun, latch_ledto, latch_marked, latch_wanted, latched, latches, protect_ledto, refresh_ledto, seen_after, takes_up}
+use Rattle.law_refine.specs.Below.fkv_session.Sessions.{Seat, bits_of}
 
 -- it adds to the word of a latch
 abbrev pub IsSharing : Places → Latching → Type 0

@@ -2,24 +2,24 @@
 use Rattle.std.proofs.Common.{◌≡◌, ◌⊎◌, inl, inr, ℕ, ◌+◌, ◌*◌, ◌<◌, ◌≤◌, List, [], ◌∷◌, ◌++◌, refl, arith, ap, sym, subst, Bool, true, false}
 use Rattle.std.specs.Prelude.{⊤}
 use Rattle.fkv_base.specs.declared.numbers.Version.{Version}
-use Rattle.fkv_ops.specs.declared.requests.Seen.{Seen}
-use Rattle.fkv_pending.specs.declared.pending_requests.PendingRequest.{PendingRequest}
+use Rattle.law_refine.specs.Below.fkv_ops.Seen.{Seen}
+use Rattle.law_refine.specs.Below.fkv_pending.PendingRequest.{PendingRequest}
 use Rattle.fkv_plane.specs.declared.actions.Action.{Action}
 use Rattle.fkv_plane.specs.declared.places.Places.{Places}
-use Rattle.fkv_session.specs.declared.catching_up.Catching.{Catching}
-use Rattle.fkv_session.specs.declared.catching_up.Catching.TheVariants.{Latches}
-use Rattle.fkv_session.specs.declared.sessions.CatchCause.{CatchCause}
-use Rattle.fkv_session.specs.declared.sessions.Sitting.{Sitting}
-use Rattle.fkv_session.specs.declared.sessions.Sitting.TheVariants.{CatchesUp}
-use Rattle.fkv_session.specs.Asleep.{IsStepAsleep}
-use Rattle.fkv_session.specs.CatchingUp.{CatchState}
-use Rattle.fkv_session.specs.SessionRun.{Begins, Gets, Replies, SessionEvent, session_happens, session_run}
-use Rattle.fkv_session.specs.Sessions.{IsOpened, Seat, SessionState, asks_after, is_busy, is_word_ask, session_ask}
-use Rattle.fkv_session.specs.Shares.{HasItsBuckets}
-use Rattle.fkv_session.specs.Versions.{IsVersion}
-use Rattle.fkv_session.proofs.Shown.{run_asleep, run_version}
-use Rattle.fkv_world.proofs.Shown.{session_runs_on}
-use Rattle.law_local.proofs.OfSessions.Known.{opened_known}
+use Rattle.law_refine.specs.Below.fkv_session.Catching.{Catching}
+use Rattle.law_refine.specs.Below.fkv_session.Catching.TheVariants.{Latches}
+use Rattle.law_refine.specs.Below.fkv_session.CatchCause.{CatchCause}
+use Rattle.law_refine.specs.Below.fkv_session.Sitting.{Sitting}
+use Rattle.law_refine.specs.Below.fkv_session.Sitting.TheVariants.{CatchesUp}
+use Rattle.law_refine.specs.Below.fkv_session.Asleep.{IsStepAsleep}
+use Rattle.law_refine.specs.Below.fkv_session.CatchingUp.{CatchState}
+use Rattle.law_refine.specs.Below.fkv_session.SessionRun.{Begins, Gets, Replies, SessionEvent, session_happens, session_run}
+use Rattle.law_refine.specs.Below.fkv_session.Sessions.{IsOpened, Seat, SessionState, asks_after, is_busy, is_word_ask, session_ask}
+use Rattle.law_refine.specs.Below.fkv_session.Shares.{HasItsBuckets}
+use Rattle.law_refine.specs.Below.fkv_session.Versions.{IsVersion}
+use Rattle.law_refine.proofs.Below.fkv_session.Shown.{run_asleep, run_version}
+use Rattle.law_refine.proofs.Below.fkv_world.Shown.{session_runs_on}
+use Rattle.law_refine.proofs.Below.law_local.OfSessions.Known.{opened_known}
 use Rattle.law_commit.specs.Floor.Stands.{stage_number}
 use Rattle.law_commit.specs.Phases.Staged.{Stage}
 use Rattle.law_commit.specs.Shares.Waiting.{has_shifted, shifts_by}

@@ -15,11 +15,11 @@ use Rattle.fkv_latch.specs.declared.latching.LatchTask.{LatchTask}
 use Rattle.fkv_latch.specs.Latched.{AreCounted, bits_of, opening, set_bits}
 use Rattle.fkv_latch.specs.Latching.{is_exclusive}
 use Rattle.fkv_latch.specs.LatchWorld.{Begins, Changes, LatchActor, LatchEvent, LatchWorld, Moves, begun, begun_by, has_latch, is_barred, latch_happens, latch_run, may_begin, moved, times}
-use Rattle.fkv_session.specs.Sessions.{SessionState}
-use Rattle.fkv_world.specs.Opened.{HasBecome, IsOpenedWorld}
-use Rattle.fkv_world.specs.Runs.{World, run}
-use Rattle.fkv_world.specs.World.{Event}
-use Rattle.fkv_world.proofs.Shown.{session_runs}
+use Rattle.law_refine.specs.Below.fkv_session.Sessions.{SessionState}
+use Rattle.law_refine.specs.Below.fkv_world.Opened.{HasBecome, IsOpenedWorld}
+use Rattle.law_refine.specs.Below.fkv_world.Runs.{World, run}
+use Rattle.law_refine.specs.Below.fkv_world.World.{Event}
+use Rattle.law_refine.proofs.Below.fkv_world.Shown.{session_runs}
 use Rattle.law_refine.specs.Latches.LatchEvents.{mapped}
 use Rattle.law_refine.specs.Latches.Latchers.{session_alone, session_latching}
 use Rattle.law_refine.specs.Latches.Shows.{Shows, seen_by_latches}

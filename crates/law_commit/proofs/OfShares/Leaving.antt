@@ -4,11 +4,11 @@ use Rattle.std.specs.Prelude.{Option, Some, None}
 use Rattle.fkv_base.specs.declared.numbers.Version.{Version}
 use Rattle.fkv_base.specs.declared.phases.Phase.{Phase}
 use Rattle.fkv_base.specs.declared.phases.Phase.TheVariants.{Rest, Prepare, InProgress, WaitPending, WaitFlush}
-use Rattle.fkv_ops.specs.Trying.{is_prepare}
-use Rattle.fkv_session.specs.declared.catching_up.Catching.{Catching}
-use Rattle.fkv_session.specs.declared.catching_up.Catching.TheVariants as catching
-use Rattle.fkv_session.specs.declared.sessions.Sitting.{Sitting}
-use Rattle.fkv_session.specs.CatchingUp.{CatchState}
+use Rattle.law_refine.specs.Below.fkv_ops.Trying.{is_prepare}
+use Rattle.law_refine.specs.Below.fkv_session.Catching.{Catching}
+use Rattle.law_refine.specs.Below.fkv_session.Catching.TheVariants as catching
+use Rattle.law_refine.specs.Below.fkv_session.Sitting.{Sitting}
+use Rattle.law_refine.specs.Below.fkv_session.CatchingUp.{CatchState}
 use Rattle.law_paper.specs.Phases as paper
 use Rattle.law_commit.specs.Floor.Stands.{HasFloor, PaperHasFloor, PaperIsSound, stage_number}
 use Rattle.law_commit.specs.Phases.Projected.{is_coming, paper_view}

@@ -2,22 +2,22 @@
 use Rattle.std.proofs.Common.{◌≡◌, sym, subst, true, false}
 use Rattle.fkv_base.specs.declared.phases.Phase.{Phase}
 use Rattle.fkv_base.specs.declared.phases.Phase.TheVariants.{Rest}
-use Rattle.fkv_ops.specs.Trying.{is_prepare}
+use Rattle.law_refine.specs.Below.fkv_ops.Trying.{is_prepare}
 use Rattle.fkv_plane.specs.declared.asks.Ask.TheVariants.{Add}
-use Rattle.fkv_session.specs.declared.catching_up.Catching.{Catching}
-use Rattle.fkv_session.specs.declared.catching_up.Catching.TheVariants.{Ended, Finishes, Latches, Protects, Refreshes, StoresCut, StoresOwing}
-use Rattle.fkv_session.specs.declared.sessions.CatchCause.{CatchCause}
-use Rattle.fkv_session.specs.declared.sessions.Sitting.{Sitting}
-use Rattle.fkv_session.specs.declared.sessions.Sitting.TheVariants.{Idle, Attempts, CatchesUp, ClearsMail, Polls, StoresOwing as StoresOwingAt, Turns, StoresCut as StoresCutAt, Leaves, LoadsDurable}
-use Rattle.fkv_session.specs.CatchingUp.{CatchState}
-use Rattle.fkv_session.specs.SessionRun.{session_run}
-use Rattle.fkv_session.specs.Sessions.{SessionState, Seat, is_busy, session_ask}
-use Rattle.fkv_session.specs.Shares.{HasItsBuckets}
-use Rattle.fkv_session.proofs.Shown.{StepLatched}
-use Rattle.fkv_world.specs.OwnEvents.{session_events}
-use Rattle.fkv_world.specs.World.{seat_at}
-use Rattle.fkv_world.proofs.Shown.{same_seat}
-use Rattle.law_world.proofs.OfSessions.OwnRun.{of_run, opened_so}
+use Rattle.law_refine.specs.Below.fkv_session.Catching.{Catching}
+use Rattle.law_refine.specs.Below.fkv_session.Catching.TheVariants.{Ended, Finishes, Latches, Protects, Refreshes, StoresCut, StoresOwing}
+use Rattle.law_refine.specs.Below.fkv_session.CatchCause.{CatchCause}
+use Rattle.law_refine.specs.Below.fkv_session.Sitting.{Sitting}
+use Rattle.law_refine.specs.Below.fkv_session.Sitting.TheVariants.{Idle, Attempts, CatchesUp, ClearsMail, Polls, StoresOwing as StoresOwingAt, Turns, StoresCut as StoresCutAt, Leaves, LoadsDurable}
+use Rattle.law_refine.specs.Below.fkv_session.CatchingUp.{CatchState}
+use Rattle.law_refine.specs.Below.fkv_session.SessionRun.{session_run}
+use Rattle.law_refine.specs.Below.fkv_session.Sessions.{SessionState, Seat, is_busy, session_ask}
+use Rattle.law_refine.specs.Below.fkv_session.Shares.{HasItsBuckets}
+use Rattle.law_refine.proofs.Below.fkv_session.Shown.{StepLatched}
+use Rattle.law_refine.specs.Below.fkv_world.OwnEvents.{session_events}
+use Rattle.law_refine.specs.Below.fkv_world.World.{seat_at}
+use Rattle.law_refine.proofs.Below.fkv_world.Shown.{same_seat}
+use Rattle.law_refine.proofs.Below.law_world.OfSessions.OwnRun.{of_run, opened_so}
 use Rattle.law_commit.specs.Floor.Stands.{PaperHasFloor, PaperIsSound}
 use Rattle.law_commit.specs.Shares.Waiting.{ShareCatching, ShareSitting, SharesInPrepare}
 use Rattle.law_commit.proofs.OfShares.Alone.{CountsLatches, ShowsLatches, meets_none}

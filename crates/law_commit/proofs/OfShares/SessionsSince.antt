@@ -3,32 +3,32 @@ use Rattle.std.proofs.Common.{◌≡◌, ◌⊎◌, inl, inr, ℕ, zero, suc, �
 use Rattle.std.specs.Prelude.{⊤, Some, None, nat_lt, slice_get}
 use Rattle.std.proofs.lemmas.Bool.Decides.{nat_tests}
 use Rattle.fkv_map.specs.declared.operations.Call.{Call}
-use Rattle.fkv_ops.specs.declared.answers.TryAnswer.{TryAnswer}
-use Rattle.fkv_ops.specs.declared.answers.TryAnswer.TheVariants as tried
-use Rattle.fkv_ops.specs.declared.requests.Occasion.TheVariants.{Call as AtCall, Poll as AtPoll}
-use Rattle.fkv_ops.specs.declared.requests.Seen.{Seen}
-use Rattle.fkv_ops.specs.Requests.{is_read}
-use Rattle.fkv_ops.specs.Trying.{is_prepare, is_wait}
-use Rattle.fkv_pending.specs.declared.pending_requests.PendingRequest.{PendingRequest}
-use Rattle.fkv_pending.specs.declared.attempting.Attempting.{Attempting}
-use Rattle.fkv_pending.specs.Attempting.{attempt_begun}
-use Rattle.fkv_pending.specs.Pending.{with_latch}
+use Rattle.law_refine.specs.Below.fkv_ops.TryAnswer.{TryAnswer}
+use Rattle.law_refine.specs.Below.fkv_ops.TryAnswer.TheVariants as tried
+use Rattle.law_refine.specs.Below.fkv_ops.Occasion.TheVariants.{Call as AtCall, Poll as AtPoll}
+use Rattle.law_refine.specs.Below.fkv_ops.Seen.{Seen}
+use Rattle.law_refine.specs.Below.fkv_ops.Requests.{is_read}
+use Rattle.law_refine.specs.Below.fkv_ops.Trying.{is_prepare, is_wait}
+use Rattle.law_refine.specs.Below.fkv_pending.PendingRequest.{PendingRequest}
+use Rattle.law_refine.specs.Below.fkv_pending.TheAttempting.{Attempting}
+use Rattle.law_refine.specs.Below.fkv_pending.Attempting.{attempt_begun}
+use Rattle.law_refine.specs.Below.fkv_pending.Pending.{with_latch}
 use Rattle.fkv_plane.specs.declared.actions.Action.{Action}
 use Rattle.fkv_plane.specs.declared.asks.Ask.{Ask}
 use Rattle.fkv_plane.specs.declared.asks.Ask.TheVariants.{Done}
-use Rattle.fkv_session.specs.declared.catching_up.Catching.{Catching}
-use Rattle.fkv_session.specs.declared.catching_up.Catching.TheVariants.{Ended, Finishes, Latches, Protects, Refreshes as LoadsAll, StoresCut as StoresCutWord, StoresOwing as StoresOwingWord}
-use Rattle.fkv_session.specs.declared.sessions.CatchCause.{CatchCause}
-use Rattle.fkv_session.specs.declared.sessions.CatchCause.TheVariants.{Refreshes, Shifts, Wakes}
-use Rattle.fkv_session.specs.declared.sessions.Sitting.{Sitting}
-use Rattle.fkv_session.specs.declared.sessions.Sitting.TheVariants.{Attempts, CatchesUp, ClearsMail, Idle, Leaves, LoadsDurable, Polls, StoresCut, StoresOwing, Turns}
-use Rattle.fkv_session.specs.SessionRun.{Begins, Gets, Replies, SessionEvent, begins, session_happens}
-use Rattle.fkv_session.specs.Sessions.{Seat, SessionState, asks_after, attempts, bits_of, catch_ledto, caught, is_busy, is_finished, is_word_ask, request_in_hand, session_ask, session_begun, session_given, session_next, sitting_given, sitting_next}
-use Rattle.fkv_session.specs.Shares.{AllUpdatesShare, HasItsBuckets, is_shift}
-use Rattle.fkv_session.specs.Versions.{IsVersion}
-use Rattle.fkv_session.proofs.Shown.{StepLatched, attempt_ends}
-use Rattle.law_local.specs.Sessions.Known.{KnowsRequests, attempt_after, attempt_comes_to, catch_after, caught_up_at, is_accepted, is_attempting, is_polling, with_op}
-use Rattle.law_local.proofs.OfSessions.Known.{begun_known, given_known, next_known, stays_known}
+use Rattle.law_refine.specs.Below.fkv_session.Catching.{Catching}
+use Rattle.law_refine.specs.Below.fkv_session.Catching.TheVariants.{Ended, Finishes, Latches, Protects, Refreshes as LoadsAll, StoresCut as StoresCutWord, StoresOwing as StoresOwingWord}
+use Rattle.law_refine.specs.Below.fkv_session.CatchCause.{CatchCause}
+use Rattle.law_refine.specs.Below.fkv_session.CatchCause.TheVariants.{Refreshes, Shifts, Wakes}
+use Rattle.law_refine.specs.Below.fkv_session.Sitting.{Sitting}
+use Rattle.law_refine.specs.Below.fkv_session.Sitting.TheVariants.{Attempts, CatchesUp, ClearsMail, Idle, Leaves, LoadsDurable, Polls, StoresCut, StoresOwing, Turns}
+use Rattle.law_refine.specs.Below.fkv_session.SessionRun.{Begins, Gets, Replies, SessionEvent, begins, session_happens}
+use Rattle.law_refine.specs.Below.fkv_session.Sessions.{Seat, SessionState, asks_after, attempts, bits_of, catch_ledto, caught, is_busy, is_finished, is_word_ask, request_in_hand, session_ask, session_begun, session_given, session_next, sitting_given, sitting_next}
+use Rattle.law_refine.specs.Below.fkv_session.Shares.{AllUpdatesShare, HasItsBuckets, is_shift}
+use Rattle.law_refine.specs.Below.fkv_session.Versions.{IsVersion}
+use Rattle.law_refine.proofs.Below.fkv_session.Shown.{StepLatched, attempt_ends}
+use Rattle.law_refine.specs.Below.law_local.Sessions.Known.{KnowsRequests, attempt_after, attempt_comes_to, catch_after, caught_up_at, is_accepted, is_attempting, is_polling, with_op}
+use Rattle.law_refine.proofs.Below.law_local.OfSessions.Known.{begun_known, given_known, next_known, stays_known}
 use Rattle.law_commit.specs.Shares.Since.{HasPrepared}
 use Rattle.law_commit.specs.Shares.Waiting.{is_shifted, shifts_at, shifts_by}
 use Rattle.law_commit.proofs.Goes.{call_calm, given_on, moves_on}

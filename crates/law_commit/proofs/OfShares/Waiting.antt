@@ -7,22 +7,22 @@ use Rattle.fkv_plane.specs.declared.asks.Ask.TheVariants.{Load, Store, Swap, Cas
 use Rattle.fkv_plane.specs.Asked.{reply_to, word_at}
 use Rattle.fkv_plane.specs.Plane.{action_at}
 use Rattle.fkv_latch.specs.Latching.{is_exclusive}
-use Rattle.fkv_ops.specs.declared.answers.TryAnswer.{TryAnswer}
-use Rattle.fkv_ops.specs.declared.answers.TryAnswer.TheVariants as tried
-use Rattle.fkv_session.specs.declared.answers.Told.{Told}
-use Rattle.fkv_session.specs.declared.sessions.Sitting.{Sitting}
-use Rattle.fkv_session.specs.declared.sessions.Sitting.TheVariants.{Idle, Attempts, CatchesUp, ClearsMail, Polls, StoresOwing, Turns, StoresCut, Leaves, LoadsDurable}
-use Rattle.fkv_session.specs.SessionRun.{SessionEvent, Begins, Replies, Gets, session_happens, session_run}
-use Rattle.fkv_session.specs.Sessions.{SessionState, Seat, attempt_ledto, attempt_moved, asks_after, is_word_ask, session_ask, session_next, sitting_next}
-use Rattle.fkv_session.specs.Shares.{HasItsBuckets, attempt_told, has_missed, is_shift, meets_exclusive, misses, misses_at}
-use Rattle.fkv_session.proofs.Shown.{StepLatched, run_latched}
-use Rattle.fkv_world.specs.Actors.{is_of_session}
-use Rattle.fkv_world.specs.Moves.{Near}
-use Rattle.fkv_world.specs.OwnEvents.{session_events, session_got, session_part, session_part_found, session_part_of, session_slots, session_steps}
-use Rattle.fkv_world.specs.Runs.{World, run}
-use Rattle.fkv_world.specs.World as world
-use Rattle.fkv_world.specs.World.{Event, Calls, Moves, Commits, KeeperMoves, Crashes, Now, near, seat_at}
-use Rattle.fkv_world.proofs.Shown.{same_seat, session_runs, session_runs_on}
+use Rattle.law_refine.specs.Below.fkv_ops.TryAnswer.{TryAnswer}
+use Rattle.law_refine.specs.Below.fkv_ops.TryAnswer.TheVariants as tried
+use Rattle.law_refine.specs.Below.fkv_session.Told.{Told}
+use Rattle.law_refine.specs.Below.fkv_session.Sitting.{Sitting}
+use Rattle.law_refine.specs.Below.fkv_session.Sitting.TheVariants.{Idle, Attempts, CatchesUp, ClearsMail, Polls, StoresOwing, Turns, StoresCut, Leaves, LoadsDurable}
+use Rattle.law_refine.specs.Below.fkv_session.SessionRun.{SessionEvent, Begins, Replies, Gets, session_happens, session_run}
+use Rattle.law_refine.specs.Below.fkv_session.Sessions.{SessionState, Seat, attempt_ledto, attempt_moved, asks_after, is_word_ask, session_ask, session_next, sitting_next}
+use Rattle.law_refine.specs.Below.fkv_session.Shares.{HasItsBuckets, attempt_told, has_missed, is_shift, meets_exclusive, misses, misses_at}
+use Rattle.law_refine.proofs.Below.fkv_session.Shown.{StepLatched, run_latched}
+use Rattle.law_refine.specs.Below.fkv_world.Actors.{is_of_session}
+use Rattle.law_refine.specs.Below.fkv_world.Moves.{Near}
+use Rattle.law_refine.specs.Below.fkv_world.OwnEvents.{session_events, session_got, session_part, session_part_found, session_part_of, session_slots, session_steps}
+use Rattle.law_refine.specs.Below.fkv_world.Runs.{World, run}
+use Rattle.law_refine.specs.Below.fkv_world.World as world
+use Rattle.law_refine.specs.Below.fkv_world.World.{Event, Calls, Moves, Commits, KeeperMoves, Crashes, Now, near, seat_at}
+use Rattle.law_refine.proofs.Below.fkv_world.Shown.{same_seat, session_runs, session_runs_on}
 use Rattle.law_commit.specs.Shares.Waiting.{has_shifted, is_shifted, shifts_at, shifts_by}
 
 -- ---- no share that is taken with a phase meets bit 63

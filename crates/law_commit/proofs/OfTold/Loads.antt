@@ -10,18 +10,18 @@ use Rattle.fkv_plane.specs.declared.places.SessionWord.TheVariants as own
 use Rattle.fkv_plane.specs.Asked.{reply_to}
 use Rattle.fkv_plane.specs.Places.{session_place}
 use Rattle.fkv_plane.specs.Plane.{action_at}
-use Rattle.fkv_session.specs.declared.answers.Told.{Told}
-use Rattle.fkv_session.specs.declared.answers.Told.TheVariants as told
-use Rattle.fkv_session.specs.declared.sessions.Sitting.{Sitting}
-use Rattle.fkv_session.specs.declared.sessions.Sitting.TheVariants.{Idle, LoadsDurable}
-use Rattle.fkv_session.specs.Sessions.{IsOpened, Seat, SessionState, is_busy, session_ask, session_begun, session_next, sitting_ask}
-use Rattle.fkv_session.specs.SessionRun.{Begins, Gets, Replies, SessionEvent, begins, session_happens, session_run}
-use Rattle.fkv_world.specs.Actors.{is_of_session}
-use Rattle.fkv_world.specs.Moves.{Near}
-use Rattle.fkv_world.specs.OwnEvents.{session_events, session_got, session_part, session_part_found, session_slots, session_steps}
-use Rattle.fkv_world.specs.Runs.{World, run}
-use Rattle.fkv_world.specs.World.{Event, Calls, Commits, Crashes, KeeperMoves, Moves, Now, Turns, near, seat_at}
-use Rattle.fkv_world.proofs.Shown.{same_seat, session_runs}
+use Rattle.law_refine.specs.Below.fkv_session.Told.{Told}
+use Rattle.law_refine.specs.Below.fkv_session.Told.TheVariants as told
+use Rattle.law_refine.specs.Below.fkv_session.Sitting.{Sitting}
+use Rattle.law_refine.specs.Below.fkv_session.Sitting.TheVariants.{Idle, LoadsDurable}
+use Rattle.law_refine.specs.Below.fkv_session.Sessions.{IsOpened, Seat, SessionState, is_busy, session_ask, session_begun, session_next, sitting_ask}
+use Rattle.law_refine.specs.Below.fkv_session.SessionRun.{Begins, Gets, Replies, SessionEvent, begins, session_happens, session_run}
+use Rattle.law_refine.specs.Below.fkv_world.Actors.{is_of_session}
+use Rattle.law_refine.specs.Below.fkv_world.Moves.{Near}
+use Rattle.law_refine.specs.Below.fkv_world.OwnEvents.{session_events, session_got, session_part, session_part_found, session_slots, session_steps}
+use Rattle.law_refine.specs.Below.fkv_world.Runs.{World, run}
+use Rattle.law_refine.specs.Below.fkv_world.World.{Event, Calls, Commits, Crashes, KeeperMoves, Moves, Now, Turns, near, seat_at}
+use Rattle.law_refine.proofs.Below.fkv_world.Shown.{same_seat, session_runs}
 use Rattle.law_commit.proofs.OfTold.Other.{begun_other, idle_busy, not_other, run_load}
 
 -- it loads its durable word, and tells it

@@ -7,27 +7,27 @@ use Rattle.fkv_epoch.proofs.Shown.{some_same}
 use Rattle.fkv_map.specs.declared.operations.Call.{Call}
 use Rattle.fkv_plane.specs.declared.places.SessionWord.TheVariants as own
 use Rattle.fkv_plane.specs.Places.{session_place}
-use Rattle.fkv_keeper.specs.declared.keepers.Keeping.{Keeping}
-use Rattle.fkv_keeper.specs.declared.keepers.Keeping.TheVariants.{Ended}
-use Rattle.fkv_keeper.specs.Keeping.{Finality}
-use Rattle.fkv_keeper.specs.KeeperRun.{is_in_hand}
-use Rattle.fkv_session.specs.declared.answers.Finished.{Finished}
-use Rattle.fkv_session.specs.declared.answers.Told.{Told}
-use Rattle.fkv_session.specs.declared.answers.Told.TheVariants as told
-use Rattle.fkv_session.specs.declared.sessions.Sitting.{Sitting}
-use Rattle.fkv_session.specs.declared.sessions.Sitting.TheVariants.{Idle}
-use Rattle.fkv_session.specs.Sessions.{SessionState, is_busy}
-use Rattle.fkv_session.specs.SessionRun.{session_run, telling}
-use Rattle.fkv_world.specs.Actors.{is_of_session}
-use Rattle.fkv_world.specs.Opened.{IsOpenedWorld}
-use Rattle.fkv_world.specs.OwnEvents.{session_events}
-use Rattle.fkv_world.specs.Past.{Answered, Called, CommitAsked, KeeperAnswered, TraceEvent, Traced, TurnAsked}
-use Rattle.fkv_world.specs.Runs.{World, run}
-use Rattle.fkv_world.specs.World.{Event, Calls, Commits, Crashes, KeeperMoves, Moves, Now, Turns, seat_at}
-use Rattle.fkv_world.proofs.Shown.{session_runs}
+use Rattle.law_refine.specs.Below.fkv_keeper.TheKeeping.{Keeping}
+use Rattle.law_refine.specs.Below.fkv_keeper.TheKeeping.TheVariants.{Ended}
+use Rattle.law_refine.specs.Below.fkv_keeper.Keeping.{Finality}
+use Rattle.law_refine.specs.Below.fkv_keeper.KeeperRun.{is_in_hand}
+use Rattle.law_refine.specs.Below.fkv_session.Finished.{Finished}
+use Rattle.law_refine.specs.Below.fkv_session.Told.{Told}
+use Rattle.law_refine.specs.Below.fkv_session.Told.TheVariants as told
+use Rattle.law_refine.specs.Below.fkv_session.Sitting.{Sitting}
+use Rattle.law_refine.specs.Below.fkv_session.Sitting.TheVariants.{Idle}
+use Rattle.law_refine.specs.Below.fkv_session.Sessions.{SessionState, is_busy}
+use Rattle.law_refine.specs.Below.fkv_session.SessionRun.{session_run, telling}
+use Rattle.law_refine.specs.Below.fkv_world.Actors.{is_of_session}
+use Rattle.law_refine.specs.Below.fkv_world.Opened.{IsOpenedWorld}
+use Rattle.law_refine.specs.Below.fkv_world.OwnEvents.{session_events}
+use Rattle.law_refine.specs.Below.fkv_world.Past.{Answered, Called, CommitAsked, KeeperAnswered, TraceEvent, Traced, TurnAsked}
+use Rattle.law_refine.specs.Below.fkv_world.Runs.{World, run}
+use Rattle.law_refine.specs.Below.fkv_world.World.{Event, Calls, Commits, Crashes, KeeperMoves, Moves, Now, Turns, seat_at}
+use Rattle.law_refine.proofs.Below.fkv_world.Shown.{session_runs}
 use Rattle.law_log.specs.Trace.{IsIn}
-use Rattle.law_world.specs.Runs.Added.{begun_by, call_answered, call_begun, ended_by, is_calling, keeper_told, session_answered, told_at, told_by}
-use Rattle.law_world.proofs.OfRuns.Added.{trace_so}
+use Rattle.law_refine.specs.Below.law_world.Runs.Added.{begun_by, call_answered, call_begun, ended_by, is_calling, keeper_told, session_answered, told_at, told_by}
+use Rattle.law_refine.proofs.Below.law_world.OfRuns.Added.{trace_so}
 use Rattle.law_commit.specs.Cuts.{word_now}
 use Rattle.law_commit.specs.ToldPoints.{ToldPoint, finishes_at_call, points_told, with_durable, with_point}
 use Rattle.law_commit.proofs.OfPoints.Asked.{absent_now}

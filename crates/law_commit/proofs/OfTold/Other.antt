@@ -5,14 +5,14 @@ use Rattle.fkv_base.specs.declared.numbers.Serial.{Serial}
 use Rattle.fkv_map.specs.declared.operations.Call.{Call}
 use Rattle.fkv_plane.specs.declared.actions.Action.{Action}
 use Rattle.fkv_epoch.specs.Leaving.{leave_next}
-use Rattle.fkv_pending.specs.Mailing.{mail_next}
-use Rattle.fkv_session.specs.declared.answers.Told.{Told}
-use Rattle.fkv_session.specs.declared.answers.Told.TheVariants as told
-use Rattle.fkv_session.specs.declared.sessions.Sitting.{Sitting}
-use Rattle.fkv_session.specs.declared.sessions.Sitting.TheVariants.{Idle, Attempts, CatchesUp, ClearsMail, Polls, StoresOwing, Turns, StoresCut, Leaves, LoadsDurable}
-use Rattle.fkv_session.specs.OwnTurns.{own_turn_given}
-use Rattle.fkv_session.specs.Sessions.{IsOpened, SessionState, Seat, asks_after, attempt_moved, attempts, caught, is_busy, is_word_ask, own_turn_moved, session_ask, session_begun, shifts, sitting_given, sitting_next}
-use Rattle.fkv_session.specs.SessionRun.{Begins, Gets, Replies, SessionEvent, begins, session_happens, session_run}
+use Rattle.law_refine.specs.Below.fkv_pending.Mailing.{mail_next}
+use Rattle.law_refine.specs.Below.fkv_session.Told.{Told}
+use Rattle.law_refine.specs.Below.fkv_session.Told.TheVariants as told
+use Rattle.law_refine.specs.Below.fkv_session.Sitting.{Sitting}
+use Rattle.law_refine.specs.Below.fkv_session.Sitting.TheVariants.{Idle, Attempts, CatchesUp, ClearsMail, Polls, StoresOwing, Turns, StoresCut, Leaves, LoadsDurable}
+use Rattle.law_refine.specs.Below.fkv_session.OwnTurns.{own_turn_given}
+use Rattle.law_refine.specs.Below.fkv_session.Sessions.{IsOpened, SessionState, Seat, asks_after, attempt_moved, attempts, caught, is_busy, is_word_ask, own_turn_moved, session_ask, session_begun, shifts, sitting_given, sitting_next}
+use Rattle.law_refine.specs.Below.fkv_session.SessionRun.{Begins, Gets, Replies, SessionEvent, begins, session_happens, session_run}
 use Rattle.law_commit.proofs.SessionSteps.{HoldsBegun, IsOther, attempt_holds, begun_holds, catch_holds, clear_holds, leave_holds, poll_holds, polls_hold, turned_holds}
 
 -- ---- what isn't told of durable words

@@ -7,31 +7,31 @@ use Rattle.fkv_base.specs.declared.numbers.Version.{Version}
 use Rattle.fkv_map.specs.declared.history.HistoryEntry.{HistoryEntry}
 use Rattle.fkv_map.specs.declared.operations.Op.{Op}
 use Rattle.fkv_map.specs.declared.operations.Reply.{Reply}
-use Rattle.fkv_ops.specs.declared.answers.TryAnswer.{TryAnswer}
-use Rattle.fkv_ops.specs.declared.answers.TryAnswer.TheVariants as tried
-use Rattle.fkv_ops.specs.declared.requests.Seen.{Seen}
-use Rattle.fkv_ops.specs.Requests.{is_read}
-use Rattle.fkv_pending.specs.declared.attempting.Attempting.TheVariants.{Ended}
-use Rattle.fkv_pending.specs.declared.pending_requests.PendingRequest.{PendingRequest}
-use Rattle.fkv_pending.specs.declared.pending_requests.RequestName.{RequestName}
-use Rattle.fkv_pending.specs.declared.pending_requests.RequestName.TheVariants.{Update, Read}
-use Rattle.fkv_pending.specs.Attempting.{AttemptState, attempt_ask, attempt_next}
-use Rattle.fkv_pending.specs.Mailing.{mail_ask, mail_next}
-use Rattle.fkv_pending.proofs.Shown.{AttemptRestsOrAsks, attempt_rests}
+use Rattle.law_refine.specs.Below.fkv_ops.TryAnswer.{TryAnswer}
+use Rattle.law_refine.specs.Below.fkv_ops.TryAnswer.TheVariants as tried
+use Rattle.law_refine.specs.Below.fkv_ops.Seen.{Seen}
+use Rattle.law_refine.specs.Below.fkv_ops.Requests.{is_read}
+use Rattle.law_refine.specs.Below.fkv_pending.TheAttempting.TheVariants.{Ended}
+use Rattle.law_refine.specs.Below.fkv_pending.PendingRequest.{PendingRequest}
+use Rattle.law_refine.specs.Below.fkv_pending.RequestName.{RequestName}
+use Rattle.law_refine.specs.Below.fkv_pending.RequestName.TheVariants.{Update, Read}
+use Rattle.law_refine.specs.Below.fkv_pending.Attempting.{AttemptState, attempt_ask, attempt_next}
+use Rattle.law_refine.specs.Below.fkv_pending.Mailing.{mail_ask, mail_next}
+use Rattle.law_refine.proofs.Below.fkv_pending.Shown.{AttemptRestsOrAsks, attempt_rests}
 use Rattle.fkv_plane.specs.declared.asks.Ask.{Ask}
 use Rattle.fkv_plane.specs.declared.asks.Ask.TheVariants.{Done}
 use Rattle.fkv_epoch.specs.Leaving.{leave_ask, leave_next}
 use Rattle.fkv_epoch.proofs.Shown.{none_some, some_same}
-use Rattle.fkv_session.specs.declared.sessions.Sitting.{Sitting}
-use Rattle.fkv_session.specs.declared.sessions.Sitting.TheVariants.{Idle, Attempts, CatchesUp, ClearsMail, Polls, StoresOwing, Turns, StoresCut, Leaves, LoadsDurable}
-use Rattle.fkv_session.specs.CatchingUp.{catch_ask}
-use Rattle.fkv_session.specs.OwnTurns.{own_turn_ask}
-use Rattle.fkv_session.specs.Replies.{effects_told, op_called, serials_taken}
-use Rattle.fkv_session.specs.Sessions.{IsOpened, Seat, SessionState, asks_after, attempt_ledto, attempt_moved, attempted, attempt_left, bits_of, caught, entry_of, is_busy, is_word_ask, own_turn_moved, room_of, session_ask, session_next, sitting_given, sitting_next, ticket_after}
-use Rattle.fkv_session.specs.SessionRun.{Begins, Gets, Replies, SessionEvent, all_told, begins, session_happens, session_run}
-use Rattle.fkv_session.specs.Versions.{AreAsTaken, IsAsTaken, IsVersion, TakenAt, WasTakenAt, taken_at_after, versions_taken}
-use Rattle.fkv_session.proofs.Shown.{IsTold, attempt_ends, attempt_keeps, attempt_so, made_in, made_of, run_call, run_request, run_taken, run_told, run_version}
-use Rattle.law_world.proofs.OfRuns.EffectStays.{leave_keeps, turn_keeps}
+use Rattle.law_refine.specs.Below.fkv_session.Sitting.{Sitting}
+use Rattle.law_refine.specs.Below.fkv_session.Sitting.TheVariants.{Idle, Attempts, CatchesUp, ClearsMail, Polls, StoresOwing, Turns, StoresCut, Leaves, LoadsDurable}
+use Rattle.law_refine.specs.Below.fkv_session.CatchingUp.{catch_ask}
+use Rattle.law_refine.specs.Below.fkv_session.OwnTurns.{own_turn_ask}
+use Rattle.law_refine.specs.Below.fkv_session.Replies.{effects_told, op_called, serials_taken}
+use Rattle.law_refine.specs.Below.fkv_session.Sessions.{IsOpened, Seat, SessionState, asks_after, attempt_ledto, attempt_moved, attempted, attempt_left, bits_of, caught, entry_of, is_busy, is_word_ask, own_turn_moved, room_of, session_ask, session_next, sitting_given, sitting_next, ticket_after}
+use Rattle.law_refine.specs.Below.fkv_session.SessionRun.{Begins, Gets, Replies, SessionEvent, all_told, begins, session_happens, session_run}
+use Rattle.law_refine.specs.Below.fkv_session.Versions.{AreAsTaken, IsAsTaken, IsVersion, TakenAt, WasTakenAt, taken_at_after, versions_taken}
+use Rattle.law_refine.proofs.Below.fkv_session.Shown.{IsTold, attempt_ends, attempt_keeps, attempt_so, made_in, made_of, run_call, run_request, run_taken, run_told, run_version}
+use Rattle.law_refine.proofs.Below.law_world.OfRuns.EffectStays.{leave_keeps, turn_keeps}
 use Rattle.law_refine.proofs.OfEvents.SessionEffects.{called_keeps, catch_keeps, clear_keeps, polled_keeps, polls_keeps}
 use Rattle.law_commit.specs.Accepted.{HasRisingVersion}
 use Rattle.law_commit.specs.Versions.Effects.{IsTakenAt}

@@ -7,21 +7,21 @@ use Rattle.fkv_map.specs.declared.history.HistoryEntry.{HistoryEntry}
 use Rattle.fkv_plane.specs.declared.asks.Ask.{Ask}
 use Rattle.fkv_plane.specs.declared.asks.Ask.TheVariants.{Load, Store, Swap, Cas, Add, Max, Put, Take, Done}
 use Rattle.fkv_plane.specs.Asked.{reply_to}
-use Rattle.fkv_session.specs.declared.answers.Told.{Told}
-use Rattle.fkv_session.specs.Sessions.{IsOpened, Seat, SessionState, session_ask, session_next}
-use Rattle.fkv_session.specs.SessionRun.{Replies, SessionEvent, session_run}
+use Rattle.law_refine.specs.Below.fkv_session.Told.{Told}
+use Rattle.law_refine.specs.Below.fkv_session.Sessions.{IsOpened, Seat, SessionState, session_ask, session_next}
+use Rattle.law_refine.specs.Below.fkv_session.SessionRun.{Replies, SessionEvent, session_run}
 use Rattle.fkv_epoch.proofs.Shown.{some_same}
-use Rattle.fkv_world.specs.Moves.{Near}
-use Rattle.fkv_world.specs.Opened.{HasBecome, IsOpenedWorld}
-use Rattle.fkv_world.specs.OwnEvents.{session_events, session_part, session_part_of, session_slots, session_steps}
-use Rattle.fkv_world.specs.Past.{Effect, effect_made, history_after}
-use Rattle.fkv_world.specs.Runs.{World, happens, read_by_keeper, run}
-use Rattle.fkv_world.specs.World.{Event, Moves, Now, life_goes, near, seat_at}
-use Rattle.fkv_world.proofs.Shown.{is_over, lived, same_seat, session_runs}
-use Rattle.law_world.specs.Guarded.Shows as guard
+use Rattle.law_refine.specs.Below.fkv_world.Moves.{Near}
+use Rattle.law_refine.specs.Below.fkv_world.Opened.{HasBecome, IsOpenedWorld}
+use Rattle.law_refine.specs.Below.fkv_world.OwnEvents.{session_events, session_part, session_part_of, session_slots, session_steps}
+use Rattle.law_refine.specs.Below.fkv_world.Past.{Effect, effect_made, history_after}
+use Rattle.law_refine.specs.Below.fkv_world.Runs.{World, happens, read_by_keeper, run}
+use Rattle.law_refine.specs.Below.fkv_world.World.{Event, Moves, Now, life_goes, near, seat_at}
+use Rattle.law_refine.proofs.Below.fkv_world.Shown.{is_over, lived, same_seat, session_runs}
+use Rattle.law_refine.specs.Below.law_world.Guarded.Shows as guard
 use Rattle.law_log.specs.Trace.{IsIn}
-use Rattle.law_world.proofs.OfRuns.Added.{added_history, history_added, history_found}
-use Rattle.law_world.proofs.OfSessions.OwnRun.{of_run}
+use Rattle.law_refine.proofs.Below.law_world.OfRuns.Added.{added_history, history_added, history_found}
+use Rattle.law_refine.proofs.Below.law_world.OfSessions.OwnRun.{of_run}
 use Rattle.law_commit.specs.Accepted.{HasRisingVersion}
 use Rattle.law_commit.specs.Phases.Staged.{OpensAtRest}
 use Rattle.law_commit.specs.Versions.Effects.{HasEffectsOfItsVersions, IsNextAt}

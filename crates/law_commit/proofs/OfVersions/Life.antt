@@ -7,18 +7,18 @@ use Rattle.fkv_plane.specs.Places.{shared_place}
 use Rattle.fkv_words.specs.declared.phase_words.PhaseSaid.{PhaseSaid}
 use Rattle.fkv_words.specs.declared.phase_words.PhaseSaid.TheVariants.{Says, Spoiled}
 use Rattle.fkv_words.specs.PhaseWords.{phase_said}
-use Rattle.fkv_session.specs.declared.sessions.Sitting.{Sitting}
-use Rattle.fkv_session.specs.declared.sessions.Sitting.TheVariants.{Attempts, Polls}
-use Rattle.fkv_session.specs.Sessions.{Seat, SessionState}
-use Rattle.fkv_session.specs.SessionRun.{session_run}
+use Rattle.law_refine.specs.Below.fkv_session.Sitting.{Sitting}
+use Rattle.law_refine.specs.Below.fkv_session.Sitting.TheVariants.{Attempts, Polls}
+use Rattle.law_refine.specs.Below.fkv_session.Sessions.{Seat, SessionState}
+use Rattle.law_refine.specs.Below.fkv_session.SessionRun.{session_run}
 use Rattle.fkv_epoch.proofs.Shown.{none_some}
-use Rattle.fkv_world.specs.Opened.{HasBecome, IsOpenedWorld}
-use Rattle.fkv_world.specs.OwnEvents.{session_events, session_part_of}
-use Rattle.fkv_world.specs.Runs.{World, run}
-use Rattle.fkv_world.specs.World.{Event, Now, seat_at}
-use Rattle.fkv_world.proofs.Shown.{same_seat, session_runs}
-use Rattle.law_world.proofs.OfRuns.Nothing.{none_ever}
-use Rattle.law_world.specs.Guarded.Shows as guard
+use Rattle.law_refine.specs.Below.fkv_world.Opened.{HasBecome, IsOpenedWorld}
+use Rattle.law_refine.specs.Below.fkv_world.OwnEvents.{session_events, session_part_of}
+use Rattle.law_refine.specs.Below.fkv_world.Runs.{World, run}
+use Rattle.law_refine.specs.Below.fkv_world.World.{Event, Now, seat_at}
+use Rattle.law_refine.proofs.Below.fkv_world.Shown.{same_seat, session_runs}
+use Rattle.law_refine.proofs.Below.law_world.OfRuns.Nothing.{none_ever}
+use Rattle.law_refine.specs.Below.law_world.Guarded.Shows as guard
 use Rattle.law_log.specs.Chains.{Logged, Unborn}
 use Rattle.law_log.specs.Ghosts.{GhostEvent, Ghosts, Log, ghost_run}
 use Rattle.law_refine.specs.Events.GhostEvents.{ghost_events, home_in, life_ghosts, mapped, serials_in}

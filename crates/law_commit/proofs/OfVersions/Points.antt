@@ -3,15 +3,15 @@ use Rattle.std.proofs.Common.{◌≡◌, ℕ, ◌+◌, ◌<◌, ◌≤◌, ◌�
 use Rattle.std.specs.Prelude.{⊤, Option, Some, None, ◌==◌, cond, nat_le}
 use Rattle.std.proofs.lemmas.Bool.Decides.{nat_tests}
 use Rattle.fkv_map.specs.declared.operations.Op.{Op}
-use Rattle.fkv_session.specs.Sessions.{IsOpened, Seat, SessionState}
-use Rattle.fkv_session.specs.SessionRun.{Begins, Gets, Replies, SessionEvent, session_run}
-use Rattle.fkv_session.specs.Versions.{TakenAt, taken_at_after, versions_taken}
-use Rattle.fkv_world.specs.Opened.{HasBecome}
-use Rattle.fkv_world.specs.OwnEvents.{session_events}
-use Rattle.fkv_world.specs.Runs.{World}
-use Rattle.fkv_world.specs.World.{Event, seat_at}
-use Rattle.law_world.specs.Guarded.Shows as guard
-use Rattle.law_world.proofs.OfSessions.OwnRun.{opened_so}
+use Rattle.law_refine.specs.Below.fkv_session.Sessions.{IsOpened, Seat, SessionState}
+use Rattle.law_refine.specs.Below.fkv_session.SessionRun.{Begins, Gets, Replies, SessionEvent, session_run}
+use Rattle.law_refine.specs.Below.fkv_session.Versions.{TakenAt, taken_at_after, versions_taken}
+use Rattle.law_refine.specs.Below.fkv_world.Opened.{HasBecome}
+use Rattle.law_refine.specs.Below.fkv_world.OwnEvents.{session_events}
+use Rattle.law_refine.specs.Below.fkv_world.Runs.{World}
+use Rattle.law_refine.specs.Below.fkv_world.World.{Event, seat_at}
+use Rattle.law_refine.specs.Below.law_world.Guarded.Shows as guard
+use Rattle.law_refine.proofs.Below.law_world.OfSessions.OwnRun.{opened_so}
 use Rattle.law_commit.specs.Accepted.{NeverFall, count_upto, serial_at, serial_of, versions_accepted, versions_of}
 use Rattle.law_commit.specs.Phases.Staged.{OpensAtRest}
 use Rattle.law_commit.specs.Versions.Effects.{IsTakenAt, PointSplits}

@@ -14,33 +14,33 @@ use Rattle.fkv_plane.specs.declared.asks.Ask.{Ask}
 use Rattle.fkv_plane.specs.declared.asks.Ask.TheVariants.{Put, Take, Done}
 use Rattle.fkv_plane.specs.declared.places.Places.{Places}
 use Rattle.fkv_plane.specs.Asked.{reply_to}
-use Rattle.fkv_log.specs.declared.reserving.ReserveAnswer.{ReserveAnswer}
-use Rattle.fkv_log.specs.declared.reserving.ReserveAnswer.TheVariants as reserve
+use Rattle.law_refine.specs.Below.fkv_log.ReserveAnswer.{ReserveAnswer}
+use Rattle.law_refine.specs.Below.fkv_log.ReserveAnswer.TheVariants as reserve
 use Rattle.fkv_index.specs.declared.finding.Found.{Found}
-use Rattle.fkv_ops.specs.declared.answers.TryAnswer.{TryAnswer}
-use Rattle.fkv_ops.specs.declared.answers.TryAnswer.TheVariants as answer
-use Rattle.fkv_ops.specs.declared.appending.Appending.{Appending}
-use Rattle.fkv_ops.specs.declared.requests.Request.{Request}
-use Rattle.fkv_ops.specs.declared.trying.Trying.{Trying}
-use Rattle.fkv_ops.specs.declared.trying.Trying.TheVariants as trying
-use Rattle.fkv_ops.specs.Appending.{AppendState}
-use Rattle.fkv_ops.specs.Requests.{is_read}
-use Rattle.fkv_ops.specs.Trying.{TryState}
-use Rattle.fkv_ops.specs.Values.{value_of}
-use Rattle.fkv_ops.specs.Walking.{WalkState}
-use Rattle.fkv_pending.specs.declared.attempting.Attempting.{Attempting}
-use Rattle.fkv_pending.specs.declared.attempting.Attempting.TheVariants as attempting
-use Rattle.fkv_pending.specs.declared.pending_requests.PendingRequest.{PendingRequest}
-use Rattle.fkv_pending.specs.Attempting.{AttemptState, attempt_ask, attempt_next}
-use Rattle.fkv_session.specs.declared.answers.Told.{Told}
-use Rattle.fkv_session.specs.declared.sessions.Sitting.{Sitting}
-use Rattle.fkv_session.specs.declared.sessions.Sitting.TheVariants.{Attempts, Polls}
-use Rattle.fkv_session.specs.Sessions.{SessionState, Seat, bits_of, room_of, session_ask}
-use Rattle.fkv_world.specs.Past.{Traced}
-use Rattle.fkv_world.specs.Runs.{World, happens, run}
-use Rattle.fkv_world.specs.World.{Event, Moves, seat_at}
-use Rattle.law_world.specs.Guarded.Shows as guard
-use Rattle.law_world.specs.GuardSessions.Tries.{is_for_entry}
+use Rattle.law_refine.specs.Below.fkv_ops.TryAnswer.{TryAnswer}
+use Rattle.law_refine.specs.Below.fkv_ops.TryAnswer.TheVariants as answer
+use Rattle.law_refine.specs.Below.fkv_ops.TheAppending.{Appending}
+use Rattle.law_refine.specs.Below.fkv_ops.Request.{Request}
+use Rattle.law_refine.specs.Below.fkv_ops.TheTrying.{Trying}
+use Rattle.law_refine.specs.Below.fkv_ops.TheTrying.TheVariants as trying
+use Rattle.law_refine.specs.Below.fkv_ops.Appending.{AppendState}
+use Rattle.law_refine.specs.Below.fkv_ops.Requests.{is_read}
+use Rattle.law_refine.specs.Below.fkv_ops.Trying.{TryState}
+use Rattle.law_refine.specs.Below.fkv_ops.Values.{value_of}
+use Rattle.law_refine.specs.Below.fkv_ops.Walking.{WalkState}
+use Rattle.law_refine.specs.Below.fkv_pending.TheAttempting.{Attempting}
+use Rattle.law_refine.specs.Below.fkv_pending.TheAttempting.TheVariants as attempting
+use Rattle.law_refine.specs.Below.fkv_pending.PendingRequest.{PendingRequest}
+use Rattle.law_refine.specs.Below.fkv_pending.Attempting.{AttemptState, attempt_ask, attempt_next}
+use Rattle.law_refine.specs.Below.fkv_session.Told.{Told}
+use Rattle.law_refine.specs.Below.fkv_session.Sitting.{Sitting}
+use Rattle.law_refine.specs.Below.fkv_session.Sitting.TheVariants.{Attempts, Polls}
+use Rattle.law_refine.specs.Below.fkv_session.Sessions.{SessionState, Seat, bits_of, room_of, session_ask}
+use Rattle.law_refine.specs.Below.fkv_world.Past.{Traced}
+use Rattle.law_refine.specs.Below.fkv_world.Runs.{World, happens, run}
+use Rattle.law_refine.specs.Below.fkv_world.World.{Event, Moves, seat_at}
+use Rattle.law_refine.specs.Below.law_world.Guarded.Shows as guard
+use Rattle.law_refine.specs.Below.law_world.GuardSessions.Tries.{is_for_entry}
 use Rattle.law_refine.specs.Events.Appends.{append_ghosts, entry_made, reserved_ghosts}
 use Rattle.law_refine.specs.Events.Effects.{mover_step, step_at}
 use Rattle.law_refine.specs.Events.GhostEvents.{fixed_ghosts, ghost_events, moved_ghosts, own_ghosts, safe_at, serials_in, traced_by}

@@ -5,16 +5,16 @@ use Rattle.fkv_words.specs.PhaseWords.{phase_said}
 use Rattle.fkv_plane.specs.declared.places.Places.{Places}
 use Rattle.fkv_index.specs.declared.homes.Home.{Home}
 use Rattle.fkv_index.specs.OneEntry.{IsHome}
-use Rattle.fkv_checkpoint.specs.CopyWorld.{CopyEvent, CopyBegins}
-use Rattle.fkv_checkpoint.specs.Fuzzy.{HasCopy, IsEntryThen}
-use Rattle.fkv_checkpoint.specs.Triples.{CopiedEntry}
-use Rattle.fkv_commit.specs.declared.commits.Commit.{Commit}
+use Rattle.law_refine.specs.Below.fkv_checkpoint.CopyWorld.{CopyEvent, CopyBegins}
+use Rattle.law_refine.specs.Below.fkv_checkpoint.Fuzzy.{HasCopy, IsEntryThen}
+use Rattle.law_refine.specs.Below.fkv_checkpoint.Triples.{CopiedEntry}
+use Rattle.law_refine.specs.Below.fkv_commit.Commit.{Commit}
 use Rattle.fkv_base.specs.declared.commits.CommitKind.TheVariants.{Full}
-use Rattle.fkv_keeper.specs.declared.keepers.Keeping.TheVariants.{LoadsPhase}
-use Rattle.fkv_keeper.specs.CheckpointLaws.{IsCopyPhase}
-use Rattle.fkv_world.specs.OwnEvents.{keeper_part_of}
-use Rattle.fkv_world.specs.Runs.{World, run}
-use Rattle.fkv_world.specs.World.{Event, Now}
+use Rattle.law_refine.specs.Below.fkv_keeper.TheKeeping.TheVariants.{LoadsPhase}
+use Rattle.law_refine.specs.Below.fkv_keeper.CheckpointLaws.{IsCopyPhase}
+use Rattle.law_refine.specs.Below.fkv_world.OwnEvents.{keeper_part_of}
+use Rattle.law_refine.specs.Below.fkv_world.Runs.{World, run}
+use Rattle.law_refine.specs.Below.fkv_world.World.{Event, Now}
 use Rattle.law_log.specs.Ghosts.{Log}
 use Rattle.law_log.specs.Trace.{IsIn}
 use Rattle.law_refine.specs.Index.Shows.{seen_by_index}

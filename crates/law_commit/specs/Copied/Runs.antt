@@ -2,20 +2,20 @@
 use Rattle.std.specs.Prelude.{◌≡◌, ℕ, List, [], ◌∷◌, ◌++◌, map, length, Some, false, true}
 use Rattle.fkv_base.specs.declared.shapes.Shape.{Shape}
 use Rattle.fkv_plane.specs.declared.places.Places.{Places}
-use Rattle.fkv_checkpoint.specs.declared.copying.CopyStep.TheVariants as copy
-use Rattle.fkv_checkpoint.specs.Copied.{copying_after, copied_after}
-use Rattle.fkv_checkpoint.specs.CopyWorld.{CopyWorld, CopyEvent, CopyBegins, CopyMoves, IndexMoves, copy_run, copy_opening}
-use Rattle.fkv_checkpoint.specs.Triples.{all_bytes}
-use Rattle.fkv_commit.specs.declared.commits.Commit.{Commit}
+use Rattle.law_refine.specs.Below.fkv_checkpoint.CopyStep.TheVariants as copy
+use Rattle.law_refine.specs.Below.fkv_checkpoint.Copied.{copying_after, copied_after}
+use Rattle.law_refine.specs.Below.fkv_checkpoint.CopyWorld.{CopyWorld, CopyEvent, CopyBegins, CopyMoves, IndexMoves, copy_run, copy_opening}
+use Rattle.law_refine.specs.Below.fkv_checkpoint.Triples.{all_bytes}
+use Rattle.law_refine.specs.Below.fkv_commit.Commit.{Commit}
 use Rattle.fkv_base.specs.declared.commits.CommitKind.TheVariants.{Full}
-use Rattle.fkv_keeper.specs.declared.keepers.Keeping.{Keeping}
-use Rattle.fkv_keeper.specs.declared.keepers.Keeping.TheVariants.{LoadsPhase, Copies}
-use Rattle.fkv_keeper.specs.CheckpointLaws.{IsBeforeWrites, IsBehindWait}
-use Rattle.fkv_keeper.specs.Keeping.{KeeperState}
-use Rattle.fkv_keeper.specs.KeeperRun.{KeeperEvent, Replies, Writing, keeper_run}
-use Rattle.fkv_world.specs.OwnEvents.{keeper_part_of}
-use Rattle.fkv_world.specs.Runs.{World, run}
-use Rattle.fkv_world.specs.World.{Event}
+use Rattle.law_refine.specs.Below.fkv_keeper.TheKeeping.{Keeping}
+use Rattle.law_refine.specs.Below.fkv_keeper.TheKeeping.TheVariants.{LoadsPhase, Copies}
+use Rattle.law_refine.specs.Below.fkv_keeper.CheckpointLaws.{IsBeforeWrites, IsBehindWait}
+use Rattle.law_refine.specs.Below.fkv_keeper.Keeping.{KeeperState}
+use Rattle.law_refine.specs.Below.fkv_keeper.KeeperRun.{KeeperEvent, Replies, Writing, keeper_run}
+use Rattle.law_refine.specs.Below.fkv_world.OwnEvents.{keeper_part_of}
+use Rattle.law_refine.specs.Below.fkv_world.Runs.{World, run}
+use Rattle.law_refine.specs.Below.fkv_world.World.{Event}
 use Rattle.law_refine.specs.Index.IndexEvents.{index_events}
 
 -- A copy begins where a reply leads the keeper to copy, and each reply from there on is a step of it.

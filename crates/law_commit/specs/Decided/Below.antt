@@ -2,14 +2,14 @@
 use Rattle.std.specs.List.{AllByRecursion, flat_map}
 use Rattle.std.specs.Prelude.{◌≡◌, ◌⊎◌, ◌<◌, ◌+◌, ◌≤◌, ℕ, List, ◌++◌, Some, map}
 use Rattle.fkv_base.specs.declared.commits.CommitKind.TheVariants.{Full}
-use Rattle.fkv_checkpoint.specs.Triples.{CopiedEntry, copied_of}
+use Rattle.law_refine.specs.Below.fkv_checkpoint.Triples.{CopiedEntry, copied_of}
 use Rattle.fkv_index.specs.OneEntry.{IsHome}
 use Rattle.fkv_plane.specs.declared.places.Places.{Places}
 use Rattle.fkv_record.specs.Layout.{triple_bytes}
 use Rattle.fkv_record.specs.declared.triples.Triple.{Triple}
-use Rattle.fkv_scan.specs.Log.{AreApart}
-use Rattle.fkv_world.specs.Runs.{World}
-use Rattle.fkv_world.specs.World.{Event}
+use Rattle.law_paper.specs.Below.fkv_scan.Log.{AreApart}
+use Rattle.law_refine.specs.Below.fkv_world.Runs.{World}
+use Rattle.law_refine.specs.Below.fkv_world.World.{Event}
 use Rattle.law_log.specs.Ghosts.{Ghosts, Log}
 use Rattle.law_log.specs.Trace.{IsIn}
 use Rattle.law_refine.specs.Index.Shows as index

@@ -3,13 +3,13 @@ use Rattle.std.specs.Prelude.{◌≡◌, ◌⊎◌, ℕ, true, false, List, ◌+
 use Rattle.fkv_base.specs.declared.commits.CommitKind.{CommitKind}
 use Rattle.fkv_base.specs.declared.numbers.Addr.{Addr}
 use Rattle.fkv_base.specs.declared.numbers.Version.{Version}
-use Rattle.fkv_commit.specs.declared.commits.Commit.{Commit}
-use Rattle.fkv_commit.specs.declared.seeking.Seeking.TheVariants as seek
-use Rattle.fkv_commit.specs.declared.starting.Starting.TheVariants as start
-use Rattle.fkv_keeper.specs.declared.keepers.Keeping.TheVariants.{Seeks, Starts, Writes}
-use Rattle.fkv_keeper.specs.Keeping.{triples_written}
-use Rattle.fkv_world.specs.Runs.{World, run}
-use Rattle.fkv_world.specs.World.{Event, Now}
+use Rattle.law_refine.specs.Below.fkv_commit.Commit.{Commit}
+use Rattle.law_refine.specs.Below.fkv_commit.TheSeeking.TheVariants as seek
+use Rattle.law_refine.specs.Below.fkv_commit.TheStarting.TheVariants as start
+use Rattle.law_refine.specs.Below.fkv_keeper.TheKeeping.TheVariants.{Seeks, Starts, Writes}
+use Rattle.law_refine.specs.Below.fkv_keeper.Keeping.{triples_written}
+use Rattle.law_refine.specs.Below.fkv_world.Runs.{World, run}
+use Rattle.law_refine.specs.Below.fkv_world.World.{Event, Now}
 use Rattle.law_log.specs.Trace.{IsIn}
 use Rattle.law_refine.specs.Events.Reserved.{tail_at}
 use Rattle.law_commit.specs.BegunCommits.{BegunCommit, commit_opened, life_begun}

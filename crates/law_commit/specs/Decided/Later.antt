@@ -1,17 +1,17 @@
 -- When each record from an address on is of a later version than a commit's.
 use Rattle.std.specs.Prelude.{◌≡◌, ◌<◌, ◌+◌, ◌≤◌, ⊤, ℕ, true, List, [], ◌∷◌, ◌++◌, Some, slice_get}
 use Rattle.fkv_base.specs.declared.phases.Phase.TheVariants.{WaitFlush, WaitPending}
-use Rattle.fkv_commit.specs.declared.commits.Commit.{Commit}
-use Rattle.fkv_session.specs.declared.sessions.Sitting.{Sitting}
-use Rattle.fkv_session.specs.declared.sessions.Sitting.TheVariants.{Polls}
-use Rattle.fkv_session.specs.Sessions.{SessionState}
+use Rattle.law_refine.specs.Below.fkv_commit.Commit.{Commit}
+use Rattle.law_refine.specs.Below.fkv_session.Sitting.{Sitting}
+use Rattle.law_refine.specs.Below.fkv_session.Sitting.TheVariants.{Polls}
+use Rattle.law_refine.specs.Below.fkv_session.Sessions.{SessionState}
 use Rattle.fkv_words.specs.PhaseWords.{phase_said}
 use Rattle.fkv_words.specs.declared.phase_words.PhaseSaid.{PhaseSaid}
 use Rattle.fkv_words.specs.declared.phase_words.PhaseSaid.TheVariants.{Says}
-use Rattle.fkv_world.specs.Opened.{HasBecome, IsOpenedWorld}
-use Rattle.fkv_world.specs.Runs.{World, run}
-use Rattle.fkv_world.specs.World.{Event, Now}
-use Rattle.law_world.specs.Guarded.Shows as guard
+use Rattle.law_refine.specs.Below.fkv_world.Opened.{HasBecome, IsOpenedWorld}
+use Rattle.law_refine.specs.Below.fkv_world.Runs.{World, run}
+use Rattle.law_refine.specs.Below.fkv_world.World.{Event, Now}
+use Rattle.law_refine.specs.Below.law_world.Guarded.Shows as guard
 use Rattle.law_log.specs.Ghosts.{Ghosts}
 use Rattle.law_refine.specs.Events.GhostEvents.{life_ghosts}
 use Rattle.law_refine.specs.Events.Reserved.{IsUnbornFrom, tail_at}

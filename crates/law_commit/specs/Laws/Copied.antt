@@ -1,13 +1,13 @@
 -- What the laws of `copied` say.
 use Rattle.std.specs.List.{AllByRecursion}
 use Rattle.std.specs.Prelude.{◌≡◌, ℕ, List}
-use Rattle.fkv_checkpoint.specs.declared.copying.CopyStep.TheVariants.{Ended}
-use Rattle.fkv_checkpoint.specs.Fuzzy.{CopiedHaveStood, HomesOnce, NoneLeftOut, begun_at}
-use Rattle.fkv_world.specs.OwnEvents.{keeper_events}
-use Rattle.fkv_world.specs.Runs.{World, run}
-use Rattle.fkv_world.specs.World.{Event}
-use Rattle.law_world.specs.Keeper.Lives.{life_writing, replies_copied}
-use Rattle.law_world.specs.Guarded.Shows as guard
+use Rattle.law_refine.specs.Below.fkv_checkpoint.CopyStep.TheVariants.{Ended}
+use Rattle.law_refine.specs.Below.fkv_checkpoint.Fuzzy.{CopiedHaveStood, HomesOnce, NoneLeftOut, begun_at}
+use Rattle.law_refine.specs.Below.fkv_world.OwnEvents.{keeper_events}
+use Rattle.law_refine.specs.Below.fkv_world.Runs.{World, run}
+use Rattle.law_refine.specs.Below.fkv_world.World.{Event}
+use Rattle.law_refine.specs.Below.law_world.Keeper.Lives.{life_writing, replies_copied}
+use Rattle.law_refine.specs.Below.law_world.Guarded.Shows as guard
 use Rattle.law_log.specs.Ghosts.{Ghosts}
 use Rattle.law_refine.specs.Index.Shows as index
 use Rattle.law_refine.specs.Index.Shows.{seen_by_index}

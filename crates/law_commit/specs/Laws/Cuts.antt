@@ -1,18 +1,18 @@
 -- What the laws of `cuts` say.
 use Rattle.std.specs.Prelude.{◌≡◌, ◌≢◌, ◌<◌, ◌≤◌, ◌-◌, ℕ, List, Some, false}
-use Rattle.fkv_commit.specs.Cuts.{serial_said}
+use Rattle.law_refine.specs.Below.fkv_commit.Cuts.{serial_said}
 use Rattle.fkv_plane.specs.declared.places.SessionWord.TheVariants.{Durable}
 use Rattle.fkv_plane.specs.Places.{session_place}
-use Rattle.fkv_session.specs.InOrder.{AreToldInOrder, IsOwedOrOneMore, owing_place, owing_told, serial_leaving}
-use Rattle.fkv_session.specs.Sessions.{SessionState, is_busy}
-use Rattle.fkv_session.specs.Words.{AreMarksTold, IsCutAsleep, IsMark, serial_left}
-use Rattle.fkv_session.specs.declared.sessions.CatchCause.TheVariants.{Wakes}
-use Rattle.fkv_session.specs.declared.sessions.Sitting.TheVariants.{CatchesUp, Leaves, StoresOwing}
-use Rattle.fkv_world.specs.Opened.{HasBecome, IsOpenedWorld}
-use Rattle.fkv_world.specs.OwnEvents.{session_events}
-use Rattle.fkv_world.specs.Runs.{World, run}
-use Rattle.fkv_world.specs.World.{Event, seat_at}
-use Rattle.law_world.specs.Guarded.Shows.{IsOpened}
+use Rattle.law_refine.specs.Below.fkv_session.InOrder.{AreToldInOrder, IsOwedOrOneMore, owing_place, owing_told, serial_leaving}
+use Rattle.law_refine.specs.Below.fkv_session.Sessions.{SessionState, is_busy}
+use Rattle.law_refine.specs.Below.fkv_session.Words.{AreMarksTold, IsCutAsleep, IsMark, serial_left}
+use Rattle.law_refine.specs.Below.fkv_session.CatchCause.TheVariants.{Wakes}
+use Rattle.law_refine.specs.Below.fkv_session.Sitting.TheVariants.{CatchesUp, Leaves, StoresOwing}
+use Rattle.law_refine.specs.Below.fkv_world.Opened.{HasBecome, IsOpenedWorld}
+use Rattle.law_refine.specs.Below.fkv_world.OwnEvents.{session_events}
+use Rattle.law_refine.specs.Below.fkv_world.Runs.{World, run}
+use Rattle.law_refine.specs.Below.fkv_world.World.{Event, seat_at}
+use Rattle.law_refine.specs.Below.law_world.Guarded.Shows.{IsOpened}
 use Rattle.law_commit.specs.Accepted.{point}
 use Rattle.law_commit.specs.Phases.Staged.{OpensAtRest}
 use Rattle.law_commit.specs.Cuts.{HasItsWords, IsCutPlace, ShowCuts, ShowsDurable, durable_at, life_leaving, serial_before, stored_by_keeper, stored_by_session, word_now}

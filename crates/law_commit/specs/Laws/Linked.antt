@@ -1,8 +1,8 @@
 -- What the laws of `linked` say.
 use Rattle.std.specs.Prelude.{ℕ, List}
-use Rattle.fkv_world.specs.Runs.{World, run}
-use Rattle.fkv_world.specs.World.{Event}
-use Rattle.law_world.specs.Guarded.Shows as guard
+use Rattle.law_refine.specs.Below.fkv_world.Runs.{World, run}
+use Rattle.law_refine.specs.Below.fkv_world.World.{Event}
+use Rattle.law_refine.specs.Below.law_world.Guarded.Shows as guard
 use Rattle.law_log.specs.Ghosts.{Ghosts}
 use Rattle.law_refine.specs.Index.Shows as index
 use Rattle.law_refine.specs.Events.GhostEvents.{life_ghosts}

@@ -1,16 +1,16 @@
 -- What the laws of `laws` say.
 use Rattle.std.specs.Prelude.{◌≡◌, ◌⊎◌, ◌+◌, ◌≤◌, ◌∷◌, ℕ, Bool, List, [], length}
 use Rattle.fkv_base.specs.declared.shapes.Shape.{Shape}
-use Rattle.fkv_keeper.specs.declared.keepers.Keeping.TheVariants.{Finishes}
-use Rattle.fkv_keeper.specs.Keeping.{KeeperState}
-use Rattle.fkv_session.specs.OwnTurns.{OwnTurnState, own_turn_ask}
-use Rattle.fkv_session.specs.Sessions.{SessionState}
-use Rattle.law_world.specs.Standing.Opening.{AreNumbersInTurn}
-use Rattle.fkv_world.specs.Opened.{HasBecome, IsOpenedWorld}
-use Rattle.fkv_world.specs.OwnEvents.{keeper_events, session_events}
-use Rattle.fkv_world.specs.Runs.{World, run}
-use Rattle.fkv_world.specs.World.{Event, KeeperMoves, seat_at}
-use Rattle.law_world.specs.Guarded.Shows.{IsOpened}
+use Rattle.law_refine.specs.Below.fkv_keeper.TheKeeping.TheVariants.{Finishes}
+use Rattle.law_refine.specs.Below.fkv_keeper.Keeping.{KeeperState}
+use Rattle.law_refine.specs.Below.fkv_session.OwnTurns.{OwnTurnState, own_turn_ask}
+use Rattle.law_refine.specs.Below.fkv_session.Sessions.{SessionState}
+use Rattle.law_refine.specs.Below.law_world.Standing.Opening.{AreNumbersInTurn}
+use Rattle.law_refine.specs.Below.fkv_world.Opened.{HasBecome, IsOpenedWorld}
+use Rattle.law_refine.specs.Below.fkv_world.OwnEvents.{keeper_events, session_events}
+use Rattle.law_refine.specs.Below.fkv_world.Runs.{World, run}
+use Rattle.law_refine.specs.Below.fkv_world.World.{Event, KeeperMoves, seat_at}
+use Rattle.law_refine.specs.Below.law_world.Guarded.Shows.{IsOpened}
 use Rattle.law_commit.specs.Accepted.{HasRisingVersion, NeverFall, point, serial_at}
 use Rattle.law_commit.specs.BegunCommits.{AreInTurn, AtKeeping}
 use Rattle.law_commit.specs.FinishedCommits.{commits_finished, commits_told, told_of}
@@ -21,7 +21,7 @@ use Rattle.law_commit.specs.PrefixPast.{prefix_past}
 use Rattle.law_commit.specs.Views.{IsComing, IsSeenAs, IsSightAfter}
 use Rattle.law_commit.specs.WorkedRuns.{IsWorkedPast}
 use Rattle.law_commit.specs.WrittenCommits.{NewestIsWritten, life_told}
-use Rattle.law_world.specs.Keeper.Lives.{life_writing}
+use Rattle.law_refine.specs.Below.law_world.Keeper.Lives.{life_writing}
 
 -- a session's serial counts its updates
 abbrev pub SerialsCountUpdates : Type 0

@@ -1,11 +1,11 @@
 -- What the laws of `phases` say.
 use Rattle.std.specs.Prelude.{◌≡◌, ◌<◌, ◌≤◌, ℕ, List, [], Some, true}
 use Rattle.fkv_epoch.specs.EpochWorld.{safe_of}
-use Rattle.fkv_session.specs.Sessions.{SessionState}
-use Rattle.fkv_world.specs.Opened.{HasBecome, IsOpenedWorld}
-use Rattle.fkv_world.specs.Runs.{World, run}
-use Rattle.fkv_world.specs.World.{Event}
-use Rattle.law_world.specs.Guarded.Shows.{IsOpened, seen_by_guard}
+use Rattle.law_refine.specs.Below.fkv_session.Sessions.{SessionState}
+use Rattle.law_refine.specs.Below.fkv_world.Opened.{HasBecome, IsOpenedWorld}
+use Rattle.law_refine.specs.Below.fkv_world.Runs.{World, run}
+use Rattle.law_refine.specs.Below.fkv_world.World.{Event}
+use Rattle.law_refine.specs.Below.law_world.Guarded.Shows.{IsOpened, seen_by_guard}
 use Rattle.law_refine.specs.Events.GhostEvents.{safe_at}
 use Rattle.law_commit.specs.Phases.Projected.{ShowsSessions, sessions_opened}
 use Rattle.law_commit.specs.PhaseVersions.{HasRisingPhase, RestsAreNext}

@@ -9,16 +9,16 @@ use Rattle.fkv_epoch.specs.EpochWorld as epochs
 use Rattle.fkv_plane.specs.declared.places.SharedWord.TheVariants as one
 use Rattle.fkv_plane.specs.Asked.{word_at}
 use Rattle.fkv_plane.specs.Places.{shared_place}
-use Rattle.fkv_session.specs.declared.sessions.CatchCause.TheVariants.{Wakes}
-use Rattle.fkv_session.specs.declared.sessions.Sitting.{Sitting}
-use Rattle.fkv_session.specs.declared.sessions.Sitting.TheVariants.{CatchesUp, Idle, LoadsDurable}
-use Rattle.fkv_session.specs.Sessions.{Seat, SessionState, session_next}
-use Rattle.fkv_session.specs.SessionRun.{Replies, SessionEvent, session_run}
-use Rattle.fkv_world.specs.Opened.{HasBecome, IsOpenedWorld}
-use Rattle.fkv_world.specs.OwnEvents.{session_part_of}
-use Rattle.fkv_world.specs.Runs.{World, run}
-use Rattle.fkv_world.specs.World.{Event, Moves, Now, seat_at}
-use Rattle.law_world.specs.Guarded.Shows as guard
+use Rattle.law_refine.specs.Below.fkv_session.CatchCause.TheVariants.{Wakes}
+use Rattle.law_refine.specs.Below.fkv_session.Sitting.{Sitting}
+use Rattle.law_refine.specs.Below.fkv_session.Sitting.TheVariants.{CatchesUp, Idle, LoadsDurable}
+use Rattle.law_refine.specs.Below.fkv_session.Sessions.{Seat, SessionState, session_next}
+use Rattle.law_refine.specs.Below.fkv_session.SessionRun.{Replies, SessionEvent, session_run}
+use Rattle.law_refine.specs.Below.fkv_world.Opened.{HasBecome, IsOpenedWorld}
+use Rattle.law_refine.specs.Below.fkv_world.OwnEvents.{session_part_of}
+use Rattle.law_refine.specs.Below.fkv_world.Runs.{World, run}
+use Rattle.law_refine.specs.Below.fkv_world.World.{Event, Moves, Now, seat_at}
+use Rattle.law_refine.specs.Below.law_world.Guarded.Shows as guard
 use Rattle.law_paper.specs.Phases as paper
 use Rattle.law_paper.specs.Phases.{AreEnabled, Completes, Leaves, Loads, PhaseEvent, Phasing, phase_run}
 use Rattle.law_commit.specs.Phases.Stamped.{SessionStamped}

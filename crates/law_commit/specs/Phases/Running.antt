@@ -4,22 +4,22 @@ use Rattle.fkv_epoch.specs.declared.claiming.Claiming.{Claiming}
 use Rattle.fkv_epoch.specs.declared.claiming.Claiming.TheVariants as claim
 use Rattle.fkv_epoch.specs.EpochWorld.{Armed, safe_of}
 use Rattle.fkv_epoch.specs.Once.{Among}
-use Rattle.fkv_maintain.specs.declared.maintaining.Maintaining.{Maintaining}
-use Rattle.fkv_maintain.specs.declared.maintaining.Maintaining.TheVariants as maintain
-use Rattle.fkv_maintain.specs.Maintaining.{MaintainState}
-use Rattle.fkv_keeper.specs.declared.keepers.Keeping.{Keeping}
-use Rattle.fkv_keeper.specs.declared.keepers.Keeping.TheVariants.{Maintains}
-use Rattle.fkv_keeper.specs.Keeping.{KeeperState}
-use Rattle.fkv_session.specs.declared.own_turns.OwnTurning.{OwnTurning}
-use Rattle.fkv_session.specs.declared.own_turns.OwnTurning.TheVariants as turning
-use Rattle.fkv_session.specs.declared.sessions.Sitting.{Sitting}
-use Rattle.fkv_session.specs.declared.sessions.Sitting.TheVariants.{Turns}
-use Rattle.fkv_session.specs.OwnTurns.{OwnTurnState}
-use Rattle.fkv_session.specs.Sessions.{SessionState}
-use Rattle.fkv_world.specs.Runs.{World, run}
-use Rattle.fkv_world.specs.World.{Event}
-use Rattle.law_world.specs.Guarded.Shows as guard
-use Rattle.law_world.specs.Guarded.Shows.{seen_by_guard}
+use Rattle.law_refine.specs.Below.fkv_maintain.TheMaintaining.{Maintaining}
+use Rattle.law_refine.specs.Below.fkv_maintain.TheMaintaining.TheVariants as maintain
+use Rattle.law_refine.specs.Below.fkv_maintain.Maintaining.{MaintainState}
+use Rattle.law_refine.specs.Below.fkv_keeper.TheKeeping.{Keeping}
+use Rattle.law_refine.specs.Below.fkv_keeper.TheKeeping.TheVariants.{Maintains}
+use Rattle.law_refine.specs.Below.fkv_keeper.Keeping.{KeeperState}
+use Rattle.law_refine.specs.Below.fkv_session.OwnTurning.{OwnTurning}
+use Rattle.law_refine.specs.Below.fkv_session.OwnTurning.TheVariants as turning
+use Rattle.law_refine.specs.Below.fkv_session.Sitting.{Sitting}
+use Rattle.law_refine.specs.Below.fkv_session.Sitting.TheVariants.{Turns}
+use Rattle.law_refine.specs.Below.fkv_session.OwnTurns.{OwnTurnState}
+use Rattle.law_refine.specs.Below.fkv_session.Sessions.{SessionState}
+use Rattle.law_refine.specs.Below.fkv_world.Runs.{World, run}
+use Rattle.law_refine.specs.Below.fkv_world.World.{Event}
+use Rattle.law_refine.specs.Below.law_world.Guarded.Shows as guard
+use Rattle.law_refine.specs.Below.law_world.Guarded.Shows.{seen_by_guard}
 
 abbrev pub claim_runs : Claiming → Option Armed
 claim_runs (claim.Runs slot epoch safe action) = Some (record { slot = slot; epoch = epoch; action = action })

@@ -9,13 +9,13 @@ use Rattle.fkv_epoch.specs.EpochWorld.{EpochMachine, Loads, epoch_of, sight_of, 
 use Rattle.fkv_latch.specs.declared.latching.Latching.{Latching}
 use Rattle.fkv_latch.specs.declared.latching.Latching.TheVariants as latching
 use Rattle.fkv_plane.specs.declared.places.Places.{Places}
-use Rattle.fkv_pending.specs.declared.pending_requests.PendingRequest.{PendingRequest}
-use Rattle.fkv_session.specs.declared.catching_up.Catching.{Catching}
-use Rattle.fkv_session.specs.declared.catching_up.Catching.TheVariants as catching
-use Rattle.fkv_session.specs.declared.sessions.Sitting.{Sitting}
-use Rattle.fkv_session.specs.declared.sessions.Sitting.TheVariants.{CatchesUp, Idle, LoadsDurable}
-use Rattle.fkv_session.specs.CatchingUp.{CatchState, catching_next}
-use Rattle.fkv_session.specs.Sessions.{SessionState}
+use Rattle.law_refine.specs.Below.fkv_pending.PendingRequest.{PendingRequest}
+use Rattle.law_refine.specs.Below.fkv_session.Catching.{Catching}
+use Rattle.law_refine.specs.Below.fkv_session.Catching.TheVariants as catching
+use Rattle.law_refine.specs.Below.fkv_session.Sitting.{Sitting}
+use Rattle.law_refine.specs.Below.fkv_session.Sitting.TheVariants.{CatchesUp, Idle, LoadsDurable}
+use Rattle.law_refine.specs.Below.fkv_session.CatchingUp.{CatchState, catching_next}
+use Rattle.law_refine.specs.Below.fkv_session.Sessions.{SessionState}
 use Rattle.law_commit.specs.Views.{Sight, View, loads_phase, with_loaded}
 
 -- ---- what a step of catching up is to the epochs: the machine that moves, what it loads, and what is in force then (as `loaded` and `in_force_by` of fkv_epoch have it)

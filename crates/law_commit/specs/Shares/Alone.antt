@@ -3,16 +3,16 @@ use Rattle.std.specs.Prelude.{◌≡◌, ◌<◌, ℕ, true, false, List}
 use Rattle.fkv_base.specs.declared.phases.Phase.TheVariants.{Prepare}
 use Rattle.fkv_latch.specs.Latching.{is_exclusive}
 use Rattle.fkv_latch.specs.LatchWorld.{has_latch, times}
-use Rattle.fkv_ops.specs.Trying.{is_moving_on, is_prepare}
+use Rattle.law_refine.specs.Below.fkv_ops.Trying.{is_moving_on, is_prepare}
 use Rattle.fkv_plane.specs.declared.asks.Ask.TheVariants.{Add}
 use Rattle.fkv_plane.specs.Asked.{word_at}
-use Rattle.fkv_session.specs.declared.sessions.CatchCause.{CatchCause}
-use Rattle.fkv_session.specs.declared.sessions.Sitting.TheVariants.{CatchesUp}
-use Rattle.fkv_session.specs.Sessions.{SessionState, session_ask}
-use Rattle.fkv_world.specs.Opened.{HasBecome}
-use Rattle.fkv_world.specs.Runs.{World, run}
-use Rattle.fkv_world.specs.World.{Event, seat_at}
-use Rattle.law_world.specs.Guarded.Shows as guard
+use Rattle.law_refine.specs.Below.fkv_session.CatchCause.{CatchCause}
+use Rattle.law_refine.specs.Below.fkv_session.Sitting.TheVariants.{CatchesUp}
+use Rattle.law_refine.specs.Below.fkv_session.Sessions.{SessionState, session_ask}
+use Rattle.law_refine.specs.Below.fkv_world.Opened.{HasBecome}
+use Rattle.law_refine.specs.Below.fkv_world.Runs.{World, run}
+use Rattle.law_refine.specs.Below.fkv_world.World.{Event, seat_at}
+use Rattle.law_refine.specs.Below.law_world.Guarded.Shows as guard
 use Rattle.law_paper.specs.Apart.{IsBetween}
 use Rattle.law_refine.specs.Latches.Latchers.{session_alone}
 use Rattle.law_refine.specs.Latches.Shows as latches

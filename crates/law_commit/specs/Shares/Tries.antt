@@ -1,20 +1,20 @@
 -- What a try shares of the latch of its bucket, and when it has that latch alone.
 use Rattle.std.specs.Prelude.{◌≡◌, ◌⊎◌, ⊤, ℕ, true, false, List}
-use Rattle.fkv_ops.specs.declared.requests.Seen.{Seen}
-use Rattle.fkv_ops.specs.declared.trying.Trying.{Trying}
-use Rattle.fkv_ops.specs.declared.trying.Trying.TheVariants.{DropsExclusive, DropsShared, Ended, TakesShared}
-use Rattle.fkv_ops.specs.Requests.{is_read}
-use Rattle.fkv_ops.specs.Trying.{TryState, is_moving_on, is_prepare}
-use Rattle.fkv_pending.specs.declared.attempting.Attempting.{Attempting}
-use Rattle.fkv_pending.specs.declared.attempting.Attempting.TheVariants.{Tries}
-use Rattle.fkv_pending.specs.Attempting.{AttemptState}
-use Rattle.fkv_session.specs.declared.sessions.Sitting.{Sitting}
-use Rattle.fkv_session.specs.declared.sessions.Sitting.TheVariants.{Attempts, Polls}
-use Rattle.fkv_session.specs.Sessions.{SessionState}
-use Rattle.fkv_world.specs.Opened.{HasBecome}
-use Rattle.fkv_world.specs.Runs.{World}
-use Rattle.fkv_world.specs.World.{Event}
-use Rattle.law_world.specs.Guarded.Shows as guard
+use Rattle.law_refine.specs.Below.fkv_ops.Seen.{Seen}
+use Rattle.law_refine.specs.Below.fkv_ops.TheTrying.{Trying}
+use Rattle.law_refine.specs.Below.fkv_ops.TheTrying.TheVariants.{DropsExclusive, DropsShared, Ended, TakesShared}
+use Rattle.law_refine.specs.Below.fkv_ops.Requests.{is_read}
+use Rattle.law_refine.specs.Below.fkv_ops.Trying.{TryState, is_moving_on, is_prepare}
+use Rattle.law_refine.specs.Below.fkv_pending.TheAttempting.{Attempting}
+use Rattle.law_refine.specs.Below.fkv_pending.TheAttempting.TheVariants.{Tries}
+use Rattle.law_refine.specs.Below.fkv_pending.Attempting.{AttemptState}
+use Rattle.law_refine.specs.Below.fkv_session.Sitting.{Sitting}
+use Rattle.law_refine.specs.Below.fkv_session.Sitting.TheVariants.{Attempts, Polls}
+use Rattle.law_refine.specs.Below.fkv_session.Sessions.{SessionState}
+use Rattle.law_refine.specs.Below.fkv_world.Opened.{HasBecome}
+use Rattle.law_refine.specs.Below.fkv_world.Runs.{World}
+use Rattle.law_refine.specs.Below.fkv_world.World.{Event}
+use Rattle.law_refine.specs.Below.law_world.Guarded.Shows as guard
 
 -- In prepare an update shares its latch. One whose request has come with its latch does in each phase. No other does. And a try has the latch alone only while its
 -- session goes by in-progress or wait-pending, if the request is of the session's version.

@@ -1,24 +1,24 @@
 -- In prepare each update that waits shares its latch.
 use Rattle.std.specs.Prelude.{◌≡◌, ◌||◌, ⊤, ℕ, Bool, true, false, List, [], ◌∷◌}
-use Rattle.fkv_ops.specs.declared.answers.TryAnswer.{TryAnswer}
-use Rattle.fkv_ops.specs.declared.answers.TryAnswer.TheVariants as tried
-use Rattle.fkv_ops.specs.declared.requests.Seen.{Seen}
-use Rattle.fkv_ops.specs.Trying.{is_prepare}
-use Rattle.fkv_pending.specs.declared.pending_requests.PendingRequest.{PendingRequest}
+use Rattle.law_refine.specs.Below.fkv_ops.TryAnswer.{TryAnswer}
+use Rattle.law_refine.specs.Below.fkv_ops.TryAnswer.TheVariants as tried
+use Rattle.law_refine.specs.Below.fkv_ops.Seen.{Seen}
+use Rattle.law_refine.specs.Below.fkv_ops.Trying.{is_prepare}
+use Rattle.law_refine.specs.Below.fkv_pending.PendingRequest.{PendingRequest}
 use Rattle.fkv_plane.specs.declared.asks.Ask.{Ask}
 use Rattle.fkv_plane.specs.declared.asks.Ask.TheVariants.{Done}
-use Rattle.fkv_session.specs.declared.catching_up.Catching.{Catching}
-use Rattle.fkv_session.specs.declared.catching_up.Catching.TheVariants.{Ended, Finishes, Protects, Refreshes}
-use Rattle.fkv_session.specs.declared.sessions.Sitting.{Sitting}
-use Rattle.fkv_session.specs.declared.sessions.Sitting.TheVariants.{Attempts, CatchesUp, Polls}
-use Rattle.fkv_session.specs.SessionRun.{SessionEvent, Replies, session_run}
-use Rattle.fkv_session.specs.Sessions.{Seat, SessionState}
-use Rattle.fkv_session.specs.Shares.{AllUpdatesShare, attempt_told, is_shift}
-use Rattle.fkv_world.specs.Opened.{HasBecome}
-use Rattle.fkv_world.specs.OwnEvents.{session_events}
-use Rattle.fkv_world.specs.Runs.{World}
-use Rattle.fkv_world.specs.World.{Event, seat_at}
-use Rattle.law_world.specs.Guarded.Shows as guard
+use Rattle.law_refine.specs.Below.fkv_session.Catching.{Catching}
+use Rattle.law_refine.specs.Below.fkv_session.Catching.TheVariants.{Ended, Finishes, Protects, Refreshes}
+use Rattle.law_refine.specs.Below.fkv_session.Sitting.{Sitting}
+use Rattle.law_refine.specs.Below.fkv_session.Sitting.TheVariants.{Attempts, CatchesUp, Polls}
+use Rattle.law_refine.specs.Below.fkv_session.SessionRun.{SessionEvent, Replies, session_run}
+use Rattle.law_refine.specs.Below.fkv_session.Sessions.{Seat, SessionState}
+use Rattle.law_refine.specs.Below.fkv_session.Shares.{AllUpdatesShare, attempt_told, is_shift}
+use Rattle.law_refine.specs.Below.fkv_world.Opened.{HasBecome}
+use Rattle.law_refine.specs.Below.fkv_world.OwnEvents.{session_events}
+use Rattle.law_refine.specs.Below.fkv_world.Runs.{World}
+use Rattle.law_refine.specs.Below.fkv_world.World.{Event, seat_at}
+use Rattle.law_refine.specs.Below.law_world.Guarded.Shows as guard
 use Rattle.law_refine.specs.Latches.Shows as latches
 use Rattle.law_commit.specs.Floor.Stands.{OpensSeen}
 

@@ -2,26 +2,26 @@
 use Rattle.std.proofs.Common.{◌≡◌, ℕ, ◌∙◌, refl, ap, sym, subst, Bool, true, false, List, [], ◌∷◌}
 use Rattle.std.specs.Prelude.{Option, Some, None, slice_get}
 use Rattle.fkv_epoch.proofs.Shown.{none_some, some_same}
-use Rattle.fkv_ops.specs.Walking.{WalkState}
-use Rattle.fkv_ops.specs.declared.requests.Occasion.TheVariants.{Call as AtCall, Poll as AtPoll}
-use Rattle.fkv_ops.specs.declared.trying.Trying.{Trying}
-use Rattle.fkv_ops.specs.declared.trying.Trying.TheVariants.{SwapsValue, ChangesValue}
-use Rattle.fkv_pending.specs.Attempting.{AttemptState}
-use Rattle.fkv_pending.specs.declared.attempting.Attempting.{Attempting}
-use Rattle.fkv_pending.specs.declared.attempting.Attempting.TheVariants.{Tries}
-use Rattle.fkv_pending.specs.declared.pending_requests.PendingRequest.{PendingRequest}
+use Rattle.law_refine.specs.Below.fkv_ops.Walking.{WalkState}
+use Rattle.law_refine.specs.Below.fkv_ops.Occasion.TheVariants.{Call as AtCall, Poll as AtPoll}
+use Rattle.law_refine.specs.Below.fkv_ops.TheTrying.{Trying}
+use Rattle.law_refine.specs.Below.fkv_ops.TheTrying.TheVariants.{SwapsValue, ChangesValue}
+use Rattle.law_refine.specs.Below.fkv_pending.Attempting.{AttemptState}
+use Rattle.law_refine.specs.Below.fkv_pending.TheAttempting.{Attempting}
+use Rattle.law_refine.specs.Below.fkv_pending.TheAttempting.TheVariants.{Tries}
+use Rattle.law_refine.specs.Below.fkv_pending.PendingRequest.{PendingRequest}
 use Rattle.fkv_plane.specs.Asked.{reply_to}
-use Rattle.fkv_session.specs.Sessions.{SessionState, Seat, bits_of, request_in_hand, room_of, session_ask, session_next}
-use Rattle.fkv_session.specs.declared.sessions.Sitting.{Sitting}
-use Rattle.fkv_session.specs.declared.sessions.Sitting.TheVariants.{Attempts, Polls}
-use Rattle.fkv_world.specs.Moves.{Near, session_moved}
-use Rattle.fkv_world.specs.Runs.{World, run}
-use Rattle.fkv_world.specs.World.{Event, Moves, Now, near, seat_at}
-use Rattle.fkv_world.proofs.Shown.{same_seat}
-use Rattle.law_world.specs.GuardSessions.InPlace.{attempt_changes, sitting_changes, try_changes}
-use Rattle.law_local.specs.Sessions.Inputs.{AttemptsSo}
-use Rattle.law_local.specs.Sessions.Known.{KnowsRequests, attempt_after, catch_after, caught_up_at, is_attempting, with_op}
-use Rattle.law_local.proofs.OfSessions.Known.{begun_known, next_known, opened_known, stays_known}
+use Rattle.law_refine.specs.Below.fkv_session.Sessions.{SessionState, Seat, bits_of, request_in_hand, room_of, session_ask, session_next}
+use Rattle.law_refine.specs.Below.fkv_session.Sitting.{Sitting}
+use Rattle.law_refine.specs.Below.fkv_session.Sitting.TheVariants.{Attempts, Polls}
+use Rattle.law_refine.specs.Below.fkv_world.Moves.{Near, session_moved}
+use Rattle.law_refine.specs.Below.fkv_world.Runs.{World, run}
+use Rattle.law_refine.specs.Below.fkv_world.World.{Event, Moves, Now, near, seat_at}
+use Rattle.law_refine.proofs.Below.fkv_world.Shown.{same_seat}
+use Rattle.law_refine.specs.Below.law_world.GuardSessions.InPlace.{attempt_changes, sitting_changes, try_changes}
+use Rattle.law_refine.specs.Below.law_local.Sessions.Inputs.{AttemptsSo}
+use Rattle.law_refine.specs.Below.law_local.Sessions.Known.{KnowsRequests, attempt_after, catch_after, caught_up_at, is_attempting, with_op}
+use Rattle.law_refine.proofs.Below.law_local.OfSessions.Known.{begun_known, next_known, opened_known, stays_known}
 use Rattle.law_log.specs.Ghosts.{Ghosts, Log}
 use Rattle.law_refine.specs.Events.GhostEvents.{life_ghosts}
 use Rattle.law_refine.specs.Events.Published.{IsPublished}

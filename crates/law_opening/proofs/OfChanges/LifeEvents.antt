@@ -4,27 +4,27 @@ use Rattle.std.specs.Prelude.{◌==◌, map, if◌then◌else◌, Option, Some, 
 use Rattle.std.proofs.lemmas.Bool.{cases_lt}
 use Rattle.fkv_base.specs.declared.numbers.Addr.{Addr}
 use Rattle.fkv_epoch.proofs.Shown.{none_some, some_same}
-use Rattle.fkv_flush.specs.GuardFlushed.{stands}
+use Rattle.law_refine.specs.Below.fkv_flush.GuardFlushed.{stands}
 use Rattle.fkv_map.specs.declared.history.HistoryEntry.{HistoryEntry}
-use Rattle.fkv_ops.specs.Walking.{WalkState}
-use Rattle.fkv_ops.specs.declared.requests.Request.{Request}
-use Rattle.fkv_ops.specs.declared.requests.Seen.{Seen}
-use Rattle.fkv_ops.specs.declared.trying.Trying.{Trying}
-use Rattle.fkv_ops.specs.declared.trying.Trying.TheVariants.{SwapsValue, ChangesValue}
-use Rattle.fkv_pending.specs.Attempting.{AttemptState}
-use Rattle.fkv_pending.specs.declared.attempting.Attempting.{Attempting}
-use Rattle.fkv_pending.specs.declared.attempting.Attempting.TheVariants.{Tries}
-use Rattle.fkv_session.specs.Sessions.{SessionState, Seat, session_ask}
-use Rattle.fkv_session.specs.declared.sessions.Sitting.{Sitting}
-use Rattle.fkv_session.specs.declared.sessions.Sitting.TheVariants.{Attempts, Polls}
-use Rattle.fkv_world.specs.Runs.{World, happens, run}
-use Rattle.fkv_world.specs.World.{Event, Moves, seat_at}
-use Rattle.fkv_world.proofs.Shown.{same_seat}
-use Rattle.law_world.specs.Guarded.GuardEvents as guarded
-use Rattle.law_world.specs.Guarded.Shows.{guard_opening}
-use Rattle.law_world.specs.GuardSessions.InPlace.{attempt_changes, sitting_changes, try_changes}
-use Rattle.law_local.specs.Sessions.Inputs.{AttemptsBy, AttemptsSo, TriesFor, WalksFor}
-use Rattle.law_local.specs.Sessions.Known.{is_attempting}
+use Rattle.law_refine.specs.Below.fkv_ops.Walking.{WalkState}
+use Rattle.law_refine.specs.Below.fkv_ops.Request.{Request}
+use Rattle.law_refine.specs.Below.fkv_ops.Seen.{Seen}
+use Rattle.law_refine.specs.Below.fkv_ops.TheTrying.{Trying}
+use Rattle.law_refine.specs.Below.fkv_ops.TheTrying.TheVariants.{SwapsValue, ChangesValue}
+use Rattle.law_refine.specs.Below.fkv_pending.Attempting.{AttemptState}
+use Rattle.law_refine.specs.Below.fkv_pending.TheAttempting.{Attempting}
+use Rattle.law_refine.specs.Below.fkv_pending.TheAttempting.TheVariants.{Tries}
+use Rattle.law_refine.specs.Below.fkv_session.Sessions.{SessionState, Seat, session_ask}
+use Rattle.law_refine.specs.Below.fkv_session.Sitting.{Sitting}
+use Rattle.law_refine.specs.Below.fkv_session.Sitting.TheVariants.{Attempts, Polls}
+use Rattle.law_refine.specs.Below.fkv_world.Runs.{World, happens, run}
+use Rattle.law_refine.specs.Below.fkv_world.World.{Event, Moves, seat_at}
+use Rattle.law_refine.proofs.Below.fkv_world.Shown.{same_seat}
+use Rattle.law_refine.specs.Below.law_world.Guarded.GuardEvents as guarded
+use Rattle.law_refine.specs.Below.law_world.Guarded.Shows.{guard_opening}
+use Rattle.law_refine.specs.Below.law_world.GuardSessions.InPlace.{attempt_changes, sitting_changes, try_changes}
+use Rattle.law_refine.specs.Below.law_local.Sessions.Inputs.{AttemptsBy, AttemptsSo, TriesFor, WalksFor}
+use Rattle.law_refine.specs.Below.law_local.Sessions.Known.{is_attempting}
 use Rattle.law_log.specs.Chains.{Cell, Logged, Unborn, Reserved, Published, Dropped}
 use Rattle.law_log.specs.Ghosts.{Log, Ghosts, GhostEvent, Tells, FindsEntry, TakesValue, Reserves, Publishes, Drops, Changes, Fixes, published, dropped, changed, changed_by, log_after, ghosts_after, ghost_run}
 use Rattle.law_log.specs.Trace.{TraceLine}

@@ -4,12 +4,12 @@ use Rattle.std.specs.Prelude.{map, if◌then◌else◌, Option, Some, None, slic
 use Rattle.fkv_plane.specs.Asked.{asked, asked_place, reply_to, word_found}
 use Rattle.fkv_plane.specs.declared.asks.Ask.{Ask}
 use Rattle.fkv_plane.specs.declared.asks.Ask.TheVariants.{Put, Take, Done}
-use Rattle.fkv_session.specs.Sessions.{SessionState, Seat, session_ask}
-use Rattle.fkv_session.specs.declared.answers.Told.{Told}
-use Rattle.fkv_world.specs.Past.{Traced}
-use Rattle.fkv_world.specs.Runs.{World, happens, run}
-use Rattle.fkv_world.specs.World.{Event, Moves, seat_at}
-use Rattle.law_world.specs.Guarded.Shows.{IsOpened}
+use Rattle.law_refine.specs.Below.fkv_session.Sessions.{SessionState, Seat, session_ask}
+use Rattle.law_refine.specs.Below.fkv_session.Told.{Told}
+use Rattle.law_refine.specs.Below.fkv_world.Past.{Traced}
+use Rattle.law_refine.specs.Below.fkv_world.Runs.{World, happens, run}
+use Rattle.law_refine.specs.Below.fkv_world.World.{Event, Moves, seat_at}
+use Rattle.law_refine.specs.Below.law_world.Guarded.Shows.{IsOpened}
 use Rattle.law_log.specs.Chains.{Logged, Unborn}
 use Rattle.law_log.specs.Ghosts.{Ghosts, GhostEvent, Tells, ghost_run}
 use Rattle.law_log.specs.Trace.{TraceLine}

@@ -3,24 +3,24 @@ use Rattle.std.proofs.Common.{◌≡◌, inl, inr, ℕ, ◌≤◌}
 use Rattle.std.specs.Prelude.{⊤}
 use Rattle.fkv_base.specs.declared.numbers.Addr.{Addr}
 use Rattle.fkv_index.specs.Slots.{entry_addr}
-use Rattle.fkv_log.specs.declared.loading.Loading.{Loading}
-use Rattle.fkv_log.specs.declared.loading.Loading.TheVariants as load
-use Rattle.fkv_ops.specs.HeaderWords.{header_said}
-use Rattle.fkv_ops.specs.Trying.{TryState}
-use Rattle.fkv_ops.specs.Walking.{WalkState}
-use Rattle.fkv_ops.specs.declared.header_words.HeaderSaid.{HeaderSaid}
-use Rattle.fkv_ops.specs.declared.header_words.HeaderSaid.TheVariants.{Says, Spoiled}
-use Rattle.fkv_ops.specs.declared.trying.OldValue.{OldValue}
-use Rattle.fkv_ops.specs.declared.trying.OldValue.TheVariants.{InMemory, Known}
-use Rattle.fkv_ops.specs.declared.trying.Trying.{Trying}
-use Rattle.fkv_ops.specs.declared.trying.Trying.TheVariants.{Walks, LoadsSafe, SwapsValue, LoadsCurrent, ChangesValue, LoadsAnswer, TakesExclusive, LoadsOld, Appends}
-use Rattle.fkv_ops.specs.declared.walking.WalkAnswer.{WalkAnswer}
-use Rattle.fkv_ops.specs.declared.walking.WalkAnswer.TheVariants as answer
-use Rattle.fkv_ops.specs.declared.walking.Walking.{Walking}
-use Rattle.fkv_ops.specs.declared.walking.Walking.TheVariants.{Ended, Meets, HasFound, LoadsValue}
-use Rattle.fkv_pending.specs.Attempting.{AttemptState}
-use Rattle.fkv_pending.specs.declared.attempting.Attempting.{Attempting}
-use Rattle.fkv_pending.specs.declared.attempting.Attempting.TheVariants.{Tries}
+use Rattle.law_refine.specs.Below.fkv_log.TheLoading.{Loading}
+use Rattle.law_refine.specs.Below.fkv_log.TheLoading.TheVariants as load
+use Rattle.law_refine.specs.Below.fkv_ops.HeaderWords.{header_said}
+use Rattle.law_refine.specs.Below.fkv_ops.Trying.{TryState}
+use Rattle.law_refine.specs.Below.fkv_ops.Walking.{WalkState}
+use Rattle.law_refine.specs.Below.fkv_ops.HeaderSaid.{HeaderSaid}
+use Rattle.law_refine.specs.Below.fkv_ops.HeaderSaid.TheVariants.{Says, Spoiled}
+use Rattle.law_refine.specs.Below.fkv_ops.OldValue.{OldValue}
+use Rattle.law_refine.specs.Below.fkv_ops.OldValue.TheVariants.{InMemory, Known}
+use Rattle.law_refine.specs.Below.fkv_ops.TheTrying.{Trying}
+use Rattle.law_refine.specs.Below.fkv_ops.TheTrying.TheVariants.{Walks, LoadsSafe, SwapsValue, LoadsCurrent, ChangesValue, LoadsAnswer, TakesExclusive, LoadsOld, Appends}
+use Rattle.law_refine.specs.Below.fkv_ops.WalkAnswer.{WalkAnswer}
+use Rattle.law_refine.specs.Below.fkv_ops.WalkAnswer.TheVariants as answer
+use Rattle.law_refine.specs.Below.fkv_ops.TheWalking.{Walking}
+use Rattle.law_refine.specs.Below.fkv_ops.TheWalking.TheVariants.{Ended, Meets, HasFound, LoadsValue}
+use Rattle.law_refine.specs.Below.fkv_pending.Attempting.{AttemptState}
+use Rattle.law_refine.specs.Below.fkv_pending.TheAttempting.{Attempting}
+use Rattle.law_refine.specs.Below.fkv_pending.TheAttempting.TheVariants.{Tries}
 use Rattle.law_log.specs.Ghosts.{Log}
 use Rattle.law_refine.specs.Events.Published.{IsPublished}
 use Rattle.law_opening.specs.Changes.Linked.{IsLed}

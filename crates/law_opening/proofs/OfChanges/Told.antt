@@ -7,22 +7,22 @@ use Rattle.fkv_index.specs.Finding.{find_next_ask}
 use Rattle.fkv_index.specs.declared.finding.FindAnswer.{FindAnswer}
 use Rattle.fkv_index.specs.declared.finding.Found.{Found}
 use Rattle.fkv_index.specs.declared.finding.Found.TheVariants.{Slot}
-use Rattle.fkv_log.specs.Loading.{load_ask}
-use Rattle.fkv_log.specs.declared.loading.Loading.{Loading}
-use Rattle.fkv_log.specs.declared.loading.Loading.TheVariants as load
-use Rattle.fkv_ops.specs.Requests.{purpose_of}
-use Rattle.fkv_ops.specs.Trying.{TryState, try_ask, trying_ask}
-use Rattle.fkv_ops.specs.Walking.{walk_ask, walking_ask}
-use Rattle.fkv_ops.specs.declared.answers.TryAnswer.TheVariants as answer
-use Rattle.fkv_ops.specs.declared.requests.Seen.{Seen}
-use Rattle.fkv_ops.specs.declared.trying.Trying.{Trying}
-use Rattle.fkv_ops.specs.declared.trying.Trying.TheVariants.{Walks}
-use Rattle.fkv_ops.specs.declared.walking.WalkAnswer.TheVariants as walk
-use Rattle.fkv_ops.specs.declared.walking.Walking.{Walking}
-use Rattle.fkv_ops.specs.declared.walking.Walking.TheVariants.{Finds, Meets}
-use Rattle.fkv_pending.specs.Attempting.{AttemptState, attempting_ask}
-use Rattle.fkv_pending.specs.declared.attempting.Attempting.{Attempting}
-use Rattle.fkv_pending.specs.declared.attempting.Attempting.TheVariants.{Tries}
+use Rattle.law_refine.specs.Below.fkv_log.Loading.{load_ask}
+use Rattle.law_refine.specs.Below.fkv_log.TheLoading.{Loading}
+use Rattle.law_refine.specs.Below.fkv_log.TheLoading.TheVariants as load
+use Rattle.law_refine.specs.Below.fkv_ops.Requests.{purpose_of}
+use Rattle.law_refine.specs.Below.fkv_ops.Trying.{TryState, try_ask, trying_ask}
+use Rattle.law_refine.specs.Below.fkv_ops.Walking.{walk_ask, walking_ask}
+use Rattle.law_refine.specs.Below.fkv_ops.TryAnswer.TheVariants as answer
+use Rattle.law_refine.specs.Below.fkv_ops.Seen.{Seen}
+use Rattle.law_refine.specs.Below.fkv_ops.TheTrying.{Trying}
+use Rattle.law_refine.specs.Below.fkv_ops.TheTrying.TheVariants.{Walks}
+use Rattle.law_refine.specs.Below.fkv_ops.WalkAnswer.TheVariants as walk
+use Rattle.law_refine.specs.Below.fkv_ops.TheWalking.{Walking}
+use Rattle.law_refine.specs.Below.fkv_ops.TheWalking.TheVariants.{Finds, Meets}
+use Rattle.law_refine.specs.Below.fkv_pending.Attempting.{AttemptState, attempting_ask}
+use Rattle.law_refine.specs.Below.fkv_pending.TheAttempting.{Attempting}
+use Rattle.law_refine.specs.Below.fkv_pending.TheAttempting.TheVariants.{Tries}
 use Rattle.fkv_plane.specs.Asked.{reply_to, word_at}
 use Rattle.fkv_plane.specs.Places.{record_place}
 use Rattle.fkv_plane.specs.declared.asks.Ask.{Ask}
@@ -30,13 +30,13 @@ use Rattle.fkv_plane.specs.declared.asks.Ask.TheVariants.{Done}
 use Rattle.fkv_plane.specs.declared.places.Places.{Places}
 use Rattle.fkv_plane.specs.declared.places.RecordWord.TheVariants as rec
 use Rattle.fkv_plane.proofs.Shown.{passed_reply}
-use Rattle.fkv_session.specs.Sessions.{SessionState, Seat, bits_of, sitting_ask}
-use Rattle.fkv_session.specs.declared.sessions.Sitting.{Sitting}
-use Rattle.fkv_session.specs.declared.sessions.Sitting.TheVariants.{Attempts, Polls}
-use Rattle.fkv_world.specs.Runs.{World, run}
-use Rattle.fkv_world.specs.World.{Event, Now}
-use Rattle.law_local.specs.Sessions.Inputs.{AttemptsBy, TriesFor, WalksFor}
-use Rattle.law_local.specs.Sessions.Known.{is_attempting}
+use Rattle.law_refine.specs.Below.fkv_session.Sessions.{SessionState, Seat, bits_of, sitting_ask}
+use Rattle.law_refine.specs.Below.fkv_session.Sitting.{Sitting}
+use Rattle.law_refine.specs.Below.fkv_session.Sitting.TheVariants.{Attempts, Polls}
+use Rattle.law_refine.specs.Below.fkv_world.Runs.{World, run}
+use Rattle.law_refine.specs.Below.fkv_world.World.{Event, Now}
+use Rattle.law_refine.specs.Below.law_local.Sessions.Inputs.{AttemptsBy, TriesFor, WalksFor}
+use Rattle.law_refine.specs.Below.law_local.Sessions.Known.{is_attempting}
 use Rattle.law_log.specs.Chains.{Cell, Logged, Unborn, Reserved, Published, Dropped}
 use Rattle.law_log.specs.Ghosts.{Ghosts, Log}
 use Rattle.law_log.proofs.Shown.{not_unborn}

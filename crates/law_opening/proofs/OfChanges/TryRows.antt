@@ -17,37 +17,37 @@ use Rattle.fkv_latch.specs.Latching.{latch_next, latch_next_ask}
 use Rattle.fkv_latch.specs.declared.latching.LatchAnswer.{LatchAnswer}
 use Rattle.fkv_latch.specs.declared.latching.LatchAnswer.TheVariants as latch
 use Rattle.fkv_latch.specs.declared.latching.LatchTask.TheVariants.{DropExclusive, DropShared, TakeExclusive, TakeShared}
-use Rattle.fkv_log.specs.Filling.{fill_ask, fill_begun, fill_next}
-use Rattle.fkv_log.specs.Invalidating.{invalidate_ask, invalidate_next}
-use Rattle.fkv_log.specs.Regions.{seen_region_of}
-use Rattle.fkv_log.specs.Reserving.{reserve_next, reserve_next_ask}
-use Rattle.fkv_log.specs.declared.record_words.RecordWords.{RecordWords}
-use Rattle.fkv_log.specs.declared.regions.Region.{Region}
-use Rattle.fkv_log.specs.declared.reserving.ReserveAnswer.{ReserveAnswer}
-use Rattle.fkv_log.specs.declared.reserving.ReserveAnswer.TheVariants as reserve
-use Rattle.fkv_ops.specs.Appending.{AppendState, addr_reserved, append_ask, append_ended, append_next, appending_next, fill_ledto, invalidate_ledto, publish_ledto, reserve_ledto}
-use Rattle.fkv_ops.specs.Requests.{is_blind, is_read}
-use Rattle.fkv_ops.specs.Trying.{TryState, answer_ledto, append_ledto, awaits, changes, copies, copies_from, current_ledto, ended_without, ends, appends, exclusive_dropped, exclusive_ledto, full_at, has_walked, held_used, is_own_version, is_wait, met_disk, met_nowhere, met_record, must_shift, new_try, old_ledto, region_met, safe_loaded, shared_dropped, shared_ledto, takes_effect, told_value, try_begun, try_next, trying_next, value_changed, walk_ledto, walked, walks, wants_exclusive, wants_shared, with_latch}
-use Rattle.fkv_ops.specs.Values.{value_of}
-use Rattle.fkv_ops.specs.Walking.{WalkState, walk_ask, walk_next, walk_on, walk_rested}
-use Rattle.fkv_ops.specs.declared.answers.Reason.TheVariants as reason
-use Rattle.fkv_ops.specs.declared.answers.TryAnswer.{TryAnswer}
-use Rattle.fkv_ops.specs.declared.answers.TryAnswer.TheVariants as answer
-use Rattle.fkv_ops.specs.declared.appending.AppendAnswer.{AppendAnswer}
-use Rattle.fkv_ops.specs.declared.appending.AppendAnswer.TheVariants as append
-use Rattle.fkv_ops.specs.declared.appending.Appending.{Appending}
-use Rattle.fkv_ops.specs.declared.appending.Appending.TheVariants as appending
-use Rattle.fkv_ops.specs.declared.requests.HeldRecord.{HeldRecord}
-use Rattle.fkv_ops.specs.declared.requests.Occasion.{Occasion}
-use Rattle.fkv_ops.specs.declared.requests.Occasion.TheVariants.{Call, Poll}
-use Rattle.fkv_ops.specs.declared.requests.Request.{Request}
-use Rattle.fkv_ops.specs.declared.requests.Seen.{Seen}
-use Rattle.fkv_ops.specs.declared.trying.OldValue.{OldValue}
-use Rattle.fkv_ops.specs.declared.trying.OldValue.TheVariants.{InMemory, Known}
-use Rattle.fkv_ops.specs.declared.trying.Trying.{Trying}
-use Rattle.fkv_ops.specs.declared.trying.Trying.TheVariants.{Ended, TakesShared, Walks, LoadsSafe, SwapsValue, LoadsCurrent, ChangesValue, LoadsAnswer, TakesExclusive, LoadsOld, Appends, DropsExclusive, DropsShared}
-use Rattle.fkv_ops.specs.declared.walking.WalkAnswer.{WalkAnswer}
-use Rattle.fkv_ops.specs.declared.walking.WalkAnswer.TheVariants as walk
+use Rattle.law_refine.specs.Below.fkv_log.Filling.{fill_ask, fill_begun, fill_next}
+use Rattle.law_refine.specs.Below.fkv_log.Invalidating.{invalidate_ask, invalidate_next}
+use Rattle.law_refine.specs.Below.fkv_log.Regions.{seen_region_of}
+use Rattle.law_refine.specs.Below.fkv_log.Reserving.{reserve_next, reserve_next_ask}
+use Rattle.law_refine.specs.Below.fkv_log.RecordWords.{RecordWords}
+use Rattle.law_refine.specs.Below.fkv_log.Region.{Region}
+use Rattle.law_refine.specs.Below.fkv_log.ReserveAnswer.{ReserveAnswer}
+use Rattle.law_refine.specs.Below.fkv_log.ReserveAnswer.TheVariants as reserve
+use Rattle.law_refine.specs.Below.fkv_ops.Appending.{AppendState, addr_reserved, append_ask, append_ended, append_next, appending_next, fill_ledto, invalidate_ledto, publish_ledto, reserve_ledto}
+use Rattle.law_refine.specs.Below.fkv_ops.Requests.{is_blind, is_read}
+use Rattle.law_refine.specs.Below.fkv_ops.Trying.{TryState, answer_ledto, append_ledto, awaits, changes, copies, copies_from, current_ledto, ended_without, ends, appends, exclusive_dropped, exclusive_ledto, full_at, has_walked, held_used, is_own_version, is_wait, met_disk, met_nowhere, met_record, must_shift, new_try, old_ledto, region_met, safe_loaded, shared_dropped, shared_ledto, takes_effect, told_value, try_begun, try_next, trying_next, value_changed, walk_ledto, walked, walks, wants_exclusive, wants_shared, with_latch}
+use Rattle.law_refine.specs.Below.fkv_ops.Values.{value_of}
+use Rattle.law_refine.specs.Below.fkv_ops.Walking.{WalkState, walk_ask, walk_next, walk_on, walk_rested}
+use Rattle.law_refine.specs.Below.fkv_ops.Reason.TheVariants as reason
+use Rattle.law_refine.specs.Below.fkv_ops.TryAnswer.{TryAnswer}
+use Rattle.law_refine.specs.Below.fkv_ops.TryAnswer.TheVariants as answer
+use Rattle.law_refine.specs.Below.fkv_ops.AppendAnswer.{AppendAnswer}
+use Rattle.law_refine.specs.Below.fkv_ops.AppendAnswer.TheVariants as append
+use Rattle.law_refine.specs.Below.fkv_ops.TheAppending.{Appending}
+use Rattle.law_refine.specs.Below.fkv_ops.TheAppending.TheVariants as appending
+use Rattle.law_refine.specs.Below.fkv_ops.HeldRecord.{HeldRecord}
+use Rattle.law_refine.specs.Below.fkv_ops.Occasion.{Occasion}
+use Rattle.law_refine.specs.Below.fkv_ops.Occasion.TheVariants.{Call, Poll}
+use Rattle.law_refine.specs.Below.fkv_ops.Request.{Request}
+use Rattle.law_refine.specs.Below.fkv_ops.Seen.{Seen}
+use Rattle.law_refine.specs.Below.fkv_ops.OldValue.{OldValue}
+use Rattle.law_refine.specs.Below.fkv_ops.OldValue.TheVariants.{InMemory, Known}
+use Rattle.law_refine.specs.Below.fkv_ops.TheTrying.{Trying}
+use Rattle.law_refine.specs.Below.fkv_ops.TheTrying.TheVariants.{Ended, TakesShared, Walks, LoadsSafe, SwapsValue, LoadsCurrent, ChangesValue, LoadsAnswer, TakesExclusive, LoadsOld, Appends, DropsExclusive, DropsShared}
+use Rattle.law_refine.specs.Below.fkv_ops.WalkAnswer.{WalkAnswer}
+use Rattle.law_refine.specs.Below.fkv_ops.WalkAnswer.TheVariants as walk
 use Rattle.law_log.specs.Ghosts.{Log}
 use Rattle.law_opening.specs.Changes.Linked.{IsLed}
 use Rattle.law_opening.proofs.OfChanges.Rows.{IsAt, IsFound, IsPast, OldSo, TryKnown, TrySo, WalkSo, made_previous}

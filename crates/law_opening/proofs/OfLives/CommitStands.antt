@@ -2,18 +2,18 @@
 use Rattle.std.proofs.Common.{ℕ, List, subst}
 use Rattle.fkv_disk.specs.Calls.{MayLeave}
 use Rattle.fkv_core.specs.Openings.{beginning}
-use Rattle.fkv_keeper.specs.Keeping.{KeeperState}
-use Rattle.fkv_opening.specs.declared.opened_store.Opened.{Opened}
-use Rattle.law_world.specs.Standing.Opening.{AreNumbersInTurn}
-use Rattle.law_world.specs.Standing.Standing.{IsOneInForce, TriplesStand}
-use Rattle.law_world.proofs.OfStanding.Runs.{run_stands}
-use Rattle.law_world.specs.Keeper.Lives.{IsLifeTold, is_life_writing, life_standing, life_writing}
-use Rattle.fkv_world.specs.OwnEvents.{keeper_events}
-use Rattle.fkv_world.specs.Runs.{World, run}
-use Rattle.fkv_world.specs.World.{Event, Now}
-use Rattle.law_world.proofs.OfKeeper.OneCommit.{image_left}
-use Rattle.law_world.proofs.OfKeeper.OwnRun.{of_keeper}
-use Rattle.law_world.proofs.OfKeeper.OwnCalls.{opened_stays}
+use Rattle.law_refine.specs.Below.fkv_keeper.Keeping.{KeeperState}
+use Rattle.law_paper.specs.Below.fkv_opening.TheOpened.{Opened}
+use Rattle.law_refine.specs.Below.law_world.Standing.Opening.{AreNumbersInTurn}
+use Rattle.law_refine.specs.Below.law_world.Standing.Standing.{IsOneInForce, TriplesStand}
+use Rattle.law_refine.proofs.Below.law_world.OfStanding.Runs.{run_stands}
+use Rattle.law_refine.specs.Below.law_world.Keeper.Lives.{IsLifeTold, is_life_writing, life_standing, life_writing}
+use Rattle.law_refine.specs.Below.fkv_world.OwnEvents.{keeper_events}
+use Rattle.law_refine.specs.Below.fkv_world.Runs.{World, run}
+use Rattle.law_refine.specs.Below.fkv_world.World.{Event, Now}
+use Rattle.law_refine.proofs.Below.law_world.OfKeeper.OneCommit.{image_left}
+use Rattle.law_refine.proofs.Below.law_world.OfKeeper.OwnRun.{of_keeper}
+use Rattle.law_refine.proofs.Below.law_world.OfKeeper.OwnCalls.{opened_stays}
 use Rattle.law_opening.specs.Lives.OpenedFrom.{IsOpenedFrom}
 use Rattle.law_opening.specs.Lives.Steps.{AreStepsOfOpened, OneCommitStands, Step, device_behind, events_of, now_behind}
 use Rattle.law_opening.proofs.OfLives.Led.{Stands, stands}

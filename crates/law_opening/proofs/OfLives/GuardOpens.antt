@@ -9,22 +9,22 @@ use Rattle.fkv_base.specs.Limits.{drain_slots}
 use Rattle.fkv_base.specs.declared.numbers.Addr.{Addr}
 use Rattle.fkv_base.specs.declared.shapes.Shape.{Shape}
 use Rattle.fkv_epoch.specs.EpochWorld.{drain_word}
-use Rattle.fkv_flush.specs.Guarded as guard
-use Rattle.fkv_flush.specs.GuardSeen.{LastSeen}
-use Rattle.law_world.specs.GuardSessions.Likenesses.{last_seen}
-use Rattle.fkv_keeper.specs.KeeperRun as keeper
-use Rattle.fkv_keeper.specs.KeeperRun.{is_in_hand}
+use Rattle.law_refine.specs.Below.fkv_flush.Guarded as guard
+use Rattle.law_refine.specs.Below.fkv_flush.GuardSeen.{LastSeen}
+use Rattle.law_refine.specs.Below.law_world.GuardSessions.Likenesses.{last_seen}
+use Rattle.law_refine.specs.Below.fkv_keeper.KeeperRun as keeper
+use Rattle.law_refine.specs.Below.fkv_keeper.KeeperRun.{is_in_hand}
 use Rattle.fkv_plane.specs.Places.{word_count}
 use Rattle.fkv_plane.specs.Asked.{word_at}
-use Rattle.fkv_opening.specs.Opening.{opening_limit}
-use Rattle.fkv_opening.specs.declared.opened_store.Opened.{Opened}
-use Rattle.fkv_world.specs.World.{Now}
+use Rattle.law_paper.specs.Below.fkv_opening.Opening.{opening_limit}
+use Rattle.law_paper.specs.Below.fkv_opening.TheOpened.{Opened}
+use Rattle.law_refine.specs.Below.fkv_world.World.{Now}
 use Rattle.fkv_core.specs.Openings.{IsOpeningSeen, IsOpeningWorld, beginning}
-use Rattle.fkv_ops.specs.declared.requests.Seen.{Seen}
+use Rattle.law_refine.specs.Below.fkv_ops.Seen.{Seen}
 use Rattle.fkv_core.specs.OpeningWords.{words_before_frames, words_once}
 use Rattle.fkv_core.proofs.Shown.{length-before}
-use Rattle.law_world.specs.Guarded.OpenedStore.{IsOpenedStore}
-use Rattle.law_world.specs.Guarded.Shows.{IsOpened}
+use Rattle.law_refine.specs.Below.law_world.Guarded.OpenedStore.{IsOpenedStore}
+use Rattle.law_refine.specs.Below.law_world.Guarded.Shows.{IsOpened}
 use Rattle.law_opening.proofs.OfLives.Words.{IsParted, once_word, parted, session_word_at}
 
 -- the page of a place is at most two pages from the end of the room that is open

@@ -7,8 +7,8 @@ use Rattle.fkv_entries.specs.declared.home_entries.HomeEntry.{HomeEntry}
 use Rattle.fkv_filling.specs.Filled.{IsFilled}
 use Rattle.fkv_filling.specs.OpeningIndex.{HaveIndex, IsOpeningIndex, opening_lists}
 use Rattle.fkv_filling.proofs.Shown.{filled_in_order}
-use Rattle.fkv_opening.specs.declared.opened_store.Opened.{Opened}
-use Rattle.fkv_world.specs.World.{Now}
+use Rattle.law_paper.specs.Below.fkv_opening.TheOpened.{Opened}
+use Rattle.law_refine.specs.Below.fkv_world.World.{Now}
 use Rattle.fkv_core.specs.Openings.{IsOpeningWorld, beginning}
 use Rattle.fkv_core.specs.OpeningWords.{AreWordsOfOpened}
 use Rattle.fkv_core.proofs.Shown.{length-filled}

@@ -7,8 +7,8 @@ use Rattle.fkv_latch.specs.LatchWorld.{has_latch}
 use Rattle.fkv_latch.specs.Latching.{one_share}
 use Rattle.fkv_plane.specs.Asked.{word_at}
 use Rattle.fkv_plane.specs.Places.{bucket_place}
-use Rattle.fkv_opening.specs.declared.opened_store.Opened.{Opened}
-use Rattle.fkv_world.specs.World.{Now}
+use Rattle.law_paper.specs.Below.fkv_opening.TheOpened.{Opened}
+use Rattle.law_refine.specs.Below.fkv_world.World.{Now}
 use Rattle.fkv_core.specs.Openings.{IsOpeningWorld}
 use Rattle.law_refine.specs.Latches.Shows.{IsOpened}
 use Rattle.law_opening.proofs.OfLives.GuardOpens.{enough, its_keeper_opens}

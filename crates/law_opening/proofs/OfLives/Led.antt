@@ -3,9 +3,9 @@ use Rattle.std.proofs.Common.{◌≡◌, refl, ℕ, List, [], ◌∷◌}
 use Rattle.fkv_disk.specs.Device.{IsAfter, LeavesOnly}
 use Rattle.fkv_disk.proofs.Shown.{is_opened}
 use Rattle.fkv_core.specs.Openings.{beginning}
-use Rattle.fkv_world.specs.Opened.{IsOpenedWorld}
-use Rattle.fkv_world.specs.Runs.{World, run}
-use Rattle.fkv_world.specs.World.{Now}
+use Rattle.law_refine.specs.Below.fkv_world.Opened.{IsOpenedWorld}
+use Rattle.law_refine.specs.Below.fkv_world.Runs.{World, run}
+use Rattle.law_refine.specs.Below.fkv_world.World.{Now}
 use Rattle.law_opening.specs.Lives.Steps.{Step, AllLeadOn, AllLedOn, device_behind, events_of, now_behind}
 
 module _ {D : Type 0} (seen : D → List ℕ) (may_leave : D → List ℕ → Type 0) (n : Now) (device : D) where

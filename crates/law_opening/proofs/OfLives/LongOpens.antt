@@ -4,13 +4,13 @@ use Rattle.std.specs.Prelude.{IsSome}
 use Rattle.fkv_base.specs.declared.shapes.Shape.{Shape}
 use Rattle.fkv_core.specs.Openings.{area_numbered, newest_commit}
 use Rattle.fkv_creating.specs.Long.{IsLong}
-use Rattle.fkv_keeper.specs.LastCommits.{area_number}
-use Rattle.fkv_manifest.specs.Newest.{slot_in}
-use Rattle.fkv_newest.specs.Newest.{IsNewestOf, slot_place}
-use Rattle.fkv_newest.specs.declared.newest_slots.Newest.{Newest}
-use Rattle.fkv_newest.proofs.Shown.{one_index}
-use Rattle.fkv_opening.specs.Opened.{IsStoreOf}
-use Rattle.fkv_opening.specs.declared.opened_store.Opened.{Opened}
+use Rattle.law_refine.specs.Below.fkv_keeper.LastCommits.{area_number}
+use Rattle.law_refine.specs.Below.fkv_manifest.Newest.{slot_in}
+use Rattle.law_paper.specs.Below.fkv_newest.Newest.{IsNewestOf, slot_place}
+use Rattle.law_paper.specs.Below.fkv_newest.TheNewest.{Newest}
+use Rattle.law_paper.proofs.Below.fkv_newest.Shown.{one_index}
+use Rattle.law_paper.specs.Below.fkv_opening.Opened.{IsStoreOf}
+use Rattle.law_paper.specs.Below.fkv_opening.TheOpened.{Opened}
 use Rattle.fkv_record.specs.Layout.{shape_bytes}
 use Rattle.fkv_record.specs.Manifest.{manifest_bytes}
 use Rattle.fkv_record.specs.Places.{area_place}
@@ -18,7 +18,7 @@ use Rattle.fkv_record.specs.declared.formats.Format.{Format}
 use Rattle.fkv_record.specs.declared.manifest_slots.ManifestSlot.{ManifestSlot}
 use Rattle.fkv_record.proofs.Shown.{manifest_apart}
 use Rattle.law_opening.specs.Lives.Reaching.{ReachesFar}
-use Rattle.law_world.specs.Standing.Opening.{IsBehind}
+use Rattle.law_refine.specs.Below.law_world.Standing.Opening.{IsBehind}
 use Rattle.fkv_words.specs.Fields.{SpellsApart}
 
 same_area : (area : ℕ) → area < 2 → area_number (area_numbered area) ≡ area

@@ -1,7 +1,7 @@
 -- The steps that the engine makes over an honest device go on with every life.
 use Rattle.std.proofs.Common.{sym, subst, ℕ, Bool, List, [], ◌∷◌}
 use Rattle.fkv_core.specs.Lives.{LeadsOn}
-use Rattle.fkv_world.specs.World.{Event, Now}
+use Rattle.law_refine.specs.Below.fkv_world.World.{Event, Now}
 use Rattle.law_opening.specs.Lives.Made.{AllMade, IsMade}
 use Rattle.law_opening.specs.Lives.Steps.{AllLeadOn, Step, device_behind, now_behind}
 

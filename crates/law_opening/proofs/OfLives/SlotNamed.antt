@@ -8,8 +8,8 @@ use Rattle.std.proofs.lemmas.List.Concat.{flat_map-cons}
 use Rattle.std.proofs.lemmas.Nat.{from_le_bytes-to_le_bytes_8}
 use Rattle.fkv_disk.specs.Bytes.{byte_at}
 use Rattle.fkv_disk.proofs.Shown.{byte_at-bytes_at}
-use Rattle.fkv_manifest.specs.Gating.{open_gate}
-use Rattle.fkv_manifest.specs.Newest.{slot_in}
+use Rattle.law_refine.specs.Below.fkv_manifest.Gating.{open_gate}
+use Rattle.law_refine.specs.Below.fkv_manifest.Newest.{slot_in}
 use Rattle.fkv_record.specs.Manifest.{is_held, layout, manifest_bytes}
 use Rattle.fkv_record.specs.Numbers.{spelled}
 use Rattle.fkv_record.specs.Places.{number_at, open_number}

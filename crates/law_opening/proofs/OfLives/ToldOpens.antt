@@ -5,18 +5,18 @@ use Rattle.std.specs.Option.{is_some}
 use Rattle.fkv_base.specs.declared.shapes.Shape.{Shape}
 use Rattle.fkv_core.specs.Openings.{newest_commit}
 use Rattle.fkv_disk.specs.Bytes.{byte_at}
-use Rattle.fkv_keeper.specs.Keeping.{Finality}
-use Rattle.fkv_keeper.specs.LastCommits.{slot_place}
-use Rattle.fkv_manifest.specs.Gating.{open_gate}
-use Rattle.fkv_manifest.specs.Newest.{newest, slot_in}
-use Rattle.fkv_newest.specs.Newest.{IsNewestOf}
-use Rattle.fkv_newest.specs.Newest as told
-use Rattle.fkv_newest.specs.declared.newest_slots.Newest.{Newest}
-use Rattle.fkv_opening.specs.Opened.{IsStoreOf, Tells}
-use Rattle.fkv_opening.specs.declared.opened_store.Opened.{Opened}
+use Rattle.law_refine.specs.Below.fkv_keeper.Keeping.{Finality}
+use Rattle.law_refine.specs.Below.fkv_keeper.LastCommits.{slot_place}
+use Rattle.law_refine.specs.Below.fkv_manifest.Gating.{open_gate}
+use Rattle.law_refine.specs.Below.fkv_manifest.Newest.{newest, slot_in}
+use Rattle.law_paper.specs.Below.fkv_newest.Newest.{IsNewestOf}
+use Rattle.law_paper.specs.Below.fkv_newest.Newest as told
+use Rattle.law_paper.specs.Below.fkv_newest.TheNewest.{Newest}
+use Rattle.law_paper.specs.Below.fkv_opening.Opened.{IsStoreOf, Tells}
+use Rattle.law_paper.specs.Below.fkv_opening.TheOpened.{Opened}
 use Rattle.fkv_record.specs.Places.{most_triples, number_at}
-use Rattle.law_world.specs.Standing.Opening.{IsBehind, IsToldBy}
-use Rattle.fkv_world.specs.World.{Now}
+use Rattle.law_refine.specs.Below.law_world.Standing.Opening.{IsBehind, IsToldBy}
+use Rattle.law_refine.specs.Below.fkv_world.World.{Now}
 use Rattle.law_opening.specs.Lives.OpenedFrom.{IsOpenedFrom}
 use Rattle.law_opening.proofs.OfLives.GuardOpens.{its_keeper_opens}
 use Rattle.law_opening.proofs.OfLives.SlotNamed.{gate_told, slot_named}

@@ -4,7 +4,7 @@ use Rattle.std.specs.Prelude.{replicate}
 use Rattle.std.proofs.lemmas.Bool.{cases_lt}
 use Rattle.std.proofs.lemmas.List.{append_assoc, length-append, get_or_append_left, get_or-append_right}
 use Rattle.fkv_plane.specs.Asked.{word_at}
-use Rattle.fkv_opening.specs.declared.opened_store.Opened.{Opened}
+use Rattle.law_paper.specs.Below.fkv_opening.TheOpened.{Opened}
 use Rattle.fkv_core.specs.OpeningWords.{AreWordsOfOpened, words_of_session, words_of_sessions, words_once}
 
 length-sessions : (o : Opened) (n : ℕ) → length (words_of_sessions o n) ≡ 16 * n

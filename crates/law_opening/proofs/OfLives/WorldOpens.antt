@@ -1,8 +1,8 @@
 -- The world of an opened store is one as a life begins.
 use Rattle.std.proofs.Common.{refl, sym, ◌∙◌, ℕ, List}
-use Rattle.fkv_opening.specs.declared.opened_store.Opened.{Opened}
-use Rattle.fkv_world.specs.Opened.{IsOpenedWorld}
-use Rattle.fkv_world.specs.World.{Now}
+use Rattle.law_paper.specs.Below.fkv_opening.TheOpened.{Opened}
+use Rattle.law_refine.specs.Below.fkv_world.Opened.{IsOpenedWorld}
+use Rattle.law_refine.specs.Below.fkv_world.World.{Now}
 use Rattle.fkv_core.specs.Openings.{IsOpeningWorld, beginning}
 use Rattle.law_opening.proofs.OfLives.GuardOpens.{its_keeper_opens}
 

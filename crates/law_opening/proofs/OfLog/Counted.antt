@@ -2,20 +2,20 @@
 use Rattle.std.proofs.Common.{◌≡◌, inl, inr, ℕ, ◌<◌, ◌≤◌, Bool, true, false, cond, Some, List, [], refl, sym, ap, subst, ◌∙◌, arith}
 use Rattle.fkv_base.specs.declared.numbers.Addr.{Addr}
 use Rattle.fkv_base.specs.declared.shapes.Shape.{Shape}
-use Rattle.fkv_chains.specs.Entries.{Counts, IsEntry}
+use Rattle.law_paper.specs.Below.fkv_chains.Entries.{Counts, IsEntry}
 use Rattle.fkv_disk.specs.Bytes.{bytes_at}
-use Rattle.fkv_opening.specs.Opened.{IsStoreOf}
-use Rattle.fkv_opening.specs.declared.opened_store.Opened.{Opened}
+use Rattle.law_paper.specs.Below.fkv_opening.Opened.{IsStoreOf}
+use Rattle.law_paper.specs.Below.fkv_opening.TheOpened.{Opened}
 use Rattle.law_log.specs.Chains.{Cell, Unborn, Reserved, Published, head_of}
 use Rattle.law_log.specs.Enabled.{AreChains, IsLinked, previous_of}
 use Rattle.law_log.specs.Trace.{IsIn}
-use Rattle.fkv_pairs.specs.Pairs.{CountsAtHome, IsChainOf, log_of_store}
+use Rattle.law_paper.specs.Below.fkv_pairs.Pairs.{CountsAtHome, IsChainOf, log_of_store}
 use Rattle.fkv_record.specs.Layout.{record_bytes}
 use Rattle.fkv_record.specs.Places.{record_place}
 use Rattle.fkv_record.specs.declared.records.Record.{Record}
-use Rattle.fkv_scan.specs.Log.{Log, record_home}
-use Rattle.fkv_scan.specs.Records.{Stands}
-use Rattle.fkv_scan.specs.Scan.{Has}
+use Rattle.law_paper.specs.Below.fkv_scan.Log.{Log, record_home}
+use Rattle.law_paper.specs.Below.fkv_scan.Records.{Stands}
+use Rattle.law_paper.specs.Below.fkv_scan.Scan.{Has}
 use Rattle.fkv_words.specs.Fields.{SpellsApart}
 use Rattle.law_refine.specs.Events.GhostEvents.{home_in}
 use Rattle.law_opening.specs.Log.OpeningLog.{cell_at, chain_down, chain_of, entry_of, is_in, logged_at, opening_log}

@@ -7,13 +7,13 @@ use Rattle.fkv_entries.specs.declared.home_entries.HomeEntry.{HomeEntry}
 use Rattle.fkv_filling.specs.OpeningIndex.{IsNoHome, IsOpeningIndex, home, opening_lists}
 use Rattle.fkv_index.specs.Entries.{entry_at}
 use Rattle.fkv_index.specs.declared.homes.Home.{Home}
-use Rattle.fkv_opening.specs.Entries.{entry_home}
-use Rattle.fkv_opening.specs.Opened.{IsStoreOf}
-use Rattle.fkv_opening.specs.declared.opened_store.Opened.{Opened}
+use Rattle.law_paper.specs.Below.fkv_opening.Entries.{entry_home}
+use Rattle.law_paper.specs.Below.fkv_opening.Opened.{IsStoreOf}
+use Rattle.law_paper.specs.Below.fkv_opening.TheOpened.{Opened}
 use Rattle.law_log.specs.Chains.{head_of}
-use Rattle.fkv_pairs.specs.Pairs.{log_of_store}
-use Rattle.fkv_room.proofs.Shown.{in_head, in_tail}
-use Rattle.fkv_world.specs.World.{Now}
+use Rattle.law_paper.specs.Below.fkv_pairs.Pairs.{log_of_store}
+use Rattle.law_paper.proofs.Below.fkv_room.Shown.{in_head, in_tail}
+use Rattle.law_refine.specs.Below.fkv_world.World.{Now}
 use Rattle.law_refine.specs.Events.GhostEvents.{home_number}
 use Rattle.law_refine.specs.Heads.Heads.{LeadToHeads, entry_to}
 use Rattle.law_opening.specs.Log.OpeningLog.{chain_of, entry_of, opening_log}

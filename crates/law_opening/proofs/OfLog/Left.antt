@@ -3,18 +3,18 @@ use Rattle.std.proofs.Common.{◌≡◌, ◌≢◌, ⊎_elim, ℕ, ◌+◌, ◌<
 use Rattle.std.specs.Prelude.{count_by}
 use Rattle.std.proofs.lemmas.Bool.{cases_lt}
 use Rattle.std.proofs.lemmas.Bool.Decides.{nat_tests}
-use Rattle.fkv_chains.specs.Entries.{Counts}
-use Rattle.fkv_chains.specs.Reached.{in_scan}
+use Rattle.law_paper.specs.Below.fkv_chains.Entries.{Counts}
+use Rattle.law_paper.specs.Below.fkv_chains.Reached.{in_scan}
 use Rattle.std.proofs.lemmas.List.Sums.{sum_by-append}
-use Rattle.fkv_opening.specs.Lost.{Extends}
-use Rattle.fkv_opening.specs.Opened.{IsStoreOf}
-use Rattle.fkv_opening.specs.declared.opened_store.Opened.{Opened}
-use Rattle.fkv_pairs.specs.Pairs.{CountsAtHome, log_of_store}
+use Rattle.law_paper.specs.Below.fkv_opening.Lost.{Extends}
+use Rattle.law_paper.specs.Below.fkv_opening.Opened.{IsStoreOf}
+use Rattle.law_paper.specs.Below.fkv_opening.TheOpened.{Opened}
+use Rattle.law_paper.specs.Below.fkv_pairs.Pairs.{CountsAtHome, log_of_store}
 use Rattle.fkv_record.specs.declared.lost_ranges.LostRange.{LostRange}
 use Rattle.fkv_record.specs.declared.records.Record.{Record}
-use Rattle.fkv_scan.specs.Log.{Log, record_home}
-use Rattle.fkv_scan.specs.Records.{Stands, losses, is_in}
-use Rattle.fkv_scan.specs.Scanned.{TellsNewer}
+use Rattle.law_paper.specs.Below.fkv_scan.Log.{Log, record_home}
+use Rattle.law_paper.specs.Below.fkv_scan.Records.{Stands, losses, is_in}
+use Rattle.law_paper.specs.Below.fkv_scan.Scanned.{TellsNewer}
 use Rattle.law_paper.specs.Paper.Old.{LosesTheRest}
 use Rattle.law_opening.specs.Log.OpeningLog.{opening_log}
 use Rattle.law_opening.proofs.OfLog.Counted.{chain_counts, counts_chain}

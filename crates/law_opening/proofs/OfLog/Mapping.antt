@@ -3,7 +3,7 @@ use Rattle.std.proofs.Common.{◌≡◌, ⊎_elim, ℕ, zero, suc, ◌<◌, Bool
 use Rattle.std.specs.FinMap.{find, from_entries, get, get-from_entries}
 use Rattle.std.specs.Ordering.{eq_by_cmp, nat_cmp}
 use Rattle.std.proofs.lemmas.Cmp.{nat_cmp_total}
-use Rattle.fkv_scan.proofs.Shown.{at_or_below, at_same, is_same}
+use Rattle.law_paper.proofs.Below.fkv_scan.Shown.{at_or_below, at_same, is_same}
 use Rattle.law_opening.specs.Log.Maps.{values_below, with_value}
 
 module _ (value_of : ℕ → Option ℕ) (key_at : ℕ → ℕ) where

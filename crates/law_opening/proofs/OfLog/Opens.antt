@@ -7,21 +7,21 @@ use Rattle.std.proofs.lemmas.Cmp.{nat_cmp_total}
 use Rattle.fkv_base.specs.declared.numbers.Key.{Key}
 use Rattle.fkv_base.specs.declared.numbers.Value.{Value}
 use Rattle.fkv_core.specs.Openings.{IsOpeningWorld}
-use Rattle.fkv_opening.specs.Opened.{IsStoreOf}
-use Rattle.fkv_opening.specs.declared.opened_store.Opened.{Opened}
-use Rattle.fkv_ops.specs.Values.{value_of}
+use Rattle.law_paper.specs.Below.fkv_opening.Opened.{IsStoreOf}
+use Rattle.law_paper.specs.Below.fkv_opening.TheOpened.{Opened}
+use Rattle.law_refine.specs.Below.fkv_ops.Values.{value_of}
 use Rattle.law_log.proofs.Shown.{first_is}
 use Rattle.law_log.specs.Chains.{Cell, Logged, Unborn, Reserved, Published, Dropped, first_such, has_key, head_of, value_at}
 use Rattle.law_log.specs.Ghosts.{newest_of, shown}
 use Rattle.law_log.specs.Enabled.{IsLinked, IsOpened}
 use Rattle.law_log.specs.Trace.{IsIn}
-use Rattle.fkv_pairs.specs.Pairs.{ArePairs, CountsAtHome, HasValue, IsNewest, log_of_store}
+use Rattle.law_paper.specs.Below.fkv_pairs.Pairs.{ArePairs, CountsAtHome, HasValue, IsNewest, log_of_store}
 use Rattle.fkv_plane.specs.Asked.{word_at}
 use Rattle.fkv_plane.specs.Places.{shared_place}
 use Rattle.fkv_plane.specs.declared.places.SharedWord.TheVariants as one_word
 use Rattle.fkv_record.specs.declared.records.Record.{Record}
-use Rattle.fkv_scan.specs.Records.{Stands}
-use Rattle.fkv_world.specs.World.{Now}
+use Rattle.law_paper.specs.Below.fkv_scan.Records.{Stands}
+use Rattle.law_refine.specs.Below.fkv_world.World.{Now}
 use Rattle.law_refine.specs.Events.GhostEvents.{home_in, safe_at}
 use Rattle.law_refine.specs.Events.Reserved.{tail_at}
 use Rattle.law_opening.specs.Log.Begins.{Begins}

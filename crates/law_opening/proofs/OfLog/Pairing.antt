@@ -8,11 +8,11 @@ use Rattle.std.proofs.lemmas.Cmp.{nat_cmp_total}
 use Rattle.fkv_base.specs.declared.numbers.Key.{Key}
 use Rattle.fkv_base.specs.declared.numbers.Value.{Value}
 use Rattle.fkv_map.specs.Map.{as_numbers}
-use Rattle.fkv_ops.specs.Values.{value_of}
-use Rattle.fkv_pairs.specs.Pairs.{ArePairs, HasValue, absent_word}
-use Rattle.fkv_room.proofs.Shown.{in_rest, in_head, in_tail}
-use Rattle.fkv_scan.proofs.Shown.{at_same, is_same, some_is}
-use Rattle.fkv_scan.specs.Log.{Log}
+use Rattle.law_refine.specs.Below.fkv_ops.Values.{value_of}
+use Rattle.law_paper.specs.Below.fkv_pairs.Pairs.{ArePairs, HasValue, absent_word}
+use Rattle.law_paper.proofs.Below.fkv_room.Shown.{in_rest, in_head, in_tail}
+use Rattle.law_paper.proofs.Below.fkv_scan.Shown.{at_same, is_same, some_is}
+use Rattle.law_paper.specs.Below.fkv_scan.Log.{Log}
 use Rattle.law_opening.specs.Log.Records.{map_of}
 
 abbrev pair_of : ℕ → ℕ → Key × Value

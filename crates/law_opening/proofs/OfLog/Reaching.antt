@@ -3,18 +3,18 @@ use Rattle.std.proofs.Common.{◌≡◌, ◌≢◌, ◌⊎◌, inl, inr, ⊎_eli
 use Rattle.std.specs.Prelude.{Contains, nat_eq, true, false, Bool}
 use Rattle.std.proofs.lemmas.Bool.{cases_lt}
 use Rattle.std.proofs.lemmas.Bool.Decides.{nat_tests}
-use Rattle.fkv_chains.specs.Chains.{HasChains}
-use Rattle.fkv_chains.specs.Entries.{Counts, IsEntry}
-use Rattle.fkv_chains.specs.Reached.{Reached, in_scan, led_to, linked}
+use Rattle.law_paper.specs.Below.fkv_chains.Chains.{HasChains}
+use Rattle.law_paper.specs.Below.fkv_chains.Entries.{Counts, IsEntry}
+use Rattle.law_paper.specs.Below.fkv_chains.Reached.{Reached, in_scan, led_to, linked}
 use Rattle.fkv_entries.specs.declared.home_entries.HomeEntry.{HomeEntry}
-use Rattle.fkv_opening.specs.Entries.{entry_home, place_of, AreEntries}
-use Rattle.fkv_pairs.specs.Pairs.{IsChainOf}
+use Rattle.law_paper.specs.Below.fkv_opening.Entries.{entry_home, place_of, AreEntries}
+use Rattle.law_paper.specs.Below.fkv_pairs.Pairs.{IsChainOf}
 use Rattle.fkv_record.specs.Layout.{record_bytes}
 use Rattle.fkv_record.specs.declared.records.Record.{Record}
-use Rattle.fkv_room.proofs.Shown.{in_rest, in_head, in_tail}
-use Rattle.fkv_scan.specs.Log.{Log, AreBelow}
-use Rattle.fkv_scan.specs.Records.{Stands}
-use Rattle.fkv_scan.specs.Scan.{Has, HasScan}
+use Rattle.law_paper.proofs.Below.fkv_room.Shown.{in_rest, in_head, in_tail}
+use Rattle.law_paper.specs.Below.fkv_scan.Log.{Log, AreBelow}
+use Rattle.law_paper.specs.Below.fkv_scan.Records.{Stands}
+use Rattle.law_paper.specs.Below.fkv_scan.Scan.{Has, HasScan}
 use Rattle.fkv_words.specs.Fields.{SpellsApart}
 use Rattle.law_opening.specs.Log.OpeningLog.{entry_of}
 

@@ -2,14 +2,14 @@
 use Rattle.std.proofs.Common.{◌≡◌, ◌≢◌, ◌⊎◌, inl, inr, ⊎_elim, ℕ, zero, suc, ◌<◌, ◌≤◌, Bool, true, false, Some, List, [], ◌∷◌, refl, sym, ap, subst, ◌∙◌, arith}
 use Rattle.std.specs.Prelude.{◌||◌, nat_eq}
 use Rattle.std.proofs.lemmas.Bool.Decides.{nat_tests}
-use Rattle.fkv_chains.proofs.Shown.{along_some}
-use Rattle.fkv_chains.specs.Along.{IsAlong, here, on}
+use Rattle.law_paper.proofs.Below.fkv_chains.Shown.{along_some}
+use Rattle.law_paper.specs.Below.fkv_chains.Along.{IsAlong, here, on}
 use Rattle.law_log.specs.Chains.{Logged, head_of}
 use Rattle.law_log.specs.Enabled.{IsLinked, previous_of}
 use Rattle.law_log.specs.Trace.{IsIn}
 use Rattle.fkv_record.specs.declared.records.Record.{Record}
-use Rattle.fkv_scan.specs.Log.{Log}
-use Rattle.fkv_scan.specs.Records.{Stands}
+use Rattle.law_paper.specs.Below.fkv_scan.Log.{Log}
+use Rattle.law_paper.specs.Below.fkv_scan.Records.{Stands}
 use Rattle.law_opening.specs.Log.OpeningLog.{chain_down, is_in}
 
 -- ---- its shape

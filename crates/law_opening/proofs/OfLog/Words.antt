@@ -6,7 +6,7 @@ use Rattle.std.proofs.lemmas.List.Concat.{flat_map-cons}
 use Rattle.std.proofs.lemmas.Nat.{from_le_bytes-to_le_bytes_8}
 use Rattle.std.specs.Int.{w64, to_le_bytes, from_le_bytes}
 use Rattle.fkv_disk.specs.Bytes.{bytes_at}
-use Rattle.fkv_opening.specs.declared.opened_store.Opened.{Opened}
+use Rattle.law_paper.specs.Below.fkv_opening.TheOpened.{Opened}
 use Rattle.fkv_record.proofs.Shown.{record_numbered}
 use Rattle.fkv_record.specs.Layout.{record_bytes, record_numbers}
 use Rattle.fkv_record.specs.Numbers.{spelled}

@@ -1,37 +1,37 @@
 -- The keeper of a store that opens: nothing is in hand, and its machines rest.
 use Rattle.std.proofs.Common.{[], None, true, false, refl}
 use Rattle.fkv_base.specs.declared.commits.CommitKind.TheVariants.{Full}
-use Rattle.fkv_commit.specs.Deferring.{DeferState}
-use Rattle.fkv_commit.specs.declared.deferring.DeferAnswer.TheVariants.{NoSlot}
-use Rattle.fkv_commit.specs.declared.deferring.Deferring.TheVariants as defer
-use Rattle.fkv_commit.specs.declared.entering.EnterAnswer.TheVariants as enter
-use Rattle.fkv_commit.specs.declared.entering.Entering.TheVariants as entering
-use Rattle.fkv_commit.specs.declared.finishing.FinishAnswer.TheVariants as finish
-use Rattle.fkv_commit.specs.declared.finishing.Finishing.TheVariants as finishing
-use Rattle.fkv_commit.specs.declared.seeking.SeekAnswer.TheVariants as seek
-use Rattle.fkv_commit.specs.declared.seeking.Seeking.TheVariants as seeking
-use Rattle.fkv_commit.specs.declared.starting.StartAnswer.TheVariants as start
-use Rattle.fkv_commit.specs.declared.starting.Starting.TheVariants as starting
-use Rattle.fkv_commit.specs.declared.waiting.WaitAnswer.TheVariants as wait
-use Rattle.fkv_commit.specs.declared.waiting.Waiting.TheVariants as waiting
+use Rattle.law_refine.specs.Below.fkv_commit.Deferring.{DeferState}
+use Rattle.law_refine.specs.Below.fkv_commit.DeferAnswer.TheVariants.{NoSlot}
+use Rattle.law_refine.specs.Below.fkv_commit.TheDeferring.TheVariants as defer
+use Rattle.law_refine.specs.Below.fkv_commit.EnterAnswer.TheVariants as enter
+use Rattle.law_refine.specs.Below.fkv_commit.TheEntering.TheVariants as entering
+use Rattle.law_refine.specs.Below.fkv_commit.FinishAnswer.TheVariants as finish
+use Rattle.law_refine.specs.Below.fkv_commit.TheFinishing.TheVariants as finishing
+use Rattle.law_refine.specs.Below.fkv_commit.SeekAnswer.TheVariants as seek
+use Rattle.law_refine.specs.Below.fkv_commit.TheSeeking.TheVariants as seeking
+use Rattle.law_refine.specs.Below.fkv_commit.StartAnswer.TheVariants as start
+use Rattle.law_refine.specs.Below.fkv_commit.TheStarting.TheVariants as starting
+use Rattle.law_refine.specs.Below.fkv_commit.WaitAnswer.TheVariants as wait
+use Rattle.law_refine.specs.Below.fkv_commit.TheWaiting.TheVariants as waiting
 use Rattle.fkv_epoch.specs.declared.arming.Arming.TheVariants as arm
 use Rattle.fkv_epoch.specs.declared.claiming.Claiming.TheVariants as claim
 use Rattle.fkv_epoch.specs.declared.raising.Raising.TheVariants as raise
 use Rattle.fkv_epoch.specs.declared.scanning.Scanning.TheVariants as scan
-use Rattle.fkv_flush.specs.declared.flushing.Flushing.TheVariants as flush
-use Rattle.fkv_flush.specs.declared.serving.Serving.TheVariants as serve
-use Rattle.fkv_keeper.specs.Keeping.{KeeperState, no_writes}
-use Rattle.fkv_keeper.specs.NewKeepers.{IsNewKeeper}
-use Rattle.fkv_keeper.specs.declared.answers.KeeperTold.TheVariants.{Turned}
-use Rattle.fkv_keeper.specs.declared.keepers.Keeping.TheVariants.{Ended}
-use Rattle.fkv_log.specs.Moving.{move_at_rest}
-use Rattle.fkv_log.specs.Shifting.{shift_at}
-use Rattle.fkv_log.specs.Turning.{turn_at}
-use Rattle.fkv_log.specs.declared.shifting.Shifting.TheVariants as shift
-use Rattle.fkv_log.specs.declared.turning.Turning.TheVariants as turn
-use Rattle.fkv_maintain.specs.Maintaining.{MaintainState}
-use Rattle.fkv_maintain.specs.declared.maintaining.Maintaining.TheVariants.{Through}
-use Rattle.fkv_opening.specs.declared.opened_store.Opened.{Opened}
+use Rattle.law_refine.specs.Below.fkv_flush.TheFlushing.TheVariants as flush
+use Rattle.law_refine.specs.Below.fkv_flush.TheServing.TheVariants as serve
+use Rattle.law_refine.specs.Below.fkv_keeper.Keeping.{KeeperState, no_writes}
+use Rattle.law_refine.specs.Below.fkv_keeper.NewKeepers.{IsNewKeeper}
+use Rattle.law_refine.specs.Below.fkv_keeper.KeeperTold.TheVariants.{Turned}
+use Rattle.law_refine.specs.Below.fkv_keeper.TheKeeping.TheVariants.{Ended}
+use Rattle.law_refine.specs.Below.fkv_log.Moving.{move_at_rest}
+use Rattle.law_refine.specs.Below.fkv_log.Shifting.{shift_at}
+use Rattle.law_refine.specs.Below.fkv_log.Turning.{turn_at}
+use Rattle.law_refine.specs.Below.fkv_log.TheShifting.TheVariants as shift
+use Rattle.law_refine.specs.Below.fkv_log.TheTurning.TheVariants as turn
+use Rattle.law_refine.specs.Below.fkv_maintain.Maintaining.{MaintainState}
+use Rattle.law_refine.specs.Below.fkv_maintain.TheMaintaining.TheVariants.{Through}
+use Rattle.law_paper.specs.Below.fkv_opening.TheOpened.{Opened}
 use Rattle.fkv_core.specs.Openings.{newest_commit}
 use Rattle.law_opening.proofs.OfWorlds.Places.{places_fit, places_of}
 

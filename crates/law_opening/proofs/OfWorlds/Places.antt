@@ -6,7 +6,7 @@ use Rattle.fkv_base.specs.Limits.{is_ring_size, max_bucket_bits, max_buckets, ma
 use Rattle.fkv_base.specs.declared.shapes.Shape.{Shape}
 use Rattle.fkv_base.proofs.Shown.{powers_multiply, remainder_is_mask, ring_between, ring_size_is_power}
 use Rattle.fkv_plane.specs.declared.places.Places.{Places}
-use Rattle.fkv_keeper.specs.NewKeepers.{ArePlacesOfStore}
+use Rattle.law_refine.specs.Below.fkv_keeper.NewKeepers.{ArePlacesOfStore}
 
 few_buckets : (bits : ℕ) → bits ≤ max_bucket_bits → 2 ^ bits ≤ max_buckets
 few_buckets bits few =

@@ -10,26 +10,26 @@ use Rattle.fkv_epoch.specs.declared.protecting.Protecting.TheVariants as protect
 use Rattle.fkv_epoch.specs.declared.refreshing.Refreshing.TheVariants as refresh
 use Rattle.fkv_epoch.specs.declared.scanning.Scanning.TheVariants as scan
 use Rattle.fkv_latch.specs.declared.latching.Latching.TheVariants as latch
-use Rattle.fkv_log.specs.Moving.{move_at_rest}
-use Rattle.fkv_log.specs.Shifting.{shift_at}
-use Rattle.fkv_log.specs.Turning.{turn_at}
-use Rattle.fkv_log.specs.declared.shifting.Shifting.TheVariants as shift
-use Rattle.fkv_log.specs.declared.turning.Turning.TheVariants as turn
+use Rattle.law_refine.specs.Below.fkv_log.Moving.{move_at_rest}
+use Rattle.law_refine.specs.Below.fkv_log.Shifting.{shift_at}
+use Rattle.law_refine.specs.Below.fkv_log.Turning.{turn_at}
+use Rattle.law_refine.specs.Below.fkv_log.TheShifting.TheVariants as shift
+use Rattle.law_refine.specs.Below.fkv_log.TheTurning.TheVariants as turn
 use Rattle.fkv_map.specs.declared.operations.Op.TheVariants.{Read}
-use Rattle.fkv_opening.specs.Opening.{point_of}
-use Rattle.fkv_opening.specs.declared.opened_store.Opened.{Opened}
-use Rattle.fkv_ops.specs.Resting.{nothing_seen}
-use Rattle.fkv_ops.specs.declared.requests.Seen.{Seen}
-use Rattle.fkv_pending.specs.Attempting.{attempt_rested}
-use Rattle.fkv_pending.specs.declared.mailing.MailAnswer.TheVariants.{NotReady}
-use Rattle.fkv_pending.specs.declared.mailing.Mailing.TheVariants as mail
-use Rattle.fkv_session.specs.CatchingUp.{CatchState}
-use Rattle.fkv_session.specs.OwnTurns.{OwnTurnState}
-use Rattle.fkv_session.specs.Sessions.{SessionState}
-use Rattle.fkv_session.specs.declared.answers.Told.TheVariants.{Slept}
-use Rattle.fkv_session.specs.declared.catching_up.Catching.TheVariants as catching
-use Rattle.fkv_session.specs.declared.own_turns.OwnTurning.TheVariants as own
-use Rattle.fkv_session.specs.declared.sessions.Sitting.TheVariants.{Idle}
+use Rattle.law_paper.specs.Below.fkv_opening.Opening.{point_of}
+use Rattle.law_paper.specs.Below.fkv_opening.TheOpened.{Opened}
+use Rattle.law_refine.specs.Below.fkv_ops.Resting.{nothing_seen}
+use Rattle.law_refine.specs.Below.fkv_ops.Seen.{Seen}
+use Rattle.law_refine.specs.Below.fkv_pending.Attempting.{attempt_rested}
+use Rattle.law_refine.specs.Below.fkv_pending.MailAnswer.TheVariants.{NotReady}
+use Rattle.law_refine.specs.Below.fkv_pending.TheMailing.TheVariants as mail
+use Rattle.law_refine.specs.Below.fkv_session.CatchingUp.{CatchState}
+use Rattle.law_refine.specs.Below.fkv_session.OwnTurns.{OwnTurnState}
+use Rattle.law_refine.specs.Below.fkv_session.Sessions.{SessionState}
+use Rattle.law_refine.specs.Below.fkv_session.Told.TheVariants.{Slept}
+use Rattle.law_refine.specs.Below.fkv_session.Catching.TheVariants as catching
+use Rattle.law_refine.specs.Below.fkv_session.OwnTurning.TheVariants as own
+use Rattle.law_refine.specs.Below.fkv_session.Sitting.TheVariants.{Idle}
 use Rattle.fkv_core.specs.Openings.{IsOpeningSession}
 
 catch_rested : CatchState

@@ -2,8 +2,8 @@
 use Rattle.std.proofs.Common.{◌≡◌, ℕ, ◌+◌, ◌*◌, ◌^◌, ◌++◌, None, false, refl, subst, arith}
 use Rattle.std.specs.Prelude.{replicate}
 use Rattle.fkv_base.specs.Limits.{drain_slots}
-use Rattle.fkv_opening.specs.declared.opened_store.Opened.{Opened}
-use Rattle.fkv_world.specs.World.{Now}
+use Rattle.law_paper.specs.Below.fkv_opening.TheOpened.{Opened}
+use Rattle.law_refine.specs.Below.fkv_world.World.{Now}
 use Rattle.fkv_core.specs.OpeningWords.{words_before_frames}
 use Rattle.fkv_core.specs.Openings.{IsOpeningSession, IsOpeningWorld}
 use Rattle.law_opening.proofs.OfWorlds.Index.{IsIndex, index_of}

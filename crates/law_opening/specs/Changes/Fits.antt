@@ -5,7 +5,7 @@ use Rattle.fkv_map.specs.declared.operations.Call.{Call}
 use Rattle.fkv_map.specs.declared.operations.Call.TheVariants as call
 use Rattle.law_log.specs.Chains.{Cell, Published}
 use Rattle.law_log.specs.Ghosts.{Log}
-use Rattle.fkv_world.specs.World.{Event, Calls}
+use Rattle.law_refine.specs.Below.fkv_world.World.{Event, Calls}
 
 abbrev pub CallFits : Call → Type 0
 CallFits (call.Op op) = OpFits op

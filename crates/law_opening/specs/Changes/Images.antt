@@ -2,12 +2,12 @@
 use Rattle.std.specs.Prelude.{◌≡◌, ℕ, List, [], ◌∷◌}
 use Rattle.fkv_base.specs.declared.shapes.Shape.{Shape}
 use Rattle.fkv_disk.specs.Bytes.{bytes_at}
-use Rattle.fkv_ops.specs.Values.{value_of}
+use Rattle.law_refine.specs.Below.fkv_ops.Values.{value_of}
 use Rattle.fkv_plane.specs.declared.places.RecordWord.{RecordWord}
 use Rattle.fkv_plane.specs.declared.places.RecordWord.TheVariants as rec
 use Rattle.fkv_record.specs.Numbers.{spelled}
 use Rattle.fkv_record.specs.Places as image
-use Rattle.law_local.specs.Tries.MailRows.{LeadsTo}
+use Rattle.law_refine.specs.Below.law_local.Tries.MailRows.{LeadsTo}
 use Rattle.law_log.specs.Chains.{Cell}
 
 -- The bytes have the record at its place: three words of which the first leads where the record does, and the others are its key and its value.

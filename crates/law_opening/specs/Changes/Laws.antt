@@ -1,16 +1,16 @@
 -- What the laws say.
 use Rattle.std.specs.Prelude.{◌≡◌, ◌<◌, ℕ, List, []}
-use Rattle.fkv_flush.specs.GuardFlushed.{stands}
-use Rattle.fkv_world.specs.Opened.{IsOpenedWorld}
-use Rattle.fkv_world.specs.Runs.{World}
-use Rattle.fkv_world.specs.World.{Event}
+use Rattle.law_refine.specs.Below.fkv_flush.GuardFlushed.{stands}
+use Rattle.law_refine.specs.Below.fkv_world.Opened.{IsOpenedWorld}
+use Rattle.law_refine.specs.Below.fkv_world.Runs.{World}
+use Rattle.law_refine.specs.Below.fkv_world.World.{Event}
 use Rattle.law_opening.specs.Changes.Fits.{CallsFit, CellsFit}
 use Rattle.law_opening.specs.Changes.Images.{IsInImage}
 use Rattle.law_opening.specs.Changes.Linked.{ChainsFall, IsLinkedLog}
-use Rattle.law_world.specs.Guarded.GuardEvents as guarded
-use Rattle.law_world.specs.Guarded.OpenedStore.{IsOpenedStore}
-use Rattle.law_world.specs.Guarded.Shows as guard
-use Rattle.law_world.specs.Guarded.Shows.{guard_opening}
+use Rattle.law_refine.specs.Below.law_world.Guarded.GuardEvents as guarded
+use Rattle.law_refine.specs.Below.law_world.Guarded.OpenedStore.{IsOpenedStore}
+use Rattle.law_refine.specs.Below.law_world.Guarded.Shows as guard
+use Rattle.law_refine.specs.Below.law_world.Guarded.Shows.{guard_opening}
 use Rattle.law_log.specs.Chains.{Cell, Published}
 use Rattle.law_log.specs.Ghosts.{Ghosts}
 use Rattle.law_refine.specs.Index.Shows as index

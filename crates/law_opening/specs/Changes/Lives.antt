@@ -2,15 +2,15 @@
 use Rattle.std.specs.Prelude.{◌≡◌, ◌<◌, ℕ, List}
 use Rattle.fkv_core.specs.Openings.{IsOpeningWorld, beginning}
 use Rattle.fkv_filling.specs.OpeningIndex.{opening_lists}
-use Rattle.fkv_flush.specs.GuardFlushed.{stands}
-use Rattle.fkv_opening.specs.Opened.{IsStoreOf}
-use Rattle.fkv_opening.specs.declared.opened_store.Opened.{Opened}
-use Rattle.fkv_world.specs.World.{Event, Now}
+use Rattle.law_refine.specs.Below.fkv_flush.GuardFlushed.{stands}
+use Rattle.law_paper.specs.Below.fkv_opening.Opened.{IsStoreOf}
+use Rattle.law_paper.specs.Below.fkv_opening.TheOpened.{Opened}
+use Rattle.law_refine.specs.Below.fkv_world.World.{Event, Now}
 use Rattle.law_opening.specs.Changes.Fits.{CallsFit, CellsFit}
 use Rattle.law_opening.specs.Changes.Laws.{BeginsFitting, BeginsLinked}
 use Rattle.law_opening.specs.Changes.Linked.{ChainsFall}
-use Rattle.law_world.specs.Guarded.GuardEvents as guarded
-use Rattle.law_world.specs.Guarded.Shows.{guard_opening}
+use Rattle.law_refine.specs.Below.law_world.Guarded.GuardEvents as guarded
+use Rattle.law_refine.specs.Below.law_world.Guarded.Shows.{guard_opening}
 use Rattle.law_opening.specs.Log.Lives.{ghosts_beside}
 use Rattle.law_opening.specs.Log.OpeningLog.{opening_ghosts}
 use Rattle.law_refine.specs.Events.GhostEvents.{home_in}

@@ -4,15 +4,15 @@ use Rattle.fkv_base.specs.declared.shapes.Shape.{Shape}
 use Rattle.fkv_creating.specs.Created.{IsCreated}
 use Rattle.fkv_disk.specs.Device.{IsAfter, LeavesOnly}
 use Rattle.fkv_filling.specs.OpeningIndex.{IsOpeningIndex, opening_lists}
-use Rattle.fkv_opening.specs.Opened.{IsStoreOf}
-use Rattle.fkv_opening.specs.declared.opened_store.Opened.{Opened}
-use Rattle.law_world.specs.Standing.Opening.{AreNumbersInTurn, IsBehind, IsToldBy}
-use Rattle.law_world.specs.Keeper.Lives.{IsLifeTold}
-use Rattle.fkv_world.specs.Opened.{IsOpenedWorld}
-use Rattle.fkv_world.specs.OwnEvents.{keeper_events}
-use Rattle.fkv_world.specs.World.{Event, Now}
+use Rattle.law_paper.specs.Below.fkv_opening.Opened.{IsStoreOf}
+use Rattle.law_paper.specs.Below.fkv_opening.TheOpened.{Opened}
+use Rattle.law_refine.specs.Below.law_world.Standing.Opening.{AreNumbersInTurn, IsBehind, IsToldBy}
+use Rattle.law_refine.specs.Below.law_world.Keeper.Lives.{IsLifeTold}
+use Rattle.law_refine.specs.Below.fkv_world.Opened.{IsOpenedWorld}
+use Rattle.law_refine.specs.Below.fkv_world.OwnEvents.{keeper_events}
+use Rattle.law_refine.specs.Below.fkv_world.World.{Event, Now}
 use Rattle.fkv_core.specs.Openings.{IsOpeningWorld, beginning, newest_commit}
-use Rattle.law_world.specs.Guarded.OpenedStore.{IsOpenedStore}
+use Rattle.law_refine.specs.Below.law_world.Guarded.OpenedStore.{IsOpenedStore}
 use Rattle.law_refine.specs.Index.Shows as index
 use Rattle.law_refine.specs.Latches.Shows as latch
 use Rattle.law_opening.specs.Lives.Made.{AllMade}

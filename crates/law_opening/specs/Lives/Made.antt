@@ -2,7 +2,7 @@
 use Rattle.std.specs.Prelude.{◌≡◌, ◌↔◌, ⊤, ℕ, Bool, List, [], ◌∷◌}
 use Rattle.fkv_core.specs.Worlds.{IsStep, took_place}
 use Rattle.fkv_core.specs.declared.events.Event as asked
-use Rattle.fkv_world.specs.World.{Now}
+use Rattle.law_refine.specs.Below.fkv_world.World.{Now}
 use Rattle.law_opening.specs.Lives.Steps.{Step, device_behind, now_behind}
 
 -- A call of the engine's step has made this one, by its contract: it was asked for some event, which took place as this step says, and the device is as honest as

@@ -1,10 +1,10 @@
 -- The world of a store that was opened from bytes.
 use Rattle.std.specs.Prelude.{ℕ, List, length}
 use Rattle.fkv_core.specs.Openings.{IsOpeningWorld, newest_commit}
-use Rattle.fkv_opening.specs.Opened.{IsStoreOf}
-use Rattle.fkv_opening.specs.declared.opened_store.Opened.{Opened}
-use Rattle.law_world.specs.Standing.Opening.{IsBehind}
-use Rattle.fkv_world.specs.World.{Now}
+use Rattle.law_paper.specs.Below.fkv_opening.Opened.{IsStoreOf}
+use Rattle.law_paper.specs.Below.fkv_opening.TheOpened.{Opened}
+use Rattle.law_refine.specs.Below.law_world.Standing.Opening.{IsBehind}
+use Rattle.law_refine.specs.Below.fkv_world.World.{Now}
 
 -- These bytes hold the store, and this is its world. They end behind the two slots and behind the triples of the checkpoint that the newest commit uses:
 -- what is past their end reads as 0, so shorter ones may open too. Bytes that reach far end so.

@@ -1,8 +1,8 @@
 -- Images that reach far.
 use Rattle.std.specs.Prelude.{ℕ, List}
 use Rattle.fkv_creating.specs.Long.{IsLong}
-use Rattle.fkv_newest.specs.Newest.{IsNewestOf}
-use Rattle.fkv_newest.specs.declared.newest_slots.Newest.{Newest}
+use Rattle.law_paper.specs.Below.fkv_newest.Newest.{IsNewestOf}
+use Rattle.law_paper.specs.Below.fkv_newest.TheNewest.{Newest}
 
 -- An image ends at or above the end of all that its newest slot names. One that somebody cut may open too, since bytes past the end read as 0. Once a later
 -- write makes it longer a crash may leave anything there. A new store reaches far, and so does each image that a crash leaves of a life which began so.

@@ -4,13 +4,13 @@ use Rattle.fkv_core.specs.Lives.{IsLedOn, LeadsOn}
 use Rattle.fkv_core.specs.Openings.{beginning}
 use Rattle.fkv_core.specs.declared.events.Told.{Told}
 use Rattle.fkv_disk.specs.Device.{LeavesOnly}
-use Rattle.fkv_opening.specs.declared.opened_store.Opened.{Opened}
-use Rattle.law_world.specs.Standing.Opening.{AreNumbersInTurn}
-use Rattle.law_world.specs.Standing.Standing.{IsOneInForce, TriplesStand}
-use Rattle.law_world.specs.Keeper.Lives.{is_life_writing, life_standing, life_writing}
-use Rattle.fkv_world.specs.OwnEvents.{keeper_events}
-use Rattle.fkv_world.specs.Runs.{World, run}
-use Rattle.fkv_world.specs.World.{Event, Now}
+use Rattle.law_paper.specs.Below.fkv_opening.TheOpened.{Opened}
+use Rattle.law_refine.specs.Below.law_world.Standing.Opening.{AreNumbersInTurn}
+use Rattle.law_refine.specs.Below.law_world.Standing.Standing.{IsOneInForce, TriplesStand}
+use Rattle.law_refine.specs.Below.law_world.Keeper.Lives.{is_life_writing, life_standing, life_writing}
+use Rattle.law_refine.specs.Below.fkv_world.OwnEvents.{keeper_events}
+use Rattle.law_refine.specs.Below.fkv_world.Runs.{World, run}
+use Rattle.law_refine.specs.Below.fkv_world.World.{Event, Now}
 use Rattle.law_opening.specs.Lives.OpenedFrom.{IsOpenedFrom}
 
 -- one step: the event that took place, what was told, and the world and the device behind it

@@ -1,7 +1,7 @@
 -- What the laws of the log beside a life suppose of the log with which the life begins.
 use Rattle.std.specs.Prelude.{◌≡◌, []}
 use Rattle.law_log.specs.Ghosts.{Ghosts}
-use Rattle.fkv_world.specs.World.{Now}
+use Rattle.law_refine.specs.Below.fkv_world.World.{Now}
 use Rattle.law_refine.specs.Events.GhostEvents.{safe_at}
 use Rattle.law_refine.specs.Events.Reserved.{IsUnbornFrom, ReservesNothing, tail_at}
 

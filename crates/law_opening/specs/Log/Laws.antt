@@ -4,12 +4,12 @@ use Rattle.fkv_base.specs.declared.numbers.Key.{Key}
 use Rattle.fkv_base.specs.declared.numbers.Value.{Value}
 use Rattle.fkv_core.specs.Openings.{IsOpeningWorld}
 use Rattle.fkv_filling.specs.OpeningIndex.{opening_lists}
-use Rattle.fkv_opening.specs.Opened.{IsStoreOf}
-use Rattle.fkv_opening.specs.declared.opened_store.Opened.{Opened}
+use Rattle.law_paper.specs.Below.fkv_opening.Opened.{IsStoreOf}
+use Rattle.law_paper.specs.Below.fkv_opening.TheOpened.{Opened}
 use Rattle.law_log.specs.Ghosts.{shown}
 use Rattle.law_log.specs.Enabled.{IsOpened}
-use Rattle.fkv_pairs.specs.Pairs.{ArePairs, HasValue, log_of_store}
-use Rattle.fkv_world.specs.World.{Event, Now}
+use Rattle.law_paper.specs.Below.fkv_pairs.Pairs.{ArePairs, HasValue, log_of_store}
+use Rattle.law_refine.specs.Below.fkv_world.World.{Event, Now}
 use Rattle.law_refine.specs.Events.GhostEvents.{home_in}
 use Rattle.law_opening.specs.Log.Begins.{Begins}
 use Rattle.law_refine.specs.Heads.Heads.{LeadToHeads}

@@ -1,13 +1,13 @@
 -- The log beside each life of an opened store, from the log with which the life begins.
 use Rattle.std.specs.Prelude.{◌≡◌, ℕ, List}
 use Rattle.fkv_map.specs.Map.{Map}
-use Rattle.fkv_opening.specs.declared.opened_store.Opened.{Opened}
+use Rattle.law_paper.specs.Below.fkv_opening.TheOpened.{Opened}
 use Rattle.law_log.specs.Ghosts.{Ghosts}
 use Rattle.law_log.specs.Laws.{CallsAreOrdered, ChainsShowContent, HistoryIsLegal, NewestShowsContent, ReadsGiveContent, VersionsAreLegal, VersionsInOrder}
 use Rattle.law_log.specs.Enabled.{AreEnabled}
 use Rattle.fkv_core.specs.Openings.{beginning}
-use Rattle.fkv_world.specs.Runs.{run}
-use Rattle.fkv_world.specs.World.{Event, Now}
+use Rattle.law_refine.specs.Below.fkv_world.Runs.{run}
+use Rattle.law_refine.specs.Below.fkv_world.World.{Event, Now}
 use Rattle.law_refine.specs.Events.GhostEvents.{home_in, life_ghosts, mapped, safe_at, serials_in}
 use Rattle.law_refine.specs.Events.Lines.{lines_of}
 use Rattle.law_refine.specs.Events.Reserved.{AllMeetReserved, AreOfSessions, AreReserved, IsUnbornFrom, tail_at}

@@ -2,7 +2,7 @@
 use Rattle.std.specs.FinMap.{from_entries}
 use Rattle.std.specs.Prelude.{ℕ, zero, suc, Option, Some, None, List, [], ◌∷◌}
 use Rattle.fkv_map.specs.Map.{Map}
-use Rattle.fkv_opening.specs.declared.opened_store.Opened.{Opened}
+use Rattle.law_paper.specs.Below.fkv_opening.TheOpened.{Opened}
 use Rattle.law_log.specs.Ghosts.{shown}
 use Rattle.law_refine.specs.Events.GhostEvents.{home_in}
 use Rattle.law_opening.specs.Log.OpeningLog.{cell_at, opening_log}

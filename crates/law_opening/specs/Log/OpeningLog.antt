@@ -3,9 +3,9 @@ use Rattle.std.specs.Prelude.{ℕ, zero, suc, ◌*◌, ◌%◌, ◌^◌, nat_eq,
 use Rattle.fkv_base.specs.declared.shapes.Shape.{Shape}
 use Rattle.fkv_disk.specs.Bytes.{bytes_at}
 use Rattle.fkv_entries.specs.declared.home_entries.HomeEntry.{HomeEntry}
-use Rattle.fkv_opening.specs.Entries.{entry_home}
-use Rattle.fkv_opening.specs.declared.opened_store.Opened.{Opened}
-use Rattle.fkv_ops.specs.Values.{value_of}
+use Rattle.law_paper.specs.Below.fkv_opening.Entries.{entry_home}
+use Rattle.law_paper.specs.Below.fkv_opening.TheOpened.{Opened}
+use Rattle.law_refine.specs.Below.fkv_ops.Values.{value_of}
 use Rattle.law_log.specs.Chains.{Cell, Logged, Unborn, Published}
 use Rattle.law_log.specs.Ghosts.{Log, Ghosts, NotCalled}
 use Rattle.fkv_record.specs.Places.{number_at, record_place}

@@ -2,16 +2,16 @@
 use Rattle.std.specs.Prelude.{◌≡◌, ◌↔◌, ℕ, List}
 use Rattle.fkv_base.specs.declared.numbers.Key.{Key}
 use Rattle.fkv_base.specs.declared.numbers.Value.{Value}
-use Rattle.fkv_chains.specs.Entries.{Counts}
+use Rattle.law_paper.specs.Below.fkv_chains.Entries.{Counts}
 use Rattle.fkv_map.specs.Map.{Map, as_numbers}
-use Rattle.fkv_ops.specs.Values.{value_of}
+use Rattle.law_refine.specs.Below.fkv_ops.Values.{value_of}
 use Rattle.law_log.specs.Chains.{Cell, Published}
 use Rattle.law_log.specs.Ghosts.{Log}
 use Rattle.law_log.specs.Trace.{IsIn}
-use Rattle.fkv_pairs.specs.Pairs.{CountsAtHome}
+use Rattle.law_paper.specs.Below.fkv_pairs.Pairs.{CountsAtHome}
 use Rattle.fkv_record.specs.declared.records.Record.{Record}
-use Rattle.fkv_scan.specs.Log as scan
-use Rattle.fkv_scan.specs.Scan.{Has}
+use Rattle.law_paper.specs.Below.fkv_scan.Log as scan
+use Rattle.law_paper.specs.Below.fkv_scan.Scan.{Has}
 use Rattle.std.specs.FinMap.{from_entries}
 
 -- the record as one of the log, of this version

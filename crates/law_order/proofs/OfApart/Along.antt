@@ -10,8 +10,8 @@ use Rattle.law_log.specs.Enabled.{AreEnabled}
 use Rattle.law_log.specs.Enabled as order
 use Rattle.law_log.specs.Ghosts.{Changes, Drops, FindsEntry, Fixes, GhostEvent, Ghosts, Log, Publishes, Reserves, TakesValue, Tells, ghost_run, ghosts_after, log_after}
 use Rattle.law_log.proofs.Shown.{Grows, Held, log_steps, run_held}
-use Rattle.law_refine.specs.Events.Effects.{AreQuiet, Behind, ByRecord, InPlace, PublishesIt, Quietly, Stepped, TakesEffect, is_quiet}
-use Rattle.law_refine.specs.Events.Reservations.{Reservation}
+use Rattle.law_commit.specs.Below.law_refine.Events.Effects.{AreQuiet, Behind, ByRecord, InPlace, PublishesIt, Quietly, Stepped, TakesEffect, is_quiet}
+use Rattle.law_commit.specs.Below.law_refine.Events.Reservations.{Reservation}
 
 -- what a step publishes at this home is of no later version than this, or its home has one already
 abbrev pub PublishesApart : (ℕ → ℕ) → Stepped → Log → ℕ → ℕ → Type 0

@@ -1,12 +1,12 @@
 -- As a life begins no session has a request.
 use Rattle.std.proofs.Common.{[]}
-use Rattle.fkv_world.specs.Runs.{run}
+use Rattle.law_commit.specs.Below.fkv_world.Runs.{run}
 use Rattle.law_apart.specs.Apart.Rows.{AttemptApart, PendingApart}
-use Rattle.law_local.proofs.OfSessions.Known.{opened_known}
+use Rattle.law_commit.proofs.Below.law_local.OfSessions.Known.{opened_known}
 use Rattle.law_order.specs.Apart.Lives.{AllApartBehind}
 use Rattle.law_order.proofs.OfShifts.First.{none_first}
 use Rattle.law_order.specs.Known.Begins.{BegunLife, home_of_world}
-use Rattle.law_refine.specs.Events.GhostEvents.{life_ghosts}
+use Rattle.law_commit.specs.Below.law_refine.Events.GhostEvents.{life_ghosts}
 
 pub begins_apart : (life : BegunLife) → AllApartBehind life.opening life.ghosts []
 unfolding run

@@ -3,26 +3,26 @@ use Rattle.std.proofs.Common.{◌≡◌, inl, inr, ℕ, ◌<◌, refl, sym, ap, 
 use Rattle.std.specs.Prelude.{⊤, slice_get}
 use Rattle.std.proofs.lemmas.Bool.Decides.{nat_tests}
 use Rattle.fkv_epoch.proofs.Shown.{none_some, some_same}
-use Rattle.fkv_ops.specs.declared.requests.Request.{Request}
-use Rattle.fkv_ops.specs.declared.trying.Trying.{Trying}
-use Rattle.fkv_ops.specs.declared.trying.Trying.TheVariants.{Appends, ChangesValue, SwapsValue}
-use Rattle.fkv_ops.specs.Requests.{is_read}
-use Rattle.fkv_ops.specs.Trying.{TryState}
-use Rattle.fkv_pending.specs.declared.attempting.Attempting.{Attempting}
-use Rattle.fkv_pending.specs.declared.attempting.Attempting.TheVariants.{Tries}
-use Rattle.fkv_session.specs.Sessions.{SessionState}
-use Rattle.fkv_world.specs.Runs.{run}
-use Rattle.fkv_world.specs.World.{Event, Now, seat_at}
+use Rattle.law_commit.specs.Below.fkv_ops.Request.{Request}
+use Rattle.law_commit.specs.Below.fkv_ops.TheTrying.{Trying}
+use Rattle.law_commit.specs.Below.fkv_ops.TheTrying.TheVariants.{Appends, ChangesValue, SwapsValue}
+use Rattle.law_commit.specs.Below.fkv_ops.Requests.{is_read}
+use Rattle.law_commit.specs.Below.fkv_ops.Trying.{TryState}
+use Rattle.law_commit.specs.Below.fkv_pending.TheAttempting.{Attempting}
+use Rattle.law_commit.specs.Below.fkv_pending.TheAttempting.TheVariants.{Tries}
+use Rattle.law_commit.specs.Below.fkv_session.Sessions.{SessionState}
+use Rattle.law_commit.specs.Below.fkv_world.Runs.{run}
+use Rattle.law_commit.specs.Below.fkv_world.World.{Event, Now, seat_at}
 use Rattle.law_apart.specs.Apart.Rows.{SharesRow, shares_now}
 use Rattle.law_commit.specs.Shares.Tries.{SharesSo, SharesTrying}
-use Rattle.law_world.specs.GuardSessions.InPlace.{try_changes}
-use Rattle.law_local.specs.Sessions.Known.{is_attempting}
-use Rattle.law_local.specs.Tries.AttemptRows.{AttemptRow}
-use Rattle.law_local.specs.Tries.AttemptRows as local
-use Rattle.law_local.specs.Tries.OnWay.{IsFoundAt}
-use Rattle.law_local.specs.Tries.Kept.{source_of}
-use Rattle.law_local.specs.Tries.TryRows.{NoneIsLater, TryRow, cell_of, key_in}
-use Rattle.law_local.specs.Tries.WalkRows.{begin_of}
+use Rattle.law_commit.specs.Below.law_world.GuardSessions.InPlace.{try_changes}
+use Rattle.law_commit.specs.Below.law_local.Sessions.Known.{is_attempting}
+use Rattle.law_commit.specs.Below.law_local.Tries.AttemptRows.{AttemptRow}
+use Rattle.law_commit.specs.Below.law_local.Tries.AttemptRows as local
+use Rattle.law_commit.specs.Below.law_local.Tries.OnWay.{IsFoundAt}
+use Rattle.law_commit.specs.Below.law_local.Tries.Kept.{source_of}
+use Rattle.law_commit.specs.Below.law_local.Tries.TryRows.{NoneIsLater, TryRow, cell_of, key_in}
+use Rattle.law_commit.specs.Below.law_local.Tries.WalkRows.{begin_of}
 use Rattle.law_log.specs.Chains.{Cell, Logged, Published, chain_from, has_key, version_at}
 use Rattle.law_log.specs.Enabled.{AreEnabled, NoneAbove, NoneCopies}
 use Rattle.law_log.specs.Ghosts.{Log, first_from}
@@ -35,11 +35,11 @@ use Rattle.law_order.proofs.OfApart.Heart.{Makes, Sharer, became, gone_now, key_
 use Rattle.law_order.proofs.OfApart.Moments.{attempt_left, attempt_upto}
 use Rattle.law_order.proofs.OfApart.Newest.{held, shares, trial_apart, unshared_none, unshared_said}
 use Rattle.law_order.proofs.OfApart.Sharers.{attempts_held}
-use Rattle.law_refine.specs.Events.Effects.{PublishesIt, mover_step}
-use Rattle.law_refine.specs.Events.GhostEvents.{life_ghosts, mapped}
-use Rattle.law_refine.specs.Events.Reservations.{Reservation}
-use Rattle.law_refine.specs.Events.Reserved.{IsOfSession}
-use Rattle.law_refine.proofs.OfEvents.ReservedLife.{life_sessions}
+use Rattle.law_commit.specs.Below.law_refine.Events.Effects.{PublishesIt, mover_step}
+use Rattle.law_commit.specs.Below.law_refine.Events.GhostEvents.{life_ghosts, mapped}
+use Rattle.law_commit.specs.Below.law_refine.Events.Reservations.{Reservation}
+use Rattle.law_commit.specs.Below.law_refine.Events.Reserved.{IsOfSession}
+use Rattle.law_commit.proofs.Below.law_refine.OfEvents.ReservedLife.{life_sessions}
 
 -- a try is about to take effect
 abbrev pub TakesEffect : Trying → Type 0

@@ -4,23 +4,23 @@ use Rattle.std.specs.Prelude.{slice_get}
 use Rattle.fkv_base.specs.declared.numbers.Version.{Version}
 use Rattle.fkv_plane.specs.declared.places.Places.{Places}
 use Rattle.fkv_epoch.proofs.Shown.{none_some, some_same}
-use Rattle.fkv_ops.specs.declared.requests.Request.{Request}
-use Rattle.fkv_ops.specs.Requests.{is_read}
-use Rattle.fkv_pending.specs.declared.attempting.Attempting.{Attempting}
-use Rattle.fkv_pending.specs.declared.attempting.Attempting.TheVariants.{Ended, Looks, Puts, Tries}
-use Rattle.fkv_pending.specs.declared.pending_requests.PendingRequest.{PendingRequest}
-use Rattle.fkv_pending.specs.Attempting.{AttemptState}
-use Rattle.fkv_session.specs.declared.catching_up.Catching.TheVariants.{Latches}
-use Rattle.fkv_session.specs.declared.sessions.CatchCause.{CatchCause}
-use Rattle.fkv_session.specs.declared.sessions.Sitting.TheVariants.{CatchesUp, Polls}
-use Rattle.fkv_session.specs.Sessions.{Seat, SessionState, bits_of, room_of, session_next}
-use Rattle.fkv_session.proofs.Shown.{attempt_keeps}
-use Rattle.fkv_world.specs.Moves.{Near, session_moved}
-use Rattle.fkv_world.specs.Opened.{HasBecome}
-use Rattle.fkv_world.specs.Actors.{is_of_session}
-use Rattle.fkv_world.specs.Runs.{World, run}
-use Rattle.fkv_world.specs.World.{Calls, Commits, Crashes, Event, KeeperMoves, Moves, Now, Turns, near, seat_at}
-use Rattle.fkv_world.proofs.Shown.{places_stay, session_apart}
+use Rattle.law_commit.specs.Below.fkv_ops.Request.{Request}
+use Rattle.law_commit.specs.Below.fkv_ops.Requests.{is_read}
+use Rattle.law_commit.specs.Below.fkv_pending.TheAttempting.{Attempting}
+use Rattle.law_commit.specs.Below.fkv_pending.TheAttempting.TheVariants.{Ended, Looks, Puts, Tries}
+use Rattle.law_commit.specs.Below.fkv_pending.PendingRequest.{PendingRequest}
+use Rattle.law_commit.specs.Below.fkv_pending.Attempting.{AttemptState}
+use Rattle.law_commit.specs.Below.fkv_session.Catching.TheVariants.{Latches}
+use Rattle.law_commit.specs.Below.fkv_session.CatchCause.{CatchCause}
+use Rattle.law_commit.specs.Below.fkv_session.Sitting.TheVariants.{CatchesUp, Polls}
+use Rattle.law_commit.specs.Below.fkv_session.Sessions.{Seat, SessionState, bits_of, room_of, session_next}
+use Rattle.law_commit.proofs.Below.fkv_session.Shown.{attempt_keeps}
+use Rattle.law_commit.specs.Below.fkv_world.Moves.{Near, session_moved}
+use Rattle.law_commit.specs.Below.fkv_world.Opened.{HasBecome}
+use Rattle.law_commit.specs.Below.fkv_world.Actors.{is_of_session}
+use Rattle.law_commit.specs.Below.fkv_world.Runs.{World, run}
+use Rattle.law_commit.specs.Below.fkv_world.World.{Calls, Commits, Crashes, Event, KeeperMoves, Moves, Now, Turns, near, seat_at}
+use Rattle.law_commit.proofs.Below.fkv_world.Shown.{places_stay, session_apart}
 use Rattle.law_apart.specs.Apart.Rows.{AttemptApart, PendingApart, RaisesNone, SessionApart, shares_now}
 use Rattle.law_apart.proofs.OfApart.Sessions.{ApartFacts, call_apart, step_apart}
 use Rattle.law_apart.proofs.OfApart.Stays as stays
@@ -28,14 +28,14 @@ use Rattle.law_opening.proofs.OfChanges.OfSessions.Calm.{calm_known, is_calm, no
 use Rattle.law_opening.proofs.OfChanges.OfSessions.Comes.{Begins, SessionComes, Stays, Steps, session_comes}
 use Rattle.law_commit.specs.PhaseVersions.{phase_version}
 use Rattle.law_commit.proofs.OfVersions.Requests.{update_at}
-use Rattle.law_local.specs.Sessions.Known.{attempt_after, is_attempting}
-use Rattle.law_local.specs.Tries.AttemptRows.{AttemptRow, IsTrueOfAttempt}
-use Rattle.law_local.specs.Tries.AttemptRows as local
-use Rattle.law_local.specs.Tries.Replies.{IsTrueReply}
-use Rattle.law_local.specs.Tries.TryRows.{NoneIsLater, NoneLaterPast, key_in}
-use Rattle.law_local.proofs.OfTries.AttemptSteps.{attempt_leads}
-use Rattle.law_local.proofs.OfTries.OnWay.{orderly}
-use Rattle.law_local.proofs.OfTries.TrySteps.{try_leads}
+use Rattle.law_commit.specs.Below.law_local.Sessions.Known.{attempt_after, is_attempting}
+use Rattle.law_commit.specs.Below.law_local.Tries.AttemptRows.{AttemptRow, IsTrueOfAttempt}
+use Rattle.law_commit.specs.Below.law_local.Tries.AttemptRows as local
+use Rattle.law_commit.specs.Below.law_local.Tries.Replies.{IsTrueReply}
+use Rattle.law_commit.specs.Below.law_local.Tries.TryRows.{NoneIsLater, NoneLaterPast, key_in}
+use Rattle.law_commit.proofs.Below.law_local.OfTries.AttemptSteps.{attempt_leads}
+use Rattle.law_commit.proofs.Below.law_local.OfTries.OnWay.{orderly}
+use Rattle.law_commit.proofs.Below.law_local.OfTries.TrySteps.{try_leads}
 use Rattle.law_log.specs.Enabled.{AreEnabled}
 use Rattle.law_log.specs.Ghosts.{Log}
 use Rattle.law_log.proofs.Shown.{Grows, Held, enabled_before}
@@ -49,11 +49,11 @@ use Rattle.law_order.proofs.OfApart.Heart.{Sharer, became, making_of, publishes_
 use Rattle.law_order.proofs.OfApart.Moments.{attempt_left, waiting_left}
 use Rattle.law_order.proofs.OfApart.Newest.{held, none_said, passes, tells}
 use Rattle.law_order.proofs.OfApart.Sharers.{attempts_held, waits_held}
-use Rattle.law_refine.specs.Events.Effects.{Stepped, mover_step, no_step, step_at}
-use Rattle.law_refine.specs.Events.GhostEvents.{ghost_events, life_ghosts, mapped, serials_in}
-use Rattle.law_refine.proofs.OfEvents.EventEffects.{life_makes}
-use Rattle.law_refine.proofs.OfSeen.Alone.{moves_alone}
-use Rattle.law_refine.proofs.OfSeen.There.{there_before}
+use Rattle.law_commit.specs.Below.law_refine.Events.Effects.{Stepped, mover_step, no_step, step_at}
+use Rattle.law_commit.specs.Below.law_refine.Events.GhostEvents.{ghost_events, life_ghosts, mapped, serials_in}
+use Rattle.law_commit.proofs.Below.law_refine.OfEvents.EventEffects.{life_makes}
+use Rattle.law_commit.proofs.Below.law_refine.OfSeen.Alone.{moves_alone}
+use Rattle.law_commit.proofs.Below.law_refine.OfSeen.There.{there_before}
 
 module _ (given : Given) (life : BegunLife) (apart : OpensApart life) (before : List Event) (event : Event)
     (enabled : AreEnabled (home_of_world life.opening) life.ghosts (mapped life.opening (event ∷ before))) (known : AllKnowBehind life.opening life.ghosts before)

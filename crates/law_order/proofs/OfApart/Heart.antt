@@ -10,38 +10,38 @@ use Rattle.fkv_map.specs.declared.history.HistoryEntry.{HistoryEntry}
 use Rattle.fkv_map.specs.declared.operations.Op.{Op}
 use Rattle.fkv_map.specs.declared.operations.Reply.{Reply}
 use Rattle.fkv_map.specs.Keys.{key_of}
-use Rattle.fkv_log.specs.declared.invalidating.Invalidating.{Invalidating}
-use Rattle.fkv_log.specs.declared.invalidating.Invalidating.TheVariants as invalidating
-use Rattle.fkv_ops.specs.declared.appending.Appending.{Appending}
-use Rattle.fkv_ops.specs.declared.appending.Appending.TheVariants as appending
-use Rattle.fkv_ops.specs.declared.requests.Request.{Request}
-use Rattle.fkv_ops.specs.declared.requests.Seen.{Seen}
-use Rattle.fkv_ops.specs.declared.trying.Trying.{Trying}
-use Rattle.fkv_ops.specs.declared.trying.Trying.TheVariants.{Appends}
-use Rattle.fkv_ops.specs.Appending.{AppendState}
-use Rattle.fkv_ops.specs.Requests.{is_read}
-use Rattle.fkv_ops.specs.Trying.{TryState, is_moving_on}
-use Rattle.fkv_pending.specs.declared.attempting.Attempting.{Attempting}
-use Rattle.fkv_pending.specs.declared.attempting.Attempting.TheVariants.{Tries}
-use Rattle.fkv_pending.specs.Attempting.{AttemptState}
+use Rattle.law_commit.specs.Below.fkv_log.TheInvalidating.{Invalidating}
+use Rattle.law_commit.specs.Below.fkv_log.TheInvalidating.TheVariants as invalidating
+use Rattle.law_commit.specs.Below.fkv_ops.TheAppending.{Appending}
+use Rattle.law_commit.specs.Below.fkv_ops.TheAppending.TheVariants as appending
+use Rattle.law_commit.specs.Below.fkv_ops.Request.{Request}
+use Rattle.law_commit.specs.Below.fkv_ops.Seen.{Seen}
+use Rattle.law_commit.specs.Below.fkv_ops.TheTrying.{Trying}
+use Rattle.law_commit.specs.Below.fkv_ops.TheTrying.TheVariants.{Appends}
+use Rattle.law_commit.specs.Below.fkv_ops.Appending.{AppendState}
+use Rattle.law_commit.specs.Below.fkv_ops.Requests.{is_read}
+use Rattle.law_commit.specs.Below.fkv_ops.Trying.{TryState, is_moving_on}
+use Rattle.law_commit.specs.Below.fkv_pending.TheAttempting.{Attempting}
+use Rattle.law_commit.specs.Below.fkv_pending.TheAttempting.TheVariants.{Tries}
+use Rattle.law_commit.specs.Below.fkv_pending.Attempting.{AttemptState}
 use Rattle.fkv_plane.specs.Places.{bucket_place}
-use Rattle.fkv_session.specs.declared.sessions.Sitting.{Sitting}
-use Rattle.fkv_session.specs.declared.sessions.Sitting.TheVariants.{Attempts, Polls}
-use Rattle.fkv_session.specs.Sessions.{Seat, SessionState, bits_of}
-use Rattle.fkv_session.specs.Shares.{latch_of}
-use Rattle.fkv_world.specs.Opened.{HasBecome}
-use Rattle.fkv_world.specs.Runs.{run}
-use Rattle.fkv_world.specs.World.{Event, Now, seat_at}
-use Rattle.fkv_world.proofs.Shown.{places_stay, shape_stays}
+use Rattle.law_commit.specs.Below.fkv_session.Sitting.{Sitting}
+use Rattle.law_commit.specs.Below.fkv_session.Sitting.TheVariants.{Attempts, Polls}
+use Rattle.law_commit.specs.Below.fkv_session.Sessions.{Seat, SessionState, bits_of}
+use Rattle.law_commit.specs.Below.fkv_session.Shares.{latch_of}
+use Rattle.law_commit.specs.Below.fkv_world.Opened.{HasBecome}
+use Rattle.law_commit.specs.Below.fkv_world.Runs.{run}
+use Rattle.law_commit.specs.Below.fkv_world.World.{Event, Now, seat_at}
+use Rattle.law_commit.proofs.Below.fkv_world.Shown.{places_stay, shape_stays}
 use Rattle.fkv_epoch.proofs.Shown.{none_some, some_same}
 use Rattle.law_apart.specs.Apart.Rows.{AttemptApart, CopiesApart, CopiesRow, MovesOn, TryApart}
 use Rattle.law_apart.proofs.OfApart.Raises.{StandsAlready}
 use Rattle.law_opening.proofs.OfChanges.OfSessions.Attempting.{life_attempts}
-use Rattle.law_local.specs.Sessions.Inputs.{AttemptsBy, IsTryFor, TriesFor}
-use Rattle.law_local.specs.Sessions.Known.{is_attempting}
-use Rattle.law_local.specs.Tries.AttemptRows.{AttemptRow}
-use Rattle.law_local.specs.Tries.AttemptRows as local
-use Rattle.law_local.specs.Tries.TryRows.{TryRow, cell_of, key_in}
+use Rattle.law_commit.specs.Below.law_local.Sessions.Inputs.{AttemptsBy, IsTryFor, TriesFor}
+use Rattle.law_commit.specs.Below.law_local.Sessions.Known.{is_attempting}
+use Rattle.law_commit.specs.Below.law_local.Tries.AttemptRows.{AttemptRow}
+use Rattle.law_commit.specs.Below.law_local.Tries.AttemptRows as local
+use Rattle.law_commit.specs.Below.law_local.Tries.TryRows.{TryRow, cell_of, key_in}
 use Rattle.law_log.specs.Chains.{Cell, Reserved, version_at}
 use Rattle.law_log.specs.Ghosts.{Log}
 use Rattle.law_log.specs.Enabled.{AreChains}
@@ -53,17 +53,17 @@ use Rattle.law_order.specs.Known.Knows.{SessionKnows}
 use Rattle.law_order.proofs.OfApart.Along.{PublishesApart}
 use Rattle.law_order.proofs.OfApart.Moments.{attempt_settled, gone}
 use Rattle.law_order.proofs.OfApart.Sharers.{makes_alone, same_latch}
-use Rattle.law_refine.specs.Latches.InTries.{session_held}
-use Rattle.law_refine.specs.Latches.Latchers.{its_latch}
-use Rattle.law_refine.specs.Events.Effects.{PublishesIt, mover_step}
-use Rattle.law_refine.specs.Events.GhostEvents.{home_in, life_ghosts}
-use Rattle.law_refine.specs.Events.Reservations.{Reservation, append_reserves, attempt_reserves, invalidate_reserves, try_reserves}
-use Rattle.law_refine.specs.Events.Reserved.{reserved_by, sitting_reserves}
-use Rattle.law_refine.specs.Events.Appends.{entry_made}
-use Rattle.law_refine.proofs.OfEvents.RequestNames.{IsAttemptSo, StepIsSo, TriesAt, life_so}
-use Rattle.law_refine.proofs.OfEvents.ReservedLife.{life_reserved}
-use Rattle.law_refine.proofs.OfEvents.TryAppends.{IsAppendOf, KnowsAt}
-use Rattle.law_refine.proofs.OfSeen.There.{was_there}
+use Rattle.law_commit.specs.Below.law_refine.Latches.InTries.{session_held}
+use Rattle.law_commit.specs.Below.law_refine.Latches.Latchers.{its_latch}
+use Rattle.law_commit.specs.Below.law_refine.Events.Effects.{PublishesIt, mover_step}
+use Rattle.law_commit.specs.Below.law_refine.Events.GhostEvents.{home_in, life_ghosts}
+use Rattle.law_commit.specs.Below.law_refine.Events.Reservations.{Reservation, append_reserves, attempt_reserves, invalidate_reserves, try_reserves}
+use Rattle.law_commit.specs.Below.law_refine.Events.Reserved.{reserved_by, sitting_reserves}
+use Rattle.law_commit.specs.Below.law_refine.Events.Appends.{entry_made}
+use Rattle.law_commit.proofs.Below.law_refine.OfEvents.RequestNames.{IsAttemptSo, StepIsSo, TriesAt, life_so}
+use Rattle.law_commit.proofs.Below.law_refine.OfEvents.ReservedLife.{life_reserved}
+use Rattle.law_commit.proofs.Below.law_refine.OfEvents.TryAppends.{IsAppendOf, KnowsAt}
+use Rattle.law_commit.proofs.Below.law_refine.OfSeen.There.{was_there}
 
 -- ---- who has reserved an address makes a new record
 made_by : (a : AppendState) (entry : HistoryEntry) (step : Appending) (its : Reservation) → append_reserves a entry step ≡ Some its → its.cell ≡ cell_of a.its_words

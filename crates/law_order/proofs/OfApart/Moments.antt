@@ -5,15 +5,15 @@ use Rattle.std.proofs.lemmas.Bool.Decides.{nat_tests}
 use Rattle.fkv_base.specs.declared.numbers.Version.{Version}
 use Rattle.fkv_base.specs.declared.phases.Phase.{Phase}
 use Rattle.fkv_base.specs.declared.phases.Phase.TheVariants.{InProgress, Prepare, Rest, WaitFlush, WaitPending}
-use Rattle.fkv_ops.specs.Requests.{is_read}
-use Rattle.fkv_ops.specs.Trying.{is_moving_on, is_prepare}
-use Rattle.fkv_pending.specs.declared.pending_requests.PendingRequest.{PendingRequest}
-use Rattle.fkv_session.specs.declared.sessions.Sitting.{Sitting}
-use Rattle.fkv_session.specs.declared.sessions.Sitting.TheVariants.{Attempts, Polls}
-use Rattle.fkv_session.specs.Sessions.{SessionState}
-use Rattle.fkv_world.specs.Opened.{HasBecome}
-use Rattle.fkv_world.specs.Runs.{World, run}
-use Rattle.fkv_world.specs.World.{Event}
+use Rattle.law_commit.specs.Below.fkv_ops.Requests.{is_read}
+use Rattle.law_commit.specs.Below.fkv_ops.Trying.{is_moving_on, is_prepare}
+use Rattle.law_commit.specs.Below.fkv_pending.PendingRequest.{PendingRequest}
+use Rattle.law_commit.specs.Below.fkv_session.Sitting.{Sitting}
+use Rattle.law_commit.specs.Below.fkv_session.Sitting.TheVariants.{Attempts, Polls}
+use Rattle.law_commit.specs.Below.fkv_session.Sessions.{SessionState}
+use Rattle.law_commit.specs.Below.fkv_world.Opened.{HasBecome}
+use Rattle.law_commit.specs.Below.fkv_world.Runs.{World, run}
+use Rattle.law_commit.specs.Below.fkv_world.World.{Event}
 use Rattle.law_commit.specs.Floor.Stands.{FloorAlwaysStands, FloorStands, HasFloor, stage_number}
 use Rattle.law_commit.specs.PhaseVersions.{phase_version, version_said}
 use Rattle.law_commit.specs.Phases.Staged.{DefersPending, DefersProgress, FitsVersion, Flushes, Pends, Prepares, Progresses, Rests, Stage, stage_version}
@@ -27,7 +27,7 @@ use Rattle.law_commit.proofs.OfQuiet.Ranks.{few_stages, staged_rank}
 use Rattle.law_commit.proofs.OfVersions.Requests.{life_requests, update_at}
 use Rattle.law_commit.proofs.Shown.{view_seen}
 use Rattle.law_commit.specs.Phases.Projected.{SitsAwake}
-use Rattle.law_local.specs.Sessions.Known.{is_attempting}
+use Rattle.law_commit.specs.Below.law_local.Sessions.Known.{is_attempting}
 
 -- ---- by the stage
 -- the last version of which no update is left

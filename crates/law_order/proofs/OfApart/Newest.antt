@@ -19,24 +19,24 @@ use Rattle.fkv_index.specs.declared.finding.Purpose.TheVariants as slot
 use Rattle.fkv_map.specs.declared.operations.Op.{Op}
 use Rattle.fkv_map.specs.declared.operations.Op.TheVariants as operation
 use Rattle.fkv_map.specs.Keys.{key_of}
-use Rattle.fkv_ops.specs.declared.requests.Request.{Request}
-use Rattle.fkv_ops.specs.declared.requests.Seen.{Seen}
-use Rattle.fkv_ops.specs.declared.trying.Trying.TheVariants.{Walks}
-use Rattle.fkv_ops.specs.declared.walking.Walking.TheVariants.{Finds}
-use Rattle.fkv_ops.specs.Requests.{is_read, purpose_of}
-use Rattle.fkv_ops.specs.Trying.{TryState, is_moving_on, is_prepare}
-use Rattle.fkv_pending.specs.declared.attempting.Attempting.TheVariants.{Tries}
+use Rattle.law_commit.specs.Below.fkv_ops.Request.{Request}
+use Rattle.law_commit.specs.Below.fkv_ops.Seen.{Seen}
+use Rattle.law_commit.specs.Below.fkv_ops.TheTrying.TheVariants.{Walks}
+use Rattle.law_commit.specs.Below.fkv_ops.TheWalking.TheVariants.{Finds}
+use Rattle.law_commit.specs.Below.fkv_ops.Requests.{is_read, purpose_of}
+use Rattle.law_commit.specs.Below.fkv_ops.Trying.{TryState, is_moving_on, is_prepare}
+use Rattle.law_commit.specs.Below.fkv_pending.TheAttempting.TheVariants.{Tries}
 use Rattle.fkv_plane.specs.Asked.{reply_to}
 use Rattle.fkv_plane.proofs.Shown.{passed_reply}
-use Rattle.fkv_session.specs.declared.answers.Told.TheVariants.{Slept}
+use Rattle.law_commit.specs.Below.fkv_session.Told.TheVariants.{Slept}
 use Rattle.fkv_plane.specs.declared.asks.Ask.TheVariants.{Done}
-use Rattle.fkv_session.specs.declared.sessions.Sitting.{Sitting}
-use Rattle.fkv_session.specs.declared.sessions.Sitting.TheVariants.{Attempts, Polls}
-use Rattle.fkv_session.specs.Sessions.{SessionState}
-use Rattle.fkv_world.specs.Opened.{HasBecome}
-use Rattle.fkv_world.specs.Runs.{run}
-use Rattle.fkv_world.specs.World.{Event, Now}
-use Rattle.fkv_world.proofs.Shown.{shape_stays}
+use Rattle.law_commit.specs.Below.fkv_session.Sitting.{Sitting}
+use Rattle.law_commit.specs.Below.fkv_session.Sitting.TheVariants.{Attempts, Polls}
+use Rattle.law_commit.specs.Below.fkv_session.Sessions.{SessionState}
+use Rattle.law_commit.specs.Below.fkv_world.Opened.{HasBecome}
+use Rattle.law_commit.specs.Below.fkv_world.Runs.{run}
+use Rattle.law_commit.specs.Below.fkv_world.World.{Event, Now}
+use Rattle.law_commit.proofs.Below.fkv_world.Shown.{shape_stays}
 use Rattle.law_apart.specs.Apart.Rows.{AttemptApart, IsLater, SearchTells, TellsApart, TellsSharer, TryApart, has_linked, is_linking, is_lost}
 use Rattle.law_apart.proofs.OfApart.Links.{full_links}
 use Rattle.law_apart.proofs.OfApart.Tries.{sharers_pass}
@@ -52,15 +52,15 @@ use Rattle.law_commit.proofs.OfLinked.Lives.{life_meets}
 use Rattle.law_commit.proofs.OfShares.Alone.{tries_share}
 use Rattle.law_commit.proofs.OfVersions.Life.{cells_upto, sees_older}
 use Rattle.law_commit.proofs.Shown.{view_seen}
-use Rattle.law_world.proofs.OfGuarded.OfLives.{life_in_order}
-use Rattle.law_world.proofs.OfGuarded.Worlds.{life_shows}
-use Rattle.law_world.specs.Guarded.Shows.{seen_by_guard}
-use Rattle.law_local.specs.Sessions.Known.{is_attempting}
-use Rattle.law_local.specs.Tries.AttemptRows.{AttemptRow}
-use Rattle.law_local.specs.Tries.AttemptRows as local
-use Rattle.law_local.specs.Tries.Replies.{IsTrueReply}
-use Rattle.law_local.specs.Tries.TryRows.{NoneIsLater, NoneLaterPast, head_in, key_in}
-use Rattle.law_local.proofs.OfTries.OnWay.{orderly}
+use Rattle.law_commit.proofs.Below.law_world.OfGuarded.OfLives.{life_in_order}
+use Rattle.law_commit.proofs.Below.law_world.OfGuarded.Worlds.{life_shows}
+use Rattle.law_commit.specs.Below.law_world.Guarded.Shows.{seen_by_guard}
+use Rattle.law_commit.specs.Below.law_local.Sessions.Known.{is_attempting}
+use Rattle.law_commit.specs.Below.law_local.Tries.AttemptRows.{AttemptRow}
+use Rattle.law_commit.specs.Below.law_local.Tries.AttemptRows as local
+use Rattle.law_commit.specs.Below.law_local.Tries.Replies.{IsTrueReply}
+use Rattle.law_commit.specs.Below.law_local.Tries.TryRows.{NoneIsLater, NoneLaterPast, head_in, key_in}
+use Rattle.law_commit.proofs.Below.law_local.OfTries.OnWay.{orderly}
 use Rattle.law_log.specs.Chains.{Dropped, Logged, Published, Reserved, Unborn, head_of, version_at}
 use Rattle.law_log.specs.Enabled.{AreEnabled, NoneAbove}
 use Rattle.law_log.specs.Ghosts.{Log}
@@ -74,18 +74,18 @@ use Rattle.law_order.specs.Known.Told.{reply_in}
 use Rattle.law_order.proofs.OfApart.Heart.{became, seen_in}
 use Rattle.law_order.proofs.OfApart.Moments.{attempt_newest, attempt_prepared, attempt_upto, awake}
 use Rattle.law_order.proofs.OfTruth.Frames.{published_below}
-use Rattle.law_refine.specs.Index.Finders.{Search, Searches, SessionWork, session_part}
-use Rattle.law_refine.specs.Index.Finders as finders
-use Rattle.law_refine.specs.Index.Shows.{IsWork, seen_by_index}
-use Rattle.law_refine.proofs.OfIndex.LifeFacts.{life_asks, life_sound}
-use Rattle.law_refine.proofs.OfIndex.Permitted.{are_permitted}
-use Rattle.law_refine.specs.Events.GhostEvents.{home_number, life_ghosts, mapped}
-use Rattle.law_refine.specs.Events.Reserved.{tail_at}
-use Rattle.law_refine.specs.Heads.Searches.{IsWorkAt, home_attempted}
-use Rattle.law_refine.proofs.OfEvents.Fixed.{ghost_fixed}
-use Rattle.law_refine.proofs.OfHeads.AtHome.{life_at_home}
-use Rattle.law_refine.proofs.OfRecords.Frames.{finds_framed}
-use Rattle.law_refine.proofs.OfSeen.Lives.{life_head_fixed}
+use Rattle.law_commit.specs.Below.law_refine.Index.Finders.{Search, Searches, SessionWork, session_part}
+use Rattle.law_commit.specs.Below.law_refine.Index.Finders as finders
+use Rattle.law_commit.specs.Below.law_refine.Index.Shows.{IsWork, seen_by_index}
+use Rattle.law_commit.proofs.Below.law_refine.OfIndex.LifeFacts.{life_asks, life_sound}
+use Rattle.law_commit.proofs.Below.law_refine.OfIndex.Permitted.{are_permitted}
+use Rattle.law_commit.specs.Below.law_refine.Events.GhostEvents.{home_number, life_ghosts, mapped}
+use Rattle.law_commit.specs.Below.law_refine.Events.Reserved.{tail_at}
+use Rattle.law_commit.specs.Below.law_refine.Heads.Searches.{IsWorkAt, home_attempted}
+use Rattle.law_commit.proofs.Below.law_refine.OfEvents.Fixed.{ghost_fixed}
+use Rattle.law_commit.proofs.Below.law_refine.OfHeads.AtHome.{life_at_home}
+use Rattle.law_commit.proofs.Below.law_refine.OfRecords.Frames.{finds_framed}
+use Rattle.law_commit.proofs.Below.law_refine.OfSeen.Lives.{life_head_fixed}
 
 -- ---- by the control state
 -- a search that is lost links

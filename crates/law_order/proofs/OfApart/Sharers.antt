@@ -10,26 +10,26 @@ use Rattle.fkv_latch.specs.LatchWorld.{times}
 use Rattle.fkv_map.specs.declared.operations.Op.{Op}
 use Rattle.fkv_map.specs.declared.operations.Reply.{Reply}
 use Rattle.fkv_map.specs.Keys.{key_of}
-use Rattle.fkv_ops.specs.declared.trying.Trying.{Trying}
-use Rattle.fkv_ops.specs.declared.trying.Trying.TheVariants.{Appends}
-use Rattle.fkv_pending.specs.declared.attempting.Attempting.{Attempting}
-use Rattle.fkv_pending.specs.declared.attempting.Attempting.TheVariants.{Ended, Looks, Puts, Tries}
-use Rattle.fkv_pending.specs.declared.pending_requests.PendingRequest.{PendingRequest}
-use Rattle.fkv_pending.specs.Attempting.{AttemptState}
+use Rattle.law_commit.specs.Below.fkv_ops.TheTrying.{Trying}
+use Rattle.law_commit.specs.Below.fkv_ops.TheTrying.TheVariants.{Appends}
+use Rattle.law_commit.specs.Below.fkv_pending.TheAttempting.{Attempting}
+use Rattle.law_commit.specs.Below.fkv_pending.TheAttempting.TheVariants.{Ended, Looks, Puts, Tries}
+use Rattle.law_commit.specs.Below.fkv_pending.PendingRequest.{PendingRequest}
+use Rattle.law_commit.specs.Below.fkv_pending.Attempting.{AttemptState}
 use Rattle.fkv_plane.specs.declared.places.Places.{Places}
 use Rattle.fkv_plane.specs.Places.{bucket_place}
-use Rattle.fkv_session.specs.declared.sessions.Sitting.{Sitting}
-use Rattle.fkv_session.specs.declared.sessions.Sitting.TheVariants.{Attempts, CatchesUp, ClearsMail, Idle, Leaves, LoadsDurable, Polls, StoresCut, StoresOwing, Turns}
-use Rattle.fkv_session.specs.Accounts.{number_of}
+use Rattle.law_commit.specs.Below.fkv_session.Sitting.{Sitting}
+use Rattle.law_commit.specs.Below.fkv_session.Sitting.TheVariants.{Attempts, CatchesUp, ClearsMail, Idle, Leaves, LoadsDurable, Polls, StoresCut, StoresOwing, Turns}
+use Rattle.law_commit.specs.Below.fkv_session.Accounts.{number_of}
 use Rattle.fkv_words.specs.Fields.{bit_of}
-use Rattle.fkv_session.specs.Sessions.{Seat, SessionState, bits_of}
-use Rattle.fkv_session.specs.Shares.{is_sharing, latch_of, sharing}
+use Rattle.law_commit.specs.Below.fkv_session.Sessions.{Seat, SessionState, bits_of}
+use Rattle.law_commit.specs.Below.fkv_session.Shares.{is_sharing, latch_of, sharing}
 use Rattle.law_apart.specs.Apart.Rows.{shares_now}
-use Rattle.law_local.specs.Sessions.Known.{is_attempting}
-use Rattle.law_refine.specs.Latches.InTries.{attempt_held, own_held, session_held}
-use Rattle.law_refine.specs.Latches.Latchers.{attempt_alone, its_latch, session_alone, sitting_alone, try_alone}
-use Rattle.law_refine.specs.Events.GhostEvents.{home_in}
-use Rattle.law_refine.proofs.OfHeads.Entries.{same_home}
+use Rattle.law_commit.specs.Below.law_local.Sessions.Known.{is_attempting}
+use Rattle.law_commit.specs.Below.law_refine.Latches.InTries.{attempt_held, own_held, session_held}
+use Rattle.law_commit.specs.Below.law_refine.Latches.Latchers.{attempt_alone, its_latch, session_alone, sitting_alone, try_alone}
+use Rattle.law_commit.specs.Below.law_refine.Events.GhostEvents.{home_in}
+use Rattle.law_commit.proofs.Below.law_refine.OfHeads.Entries.{same_home}
 
 -- ---- lists
 number_some : {A : Type 0} (such : A → Bool) (items : List A) (i : ℕ) (it : A) → slice_get items i ≡ Some it → such it ≡ true → 0 < number_of such items

@@ -1,17 +1,17 @@
 -- What of a session that stands between events is said of its requests.
 use Rattle.std.proofs.Common.{◌≡◌, ◌≢◌, ℕ, ◌∙◌, sym, ap, subst, true, false, List}
 use Rattle.std.specs.Prelude.{Option, Some, slice_get}
-use Rattle.fkv_ops.specs.declared.answers.DiskRecord.{DiskRecord}
-use Rattle.fkv_pending.specs.declared.attempting.Attempting.{Attempting}
-use Rattle.fkv_pending.specs.declared.attempting.Attempting.TheVariants.{Looks, Puts}
-use Rattle.fkv_pending.specs.declared.mailing.MailTask.{MailTask}
-use Rattle.fkv_pending.specs.declared.pending_requests.PendingRequest.{PendingRequest}
-use Rattle.fkv_pending.specs.Mailbox.{MailNote}
-use Rattle.fkv_session.specs.declared.sessions.Sitting.{Sitting}
-use Rattle.fkv_session.specs.declared.sessions.Sitting.TheVariants.{Attempts, ClearsMail, Polls}
-use Rattle.fkv_session.specs.Sessions.{SessionState, Seat, bits_of, room_of}
-use Rattle.fkv_session.specs.Shares.{HasItsBuckets}
-use Rattle.law_local.specs.Sessions.Known.{is_attempting}
+use Rattle.law_commit.specs.Below.fkv_ops.DiskRecord.{DiskRecord}
+use Rattle.law_commit.specs.Below.fkv_pending.TheAttempting.{Attempting}
+use Rattle.law_commit.specs.Below.fkv_pending.TheAttempting.TheVariants.{Looks, Puts}
+use Rattle.law_commit.specs.Below.fkv_pending.MailTask.{MailTask}
+use Rattle.law_commit.specs.Below.fkv_pending.PendingRequest.{PendingRequest}
+use Rattle.law_commit.specs.Below.fkv_pending.Mailbox.{MailNote}
+use Rattle.law_commit.specs.Below.fkv_session.Sitting.{Sitting}
+use Rattle.law_commit.specs.Below.fkv_session.Sitting.TheVariants.{Attempts, ClearsMail, Polls}
+use Rattle.law_commit.specs.Below.fkv_session.Sessions.{SessionState, Seat, bits_of, room_of}
+use Rattle.law_commit.specs.Below.fkv_session.Shares.{HasItsBuckets}
+use Rattle.law_commit.specs.Below.law_local.Sessions.Known.{is_attempting}
 use Rattle.law_order.specs.Asked.Asked.{AsksForSought, HasAskedSought, HaveAskedSought, LooksForAsked, outstanding}
 use Rattle.law_order.proofs.OfAsked.Askers.{one_left, one_of}
 use Rattle.law_order.proofs.OfAsked.Attempts.{PutsSought, AttemptAt}

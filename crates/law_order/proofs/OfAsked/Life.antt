@@ -7,28 +7,28 @@ use Rattle.fkv_epoch.proofs.Shown.{none_some, some_same}
 use Rattle.fkv_map.specs.declared.operations.Call.{Call}
 use Rattle.fkv_plane.specs.declared.asks.Ask.{Ask}
 use Rattle.fkv_plane.specs.Asked.{reply_to}
-use Rattle.fkv_pending.specs.declared.mailing.MailTask.{MailTask}
-use Rattle.fkv_pending.specs.declared.mailing.Mailing.{Mailing}
-use Rattle.fkv_pending.specs.Mailing.{mail_ask}
-use Rattle.fkv_pending.specs.MailWorld.{mailbox_of, MailWorld, MailEvent, Moves as MailMoves, is_at_end, mail_happens, mail_run}
-use Rattle.fkv_pending.specs.Mailbox.{MailNote, MailPast, asked_then, past_of}
-use Rattle.fkv_pending.proofs.Shown.{mail_done}
-use Rattle.fkv_session.specs.declared.answers.Told.{Told as Answer}
-use Rattle.fkv_session.specs.Sessions as session_of
-use Rattle.fkv_session.specs.Sessions.{SessionState, Seat, is_busy, session_ask, session_begun}
-use Rattle.law_local.specs.Sessions.Known.{is_attempting}
-use Rattle.fkv_world.specs.Actors.{is_of_session, session_goes}
-use Rattle.fkv_world.specs.Moves.{session_moved}
-use Rattle.fkv_world.specs.Runs.{World, read_by_keeper, happens, run}
-use Rattle.fkv_world.specs.World.{Event, Calls, Moves, Now, seat_at, near, session_called}
-use Rattle.fkv_world.proofs.Shown.{is_over, same_seat, session_apart, session_written}
-use Rattle.law_world.proofs.OfRuns.Nothing.{none_then}
-use Rattle.law_world.specs.Guarded.Shows as guard
-use Rattle.law_refine.specs.Mail.MailEvents.{begins, changed_by, asked_by, own_events, begun_events, called_events, moved_events, life_events, mapped}
-use Rattle.law_refine.specs.Mail.Mailers.{session_mailing, IsAsFar}
-use Rattle.law_refine.specs.Mail.Reads.{mail_notes, mail_past}
-use Rattle.law_refine.specs.Mail.Shows.{IsOpened, mail_opening, seen_by_mailbox}
-use Rattle.law_refine.proofs.OfMail.Lives.{life_shows, life_sound}
+use Rattle.law_commit.specs.Below.fkv_pending.MailTask.{MailTask}
+use Rattle.law_commit.specs.Below.fkv_pending.TheMailing.{Mailing}
+use Rattle.law_commit.specs.Below.fkv_pending.Mailing.{mail_ask}
+use Rattle.law_commit.specs.Below.fkv_pending.MailWorld.{mailbox_of, MailWorld, MailEvent, Moves as MailMoves, is_at_end, mail_happens, mail_run}
+use Rattle.law_commit.specs.Below.fkv_pending.Mailbox.{MailNote, MailPast, asked_then, past_of}
+use Rattle.law_commit.proofs.Below.fkv_pending.Shown.{mail_done}
+use Rattle.law_commit.specs.Below.fkv_session.Told.{Told as Answer}
+use Rattle.law_commit.specs.Below.fkv_session.Sessions as session_of
+use Rattle.law_commit.specs.Below.fkv_session.Sessions.{SessionState, Seat, is_busy, session_ask, session_begun}
+use Rattle.law_commit.specs.Below.law_local.Sessions.Known.{is_attempting}
+use Rattle.law_commit.specs.Below.fkv_world.Actors.{is_of_session, session_goes}
+use Rattle.law_commit.specs.Below.fkv_world.Moves.{session_moved}
+use Rattle.law_commit.specs.Below.fkv_world.Runs.{World, read_by_keeper, happens, run}
+use Rattle.law_commit.specs.Below.fkv_world.World.{Event, Calls, Moves, Now, seat_at, near, session_called}
+use Rattle.law_commit.proofs.Below.fkv_world.Shown.{is_over, same_seat, session_apart, session_written}
+use Rattle.law_commit.proofs.Below.law_world.OfRuns.Nothing.{none_then}
+use Rattle.law_commit.specs.Below.law_world.Guarded.Shows as guard
+use Rattle.law_commit.specs.Below.law_refine.Mail.MailEvents.{begins, changed_by, asked_by, own_events, begun_events, called_events, moved_events, life_events, mapped}
+use Rattle.law_commit.specs.Below.law_refine.Mail.Mailers.{session_mailing, IsAsFar}
+use Rattle.law_commit.specs.Below.law_refine.Mail.Reads.{mail_notes, mail_past}
+use Rattle.law_commit.specs.Below.law_refine.Mail.Shows.{IsOpened, mail_opening, seen_by_mailbox}
+use Rattle.law_commit.proofs.Below.law_refine.OfMail.Lives.{life_shows, life_sound}
 use Rattle.law_order.specs.Asked.Asked.{AsksForSought, HaveAskedSought, LooksForAsked, outstanding}
 use Rattle.law_order.proofs.OfAsked.Askers.{asker, askers, AllSought}
 use Rattle.law_order.proofs.OfAsked.Facts.{asks_looks, asks_puts, asks_sought}

@@ -9,26 +9,26 @@ use Rattle.fkv_plane.specs.Asked.{reply_to}
 use Rattle.fkv_plane.specs.Passing.{is_done}
 use Rattle.fkv_plane.specs.Plane.{action_at}
 use Rattle.fkv_plane.proofs.Shown.{passed_done, passed_reply}
-use Rattle.fkv_ops.specs.Trying.{try_ask}
-use Rattle.fkv_pending.specs.declared.attempting.Attempting.{Attempting}
-use Rattle.fkv_pending.specs.declared.attempting.Attempting.TheVariants.{Ended, Looks, Tries, Puts}
-use Rattle.fkv_pending.specs.declared.mailing.MailTask.{MailTask}
-use Rattle.fkv_pending.specs.declared.mailing.MailTask.TheVariants as task
-use Rattle.fkv_pending.specs.declared.mailing.Mailing.{Mailing}
-use Rattle.fkv_pending.specs.declared.mailing.Mailing.TheVariants as mailing
-use Rattle.fkv_pending.specs.declared.pending_requests.PendingRequest.{PendingRequest}
-use Rattle.fkv_ops.specs.declared.answers.DiskRecord.{DiskRecord}
-use Rattle.fkv_ops.specs.declared.requests.Occasion.{Occasion}
-use Rattle.fkv_pending.specs.Attempting.{AttemptState, attempting_ask, attempt_ask}
-use Rattle.fkv_pending.specs.Mailing.{mail_ask}
-use Rattle.fkv_pending.proofs.Shown.{is_attempt_end, attempt_done, mail_done}
-use Rattle.fkv_session.specs.declared.answers.Told.{Told as Answer}
-use Rattle.fkv_session.specs.declared.sessions.Sitting.{Sitting}
-use Rattle.fkv_session.specs.declared.sessions.Sitting.TheVariants.{Attempts, ClearsMail, Polls}
-use Rattle.fkv_session.specs.Sessions.{SessionState, Seat, bits_of, room_of, sitting_ask, session_ask}
-use Rattle.fkv_session.specs.Shares.{HasItsBuckets}
-use Rattle.fkv_world.specs.Moves.{Near, session_gets, session_settled, session_replied, session_asks}
-use Rattle.law_refine.specs.Mail.Mailers.{attempt_mailing, sitting_mailing, session_mailing}
+use Rattle.law_commit.specs.Below.fkv_ops.Trying.{try_ask}
+use Rattle.law_commit.specs.Below.fkv_pending.TheAttempting.{Attempting}
+use Rattle.law_commit.specs.Below.fkv_pending.TheAttempting.TheVariants.{Ended, Looks, Tries, Puts}
+use Rattle.law_commit.specs.Below.fkv_pending.MailTask.{MailTask}
+use Rattle.law_commit.specs.Below.fkv_pending.MailTask.TheVariants as task
+use Rattle.law_commit.specs.Below.fkv_pending.TheMailing.{Mailing}
+use Rattle.law_commit.specs.Below.fkv_pending.TheMailing.TheVariants as mailing
+use Rattle.law_commit.specs.Below.fkv_pending.PendingRequest.{PendingRequest}
+use Rattle.law_commit.specs.Below.fkv_ops.DiskRecord.{DiskRecord}
+use Rattle.law_commit.specs.Below.fkv_ops.Occasion.{Occasion}
+use Rattle.law_commit.specs.Below.fkv_pending.Attempting.{AttemptState, attempting_ask, attempt_ask}
+use Rattle.law_commit.specs.Below.fkv_pending.Mailing.{mail_ask}
+use Rattle.law_commit.proofs.Below.fkv_pending.Shown.{is_attempt_end, attempt_done, mail_done}
+use Rattle.law_commit.specs.Below.fkv_session.Told.{Told as Answer}
+use Rattle.law_commit.specs.Below.fkv_session.Sitting.{Sitting}
+use Rattle.law_commit.specs.Below.fkv_session.Sitting.TheVariants.{Attempts, ClearsMail, Polls}
+use Rattle.law_commit.specs.Below.fkv_session.Sessions.{SessionState, Seat, bits_of, room_of, sitting_ask, session_ask}
+use Rattle.law_commit.specs.Below.fkv_session.Shares.{HasItsBuckets}
+use Rattle.law_commit.specs.Below.fkv_world.Moves.{Near, session_gets, session_settled, session_replied, session_asks}
+use Rattle.law_commit.specs.Below.law_refine.Mail.Mailers.{attempt_mailing, sitting_mailing, session_mailing}
 use Rattle.law_order.proofs.OfAsked.Attempts.{PutsSought, AttemptAt}
 use Rattle.law_order.proofs.OfAsked.Sitting.{IsAttempt, SitsAsking, SessionAsks, given_asks, next_asks}
 use Rattle.law_order.proofs.OfAsked.Told.{IsAt, Told, under_way}

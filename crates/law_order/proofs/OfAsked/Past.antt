@@ -5,22 +5,22 @@ use Rattle.fkv_map.specs.declared.operations.Call.{Call}
 use Rattle.fkv_plane.specs.declared.asks.Ask.{Ask}
 use Rattle.fkv_plane.specs.declared.asks.Ask.TheVariants.{Put, Take, Done}
 use Rattle.fkv_plane.specs.Passing.{is_done}
-use Rattle.fkv_flush.specs.declared.serving.Serving.{Serving}
-use Rattle.fkv_flush.specs.declared.serving.Serving.TheVariants as serve
-use Rattle.fkv_keeper.specs.Keeping.{keeper_ask}
-use Rattle.fkv_pending.specs.declared.mailing.MailAnswer.{MailAnswer}
-use Rattle.fkv_pending.specs.declared.mailing.MailRecord.{MailRecord}
-use Rattle.fkv_pending.specs.declared.mailing.MailTask.{MailTask}
-use Rattle.fkv_pending.specs.declared.mailing.MailTask.TheVariants as task
-use Rattle.fkv_pending.specs.declared.mailing.Mailing.{Mailing}
-use Rattle.fkv_pending.specs.declared.mailing.Mailing.TheVariants as mailing
-use Rattle.fkv_pending.specs.MailWorld.{Mailbox, mailbox_of, Keeping, GivesReady, MailWorld, MailEvent, Serves, Changes}
-use Rattle.fkv_pending.specs.Mailbox.{MailNote, MailPast, past_moved, served_notes, past_of}
-use Rattle.fkv_session.specs.Sessions.{SessionState, session_ask}
-use Rattle.fkv_world.specs.Actors.{is_of_session}
-use Rattle.fkv_world.specs.World.{Event, Calls, Moves, KeeperMoves, Now, seat_at}
-use Rattle.law_refine.specs.Mail.MailEvents.{begins, changed_by, own_events, begun_events, called_events, moved_events, served_events, record_read, life_events}
-use Rattle.law_refine.specs.Mail.Servers.{serving_of, is_serving}
+use Rattle.law_commit.specs.Below.fkv_flush.TheServing.{Serving}
+use Rattle.law_commit.specs.Below.fkv_flush.TheServing.TheVariants as serve
+use Rattle.law_commit.specs.Below.fkv_keeper.Keeping.{keeper_ask}
+use Rattle.law_commit.specs.Below.fkv_pending.MailAnswer.{MailAnswer}
+use Rattle.law_commit.specs.Below.fkv_pending.MailRecord.{MailRecord}
+use Rattle.law_commit.specs.Below.fkv_pending.MailTask.{MailTask}
+use Rattle.law_commit.specs.Below.fkv_pending.MailTask.TheVariants as task
+use Rattle.law_commit.specs.Below.fkv_pending.TheMailing.{Mailing}
+use Rattle.law_commit.specs.Below.fkv_pending.TheMailing.TheVariants as mailing
+use Rattle.law_commit.specs.Below.fkv_pending.MailWorld.{Mailbox, mailbox_of, Keeping, GivesReady, MailWorld, MailEvent, Serves, Changes}
+use Rattle.law_commit.specs.Below.fkv_pending.Mailbox.{MailNote, MailPast, past_moved, served_notes, past_of}
+use Rattle.law_commit.specs.Below.fkv_session.Sessions.{SessionState, session_ask}
+use Rattle.law_commit.specs.Below.fkv_world.Actors.{is_of_session}
+use Rattle.law_commit.specs.Below.fkv_world.World.{Event, Calls, Moves, KeeperMoves, Now, seat_at}
+use Rattle.law_commit.specs.Below.law_refine.Mail.MailEvents.{begins, changed_by, own_events, begun_events, called_events, moved_events, served_events, record_read, life_events}
+use Rattle.law_commit.specs.Below.law_refine.Mail.Servers.{serving_of, is_serving}
 use Rattle.law_order.specs.Asked.Asked.{outstanding}
 use Rattle.law_order.proofs.OfAsked.Moved.{is_first}
 

@@ -17,38 +17,38 @@ use Rattle.fkv_epoch.specs.Leaving.{leave_ask, leave_next}
 use Rattle.fkv_latch.specs.declared.latching.LatchAnswer.{LatchAnswer}
 use Rattle.fkv_latch.specs.declared.latching.LatchAnswer.TheVariants.{Taken as LatchTaken}
 use Rattle.fkv_latch.specs.Latching.{latch_next_ask}
-use Rattle.fkv_ops.specs.declared.answers.Reason.{Reason}
-use Rattle.fkv_ops.specs.declared.answers.Reason.TheVariants as reason
-use Rattle.fkv_ops.specs.declared.answers.TryAnswer.{TryAnswer}
-use Rattle.fkv_ops.specs.declared.answers.TryAnswer.TheVariants as tried
-use Rattle.fkv_ops.specs.declared.requests.Occasion.{Occasion}
-use Rattle.fkv_ops.specs.declared.requests.Occasion.TheVariants.{Call as AtCall, Poll as AtPoll}
-use Rattle.fkv_ops.specs.Requests.{is_read}
-use Rattle.fkv_pending.specs.declared.attempting.Attempting.{Attempting}
-use Rattle.fkv_pending.specs.declared.attempting.Attempting.TheVariants as attempting
-use Rattle.fkv_pending.specs.declared.mailing.MailAnswer.TheVariants as mail
-use Rattle.fkv_pending.specs.declared.mailing.MailTask.{MailTask}
-use Rattle.fkv_pending.specs.declared.mailing.MailTask.TheVariants.{Clear}
-use Rattle.fkv_pending.specs.declared.mailing.Mailing.{Mailing}
-use Rattle.fkv_pending.specs.declared.mailing.Mailing.TheVariants as mailing
-use Rattle.fkv_pending.specs.declared.pending_requests.PendingRequest.{PendingRequest}
-use Rattle.fkv_pending.specs.Mailing.{mail_ask, mail_next}
-use Rattle.fkv_pending.specs.MailWorld.{is_at_end}
-use Rattle.fkv_pending.specs.Attempting.{AttemptState, attempting_ask, attempt_ask, attempt_next}
-use Rattle.fkv_pending.proofs.Shown.{is_attempt_end, AttemptRestsOrAsks, attempt_begun_rests, attempt_done, attempt_rests}
-use Rattle.fkv_session.specs.declared.answers.Told.{Told as Answer}
-use Rattle.fkv_session.specs.declared.answers.Told.TheVariants as told
-use Rattle.fkv_session.specs.declared.catching_up.Catching.{Catching}
-use Rattle.fkv_session.specs.declared.catching_up.Catching.TheVariants.{Latches}
-use Rattle.fkv_session.specs.declared.sessions.CatchCause.{CatchCause}
-use Rattle.fkv_session.specs.declared.sessions.CatchCause.TheVariants.{Refreshes, Wakes, Shifts}
-use Rattle.fkv_session.specs.declared.sessions.Sitting.{Sitting}
-use Rattle.fkv_session.specs.declared.sessions.Sitting.TheVariants.{Idle, Attempts, CatchesUp, ClearsMail, Polls, StoresOwing, Turns, StoresCut, Leaves, LoadsDurable}
-use Rattle.fkv_session.specs.CatchingUp.{CatchState, refresh_begun, wake_begun, latched, latch_marked, catching_requests}
-use Rattle.fkv_session.specs.OwnTurns.{own_turn_ask, own_turn_begun, own_turn_given}
-use Rattle.fkv_session.specs.Sessions.{SessionState, Seat, bits_of, room_of, is_busy, answers, answers_after_turn, request_in_hand, attempts, polls_request, polls_at, refuses, refusal_of, op_begun, refresh_call, poll_begun, poll_call, sleep_call, wake_call, call_begun, session_begun, session_ask, session_next, session_given, attempt_left, serial_taken, update_done, shifts, ticket_after, is_no_room, with_request, accepts, attempted, attempt_ledto, caught_up, catch_ledto, clear_ledto, is_owed, request_finished, finishes_request, lacks_room, keeps_request, poll_ledto, turn_ledto, leave_ledto, attempt_moved, caught, own_turn_moved, sitting_next, sitting_given, asks_after, is_word_ask}
-use Rattle.fkv_session.specs.Shares.{HasItsBuckets}
-use Rattle.law_refine.specs.Mail.Mailers.{attempt_mailing, sitting_mailing, session_mailing}
+use Rattle.law_commit.specs.Below.fkv_ops.Reason.{Reason}
+use Rattle.law_commit.specs.Below.fkv_ops.Reason.TheVariants as reason
+use Rattle.law_commit.specs.Below.fkv_ops.TryAnswer.{TryAnswer}
+use Rattle.law_commit.specs.Below.fkv_ops.TryAnswer.TheVariants as tried
+use Rattle.law_commit.specs.Below.fkv_ops.Occasion.{Occasion}
+use Rattle.law_commit.specs.Below.fkv_ops.Occasion.TheVariants.{Call as AtCall, Poll as AtPoll}
+use Rattle.law_commit.specs.Below.fkv_ops.Requests.{is_read}
+use Rattle.law_commit.specs.Below.fkv_pending.TheAttempting.{Attempting}
+use Rattle.law_commit.specs.Below.fkv_pending.TheAttempting.TheVariants as attempting
+use Rattle.law_commit.specs.Below.fkv_pending.MailAnswer.TheVariants as mail
+use Rattle.law_commit.specs.Below.fkv_pending.MailTask.{MailTask}
+use Rattle.law_commit.specs.Below.fkv_pending.MailTask.TheVariants.{Clear}
+use Rattle.law_commit.specs.Below.fkv_pending.TheMailing.{Mailing}
+use Rattle.law_commit.specs.Below.fkv_pending.TheMailing.TheVariants as mailing
+use Rattle.law_commit.specs.Below.fkv_pending.PendingRequest.{PendingRequest}
+use Rattle.law_commit.specs.Below.fkv_pending.Mailing.{mail_ask, mail_next}
+use Rattle.law_commit.specs.Below.fkv_pending.MailWorld.{is_at_end}
+use Rattle.law_commit.specs.Below.fkv_pending.Attempting.{AttemptState, attempting_ask, attempt_ask, attempt_next}
+use Rattle.law_commit.proofs.Below.fkv_pending.Shown.{is_attempt_end, AttemptRestsOrAsks, attempt_begun_rests, attempt_done, attempt_rests}
+use Rattle.law_commit.specs.Below.fkv_session.Told.{Told as Answer}
+use Rattle.law_commit.specs.Below.fkv_session.Told.TheVariants as told
+use Rattle.law_commit.specs.Below.fkv_session.Catching.{Catching}
+use Rattle.law_commit.specs.Below.fkv_session.Catching.TheVariants.{Latches}
+use Rattle.law_commit.specs.Below.fkv_session.CatchCause.{CatchCause}
+use Rattle.law_commit.specs.Below.fkv_session.CatchCause.TheVariants.{Refreshes, Wakes, Shifts}
+use Rattle.law_commit.specs.Below.fkv_session.Sitting.{Sitting}
+use Rattle.law_commit.specs.Below.fkv_session.Sitting.TheVariants.{Idle, Attempts, CatchesUp, ClearsMail, Polls, StoresOwing, Turns, StoresCut, Leaves, LoadsDurable}
+use Rattle.law_commit.specs.Below.fkv_session.CatchingUp.{CatchState, refresh_begun, wake_begun, latched, latch_marked, catching_requests}
+use Rattle.law_commit.specs.Below.fkv_session.OwnTurns.{own_turn_ask, own_turn_begun, own_turn_given}
+use Rattle.law_commit.specs.Below.fkv_session.Sessions.{SessionState, Seat, bits_of, room_of, is_busy, answers, answers_after_turn, request_in_hand, attempts, polls_request, polls_at, refuses, refusal_of, op_begun, refresh_call, poll_begun, poll_call, sleep_call, wake_call, call_begun, session_begun, session_ask, session_next, session_given, attempt_left, serial_taken, update_done, shifts, ticket_after, is_no_room, with_request, accepts, attempted, attempt_ledto, caught_up, catch_ledto, clear_ledto, is_owed, request_finished, finishes_request, lacks_room, keeps_request, poll_ledto, turn_ledto, leave_ledto, attempt_moved, caught, own_turn_moved, sitting_next, sitting_given, asks_after, is_word_ask}
+use Rattle.law_commit.specs.Below.fkv_session.Shares.{HasItsBuckets}
+use Rattle.law_commit.specs.Below.law_refine.Mail.Mailers.{attempt_mailing, sitting_mailing, session_mailing}
 use Rattle.law_order.specs.Asked.Asked.{HasAskedSought}
 use Rattle.law_order.proofs.OfAsked.Askers.{asker, askers, asked_count, asked_most, AllSought, Await, askers_behind, askers_set, askers_left, none_asked, none_sought, all_behind, all_set, all_left, one_of, latched_await, all_then}
 use Rattle.law_order.proofs.OfAsked.Attempts.{EndsSo, asks_on, AttemptTold, AttemptAt, AttemptAsks, begun_asks, attempt_asks}

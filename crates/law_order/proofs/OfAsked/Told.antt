@@ -3,15 +3,15 @@ use Rattle.std.proofs.Common.{◌≡◌, ◌⊎◌, inl, inr, ℕ, ◌∙◌, re
 use Rattle.std.specs.Prelude.{◌==◌, ◌&&◌, not, if◌then◌else◌, Option, Some, None}
 use Rattle.fkv_base.specs.declared.numbers.Addr.{Addr}
 use Rattle.fkv_plane.specs.Asked.{reply_to}
-use Rattle.fkv_pending.specs.declared.mailing.MailAnswer.TheVariants.{Cleared, NotReady, Taken, Asked, Occupied}
-use Rattle.fkv_pending.specs.declared.mailing.MailTask.{MailTask}
-use Rattle.fkv_pending.specs.declared.mailing.MailTask.TheVariants.{Clear, Take, Put}
-use Rattle.fkv_pending.specs.declared.mailing.Mailing.{Mailing}
-use Rattle.fkv_pending.specs.declared.mailing.Mailing.TheVariants.{Ended, LoadsState, LoadsHeader, LoadsKey, LoadsValue, StoresEmpty, StoresAddress, StoresAsked}
-use Rattle.fkv_pending.specs.Mailing.{mail_empty, mail_asked, mail_ready, mail_ask, mail_next, state_found}
-use Rattle.fkv_pending.specs.MailWorld.{Mailbox, mailbox_of, MailWorld, Moves, is_at_end, mail_happens}
-use Rattle.fkv_pending.specs.Mailbox.{MailNote, HasAskedFor, WasServed, HasTaken, HasLetGo, MailPast, past_moved, past_after, IsOver}
-use Rattle.fkv_pending.proofs.Shown.{IsSound, Stands, KnowsMail, box_moved, moved_box, reply_in, replied_in}
+use Rattle.law_commit.specs.Below.fkv_pending.MailAnswer.TheVariants.{Cleared, NotReady, Taken, Asked, Occupied}
+use Rattle.law_commit.specs.Below.fkv_pending.MailTask.{MailTask}
+use Rattle.law_commit.specs.Below.fkv_pending.MailTask.TheVariants.{Clear, Take, Put}
+use Rattle.law_commit.specs.Below.fkv_pending.TheMailing.{Mailing}
+use Rattle.law_commit.specs.Below.fkv_pending.TheMailing.TheVariants.{Ended, LoadsState, LoadsHeader, LoadsKey, LoadsValue, StoresEmpty, StoresAddress, StoresAsked}
+use Rattle.law_commit.specs.Below.fkv_pending.Mailing.{mail_empty, mail_asked, mail_ready, mail_ask, mail_next, state_found}
+use Rattle.law_commit.specs.Below.fkv_pending.MailWorld.{Mailbox, mailbox_of, MailWorld, Moves, is_at_end, mail_happens}
+use Rattle.law_commit.specs.Below.fkv_pending.Mailbox.{MailNote, HasAskedFor, WasServed, HasTaken, HasLetGo, MailPast, past_moved, past_after, IsOver}
+use Rattle.law_commit.proofs.Below.fkv_pending.Shown.{IsSound, Stands, KnowsMail, box_moved, moved_box, reply_in, replied_in}
 use Rattle.law_order.specs.Asked.Asked.{outstanding}
 use Rattle.law_order.proofs.OfAsked.Askers.{IsChange}
 

@@ -5,20 +5,20 @@ use Rattle.fkv_plane.specs.declared.asks.Ask.{Ask}
 use Rattle.fkv_plane.specs.declared.asks.Ask.TheVariants.{Put, Take, Done}
 use Rattle.fkv_plane.specs.declared.places.Places.{Places}
 use Rattle.fkv_plane.specs.Passing.{passed}
-use Rattle.fkv_ops.specs.declared.answers.TryAnswer.{TryAnswer}
-use Rattle.fkv_ops.specs.declared.answers.TryAnswer.TheVariants as answer
-use Rattle.fkv_ops.specs.declared.requests.Occasion.{Occasion}
-use Rattle.fkv_ops.specs.declared.requests.Occasion.TheVariants.{Call}
-use Rattle.fkv_ops.specs.declared.requests.Request.{Request}
-use Rattle.fkv_ops.specs.declared.requests.Seen.{Seen}
-use Rattle.fkv_ops.specs.EachAsk.{AskIsSo}
-use Rattle.fkv_ops.specs.Reasons.{IsTrue}
-use Rattle.fkv_ops.specs.Trying.{TryState, try_ask, try_next}
-use Rattle.fkv_ops.specs.TryRun.{Trial, Told, told_by, trial_begun, try_run}
-use Rattle.fkv_ops.proofs.Shown.{each_ask, each_is_true}
-use Rattle.fkv_pending.specs.declared.mailing.Mailing.{Mailing}
-use Rattle.fkv_pending.specs.declared.mailing.Mailing.TheVariants as mailing
-use Rattle.fkv_pending.specs.Mailing.{mail_ask}
+use Rattle.law_commit.specs.Below.fkv_ops.TryAnswer.{TryAnswer}
+use Rattle.law_commit.specs.Below.fkv_ops.TryAnswer.TheVariants as answer
+use Rattle.law_commit.specs.Below.fkv_ops.Occasion.{Occasion}
+use Rattle.law_commit.specs.Below.fkv_ops.Occasion.TheVariants.{Call}
+use Rattle.law_commit.specs.Below.fkv_ops.Request.{Request}
+use Rattle.law_commit.specs.Below.fkv_ops.Seen.{Seen}
+use Rattle.law_commit.specs.Below.fkv_ops.EachAsk.{AskIsSo}
+use Rattle.law_commit.specs.Below.fkv_ops.Reasons.{IsTrue}
+use Rattle.law_commit.specs.Below.fkv_ops.Trying.{TryState, try_ask, try_next}
+use Rattle.law_commit.specs.Below.fkv_ops.TryRun.{Trial, Told, told_by, trial_begun, try_run}
+use Rattle.law_commit.proofs.Below.fkv_ops.Shown.{each_ask, each_is_true}
+use Rattle.law_commit.specs.Below.fkv_pending.TheMailing.{Mailing}
+use Rattle.law_commit.specs.Below.fkv_pending.TheMailing.TheVariants as mailing
+use Rattle.law_commit.specs.Below.fkv_pending.Mailing.{mail_ask}
 
 -- an ask of a slot
 abbrev pub is_slot : {A : Type 0} → Ask A → Bool

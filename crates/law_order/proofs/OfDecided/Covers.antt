@@ -1,25 +1,25 @@
 -- What a full commit writes covers the chains, in an image that has its triples.
 use Rattle.std.proofs.Common.{◌≡◌, inl, inr, ℕ, zero, suc, ◌<◌, ◌≤◌, ◌^◌, ◌∙◌, List, [], ◌∷◌, refl, arith, ap, subst, sym, map}
 use Rattle.std.specs.Prelude.{Some, slice_get}
-use Rattle.fkv_checkpoint.specs.Fuzzy.{HasCopy}
-use Rattle.fkv_checkpoint.specs.Triples.{CopiedEntry, copied_of}
-use Rattle.fkv_core.specs.Openings.{beginning}
+use Rattle.law_commit.specs.Below.fkv_checkpoint.Fuzzy.{HasCopy}
+use Rattle.law_commit.specs.Below.fkv_checkpoint.Triples.{CopiedEntry, copied_of}
+use Rattle.law_opening.specs.Below.fkv_core.Openings.{beginning}
 use Rattle.fkv_index.specs.declared.homes.Home.{Home}
 use Rattle.fkv_index.specs.Slots.{home_of}
 use Rattle.fkv_index.specs.OneEntry.{IsHome}
 use Rattle.fkv_index.proofs.Shown.{homes_are_there}
-use Rattle.fkv_opening.specs.declared.opened_store.Opened.{Opened}
+use Rattle.law_opening.specs.Below.fkv_opening.TheOpened.{Opened}
 use Rattle.fkv_record.specs.declared.triples.Triple.{Triple}
-use Rattle.fkv_scan.specs.Log as scan
-use Rattle.fkv_world.specs.World.{Event, Now}
+use Rattle.law_opening.specs.Below.fkv_scan.Log as scan
+use Rattle.law_commit.specs.Below.fkv_world.World.{Event, Now}
 use Rattle.law_opening.specs.Changes.Linked.{ChainsFall, IsFalling}
 use Rattle.law_log.specs.Chains.{head_of}
 use Rattle.law_log.specs.Ghosts.{Log}
 use Rattle.law_log.specs.Trace.{IsIn}
 use Rattle.law_opening.specs.Log.OpeningLog.{opening_ghosts}
-use Rattle.law_paper.specs.Paper.Stands.{CoversChains}
-use Rattle.law_refine.specs.Events.GhostEvents.{home_in, home_number, life_ghosts}
-use Rattle.law_refine.specs.Heads.Heads.{head_at}
+use Rattle.law_commit.specs.Below.law_paper.Paper.Stands.{CoversChains}
+use Rattle.law_commit.specs.Below.law_refine.Events.GhostEvents.{home_in, home_number, life_ghosts}
+use Rattle.law_commit.specs.Below.law_refine.Heads.Heads.{head_at}
 use Rattle.law_commit.specs.BegunCommits.{BegunCommit}
 use Rattle.law_commit.specs.Decided.Below.{SpellsChains}
 use Rattle.law_commit.specs.Decided.Ended.{span_of}

@@ -2,12 +2,12 @@
 use Rattle.std.proofs.Common.{◌≡◌, ℕ, ◌+◌, ◌<◌, ◌≤◌, ◌∙◌, List, arith, ap, sym}
 use Rattle.std.specs.Prelude.{◌↔◌}
 use Rattle.fkv_record.specs.declared.lost_ranges.LostRange.{LostRange}
-use Rattle.fkv_scan.specs.Log as scan
+use Rattle.law_opening.specs.Below.fkv_scan.Log as scan
 use Rattle.law_log.specs.Chains.{Cell, Published}
 use Rattle.law_log.specs.Ghosts.{Log}
 use Rattle.law_log.specs.Trace.{IsIn}
 use Rattle.law_opening.specs.Log.Records.{HasWhatCounts}
-use Rattle.law_paper.specs.Paper.Old.{HasWhatCounted, LosesTheRest}
+use Rattle.law_commit.specs.Below.law_paper.Paper.Old.{HasWhatCounted, LosesTheRest}
 use Rattle.law_commit.specs.Versions.Cells.{CellsFrom, made_in}
 
 -- the chains are as they were below an address

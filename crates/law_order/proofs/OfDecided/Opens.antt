@@ -1,9 +1,9 @@
 -- As the life of an opened store begins, what the laws of commits' ends suppose of it holds.
 use Rattle.std.proofs.Common.{ℕ, List}
-use Rattle.fkv_core.specs.Openings.{IsOpeningWorld, beginning}
-use Rattle.fkv_opening.specs.Opened.{IsStoreOf}
-use Rattle.fkv_opening.specs.declared.opened_store.Opened.{Opened}
-use Rattle.fkv_world.specs.World.{Now}
+use Rattle.law_opening.specs.Below.fkv_core.Openings.{IsOpeningWorld, beginning}
+use Rattle.law_opening.specs.Below.fkv_opening.Opened.{IsStoreOf}
+use Rattle.law_opening.specs.Below.fkv_opening.TheOpened.{Opened}
+use Rattle.law_commit.specs.Below.fkv_world.World.{Now}
 use Rattle.law_opening.specs.Log.OpeningLog.{opening_ghosts}
 use Rattle.law_commit.specs.Decided.Below.{OpensWhole}
 use Rattle.law_order.specs.Rules.Openings.{BeginsItsLife, OpensItsEnds, OpensItsVersions}

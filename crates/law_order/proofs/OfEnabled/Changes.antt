@@ -2,26 +2,26 @@
 use Rattle.std.proofs.Common.{◌≡◌, ℕ, List, refl, sym, subst, true}
 use Rattle.std.specs.Prelude.{Option, Some, None, slice_get}
 use Rattle.fkv_epoch.proofs.Shown.{none_some, some_same}
-use Rattle.law_world.specs.GuardSessions.InPlace.{try_changes, attempt_changes, sitting_changes}
-use Rattle.fkv_ops.specs.declared.trying.Trying.{Trying}
-use Rattle.fkv_ops.specs.declared.trying.Trying.TheVariants.{SwapsValue, ChangesValue}
-use Rattle.fkv_ops.specs.Trying.{TryState}
+use Rattle.law_commit.specs.Below.law_world.GuardSessions.InPlace.{try_changes, attempt_changes, sitting_changes}
+use Rattle.law_commit.specs.Below.fkv_ops.TheTrying.{Trying}
+use Rattle.law_commit.specs.Below.fkv_ops.TheTrying.TheVariants.{SwapsValue, ChangesValue}
+use Rattle.law_commit.specs.Below.fkv_ops.Trying.{TryState}
 use Rattle.law_log.specs.Chains.{Cell, Published}
 use Rattle.law_log.specs.Ghosts.{Log}
-use Rattle.fkv_pending.specs.declared.attempting.Attempting.{Attempting}
-use Rattle.fkv_pending.specs.declared.attempting.Attempting.TheVariants.{Tries}
-use Rattle.fkv_pending.specs.Attempting.{AttemptState}
-use Rattle.fkv_session.specs.declared.sessions.Sitting.{Sitting}
-use Rattle.fkv_session.specs.declared.sessions.Sitting.TheVariants.{Attempts, Polls}
-use Rattle.fkv_session.specs.Sessions.{SessionState}
-use Rattle.law_local.specs.Sessions.Known.{is_attempting}
-use Rattle.law_local.specs.Tries.AttemptRows.{AttemptKnows, AttemptRow}
-use Rattle.law_local.specs.Tries.TryRows.{TryRow}
-use Rattle.fkv_world.specs.Runs.{run}
-use Rattle.fkv_world.specs.World.{Event, Moves}
-use Rattle.law_refine.specs.Events.GhostEvents.{life_ghosts}
-use Rattle.law_refine.specs.Events.Published.{IsPublished}
-use Rattle.law_refine.specs.Records.Changes.{ChangesPublished, SessionChangesPublished}
+use Rattle.law_commit.specs.Below.fkv_pending.TheAttempting.{Attempting}
+use Rattle.law_commit.specs.Below.fkv_pending.TheAttempting.TheVariants.{Tries}
+use Rattle.law_commit.specs.Below.fkv_pending.Attempting.{AttemptState}
+use Rattle.law_commit.specs.Below.fkv_session.Sitting.{Sitting}
+use Rattle.law_commit.specs.Below.fkv_session.Sitting.TheVariants.{Attempts, Polls}
+use Rattle.law_commit.specs.Below.fkv_session.Sessions.{SessionState}
+use Rattle.law_commit.specs.Below.law_local.Sessions.Known.{is_attempting}
+use Rattle.law_commit.specs.Below.law_local.Tries.AttemptRows.{AttemptKnows, AttemptRow}
+use Rattle.law_commit.specs.Below.law_local.Tries.TryRows.{TryRow}
+use Rattle.law_commit.specs.Below.fkv_world.Runs.{run}
+use Rattle.law_commit.specs.Below.fkv_world.World.{Event, Moves}
+use Rattle.law_commit.specs.Below.law_refine.Events.GhostEvents.{life_ghosts}
+use Rattle.law_commit.specs.Below.law_refine.Events.Published.{IsPublished}
+use Rattle.law_commit.specs.Below.law_refine.Records.Changes.{ChangesPublished, SessionChangesPublished}
 use Rattle.law_order.specs.Known.Begins.{BegunLife, home_of_world}
 use Rattle.law_order.specs.Known.Knows.{AreKnown, SessionKnows}
 use Rattle.law_order.proofs.OfKnown.Newest.{known_now}

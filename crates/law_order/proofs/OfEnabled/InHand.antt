@@ -6,20 +6,20 @@ use Rattle.fkv_map.specs.declared.history.HistoryEntry.{HistoryEntry}
 use Rattle.law_log.specs.Ghosts.{Ghosts}
 use Rattle.law_log.specs.Enabled.{IsInHand}
 use Rattle.law_log.specs.Trace.{TraceLine, called_as, Effect as LogEffect}
-use Rattle.law_world.specs.Runs.Added.{IsEffectOf, IsHistoryAfter}
-use Rattle.fkv_world.specs.Past.{Effect, effect_made}
-use Rattle.fkv_world.specs.Runs.{happens, run}
-use Rattle.fkv_world.specs.World.{Event}
-use Rattle.law_world.proofs.OfRuns.Added.{history_so}
-use Rattle.law_refine.specs.Calls.Calls.{IsUpdateInHand, effects_of_life, entries_of, lines_of_life}
-use Rattle.law_refine.proofs.OfCalls.InHand.{effect_in_hand}
-use Rattle.law_refine.proofs.OfCalls.LifeHistory.{life_entries}
-use Rattle.law_refine.proofs.OfCalls.SameHistory.{same_update}
+use Rattle.law_commit.specs.Below.law_world.Runs.Added.{IsEffectOf, IsHistoryAfter}
+use Rattle.law_commit.specs.Below.fkv_world.Past.{Effect, effect_made}
+use Rattle.law_commit.specs.Below.fkv_world.Runs.{happens, run}
+use Rattle.law_commit.specs.Below.fkv_world.World.{Event}
+use Rattle.law_commit.proofs.Below.law_world.OfRuns.Added.{history_so}
+use Rattle.law_commit.specs.Below.law_refine.Calls.Calls.{IsUpdateInHand, effects_of_life, entries_of, lines_of_life}
+use Rattle.law_commit.proofs.Below.law_refine.OfCalls.InHand.{effect_in_hand}
+use Rattle.law_commit.proofs.Below.law_refine.OfCalls.LifeHistory.{life_entries}
+use Rattle.law_commit.proofs.Below.law_refine.OfCalls.SameHistory.{same_update}
 use Rattle.law_order.specs.Known.Begins.{BegunLife}
-use Rattle.law_refine.specs.Events.GhostEvents.{life_ghosts}
-use Rattle.law_refine.proofs.OfEvents.Trace.{ghost_trace}
-use Rattle.law_refine.specs.Records.Changes.{AreChangesPublished}
-use Rattle.law_refine.proofs.OfRecords.Meets.{life_meets_published}
+use Rattle.law_commit.specs.Below.law_refine.Events.GhostEvents.{life_ghosts}
+use Rattle.law_commit.proofs.Below.law_refine.OfEvents.Trace.{ghost_trace}
+use Rattle.law_commit.specs.Below.law_refine.Records.Changes.{AreChangesPublished}
+use Rattle.law_commit.proofs.Below.law_refine.OfRecords.Meets.{life_meets_published}
 
 -- ---- the log's trace and history beside a life are the life's
 pub life_same_trace : (life : BegunLife) (events : List Event) → (life_ghosts life.opening life.ghosts events).trace ≡ lines_of_life life.opening events

@@ -2,48 +2,48 @@
 use Rattle.std.proofs.Common.{◌≡◌, ℕ, ◌≤◌, ◌∙◌, List, [], ◌∷◌, ◌++◌, refl, arith, ap, sym, subst, Bool, true, false}
 use Rattle.std.specs.Prelude.{map, ◌==◌, if◌then◌else◌, Option, Some, None, slice_get}
 use Rattle.fkv_epoch.proofs.Shown.{none_some}
-use Rattle.fkv_ops.specs.declared.requests.Request.{Request}
-use Rattle.fkv_ops.specs.declared.requests.Seen.{Seen}
+use Rattle.law_commit.specs.Below.fkv_ops.Request.{Request}
+use Rattle.law_commit.specs.Below.fkv_ops.Seen.{Seen}
 use Rattle.law_log.specs.Ghosts.{Ghosts, GhostEvent, Fixes, Tells}
 use Rattle.law_log.specs.Enabled.{AreEnabled, NoneAbove, NoneCopies}
 use Rattle.law_log.specs.Trace.{TraceLine}
 use Rattle.fkv_plane.specs.declared.asks.Ask.{Ask}
 use Rattle.fkv_plane.specs.declared.asks.Ask.TheVariants.{Put, Take, Done}
 use Rattle.fkv_plane.specs.Asked.{asked, asked_place, reply_to, word_found}
-use Rattle.fkv_pending.specs.declared.attempting.Attempting.{Attempting}
-use Rattle.fkv_pending.specs.declared.attempting.Attempting.TheVariants.{Tries}
-use Rattle.fkv_pending.specs.Attempting.{AttemptState}
-use Rattle.fkv_session.specs.declared.answers.Told.{Told}
-use Rattle.fkv_session.specs.declared.sessions.Sitting.{Sitting}
-use Rattle.fkv_session.specs.declared.sessions.Sitting.TheVariants.{Attempts, Polls}
-use Rattle.fkv_session.specs.Sessions.{SessionState, Seat, session_ask, session_next}
-use Rattle.law_world.specs.GuardSessions.InPlace.{attempt_changes, sitting_changes, try_changes}
-use Rattle.law_local.specs.Sessions.Inputs.{AttemptsBy}
-use Rattle.law_local.specs.Sessions.Known.{is_attempting}
-use Rattle.law_local.specs.Tries.AttemptRows.{AttemptRow, IsTrueOfAttempt, TriesFor}
-use Rattle.law_local.specs.Tries.Changes.{IsAlone}
-use Rattle.law_local.specs.Tries.TryRows.{key_in}
-use Rattle.fkv_world.specs.Runs.{World, happens, run}
-use Rattle.fkv_world.specs.World.{Event, Calls, Moves, Commits, Turns, KeeperMoves, Crashes, Now, seat_at}
-use Rattle.law_refine.specs.Heads.Heads.{AllMeetHeads}
-use Rattle.law_refine.proofs.OfHeads.LifeHeads.{life_meets}
+use Rattle.law_commit.specs.Below.fkv_pending.TheAttempting.{Attempting}
+use Rattle.law_commit.specs.Below.fkv_pending.TheAttempting.TheVariants.{Tries}
+use Rattle.law_commit.specs.Below.fkv_pending.Attempting.{AttemptState}
+use Rattle.law_commit.specs.Below.fkv_session.Told.{Told}
+use Rattle.law_commit.specs.Below.fkv_session.Sitting.{Sitting}
+use Rattle.law_commit.specs.Below.fkv_session.Sitting.TheVariants.{Attempts, Polls}
+use Rattle.law_commit.specs.Below.fkv_session.Sessions.{SessionState, Seat, session_ask, session_next}
+use Rattle.law_commit.specs.Below.law_world.GuardSessions.InPlace.{attempt_changes, sitting_changes, try_changes}
+use Rattle.law_commit.specs.Below.law_local.Sessions.Inputs.{AttemptsBy}
+use Rattle.law_commit.specs.Below.law_local.Sessions.Known.{is_attempting}
+use Rattle.law_commit.specs.Below.law_local.Tries.AttemptRows.{AttemptRow, IsTrueOfAttempt, TriesFor}
+use Rattle.law_commit.specs.Below.law_local.Tries.Changes.{IsAlone}
+use Rattle.law_commit.specs.Below.law_local.Tries.TryRows.{key_in}
+use Rattle.law_commit.specs.Below.fkv_world.Runs.{World, happens, run}
+use Rattle.law_commit.specs.Below.fkv_world.World.{Event, Calls, Moves, Commits, Turns, KeeperMoves, Crashes, Now, seat_at}
+use Rattle.law_commit.specs.Below.law_refine.Heads.Heads.{AllMeetHeads}
+use Rattle.law_commit.proofs.Below.law_refine.OfHeads.LifeHeads.{life_meets}
 use Rattle.law_order.specs.Known.Begins.{BegunLife, home_of_world}
 use Rattle.law_order.specs.Known.Knows.{AllKnowBehind, AreKnown}
 use Rattle.law_order.specs.Known.Told.{AreToldTruly}
-use Rattle.law_refine.specs.Events.Effects.{PublishesIt, Stepped, mover_step, step_at}
-use Rattle.law_refine.specs.Events.GhostEvents.{fixed_ghosts, ghost_events, life_ghosts, mapped, moved_ghosts, own_ghosts, safe_at, serials_in, traced_by}
-use Rattle.law_refine.specs.Events.Lines.{lines_added}
-use Rattle.law_refine.specs.Events.Reservations.{Reservation}
-use Rattle.law_refine.specs.Events.Reserved.{HasReserved, reserved_by, tail_at}
-use Rattle.law_refine.specs.Events.Sessions.{sitting_ghosts, step_ghosts}
-use Rattle.law_refine.proofs.OfEvents.Fixed.{ghost_fixed}
-use Rattle.law_refine.proofs.OfEvents.Unborn.{ghost_unborn}
-use Rattle.law_refine.proofs.OfEvents.EventEffects.{life_makes}
-use Rattle.law_refine.proofs.OfEvents.SessionSteps.{life_on}
-use Rattle.law_refine.proofs.OfEvents.ReservedLife.{life_reserved}
-use Rattle.law_refine.specs.Records.Changes.{AreChangesPublished}
-use Rattle.law_refine.specs.Records.Frames.{IsAttempting}
-use Rattle.law_refine.proofs.OfRecords.FrameOwners.{sees_safely}
+use Rattle.law_commit.specs.Below.law_refine.Events.Effects.{PublishesIt, Stepped, mover_step, step_at}
+use Rattle.law_commit.specs.Below.law_refine.Events.GhostEvents.{fixed_ghosts, ghost_events, life_ghosts, mapped, moved_ghosts, own_ghosts, safe_at, serials_in, traced_by}
+use Rattle.law_commit.specs.Below.law_refine.Events.Lines.{lines_added}
+use Rattle.law_commit.specs.Below.law_refine.Events.Reservations.{Reservation}
+use Rattle.law_commit.specs.Below.law_refine.Events.Reserved.{HasReserved, reserved_by, tail_at}
+use Rattle.law_commit.specs.Below.law_refine.Events.Sessions.{sitting_ghosts, step_ghosts}
+use Rattle.law_commit.proofs.Below.law_refine.OfEvents.Fixed.{ghost_fixed}
+use Rattle.law_commit.proofs.Below.law_refine.OfEvents.Unborn.{ghost_unborn}
+use Rattle.law_commit.proofs.Below.law_refine.OfEvents.EventEffects.{life_makes}
+use Rattle.law_commit.proofs.Below.law_refine.OfEvents.SessionSteps.{life_on}
+use Rattle.law_commit.proofs.Below.law_refine.OfEvents.ReservedLife.{life_reserved}
+use Rattle.law_commit.specs.Below.law_refine.Records.Changes.{AreChangesPublished}
+use Rattle.law_commit.specs.Below.law_refine.Records.Frames.{IsAttempting}
+use Rattle.law_commit.proofs.Below.law_refine.OfRecords.FrameOwners.{sees_safely}
 use Rattle.law_order.specs.Apart.Given.{Given}
 use Rattle.law_order.specs.Apart.Lives.{AllApartBehind, OpensApart}
 use Rattle.law_order.proofs.OfApart.Beside.{changes_none, publishes_none}

@@ -6,10 +6,10 @@ use Rattle.law_log.specs.Chains.{Unborn, Reserved as HoldsReserved}
 use Rattle.law_log.specs.Ghosts.{Log, Ghosts, GhostEvent, Reserves, Publishes, Changes, ghost_run}
 use Rattle.law_log.specs.Enabled.{IsInHand, NoneAbove, IsPublishEnabled}
 use Rattle.law_log.proofs.Shown.{run_on}
-use Rattle.law_refine.specs.Heads.Heads.{AllMeetHeads, IsAtHead, meets_head}
-use Rattle.law_refine.specs.Events.Effects.{AreQuiet, Behind, ByRecord, InPlace, PublishesIt, Quietly, Stepped, TakesEffect, is_quiet}
-use Rattle.law_refine.specs.Events.Reservations as moved
-use Rattle.law_refine.specs.Events.Reservations.{AreStill, DropsOne, Keeps, LosesOne, MovesOn, PublishesOne, Reservation, TakesOne, TakesTail, is_still}
+use Rattle.law_commit.specs.Below.law_refine.Heads.Heads.{AllMeetHeads, IsAtHead, meets_head}
+use Rattle.law_commit.specs.Below.law_refine.Events.Effects.{AreQuiet, Behind, ByRecord, InPlace, PublishesIt, Quietly, Stepped, TakesEffect, is_quiet}
+use Rattle.law_commit.specs.Below.law_refine.Events.Reservations as moved
+use Rattle.law_commit.specs.Below.law_refine.Events.Reservations.{AreStill, DropsOne, Keeps, LosesOne, MovesOn, PublishesOne, Reservation, TakesOne, TakesTail, is_still}
 
 -- ---- by what takes effect
 -- what is published stands where it has to, and its update is in hand; so is that of a change

@@ -10,11 +10,11 @@ use Rattle.fkv_map.specs.Keys.{reply_from}
 use Rattle.fkv_plane.specs.declared.asks.Ask.{Ask}
 use Rattle.fkv_plane.specs.declared.asks.Ask.TheVariants.{Done}
 use Rattle.fkv_plane.specs.declared.places.Places.{Places}
-use Rattle.fkv_log.specs.declared.invalidating.Invalidating.{Invalidating}
-use Rattle.fkv_log.specs.declared.invalidating.Invalidating.TheVariants as invalidating
-use Rattle.fkv_log.specs.declared.reserving.ReserveAnswer.{ReserveAnswer}
-use Rattle.fkv_log.specs.declared.reserving.ReserveAnswer.TheVariants.{Reserved}
-use Rattle.fkv_log.specs.Reserving.{reserve_next_ask}
+use Rattle.law_commit.specs.Below.fkv_log.TheInvalidating.{Invalidating}
+use Rattle.law_commit.specs.Below.fkv_log.TheInvalidating.TheVariants as invalidating
+use Rattle.law_commit.specs.Below.fkv_log.ReserveAnswer.{ReserveAnswer}
+use Rattle.law_commit.specs.Below.fkv_log.ReserveAnswer.TheVariants.{Reserved}
+use Rattle.law_commit.specs.Below.fkv_log.Reserving.{reserve_next_ask}
 use Rattle.fkv_index.specs.declared.publishing.PublishAnswer.{PublishAnswer}
 use Rattle.fkv_index.specs.declared.publishing.PublishAnswer.TheVariants.{Won}
 use Rattle.fkv_index.specs.declared.finding.Found.{Found}
@@ -22,42 +22,42 @@ use Rattle.fkv_index.specs.declared.finding.Found.TheVariants.{Slot, NoSlot}
 use Rattle.fkv_index.specs.declared.finding.FindAnswer.{FindAnswer}
 use Rattle.fkv_index.specs.Finding.{find_next_ask}
 use Rattle.fkv_index.specs.Publishing.{publish_next_ask}
-use Rattle.fkv_ops.specs.declared.answers.TryAnswer.{TryAnswer}
-use Rattle.fkv_ops.specs.declared.answers.TryAnswer.TheVariants as answer
-use Rattle.fkv_ops.specs.declared.appending.Appending.{Appending}
-use Rattle.fkv_ops.specs.declared.appending.Appending.TheVariants as appending
-use Rattle.fkv_ops.specs.declared.requests.Request.{Request}
-use Rattle.fkv_ops.specs.declared.requests.Seen.{Seen}
-use Rattle.fkv_ops.specs.declared.trying.Trying.{Trying}
-use Rattle.fkv_ops.specs.declared.trying.Trying.TheVariants.{Walks, SwapsValue, ChangesValue, Appends}
-use Rattle.fkv_ops.specs.declared.walking.Walking.{Walking}
-use Rattle.fkv_ops.specs.declared.walking.Walking.TheVariants.{Finds}
-use Rattle.fkv_ops.specs.Appending.{AppendState}
-use Rattle.fkv_ops.specs.Trying.{TryState}
-use Rattle.fkv_ops.specs.Values.{value_of}
-use Rattle.fkv_ops.specs.Walking.{WalkState}
+use Rattle.law_commit.specs.Below.fkv_ops.TryAnswer.{TryAnswer}
+use Rattle.law_commit.specs.Below.fkv_ops.TryAnswer.TheVariants as answer
+use Rattle.law_commit.specs.Below.fkv_ops.TheAppending.{Appending}
+use Rattle.law_commit.specs.Below.fkv_ops.TheAppending.TheVariants as appending
+use Rattle.law_commit.specs.Below.fkv_ops.Request.{Request}
+use Rattle.law_commit.specs.Below.fkv_ops.Seen.{Seen}
+use Rattle.law_commit.specs.Below.fkv_ops.TheTrying.{Trying}
+use Rattle.law_commit.specs.Below.fkv_ops.TheTrying.TheVariants.{Walks, SwapsValue, ChangesValue, Appends}
+use Rattle.law_commit.specs.Below.fkv_ops.TheWalking.{Walking}
+use Rattle.law_commit.specs.Below.fkv_ops.TheWalking.TheVariants.{Finds}
+use Rattle.law_commit.specs.Below.fkv_ops.Appending.{AppendState}
+use Rattle.law_commit.specs.Below.fkv_ops.Trying.{TryState}
+use Rattle.law_commit.specs.Below.fkv_ops.Values.{value_of}
+use Rattle.law_commit.specs.Below.fkv_ops.Walking.{WalkState}
 use Rattle.law_log.specs.Ghosts.{Ghosts, GhostEvent, Reserves, Drops, Changes, ghost_run}
 use Rattle.law_log.specs.Enabled.{AreEnabled, IsInHand, IsMade, IsChangeEnabled}
-use Rattle.fkv_pending.specs.declared.attempting.Attempting.{Attempting}
-use Rattle.fkv_pending.specs.declared.attempting.Attempting.TheVariants.{Tries}
-use Rattle.fkv_pending.specs.declared.pending_requests.PendingRequest.{PendingRequest}
-use Rattle.fkv_pending.specs.Attempting.{AttemptState, attempt_ask, attempt_next}
-use Rattle.fkv_session.specs.declared.sessions.Sitting.{Sitting}
-use Rattle.fkv_session.specs.declared.sessions.Sitting.TheVariants.{Attempts, Polls}
-use Rattle.fkv_session.specs.Sessions.{SessionState, Seat, bits_of, room_of}
-use Rattle.law_local.specs.Sessions.Known.{is_attempting}
-use Rattle.law_local.specs.Tries.AttemptRows.{AttemptKnows, AttemptRow, IsTrueOfAttempt}
-use Rattle.law_local.specs.Tries.Changes.{IsAlone, IsEnabledChange}
-use Rattle.law_local.specs.Tries.Replies.{IsTrueReply}
-use Rattle.law_local.specs.Tries.TryRows.{IsEntryOf, TryKnows, cell_of}
-use Rattle.law_local.proofs.OfTries.Changes.{cas_enabled, reserve_enabled, swap_enabled}
-use Rattle.fkv_world.specs.Past.{Traced}
-use Rattle.law_refine.specs.Events.Appends.{append_ghosts, entry_made, invalidate_ghosts, publish_ghosts, reserved_ghosts}
-use Rattle.law_world.specs.GuardSessions.InPlace.{attempt_changes, sitting_changes, try_changes}
-use Rattle.law_world.specs.GuardSessions.Tries.{is_for_entry}
-use Rattle.law_refine.specs.Events.Lines.{read_in_hand, read_waiting}
-use Rattle.law_refine.specs.Events.Sessions.{attempt_ghosts, sitting_ghosts, ticket_of, tried_ghosts, value_ghosts}
-use Rattle.law_refine.specs.Events.Tries.{find_ghosts, found_ghosts, search_ghosts, try_ghosts, walk_ghosts}
+use Rattle.law_commit.specs.Below.fkv_pending.TheAttempting.{Attempting}
+use Rattle.law_commit.specs.Below.fkv_pending.TheAttempting.TheVariants.{Tries}
+use Rattle.law_commit.specs.Below.fkv_pending.PendingRequest.{PendingRequest}
+use Rattle.law_commit.specs.Below.fkv_pending.Attempting.{AttemptState, attempt_ask, attempt_next}
+use Rattle.law_commit.specs.Below.fkv_session.Sitting.{Sitting}
+use Rattle.law_commit.specs.Below.fkv_session.Sitting.TheVariants.{Attempts, Polls}
+use Rattle.law_commit.specs.Below.fkv_session.Sessions.{SessionState, Seat, bits_of, room_of}
+use Rattle.law_commit.specs.Below.law_local.Sessions.Known.{is_attempting}
+use Rattle.law_commit.specs.Below.law_local.Tries.AttemptRows.{AttemptKnows, AttemptRow, IsTrueOfAttempt}
+use Rattle.law_commit.specs.Below.law_local.Tries.Changes.{IsAlone, IsEnabledChange}
+use Rattle.law_commit.specs.Below.law_local.Tries.Replies.{IsTrueReply}
+use Rattle.law_commit.specs.Below.law_local.Tries.TryRows.{IsEntryOf, TryKnows, cell_of}
+use Rattle.law_commit.proofs.Below.law_local.OfTries.Changes.{cas_enabled, reserve_enabled, swap_enabled}
+use Rattle.law_commit.specs.Below.fkv_world.Past.{Traced}
+use Rattle.law_commit.specs.Below.law_refine.Events.Appends.{append_ghosts, entry_made, invalidate_ghosts, publish_ghosts, reserved_ghosts}
+use Rattle.law_commit.specs.Below.law_world.GuardSessions.InPlace.{attempt_changes, sitting_changes, try_changes}
+use Rattle.law_commit.specs.Below.law_world.GuardSessions.Tries.{is_for_entry}
+use Rattle.law_commit.specs.Below.law_refine.Events.Lines.{read_in_hand, read_waiting}
+use Rattle.law_commit.specs.Below.law_refine.Events.Sessions.{attempt_ghosts, sitting_ghosts, ticket_of, tried_ghosts, value_ghosts}
+use Rattle.law_commit.specs.Below.law_refine.Events.Tries.{find_ghosts, found_ghosts, search_ghosts, try_ghosts, walk_ghosts}
 use Rattle.law_order.proofs.OfEnabled.Ready.{AreTakesEnabled, AllTakeUnborn, IsReady, ready_behind}
 
 -- ---- an append: the address that it takes has nothing, and its record is made as it has to be

@@ -4,15 +4,15 @@ use Rattle.std.specs.Prelude.{Some}
 use Rattle.fkv_base.specs.declared.commits.CommitKind.{CommitKind}
 use Rattle.fkv_base.specs.declared.commits.CommitKind.TheVariants.{Full}
 use Rattle.fkv_base.specs.declared.shapes.Shape.{Shape}
-use Rattle.fkv_checkpoint.specs.Copied.{copied_after}
-use Rattle.fkv_checkpoint.proofs.Shown.{copy_fits}
-use Rattle.fkv_commit.specs.declared.commits.Commit.{Commit}
-use Rattle.fkv_keeper.specs.CheckpointLaws.{IsFullWritten, IsWrittenAs, copy_replies}
-use Rattle.fkv_keeper.specs.Keeping.{KeeperState}
-use Rattle.fkv_keeper.specs.KeeperRun.{IsOpened, KeeperEvent, keeper_run}
-use Rattle.fkv_keeper.specs.declared.keepers.Keeping.TheVariants.{Waits, Writes}
-use Rattle.fkv_keeper.specs.declared.last_commits.Checkpoint.{Checkpoint}
-use Rattle.fkv_keeper.proofs.Shown.{run_writes}
+use Rattle.law_commit.specs.Below.fkv_checkpoint.Copied.{copied_after}
+use Rattle.law_commit.proofs.Below.fkv_checkpoint.Shown.{copy_fits}
+use Rattle.law_commit.specs.Below.fkv_commit.Commit.{Commit}
+use Rattle.law_commit.specs.Below.fkv_keeper.CheckpointLaws.{IsFullWritten, IsWrittenAs, copy_replies}
+use Rattle.law_commit.specs.Below.fkv_keeper.Keeping.{KeeperState}
+use Rattle.law_commit.specs.Below.fkv_keeper.KeeperRun.{IsOpened, KeeperEvent, keeper_run}
+use Rattle.law_commit.specs.Below.fkv_keeper.TheKeeping.TheVariants.{Waits, Writes}
+use Rattle.law_commit.specs.Below.fkv_keeper.Checkpoint.{Checkpoint}
+use Rattle.law_commit.proofs.Below.fkv_keeper.Shown.{run_writes}
 use Rattle.fkv_plane.specs.declared.places.Places.{Places}
 use Rattle.fkv_record.specs.Places.{most_triples}
 use Rattle.law_commit.specs.BegunCommits.{BegunCommit, commit_opening}

@@ -5,25 +5,25 @@ use Rattle.std.proofs.lemmas.Bool.Decides.{nat_tests}
 use Rattle.fkv_base.specs.declared.commits.CommitKind.{CommitKind}
 use Rattle.fkv_base.specs.declared.commits.CommitKind.TheVariants.{Full, Log}
 use Rattle.fkv_base.specs.declared.shapes.Shape.{Shape}
-use Rattle.fkv_commit.specs.declared.commits.Commit.{Commit}
+use Rattle.law_commit.specs.Below.fkv_commit.Commit.{Commit}
 use Rattle.fkv_disk.specs.Calls.{Call, Write}
-use Rattle.fkv_keeper.specs.Keeping.{Finality, KeeperState}
-use Rattle.fkv_keeper.specs.KeeperRun.{Writing}
-use Rattle.fkv_keeper.specs.LastCommits.{area_number, slot_place}
-use Rattle.fkv_manifest.specs.Committing.{CommitWriter, commit_call, commit_next, commit_step_call, gate_after}
-use Rattle.fkv_manifest.specs.Gating.{GateWriter, closed_gate, gate_next, gate_start, gate_step_call, open_gate}
-use Rattle.fkv_manifest.specs.Kept.{AreTheSlots, Begins}
-use Rattle.fkv_manifest.specs.Made.{commit_made, commit_run, has_begun, opens_gate, with_call}
-use Rattle.fkv_manifest.specs.Newest.{slot_in}
-use Rattle.fkv_manifest.specs.declared.commits.Committing.{Committing}
-use Rattle.fkv_manifest.specs.declared.commits.Committing.TheVariants as committing
-use Rattle.fkv_manifest.specs.declared.gates.Gating.{Gating}
-use Rattle.fkv_manifest.specs.declared.gates.Gating.TheVariants as gate
+use Rattle.law_commit.specs.Below.fkv_keeper.Keeping.{Finality, KeeperState}
+use Rattle.law_commit.specs.Below.fkv_keeper.KeeperRun.{Writing}
+use Rattle.law_commit.specs.Below.fkv_keeper.LastCommits.{area_number, slot_place}
+use Rattle.law_commit.specs.Below.fkv_manifest.Committing.{CommitWriter, commit_call, commit_next, commit_step_call, gate_after}
+use Rattle.law_commit.specs.Below.fkv_manifest.Gating.{GateWriter, closed_gate, gate_next, gate_start, gate_step_call, open_gate}
+use Rattle.law_commit.specs.Below.fkv_manifest.Kept.{AreTheSlots, Begins}
+use Rattle.law_commit.specs.Below.fkv_manifest.Made.{commit_made, commit_run, has_begun, opens_gate, with_call}
+use Rattle.law_commit.specs.Below.fkv_manifest.Newest.{slot_in}
+use Rattle.law_commit.specs.Below.fkv_manifest.TheCommitting.{Committing}
+use Rattle.law_commit.specs.Below.fkv_manifest.TheCommitting.TheVariants as committing
+use Rattle.law_commit.specs.Below.fkv_manifest.TheGating.{Gating}
+use Rattle.law_commit.specs.Below.fkv_manifest.TheGating.TheVariants as gate
 use Rattle.fkv_record.specs.Places.{area_place}
 use Rattle.law_commit.specs.BegunCommits.{BegunCommit, IsAsLast, begun_at_gate, begun_at_writes, commit_opening, with_opening, with_sealed}
 use Rattle.law_order.specs.Images.Named.{AreTriplesOf, slot_of}
 use Rattle.law_log.specs.Trace.{IsIn}
-use Rattle.law_world.specs.Standing.Standing.{Standing}
+use Rattle.law_commit.specs.Below.law_world.Standing.Standing.{Standing}
 
 -- ---- the writes of a commit
 -- a commit, sealed and finished or not

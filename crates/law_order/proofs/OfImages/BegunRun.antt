@@ -6,35 +6,35 @@ use Rattle.fkv_base.specs.declared.commits.CommitKind.TheVariants.{Full, Log}
 use Rattle.fkv_base.specs.declared.faults.Fault.{Fault}
 use Rattle.fkv_base.specs.declared.faults.Fault.TheVariants as fault
 use Rattle.fkv_base.specs.declared.shapes.Shape.{Shape}
-use Rattle.fkv_commit.specs.declared.commits.Commit.{Commit}
-use Rattle.fkv_commit.specs.declared.finishing.FinishAnswer.{FinishAnswer}
-use Rattle.fkv_commit.specs.declared.waiting.WaitAnswer.{WaitAnswer}
-use Rattle.fkv_commit.specs.declared.waiting.WaitAnswer.TheVariants as wait
-use Rattle.fkv_commit.specs.Finishing.{finish_ask, finish_next}
-use Rattle.fkv_commit.specs.Starting.{start_begun}
-use Rattle.fkv_commit.specs.Waiting.{wait_ask, wait_next}
+use Rattle.law_commit.specs.Below.fkv_commit.Commit.{Commit}
+use Rattle.law_commit.specs.Below.fkv_commit.FinishAnswer.{FinishAnswer}
+use Rattle.law_commit.specs.Below.fkv_commit.WaitAnswer.{WaitAnswer}
+use Rattle.law_commit.specs.Below.fkv_commit.WaitAnswer.TheVariants as wait
+use Rattle.law_commit.specs.Below.fkv_commit.Finishing.{finish_ask, finish_next}
+use Rattle.law_commit.specs.Below.fkv_commit.Starting.{start_begun}
+use Rattle.law_commit.specs.Below.fkv_commit.Waiting.{wait_ask, wait_next}
 use Rattle.fkv_disk.specs.Calls.{Call}
-use Rattle.fkv_keeper.specs.CheckpointLaws.{IsFinished, MayFollow}
-use Rattle.fkv_keeper.specs.declared.answers.KeeperTold.{KeeperTold}
-use Rattle.fkv_keeper.specs.declared.answers.KeeperTold.TheVariants.{CommitRefused, Turned, TurnRefused}
-use Rattle.fkv_keeper.specs.declared.keepers.Keeping.{Keeping}
-use Rattle.fkv_keeper.specs.declared.keepers.Keeping.TheVariants.{Ended, Starts, Maintains, LoadsPhase, Enters, Copies, Seeks, Waits, Writes, Finishes}
-use Rattle.fkv_keeper.specs.declared.last_commits.Checkpoint.{Checkpoint}
-use Rattle.fkv_keeper.specs.Keeping.{Finality, KeeperState, checkpoint_used, ended, finish_ledto, finished, keeping_called, keeping_given, keeping_next, triples_written, turned, wait_ledto, write_ledto, writes_begun}
-use Rattle.fkv_keeper.specs.KeeperAsks.{keeping_calls}
-use Rattle.fkv_keeper.specs.KeeperRun.{BeginsCommit, BeginsTurn, Calls, Gets, KeeperEvent, Replies, Writing, keeper_happens, writing_after}
-use Rattle.fkv_keeper.specs.LastCommits.{is_gate_open}
-use Rattle.fkv_keeper.proofs.Shown.{each_move}
-use Rattle.fkv_maintain.specs.Maintaining.{maintain_begun}
-use Rattle.fkv_manifest.specs.Committing.{commit_answer, commit_call, commit_next, commit_step_answer}
-use Rattle.fkv_manifest.specs.Gating.{GateWriter, gate_answer}
-use Rattle.fkv_manifest.specs.Made.{commit_made, commit_run, with_call}
-use Rattle.fkv_manifest.specs.declared.answers.WriteAnswer.{WriteAnswer}
-use Rattle.fkv_manifest.specs.declared.answers.WriteAnswer.TheVariants as write
-use Rattle.fkv_manifest.specs.declared.commits.Committing.{Committing}
-use Rattle.fkv_manifest.specs.declared.commits.Committing.TheVariants as committing
-use Rattle.fkv_manifest.specs.declared.gates.Gating.{Gating}
-use Rattle.fkv_manifest.specs.declared.gates.Gating.TheVariants as gate
+use Rattle.law_commit.specs.Below.fkv_keeper.CheckpointLaws.{IsFinished, MayFollow}
+use Rattle.law_commit.specs.Below.fkv_keeper.KeeperTold.{KeeperTold}
+use Rattle.law_commit.specs.Below.fkv_keeper.KeeperTold.TheVariants.{CommitRefused, Turned, TurnRefused}
+use Rattle.law_commit.specs.Below.fkv_keeper.TheKeeping.{Keeping}
+use Rattle.law_commit.specs.Below.fkv_keeper.TheKeeping.TheVariants.{Ended, Starts, Maintains, LoadsPhase, Enters, Copies, Seeks, Waits, Writes, Finishes}
+use Rattle.law_commit.specs.Below.fkv_keeper.Checkpoint.{Checkpoint}
+use Rattle.law_commit.specs.Below.fkv_keeper.Keeping.{Finality, KeeperState, checkpoint_used, ended, finish_ledto, finished, keeping_called, keeping_given, keeping_next, triples_written, turned, wait_ledto, write_ledto, writes_begun}
+use Rattle.law_commit.specs.Below.fkv_keeper.KeeperAsks.{keeping_calls}
+use Rattle.law_commit.specs.Below.fkv_keeper.KeeperRun.{BeginsCommit, BeginsTurn, Calls, Gets, KeeperEvent, Replies, Writing, keeper_happens, writing_after}
+use Rattle.law_commit.specs.Below.fkv_keeper.LastCommits.{is_gate_open}
+use Rattle.law_commit.proofs.Below.fkv_keeper.Shown.{each_move}
+use Rattle.law_commit.specs.Below.fkv_maintain.Maintaining.{maintain_begun}
+use Rattle.law_commit.specs.Below.fkv_manifest.Committing.{commit_answer, commit_call, commit_next, commit_step_answer}
+use Rattle.law_commit.specs.Below.fkv_manifest.Gating.{GateWriter, gate_answer}
+use Rattle.law_commit.specs.Below.fkv_manifest.Made.{commit_made, commit_run, with_call}
+use Rattle.law_commit.specs.Below.fkv_manifest.WriteAnswer.{WriteAnswer}
+use Rattle.law_commit.specs.Below.fkv_manifest.WriteAnswer.TheVariants as write
+use Rattle.law_commit.specs.Below.fkv_manifest.TheCommitting.{Committing}
+use Rattle.law_commit.specs.Below.fkv_manifest.TheCommitting.TheVariants as committing
+use Rattle.law_commit.specs.Below.fkv_manifest.TheGating.{Gating}
+use Rattle.law_commit.specs.Below.fkv_manifest.TheGating.TheVariants as gate
 use Rattle.fkv_plane.specs.declared.asks.Ask.{Ask}
 use Rattle.fkv_plane.specs.declared.asks.Ask.TheVariants.{Done}
 use Rattle.fkv_plane.specs.declared.places.Places.{Places}
@@ -43,9 +43,9 @@ use Rattle.law_order.specs.Images.Named.{AreTriplesOf, slot_of}
 use Rattle.law_order.proofs.OfImages.Begun.{AreWritesOf, BeginsSo, HasBegunFor, IsLast, IsLeft, IsWriting, IsWritten, Lists, Uses, UsesOwn, fresh, is_called, is_opened, left_after, plain, writes_on}
 use Rattle.law_order.proofs.OfImages.CopiedLength.{copied_length}
 use Rattle.law_log.specs.Trace.{IsIn}
-use Rattle.law_world.proofs.OfStanding.Runs.{happens_at, happens_so}
-use Rattle.law_world.specs.Standing.CallsMade.{calls_of}
-use Rattle.law_world.specs.Standing.Standing.{Standing, is_at_writes, is_writing_after, standing_after, triples_used}
+use Rattle.law_commit.proofs.Below.law_world.OfStanding.Runs.{happens_at, happens_so}
+use Rattle.law_commit.specs.Below.law_world.Standing.CallsMade.{calls_of}
+use Rattle.law_commit.specs.Below.law_world.Standing.Standing.{Standing, is_at_writes, is_writing_after, standing_after, triples_used}
 
 -- ---- where no writes are near
 abbrev IsCalm : Keeping → Type 0

@@ -3,40 +3,40 @@ use Rattle.std.proofs.Common.{◌≡◌, ℕ, ◌≤◌, ◌∙◌, arith, refl,
 use Rattle.std.specs.Prelude.{⊤, ◌==◌, ◌%◌, if◌then◌else◌, Option, Some, None}
 use Rattle.fkv_base.specs.declared.phases.Phase.TheVariants as phase
 use Rattle.fkv_base.specs.declared.shapes.Shape.{Shape}
-use Rattle.fkv_commit.specs.declared.commits.Commit.{Commit}
+use Rattle.law_commit.specs.Below.fkv_commit.Commit.{Commit}
 use Rattle.fkv_base.specs.declared.commits.CommitKind.{CommitKind}
-use Rattle.fkv_commit.specs.declared.entering.EnterAnswer.{EnterAnswer}
-use Rattle.fkv_commit.specs.declared.entering.EnterAnswer.TheVariants as enter
-use Rattle.fkv_commit.specs.declared.finishing.FinishAnswer.{FinishAnswer}
-use Rattle.fkv_commit.specs.declared.seeking.SeekAnswer.{SeekAnswer}
-use Rattle.fkv_commit.specs.declared.seeking.SeekAnswer.TheVariants as seek
-use Rattle.fkv_commit.specs.declared.starting.StartAnswer.{StartAnswer}
-use Rattle.fkv_commit.specs.declared.starting.StartAnswer.TheVariants as start
-use Rattle.fkv_commit.specs.declared.waiting.WaitAnswer.{WaitAnswer}
-use Rattle.fkv_commit.specs.declared.waiting.WaitAnswer.TheVariants as wait
-use Rattle.fkv_commit.specs.Entering.{enter_ask, enter_next}
-use Rattle.fkv_commit.specs.Finishing.{finish_ask, finish_next}
-use Rattle.fkv_commit.specs.Seeking.{seek_ask, seek_next}
-use Rattle.fkv_commit.specs.Starting.{start_ask, start_next}
-use Rattle.fkv_commit.specs.Waiting.{wait_ask, wait_next}
-use Rattle.fkv_keeper.specs.declared.keepers.Keeping.{Keeping}
-use Rattle.fkv_keeper.specs.declared.keepers.Keeping.TheVariants.{Ended, Starts, Maintains, LoadsPhase, Enters, Copies, Seeks, Waits, Writes, Finishes}
-use Rattle.fkv_keeper.specs.Keeping.{KeeperState, commit_asked, turn_asked, copies, copies_next, copy_asked, copy_driven, copy_ledto, enter_ledto, finish_ledto, finished, keeping_called, keeping_given, keeping_next, maintain_ledto, part_begun, phase_ledto, seek_ledto, start_ledto, turned, wait_ledto, write_ledto, writes_begun, writes_called}
-use Rattle.fkv_keeper.specs.KeeperAsks.{keeping_calls}
-use Rattle.fkv_keeper.specs.KeeperRun.{BeginsCommit, BeginsTurn, Calls, Gets, IsOpened, KeeperEvent, Replies, begins, is_in_hand, keeper_happens, keeper_run}
-use Rattle.fkv_keeper.specs.LastCommits.{slot_place}
-use Rattle.fkv_maintain.specs.declared.maintaining.MaintainAnswer.{MaintainAnswer}
-use Rattle.fkv_maintain.specs.declared.maintaining.MaintainAnswer.TheVariants as maintain
-use Rattle.fkv_maintain.specs.Maintaining.{maintain_ask, maintain_called, maintain_given, maintain_next}
-use Rattle.fkv_manifest.specs.declared.answers.WriteAnswer.{WriteAnswer}
-use Rattle.fkv_manifest.specs.declared.answers.WriteAnswer.TheVariants as write
-use Rattle.fkv_manifest.specs.declared.commits.Committing.{Committing}
-use Rattle.fkv_manifest.specs.declared.commits.Committing.TheVariants.{Broken, PutsSlot, SyncsTriples, WritesTriples}
-use Rattle.fkv_manifest.specs.declared.gates.Gating.{Gating}
-use Rattle.fkv_manifest.specs.declared.gates.Gating.TheVariants as gate
-use Rattle.fkv_manifest.specs.Committing.{CommitWriter, commit_answer, commit_next, commit_step_call, gate_after}
-use Rattle.fkv_manifest.specs.Gating.{GateWriter, gate_step_call}
-use Rattle.fkv_manifest.specs.Made.{with_call}
+use Rattle.law_commit.specs.Below.fkv_commit.EnterAnswer.{EnterAnswer}
+use Rattle.law_commit.specs.Below.fkv_commit.EnterAnswer.TheVariants as enter
+use Rattle.law_commit.specs.Below.fkv_commit.FinishAnswer.{FinishAnswer}
+use Rattle.law_commit.specs.Below.fkv_commit.SeekAnswer.{SeekAnswer}
+use Rattle.law_commit.specs.Below.fkv_commit.SeekAnswer.TheVariants as seek
+use Rattle.law_commit.specs.Below.fkv_commit.StartAnswer.{StartAnswer}
+use Rattle.law_commit.specs.Below.fkv_commit.StartAnswer.TheVariants as start
+use Rattle.law_commit.specs.Below.fkv_commit.WaitAnswer.{WaitAnswer}
+use Rattle.law_commit.specs.Below.fkv_commit.WaitAnswer.TheVariants as wait
+use Rattle.law_commit.specs.Below.fkv_commit.Entering.{enter_ask, enter_next}
+use Rattle.law_commit.specs.Below.fkv_commit.Finishing.{finish_ask, finish_next}
+use Rattle.law_commit.specs.Below.fkv_commit.Seeking.{seek_ask, seek_next}
+use Rattle.law_commit.specs.Below.fkv_commit.Starting.{start_ask, start_next}
+use Rattle.law_commit.specs.Below.fkv_commit.Waiting.{wait_ask, wait_next}
+use Rattle.law_commit.specs.Below.fkv_keeper.TheKeeping.{Keeping}
+use Rattle.law_commit.specs.Below.fkv_keeper.TheKeeping.TheVariants.{Ended, Starts, Maintains, LoadsPhase, Enters, Copies, Seeks, Waits, Writes, Finishes}
+use Rattle.law_commit.specs.Below.fkv_keeper.Keeping.{KeeperState, commit_asked, turn_asked, copies, copies_next, copy_asked, copy_driven, copy_ledto, enter_ledto, finish_ledto, finished, keeping_called, keeping_given, keeping_next, maintain_ledto, part_begun, phase_ledto, seek_ledto, start_ledto, turned, wait_ledto, write_ledto, writes_begun, writes_called}
+use Rattle.law_commit.specs.Below.fkv_keeper.KeeperAsks.{keeping_calls}
+use Rattle.law_commit.specs.Below.fkv_keeper.KeeperRun.{BeginsCommit, BeginsTurn, Calls, Gets, IsOpened, KeeperEvent, Replies, begins, is_in_hand, keeper_happens, keeper_run}
+use Rattle.law_commit.specs.Below.fkv_keeper.LastCommits.{slot_place}
+use Rattle.law_commit.specs.Below.fkv_maintain.MaintainAnswer.{MaintainAnswer}
+use Rattle.law_commit.specs.Below.fkv_maintain.MaintainAnswer.TheVariants as maintain
+use Rattle.law_commit.specs.Below.fkv_maintain.Maintaining.{maintain_ask, maintain_called, maintain_given, maintain_next}
+use Rattle.law_commit.specs.Below.fkv_manifest.WriteAnswer.{WriteAnswer}
+use Rattle.law_commit.specs.Below.fkv_manifest.WriteAnswer.TheVariants as write
+use Rattle.law_commit.specs.Below.fkv_manifest.TheCommitting.{Committing}
+use Rattle.law_commit.specs.Below.fkv_manifest.TheCommitting.TheVariants.{Broken, PutsSlot, SyncsTriples, WritesTriples}
+use Rattle.law_commit.specs.Below.fkv_manifest.TheGating.{Gating}
+use Rattle.law_commit.specs.Below.fkv_manifest.TheGating.TheVariants as gate
+use Rattle.law_commit.specs.Below.fkv_manifest.Committing.{CommitWriter, commit_answer, commit_next, commit_step_call, gate_after}
+use Rattle.law_commit.specs.Below.fkv_manifest.Gating.{GateWriter, gate_step_call}
+use Rattle.law_commit.specs.Below.fkv_manifest.Made.{with_call}
 use Rattle.fkv_plane.specs.declared.actions.Action.{Action}
 use Rattle.fkv_plane.specs.declared.asks.Ask.{Ask}
 use Rattle.fkv_plane.specs.declared.asks.Ask.TheVariants.{Done}
@@ -45,10 +45,10 @@ use Rattle.fkv_base.specs.declared.numbers.Version.{Version}
 use Rattle.fkv_words.specs.declared.phase_words.PhaseSaid.{PhaseSaid}
 use Rattle.fkv_words.specs.declared.phase_words.PhaseSaid.TheVariants.{Says}
 use Rattle.fkv_words.specs.PhaseWords.{phase_said}
-use Rattle.fkv_world.specs.OwnEvents.{keeper_events}
-use Rattle.fkv_world.specs.Runs.{World, run}
-use Rattle.fkv_world.specs.World.{Event}
-use Rattle.fkv_world.proofs.Shown.{keeper_runs}
+use Rattle.law_commit.specs.Below.fkv_world.OwnEvents.{keeper_events}
+use Rattle.law_commit.specs.Below.fkv_world.Runs.{World, run}
+use Rattle.law_commit.specs.Below.fkv_world.World.{Event}
+use Rattle.law_commit.proofs.Below.fkv_world.Shown.{keeper_runs}
 use Rattle.law_order.proofs.OfImages.Untouched.{AreAbove, MakesAbove, flush_calls_above}
 
 -- ---- while a commit is written, its slot and its triples lie above the block

@@ -3,9 +3,9 @@ use Rattle.std.proofs.Common.{◌≡◌, ℕ, ◌*◌, ◌∙◌, refl, ap, arit
 use Rattle.std.specs.Prelude.{Option, Some, None}
 use Rattle.std.proofs.lemmas.List.{length-append}
 use Rattle.std.proofs.lemmas.List.Concat.{flat_map-cons}
-use Rattle.fkv_checkpoint.specs.Copying.{Copier}
-use Rattle.fkv_checkpoint.specs.Triples.{CopiedEntry, all_bytes, copied_bytes}
-use Rattle.fkv_keeper.specs.Keeping.{bytes_copied, triples_copied}
+use Rattle.law_commit.specs.Below.fkv_checkpoint.Copying.{Copier}
+use Rattle.law_commit.specs.Below.fkv_checkpoint.Triples.{CopiedEntry, all_bytes, copied_bytes}
+use Rattle.law_commit.specs.Below.fkv_keeper.Keeping.{bytes_copied, triples_copied}
 
 -- sixteen for each
 pub length-all : (entries : List CopiedEntry) → length (all_bytes entries) ≡ 16 * length entries

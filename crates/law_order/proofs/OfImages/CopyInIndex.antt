@@ -1,14 +1,14 @@
 -- An entry that was copied is of a bucket of the index, as it stood there.
 use Rattle.std.proofs.Common.{◌≡◌, ℕ, ◌<◌, ◌^◌, ◌∙◌, ap, subst, List}
-use Rattle.fkv_checkpoint.specs.Triples.{CopiedEntry}
+use Rattle.law_commit.specs.Below.fkv_checkpoint.Triples.{CopiedEntry}
 use Rattle.fkv_plane.specs.declared.places.Places.{Places}
-use Rattle.fkv_world.specs.Runs.{World}
-use Rattle.fkv_world.specs.World.{Event}
-use Rattle.fkv_world.proofs.Shown.{places_stay}
+use Rattle.law_commit.specs.Below.fkv_world.Runs.{World}
+use Rattle.law_commit.specs.Below.fkv_world.World.{Event}
+use Rattle.law_commit.proofs.Below.fkv_world.Shown.{places_stay}
 use Rattle.law_commit.specs.Copied.Covers.{HasStoodSince}
-use Rattle.law_refine.specs.Index.Shows.{IsOpened, seen_by_index}
-use Rattle.law_refine.proofs.OfIndex.Permitted.{are_permitted}
-use Rattle.law_refine.proofs.OfIndex.Worlds.{life_shows}
+use Rattle.law_commit.specs.Below.law_refine.Index.Shows.{IsOpened, seen_by_index}
+use Rattle.law_commit.proofs.Below.law_refine.OfIndex.Permitted.{are_permitted}
+use Rattle.law_commit.proofs.Below.law_refine.OfIndex.Worlds.{life_shows}
 
 pub stood_in_index : (opening : World) (lists : ℕ → List ℕ) (events : List Event) → IsOpened opening lists → (e : CopiedEntry) → HasStoodSince opening lists events e → e.home.bucket < 2 ^ opening.now.shape.bucket_bits
 stood_in_index opening lists events opened e its =

@@ -4,21 +4,21 @@ use Rattle.std.specs.Prelude.{Some}
 use Rattle.std.proofs.Common.{append_assoc}
 use Rattle.fkv_base.specs.declared.commits.CommitKind.{CommitKind}
 use Rattle.fkv_base.specs.declared.commits.CommitKind.TheVariants.{Full}
-use Rattle.fkv_commit.specs.declared.commits.Commit.{Commit}
-use Rattle.fkv_keeper.specs.CheckpointLaws.{IsFullWritten, IsWrittenAs}
-use Rattle.fkv_keeper.specs.KeeperRun.{IsOpened, KeeperEvent, keeper_happens, keeper_run}
-use Rattle.fkv_keeper.specs.Keeping.{KeeperState}
-use Rattle.fkv_keeper.specs.declared.keepers.Keeping.TheVariants.{Waits, Writes}
-use Rattle.fkv_keeper.proofs.Shown.{run_writes}
-use Rattle.fkv_world.specs.OwnEvents.{keeper_events, keeper_part_of}
-use Rattle.fkv_world.specs.Runs.{World, run}
-use Rattle.fkv_world.specs.World.{Event}
+use Rattle.law_commit.specs.Below.fkv_commit.Commit.{Commit}
+use Rattle.law_commit.specs.Below.fkv_keeper.CheckpointLaws.{IsFullWritten, IsWrittenAs}
+use Rattle.law_commit.specs.Below.fkv_keeper.KeeperRun.{IsOpened, KeeperEvent, keeper_happens, keeper_run}
+use Rattle.law_commit.specs.Below.fkv_keeper.Keeping.{KeeperState}
+use Rattle.law_commit.specs.Below.fkv_keeper.TheKeeping.TheVariants.{Waits, Writes}
+use Rattle.law_commit.proofs.Below.fkv_keeper.Shown.{run_writes}
+use Rattle.law_commit.specs.Below.fkv_world.OwnEvents.{keeper_events, keeper_part_of}
+use Rattle.law_commit.specs.Below.fkv_world.Runs.{World, run}
+use Rattle.law_commit.specs.Below.fkv_world.World.{Event}
 use Rattle.law_commit.specs.BegunCommits.{BegunCommit, commit_opening}
 use Rattle.law_order.specs.Images.Copied.{WritesItsCopy}
 use Rattle.law_order.proofs.OfImages.Moments.{GoodFrom, IfFirst, event_good, good_on}
 use Rattle.law_order.proofs.OfImages.NamedNow.{AllGood}
 use Rattle.law_order.proofs.OfImages.WordsRead.{of_part}
-use Rattle.law_world.specs.Keeper.Lives.{keeper_after, replies_copied}
+use Rattle.law_commit.specs.Below.law_world.Keeper.Lives.{keeper_after, replies_copied}
 
 -- as each full commit does
 abbrev pub CopiesIfFull : World → List Event → BegunCommit → Type 0

@@ -6,36 +6,36 @@ use Rattle.std.proofs.lemmas.Bool.Decides.{nat_tests}
 use Rattle.fkv_base.specs.declared.numbers.Addr.{Addr}
 use Rattle.fkv_base.specs.declared.phases.Phase.TheVariants as phase
 use Rattle.fkv_base.specs.declared.shapes.Shape.{Shape}
-use Rattle.fkv_commit.specs.declared.commits.Commit.{Commit}
+use Rattle.law_commit.specs.Below.fkv_commit.Commit.{Commit}
 use Rattle.fkv_base.specs.declared.commits.CommitKind.{CommitKind}
-use Rattle.fkv_commit.specs.declared.entering.EnterAnswer.{EnterAnswer}
-use Rattle.fkv_commit.specs.declared.entering.EnterAnswer.TheVariants as enter
-use Rattle.fkv_commit.specs.declared.finishing.FinishAnswer.{FinishAnswer}
-use Rattle.fkv_commit.specs.declared.seeking.SeekAnswer.{SeekAnswer}
-use Rattle.fkv_commit.specs.declared.seeking.SeekAnswer.TheVariants as seek
-use Rattle.fkv_commit.specs.declared.starting.StartAnswer.{StartAnswer}
-use Rattle.fkv_commit.specs.declared.starting.StartAnswer.TheVariants as start
-use Rattle.fkv_commit.specs.declared.waiting.WaitAnswer.TheVariants as wait
-use Rattle.fkv_commit.specs.declared.waiting.Waiting.{Waiting}
-use Rattle.fkv_commit.specs.declared.waiting.Waiting.TheVariants as waits
-use Rattle.fkv_commit.specs.Entering.{enter_ask, enter_next}
-use Rattle.fkv_commit.specs.Finishing.{finish_ask, finish_next}
-use Rattle.fkv_commit.specs.Seeking.{seek_ask, seek_next}
-use Rattle.fkv_commit.specs.Starting.{start_ask, start_next}
-use Rattle.fkv_commit.specs.Waiting.{waiting_ask, waiting_next}
-use Rattle.fkv_flush.specs.GuardLevels.{levels_of}
-use Rattle.fkv_keeper.specs.declared.answers.KeeperTold.{KeeperTold}
-use Rattle.fkv_keeper.specs.declared.answers.KeeperTold.TheVariants.{Device}
-use Rattle.fkv_keeper.specs.declared.keepers.Keeping.{Keeping}
-use Rattle.fkv_keeper.specs.declared.keepers.Keeping.TheVariants.{Ended, Starts, Maintains, LoadsPhase, Enters, Copies, Seeks, Waits, Writes, Finishes}
-use Rattle.fkv_keeper.specs.Keeping.{KeeperState, commit_asked, turn_asked, turn_over, copies, copies_next, copy_asked, copy_driven, copy_ledto, enter_ledto, finish_ledto, finished, keeper_ask, keeper_next, keeping_ask, keeping_called, keeping_given, keeping_next, maintain_ledto, part_begun, phase_ledto, seek_ledto, start_ledto, turned, wait_ledto, write_ledto, writes_begun, writes_called}
-use Rattle.fkv_keeper.specs.KeeperRun.{BeginsCommit, BeginsTurn, Calls, Gets, IsOpened, KeeperEvent, Replies, begins, is_in_hand, keeper_happens, keeper_run}
-use Rattle.fkv_maintain.specs.declared.maintaining.MaintainAnswer.{MaintainAnswer}
-use Rattle.fkv_maintain.specs.declared.maintaining.MaintainAnswer.TheVariants as maintain
-use Rattle.fkv_maintain.specs.Maintaining.{maintain_ask, maintain_called, maintain_given, maintain_next}
-use Rattle.fkv_manifest.specs.declared.answers.WriteAnswer.{WriteAnswer}
-use Rattle.fkv_manifest.specs.declared.answers.WriteAnswer.TheVariants as write
-use Rattle.fkv_manifest.specs.Committing.{commit_answer, commit_next}
+use Rattle.law_commit.specs.Below.fkv_commit.EnterAnswer.{EnterAnswer}
+use Rattle.law_commit.specs.Below.fkv_commit.EnterAnswer.TheVariants as enter
+use Rattle.law_commit.specs.Below.fkv_commit.FinishAnswer.{FinishAnswer}
+use Rattle.law_commit.specs.Below.fkv_commit.SeekAnswer.{SeekAnswer}
+use Rattle.law_commit.specs.Below.fkv_commit.SeekAnswer.TheVariants as seek
+use Rattle.law_commit.specs.Below.fkv_commit.StartAnswer.{StartAnswer}
+use Rattle.law_commit.specs.Below.fkv_commit.StartAnswer.TheVariants as start
+use Rattle.law_commit.specs.Below.fkv_commit.WaitAnswer.TheVariants as wait
+use Rattle.law_commit.specs.Below.fkv_commit.TheWaiting.{Waiting}
+use Rattle.law_commit.specs.Below.fkv_commit.TheWaiting.TheVariants as waits
+use Rattle.law_commit.specs.Below.fkv_commit.Entering.{enter_ask, enter_next}
+use Rattle.law_commit.specs.Below.fkv_commit.Finishing.{finish_ask, finish_next}
+use Rattle.law_commit.specs.Below.fkv_commit.Seeking.{seek_ask, seek_next}
+use Rattle.law_commit.specs.Below.fkv_commit.Starting.{start_ask, start_next}
+use Rattle.law_commit.specs.Below.fkv_commit.Waiting.{waiting_ask, waiting_next}
+use Rattle.law_commit.specs.Below.fkv_flush.GuardLevels.{levels_of}
+use Rattle.law_commit.specs.Below.fkv_keeper.KeeperTold.{KeeperTold}
+use Rattle.law_commit.specs.Below.fkv_keeper.KeeperTold.TheVariants.{Device}
+use Rattle.law_commit.specs.Below.fkv_keeper.TheKeeping.{Keeping}
+use Rattle.law_commit.specs.Below.fkv_keeper.TheKeeping.TheVariants.{Ended, Starts, Maintains, LoadsPhase, Enters, Copies, Seeks, Waits, Writes, Finishes}
+use Rattle.law_commit.specs.Below.fkv_keeper.Keeping.{KeeperState, commit_asked, turn_asked, turn_over, copies, copies_next, copy_asked, copy_driven, copy_ledto, enter_ledto, finish_ledto, finished, keeper_ask, keeper_next, keeping_ask, keeping_called, keeping_given, keeping_next, maintain_ledto, part_begun, phase_ledto, seek_ledto, start_ledto, turned, wait_ledto, write_ledto, writes_begun, writes_called}
+use Rattle.law_commit.specs.Below.fkv_keeper.KeeperRun.{BeginsCommit, BeginsTurn, Calls, Gets, IsOpened, KeeperEvent, Replies, begins, is_in_hand, keeper_happens, keeper_run}
+use Rattle.law_commit.specs.Below.fkv_maintain.MaintainAnswer.{MaintainAnswer}
+use Rattle.law_commit.specs.Below.fkv_maintain.MaintainAnswer.TheVariants as maintain
+use Rattle.law_commit.specs.Below.fkv_maintain.Maintaining.{maintain_ask, maintain_called, maintain_given, maintain_next}
+use Rattle.law_commit.specs.Below.fkv_manifest.WriteAnswer.{WriteAnswer}
+use Rattle.law_commit.specs.Below.fkv_manifest.WriteAnswer.TheVariants as write
+use Rattle.law_commit.specs.Below.fkv_manifest.Committing.{commit_answer, commit_next}
 use Rattle.fkv_plane.specs.declared.actions.Action.{Action}
 use Rattle.fkv_plane.specs.declared.asks.Ask.{Ask}
 use Rattle.fkv_plane.specs.declared.asks.Ask.TheVariants.{Put, Take, Done}
@@ -46,12 +46,12 @@ use Rattle.fkv_plane.specs.Plane.{action_at}
 use Rattle.fkv_words.specs.declared.phase_words.PhaseSaid.{PhaseSaid}
 use Rattle.fkv_words.specs.declared.phase_words.PhaseSaid.TheVariants.{Says}
 use Rattle.fkv_words.specs.PhaseWords.{phase_said}
-use Rattle.fkv_world.specs.Moves.{Near}
-use Rattle.fkv_world.specs.OwnEvents.{keeper_got, keeper_part, keeper_part_of, keeper_slots, keeper_steps}
-use Rattle.fkv_world.specs.Runs.{World, happens, read_by_keeper, run}
-use Rattle.fkv_world.specs.World as world
-use Rattle.fkv_world.specs.World.{Event, near}
-use Rattle.fkv_world.proofs.Shown.{happens_keeper}
+use Rattle.law_commit.specs.Below.fkv_world.Moves.{Near}
+use Rattle.law_commit.specs.Below.fkv_world.OwnEvents.{keeper_got, keeper_part, keeper_part_of, keeper_slots, keeper_steps}
+use Rattle.law_commit.specs.Below.fkv_world.Runs.{World, happens, read_by_keeper, run}
+use Rattle.law_commit.specs.Below.fkv_world.World as world
+use Rattle.law_commit.specs.Below.fkv_world.World.{Event, near}
+use Rattle.law_commit.proofs.Below.fkv_world.Shown.{happens_keeper}
 use Rattle.law_order.specs.Images.Ends.{CommitEndsBy, WrittenEndsBy}
 
 -- ---- in its wait it waits for its own end

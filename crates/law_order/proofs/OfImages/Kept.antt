@@ -1,15 +1,15 @@
 -- The newest slot of the opened bytes in an image that has it.
 use Rattle.std.proofs.Common.{◌≡◌, ℕ, zero, suc, ◌+◌, ◌-◌, ◌<◌, ◌≤◌, ◌∙◌, refl, sym, ap, subst, arith, List}
 use Rattle.std.specs.Prelude.{Some}
-use Rattle.fkv_core.specs.Openings.{area_numbered}
+use Rattle.law_opening.specs.Below.fkv_core.Openings.{area_numbered}
 use Rattle.fkv_disk.specs.Bytes.{byte_at, bytes_at}
 use Rattle.fkv_disk.proofs.Shown.{byte_at-bytes_at}
-use Rattle.fkv_keeper.specs.LastCommits.{area_number}
-use Rattle.fkv_manifest.specs.Newest.{newest, slot_in}
-use Rattle.fkv_newest.specs.Newest as found
-use Rattle.fkv_newest.specs.Newest.{HasShape, IsNewestOf}
-use Rattle.fkv_newest.specs.declared.newest_slots.Newest.{Newest}
-use Rattle.fkv_opening.specs.Faults.{HasCheckpoint}
+use Rattle.law_commit.specs.Below.fkv_keeper.LastCommits.{area_number}
+use Rattle.law_commit.specs.Below.fkv_manifest.Newest.{newest, slot_in}
+use Rattle.law_opening.specs.Below.fkv_newest.Newest as found
+use Rattle.law_opening.specs.Below.fkv_newest.Newest.{HasShape, IsNewestOf}
+use Rattle.law_opening.specs.Below.fkv_newest.TheNewest.{Newest}
+use Rattle.law_opening.specs.Below.fkv_opening.Faults.{HasCheckpoint}
 use Rattle.fkv_record.specs.declared.triples.Triple.{Triple}
 use Rattle.law_order.specs.Images.Opened.{newest_in}
 use Rattle.law_order.proofs.OfImages.Ranges.{range_same}

@@ -4,17 +4,17 @@ use Rattle.std.specs.Prelude.{Option, Some, None}
 use Rattle.fkv_base.specs.declared.commits.CommitKind.{CommitKind}
 use Rattle.fkv_base.specs.declared.commits.CommitKind.TheVariants.{Full, Log}
 use Rattle.fkv_base.specs.declared.shapes.Shape.{Shape}
-use Rattle.fkv_commit.specs.declared.commits.Commit.{Commit}
-use Rattle.fkv_keeper.specs.CheckpointLaws.{IsBehindWait}
-use Rattle.fkv_core.specs.Openings.{IsOpeningWorld, beginning}
-use Rattle.fkv_flush.specs.GuardLevels.{Rises, levels_of}
-use Rattle.fkv_keeper.specs.Keeping.{Finality, KeeperState, lost_left}
-use Rattle.fkv_keeper.specs.KeeperRun.{IsOpened, KeeperEvent, keeper_run}
-use Rattle.fkv_keeper.specs.SlotLaws.{CommitHasRoom}
-use Rattle.fkv_keeper.specs.declared.keepers.Keeping.{Keeping}
-use Rattle.fkv_keeper.specs.declared.keepers.Keeping.TheVariants.{Waits, Writes, Finishes}
-use Rattle.fkv_opening.specs.declared.opened_store.Opened.{Opened}
-use Rattle.fkv_keeper.specs.declared.last_commits.Checkpoint.{Checkpoint}
+use Rattle.law_commit.specs.Below.fkv_commit.Commit.{Commit}
+use Rattle.law_commit.specs.Below.fkv_keeper.CheckpointLaws.{IsBehindWait}
+use Rattle.law_opening.specs.Below.fkv_core.Openings.{IsOpeningWorld, beginning}
+use Rattle.law_commit.specs.Below.fkv_flush.GuardLevels.{Rises, levels_of}
+use Rattle.law_commit.specs.Below.fkv_keeper.Keeping.{Finality, KeeperState, lost_left}
+use Rattle.law_commit.specs.Below.fkv_keeper.KeeperRun.{IsOpened, KeeperEvent, keeper_run}
+use Rattle.law_commit.specs.Below.fkv_keeper.SlotLaws.{CommitHasRoom}
+use Rattle.law_commit.specs.Below.fkv_keeper.TheKeeping.{Keeping}
+use Rattle.law_commit.specs.Below.fkv_keeper.TheKeeping.TheVariants.{Waits, Writes, Finishes}
+use Rattle.law_opening.specs.Below.fkv_opening.TheOpened.{Opened}
+use Rattle.law_commit.specs.Below.fkv_keeper.Checkpoint.{Checkpoint}
 use Rattle.fkv_plane.specs.declared.places.Places.{Places}
 use Rattle.fkv_plane.specs.declared.places.SharedWord.TheVariants as one
 use Rattle.fkv_plane.specs.Asked.{word_at}
@@ -22,9 +22,9 @@ use Rattle.fkv_plane.specs.Places.{shared_place}
 use Rattle.fkv_record.specs.declared.lost_ranges.LostRange.{LostRange}
 use Rattle.fkv_record.specs.Lost.{max_lost}
 use Rattle.fkv_record.specs.Places.{most_triples}
-use Rattle.fkv_world.specs.OwnEvents.{keeper_events}
-use Rattle.fkv_world.specs.Runs.{World, happens, run}
-use Rattle.fkv_world.specs.World.{Event, Now}
+use Rattle.law_commit.specs.Below.fkv_world.OwnEvents.{keeper_events}
+use Rattle.law_commit.specs.Below.fkv_world.Runs.{World, happens, run}
+use Rattle.law_commit.specs.Below.fkv_world.World.{Event, Now}
 use Rattle.law_commit.specs.BegunCommits.{BegunCommit, commit_opening}
 use Rattle.law_order.specs.Images.Ends.{CommitEndsBy}
 use Rattle.law_order.specs.Images.Left.{flushed_so_far}
@@ -38,7 +38,7 @@ use Rattle.law_order.proofs.OfImages.LostHeld.{HandIsNewer, HoldsLost, left_held
 use Rattle.law_order.proofs.OfImages.NamedNow.{AllGood}
 use Rattle.law_order.proofs.OfImages.WordsRead.{Always, always_map}
 use Rattle.law_order.proofs.OfImages.Tails.{AtTail, Below, Bounds, LastBelow, TakenAbove, UsedBelow}
-use Rattle.law_world.specs.Keeper.Lives.{IsLifeTold}
+use Rattle.law_commit.specs.Below.law_world.Keeper.Lives.{IsLifeTold}
 
 -- it doesn't matter whether it is sealed or finished
 pub of_plain : (o : Opened) (n : Now) (flushed : ℕ) (c : BegunCommit) → FitsLife o n flushed (plain c) → FitsLife o n flushed c

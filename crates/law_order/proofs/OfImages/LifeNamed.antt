@@ -2,20 +2,20 @@
 use Rattle.std.proofs.Common.{◌≡◌, ◌⊎◌, ℕ, ◌≤◌, refl, sym, subst, List}
 use Rattle.fkv_base.specs.declared.commits.CommitKind.TheVariants.{Full}
 use Rattle.fkv_disk.specs.Calls.{Call, MayLeave}
-use Rattle.fkv_keeper.specs.Keeping.{KeeperState}
+use Rattle.law_commit.specs.Below.fkv_keeper.Keeping.{KeeperState}
 use Rattle.fkv_record.specs.Places.{most_triples}
-use Rattle.fkv_world.specs.OwnEvents.{keeper_events}
-use Rattle.fkv_world.specs.Runs.{World, run}
-use Rattle.fkv_world.specs.World.{Event}
+use Rattle.law_commit.specs.Below.fkv_world.OwnEvents.{keeper_events}
+use Rattle.law_commit.specs.Below.fkv_world.Runs.{World, run}
+use Rattle.law_commit.specs.Below.fkv_world.World.{Event}
 use Rattle.law_commit.specs.BegunCommits.{BegunCommit, IsAsLast, commit_opened, life_begun}
 use Rattle.law_log.specs.Trace.{IsIn}
 use Rattle.law_order.proofs.OfImages.NamedNow.{AllGood, Named, SealedStands, StandsUncalled, named_now, run_holds}
 use Rattle.law_order.proofs.OfImages.Begun.{plain}
 use Rattle.law_order.proofs.OfImages.BegunRun.{known}
-use Rattle.law_world.proofs.OfKeeper.OwnRun.{to_keeper}
-use Rattle.law_world.specs.Keeper.Lives.{IsLifeTold, is_life_writing, keeper_after, life_standing, life_writing}
-use Rattle.law_world.specs.Standing.CallsMade.{calls_made}
-use Rattle.law_world.specs.Standing.Standing.{IsOneInForce, TriplesStand}
+use Rattle.law_commit.proofs.Below.law_world.OfKeeper.OwnRun.{to_keeper}
+use Rattle.law_commit.specs.Below.law_world.Keeper.Lives.{IsLifeTold, is_life_writing, keeper_after, life_standing, life_writing}
+use Rattle.law_commit.specs.Below.law_world.Standing.CallsMade.{calls_made}
+use Rattle.law_commit.specs.Below.law_world.Standing.Standing.{IsOneInForce, TriplesStand}
 
 -- the opening's commit is the last as the life begins
 opening_last : (opening : World) → IsAsLast opening.now.keeper.last (commit_opened opening.now opening.past.opened)

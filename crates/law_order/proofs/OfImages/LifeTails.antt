@@ -1,20 +1,20 @@
 -- At each moment of a life the keeper is at some tail, and its commit ends at or below the flushed offset.
 use Rattle.std.proofs.Common.{◌≡◌, ℕ, ◌≤◌, arith, refl, sym, subst, List, [], ◌∷◌, ◌++◌}
 use Rattle.fkv_base.specs.declared.shapes.Shape.{Shape}
-use Rattle.fkv_keeper.specs.Keeping.{KeeperState}
-use Rattle.fkv_keeper.specs.KeeperRun.{IsOpened, KeeperEvent, keeper_run}
+use Rattle.law_commit.specs.Below.fkv_keeper.Keeping.{KeeperState}
+use Rattle.law_commit.specs.Below.fkv_keeper.KeeperRun.{IsOpened, KeeperEvent, keeper_run}
 use Rattle.fkv_plane.specs.declared.places.Places.{Places}
 use Rattle.fkv_plane.specs.declared.places.SharedWord.TheVariants as one
 use Rattle.fkv_plane.specs.Asked.{word_at}
 use Rattle.fkv_plane.specs.Places.{shared_place}
-use Rattle.fkv_world.specs.OwnEvents.{keeper_events, keeper_part_of}
-use Rattle.fkv_world.specs.Runs.{World, happens, run}
-use Rattle.fkv_world.specs.World.{Event}
-use Rattle.fkv_world.proofs.Shown.{keeper_runs_on}
+use Rattle.law_commit.specs.Below.fkv_world.OwnEvents.{keeper_events, keeper_part_of}
+use Rattle.law_commit.specs.Below.fkv_world.Runs.{World, happens, run}
+use Rattle.law_commit.specs.Below.fkv_world.World.{Event}
+use Rattle.law_commit.proofs.Below.fkv_world.Shown.{keeper_runs_on}
 use Rattle.law_order.proofs.OfImages.EndsFlushed.{AllLoad, Ends, event_load, flushed_at, happens_ends, higher as ends_higher, opened_ends}
 use Rattle.law_order.proofs.OfImages.WordsRead.{AllRead, Always, always_last, always_map, always_on, event_read, of_part}
 use Rattle.law_order.proofs.OfImages.Tails.{Bounds, IsAtTail, higher, raised, run_on}
-use Rattle.law_world.specs.Standing.Opening.{AreNumbersInTurn}
+use Rattle.law_commit.specs.Below.law_world.Standing.Opening.{AreNumbersInTurn}
 
 abbrev pub tail_of : World → ℕ
 tail_of w = word_at w.now.words (shared_place one.Tail)

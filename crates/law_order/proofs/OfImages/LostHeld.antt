@@ -4,12 +4,12 @@ use Rattle.std.specs.Prelude.{Some}
 use Rattle.fkv_base.specs.declared.commits.CommitKind.{CommitKind}
 use Rattle.fkv_base.specs.declared.commits.CommitKind.TheVariants.{Full, Log}
 use Rattle.fkv_base.specs.declared.shapes.Shape.{Shape}
-use Rattle.fkv_commit.specs.declared.commits.Commit.{Commit}
-use Rattle.fkv_keeper.specs.CheckpointLaws.{IsBehindWait, IsFinished, UsesAs, copy_replies}
-use Rattle.fkv_keeper.specs.Keeping.{Finality, KeeperState, lost_left}
-use Rattle.fkv_keeper.specs.KeeperRun.{IsOpened, KeeperEvent, Writing, keeper_happens, keeper_run, writing}
-use Rattle.fkv_keeper.specs.declared.last_commits.Checkpoint.{Checkpoint}
-use Rattle.fkv_keeper.proofs.Shown.{each_move, run_used}
+use Rattle.law_commit.specs.Below.fkv_commit.Commit.{Commit}
+use Rattle.law_commit.specs.Below.fkv_keeper.CheckpointLaws.{IsBehindWait, IsFinished, UsesAs, copy_replies}
+use Rattle.law_commit.specs.Below.fkv_keeper.Keeping.{Finality, KeeperState, lost_left}
+use Rattle.law_commit.specs.Below.fkv_keeper.KeeperRun.{IsOpened, KeeperEvent, Writing, keeper_happens, keeper_run, writing}
+use Rattle.law_commit.specs.Below.fkv_keeper.Checkpoint.{Checkpoint}
+use Rattle.law_commit.proofs.Below.fkv_keeper.Shown.{each_move, run_used}
 use Rattle.fkv_plane.specs.declared.places.Places.{Places}
 use Rattle.fkv_record.specs.declared.lost_ranges.LostRange.{LostRange}
 use Rattle.law_order.proofs.OfImages.WordsRead.{Always, always_last}

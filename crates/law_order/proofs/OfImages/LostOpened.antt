@@ -3,14 +3,14 @@ use Rattle.std.proofs.Common.{◌≡◌, ℕ, ◌+◌, ◌<◌, ◌≤◌, arith
 use Rattle.std.proofs.lemmas.List.Elements.{All-push, All-weaker}
 use Rattle.std.proofs.lemmas.List.Quantifiers.{all_pairs_push}
 use Rattle.fkv_base.specs.declared.numbers.Addr.{Addr}
-use Rattle.fkv_newest.specs.Manifest.{Follows, IsLostIn}
-use Rattle.fkv_opening.specs.Lost.{AreInHand, Extends}
-use Rattle.fkv_opening.specs.Opened.{IsStoreOf}
-use Rattle.fkv_opening.specs.declared.opened_store.Opened.{Opened}
+use Rattle.law_opening.specs.Below.fkv_newest.Manifest.{Follows, IsLostIn}
+use Rattle.law_opening.specs.Below.fkv_opening.Lost.{AreInHand, Extends}
+use Rattle.law_opening.specs.Below.fkv_opening.Opened.{IsStoreOf}
+use Rattle.law_opening.specs.Below.fkv_opening.TheOpened.{Opened}
 use Rattle.fkv_record.specs.declared.lost_ranges.LostRange.{LostRange}
 use Rattle.fkv_record.specs.declared.manifest_slots.ManifestSlot.{ManifestSlot}
-use Rattle.fkv_pairs.specs.Pairs.{log_of_store}
-use Rattle.fkv_scan.specs.Scanned.{TellsNewer}
+use Rattle.law_opening.specs.Below.fkv_pairs.Pairs.{log_of_store}
+use Rattle.law_opening.specs.Below.fkv_scan.Scanned.{TellsNewer}
 
 pub record IsLostOpened (o : Opened) (r : LostRange) : Type 0 where
   pub some : o.checkpoint.first.0 < r.to.0

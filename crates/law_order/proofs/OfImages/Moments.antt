@@ -2,16 +2,16 @@
 use Rattle.std.proofs.Common.{◌≡◌, ℕ, ◌∙◌, refl, sym, ap, subst, Bool, true, false, List, [], ◌∷◌, ◌++◌}
 use Rattle.std.specs.Prelude.{if◌then◌else◌, Option, Some, None}
 use Rattle.fkv_base.specs.declared.shapes.Shape.{Shape}
-use Rattle.fkv_commit.specs.declared.commits.Commit.{Commit}
-use Rattle.fkv_commit.specs.declared.waiting.Waiting.{Waiting}
-use Rattle.fkv_commit.specs.declared.waiting.Waiting.TheVariants as waits
-use Rattle.fkv_commit.specs.Waiting.{waiting_ask}
-use Rattle.fkv_keeper.specs.declared.answers.KeeperTold.{KeeperTold}
-use Rattle.fkv_keeper.specs.declared.answers.KeeperTold.TheVariants.{Device}
-use Rattle.fkv_keeper.specs.declared.keepers.Keeping.{Keeping}
-use Rattle.fkv_keeper.specs.declared.keepers.Keeping.TheVariants.{Waits, Writes}
-use Rattle.fkv_keeper.specs.Keeping.{KeeperState, keeper_ask, keeper_next, keeping_ask, keeping_given, turn_over}
-use Rattle.fkv_keeper.specs.KeeperRun.{BeginsCommit, BeginsTurn, Calls, Gets, KeeperEvent, Replies, keeper_happens, keeper_run}
+use Rattle.law_commit.specs.Below.fkv_commit.Commit.{Commit}
+use Rattle.law_commit.specs.Below.fkv_commit.TheWaiting.{Waiting}
+use Rattle.law_commit.specs.Below.fkv_commit.TheWaiting.TheVariants as waits
+use Rattle.law_commit.specs.Below.fkv_commit.Waiting.{waiting_ask}
+use Rattle.law_commit.specs.Below.fkv_keeper.KeeperTold.{KeeperTold}
+use Rattle.law_commit.specs.Below.fkv_keeper.KeeperTold.TheVariants.{Device}
+use Rattle.law_commit.specs.Below.fkv_keeper.TheKeeping.{Keeping}
+use Rattle.law_commit.specs.Below.fkv_keeper.TheKeeping.TheVariants.{Waits, Writes}
+use Rattle.law_commit.specs.Below.fkv_keeper.Keeping.{KeeperState, keeper_ask, keeper_next, keeping_ask, keeping_given, turn_over}
+use Rattle.law_commit.specs.Below.fkv_keeper.KeeperRun.{BeginsCommit, BeginsTurn, Calls, Gets, KeeperEvent, Replies, keeper_happens, keeper_run}
 use Rattle.fkv_plane.specs.declared.actions.Action.{Action}
 use Rattle.fkv_plane.specs.declared.asks.Ask.{Ask}
 use Rattle.fkv_plane.specs.declared.asks.Ask.TheVariants.{Load, Store, Swap, Cas, Add, Max, Put, Take, Done}
@@ -19,12 +19,12 @@ use Rattle.fkv_plane.specs.declared.places.Places.{Places}
 use Rattle.fkv_plane.specs.Asked.{reply_to}
 use Rattle.fkv_plane.specs.Passing.{passed}
 use Rattle.fkv_plane.specs.Plane.{action_at}
-use Rattle.fkv_world.specs.Moves.{Near}
-use Rattle.fkv_world.specs.OwnEvents.{keeper_got, keeper_part, keeper_part_of, keeper_slots, keeper_steps}
-use Rattle.fkv_world.specs.Runs.{World, read_by_keeper}
-use Rattle.fkv_world.specs.World as world
-use Rattle.fkv_world.specs.World.{Event, near}
-use Rattle.fkv_world.proofs.Shown.{keeper_runs_on}
+use Rattle.law_commit.specs.Below.fkv_world.Moves.{Near}
+use Rattle.law_commit.specs.Below.fkv_world.OwnEvents.{keeper_got, keeper_part, keeper_part_of, keeper_slots, keeper_steps}
+use Rattle.law_commit.specs.Below.fkv_world.Runs.{World, read_by_keeper}
+use Rattle.law_commit.specs.Below.fkv_world.World as world
+use Rattle.law_commit.specs.Below.fkv_world.World.{Event, near}
+use Rattle.law_commit.proofs.Below.fkv_world.Shown.{keeper_runs_on}
 use Rattle.law_commit.specs.BegunCommits.{BegunCommit, commit_opening}
 use Rattle.law_order.proofs.OfImages.NamedNow.{AllGood}
 

@@ -5,20 +5,20 @@ use Rattle.fkv_base.specs.declared.commits.CommitKind.{CommitKind}
 use Rattle.fkv_base.specs.declared.commits.CommitKind.TheVariants.{Full, Log}
 use Rattle.fkv_base.specs.declared.numbers.Version.{Version}
 use Rattle.fkv_base.specs.declared.shapes.Shape.{Shape}
-use Rattle.fkv_commit.specs.declared.commits.Commit.{Commit}
+use Rattle.law_commit.specs.Below.fkv_commit.Commit.{Commit}
 use Rattle.fkv_disk.specs.Bytes.{bytes_at}
 use Rattle.fkv_disk.specs.Calls.{Call, MayLeave, reads_as}
-use Rattle.fkv_keeper.specs.Keeping.{Finality, KeeperState}
-use Rattle.fkv_keeper.specs.KeeperRun.{KeeperEvent, Writing, is_in_hand, keeper_run, writing}
-use Rattle.fkv_keeper.specs.LastCommits.{area_number, slot_place}
-use Rattle.fkv_keeper.specs.declared.keepers.Keeping.{Keeping}
-use Rattle.fkv_keeper.specs.declared.keepers.Keeping.TheVariants.{Ended, Waits, Writes}
-use Rattle.fkv_keeper.specs.declared.last_commits.Checkpoint.{Checkpoint}
-use Rattle.fkv_manifest.specs.Committing.{CommitWriter}
-use Rattle.fkv_manifest.specs.Kept.{AreTheSlots, Begins, LastStands, NewStands}
-use Rattle.fkv_manifest.specs.Made.{commit_made, has_begun}
-use Rattle.fkv_manifest.specs.Newest as manifest
-use Rattle.fkv_manifest.specs.Newest.{slot_in}
+use Rattle.law_commit.specs.Below.fkv_keeper.Keeping.{Finality, KeeperState}
+use Rattle.law_commit.specs.Below.fkv_keeper.KeeperRun.{KeeperEvent, Writing, is_in_hand, keeper_run, writing}
+use Rattle.law_commit.specs.Below.fkv_keeper.LastCommits.{area_number, slot_place}
+use Rattle.law_commit.specs.Below.fkv_keeper.TheKeeping.{Keeping}
+use Rattle.law_commit.specs.Below.fkv_keeper.TheKeeping.TheVariants.{Ended, Waits, Writes}
+use Rattle.law_commit.specs.Below.fkv_keeper.Checkpoint.{Checkpoint}
+use Rattle.law_commit.specs.Below.fkv_manifest.Committing.{CommitWriter}
+use Rattle.law_commit.specs.Below.fkv_manifest.Kept.{AreTheSlots, Begins, LastStands, NewStands}
+use Rattle.law_commit.specs.Below.fkv_manifest.Made.{commit_made, has_begun}
+use Rattle.law_commit.specs.Below.fkv_manifest.Newest as manifest
+use Rattle.law_commit.specs.Below.fkv_manifest.Newest.{slot_in}
 use Rattle.fkv_plane.specs.declared.places.Places.{Places}
 use Rattle.fkv_record.specs.Places.{area_place, most_triples}
 use Rattle.law_commit.specs.BegunCommits.{AreInTurn, BegunCommit, IsAsLast, commit_opening, commits_begun}
@@ -26,10 +26,10 @@ use Rattle.law_order.specs.Images.Named.{AreTriplesOf, slot_of}
 use Rattle.law_order.proofs.OfImages.Begun.{AreWritesOf, HasBegunFor, HasSlot, IsLast, IsLeft, Lists, Uses, UsesOwn, is_called, plain}
 use Rattle.law_order.proofs.OfImages.BegunRun.{At, BeginsAt, Holds, each_begun, either, event_on, more_made}
 use Rattle.law_log.specs.Trace.{IsIn}
-use Rattle.law_world.proofs.OfStanding.Runs.{run_begins}
-use Rattle.law_world.specs.Standing.CallsMade.{calls_made}
-use Rattle.law_world.specs.Standing.Opening.{AreNumbersInTurn, IsBehind, IsToldBy}
-use Rattle.law_world.specs.Standing.Standing.{IsInForce, IsOneInForce, Standing, TriplesStand, is_writing, standing, standing_opened, triples_in}
+use Rattle.law_commit.proofs.Below.law_world.OfStanding.Runs.{run_begins}
+use Rattle.law_commit.specs.Below.law_world.Standing.CallsMade.{calls_made}
+use Rattle.law_commit.specs.Below.law_world.Standing.Opening.{AreNumbersInTurn, IsBehind, IsToldBy}
+use Rattle.law_commit.specs.Below.law_world.Standing.Standing.{IsInForce, IsOneInForce, Standing, TriplesStand, is_writing, standing, standing_opened, triples_in}
 
 -- numbers fall along the list
 below : (c : BegunCommit) (rest : List BegunCommit) → AreInTurn (c ∷ rest) → (d : BegunCommit) → IsIn d (c ∷ rest) → d.number.0 ≤ c.number.0

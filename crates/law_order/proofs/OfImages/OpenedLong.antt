@@ -3,13 +3,13 @@ use Rattle.std.proofs.Common.{◌≡◌, ◌∙◌, ap, sym, refl, subst, arith,
 use Rattle.std.specs.Prelude.{IsSome}
 use Rattle.fkv_base.specs.declared.numbers.Addr.{Addr}
 use Rattle.fkv_base.specs.declared.shapes.Shape.{Shape}
-use Rattle.fkv_creating.specs.Long.{IsLong}
-use Rattle.fkv_manifest.specs.Newest.{slot_in}
-use Rattle.fkv_newest.specs.Newest.{IsNewestOf, slot_place}
-use Rattle.fkv_newest.specs.declared.newest_slots.Newest.{Newest}
-use Rattle.fkv_newest.proofs.Shown.{one_index}
-use Rattle.fkv_opening.specs.Opened.{IsStoreOf}
-use Rattle.fkv_opening.specs.declared.opened_store.Opened.{Opened}
+use Rattle.law_opening.specs.Below.fkv_creating.Long.{IsLong}
+use Rattle.law_commit.specs.Below.fkv_manifest.Newest.{slot_in}
+use Rattle.law_opening.specs.Below.fkv_newest.Newest.{IsNewestOf, slot_place}
+use Rattle.law_opening.specs.Below.fkv_newest.TheNewest.{Newest}
+use Rattle.law_opening.proofs.Below.fkv_newest.Shown.{one_index}
+use Rattle.law_opening.specs.Below.fkv_opening.Opened.{IsStoreOf}
+use Rattle.law_opening.specs.Below.fkv_opening.TheOpened.{Opened}
 use Rattle.fkv_record.specs.Layout.{shape_bytes}
 use Rattle.fkv_record.specs.Manifest.{manifest_bytes}
 use Rattle.fkv_record.specs.Places.{area_place, record_place}

@@ -7,7 +7,7 @@ use Rattle.fkv_base.specs.declared.shapes.Shape.{Shape}
 use Rattle.fkv_disk.specs.Bytes.{byte_at, bytes_at, covers, listed, range_end}
 use Rattle.fkv_disk.specs.Calls.{Call, MayLeave, ReadsAs, Sync, Write, far_end, reads_as, synced_end}
 use Rattle.fkv_disk.proofs.Shown.{after_range, before_range, byte_at-bytes_at, byte_at-listed, byte_at_past, length-listed, length-written, reads_out, reads_within}
-use Rattle.fkv_flush.specs.GuardFlushed.{IsSynced}
+use Rattle.law_commit.specs.Below.fkv_flush.GuardFlushed.{IsSynced}
 use Rattle.fkv_plane.specs.declared.places.RecordWord.{RecordWord}
 use Rattle.fkv_record.specs.Places.{record_place}
 

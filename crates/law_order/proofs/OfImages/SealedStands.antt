@@ -1,10 +1,10 @@
 -- A commit that is sealed and not finished is the one whose words are stored. It stands, whole.
 use Rattle.std.proofs.Common.{◌≡◌, ◌⊎◌, inl, inr, ℕ, ◌∙◌, refl, sym, subst, Bool, true, false, List, ◌∷◌}
-use Rattle.fkv_keeper.specs.Keeping.{Finality, KeeperState}
-use Rattle.fkv_keeper.specs.declared.keepers.Keeping.{Keeping}
-use Rattle.fkv_keeper.specs.declared.keepers.Keeping.TheVariants.{Ended, Starts, Maintains, LoadsPhase, Enters, Copies, Seeks, Waits, Writes, Finishes}
-use Rattle.fkv_manifest.specs.Committing.{CommitWriter}
-use Rattle.fkv_manifest.specs.Kept.{NewStands}
+use Rattle.law_commit.specs.Below.fkv_keeper.Keeping.{Finality, KeeperState}
+use Rattle.law_commit.specs.Below.fkv_keeper.TheKeeping.{Keeping}
+use Rattle.law_commit.specs.Below.fkv_keeper.TheKeeping.TheVariants.{Ended, Starts, Maintains, LoadsPhase, Enters, Copies, Seeks, Waits, Writes, Finishes}
+use Rattle.law_commit.specs.Below.fkv_manifest.Committing.{CommitWriter}
+use Rattle.law_commit.specs.Below.fkv_manifest.Kept.{NewStands}
 use Rattle.law_commit.specs.BegunCommits.{AreFinished, AtEnd, AtKeeping, BegunCommit, HaveFinished, OneIsOpen}
 use Rattle.law_order.proofs.OfImages.NamedNow.{SealedStands}
 

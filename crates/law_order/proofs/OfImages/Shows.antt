@@ -4,14 +4,14 @@ use Rattle.std.specs.Int.{to_le_bytes, w64}
 use Rattle.fkv_base.specs.declared.shapes.Shape.{Shape}
 use Rattle.fkv_disk.specs.Bytes.{bytes_at}
 use Rattle.fkv_disk.specs.Calls.{Call, MayLeave}
-use Rattle.fkv_flush.specs.GuardFlushed.{IsSynced}
-use Rattle.fkv_ops.specs.Values.{value_of}
+use Rattle.law_commit.specs.Below.fkv_flush.GuardFlushed.{IsSynced}
+use Rattle.law_commit.specs.Below.fkv_ops.Values.{value_of}
 use Rattle.fkv_plane.specs.declared.places.RecordWord.{RecordWord}
 use Rattle.fkv_plane.specs.declared.places.RecordWord.TheVariants as rec
 use Rattle.fkv_record.specs.Layout.{record_bytes}
 use Rattle.fkv_record.specs.Numbers.{spelled}
 use Rattle.fkv_record.specs.Places.{area_place, record_place}
-use Rattle.fkv_scan.specs.Log as scan
+use Rattle.law_opening.specs.Below.fkv_scan.Log as scan
 use Rattle.law_opening.proofs.OfChanges.OfDevice.Words.{value_fits}
 use Rattle.law_opening.specs.Changes.Fits.{CellFits}
 use Rattle.law_order.proofs.OfImages.Ranges.{range_same}
@@ -19,8 +19,8 @@ use Rattle.law_order.specs.Images.Records.{ShowsGivenUp}
 use Rattle.law_order.proofs.OfImages.Words.{low_bytes, low_word}
 use Rattle.law_log.specs.Chains.{Cell}
 use Rattle.law_opening.specs.Log.Records.{IsCellOf, cell_of}
-use Rattle.law_paper.specs.Paper.Images.{ShowsCell, ShowsDropped}
-use Rattle.law_refine.specs.Records.Headers.{IsGivenUp, IsHeaderOf}
+use Rattle.law_commit.specs.Below.law_paper.Paper.Images.{ShowsCell, ShowsDropped}
+use Rattle.law_commit.specs.Below.law_refine.Records.Headers.{IsGivenUp, IsHeaderOf}
 
 -- the image has the three words in the place of the record
 abbrev pub HasWords : scan.Log → ℕ → (RecordWord → ℕ) → Type 0

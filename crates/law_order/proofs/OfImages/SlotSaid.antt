@@ -11,12 +11,12 @@ use Rattle.fkv_base.specs.declared.numbers.Serial.{Serial}
 use Rattle.fkv_base.specs.declared.numbers.Version.{Version}
 use Rattle.fkv_base.specs.declared.shapes.Shape.{Shape}
 use Rattle.fkv_base.proofs.Shown.{ring_between, slots_few}
-use Rattle.fkv_keeper.specs.LastCommits.{area_number, point_written, points_written, slot_said}
-use Rattle.fkv_keeper.specs.declared.last_commits.Area.{Area}
-use Rattle.fkv_keeper.specs.declared.last_commits.Area.TheVariants as area
-use Rattle.fkv_keeper.specs.declared.last_commits.Checkpoint.{Checkpoint}
-use Rattle.fkv_newest.specs.Manifest.{Follows, HasLost, IsLostIn, Suits}
-use Rattle.fkv_opening.specs.declared.opened_store.Opened.{Opened}
+use Rattle.law_commit.specs.Below.fkv_keeper.LastCommits.{area_number, point_written, points_written, slot_said}
+use Rattle.law_commit.specs.Below.fkv_keeper.Area.{Area}
+use Rattle.law_commit.specs.Below.fkv_keeper.Area.TheVariants as area
+use Rattle.law_commit.specs.Below.fkv_keeper.Checkpoint.{Checkpoint}
+use Rattle.law_opening.specs.Below.fkv_newest.Manifest.{Follows, HasLost, IsLostIn, Suits}
+use Rattle.law_opening.specs.Below.fkv_opening.TheOpened.{Opened}
 use Rattle.fkv_record.specs.Manifest.{said_in}
 use Rattle.fkv_record.specs.Places.{most_triples}
 use Rattle.fkv_record.specs.declared.formats.Format.TheVariants as format
@@ -24,7 +24,7 @@ use Rattle.fkv_record.specs.declared.lost_ranges.LostRange.{LostRange}
 use Rattle.fkv_record.specs.declared.lost_ranges.LostRanges.{LostRanges}
 use Rattle.fkv_record.specs.declared.manifest_slots.ManifestSlot.{ManifestSlot}
 use Rattle.fkv_record.specs.declared.points.Points.{Points}
-use Rattle.fkv_world.specs.World.{Now}
+use Rattle.law_commit.specs.Below.fkv_world.World.{Now}
 use Rattle.law_commit.specs.BegunCommits.{BegunCommit}
 use Rattle.law_order.specs.Images.Fits.{FitsLife, NamesItsLost}
 use Rattle.law_order.proofs.OfImages.LostOpened.{AreLostOpened, IsLostOpened}

@@ -9,44 +9,44 @@ use Rattle.fkv_base.specs.declared.numbers.Addr.{Addr}
 use Rattle.fkv_base.specs.declared.numbers.Version.{Version}
 use Rattle.fkv_base.specs.declared.phases.Phase.TheVariants as phase
 use Rattle.fkv_base.specs.declared.shapes.Shape.{Shape}
-use Rattle.fkv_checkpoint.specs.Copying.{Copier}
-use Rattle.fkv_commit.specs.declared.commits.Commit.{Commit}
-use Rattle.fkv_commit.specs.declared.deferring.DeferAnswer.{DeferAnswer}
-use Rattle.fkv_commit.specs.declared.deferring.DeferAnswer.TheVariants.{Armed, Held, Spent}
-use Rattle.fkv_commit.specs.declared.entering.EnterAnswer.{EnterAnswer}
-use Rattle.fkv_commit.specs.declared.entering.EnterAnswer.TheVariants as enter
-use Rattle.fkv_commit.specs.declared.finishing.FinishAnswer.{FinishAnswer}
-use Rattle.fkv_commit.specs.declared.seeking.SeekAnswer.{SeekAnswer}
-use Rattle.fkv_commit.specs.declared.seeking.SeekAnswer.TheVariants as seek
-use Rattle.fkv_commit.specs.declared.seeking.Seeking.{Seeking}
-use Rattle.fkv_commit.specs.declared.seeking.Seeking.TheVariants as seeking
-use Rattle.fkv_commit.specs.declared.starting.StartAnswer.{StartAnswer}
-use Rattle.fkv_commit.specs.declared.starting.StartAnswer.TheVariants as start
-use Rattle.fkv_commit.specs.declared.starting.Starting.{Starting}
-use Rattle.fkv_commit.specs.declared.starting.Starting.TheVariants as starting
-use Rattle.fkv_commit.specs.declared.waiting.WaitAnswer.{WaitAnswer}
-use Rattle.fkv_commit.specs.declared.waiting.WaitAnswer.TheVariants as wait
-use Rattle.fkv_commit.specs.Cuts.{serial_said, version_said}
-use Rattle.fkv_commit.specs.Deferring.{defer_ask, defer_next}
-use Rattle.fkv_commit.specs.Entering.{enter_ask, enter_next}
-use Rattle.fkv_commit.specs.Finishing.{finish_ask, finish_next}
-use Rattle.fkv_commit.specs.Seeking as search
-use Rattle.fkv_commit.specs.Seeking.{SeekState, cut_met, other_met, owing_from, point_taken, points_from, seek_ask, seek_begun, seek_next, seeking_ask, seeking_next, slot_led}
-use Rattle.fkv_commit.specs.Starting as begin
-use Rattle.fkv_commit.specs.Starting.{StartState, is_lost_full, phase_found, seek_led, start_ask, start_next, starting_ask, starting_next}
-use Rattle.fkv_commit.specs.Waiting.{wait_ask, wait_begun, wait_next}
-use Rattle.fkv_keeper.specs.declared.answers.KeeperTold.TheVariants.{CommitRefused}
-use Rattle.fkv_keeper.specs.declared.keepers.Keeping.{Keeping}
-use Rattle.fkv_keeper.specs.declared.keepers.Keeping.TheVariants.{Ended, Starts, Maintains, LoadsPhase, Enters, Copies, Seeks, Waits, Writes, Finishes}
-use Rattle.fkv_keeper.specs.declared.last_commits.Checkpoint.{Checkpoint}
-use Rattle.fkv_keeper.specs.Keeping.{Finality, KeeperState, checkpoint_used, commit_asked, copied, copies, copies_next, copy_asked, copy_driven, copy_ledto, enter_ledto, finish_ledto, finished, keeping_ask, keeping_called, keeping_given, keeping_next, maintain_ledto, part_begun, phase_ledto, points_known, seek_ledto, start_ledto, turn_asked, turn_over, turned, wait_ledto, write_ledto, writes_begun, writes_called}
-use Rattle.fkv_keeper.specs.KeeperRun.{BeginsCommit, BeginsTurn, Calls, Gets, KeeperEvent, Replies, begins, is_in_hand, keeper_happens, keeper_run}
-use Rattle.fkv_maintain.specs.declared.maintaining.MaintainAnswer.{MaintainAnswer}
-use Rattle.fkv_maintain.specs.declared.maintaining.MaintainAnswer.TheVariants as maintain
-use Rattle.fkv_maintain.specs.Maintaining.{maintain_ask, maintain_called, maintain_given, maintain_next}
-use Rattle.fkv_manifest.specs.declared.answers.WriteAnswer.{WriteAnswer}
-use Rattle.fkv_manifest.specs.declared.answers.WriteAnswer.TheVariants as write
-use Rattle.fkv_manifest.specs.Committing.{commit_answer, commit_next}
+use Rattle.law_commit.specs.Below.fkv_checkpoint.Copying.{Copier}
+use Rattle.law_commit.specs.Below.fkv_commit.Commit.{Commit}
+use Rattle.law_commit.specs.Below.fkv_commit.DeferAnswer.{DeferAnswer}
+use Rattle.law_commit.specs.Below.fkv_commit.DeferAnswer.TheVariants.{Armed, Held, Spent}
+use Rattle.law_commit.specs.Below.fkv_commit.EnterAnswer.{EnterAnswer}
+use Rattle.law_commit.specs.Below.fkv_commit.EnterAnswer.TheVariants as enter
+use Rattle.law_commit.specs.Below.fkv_commit.FinishAnswer.{FinishAnswer}
+use Rattle.law_commit.specs.Below.fkv_commit.SeekAnswer.{SeekAnswer}
+use Rattle.law_commit.specs.Below.fkv_commit.SeekAnswer.TheVariants as seek
+use Rattle.law_commit.specs.Below.fkv_commit.TheSeeking.{Seeking}
+use Rattle.law_commit.specs.Below.fkv_commit.TheSeeking.TheVariants as seeking
+use Rattle.law_commit.specs.Below.fkv_commit.StartAnswer.{StartAnswer}
+use Rattle.law_commit.specs.Below.fkv_commit.StartAnswer.TheVariants as start
+use Rattle.law_commit.specs.Below.fkv_commit.TheStarting.{Starting}
+use Rattle.law_commit.specs.Below.fkv_commit.TheStarting.TheVariants as starting
+use Rattle.law_commit.specs.Below.fkv_commit.WaitAnswer.{WaitAnswer}
+use Rattle.law_commit.specs.Below.fkv_commit.WaitAnswer.TheVariants as wait
+use Rattle.law_commit.specs.Below.fkv_commit.Cuts.{serial_said, version_said}
+use Rattle.law_commit.specs.Below.fkv_commit.Deferring.{defer_ask, defer_next}
+use Rattle.law_commit.specs.Below.fkv_commit.Entering.{enter_ask, enter_next}
+use Rattle.law_commit.specs.Below.fkv_commit.Finishing.{finish_ask, finish_next}
+use Rattle.law_commit.specs.Below.fkv_commit.Seeking as search
+use Rattle.law_commit.specs.Below.fkv_commit.Seeking.{SeekState, cut_met, other_met, owing_from, point_taken, points_from, seek_ask, seek_begun, seek_next, seeking_ask, seeking_next, slot_led}
+use Rattle.law_commit.specs.Below.fkv_commit.Starting as begin
+use Rattle.law_commit.specs.Below.fkv_commit.Starting.{StartState, is_lost_full, phase_found, seek_led, start_ask, start_next, starting_ask, starting_next}
+use Rattle.law_commit.specs.Below.fkv_commit.Waiting.{wait_ask, wait_begun, wait_next}
+use Rattle.law_commit.specs.Below.fkv_keeper.KeeperTold.TheVariants.{CommitRefused}
+use Rattle.law_commit.specs.Below.fkv_keeper.TheKeeping.{Keeping}
+use Rattle.law_commit.specs.Below.fkv_keeper.TheKeeping.TheVariants.{Ended, Starts, Maintains, LoadsPhase, Enters, Copies, Seeks, Waits, Writes, Finishes}
+use Rattle.law_commit.specs.Below.fkv_keeper.Checkpoint.{Checkpoint}
+use Rattle.law_commit.specs.Below.fkv_keeper.Keeping.{Finality, KeeperState, checkpoint_used, commit_asked, copied, copies, copies_next, copy_asked, copy_driven, copy_ledto, enter_ledto, finish_ledto, finished, keeping_ask, keeping_called, keeping_given, keeping_next, maintain_ledto, part_begun, phase_ledto, points_known, seek_ledto, start_ledto, turn_asked, turn_over, turned, wait_ledto, write_ledto, writes_begun, writes_called}
+use Rattle.law_commit.specs.Below.fkv_keeper.KeeperRun.{BeginsCommit, BeginsTurn, Calls, Gets, KeeperEvent, Replies, begins, is_in_hand, keeper_happens, keeper_run}
+use Rattle.law_commit.specs.Below.fkv_maintain.MaintainAnswer.{MaintainAnswer}
+use Rattle.law_commit.specs.Below.fkv_maintain.MaintainAnswer.TheVariants as maintain
+use Rattle.law_commit.specs.Below.fkv_maintain.Maintaining.{maintain_ask, maintain_called, maintain_given, maintain_next}
+use Rattle.law_commit.specs.Below.fkv_manifest.WriteAnswer.{WriteAnswer}
+use Rattle.law_commit.specs.Below.fkv_manifest.WriteAnswer.TheVariants as write
+use Rattle.law_commit.specs.Below.fkv_manifest.Committing.{commit_answer, commit_next}
 use Rattle.fkv_plane.specs.declared.actions.Action.{Action}
 use Rattle.fkv_plane.specs.declared.asks.Ask.{Ask}
 use Rattle.fkv_plane.specs.declared.asks.Ask.TheVariants.{Done}
@@ -59,7 +59,7 @@ use Rattle.fkv_words.specs.declared.phase_words.PhaseSaid.{PhaseSaid}
 use Rattle.fkv_words.specs.declared.phase_words.PhaseSaid.TheVariants.{Says}
 use Rattle.fkv_words.specs.PhaseWords.{phase_said}
 use Rattle.law_order.proofs.OfImages.WordsRead.{AllRead, Always, ReadsWord, always_last}
-use Rattle.law_world.specs.Standing.Opening.{AreNumbersInTurn, IsNumberInTurn}
+use Rattle.law_commit.specs.Below.law_world.Standing.Opening.{AreNumbersInTurn, IsNumberInTurn}
 
 -- ---- what is known below a tail
 -- the tail and the commit's number with which the store was opened, and the tail now

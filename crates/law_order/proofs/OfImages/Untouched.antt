@@ -5,23 +5,23 @@ use Rattle.fkv_base.specs.declared.shapes.Shape.{Shape}
 use Rattle.fkv_disk.specs.Bytes.{byte_at, bytes_at, covers}
 use Rattle.fkv_disk.specs.Calls.{Call, MayLeave, Sync, Write, is_sure, is_untouched, reads_as}
 use Rattle.fkv_disk.proofs.Shown.{before_range, reads_out, sure_out}
-use Rattle.fkv_flush.specs.declared.flushing.Flushing.{Flushing}
-use Rattle.fkv_flush.specs.declared.flushing.Flushing.TheVariants.{WritesPart, Syncs}
-use Rattle.fkv_flush.specs.Flushing.{flush_calls}
-use Rattle.fkv_keeper.specs.declared.answers.KeeperTold.{KeeperTold}
-use Rattle.fkv_keeper.specs.declared.answers.KeeperTold.TheVariants.{Device}
-use Rattle.fkv_keeper.specs.Keeping.{keeper_ask}
-use Rattle.fkv_keeper.specs.KeeperAsks.{keeper_calls}
-use Rattle.fkv_maintain.specs.declared.maintaining.Maintaining.{Maintaining}
-use Rattle.fkv_maintain.specs.declared.maintaining.Maintaining.TheVariants.{Flushes}
-use Rattle.fkv_maintain.specs.Maintaining.{MaintainState, maintaining_calls}
+use Rattle.law_commit.specs.Below.fkv_flush.TheFlushing.{Flushing}
+use Rattle.law_commit.specs.Below.fkv_flush.TheFlushing.TheVariants.{WritesPart, Syncs}
+use Rattle.law_commit.specs.Below.fkv_flush.Flushing.{flush_calls}
+use Rattle.law_commit.specs.Below.fkv_keeper.KeeperTold.{KeeperTold}
+use Rattle.law_commit.specs.Below.fkv_keeper.KeeperTold.TheVariants.{Device}
+use Rattle.law_commit.specs.Below.fkv_keeper.Keeping.{keeper_ask}
+use Rattle.law_commit.specs.Below.fkv_keeper.KeeperAsks.{keeper_calls}
+use Rattle.law_commit.specs.Below.fkv_maintain.TheMaintaining.{Maintaining}
+use Rattle.law_commit.specs.Below.fkv_maintain.TheMaintaining.TheVariants.{Flushes}
+use Rattle.law_commit.specs.Below.fkv_maintain.Maintaining.{MaintainState, maintaining_calls}
 use Rattle.fkv_plane.specs.declared.asks.Ask.{Ask}
 use Rattle.fkv_plane.specs.declared.asks.Ask.TheVariants.{Done}
 use Rattle.fkv_record.specs.Places.{record_place}
-use Rattle.fkv_world.specs.Past.{calls_after}
-use Rattle.fkv_world.specs.Runs.{World, happens, read_by_keeper, run}
-use Rattle.fkv_world.specs.World.{Event, Calls, Moves, Commits, Turns, KeeperMoves, Crashes, Now, life_goes}
-use Rattle.fkv_world.proofs.Shown.{added_calls, calls_added, is_over, lived}
+use Rattle.law_commit.specs.Below.fkv_world.Past.{calls_after}
+use Rattle.law_commit.specs.Below.fkv_world.Runs.{World, happens, read_by_keeper, run}
+use Rattle.law_commit.specs.Below.fkv_world.World.{Event, Calls, Moves, Commits, Turns, KeeperMoves, Crashes, Now, life_goes}
+use Rattle.law_commit.proofs.Below.fkv_world.Shown.{added_calls, calls_added, is_over, lived}
 use Rattle.law_order.proofs.OfImages.Reaching.{synced_longer}
 use Rattle.law_order.proofs.OfImages.Ranges.{range_same}
 

@@ -2,22 +2,22 @@
 use Rattle.std.proofs.Common.{◌≡◌, ℕ, ◌∙◌, refl, sym, ap, subst, Bool, true, false, List, [], ◌∷◌, ◌++◌}
 use Rattle.std.specs.Prelude.{⊤, if◌then◌else◌, Option, Some, None}
 use Rattle.fkv_base.specs.declared.shapes.Shape.{Shape}
-use Rattle.fkv_keeper.specs.declared.answers.KeeperTold.{KeeperTold}
-use Rattle.fkv_keeper.specs.declared.answers.KeeperTold.TheVariants.{Device}
-use Rattle.fkv_keeper.specs.Keeping.{KeeperState, keeper_ask, keeper_next}
-use Rattle.fkv_keeper.specs.KeeperRun.{KeeperEvent, Replies, keeper_happens, keeper_run}
+use Rattle.law_commit.specs.Below.fkv_keeper.KeeperTold.{KeeperTold}
+use Rattle.law_commit.specs.Below.fkv_keeper.KeeperTold.TheVariants.{Device}
+use Rattle.law_commit.specs.Below.fkv_keeper.Keeping.{KeeperState, keeper_ask, keeper_next}
+use Rattle.law_commit.specs.Below.fkv_keeper.KeeperRun.{KeeperEvent, Replies, keeper_happens, keeper_run}
 use Rattle.fkv_plane.specs.declared.actions.Action.{Action}
 use Rattle.fkv_plane.specs.declared.asks.Ask.{Ask}
 use Rattle.fkv_plane.specs.declared.asks.Ask.TheVariants.{Load, Store, Swap, Cas, Add, Max, Put, Take, Done}
 use Rattle.fkv_plane.specs.declared.places.Places.{Places}
 use Rattle.fkv_plane.specs.Asked.{reply_to, word_at}
 use Rattle.fkv_plane.specs.Plane.{action_at}
-use Rattle.fkv_world.specs.Moves.{Near}
-use Rattle.fkv_world.specs.OwnEvents.{keeper_events, keeper_got, keeper_part, keeper_part_of, keeper_slots, keeper_steps}
-use Rattle.fkv_world.specs.Runs.{World, read_by_keeper, run}
-use Rattle.fkv_world.specs.World as world
-use Rattle.fkv_world.specs.World.{Event, near}
-use Rattle.fkv_world.proofs.Shown.{keeper_runs, keeper_runs_on, places_stay, shape_stays}
+use Rattle.law_commit.specs.Below.fkv_world.Moves.{Near}
+use Rattle.law_commit.specs.Below.fkv_world.OwnEvents.{keeper_events, keeper_got, keeper_part, keeper_part_of, keeper_slots, keeper_steps}
+use Rattle.law_commit.specs.Below.fkv_world.Runs.{World, read_by_keeper, run}
+use Rattle.law_commit.specs.Below.fkv_world.World as world
+use Rattle.law_commit.specs.Below.fkv_world.World.{Event, near}
+use Rattle.law_commit.proofs.Below.fkv_world.Shown.{keeper_runs, keeper_runs_on, places_stay, shape_stays}
 
 -- a reply to a load is the word at its place
 abbrev pub ReadsWord : List ℕ → Shape → Places → KeeperState → KeeperEvent → Type 0

@@ -1,9 +1,9 @@
 -- Sessions whose store was just opened have no request and attempt none.
 use Rattle.std.specs.Prelude.{[]}
-use Rattle.law_local.proofs.OfSessions.Known.{opened_known}
-use Rattle.law_local.specs.Tries.AttemptRows.{AttemptKnows, PendingKnows}
-use Rattle.fkv_world.specs.Runs.{run}
-use Rattle.law_refine.specs.Events.GhostEvents.{life_ghosts}
+use Rattle.law_commit.proofs.Below.law_local.OfSessions.Known.{opened_known}
+use Rattle.law_commit.specs.Below.law_local.Tries.AttemptRows.{AttemptKnows, PendingKnows}
+use Rattle.law_commit.specs.Below.fkv_world.Runs.{run}
+use Rattle.law_commit.specs.Below.law_refine.Events.GhostEvents.{life_ghosts}
 use Rattle.law_order.specs.Known.Begins.{BegunLife, home_of_world}
 use Rattle.law_order.specs.Known.Knows.{AreKnown}
 

@@ -7,16 +7,16 @@ use Rattle.fkv_epoch.proofs.Shown.{none_some, some_same}
 use Rattle.fkv_plane.specs.declared.asks.Ask.{Ask}
 use Rattle.fkv_plane.specs.declared.asks.Ask.TheVariants.{Load, Store, Swap, Cas, Add, Max, Put, Take, Done}
 use Rattle.fkv_plane.specs.Asked.{words_after}
-use Rattle.fkv_pending.specs.declared.mailing.MailAnswer.{MailAnswer}
-use Rattle.fkv_pending.specs.declared.mailing.MailAnswer.TheVariants.{Cleared, NotReady, Taken, Asked, Occupied}
-use Rattle.fkv_pending.specs.declared.mailing.MailTask.{MailTask}
-use Rattle.fkv_pending.specs.declared.mailing.MailTask.TheVariants as task
-use Rattle.fkv_pending.specs.declared.mailing.Mailing.{Mailing}
-use Rattle.fkv_pending.specs.declared.mailing.Mailing.TheVariants as mailing
-use Rattle.fkv_pending.specs.Mailbox.{MailNote, MailPast, asked_then, asked_notes, answered_notes, past_moved, served_notes, past_after, past_of}
-use Rattle.fkv_pending.specs.Mailing.{mail_asked, mail_ask}
-use Rattle.fkv_pending.specs.MailWorld.{Mailbox, mailbox_of, Keeping, FindsState, FindsAddress, Reads, GivesHeader, GivesKey, GivesValue, GivesReady, MailWorld, MailEvent, Begins, BeginsPut, Moves, Serves, Changes, is_at_end, has_emptied, mail_happens, mail_run}
-use Rattle.fkv_pending.proofs.Shown.{IsSound, box_moved, moved_box}
+use Rattle.law_commit.specs.Below.fkv_pending.MailAnswer.{MailAnswer}
+use Rattle.law_commit.specs.Below.fkv_pending.MailAnswer.TheVariants.{Cleared, NotReady, Taken, Asked, Occupied}
+use Rattle.law_commit.specs.Below.fkv_pending.MailTask.{MailTask}
+use Rattle.law_commit.specs.Below.fkv_pending.MailTask.TheVariants as task
+use Rattle.law_commit.specs.Below.fkv_pending.TheMailing.{Mailing}
+use Rattle.law_commit.specs.Below.fkv_pending.TheMailing.TheVariants as mailing
+use Rattle.law_commit.specs.Below.fkv_pending.Mailbox.{MailNote, MailPast, asked_then, asked_notes, answered_notes, past_moved, served_notes, past_after, past_of}
+use Rattle.law_commit.specs.Below.fkv_pending.Mailing.{mail_asked, mail_ask}
+use Rattle.law_commit.specs.Below.fkv_pending.MailWorld.{Mailbox, mailbox_of, Keeping, FindsState, FindsAddress, Reads, GivesHeader, GivesKey, GivesValue, GivesReady, MailWorld, MailEvent, Begins, BeginsPut, Moves, Serves, Changes, is_at_end, has_emptied, mail_happens, mail_run}
+use Rattle.law_commit.proofs.Below.fkv_pending.Shown.{IsSound, box_moved, moved_box}
 use Rattle.law_order.specs.Asked.Asked.{outstanding}
 
 -- ---- a step of the session

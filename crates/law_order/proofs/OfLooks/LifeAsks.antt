@@ -4,29 +4,29 @@ use Rattle.std.specs.Prelude.{◌==◌, nat_lt, if◌then◌else◌, Option, Som
 use Rattle.std.proofs.lemmas.Bool.Decides.{nat_tests}
 use Rattle.std.proofs.lemmas.List.{append_assoc}
 use Rattle.fkv_base.specs.declared.numbers.Addr.{Addr}
-use Rattle.fkv_flush.specs.declared.serving.Serving.{Serving}
-use Rattle.fkv_flush.specs.declared.serving.Serving.TheVariants as serve
-use Rattle.fkv_keeper.specs.Keeping.{keeper_ask}
+use Rattle.law_commit.specs.Below.fkv_flush.TheServing.{Serving}
+use Rattle.law_commit.specs.Below.fkv_flush.TheServing.TheVariants as serve
+use Rattle.law_commit.specs.Below.fkv_keeper.Keeping.{keeper_ask}
 use Rattle.fkv_map.specs.declared.operations.Call.{Call}
 use Rattle.fkv_plane.specs.declared.asks.Ask.{Ask}
 use Rattle.fkv_plane.specs.declared.asks.Ask.TheVariants.{Load, Store, Swap, Cas, Add, Max, Put, Take, Done}
-use Rattle.fkv_pending.specs.declared.mailing.MailRecord.{MailRecord}
-use Rattle.fkv_pending.specs.declared.mailing.MailTask.TheVariants as task
-use Rattle.fkv_pending.specs.declared.mailing.Mailing.{Mailing}
-use Rattle.fkv_pending.specs.declared.mailing.Mailing.TheVariants as mailing
-use Rattle.fkv_pending.specs.Mailbox.{past_of}
-use Rattle.fkv_pending.specs.MailWorld.{mailbox_of, MailWorld, MailEvent, Begins, BeginsPut, Moves as MailMoves, Serves, Changes, mail_run}
-use Rattle.fkv_pending.proofs.Shown.{IsSound, moment_sound}
-use Rattle.fkv_session.specs.Sessions.{SessionState, is_busy, session_ask}
-use Rattle.fkv_world.specs.Moves.{session_moved}
-use Rattle.fkv_world.specs.Runs.{World, read_by_keeper, run}
-use Rattle.fkv_world.specs.World.{Event, Calls, Moves, Commits, Turns, KeeperMoves, Crashes, Now, seat_at, near, session_called}
-use Rattle.law_refine.specs.Mail.MailEvents.{begins, changed_by, asked_by, own_events, moved_events, begun_events, called_events, served_events, record_read, keeper_events, life_events, mail_events, mapped}
-use Rattle.law_refine.specs.Mail.Mailers.{IsAsFar, session_mailing}
-use Rattle.law_refine.specs.Mail.Reads.{mail_notes, mail_past}
-use Rattle.law_refine.specs.Mail.Servers.{serving_of, is_serving}
-use Rattle.law_refine.specs.Mail.Shows.{IsOpened, mail_opening, seen_by_mailbox}
-use Rattle.law_refine.proofs.OfMail.Lives.{life_shows}
+use Rattle.law_commit.specs.Below.fkv_pending.MailRecord.{MailRecord}
+use Rattle.law_commit.specs.Below.fkv_pending.MailTask.TheVariants as task
+use Rattle.law_commit.specs.Below.fkv_pending.TheMailing.{Mailing}
+use Rattle.law_commit.specs.Below.fkv_pending.TheMailing.TheVariants as mailing
+use Rattle.law_commit.specs.Below.fkv_pending.Mailbox.{past_of}
+use Rattle.law_commit.specs.Below.fkv_pending.MailWorld.{mailbox_of, MailWorld, MailEvent, Begins, BeginsPut, Moves as MailMoves, Serves, Changes, mail_run}
+use Rattle.law_commit.proofs.Below.fkv_pending.Shown.{IsSound, moment_sound}
+use Rattle.law_commit.specs.Below.fkv_session.Sessions.{SessionState, is_busy, session_ask}
+use Rattle.law_commit.specs.Below.fkv_world.Moves.{session_moved}
+use Rattle.law_commit.specs.Below.fkv_world.Runs.{World, read_by_keeper, run}
+use Rattle.law_commit.specs.Below.fkv_world.World.{Event, Calls, Moves, Commits, Turns, KeeperMoves, Crashes, Now, seat_at, near, session_called}
+use Rattle.law_commit.specs.Below.law_refine.Mail.MailEvents.{begins, changed_by, asked_by, own_events, moved_events, begun_events, called_events, served_events, record_read, keeper_events, life_events, mail_events, mapped}
+use Rattle.law_commit.specs.Below.law_refine.Mail.Mailers.{IsAsFar, session_mailing}
+use Rattle.law_commit.specs.Below.law_refine.Mail.Reads.{mail_notes, mail_past}
+use Rattle.law_commit.specs.Below.law_refine.Mail.Servers.{serving_of, is_serving}
+use Rattle.law_commit.specs.Below.law_refine.Mail.Shows.{IsOpened, mail_opening, seen_by_mailbox}
+use Rattle.law_commit.proofs.Below.law_refine.OfMail.Lives.{life_shows}
 use Rattle.law_order.specs.Asked.Asked.{outstanding}
 use Rattle.law_order.proofs.OfLooks.Asking.{NoMoves, others_out, step_out}
 

@@ -1,12 +1,12 @@
 -- Each session of a life has its mailbox.
 use Rattle.std.proofs.Common.{◌≡◌, ℕ, List}
 use Rattle.std.specs.Prelude.{Some, slice_get}
-use Rattle.fkv_session.specs.Sessions.{SessionState}
-use Rattle.fkv_world.specs.Runs.{run}
-use Rattle.fkv_world.specs.World.{Event}
+use Rattle.law_commit.specs.Below.fkv_session.Sessions.{SessionState}
+use Rattle.law_commit.specs.Below.fkv_world.Runs.{run}
+use Rattle.law_commit.specs.Below.fkv_world.World.{Event}
 use Rattle.law_opening.proofs.OfChanges.OfMails.Life.{its_seat}
 use Rattle.law_order.specs.Known.Begins.{BegunLife}
-use Rattle.law_refine.specs.Mail.Shows as mail
+use Rattle.law_commit.specs.Below.law_refine.Mail.Shows as mail
 
 pub its_mailbox : (life : BegunLife) (events : List Event) (session : ℕ) (s : SessionState)
     → slice_get (run life.opening events).now.sessions session ≡ Some s → mail.IsOpened life.opening.now session

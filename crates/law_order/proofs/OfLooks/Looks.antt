@@ -4,36 +4,36 @@ use Rattle.std.specs.Prelude.{Option, Some, None, slice_get}
 use Rattle.std.proofs.lemmas.List.{append_assoc}
 use Rattle.fkv_base.specs.declared.numbers.Addr.{Addr}
 use Rattle.fkv_epoch.proofs.Shown.{some_same}
-use Rattle.fkv_ops.specs.declared.answers.DiskRecord.{DiskRecord}
-use Rattle.fkv_ops.specs.declared.answers.TryAnswer.{TryAnswer}
-use Rattle.fkv_ops.specs.declared.answers.TryAnswer.TheVariants.{Shift}
+use Rattle.law_commit.specs.Below.fkv_ops.DiskRecord.{DiskRecord}
+use Rattle.law_commit.specs.Below.fkv_ops.TryAnswer.{TryAnswer}
+use Rattle.law_commit.specs.Below.fkv_ops.TryAnswer.TheVariants.{Shift}
 use Rattle.law_log.specs.Chains.{Cell, Logged, Published}
 use Rattle.law_log.specs.Ghosts.{Ghosts, Log}
 use Rattle.law_log.specs.Enabled.{AreEnabled}
-use Rattle.fkv_pending.specs.declared.attempting.Attempting.{Attempting}
-use Rattle.fkv_pending.specs.declared.attempting.Attempting.TheVariants.{Looks}
-use Rattle.fkv_pending.specs.declared.mailing.MailRecord.{MailRecord}
-use Rattle.fkv_pending.specs.declared.mailing.Mailing.{Mailing}
-use Rattle.fkv_pending.specs.declared.mailing.Mailing.TheVariants.{LoadsHeader, LoadsKey, LoadsValue}
-use Rattle.fkv_pending.specs.Attempting.{attempting_ask}
-use Rattle.fkv_pending.specs.Mailbox.{MailNote, HasAskedFor, WasServed, record_in}
-use Rattle.fkv_pending.specs.Mailing.{mail_ask}
-use Rattle.fkv_pending.specs.MailWorld.{Mailbox, mailbox_of}
-use Rattle.fkv_pending.proofs.Shown as pending
-use Rattle.fkv_pending.proofs.Shown.{replied_in}
+use Rattle.law_commit.specs.Below.fkv_pending.TheAttempting.{Attempting}
+use Rattle.law_commit.specs.Below.fkv_pending.TheAttempting.TheVariants.{Looks}
+use Rattle.law_commit.specs.Below.fkv_pending.MailRecord.{MailRecord}
+use Rattle.law_commit.specs.Below.fkv_pending.TheMailing.{Mailing}
+use Rattle.law_commit.specs.Below.fkv_pending.TheMailing.TheVariants.{LoadsHeader, LoadsKey, LoadsValue}
+use Rattle.law_commit.specs.Below.fkv_pending.Attempting.{attempting_ask}
+use Rattle.law_commit.specs.Below.fkv_pending.Mailbox.{MailNote, HasAskedFor, WasServed, record_in}
+use Rattle.law_commit.specs.Below.fkv_pending.Mailing.{mail_ask}
+use Rattle.law_commit.specs.Below.fkv_pending.MailWorld.{Mailbox, mailbox_of}
+use Rattle.law_commit.proofs.Below.fkv_pending.Shown as pending
+use Rattle.law_commit.proofs.Below.fkv_pending.Shown.{replied_in}
 use Rattle.fkv_plane.specs.Asked.{reply_to}
 use Rattle.fkv_plane.proofs.Shown.{passed_reply}
-use Rattle.fkv_session.specs.Sessions.{SessionState}
-use Rattle.law_local.specs.Sessions.Known.{is_attempting}
-use Rattle.law_local.specs.Tries.MailRows.{IsRecordOf, IsTrueOfLook, IsTrueOfMail, LeadsTo}
-use Rattle.fkv_world.specs.Runs.{World, run}
-use Rattle.fkv_world.specs.World.{Event, Now, seat_at}
+use Rattle.law_commit.specs.Below.fkv_session.Sessions.{SessionState}
+use Rattle.law_commit.specs.Below.law_local.Sessions.Known.{is_attempting}
+use Rattle.law_commit.specs.Below.law_local.Tries.MailRows.{IsRecordOf, IsTrueOfLook, IsTrueOfMail, LeadsTo}
+use Rattle.law_commit.specs.Below.fkv_world.Runs.{World, run}
+use Rattle.law_commit.specs.Below.fkv_world.World.{Event, Now, seat_at}
 use Rattle.law_order.specs.Known.Begins.{BegunLife, home_of_world}
 use Rattle.law_order.specs.Known.Knows.{AreKnown}
 use Rattle.law_order.specs.Known.Told.{LookTruly, reply_in}
-use Rattle.law_refine.specs.Mail.Reads.{ReadSince, mail_notes}
-use Rattle.law_refine.specs.Mail.Shows as mail
-use Rattle.law_refine.specs.Events.GhostEvents.{life_ghosts, mapped}
+use Rattle.law_commit.specs.Below.law_refine.Mail.Reads.{ReadSince, mail_notes}
+use Rattle.law_commit.specs.Below.law_refine.Mail.Shows as mail
+use Rattle.law_commit.specs.Below.law_refine.Events.GhostEvents.{life_ghosts, mapped}
 use Rattle.law_order.specs.Served.Served.{ServedShow}
 use Rattle.law_order.proofs.OfServed.Later.{life_enabled_before}
 use Rattle.law_opening.proofs.OfChanges.OfSessions.Attempting.{attempt_reply}

@@ -2,27 +2,27 @@
 use Rattle.std.proofs.Common.{◌≡◌, ℕ, ◌∙◌, ap, subst, arith, List, [], ◌∷◌, Bool, true, false, inl, inr}
 use Rattle.std.specs.Prelude.{Option, Some, slice_get}
 use Rattle.fkv_base.specs.declared.numbers.Addr.{Addr}
-use Rattle.fkv_pending.specs.declared.attempting.Attempting.TheVariants.{Looks}
-use Rattle.fkv_pending.specs.declared.mailing.MailRecord.{MailRecord}
-use Rattle.fkv_pending.specs.declared.mailing.MailTask.{MailTask}
-use Rattle.fkv_pending.specs.declared.mailing.Mailing.{Mailing}
-use Rattle.fkv_pending.specs.declared.mailing.Mailing.TheVariants.{LoadsHeader, LoadsKey, LoadsValue}
-use Rattle.fkv_pending.specs.Mailbox.{MailNote, HasAskedFor, WasServed, HasTaken, HasLetGo, MailPast, IsAskedFor, IsServed, AreInTurn, record_in}
-use Rattle.fkv_pending.specs.Mailing.{mail_ready}
-use Rattle.fkv_pending.specs.MailWorld.{Mailbox, MailWorld, mailbox_of}
-use Rattle.fkv_pending.proofs.Shown.{IsSound, KnowsMail, Stands}
-use Rattle.fkv_session.specs.declared.sessions.Sitting.{Sitting}
-use Rattle.fkv_session.specs.declared.sessions.Sitting.TheVariants.{Attempts, Polls}
-use Rattle.fkv_session.specs.Sessions.{SessionState}
-use Rattle.law_local.specs.Sessions.Known.{is_attempting}
-use Rattle.fkv_world.specs.Runs.{World, run}
-use Rattle.fkv_world.specs.World.{Event, Now}
-use Rattle.law_refine.specs.Mail.Mailers.{IsAsFar, attempt_mailing, session_mailing, sitting_mailing}
-use Rattle.law_refine.specs.Mail.Reads.{ReadSince, mail_notes, mail_past}
-use Rattle.law_refine.specs.Mail.Shows.{IsOpened, seen_by_mailbox}
-use Rattle.law_refine.proofs.OfMail.ReadSteps.{AllRead}
-use Rattle.law_refine.proofs.OfMail.LifeReads.{life_read}
-use Rattle.law_refine.proofs.OfMail.Lives.{life_shows, life_sound}
+use Rattle.law_commit.specs.Below.fkv_pending.TheAttempting.TheVariants.{Looks}
+use Rattle.law_commit.specs.Below.fkv_pending.MailRecord.{MailRecord}
+use Rattle.law_commit.specs.Below.fkv_pending.MailTask.{MailTask}
+use Rattle.law_commit.specs.Below.fkv_pending.TheMailing.{Mailing}
+use Rattle.law_commit.specs.Below.fkv_pending.TheMailing.TheVariants.{LoadsHeader, LoadsKey, LoadsValue}
+use Rattle.law_commit.specs.Below.fkv_pending.Mailbox.{MailNote, HasAskedFor, WasServed, HasTaken, HasLetGo, MailPast, IsAskedFor, IsServed, AreInTurn, record_in}
+use Rattle.law_commit.specs.Below.fkv_pending.Mailing.{mail_ready}
+use Rattle.law_commit.specs.Below.fkv_pending.MailWorld.{Mailbox, MailWorld, mailbox_of}
+use Rattle.law_commit.proofs.Below.fkv_pending.Shown.{IsSound, KnowsMail, Stands}
+use Rattle.law_commit.specs.Below.fkv_session.Sitting.{Sitting}
+use Rattle.law_commit.specs.Below.fkv_session.Sitting.TheVariants.{Attempts, Polls}
+use Rattle.law_commit.specs.Below.fkv_session.Sessions.{SessionState}
+use Rattle.law_commit.specs.Below.law_local.Sessions.Known.{is_attempting}
+use Rattle.law_commit.specs.Below.fkv_world.Runs.{World, run}
+use Rattle.law_commit.specs.Below.fkv_world.World.{Event, Now}
+use Rattle.law_commit.specs.Below.law_refine.Mail.Mailers.{IsAsFar, attempt_mailing, session_mailing, sitting_mailing}
+use Rattle.law_commit.specs.Below.law_refine.Mail.Reads.{ReadSince, mail_notes, mail_past}
+use Rattle.law_commit.specs.Below.law_refine.Mail.Shows.{IsOpened, seen_by_mailbox}
+use Rattle.law_commit.proofs.Below.law_refine.OfMail.ReadSteps.{AllRead}
+use Rattle.law_commit.proofs.Below.law_refine.OfMail.LifeReads.{life_read}
+use Rattle.law_commit.proofs.Below.law_refine.OfMail.Lives.{life_shows, life_sound}
 
 -- ---- the machine with which an attempt looks for a record
 pub look_mailing : (s : SessionState) (step : Sitting) → is_attempting step ≡ true → s.attempt.step ≡ Looks → sitting_mailing s step ≡ Some s.attempt.mailing

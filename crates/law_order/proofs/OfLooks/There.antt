@@ -3,35 +3,35 @@ use Rattle.std.proofs.Common.{◌≡◌, ℕ, ◌<◌, ◌≤◌, ◌∙◌, inl
 use Rattle.std.specs.Prelude.{Option, Some, None, slice_get}
 use Rattle.fkv_base.specs.declared.numbers.Addr.{Addr}
 use Rattle.fkv_epoch.proofs.Shown.{none_some, some_same}
-use Rattle.fkv_flush.specs.GuardLevels.{levels_of}
+use Rattle.law_commit.specs.Below.fkv_flush.GuardLevels.{levels_of}
 use Rattle.fkv_index.specs.Slots.{entry_addr}
-use Rattle.fkv_ops.specs.declared.answers.DiskRecord.{DiskRecord}
-use Rattle.fkv_ops.specs.declared.requests.Seen.{Seen}
+use Rattle.law_commit.specs.Below.fkv_ops.DiskRecord.{DiskRecord}
+use Rattle.law_commit.specs.Below.fkv_ops.Seen.{Seen}
 use Rattle.law_log.specs.Chains.{Cell, IsWithin, Published}
 use Rattle.law_log.specs.Ghosts.{Ghosts, Log}
 use Rattle.law_log.specs.Enabled.{AreChains, AreEnabled}
 use Rattle.law_log.proofs.Shown.{run_held}
-use Rattle.fkv_pending.specs.declared.attempting.Attempting.TheVariants.{Puts}
-use Rattle.fkv_pending.specs.declared.mailing.MailTask.{MailTask}
-use Rattle.fkv_pending.specs.declared.mailing.MailTask.TheVariants.{Put}
-use Rattle.fkv_pending.specs.declared.mailing.Mailing.{Mailing}
-use Rattle.fkv_pending.specs.Mailbox.{past_of}
-use Rattle.fkv_session.specs.Sessions.{SessionState}
-use Rattle.law_local.specs.Sessions.Known.{is_attempting}
-use Rattle.law_local.specs.Tries.AttemptRows.{AttemptKnows, AttemptRow}
-use Rattle.law_local.specs.Tries.HeldRows.{SoughtKnows}
-use Rattle.law_local.specs.Tries.MailRows.{PutsSought}
-use Rattle.law_local.specs.Tries.OnWay.{ComesBelow}
-use Rattle.law_local.specs.Tries.TryRows.{head_in, key_in}
-use Rattle.fkv_world.specs.Runs.{World, run}
-use Rattle.fkv_world.specs.World.{Event}
+use Rattle.law_commit.specs.Below.fkv_pending.TheAttempting.TheVariants.{Puts}
+use Rattle.law_commit.specs.Below.fkv_pending.MailTask.{MailTask}
+use Rattle.law_commit.specs.Below.fkv_pending.MailTask.TheVariants.{Put}
+use Rattle.law_commit.specs.Below.fkv_pending.TheMailing.{Mailing}
+use Rattle.law_commit.specs.Below.fkv_pending.Mailbox.{past_of}
+use Rattle.law_commit.specs.Below.fkv_session.Sessions.{SessionState}
+use Rattle.law_commit.specs.Below.law_local.Sessions.Known.{is_attempting}
+use Rattle.law_commit.specs.Below.law_local.Tries.AttemptRows.{AttemptKnows, AttemptRow}
+use Rattle.law_commit.specs.Below.law_local.Tries.HeldRows.{SoughtKnows}
+use Rattle.law_commit.specs.Below.law_local.Tries.MailRows.{PutsSought}
+use Rattle.law_commit.specs.Below.law_local.Tries.OnWay.{ComesBelow}
+use Rattle.law_commit.specs.Below.law_local.Tries.TryRows.{head_in, key_in}
+use Rattle.law_commit.specs.Below.fkv_world.Runs.{World, run}
+use Rattle.law_commit.specs.Below.fkv_world.World.{Event}
 use Rattle.law_order.specs.Known.Begins.{BegunLife, home_of_world}
 use Rattle.law_order.specs.Known.Knows.{AreKnown}
-use Rattle.law_refine.specs.Mail.MailEvents as mail
-use Rattle.law_refine.specs.Mail.Reads.{mail_notes, mail_past}
-use Rattle.law_refine.specs.Mail.Shows as mail_shows
-use Rattle.law_refine.specs.Events.GhostEvents.{life_ghosts, mapped}
-use Rattle.law_refine.proofs.OfEvents.Fixed.{life_rises}
+use Rattle.law_commit.specs.Below.law_refine.Mail.MailEvents as mail
+use Rattle.law_commit.specs.Below.law_refine.Mail.Reads.{mail_notes, mail_past}
+use Rattle.law_commit.specs.Below.law_refine.Mail.Shows as mail_shows
+use Rattle.law_commit.specs.Below.law_refine.Events.GhostEvents.{life_ghosts, mapped}
+use Rattle.law_commit.proofs.Below.law_refine.OfEvents.Fixed.{life_rises}
 use Rattle.law_order.proofs.OfServed.Device.{flushed_fixed}
 use Rattle.law_order.proofs.OfServed.Later.{life_enabled_before, life_stays}
 use Rattle.law_opening.proofs.OfChanges.OfSessions.Attempting.{attempting_is}

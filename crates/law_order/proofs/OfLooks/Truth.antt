@@ -1,14 +1,14 @@
 -- So it is of all that sessions load from their mailboxes: attempts look for what was asked for, and ask for what they seek.
 use Rattle.std.proofs.Common.{List}
 use Rattle.law_log.specs.Enabled.{AreEnabled}
-use Rattle.fkv_world.specs.Runs.{run}
-use Rattle.fkv_world.specs.World.{Event}
+use Rattle.law_commit.specs.Below.fkv_world.Runs.{run}
+use Rattle.law_commit.specs.Below.fkv_world.World.{Event}
 use Rattle.law_order.proofs.OfAsked.Life.{life_asks, life_looks}
 use Rattle.law_order.specs.Known.Begins.{BegunLife, home_of_world}
 use Rattle.law_order.specs.Known.Knows.{AreKnown}
 use Rattle.law_order.specs.Known.Told.{LookTruly}
-use Rattle.law_refine.specs.Events.GhostEvents.{life_ghosts, mapped}
-use Rattle.law_refine.specs.Records.Changes.{AreChangesPublished}
+use Rattle.law_commit.specs.Below.law_refine.Events.GhostEvents.{life_ghosts, mapped}
+use Rattle.law_commit.specs.Below.law_refine.Records.Changes.{AreChangesPublished}
 use Rattle.law_order.specs.Served.Served.{ServedShow}
 use Rattle.law_order.proofs.OfLooks.LifeMails.{its_mailbox}
 use Rattle.law_order.proofs.OfLooks.Looks.{all_look_truly}

@@ -1,14 +1,14 @@
 -- The life with two commits is one of a new store, so the order law speaks of it.
 use Rattle.std.proofs.Common.{ℕ, zero, suc, List, [], refl, arith}
 use Rattle.fkv_base.specs.declared.commits.CommitKind.TheVariants.{Full, Log}
-use Rattle.fkv_core.specs.Openings.{IsOpeningWorld}
-use Rattle.fkv_creating.specs.Created.{IsCreated, IsNewStore, created_bytes}
+use Rattle.law_opening.specs.Below.fkv_core.Openings.{IsOpeningWorld}
+use Rattle.law_opening.specs.Below.fkv_creating.Created.{IsCreated, IsNewStore, created_bytes}
 use Rattle.fkv_map.specs.declared.operations.Call.{Call}
 use Rattle.fkv_map.specs.declared.operations.Call.TheVariants as call
-use Rattle.fkv_opening.specs.declared.opened_store.Opened.{Opened}
-use Rattle.fkv_session.specs.Sessions.{SessionState}
-use Rattle.fkv_world.specs.World.{Event, Commits, Turns, Now}
-use Rattle.law_refine.specs.Events.Worked.{adds_5, gives_70}
+use Rattle.law_opening.specs.Below.fkv_opening.TheOpened.{Opened}
+use Rattle.law_commit.specs.Below.fkv_session.Sessions.{SessionState}
+use Rattle.law_commit.specs.Below.fkv_world.World.{Event, Commits, Turns, Now}
+use Rattle.law_commit.specs.Below.law_refine.Events.Worked.{adds_5, gives_70}
 use Rattle.law_order.specs.OneHistory.Committed.{CommittedLife, CrashedLife, begun_events, both_refresh, committed_events, crashed_events, full_events, keeper_call, session_call}
 use Rattle.law_order.specs.OneHistory.EachLife.{IsLife, Life}
 use Rattle.law_order.specs.Served.Fits.{CallFits, CallsFit, EventFits}

@@ -1,54 +1,54 @@
 -- The life with two commits, by computing it.
 use Rattle.std.proofs.Common.{◌≡◌, ℕ, List, [], ◌∷◌, refl}
 use Rattle.fkv_base.specs.declared.commits.CommitKind.TheVariants.{Full, Log}
-use Rattle.fkv_checkpoint.specs.Copying as copying
-use Rattle.fkv_checkpoint.specs.Triples as triples
-use Rattle.fkv_commit.specs.Cuts as cuts
-use Rattle.fkv_commit.specs.Deferring as deferring
-use Rattle.fkv_commit.specs.Entering as entering
-use Rattle.fkv_commit.specs.Finishing as finishing
-use Rattle.fkv_commit.specs.Seeking as seeking
-use Rattle.fkv_commit.specs.Starting as starting
-use Rattle.fkv_commit.specs.Waiting as waiting
+use Rattle.law_commit.specs.Below.fkv_checkpoint.Copying as copying
+use Rattle.law_commit.specs.Below.fkv_checkpoint.Triples as triples
+use Rattle.law_commit.specs.Below.fkv_commit.Cuts as cuts
+use Rattle.law_commit.specs.Below.fkv_commit.Deferring as deferring
+use Rattle.law_commit.specs.Below.fkv_commit.Entering as entering
+use Rattle.law_commit.specs.Below.fkv_commit.Finishing as finishing
+use Rattle.law_commit.specs.Below.fkv_commit.Seeking as seeking
+use Rattle.law_commit.specs.Below.fkv_commit.Starting as starting
+use Rattle.law_commit.specs.Below.fkv_commit.Waiting as waiting
 use Rattle.fkv_epoch.specs.Arming as arming
 use Rattle.fkv_epoch.specs.Claiming as claiming
 use Rattle.fkv_epoch.specs.Raising as raising
 use Rattle.fkv_epoch.specs.Refreshing as refreshing
 use Rattle.fkv_epoch.specs.Scanning as scanning
-use Rattle.fkv_flush.specs.Flushing as flushing
-use Rattle.fkv_flush.specs.Serving as serving
+use Rattle.law_commit.specs.Below.fkv_flush.Flushing as flushing
+use Rattle.law_commit.specs.Below.fkv_flush.Serving as serving
 use Rattle.fkv_index.specs.Finding as finding
 use Rattle.fkv_index.specs.Publishing as publishing
 use Rattle.fkv_index.specs.Slots as slots
-use Rattle.fkv_keeper.specs.Keeping as keeping
+use Rattle.law_commit.specs.Below.fkv_keeper.Keeping as keeping
 use Rattle.fkv_latch.specs.Latching as latching
-use Rattle.fkv_log.specs.Filling as filling
-use Rattle.fkv_log.specs.Invalidating as invalidating
-use Rattle.fkv_log.specs.Loading as loading
-use Rattle.fkv_log.specs.Moving as moving
-use Rattle.fkv_log.specs.Reserving as reserving
-use Rattle.fkv_log.specs.Shifting as shifting
-use Rattle.fkv_log.specs.Turning as turning
-use Rattle.fkv_maintain.specs.Maintaining as maintaining
-use Rattle.fkv_manifest.specs.Committing as committing
-use Rattle.fkv_manifest.specs.Gating as gating
-use Rattle.fkv_ops.specs.Appending as appending
-use Rattle.fkv_ops.specs.HeaderWords as header_words
-use Rattle.fkv_ops.specs.Trying as trying
-use Rattle.fkv_ops.specs.Walking as walking
-use Rattle.fkv_pending.specs.Attempting as attempting
-use Rattle.fkv_pending.specs.Mailing as mailing
-use Rattle.fkv_pending.specs.Pending as pending
+use Rattle.law_commit.specs.Below.fkv_log.Filling as filling
+use Rattle.law_commit.specs.Below.fkv_log.Invalidating as invalidating
+use Rattle.law_commit.specs.Below.fkv_log.Loading as loading
+use Rattle.law_commit.specs.Below.fkv_log.Moving as moving
+use Rattle.law_commit.specs.Below.fkv_log.Reserving as reserving
+use Rattle.law_commit.specs.Below.fkv_log.Shifting as shifting
+use Rattle.law_commit.specs.Below.fkv_log.Turning as turning
+use Rattle.law_commit.specs.Below.fkv_maintain.Maintaining as maintaining
+use Rattle.law_commit.specs.Below.fkv_manifest.Committing as committing
+use Rattle.law_commit.specs.Below.fkv_manifest.Gating as gating
+use Rattle.law_commit.specs.Below.fkv_ops.Appending as appending
+use Rattle.law_commit.specs.Below.fkv_ops.HeaderWords as header_words
+use Rattle.law_commit.specs.Below.fkv_ops.Trying as trying
+use Rattle.law_commit.specs.Below.fkv_ops.Walking as walking
+use Rattle.law_commit.specs.Below.fkv_pending.Attempting as attempting
+use Rattle.law_commit.specs.Below.fkv_pending.Mailing as mailing
+use Rattle.law_commit.specs.Below.fkv_pending.Pending as pending
 use Rattle.fkv_plane.specs.Passing as passing
-use Rattle.fkv_session.specs.CatchingUp as catching
-use Rattle.fkv_session.specs.Sessions as sessions
+use Rattle.law_commit.specs.Below.fkv_session.CatchingUp as catching
+use Rattle.law_commit.specs.Below.fkv_session.Sessions as sessions
 use Rattle.fkv_words.specs.PhaseWords as phase_words
-use Rattle.fkv_world.specs.Moves as moves
-use Rattle.fkv_world.specs.Past as past
-use Rattle.fkv_world.specs.Runs as runs
-use Rattle.fkv_world.specs.World as world
-use Rattle.fkv_keeper.specs.Keeping.{KeeperState}
-use Rattle.fkv_session.specs.Sessions.{SessionState}
+use Rattle.law_commit.specs.Below.fkv_world.Moves as moves
+use Rattle.law_commit.specs.Below.fkv_world.Past as past
+use Rattle.law_commit.specs.Below.fkv_world.Runs as runs
+use Rattle.law_commit.specs.Below.fkv_world.World as world
+use Rattle.law_commit.specs.Below.fkv_keeper.Keeping.{KeeperState}
+use Rattle.law_commit.specs.Below.fkv_session.Sessions.{SessionState}
 use Rattle.law_order.specs.OneHistory.Committed.{HasBegunNext, HasFinished, committed_events, committed_history, crashed_events, full_events}
 use Rattle.law_order.specs.Rules.Ordered.{effects_so_far, now_after}
 use Rattle.law_order.proofs.OfOneHistory.CommittedWorld.{new_keeper}

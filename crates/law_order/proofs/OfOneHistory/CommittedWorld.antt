@@ -5,18 +5,18 @@ use Rattle.fkv_base.specs.declared.numbers.Addr.{Addr}
 use Rattle.fkv_base.specs.declared.numbers.Serial.{Serial}
 use Rattle.fkv_base.specs.declared.numbers.Version.{Version}
 use Rattle.fkv_base.specs.declared.shapes.Shape.{Shape}
-use Rattle.fkv_core.specs.Openings.{IsOpeningWorld, area_numbered, newest_commit}
-use Rattle.fkv_creating.specs.Created.{IsNewStore}
-use Rattle.fkv_keeper.specs.Keeping.{Finality, KeeperState}
-use Rattle.fkv_keeper.specs.NewKeepers.{IsNewKeeper}
-use Rattle.fkv_keeper.specs.declared.answers.KeeperTold.TheVariants.{Turned}
-use Rattle.fkv_keeper.specs.declared.keepers.Keeping.TheVariants.{Ended}
-use Rattle.fkv_keeper.specs.declared.last_commits.Area.TheVariants.{First}
-use Rattle.fkv_keeper.specs.declared.last_commits.Checkpoint.{Checkpoint}
-use Rattle.fkv_opening.specs.declared.opened_store.Opened.{Opened}
+use Rattle.law_opening.specs.Below.fkv_core.Openings.{IsOpeningWorld, area_numbered, newest_commit}
+use Rattle.law_opening.specs.Below.fkv_creating.Created.{IsNewStore}
+use Rattle.law_commit.specs.Below.fkv_keeper.Keeping.{Finality, KeeperState}
+use Rattle.law_commit.specs.Below.fkv_keeper.NewKeepers.{IsNewKeeper}
+use Rattle.law_commit.specs.Below.fkv_keeper.KeeperTold.TheVariants.{Turned}
+use Rattle.law_commit.specs.Below.fkv_keeper.TheKeeping.TheVariants.{Ended}
+use Rattle.law_commit.specs.Below.fkv_keeper.Area.TheVariants.{First}
+use Rattle.law_commit.specs.Below.fkv_keeper.Checkpoint.{Checkpoint}
+use Rattle.law_opening.specs.Below.fkv_opening.TheOpened.{Opened}
 use Rattle.fkv_record.specs.Points.{serial_numbers}
-use Rattle.fkv_session.specs.Sessions.{SessionState}
-use Rattle.fkv_world.specs.World.{Now}
+use Rattle.law_commit.specs.Below.fkv_session.Sessions.{SessionState}
+use Rattle.law_commit.specs.Below.fkv_world.World.{Now}
 use Rattle.law_order.proofs.OfOneHistory.WorkedWorld.{places, shape, world_opens, worked_now}
 
 -- ---- its keeper

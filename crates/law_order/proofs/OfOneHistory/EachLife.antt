@@ -1,14 +1,14 @@
 -- Each life of an opened store keeps order. So what holds where a life keeps to its rules holds in each of them.
 use Rattle.std.specs.Prelude.{ℕ, List}
-use Rattle.fkv_core.specs.Openings.{IsOpeningWorld, beginning}
-use Rattle.fkv_filling.specs.OpeningIndex.{opening_lists}
-use Rattle.fkv_opening.specs.Opened.{IsStoreOf}
-use Rattle.fkv_opening.specs.declared.opened_store.Opened.{Opened}
+use Rattle.law_opening.specs.Below.fkv_core.Openings.{IsOpeningWorld, beginning}
+use Rattle.law_opening.specs.Below.fkv_filling.OpeningIndex.{opening_lists}
+use Rattle.law_opening.specs.Below.fkv_opening.Opened.{IsStoreOf}
+use Rattle.law_opening.specs.Below.fkv_opening.TheOpened.{Opened}
 use Rattle.law_opening.specs.Log.Maps.{opening_map}
 use Rattle.law_opening.specs.Log.OpeningLog.{opening_ghosts}
 use Rattle.law_order.specs.Rules.Ordered.{OfEachKept}
-use Rattle.fkv_world.specs.Runs.{World}
-use Rattle.fkv_world.specs.World.{Event, Now}
+use Rattle.law_commit.specs.Below.fkv_world.Runs.{World}
+use Rattle.law_commit.specs.Below.fkv_world.World.{Event, Now}
 use Rattle.law_log.specs.Ghosts.{Ghosts}
 use Rattle.law_order.specs.Known.Begins.{BeginsLife, BegunLife}
 use Rattle.law_order.specs.Known.Told.{TicketsAreApart}
@@ -18,7 +18,7 @@ use Rattle.law_order.specs.Ordered.Met.{AllReadsSeek, PollsTryNoRead, SeeksItsRe
 use Rattle.law_order.specs.Apart.Given.{Given}
 use Rattle.law_order.specs.Apart.Lives.{OpensApart}
 use Rattle.law_order.specs.Rules.Openings.{OpensItsEnds, OpensItsVersions}
-use Rattle.law_refine.specs.Latches.Shows as latches
+use Rattle.law_commit.specs.Below.law_refine.Latches.Shows as latches
 use Rattle.law_order.specs.Served.Fits.{CallsFit, CellsFit}
 use Rattle.law_order.proofs.OfTickets.Life.{tickets_apart}
 use Rattle.law_order.specs.OneHistory.EachLife.{InEachLife}

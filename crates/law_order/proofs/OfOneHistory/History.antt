@@ -3,11 +3,11 @@ use Rattle.std.proofs.Common.{◌≡◌, ℕ, ◌∙◌, refl, sym, ap, List, []
 use Rattle.std.specs.Prelude.{Option, Some, None}
 use Rattle.fkv_base.specs.declared.numbers.Version.{Version}
 use Rattle.fkv_map.specs.declared.history.HistoryEntry.{HistoryEntry}
-use Rattle.fkv_world.specs.Opened.{IsOpenedWorld}
-use Rattle.fkv_world.specs.Past as world
-use Rattle.fkv_world.specs.Runs.{World, happens, run}
-use Rattle.fkv_world.specs.World.{Event}
-use Rattle.law_world.specs.Guarded.Shows as guard
+use Rattle.law_commit.specs.Below.fkv_world.Opened.{IsOpenedWorld}
+use Rattle.law_commit.specs.Below.fkv_world.Past as world
+use Rattle.law_commit.specs.Below.fkv_world.Runs.{World, happens, run}
+use Rattle.law_commit.specs.Below.fkv_world.World.{Event}
+use Rattle.law_commit.specs.Below.law_world.Guarded.Shows as guard
 use Rattle.law_log.specs.Chains.{Cell, Dropped, Logged, Published, Reserved, Unborn}
 use Rattle.law_log.specs.Ghosts.{Changes, Drops, GhostEvent, Ghosts, Log, Publishes, changed, dropped, effect_of, ghost_run, ghosts_after, log_after, published}
 use Rattle.law_log.specs.Trace.{Effect}
@@ -15,13 +15,13 @@ use Rattle.law_order.specs.Known.Knows.{AreKnown}
 use Rattle.law_order.proofs.OfEnabled.Own.{step_reserves}
 use Rattle.law_order.proofs.OfKnown.Newest.{known_now}
 use Rattle.law_order.proofs.OfOneHistory.InVersions.{AllChangeSo, IsOfVersion, event_so}
-use Rattle.law_refine.specs.Calls.Calls.{effects_in_log, effects_of_life}
-use Rattle.law_refine.specs.Events.Effects.{AreQuiet, Behind, ByRecord, InPlace, MakesEffect, Quietly, Stepped, TakesEffect, is_quiet, step_at}
-use Rattle.law_refine.specs.Events.GhostEvents.{ghost_events, home_in, life_ghosts, mapped, serials_in}
-use Rattle.law_refine.specs.Events.Reservations.{Reservation}
-use Rattle.law_refine.specs.Events.Reserved.{IsUnbornFrom, ReservesNothing, tail_at}
-use Rattle.law_refine.proofs.OfEvents.EventEffects.{life_makes}
-use Rattle.law_refine.proofs.OfEvents.ReservedLife.{life_reserved}
+use Rattle.law_commit.specs.Below.law_refine.Calls.Calls.{effects_in_log, effects_of_life}
+use Rattle.law_commit.specs.Below.law_refine.Events.Effects.{AreQuiet, Behind, ByRecord, InPlace, MakesEffect, Quietly, Stepped, TakesEffect, is_quiet, step_at}
+use Rattle.law_commit.specs.Below.law_refine.Events.GhostEvents.{ghost_events, home_in, life_ghosts, mapped, serials_in}
+use Rattle.law_commit.specs.Below.law_refine.Events.Reservations.{Reservation}
+use Rattle.law_commit.specs.Below.law_refine.Events.Reserved.{IsUnbornFrom, ReservesNothing, tail_at}
+use Rattle.law_commit.proofs.Below.law_refine.OfEvents.EventEffects.{life_makes}
+use Rattle.law_commit.proofs.Below.law_refine.OfEvents.ReservedLife.{life_reserved}
 
 -- ---- one event
 dropped_history : (log : Log) (a : ℕ) (logged : Logged) → (dropped log a logged).history ≡ log.history

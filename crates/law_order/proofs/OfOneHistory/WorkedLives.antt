@@ -1,15 +1,15 @@
 -- The worked life is one of a new store, so the order law speaks of it.
 use Rattle.std.proofs.Common.{◌≡◌, ℕ, ◌≤◌, List, [], ◌∷◌, length, refl, arith}
-use Rattle.fkv_creating.specs.Created.{IsCreated, IsNewStore, created_bytes}
-use Rattle.fkv_core.specs.Openings.{IsOpeningWorld}
-use Rattle.fkv_keeper.specs.Keeping.{KeeperState}
+use Rattle.law_opening.specs.Below.fkv_creating.Created.{IsCreated, IsNewStore, created_bytes}
+use Rattle.law_opening.specs.Below.fkv_core.Openings.{IsOpeningWorld}
+use Rattle.law_commit.specs.Below.fkv_keeper.Keeping.{KeeperState}
 use Rattle.fkv_map.specs.Fits.{OpFits}
 use Rattle.fkv_map.specs.declared.operations.Op.TheVariants.{Read}
-use Rattle.fkv_opening.specs.declared.opened_store.Opened.{Opened}
-use Rattle.fkv_session.specs.Sessions.{SessionState}
-use Rattle.fkv_world.specs.World.{Now}
+use Rattle.law_opening.specs.Below.fkv_opening.TheOpened.{Opened}
+use Rattle.law_commit.specs.Below.fkv_session.Sessions.{SessionState}
+use Rattle.law_commit.specs.Below.fkv_world.World.{Now}
 use Rattle.law_commit.specs.WorkedRuns.{resting_keeper}
-use Rattle.law_refine.specs.Events.Worked.{adds_5, gives_70, worked_events}
+use Rattle.law_commit.specs.Below.law_refine.Events.Worked.{adds_5, gives_70, worked_events}
 use Rattle.law_order.specs.OneHistory.EachLife.{InEachLife, IsLife, Life}
 use Rattle.law_order.specs.OneHistory.NewLives.{BeginsAsWorked, IsOrderedLife, WorkedLife}
 use Rattle.law_order.specs.Rules.InTime.{ReadsInTime}

@@ -6,24 +6,24 @@ use Rattle.std.proofs.lemmas.Nat.{and_mask}
 use Rattle.fkv_base.specs.declared.numbers.Addr.{Addr}
 use Rattle.fkv_base.specs.declared.phases.Phase.TheVariants.{Rest}
 use Rattle.fkv_base.specs.declared.shapes.Shape.{Shape}
-use Rattle.fkv_core.specs.OpeningWords.{AreWordsOfOpened, words_before_frames, words_of_sessions, words_once}
-use Rattle.fkv_core.specs.Openings.{IsOpeningSession, IsOpeningWorld, newest_commit}
-use Rattle.fkv_creating.specs.Created.{IsNewStore}
+use Rattle.law_opening.specs.Below.fkv_core.OpeningWords.{AreWordsOfOpened, words_before_frames, words_of_sessions, words_once}
+use Rattle.law_opening.specs.Below.fkv_core.Openings.{IsOpeningSession, IsOpeningWorld, newest_commit}
+use Rattle.law_opening.specs.Below.fkv_creating.Created.{IsNewStore}
 use Rattle.fkv_record.specs.Points.{serial_numbers}
 use Rattle.fkv_entries.specs.declared.home_entries.HomeEntry.{HomeEntry}
 use Rattle.fkv_entries.specs.Room.{bucket_words}
-use Rattle.fkv_filling.specs.Filled.{AreByTag, IsFilled, all_needed, filled_by, link_words, links_behind}
-use Rattle.fkv_keeper.specs.Keeping.{KeeperState}
-use Rattle.fkv_keeper.specs.NewKeepers.{ArePlacesOfStore, IsNewKeeper}
-use Rattle.fkv_opening.specs.Opening.{opening_limit, point_of}
-use Rattle.fkv_opening.specs.declared.opened_store.Opened.{Opened}
+use Rattle.law_opening.specs.Below.fkv_filling.Filled.{AreByTag, IsFilled, all_needed, filled_by, link_words, links_behind}
+use Rattle.law_commit.specs.Below.fkv_keeper.Keeping.{KeeperState}
+use Rattle.law_commit.specs.Below.fkv_keeper.NewKeepers.{ArePlacesOfStore, IsNewKeeper}
+use Rattle.law_opening.specs.Below.fkv_opening.Opening.{opening_limit, point_of}
+use Rattle.law_opening.specs.Below.fkv_opening.TheOpened.{Opened}
 use Rattle.fkv_plane.specs.declared.places.Places.{Places}
-use Rattle.fkv_session.specs.Sessions.{SessionState}
-use Rattle.fkv_world.specs.Runs.{World}
-use Rattle.fkv_world.specs.World.{Now}
+use Rattle.law_commit.specs.Below.fkv_session.Sessions.{SessionState}
+use Rattle.law_commit.specs.Below.fkv_world.Runs.{World}
+use Rattle.law_commit.specs.Below.fkv_world.World.{Now}
 use Rattle.fkv_words.specs.Phases.{phase_number}
 use Rattle.law_commit.specs.WorkedRuns.{resting_keeper}
-use Rattle.law_refine.specs.Events.Worked.{first_session, first_words, first_world}
+use Rattle.law_commit.specs.Below.law_refine.Events.Worked.{first_session, first_words, first_world}
 
 -- ---- its shape, and where its words lie
 unfoldable pub shape : Shape

@@ -5,33 +5,33 @@ use Rattle.fkv_base.specs.declared.numbers.Addr.{Addr}
 use Rattle.fkv_base.specs.declared.numbers.Key.{Key}
 use Rattle.fkv_index.specs.declared.finding.FindStep.TheVariants as find
 use Rattle.fkv_index.specs.Finding.{find_ask, find_step_ask}
-use Rattle.fkv_ops.specs.declared.requests.Request.{Request}
-use Rattle.fkv_ops.specs.declared.trying.Trying.TheVariants.{Walks}
-use Rattle.fkv_ops.specs.declared.walking.WalkAnswer.TheVariants as walk
-use Rattle.fkv_ops.specs.declared.walking.Walking.TheVariants.{Finds}
-use Rattle.fkv_ops.specs.declared.answers.TryAnswer.TheVariants as answer
-use Rattle.fkv_ops.specs.Requests.{is_read}
-use Rattle.fkv_ops.specs.Trying.{TryState, try_ask, trying_ask}
-use Rattle.fkv_ops.specs.Walking.{walk_ask, walking_ask}
-use Rattle.fkv_pending.specs.declared.attempting.Attempting.{Attempting}
-use Rattle.fkv_pending.specs.declared.attempting.Attempting.TheVariants.{Tries}
-use Rattle.fkv_pending.specs.declared.pending_requests.PendingRequest.{PendingRequest}
-use Rattle.fkv_pending.specs.Attempting.{AttemptState}
+use Rattle.law_commit.specs.Below.fkv_ops.Request.{Request}
+use Rattle.law_commit.specs.Below.fkv_ops.TheTrying.TheVariants.{Walks}
+use Rattle.law_commit.specs.Below.fkv_ops.WalkAnswer.TheVariants as walk
+use Rattle.law_commit.specs.Below.fkv_ops.TheWalking.TheVariants.{Finds}
+use Rattle.law_commit.specs.Below.fkv_ops.TryAnswer.TheVariants as answer
+use Rattle.law_commit.specs.Below.fkv_ops.Requests.{is_read}
+use Rattle.law_commit.specs.Below.fkv_ops.Trying.{TryState, try_ask, trying_ask}
+use Rattle.law_commit.specs.Below.fkv_ops.Walking.{walk_ask, walking_ask}
+use Rattle.law_commit.specs.Below.fkv_pending.TheAttempting.{Attempting}
+use Rattle.law_commit.specs.Below.fkv_pending.TheAttempting.TheVariants.{Tries}
+use Rattle.law_commit.specs.Below.fkv_pending.PendingRequest.{PendingRequest}
+use Rattle.law_commit.specs.Below.fkv_pending.Attempting.{AttemptState}
 use Rattle.fkv_plane.specs.declared.places.Places.{Places}
 use Rattle.fkv_plane.specs.Passing.{is_done, passed}
 use Rattle.fkv_plane.proofs.Shown.{passed_done}
-use Rattle.fkv_session.specs.declared.sessions.Sitting.{Sitting}
-use Rattle.fkv_session.specs.declared.sessions.Sitting.TheVariants.{Attempts, Polls}
-use Rattle.fkv_session.specs.Sessions.{Seat, SessionState, room_of}
-use Rattle.fkv_world.specs.Runs.{run}
-use Rattle.fkv_world.specs.World.{Event, Now, seat_at}
+use Rattle.law_commit.specs.Below.fkv_session.Sitting.{Sitting}
+use Rattle.law_commit.specs.Below.fkv_session.Sitting.TheVariants.{Attempts, Polls}
+use Rattle.law_commit.specs.Below.fkv_session.Sessions.{Seat, SessionState, room_of}
+use Rattle.law_commit.specs.Below.fkv_world.Runs.{run}
+use Rattle.law_commit.specs.Below.fkv_world.World.{Event, Now, seat_at}
 use Rattle.law_apart.specs.Apart.Rows.{AttemptApart}
 use Rattle.law_commit.specs.Quiet.{rank_now}
-use Rattle.law_local.specs.Sessions.Known.{is_attempting}
-use Rattle.law_local.specs.Tries.AttemptRows as local
-use Rattle.law_local.specs.Tries.Replies.{IsTrueReply}
-use Rattle.law_local.specs.Tries.TryRows.{TryRow, head_in, key_in}
-use Rattle.law_local.proofs.OfTries.OnWay.{orderly}
+use Rattle.law_commit.specs.Below.law_local.Sessions.Known.{is_attempting}
+use Rattle.law_commit.specs.Below.law_local.Tries.AttemptRows as local
+use Rattle.law_commit.specs.Below.law_local.Tries.Replies.{IsTrueReply}
+use Rattle.law_commit.specs.Below.law_local.Tries.TryRows.{TryRow, head_in, key_in}
+use Rattle.law_commit.proofs.Below.law_local.OfTries.OnWay.{orderly}
 use Rattle.law_log.specs.Enabled.{AreEnabled}
 use Rattle.law_log.specs.Ghosts.{Log}
 use Rattle.law_log.specs.Trace.{IsIn}
@@ -49,7 +49,7 @@ use Rattle.law_order.proofs.OfShifts.Catches.{HasPassed}
 use Rattle.law_order.proofs.OfShifts.Sessions.{Come, SitsRow}
 use Rattle.law_order.proofs.OfShifts.Tries.{ShiftRow}
 use Rattle.law_order.proofs.OfShifts.Walks.{LoadsNone}
-use Rattle.law_refine.specs.Events.GhostEvents.{life_ghosts, mapped}
+use Rattle.law_commit.specs.Below.law_refine.Events.GhostEvents.{life_ghosts, mapped}
 
 -- ---- what its walk loads
 row_walks : (X F : Type 0) (C : PendingRequest → Type 0) (p : Places) (a : AttemptState) → a.step ≡ Tries → a.trial.step ≡ Walks → AttemptRow X F C p a a.step → LoadsNone a.trial.walk.step

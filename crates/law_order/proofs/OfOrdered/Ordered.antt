@@ -2,20 +2,20 @@
 use Rattle.std.proofs.Common.{◌≡◌, ℕ, refl, sym, subst, Bool, true, false, List, [], ◌∷◌}
 use Rattle.law_log.specs.Ghosts.{Ghosts}
 use Rattle.law_log.specs.Enabled.{AreEnabled}
-use Rattle.fkv_world.specs.Runs.{World, run}
-use Rattle.fkv_world.specs.World.{Event}
-use Rattle.law_refine.specs.Calls.Calls.{event_adds}
+use Rattle.law_commit.specs.Below.fkv_world.Runs.{World, run}
+use Rattle.law_commit.specs.Below.fkv_world.World.{Event}
+use Rattle.law_commit.specs.Below.law_refine.Calls.Calls.{event_adds}
 use Rattle.law_order.specs.Known.Answered.{EachAnswered, acted_ghosts}
 use Rattle.law_order.specs.Known.Begins.{BegunLife, home_of_world}
 use Rattle.law_order.specs.Known.Knows.{AllKnowBehind, AreKnown}
 use Rattle.law_order.specs.Known.Told.{AreToldTruly, TicketsAreApart}
 use Rattle.law_order.proofs.OfKnown.Begun.{begun_known}
-use Rattle.law_refine.specs.Events.GhostEvents.{life_ghosts, mapped}
+use Rattle.law_commit.specs.Below.law_refine.Events.GhostEvents.{life_ghosts, mapped}
 use Rattle.law_order.proofs.OfLooks.Truth.{looks_true}
 use Rattle.law_order.proofs.OfEnabled.Changes.{changes_published}
 use Rattle.law_order.proofs.OfEnabled.Own.{own_enabled}
 use Rattle.law_order.proofs.OfReads.LifeReads.{answers_enabled, reads_begin_so, reads_go_on}
-use Rattle.law_refine.specs.Records.Changes.{AreChangesPublished}
+use Rattle.law_commit.specs.Below.law_refine.Records.Changes.{AreChangesPublished}
 use Rattle.law_order.specs.Apart.Given.{Given}
 use Rattle.law_order.specs.Apart.Lives.{NoneHasShifted, OpensApart}
 use Rattle.law_order.proofs.OfApart.Begins.{begins_apart}

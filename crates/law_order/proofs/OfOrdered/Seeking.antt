@@ -2,26 +2,26 @@
 use Rattle.std.proofs.Common.{◌≡◌, ℕ, ◌∙◌, refl, sym, ap, subst, Bool, true, false, List, [], ◌∷◌}
 use Rattle.std.specs.Prelude.{Some, slice_get}
 use Rattle.fkv_map.specs.declared.operations.Call.{Call}
-use Rattle.fkv_ops.specs.declared.answers.TryAnswer.{TryAnswer}
-use Rattle.fkv_ops.specs.declared.answers.TryAnswer.TheVariants as answer
-use Rattle.fkv_ops.specs.declared.requests.Occasion.{Occasion}
-use Rattle.fkv_ops.specs.declared.requests.Occasion.TheVariants.{Call as AtCall, Poll as AtPoll}
-use Rattle.fkv_ops.specs.declared.requests.Seen.{Seen}
-use Rattle.fkv_pending.specs.declared.attempting.Attempting.TheVariants.{Tries}
-use Rattle.fkv_pending.specs.declared.pending_requests.PendingRequest.{PendingRequest}
-use Rattle.fkv_pending.specs.Attempting.{AttemptState, attempt_ask, attempt_begun, is_poll}
-use Rattle.fkv_pending.specs.Pending.{with_latch}
-use Rattle.fkv_pending.proofs.Shown.{AttemptRestsOrAsks, attempt_begun_rests, attempt_rests}
+use Rattle.law_commit.specs.Below.fkv_ops.TryAnswer.{TryAnswer}
+use Rattle.law_commit.specs.Below.fkv_ops.TryAnswer.TheVariants as answer
+use Rattle.law_commit.specs.Below.fkv_ops.Occasion.{Occasion}
+use Rattle.law_commit.specs.Below.fkv_ops.Occasion.TheVariants.{Call as AtCall, Poll as AtPoll}
+use Rattle.law_commit.specs.Below.fkv_ops.Seen.{Seen}
+use Rattle.law_commit.specs.Below.fkv_pending.TheAttempting.TheVariants.{Tries}
+use Rattle.law_commit.specs.Below.fkv_pending.PendingRequest.{PendingRequest}
+use Rattle.law_commit.specs.Below.fkv_pending.Attempting.{AttemptState, attempt_ask, attempt_begun, is_poll}
+use Rattle.law_commit.specs.Below.fkv_pending.Pending.{with_latch}
+use Rattle.law_commit.proofs.Below.fkv_pending.Shown.{AttemptRestsOrAsks, attempt_begun_rests, attempt_rests}
 use Rattle.fkv_plane.specs.declared.asks.Ask.TheVariants.{Done}
-use Rattle.fkv_session.specs.Sessions.{Seat, SessionState, bits_of, is_busy, is_finished, request_in_hand, room_of, session_begun, session_next}
-use Rattle.fkv_session.proofs.Shown.{attempt_ends}
-use Rattle.fkv_world.specs.Moves.{Near, session_moved}
-use Rattle.fkv_world.specs.Runs.{World, run}
-use Rattle.fkv_world.specs.World.{Event, Now, near, seat_at}
-use Rattle.fkv_ops.specs.Requests.{is_read}
-use Rattle.law_local.specs.Sessions.Inputs.{AttemptsBy, IsAttemptInPoll}
-use Rattle.law_local.specs.Sessions.Known.{KnowsRequests, attempt_after, catch_after, caught_up_at, is_accepted, is_attempting, with_op}
-use Rattle.law_local.proofs.OfSessions.Known.{begun_known, next_known, opened_known}
+use Rattle.law_commit.specs.Below.fkv_session.Sessions.{Seat, SessionState, bits_of, is_busy, is_finished, request_in_hand, room_of, session_begun, session_next}
+use Rattle.law_commit.proofs.Below.fkv_session.Shown.{attempt_ends}
+use Rattle.law_commit.specs.Below.fkv_world.Moves.{Near, session_moved}
+use Rattle.law_commit.specs.Below.fkv_world.Runs.{World, run}
+use Rattle.law_commit.specs.Below.fkv_world.World.{Event, Now, near, seat_at}
+use Rattle.law_commit.specs.Below.fkv_ops.Requests.{is_read}
+use Rattle.law_commit.specs.Below.law_local.Sessions.Inputs.{AttemptsBy, IsAttemptInPoll}
+use Rattle.law_commit.specs.Below.law_local.Sessions.Known.{KnowsRequests, attempt_after, catch_after, caught_up_at, is_accepted, is_attempting, with_op}
+use Rattle.law_commit.proofs.Below.law_local.OfSessions.Known.{begun_known, next_known, opened_known}
 use Rattle.law_opening.proofs.OfChanges.OfSessions.Calm.{calm_known, is_calm, not_calm}
 use Rattle.law_opening.proofs.OfChanges.OfSessions.Comes.{SessionComes, Stays, Begins, Steps, session_comes}
 use Rattle.law_order.specs.Known.Begins.{BegunLife}
@@ -31,8 +31,8 @@ use Rattle.law_order.specs.Rows.Asked.{SeeksWhereAsked}
 use Rattle.law_order.proofs.OfOrdered.Waits.{MeetsTry, SeeksBy, Waits, WaitsRow, attempt_begun_waits, attempt_waits}
 use Rattle.law_order.proofs.OfRows.Asks.{anew_seeks}
 use Rattle.law_opening.proofs.OfChanges.OfSessions.Attempting.{life_attempts}
-use Rattle.law_refine.proofs.OfSeen.Alone.{moves_alone}
-use Rattle.law_refine.proofs.OfSeen.There.{there_before}
+use Rattle.law_commit.proofs.Below.law_refine.OfSeen.Alone.{moves_alone}
+use Rattle.law_commit.proofs.Below.law_refine.OfSeen.There.{there_before}
 
 -- of an attempt: it rests or asks, and leaves its read so
 abbrev WaitsSo : AttemptState → Type 0

@@ -14,35 +14,35 @@ use Rattle.fkv_index.specs.Counted.{IsCounted}
 use Rattle.fkv_index.specs.Finding.{asks_left, find_ask, find_next, find_next_ask, find_step_ask, step_asks_left}
 use Rattle.fkv_index.proofs.Shown.{next_counted}
 use Rattle.fkv_index.specs.Slots.{entry_addr}
-use Rattle.fkv_log.specs.declared.loading.Loading.{Loading}
-use Rattle.fkv_log.specs.declared.loading.Loading.TheVariants as load
-use Rattle.fkv_log.specs.Loading.{load_ask, load_next, load_next_ask}
-use Rattle.fkv_ops.specs.declared.answers.TryAnswer.{TryAnswer}
-use Rattle.fkv_ops.specs.declared.answers.TryAnswer.TheVariants as answer
-use Rattle.fkv_ops.specs.declared.trying.Trying.{Trying}
-use Rattle.fkv_ops.specs.declared.trying.Trying.TheVariants as try
-use Rattle.fkv_ops.specs.declared.walking.WalkAnswer.{WalkAnswer}
-use Rattle.fkv_ops.specs.declared.walking.WalkAnswer.TheVariants as walk
-use Rattle.fkv_ops.specs.declared.walking.Walking.{Walking}
-use Rattle.fkv_ops.specs.declared.walking.Walking.TheVariants.{Ended, Finds, HasFound, LoadsValue, Meets}
-use Rattle.fkv_ops.specs.HeaderWords.{header_said}
-use Rattle.fkv_ops.specs.Requests.{is_read}
-use Rattle.fkv_ops.specs.Trying.{TryState, answer_ledto, ends, has_walked, is_prepare, is_above, must_shift, told_value, try_ask, try_next, trying_ask, trying_next, walk_ledto, walked}
-use Rattle.fkv_ops.specs.Values.{value_of}
-use Rattle.fkv_ops.specs.Walking.{WalkState, find_ledto, first_met, load_ledto, reached, record_met, slot_found, walk_ask, walk_next, walking_ask, walking_next}
+use Rattle.law_commit.specs.Below.fkv_log.TheLoading.{Loading}
+use Rattle.law_commit.specs.Below.fkv_log.TheLoading.TheVariants as load
+use Rattle.law_commit.specs.Below.fkv_log.Loading.{load_ask, load_next, load_next_ask}
+use Rattle.law_commit.specs.Below.fkv_ops.TryAnswer.{TryAnswer}
+use Rattle.law_commit.specs.Below.fkv_ops.TryAnswer.TheVariants as answer
+use Rattle.law_commit.specs.Below.fkv_ops.TheTrying.{Trying}
+use Rattle.law_commit.specs.Below.fkv_ops.TheTrying.TheVariants as try
+use Rattle.law_commit.specs.Below.fkv_ops.WalkAnswer.{WalkAnswer}
+use Rattle.law_commit.specs.Below.fkv_ops.WalkAnswer.TheVariants as walk
+use Rattle.law_commit.specs.Below.fkv_ops.TheWalking.{Walking}
+use Rattle.law_commit.specs.Below.fkv_ops.TheWalking.TheVariants.{Ended, Finds, HasFound, LoadsValue, Meets}
+use Rattle.law_commit.specs.Below.fkv_ops.HeaderWords.{header_said}
+use Rattle.law_commit.specs.Below.fkv_ops.Requests.{is_read}
+use Rattle.law_commit.specs.Below.fkv_ops.Trying.{TryState, answer_ledto, ends, has_walked, is_prepare, is_above, must_shift, told_value, try_ask, try_next, trying_ask, trying_next, walk_ledto, walked}
+use Rattle.law_commit.specs.Below.fkv_ops.Values.{value_of}
+use Rattle.law_commit.specs.Below.fkv_ops.Walking.{WalkState, find_ledto, first_met, load_ledto, reached, record_met, slot_found, walk_ask, walk_next, walking_ask, walking_next}
 use Rattle.fkv_plane.specs.declared.asks.Ask.{Ask}
 use Rattle.fkv_plane.specs.declared.asks.Ask.TheVariants.{Done}
 use Rattle.fkv_plane.specs.declared.places.Places.{Places}
 use Rattle.fkv_plane.specs.Passing.{is_done, passed}
 use Rattle.fkv_plane.proofs.Shown.{passed_done}
 use Rattle.law_apart.specs.Apart.Rows.{is_lost}
-use Rattle.law_local.specs.Tries.OnWay.{IsOnWay, IsOrderly}
-use Rattle.law_local.specs.Tries.Replies.{EndsAtHead, IsTrueOfLoad, IsTrueOfWalk, IsTrueReply, LeadsToHead}
-use Rattle.law_local.specs.Tries.TryRows.{TryKnows, TryRow}
-use Rattle.law_local.specs.Tries.WalkRows.{IsHeaderOf, LoadKnows, WalkKnows, WalkRow, begin_of}
-use Rattle.law_local.proofs.OfTries.OnWay.{goes_on, in_chain}
-use Rattle.law_local.proofs.OfTries.Tells.{ends_free}
-use Rattle.law_local.proofs.OfTries.WalkRows.{loads_value}
+use Rattle.law_commit.specs.Below.law_local.Tries.OnWay.{IsOnWay, IsOrderly}
+use Rattle.law_commit.specs.Below.law_local.Tries.Replies.{EndsAtHead, IsTrueOfLoad, IsTrueOfWalk, IsTrueReply, LeadsToHead}
+use Rattle.law_commit.specs.Below.law_local.Tries.TryRows.{TryKnows, TryRow}
+use Rattle.law_commit.specs.Below.law_local.Tries.WalkRows.{IsHeaderOf, LoadKnows, WalkKnows, WalkRow, begin_of}
+use Rattle.law_commit.proofs.Below.law_local.OfTries.OnWay.{goes_on, in_chain}
+use Rattle.law_commit.proofs.Below.law_local.OfTries.Tells.{ends_free}
+use Rattle.law_commit.proofs.Below.law_local.OfTries.WalkRows.{loads_value}
 use Rattle.law_log.specs.Chains.{Cell, Logged, Published, head_of}
 use Rattle.law_log.specs.Enabled.{IsLinked, previous_of}
 use Rattle.law_log.specs.Ghosts.{Log}

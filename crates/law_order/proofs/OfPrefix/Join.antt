@@ -7,18 +7,18 @@ use Rattle.fkv_base.specs.declared.numbers.Key.{Key}
 use Rattle.fkv_base.specs.declared.numbers.Value.{Value}
 use Rattle.fkv_map.specs.History.{content, kept}
 use Rattle.fkv_map.specs.Map.{Map}
-use Rattle.fkv_newest.specs.declared.newest_slots.Newest.{Newest}
-use Rattle.fkv_opening.specs.Opened.{IsStoreOf}
-use Rattle.fkv_opening.specs.declared.opened_store.Opened.{Opened}
-use Rattle.fkv_pairs.specs.Pairs.{log_of_store, HasValue}
+use Rattle.law_opening.specs.Below.fkv_newest.TheNewest.{Newest}
+use Rattle.law_opening.specs.Below.fkv_opening.Opened.{IsStoreOf}
+use Rattle.law_opening.specs.Below.fkv_opening.TheOpened.{Opened}
+use Rattle.law_opening.specs.Below.fkv_pairs.Pairs.{log_of_store, HasValue}
 use Rattle.law_log.specs.Ghosts.{Ghosts, shown}
 use Rattle.law_log.specs.Enabled.{IsOpened}
 use Rattle.law_log.specs.Trace.{history_of}
 use Rattle.law_opening.specs.Log.Maps.{opening_map}
 use Rattle.law_opening.specs.Log.OpeningLog.{opening_ghosts, opening_log}
-use Rattle.law_paper.specs.Kept.{KeepsPrefix}
-use Rattle.law_paper.specs.Paper.Named.{IsOfCommit}
-use Rattle.law_refine.specs.Events.GhostEvents.{home_in}
+use Rattle.law_commit.specs.Below.law_paper.Kept.{KeepsPrefix}
+use Rattle.law_commit.specs.Below.law_paper.Paper.Named.{IsOfCommit}
+use Rattle.law_commit.specs.Below.law_refine.Events.GhostEvents.{home_in}
 
 same_values : (a b : Option ℕ) → ((v : ℕ) → (a ≡ Some v) ↔ (b ≡ Some v)) → a ≡ b
 same_values None None same = refl

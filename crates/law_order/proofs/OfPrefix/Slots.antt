@@ -9,16 +9,16 @@ use Rattle.fkv_index.specs.OneEntry.{IsHome, IsIndex, ListedAt, Nobody, Owner, S
 use Rattle.fkv_index.specs.Slots.{bucket_slots, entry_addr, entry_tag, home_of}
 use Rattle.fkv_index.proofs.Shown.{homes_are_there, listed_taken}
 use Rattle.fkv_plane.specs.declared.places.Places.{Places}
-use Rattle.fkv_world.specs.World.{Now}
+use Rattle.law_commit.specs.Below.fkv_world.World.{Now}
 use Rattle.law_opening.specs.Changes.Linked.{ChainsFall, IsFalling}
 use Rattle.law_log.specs.Chains.{head_of}
 use Rattle.law_log.specs.Ghosts.{Log}
 use Rattle.law_log.specs.Trace.{IsIn}
-use Rattle.fkv_scan.specs.Log as scan
-use Rattle.law_paper.specs.Paper.Slots.{HasSlots, IsSlotOf, Slot}
-use Rattle.law_refine.specs.Events.GhostEvents.{home_in, home_number}
-use Rattle.law_refine.specs.Heads.Heads.{LeadToHeads, head_at}
-use Rattle.law_refine.proofs.OfHeads.Entries.{head_addr}
+use Rattle.law_opening.specs.Below.fkv_scan.Log as scan
+use Rattle.law_commit.specs.Below.law_paper.Paper.Slots.{HasSlots, IsSlotOf, Slot}
+use Rattle.law_commit.specs.Below.law_refine.Events.GhostEvents.{home_in, home_number}
+use Rattle.law_commit.specs.Below.law_refine.Heads.Heads.{LeadToHeads, head_at}
+use Rattle.law_commit.proofs.Below.law_refine.OfHeads.Entries.{head_addr}
 
 -- ---- in seven slots
 -- where the first entry of the tag stands

@@ -11,25 +11,25 @@ use Rattle.fkv_map.specs.Map.{reply_to_read}
 use Rattle.law_log.specs.Ghosts.{Ghosts, Tells, Reading, ghosts_after, ghost_run}
 use Rattle.law_log.specs.Trace.{TraceLine, GivesResult, CallsRead, AnswersRead}
 use Rattle.law_log.proofs.Shown.{set_else}
-use Rattle.fkv_pending.specs.declared.pending_requests.PendingRequest.{PendingRequest}
-use Rattle.fkv_pending.specs.Attempting.{AttemptState, is_poll}
-use Rattle.fkv_session.specs.declared.answers.Finished.{Finished}
-use Rattle.fkv_session.specs.declared.answers.Finished.TheVariants as finished
-use Rattle.fkv_session.specs.declared.answers.Told.{Told}
-use Rattle.fkv_session.specs.declared.answers.Told.TheVariants as told
-use Rattle.fkv_session.specs.declared.sessions.CatchCause.{CatchCause}
-use Rattle.fkv_session.specs.declared.sessions.CatchCause.TheVariants.{Shifts}
-use Rattle.fkv_session.specs.declared.sessions.Sitting.{Sitting}
-use Rattle.fkv_session.specs.declared.sessions.Sitting.TheVariants.{Idle, Attempts, CatchesUp, ClearsMail, Polls, StoresOwing, Turns}
-use Rattle.fkv_session.specs.SessionRun.{telling, with_finished}
-use Rattle.fkv_session.specs.Sessions.{SessionState, is_busy}
-use Rattle.law_local.specs.Tries.ReadRows.{IsCalledFor, HasRead, SoughtReads, AttemptReads}
-use Rattle.law_local.specs.Tries.TryRows.{key_in}
-use Rattle.law_world.specs.Runs.Added.{call_answered, told_at}
-use Rattle.fkv_world.specs.Past.{Traced, Answered}
+use Rattle.law_commit.specs.Below.fkv_pending.PendingRequest.{PendingRequest}
+use Rattle.law_commit.specs.Below.fkv_pending.Attempting.{AttemptState, is_poll}
+use Rattle.law_commit.specs.Below.fkv_session.Finished.{Finished}
+use Rattle.law_commit.specs.Below.fkv_session.Finished.TheVariants as finished
+use Rattle.law_commit.specs.Below.fkv_session.Told.{Told}
+use Rattle.law_commit.specs.Below.fkv_session.Told.TheVariants as told
+use Rattle.law_commit.specs.Below.fkv_session.CatchCause.{CatchCause}
+use Rattle.law_commit.specs.Below.fkv_session.CatchCause.TheVariants.{Shifts}
+use Rattle.law_commit.specs.Below.fkv_session.Sitting.{Sitting}
+use Rattle.law_commit.specs.Below.fkv_session.Sitting.TheVariants.{Idle, Attempts, CatchesUp, ClearsMail, Polls, StoresOwing, Turns}
+use Rattle.law_commit.specs.Below.fkv_session.SessionRun.{telling, with_finished}
+use Rattle.law_commit.specs.Below.fkv_session.Sessions.{SessionState, is_busy}
+use Rattle.law_commit.specs.Below.law_local.Tries.ReadRows.{IsCalledFor, HasRead, SoughtReads, AttemptReads}
+use Rattle.law_commit.specs.Below.law_local.Tries.TryRows.{key_in}
+use Rattle.law_commit.specs.Below.law_world.Runs.Added.{call_answered, told_at}
+use Rattle.law_commit.specs.Below.fkv_world.Past.{Traced, Answered}
 use Rattle.law_order.specs.Known.Answered.{EachAnswered}
-use Rattle.law_refine.specs.Events.Lines.{CallMade, read_in_hand, read_waiting, is_ticket, gives_ticket, read_reply, next_serial, last_call, refused_call, refused_lines, finished_line, finished_lines, answer_lines}
-use Rattle.law_refine.specs.Events.Sessions.{ticket_of}
+use Rattle.law_commit.specs.Below.law_refine.Events.Lines.{CallMade, read_in_hand, read_waiting, is_ticket, gives_ticket, read_reply, next_serial, last_call, refused_call, refused_lines, finished_line, finished_lines, answer_lines}
+use Rattle.law_commit.specs.Below.law_refine.Events.Sessions.{ticket_of}
 use Rattle.law_order.specs.Reads.Reads.{SessionReadings, is_given, readings_of, WaitsSo, AllWait, TriedAs, AllFinished, CatchReads, TurnReads, SitsReads}
 use Rattle.law_order.proofs.OfReads.Coming.{with_told, TellsReads, ComesTo}
 use Rattle.law_order.proofs.OfReads.Numbers.{with_answered, answered_gives}

@@ -19,49 +19,49 @@ use Rattle.fkv_latch.specs.declared.latching.LatchAnswer.{LatchAnswer}
 use Rattle.fkv_latch.specs.declared.latching.LatchAnswer.TheVariants.{Taken as LatchTaken}
 use Rattle.fkv_latch.specs.Latching.{latch_next_ask}
 use Rattle.law_log.specs.Ghosts.{Reading}
-use Rattle.fkv_ops.specs.declared.answers.DiskRecord.{DiskRecord}
-use Rattle.fkv_ops.specs.declared.answers.Reason.{Reason}
-use Rattle.fkv_ops.specs.declared.answers.Reason.TheVariants as reason
-use Rattle.fkv_ops.specs.declared.answers.TryAnswer.{TryAnswer}
-use Rattle.fkv_ops.specs.declared.answers.TryAnswer.TheVariants as tried
-use Rattle.fkv_ops.specs.declared.requests.Occasion.{Occasion}
-use Rattle.fkv_ops.specs.declared.requests.Occasion.TheVariants.{Call as AtCall, Poll as AtPoll}
-use Rattle.fkv_ops.specs.declared.requests.Seen.{Seen}
-use Rattle.fkv_ops.specs.Requests.{is_read}
-use Rattle.fkv_pending.specs.declared.mailing.MailAnswer.{MailAnswer}
-use Rattle.fkv_pending.specs.declared.mailing.MailAnswer.TheVariants.{Cleared}
-use Rattle.fkv_pending.specs.declared.mailing.MailTask.TheVariants.{Clear}
-use Rattle.fkv_pending.specs.declared.mailing.Mailing.TheVariants.{LoadsState}
-use Rattle.fkv_pending.specs.declared.pending_requests.PendingRequest.{PendingRequest}
-use Rattle.fkv_pending.specs.declared.pending_requests.RequestName.{RequestName}
-use Rattle.fkv_pending.specs.declared.pending_requests.RequestName.TheVariants.{Update, Read}
-use Rattle.fkv_pending.specs.declared.pending_requests.Ticket.{Ticket}
-use Rattle.fkv_pending.specs.Pending.{with_latch}
-use Rattle.fkv_pending.specs.Mailing.{mail_ask, mail_next}
-use Rattle.fkv_pending.specs.Attempting.{AttemptState, is_poll, attempt_begun}
-use Rattle.fkv_session.specs.Accounts.{names_of}
-use Rattle.fkv_session.specs.declared.answers.Finished.{Finished}
-use Rattle.fkv_session.specs.declared.answers.Told.{Told}
-use Rattle.fkv_session.specs.declared.answers.Told.TheVariants as told
-use Rattle.fkv_session.specs.declared.catching_up.Catching.{Catching}
-use Rattle.fkv_session.specs.declared.catching_up.Catching.TheVariants.{Latches}
-use Rattle.fkv_session.specs.declared.sessions.CatchCause.{CatchCause}
-use Rattle.fkv_session.specs.declared.sessions.CatchCause.TheVariants.{Refreshes, Wakes, Shifts}
-use Rattle.fkv_session.specs.declared.sessions.Sitting.{Sitting}
-use Rattle.fkv_session.specs.declared.sessions.Sitting.TheVariants.{Idle, Attempts, CatchesUp, ClearsMail, Polls, StoresOwing, Turns, StoresCut, Leaves, LoadsDurable}
-use Rattle.fkv_session.specs.CatchingUp.{CatchState, refresh_begun, wake_begun, catch_ask, latched, latch_marked, catching_requests}
-use Rattle.fkv_session.specs.OwnTurns.{own_turn_ask, own_turn_begun, own_turn_given}
-use Rattle.fkv_session.specs.Sessions.{SessionState, Seat, bits_of, session_ask, answers, answers_after_turn, refuses, request_in_hand, attempts, polls_request, polls_at, update_done, is_no_room, with_request, serial_taken, ticket_after, name_of, accepts, shifts, attempted, attempt_left, attempt_ledto, caught_up, catch_ledto, clear_ledto, finished_of, is_finished, is_owed, request_finished, finishes_request, lacks_room, keeps_request, poll_ledto, turn_ledto, leave_ledto, attempt_moved, caught, own_turn_moved, sitting_next, session_next, sitting_given, session_given, is_word_ask, asks_after, refusal_of, op_begun, refresh_call, poll_begun, poll_call, sleep_call, wake_call, call_begun, session_begun}
-use Rattle.fkv_session.proofs.Shown.{IsUpdateEnd}
-use Rattle.law_local.specs.Sessions.Known.{attempt_after, attempt_comes_to}
-use Rattle.law_local.proofs.OfSessions.Lists.{all_behind, all_left, all_set, but_one}
-use Rattle.law_local.proofs.OfSessions.AttemptInputs.{begun_goes, begun_pending}
-use Rattle.law_local.specs.Tries.ReadRows.{IsCalledFor, HasRead, SoughtReads, AnsweredReads}
-use Rattle.law_local.specs.Tries.TryRows.{key_in}
-use Rattle.law_local.proofs.OfTries.ReadAttempts.{reads_begin}
+use Rattle.law_commit.specs.Below.fkv_ops.DiskRecord.{DiskRecord}
+use Rattle.law_commit.specs.Below.fkv_ops.Reason.{Reason}
+use Rattle.law_commit.specs.Below.fkv_ops.Reason.TheVariants as reason
+use Rattle.law_commit.specs.Below.fkv_ops.TryAnswer.{TryAnswer}
+use Rattle.law_commit.specs.Below.fkv_ops.TryAnswer.TheVariants as tried
+use Rattle.law_commit.specs.Below.fkv_ops.Occasion.{Occasion}
+use Rattle.law_commit.specs.Below.fkv_ops.Occasion.TheVariants.{Call as AtCall, Poll as AtPoll}
+use Rattle.law_commit.specs.Below.fkv_ops.Seen.{Seen}
+use Rattle.law_commit.specs.Below.fkv_ops.Requests.{is_read}
+use Rattle.law_commit.specs.Below.fkv_pending.MailAnswer.{MailAnswer}
+use Rattle.law_commit.specs.Below.fkv_pending.MailAnswer.TheVariants.{Cleared}
+use Rattle.law_commit.specs.Below.fkv_pending.MailTask.TheVariants.{Clear}
+use Rattle.law_commit.specs.Below.fkv_pending.TheMailing.TheVariants.{LoadsState}
+use Rattle.law_commit.specs.Below.fkv_pending.PendingRequest.{PendingRequest}
+use Rattle.law_commit.specs.Below.fkv_pending.RequestName.{RequestName}
+use Rattle.law_commit.specs.Below.fkv_pending.RequestName.TheVariants.{Update, Read}
+use Rattle.law_commit.specs.Below.fkv_pending.Ticket.{Ticket}
+use Rattle.law_commit.specs.Below.fkv_pending.Pending.{with_latch}
+use Rattle.law_commit.specs.Below.fkv_pending.Mailing.{mail_ask, mail_next}
+use Rattle.law_commit.specs.Below.fkv_pending.Attempting.{AttemptState, is_poll, attempt_begun}
+use Rattle.law_commit.specs.Below.fkv_session.Accounts.{names_of}
+use Rattle.law_commit.specs.Below.fkv_session.Finished.{Finished}
+use Rattle.law_commit.specs.Below.fkv_session.Told.{Told}
+use Rattle.law_commit.specs.Below.fkv_session.Told.TheVariants as told
+use Rattle.law_commit.specs.Below.fkv_session.Catching.{Catching}
+use Rattle.law_commit.specs.Below.fkv_session.Catching.TheVariants.{Latches}
+use Rattle.law_commit.specs.Below.fkv_session.CatchCause.{CatchCause}
+use Rattle.law_commit.specs.Below.fkv_session.CatchCause.TheVariants.{Refreshes, Wakes, Shifts}
+use Rattle.law_commit.specs.Below.fkv_session.Sitting.{Sitting}
+use Rattle.law_commit.specs.Below.fkv_session.Sitting.TheVariants.{Idle, Attempts, CatchesUp, ClearsMail, Polls, StoresOwing, Turns, StoresCut, Leaves, LoadsDurable}
+use Rattle.law_commit.specs.Below.fkv_session.CatchingUp.{CatchState, refresh_begun, wake_begun, catch_ask, latched, latch_marked, catching_requests}
+use Rattle.law_commit.specs.Below.fkv_session.OwnTurns.{own_turn_ask, own_turn_begun, own_turn_given}
+use Rattle.law_commit.specs.Below.fkv_session.Sessions.{SessionState, Seat, bits_of, session_ask, answers, answers_after_turn, refuses, request_in_hand, attempts, polls_request, polls_at, update_done, is_no_room, with_request, serial_taken, ticket_after, name_of, accepts, shifts, attempted, attempt_left, attempt_ledto, caught_up, catch_ledto, clear_ledto, finished_of, is_finished, is_owed, request_finished, finishes_request, lacks_room, keeps_request, poll_ledto, turn_ledto, leave_ledto, attempt_moved, caught, own_turn_moved, sitting_next, session_next, sitting_given, session_given, is_word_ask, asks_after, refusal_of, op_begun, refresh_call, poll_begun, poll_call, sleep_call, wake_call, call_begun, session_begun}
+use Rattle.law_commit.proofs.Below.fkv_session.Shown.{IsUpdateEnd}
+use Rattle.law_commit.specs.Below.law_local.Sessions.Known.{attempt_after, attempt_comes_to}
+use Rattle.law_commit.proofs.Below.law_local.OfSessions.Lists.{all_behind, all_left, all_set, but_one}
+use Rattle.law_commit.proofs.Below.law_local.OfSessions.AttemptInputs.{begun_goes, begun_pending}
+use Rattle.law_commit.specs.Below.law_local.Tries.ReadRows.{IsCalledFor, HasRead, SoughtReads, AnsweredReads}
+use Rattle.law_commit.specs.Below.law_local.Tries.TryRows.{key_in}
+use Rattle.law_commit.proofs.Below.law_local.OfTries.ReadAttempts.{reads_begin}
 use Rattle.law_order.specs.Known.Told.{AreApart}
-use Rattle.law_refine.specs.Events.Names.{is_read_name, IsNamedSo}
-use Rattle.law_refine.specs.Events.Sessions.{ticket_of}
+use Rattle.law_commit.specs.Below.law_refine.Events.Names.{is_read_name, IsNamedSo}
+use Rattle.law_commit.specs.Below.law_refine.Events.Sessions.{ticket_of}
 use Rattle.law_order.specs.Reads.Reads.{SessionReadings, WaitsSo, AllWait, AllWaitBut, reading_tried, TriedAs, TriedSo, FinishedSo, AllFinished, CatchReads, TurnReads, SitsReads}
 
 -- ---- where a call has come to its end

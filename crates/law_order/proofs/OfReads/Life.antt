@@ -9,21 +9,21 @@ use Rattle.fkv_map.specs.declared.operations.Op.TheVariants as op
 use Rattle.law_log.specs.Ghosts.{Ghosts, GhostEvent, Tells, Fixes, Reading, ghosts_after, ghost_run}
 use Rattle.law_log.specs.Trace.{TraceLine}
 use Rattle.law_log.proofs.Shown.{run_on, set_there}
-use Rattle.fkv_session.specs.declared.answers.Finished.{Finished}
-use Rattle.fkv_session.specs.declared.sessions.Sitting.{Sitting}
-use Rattle.fkv_session.specs.declared.sessions.Sitting.TheVariants.{Idle}
-use Rattle.fkv_session.specs.Sessions.{SessionState, Seat, is_busy, session_ask, session_begun}
-use Rattle.law_world.specs.Runs.Added.{call_answered, told_at, told_by}
-use Rattle.fkv_world.specs.Past.{Traced, TraceEvent, Called, Answered}
-use Rattle.fkv_world.specs.Runs.{World, happens, run}
-use Rattle.fkv_world.specs.World.{Event, seat_at, near}
-use Rattle.law_world.proofs.OfRuns.Added.{trace_so}
-use Rattle.law_refine.specs.Calls.Calls.{event_adds}
+use Rattle.law_commit.specs.Below.fkv_session.Finished.{Finished}
+use Rattle.law_commit.specs.Below.fkv_session.Sitting.{Sitting}
+use Rattle.law_commit.specs.Below.fkv_session.Sitting.TheVariants.{Idle}
+use Rattle.law_commit.specs.Below.fkv_session.Sessions.{SessionState, Seat, is_busy, session_ask, session_begun}
+use Rattle.law_commit.specs.Below.law_world.Runs.Added.{call_answered, told_at, told_by}
+use Rattle.law_commit.specs.Below.fkv_world.Past.{Traced, TraceEvent, Called, Answered}
+use Rattle.law_commit.specs.Below.fkv_world.Runs.{World, happens, run}
+use Rattle.law_commit.specs.Below.fkv_world.World.{Event, seat_at, near}
+use Rattle.law_commit.proofs.Below.law_world.OfRuns.Added.{trace_so}
+use Rattle.law_commit.specs.Below.law_refine.Calls.Calls.{event_adds}
 use Rattle.law_order.specs.Known.Answered.{EachAnswered}
 use Rattle.law_order.specs.Known.Begins.{home_of_world}
-use Rattle.law_refine.specs.Events.GhostEvents.{fixed_ghosts, life_ghosts, mapped, own_ghosts, safe_at, serials_in, ghost_events}
-use Rattle.law_refine.specs.Events.Lines.{read_in_hand, read_waiting, call_lines, event_lines, lines_added}
-use Rattle.law_refine.specs.Events.Sessions.{step_ghosts}
+use Rattle.law_commit.specs.Below.law_refine.Events.GhostEvents.{fixed_ghosts, life_ghosts, mapped, own_ghosts, safe_at, serials_in, ghost_events}
+use Rattle.law_commit.specs.Below.law_refine.Events.Lines.{read_in_hand, read_waiting, call_lines, event_lines, lines_added}
+use Rattle.law_commit.specs.Below.law_refine.Events.Sessions.{step_ghosts}
 use Rattle.law_order.specs.Reads.Reads.{SessionReadings, readings_of, AllWait, SitsReads, SessionReads, ReadsKnown}
 use Rattle.law_order.proofs.OfReads.Answers.{AreSame, same_wait, same_sits, tell, AllCallOther, told_reads, both_other, end_lines, end_calls, end_each, end_sits}
 use Rattle.law_order.proofs.OfReads.Coming.{IsInHandAs, Comes, IsFreshly, begun_comes}
@@ -31,9 +31,9 @@ use Rattle.law_order.proofs.OfReads.LifeNumbers.{others_given, others_waiting, o
 use Rattle.law_order.proofs.OfReads.Numbers.{IsOwn, own_below, own_same, Numbered, with_called, called_hand}
 use Rattle.law_order.proofs.OfReads.Steps.{StepFacts, steps_by, steps_touch}
 use Rattle.law_order.proofs.OfReads.Touched.{untouched}
-use Rattle.law_refine.proofs.OfCalls.Telling.{is_of_keeper, AreOfKeeper}
+use Rattle.law_commit.proofs.Below.law_refine.OfCalls.Telling.{is_of_keeper, AreOfKeeper}
 use Rattle.law_order.proofs.OfReads.Turns.{Begins, Goes, moved_to}
-use Rattle.law_refine.proofs.OfCalls.Life.{AreOthers, keepers_other}
+use Rattle.law_commit.proofs.Below.law_refine.OfCalls.Life.{AreOthers, keepers_other}
 
 -- ---- the log behind an event
 -- what the event does, before it tells anything

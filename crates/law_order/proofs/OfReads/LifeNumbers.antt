@@ -4,24 +4,24 @@ use Rattle.std.specs.Prelude.{◌==◌, slice_get, Some}
 use Rattle.std.proofs.lemmas.Bool.Decides.{nat_tests}
 use Rattle.fkv_epoch.proofs.Shown.{some_same}
 use Rattle.fkv_map.specs.declared.operations.Call.{Call}
-use Rattle.fkv_session.specs.declared.answers.Finished.{Finished}
-use Rattle.fkv_session.specs.declared.sessions.Sitting.{Sitting}
-use Rattle.fkv_session.specs.declared.sessions.Sitting.TheVariants.{Idle}
-use Rattle.fkv_session.specs.SessionRun.{telling}
-use Rattle.fkv_session.specs.Sessions.{SessionState, is_busy, session_begun}
-use Rattle.law_world.specs.Runs.Added.{call_answered, told_at, told_by}
-use Rattle.fkv_world.specs.Opened.{IsOpenedWorld}
-use Rattle.fkv_world.specs.Past.{Traced, TraceEvent, Called}
-use Rattle.fkv_world.specs.Runs.{World, happens, run}
-use Rattle.fkv_world.specs.World.{Event, seat_at}
-use Rattle.fkv_world.proofs.Shown.{is_over}
-use Rattle.law_world.proofs.OfRuns.Added.{trace_so}
-use Rattle.law_refine.specs.Events.Lines.{read_in_hand, read_waiting}
+use Rattle.law_commit.specs.Below.fkv_session.Finished.{Finished}
+use Rattle.law_commit.specs.Below.fkv_session.Sitting.{Sitting}
+use Rattle.law_commit.specs.Below.fkv_session.Sitting.TheVariants.{Idle}
+use Rattle.law_commit.specs.Below.fkv_session.SessionRun.{telling}
+use Rattle.law_commit.specs.Below.fkv_session.Sessions.{SessionState, is_busy, session_begun}
+use Rattle.law_commit.specs.Below.law_world.Runs.Added.{call_answered, told_at, told_by}
+use Rattle.law_commit.specs.Below.fkv_world.Opened.{IsOpenedWorld}
+use Rattle.law_commit.specs.Below.fkv_world.Past.{Traced, TraceEvent, Called}
+use Rattle.law_commit.specs.Below.fkv_world.Runs.{World, happens, run}
+use Rattle.law_commit.specs.Below.fkv_world.World.{Event, seat_at}
+use Rattle.law_commit.proofs.Below.fkv_world.Shown.{is_over}
+use Rattle.law_commit.proofs.Below.law_world.OfRuns.Added.{trace_so}
+use Rattle.law_commit.specs.Below.law_refine.Events.Lines.{read_in_hand, read_waiting}
 use Rattle.law_order.specs.Reads.Reads.{is_given}
 use Rattle.law_order.proofs.OfReads.Numbers.{Numbered, none_numbered, other_given, other_waiting, other_hand, other_numbered, with_called, called_numbered, answered_numbered}
-use Rattle.law_refine.proofs.OfCalls.Telling.{AreOfKeeper}
+use Rattle.law_commit.proofs.Below.law_refine.OfCalls.Telling.{AreOfKeeper}
 use Rattle.law_order.proofs.OfReads.Turns.{Begins, Goes, Turn, Rests, BeginsOne, GoesOne, moved_to, turn_of}
-use Rattle.law_refine.proofs.OfCalls.Life.{AreOthers, both_others, end_other, keepers_other}
+use Rattle.law_commit.proofs.Below.law_refine.OfCalls.Life.{AreOthers, both_others, end_other, keepers_other}
 
 -- ---- what others tell
 pub others_given : (number ticket effects : ℕ) (told : List TraceEvent) (trace : List Traced) → AreOthers number told → is_given number ticket (told_at effects told ++ trace) ≡ is_given number ticket trace

@@ -4,31 +4,31 @@ use Rattle.std.specs.Prelude.{◌==◌, slice_get, Some}
 use Rattle.law_log.specs.Ghosts.{Ghosts}
 use Rattle.law_log.specs.Enabled.{AreEnabled}
 use Rattle.law_log.proofs.Shown.{run_held}
-use Rattle.fkv_session.specs.declared.sessions.Sitting.{Sitting}
-use Rattle.fkv_session.specs.declared.sessions.Sitting.TheVariants.{Idle, Attempts, Polls}
-use Rattle.fkv_session.specs.Replies.{effects_told, op_called, serials_taken}
-use Rattle.fkv_session.specs.SessionRun.{SessionEvent, session_run, all_told}
-use Rattle.fkv_session.specs.Sessions.{SessionState, Seat, IsOpened, is_busy}
-use Rattle.fkv_session.proofs.Shown.{IsTold, IsUnderWay, run_told}
-use Rattle.law_local.specs.Sessions.Inputs.{AttemptsSo}
-use Rattle.law_local.specs.Sessions.Known.{is_attempting}
-use Rattle.law_local.proofs.OfSessions.SessionInputs.{run_so}
-use Rattle.law_local.proofs.OfTries.OnWay.{orderly}
+use Rattle.law_commit.specs.Below.fkv_session.Sitting.{Sitting}
+use Rattle.law_commit.specs.Below.fkv_session.Sitting.TheVariants.{Idle, Attempts, Polls}
+use Rattle.law_commit.specs.Below.fkv_session.Replies.{effects_told, op_called, serials_taken}
+use Rattle.law_commit.specs.Below.fkv_session.SessionRun.{SessionEvent, session_run, all_told}
+use Rattle.law_commit.specs.Below.fkv_session.Sessions.{SessionState, Seat, IsOpened, is_busy}
+use Rattle.law_commit.proofs.Below.fkv_session.Shown.{IsTold, IsUnderWay, run_told}
+use Rattle.law_commit.specs.Below.law_local.Sessions.Inputs.{AttemptsSo}
+use Rattle.law_commit.specs.Below.law_local.Sessions.Known.{is_attempting}
+use Rattle.law_commit.proofs.Below.law_local.OfSessions.SessionInputs.{run_so}
+use Rattle.law_commit.proofs.Below.law_local.OfTries.OnWay.{orderly}
 use Rattle.fkv_epoch.proofs.Shown.{some_same}
-use Rattle.law_world.specs.Runs.Added.{told_at, told_by}
-use Rattle.fkv_world.specs.OwnEvents.{session_events}
-use Rattle.fkv_world.specs.Past.{TraceEvent}
-use Rattle.fkv_world.specs.Runs.{World, happens, run}
-use Rattle.fkv_world.specs.World.{Event, seat_at}
-use Rattle.fkv_world.proofs.Shown.{is_over, same_seat, session_runs}
-use Rattle.law_refine.specs.Calls.Calls.{event_adds}
+use Rattle.law_commit.specs.Below.law_world.Runs.Added.{told_at, told_by}
+use Rattle.law_commit.specs.Below.fkv_world.OwnEvents.{session_events}
+use Rattle.law_commit.specs.Below.fkv_world.Past.{TraceEvent}
+use Rattle.law_commit.specs.Below.fkv_world.Runs.{World, happens, run}
+use Rattle.law_commit.specs.Below.fkv_world.World.{Event, seat_at}
+use Rattle.law_commit.proofs.Below.fkv_world.Shown.{is_over, same_seat, session_runs}
+use Rattle.law_commit.specs.Below.law_refine.Calls.Calls.{event_adds}
 use Rattle.law_order.specs.Known.Answered.{EachAnswered, acted_ghosts}
 use Rattle.law_order.specs.Known.Begins.{BegunLife, home_of_world}
 use Rattle.law_order.specs.Known.Knows.{AreKnown}
 use Rattle.law_order.specs.Known.Told.{AreToldTruly, NamesAreApart, TicketsAreApart}
-use Rattle.law_refine.specs.Events.GhostEvents.{life_ghosts, mapped, moved_ghosts, own_ghosts, serials_in}
-use Rattle.law_refine.specs.Events.Lines.{lines_added}
-use Rattle.law_refine.proofs.OfEvents.RequestNames.{life_named}
+use Rattle.law_commit.specs.Below.law_refine.Events.GhostEvents.{life_ghosts, mapped, moved_ghosts, own_ghosts, serials_in}
+use Rattle.law_commit.specs.Below.law_refine.Events.Lines.{lines_added}
+use Rattle.law_commit.proofs.Below.law_refine.OfEvents.RequestNames.{life_named}
 use Rattle.law_order.specs.Reads.Reads.{readings_of, SitsReads, SessionReads, ReadsKnown, AreReadsKnown}
 use Rattle.law_order.proofs.OfKnown.Newest.{known_now}
 use Rattle.law_order.proofs.OfReads.Coming.{IsFreshly}

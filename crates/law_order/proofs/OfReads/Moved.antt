@@ -8,37 +8,37 @@ use Rattle.fkv_map.specs.Keys.{key_of, as_number}
 use Rattle.law_log.specs.Ghosts.{Ghosts, GhostEvent, Reading, ghost_run}
 use Rattle.fkv_plane.specs.declared.asks.Ask.TheVariants.{Done}
 use Rattle.fkv_plane.specs.Passing.{is_done}
-use Rattle.fkv_ops.specs.declared.answers.DiskRecord.{DiskRecord}
-use Rattle.fkv_ops.specs.declared.answers.TryAnswer.{TryAnswer}
-use Rattle.fkv_ops.specs.declared.answers.TryAnswer.TheVariants as tried
-use Rattle.fkv_ops.specs.declared.requests.Occasion.{Occasion}
-use Rattle.fkv_ops.specs.declared.requests.Occasion.TheVariants.{Call as AtCall, Poll as AtPoll}
-use Rattle.fkv_ops.specs.Requests.{is_read}
-use Rattle.fkv_pending.specs.declared.attempting.Attempting.TheVariants.{Ended}
-use Rattle.fkv_pending.specs.declared.pending_requests.PendingRequest.{PendingRequest}
-use Rattle.fkv_pending.specs.declared.pending_requests.RequestName.{RequestName}
-use Rattle.fkv_pending.specs.declared.pending_requests.RequestName.TheVariants.{Update, Read}
-use Rattle.fkv_pending.specs.Attempting.{AttemptState, is_poll, attempt_ask, attempt_next}
-use Rattle.fkv_pending.proofs.Shown.{attempt_rests}
-use Rattle.fkv_session.specs.declared.answers.Finished.{Finished}
-use Rattle.fkv_session.specs.declared.answers.Finished.TheVariants as finished
-use Rattle.fkv_session.specs.declared.sessions.Sitting.TheVariants.{Attempts, Polls}
-use Rattle.fkv_session.specs.Accounts.{names_of}
-use Rattle.fkv_session.specs.Sessions.{SessionState, Seat, bits_of, room_of, finished_of, is_finished, attempt_moved}
-use Rattle.fkv_session.proofs.Shown.{IsSameRequest, IsUnderWay, IsUpdateEnd, KnowsUpdate, attempt_ends, attempt_keeps, attempt_so}
-use Rattle.law_local.specs.Sessions.Inputs.{IsAttemptAtCall, IsAttemptInPoll}
-use Rattle.law_local.specs.Sessions.Known.{attempt_after, attempt_comes_to}
-use Rattle.law_local.proofs.OfSessions.AttemptInputs.{attempt_goes}
-use Rattle.law_local.specs.Tries.AttemptRows.{AttemptKnows, IsTrueOfAttempt}
-use Rattle.law_local.specs.Tries.OnWay.{IsOrderly}
-use Rattle.law_local.specs.Tries.ReadRows.{SoughtReads, AnsweredReads, AttemptReads}
-use Rattle.law_local.specs.Tries.TryRows.{key_in}
-use Rattle.law_local.proofs.OfTries.ReadAttempts.{attempt_reads}
-use Rattle.fkv_world.specs.Past.{Traced}
+use Rattle.law_commit.specs.Below.fkv_ops.DiskRecord.{DiskRecord}
+use Rattle.law_commit.specs.Below.fkv_ops.TryAnswer.{TryAnswer}
+use Rattle.law_commit.specs.Below.fkv_ops.TryAnswer.TheVariants as tried
+use Rattle.law_commit.specs.Below.fkv_ops.Occasion.{Occasion}
+use Rattle.law_commit.specs.Below.fkv_ops.Occasion.TheVariants.{Call as AtCall, Poll as AtPoll}
+use Rattle.law_commit.specs.Below.fkv_ops.Requests.{is_read}
+use Rattle.law_commit.specs.Below.fkv_pending.TheAttempting.TheVariants.{Ended}
+use Rattle.law_commit.specs.Below.fkv_pending.PendingRequest.{PendingRequest}
+use Rattle.law_commit.specs.Below.fkv_pending.RequestName.{RequestName}
+use Rattle.law_commit.specs.Below.fkv_pending.RequestName.TheVariants.{Update, Read}
+use Rattle.law_commit.specs.Below.fkv_pending.Attempting.{AttemptState, is_poll, attempt_ask, attempt_next}
+use Rattle.law_commit.proofs.Below.fkv_pending.Shown.{attempt_rests}
+use Rattle.law_commit.specs.Below.fkv_session.Finished.{Finished}
+use Rattle.law_commit.specs.Below.fkv_session.Finished.TheVariants as finished
+use Rattle.law_commit.specs.Below.fkv_session.Sitting.TheVariants.{Attempts, Polls}
+use Rattle.law_commit.specs.Below.fkv_session.Accounts.{names_of}
+use Rattle.law_commit.specs.Below.fkv_session.Sessions.{SessionState, Seat, bits_of, room_of, finished_of, is_finished, attempt_moved}
+use Rattle.law_commit.proofs.Below.fkv_session.Shown.{IsSameRequest, IsUnderWay, IsUpdateEnd, KnowsUpdate, attempt_ends, attempt_keeps, attempt_so}
+use Rattle.law_commit.specs.Below.law_local.Sessions.Inputs.{IsAttemptAtCall, IsAttemptInPoll}
+use Rattle.law_commit.specs.Below.law_local.Sessions.Known.{attempt_after, attempt_comes_to}
+use Rattle.law_commit.proofs.Below.law_local.OfSessions.AttemptInputs.{attempt_goes}
+use Rattle.law_commit.specs.Below.law_local.Tries.AttemptRows.{AttemptKnows, IsTrueOfAttempt}
+use Rattle.law_commit.specs.Below.law_local.Tries.OnWay.{IsOrderly}
+use Rattle.law_commit.specs.Below.law_local.Tries.ReadRows.{SoughtReads, AnsweredReads, AttemptReads}
+use Rattle.law_commit.specs.Below.law_local.Tries.TryRows.{key_in}
+use Rattle.law_commit.proofs.Below.law_local.OfTries.ReadAttempts.{attempt_reads}
+use Rattle.law_commit.specs.Below.fkv_world.Past.{Traced}
 use Rattle.law_order.specs.Known.Told.{AreApart}
-use Rattle.law_refine.specs.Events.Lines.{read_in_hand, read_waiting}
-use Rattle.law_refine.specs.Events.Names.{is_read_name, IsNamedSo}
-use Rattle.law_refine.specs.Events.Sessions.{attempt_ghosts, ticket_of}
+use Rattle.law_commit.specs.Below.law_refine.Events.Lines.{read_in_hand, read_waiting}
+use Rattle.law_commit.specs.Below.law_refine.Events.Names.{is_read_name, IsNamedSo}
+use Rattle.law_commit.specs.Below.law_refine.Events.Sessions.{attempt_ghosts, ticket_of}
 use Rattle.law_order.specs.Reads.Reads.{SessionReadings, is_given, readings_of, WaitsSo, TriedAs, TriedSo, FinishedSo, AllFinished, SitsReads}
 use Rattle.law_order.proofs.OfReads.Coming.{AllNamed, IsReadEnd, EndsAtCall, EndsInPoll, MovedSo}
 use Rattle.law_order.proofs.OfReads.Numbers.{Numbered}

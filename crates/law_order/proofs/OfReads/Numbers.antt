@@ -3,13 +3,13 @@ use Rattle.std.proofs.Common.{◌≡◌, ℕ, ◌<◌, ◌∙◌, List, [], ◌�
 use Rattle.std.specs.Prelude.{Option, if◌then◌else◌, ◌==◌, ◌⊎◌}
 use Rattle.std.proofs.lemmas.Bool.Decides.{nat_tests}
 use Rattle.fkv_map.specs.declared.operations.Call.{Call}
-use Rattle.fkv_session.specs.declared.answers.Told.{Told}
-use Rattle.fkv_session.specs.declared.answers.Told.TheVariants as told
-use Rattle.fkv_session.specs.SessionRun.{Telling}
-use Rattle.fkv_world.specs.Past.{Traced, TraceEvent, Called, Answered}
-use Rattle.law_refine.specs.Events.Lines.{CallMade, call_made, last_call, number_of_call, read_in_hand, is_ticket, gives_ticket, read_waiting}
+use Rattle.law_commit.specs.Below.fkv_session.Told.{Told}
+use Rattle.law_commit.specs.Below.fkv_session.Told.TheVariants as told
+use Rattle.law_commit.specs.Below.fkv_session.SessionRun.{Telling}
+use Rattle.law_commit.specs.Below.fkv_world.Past.{Traced, TraceEvent, Called, Answered}
+use Rattle.law_commit.specs.Below.law_refine.Events.Lines.{CallMade, call_made, last_call, number_of_call, read_in_hand, is_ticket, gives_ticket, read_waiting}
 use Rattle.law_order.specs.Reads.Reads.{is_given}
-use Rattle.law_refine.proofs.OfCalls.Called.{is_other}
+use Rattle.law_commit.proofs.Below.law_refine.OfCalls.Called.{is_other}
 
 -- ---- the number of a call
 abbrev pub is_call_of : ℕ → TraceEvent → Type 0

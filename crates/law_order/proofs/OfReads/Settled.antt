@@ -4,8 +4,8 @@ use Rattle.std.specs.Prelude.{⊤, cond, map, nat_eq}
 use Rattle.std.proofs.lemmas.Bool.Decides.{nat_tests}
 use Rattle.fkv_map.specs.Map.{Map}
 use Rattle.fkv_map.specs.declared.operations.Op.{Op}
-use Rattle.fkv_ops.specs.Requests.{is_read}
-use Rattle.law_local.specs.Tries.OnWay.{ComesBelow}
+use Rattle.law_commit.specs.Below.fkv_ops.Requests.{is_read}
+use Rattle.law_commit.specs.Below.law_local.Tries.OnWay.{ComesBelow}
 use Rattle.law_log.specs.Chains.{IsWithin, Logged, chain_from, first_such, has_key, head_of, value_at}
 use Rattle.law_log.specs.Enabled.{AreChains, AreEnabled, IsEnabled, IsFixed, IsLineEnabled, IsLinked, IsOpened}
 use Rattle.law_log.specs.Ghosts.{Called, FindsEntry, Ghosts, GhostEvent, HasValue, Log, NotCalled, Reading, TakesValue, Tells, Reserves, Publishes, Drops, Changes, Fixes, Walks, first_from, found, ghosts_after, ghost_run, log_after, read_called, set_at, took}

@@ -4,25 +4,25 @@ use Rattle.std.specs.Prelude.{◌==◌, if◌then◌else◌, map, Option, None, 
 use Rattle.fkv_epoch.proofs.Shown.{some_same}
 use Rattle.fkv_map.specs.declared.operations.Op.{Op}
 use Rattle.fkv_map.specs.declared.operations.Op.TheVariants.{Read}
-use Rattle.fkv_ops.specs.Requests.{is_read}
-use Rattle.fkv_ops.specs.declared.answers.TryAnswer.{TryAnswer}
-use Rattle.fkv_ops.specs.declared.answers.TryAnswer.TheVariants as answer
-use Rattle.fkv_pending.specs.Attempting.{AttemptState, attempt_ask, attempt_next}
-use Rattle.fkv_pending.specs.declared.attempting.Attempting.{Attempting}
-use Rattle.fkv_pending.specs.declared.attempting.Attempting.TheVariants.{Tries}
+use Rattle.law_commit.specs.Below.fkv_ops.Requests.{is_read}
+use Rattle.law_commit.specs.Below.fkv_ops.TryAnswer.{TryAnswer}
+use Rattle.law_commit.specs.Below.fkv_ops.TryAnswer.TheVariants as answer
+use Rattle.law_commit.specs.Below.fkv_pending.Attempting.{AttemptState, attempt_ask, attempt_next}
+use Rattle.law_commit.specs.Below.fkv_pending.TheAttempting.{Attempting}
+use Rattle.law_commit.specs.Below.fkv_pending.TheAttempting.TheVariants.{Tries}
 use Rattle.fkv_plane.specs.Asked.{reply_to}
 use Rattle.fkv_plane.specs.declared.asks.Ask.{Ask}
 use Rattle.fkv_plane.specs.declared.asks.Ask.TheVariants.{Put, Take, Done}
-use Rattle.fkv_session.specs.Sessions.{Seat, SessionState, bits_of, is_busy, room_of, session_ask, session_begun}
-use Rattle.fkv_session.specs.declared.answers.Finished.{Finished}
-use Rattle.fkv_session.specs.declared.answers.Told.{Told}
-use Rattle.fkv_session.specs.declared.sessions.Sitting.{Sitting}
-use Rattle.fkv_session.specs.declared.sessions.Sitting.TheVariants.{Attempts, Idle, Polls}
-use Rattle.fkv_world.specs.Opened.{IsOpenedWorld}
-use Rattle.fkv_world.specs.Past.{TraceEvent, Traced}
-use Rattle.fkv_world.specs.Runs.{World, happens, run}
-use Rattle.fkv_world.specs.World.{Event, Moves, seat_at}
-use Rattle.fkv_world.proofs.Shown.{is_over}
+use Rattle.law_commit.specs.Below.fkv_session.Sessions.{Seat, SessionState, bits_of, is_busy, room_of, session_ask, session_begun}
+use Rattle.law_commit.specs.Below.fkv_session.Finished.{Finished}
+use Rattle.law_commit.specs.Below.fkv_session.Told.{Told}
+use Rattle.law_commit.specs.Below.fkv_session.Sitting.{Sitting}
+use Rattle.law_commit.specs.Below.fkv_session.Sitting.TheVariants.{Attempts, Idle, Polls}
+use Rattle.law_commit.specs.Below.fkv_world.Opened.{IsOpenedWorld}
+use Rattle.law_commit.specs.Below.fkv_world.Past.{TraceEvent, Traced}
+use Rattle.law_commit.specs.Below.fkv_world.Runs.{World, happens, run}
+use Rattle.law_commit.specs.Below.fkv_world.World.{Event, Moves, seat_at}
+use Rattle.law_commit.proofs.Below.fkv_world.Shown.{is_over}
 use Rattle.law_log.specs.Ghosts.{GhostEvent, Fixes, Tells}
 use Rattle.law_order.specs.Ordered.Met.{PollsTryNoRead}
 use Rattle.law_order.proofs.OfReads.LifeNumbers.{begins_other, begins_trace, effects_behind, goes_other, goes_trace, life_numbered, others_hand, same_number}
@@ -30,12 +30,12 @@ use Rattle.law_order.proofs.OfReads.Numbers.{IsOwn, called_hand, own_below, own_
 use Rattle.law_order.proofs.OfReads.Settled.{AllSpare, both_spare, lines_spare, touch_spares}
 use Rattle.law_order.proofs.OfReads.Touched.{attempt_touch}
 use Rattle.law_order.proofs.OfReads.Turns.{BeginsOne, Goes, Begins, GoesOne, Rests, Turn, moved_to, turn_of}
-use Rattle.law_refine.proofs.OfCalls.Life.{AreOthers, keepers_other}
-use Rattle.law_refine.specs.Events.GhostEvents.{fixed_ghosts, ghost_events, mapped, moved_ghosts, own_ghosts, safe_at, serials_in}
-use Rattle.law_refine.specs.Events.Lines.{last_call, lines_added, number_of_call, read_in_hand, read_waiting}
-use Rattle.law_refine.specs.Events.Sessions.{attempt_ghosts, sitting_ghosts, step_ghosts, ticket_of, tried_ghosts, value_ghosts}
-use Rattle.law_world.specs.Runs.Added.{call_answered, told_at, told_by}
-use Rattle.law_world.proofs.OfRuns.Added.{trace_so}
+use Rattle.law_commit.proofs.Below.law_refine.OfCalls.Life.{AreOthers, keepers_other}
+use Rattle.law_commit.specs.Below.law_refine.Events.GhostEvents.{fixed_ghosts, ghost_events, mapped, moved_ghosts, own_ghosts, safe_at, serials_in}
+use Rattle.law_commit.specs.Below.law_refine.Events.Lines.{last_call, lines_added, number_of_call, read_in_hand, read_waiting}
+use Rattle.law_commit.specs.Below.law_refine.Events.Sessions.{attempt_ghosts, sitting_ghosts, step_ghosts, ticket_of, tried_ghosts, value_ghosts}
+use Rattle.law_commit.specs.Below.law_world.Runs.Added.{call_answered, told_at, told_by}
+use Rattle.law_commit.proofs.Below.law_world.OfRuns.Added.{trace_so}
 
 -- ---- a step of a session
 value_spares : (op : Op) (own reader : ℕ) (ask : Ask TryAnswer) → AllSpare reader (value_ghosts op own ask)

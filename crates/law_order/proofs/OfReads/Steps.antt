@@ -8,34 +8,34 @@ use Rattle.fkv_plane.specs.declared.asks.Ask.TheVariants.{Put, Take, Done}
 use Rattle.fkv_plane.specs.Asked.{reply_to}
 use Rattle.fkv_plane.specs.Passing.{passed, is_done}
 use Rattle.fkv_plane.specs.Plane.{action_at}
-use Rattle.fkv_pending.specs.declared.pending_requests.PendingRequest.{PendingRequest}
-use Rattle.fkv_ops.specs.Requests.{is_read}
-use Rattle.fkv_pending.specs.Attempting.{AttemptState, is_poll, attempt_ask}
-use Rattle.fkv_session.specs.Accounts.{names_of}
-use Rattle.fkv_session.specs.declared.answers.Told.{Told}
-use Rattle.fkv_session.specs.declared.answers.Told.TheVariants as told
-use Rattle.fkv_session.specs.declared.sessions.Sitting.{Sitting}
-use Rattle.fkv_session.specs.declared.sessions.Sitting.TheVariants.{Idle, Attempts, Polls}
-use Rattle.fkv_session.specs.SessionRun.{SessionEvent, Replies, session_happens, session_run}
-use Rattle.fkv_session.specs.Sessions.{SessionState, Seat, is_busy, sitting_ask, session_ask, session_next}
-use Rattle.fkv_session.proofs.Shown.{IsUnderWay}
-use Rattle.law_local.specs.Sessions.Inputs.{AttemptsSo}
-use Rattle.law_local.specs.Sessions.Known.{is_attempting}
-use Rattle.law_local.proofs.OfSessions.SessionInputs.{attempt_at_call, attempt_in_poll}
-use Rattle.law_local.specs.Tries.AttemptRows.{AttemptKnows, IsTrueOfAttempt}
-use Rattle.law_local.specs.Tries.OnWay.{IsOrderly}
-use Rattle.fkv_world.specs.Moves.{Near}
-use Rattle.fkv_world.specs.OwnEvents.{session_got, session_slots, session_steps}
-use Rattle.fkv_world.specs.Past.{Traced}
-use Rattle.fkv_world.proofs.Shown.{session_runs_on}
+use Rattle.law_commit.specs.Below.fkv_pending.PendingRequest.{PendingRequest}
+use Rattle.law_commit.specs.Below.fkv_ops.Requests.{is_read}
+use Rattle.law_commit.specs.Below.fkv_pending.Attempting.{AttemptState, is_poll, attempt_ask}
+use Rattle.law_commit.specs.Below.fkv_session.Accounts.{names_of}
+use Rattle.law_commit.specs.Below.fkv_session.Told.{Told}
+use Rattle.law_commit.specs.Below.fkv_session.Told.TheVariants as told
+use Rattle.law_commit.specs.Below.fkv_session.Sitting.{Sitting}
+use Rattle.law_commit.specs.Below.fkv_session.Sitting.TheVariants.{Idle, Attempts, Polls}
+use Rattle.law_commit.specs.Below.fkv_session.SessionRun.{SessionEvent, Replies, session_happens, session_run}
+use Rattle.law_commit.specs.Below.fkv_session.Sessions.{SessionState, Seat, is_busy, sitting_ask, session_ask, session_next}
+use Rattle.law_commit.proofs.Below.fkv_session.Shown.{IsUnderWay}
+use Rattle.law_commit.specs.Below.law_local.Sessions.Inputs.{AttemptsSo}
+use Rattle.law_commit.specs.Below.law_local.Sessions.Known.{is_attempting}
+use Rattle.law_commit.proofs.Below.law_local.OfSessions.SessionInputs.{attempt_at_call, attempt_in_poll}
+use Rattle.law_commit.specs.Below.law_local.Tries.AttemptRows.{AttemptKnows, IsTrueOfAttempt}
+use Rattle.law_commit.specs.Below.law_local.Tries.OnWay.{IsOrderly}
+use Rattle.law_commit.specs.Below.fkv_world.Moves.{Near}
+use Rattle.law_commit.specs.Below.fkv_world.OwnEvents.{session_got, session_slots, session_steps}
+use Rattle.law_commit.specs.Below.fkv_world.Past.{Traced}
+use Rattle.law_commit.proofs.Below.fkv_world.Shown.{session_runs_on}
 use Rattle.law_order.specs.Known.Told.{AreApart}
-use Rattle.law_refine.specs.Events.Names.{IsNamedSo, AreNamedSo, AttemptsNamedSo, RequestsAreNamed}
-use Rattle.law_refine.specs.Events.Lines.{read_in_hand, read_waiting}
-use Rattle.law_refine.specs.Events.Sessions.{attempt_ghosts, ticket_of, sitting_ghosts, step_ghosts}
+use Rattle.law_commit.specs.Below.law_refine.Events.Names.{IsNamedSo, AreNamedSo, AttemptsNamedSo, RequestsAreNamed}
+use Rattle.law_commit.specs.Below.law_refine.Events.Lines.{read_in_hand, read_waiting}
+use Rattle.law_commit.specs.Below.law_refine.Events.Sessions.{attempt_ghosts, ticket_of, sitting_ghosts, step_ghosts}
 use Rattle.law_order.specs.Reads.Reads.{SessionReadings, readings_of, SitsReads}
 use Rattle.law_order.proofs.OfReads.Coming.{AllNamed, ComesTo, Comes, IsFreshly, MovedSo, next_comes, given_comes}
 use Rattle.law_order.proofs.OfReads.Moved.{call_moves, poll_moves}
-use Rattle.law_world.proofs.OfRuns.NoSlots.{IsOffSlots, passed_off, attempt_off_slots}
+use Rattle.law_commit.proofs.Below.law_world.OfRuns.NoSlots.{IsOffSlots, passed_off, attempt_off_slots}
 use Rattle.law_order.proofs.OfReads.Numbers.{IsOwn, Numbered}
 use Rattle.law_order.proofs.OfReads.ReadEnds.{passed_done}
 use Rattle.law_order.proofs.OfReads.Touched.{touches, AllTouch, IsItsRead, attempt_touch}

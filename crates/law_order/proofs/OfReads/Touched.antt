@@ -9,36 +9,36 @@ use Rattle.law_log.proofs.Shown.{set_there, set_else, at_one}
 use Rattle.fkv_plane.specs.declared.asks.Ask.{Ask}
 use Rattle.fkv_plane.specs.declared.asks.Ask.TheVariants.{Done}
 use Rattle.fkv_plane.specs.declared.places.Places.{Places}
-use Rattle.fkv_log.specs.declared.reserving.ReserveAnswer.{ReserveAnswer}
-use Rattle.fkv_log.specs.declared.reserving.ReserveAnswer.TheVariants.{Reserved}
+use Rattle.law_commit.specs.Below.fkv_log.ReserveAnswer.{ReserveAnswer}
+use Rattle.law_commit.specs.Below.fkv_log.ReserveAnswer.TheVariants.{Reserved}
 use Rattle.fkv_index.specs.declared.finding.Found.{Found}
 use Rattle.fkv_index.specs.declared.finding.Found.TheVariants.{Slot, NoSlot}
 use Rattle.fkv_index.specs.declared.finding.FindAnswer.{FindAnswer}
 use Rattle.fkv_index.specs.Finding.{find_next_ask}
-use Rattle.fkv_ops.specs.declared.answers.TryAnswer.{TryAnswer}
-use Rattle.fkv_ops.specs.declared.answers.TryAnswer.TheVariants as answer
-use Rattle.fkv_ops.specs.declared.appending.Appending.{Appending}
-use Rattle.fkv_ops.specs.declared.trying.Trying.{Trying}
-use Rattle.fkv_ops.specs.declared.trying.Trying.TheVariants.{Walks, SwapsValue, ChangesValue, Appends}
-use Rattle.fkv_ops.specs.declared.walking.Walking.{Walking}
-use Rattle.fkv_ops.specs.declared.walking.Walking.TheVariants.{Finds}
-use Rattle.fkv_ops.specs.Appending.{AppendState}
-use Rattle.fkv_ops.specs.Requests.{is_read}
-use Rattle.fkv_ops.specs.Trying.{TryState}
-use Rattle.fkv_ops.specs.Walking.{WalkState}
-use Rattle.fkv_pending.specs.declared.attempting.Attempting.{Attempting}
-use Rattle.fkv_pending.specs.declared.attempting.Attempting.TheVariants.{Tries}
-use Rattle.fkv_pending.specs.declared.pending_requests.PendingRequest.{PendingRequest}
-use Rattle.fkv_pending.specs.Attempting.{AttemptState, attempt_ask, attempt_next}
-use Rattle.fkv_session.specs.Sessions.{Seat, bits_of, room_of}
-use Rattle.law_local.specs.Tries.AttemptRows.{AttemptRow}
-use Rattle.law_local.specs.Tries.ReadRows.{HasRead, finds_start, search_starts, walk_starts, try_starts, attempt_starts, tells_value, started, valued, reading_after}
-use Rattle.law_local.specs.Tries.TryRows.{TryRow}
-use Rattle.law_refine.specs.Events.Appends.{reserved_ghosts, append_ghosts}
-use Rattle.law_world.specs.GuardSessions.Tries.{is_for_entry}
-use Rattle.law_refine.specs.Events.Sessions.{value_ghosts, tried_ghosts, attempt_ghosts}
-use Rattle.law_refine.specs.Events.Tries.{found_ghosts, find_ghosts, walk_ghosts, search_ghosts, try_ghosts}
-use Rattle.law_refine.proofs.OfEvents.Searches.{append_all, search_all}
+use Rattle.law_commit.specs.Below.fkv_ops.TryAnswer.{TryAnswer}
+use Rattle.law_commit.specs.Below.fkv_ops.TryAnswer.TheVariants as answer
+use Rattle.law_commit.specs.Below.fkv_ops.TheAppending.{Appending}
+use Rattle.law_commit.specs.Below.fkv_ops.TheTrying.{Trying}
+use Rattle.law_commit.specs.Below.fkv_ops.TheTrying.TheVariants.{Walks, SwapsValue, ChangesValue, Appends}
+use Rattle.law_commit.specs.Below.fkv_ops.TheWalking.{Walking}
+use Rattle.law_commit.specs.Below.fkv_ops.TheWalking.TheVariants.{Finds}
+use Rattle.law_commit.specs.Below.fkv_ops.Appending.{AppendState}
+use Rattle.law_commit.specs.Below.fkv_ops.Requests.{is_read}
+use Rattle.law_commit.specs.Below.fkv_ops.Trying.{TryState}
+use Rattle.law_commit.specs.Below.fkv_ops.Walking.{WalkState}
+use Rattle.law_commit.specs.Below.fkv_pending.TheAttempting.{Attempting}
+use Rattle.law_commit.specs.Below.fkv_pending.TheAttempting.TheVariants.{Tries}
+use Rattle.law_commit.specs.Below.fkv_pending.PendingRequest.{PendingRequest}
+use Rattle.law_commit.specs.Below.fkv_pending.Attempting.{AttemptState, attempt_ask, attempt_next}
+use Rattle.law_commit.specs.Below.fkv_session.Sessions.{Seat, bits_of, room_of}
+use Rattle.law_commit.specs.Below.law_local.Tries.AttemptRows.{AttemptRow}
+use Rattle.law_commit.specs.Below.law_local.Tries.ReadRows.{HasRead, finds_start, search_starts, walk_starts, try_starts, attempt_starts, tells_value, started, valued, reading_after}
+use Rattle.law_commit.specs.Below.law_local.Tries.TryRows.{TryRow}
+use Rattle.law_commit.specs.Below.law_refine.Events.Appends.{reserved_ghosts, append_ghosts}
+use Rattle.law_commit.specs.Below.law_world.GuardSessions.Tries.{is_for_entry}
+use Rattle.law_commit.specs.Below.law_refine.Events.Sessions.{value_ghosts, tried_ghosts, attempt_ghosts}
+use Rattle.law_commit.specs.Below.law_refine.Events.Tries.{found_ghosts, find_ghosts, walk_ghosts, search_ghosts, try_ghosts}
+use Rattle.law_commit.proofs.Below.law_refine.OfEvents.Searches.{append_all, search_all}
 
 -- ---- events that touch only some reads
 -- it tells nothing, and touches only such a read

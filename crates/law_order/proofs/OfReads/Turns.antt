@@ -4,20 +4,20 @@ use Rattle.std.specs.Prelude.{slice_get, Option, Some, None, if◌then◌else◌
 use Rattle.std.proofs.lemmas.Bool.Decides.{nat_tests}
 use Rattle.fkv_map.specs.declared.operations.Call.{Call}
 use Rattle.fkv_map.specs.declared.operations.Call.TheVariants.{Refresh}
-use Rattle.fkv_keeper.specs.KeeperRun.{is_in_hand}
-use Rattle.fkv_session.specs.SessionRun.{session_run}
-use Rattle.fkv_session.specs.Sessions.{SessionState, is_busy, session_ask, session_begun}
-use Rattle.fkv_world.specs.Actors.{is_of_session}
-use Rattle.law_world.specs.Runs.Added.{call_begun, begun_by, call_answered, session_answered, keeper_told, is_calling, ended_by, told_by}
-use Rattle.fkv_world.specs.OwnEvents.{session_steps, session_part, session_part_of}
-use Rattle.fkv_world.specs.Past.{Called, CommitAsked, TurnAsked}
-use Rattle.fkv_world.specs.Runs.{World, happens}
-use Rattle.fkv_world.specs.World.{Event, Calls, Moves, Commits, Turns, KeeperMoves, Crashes, seat_at, near}
-use Rattle.fkv_world.proofs.Shown.{happens_session, session_apart}
-use Rattle.law_world.proofs.OfRuns.Nothing.{idle_ask, in_hand as busy_stays, no_session, none_in_hand}
-use Rattle.law_refine.specs.Events.GhostEvents.{moved_ghosts, own_ghosts}
-use Rattle.law_refine.specs.Events.Sessions.{step_ghosts}
-use Rattle.law_refine.proofs.OfCalls.Telling.{AreOfKeeper, keeper_end, keeper_start, both_keepers, alive_told, call_nothing, move_nothing, started_now, started_told}
+use Rattle.law_commit.specs.Below.fkv_keeper.KeeperRun.{is_in_hand}
+use Rattle.law_commit.specs.Below.fkv_session.SessionRun.{session_run}
+use Rattle.law_commit.specs.Below.fkv_session.Sessions.{SessionState, is_busy, session_ask, session_begun}
+use Rattle.law_commit.specs.Below.fkv_world.Actors.{is_of_session}
+use Rattle.law_commit.specs.Below.law_world.Runs.Added.{call_begun, begun_by, call_answered, session_answered, keeper_told, is_calling, ended_by, told_by}
+use Rattle.law_commit.specs.Below.fkv_world.OwnEvents.{session_steps, session_part, session_part_of}
+use Rattle.law_commit.specs.Below.fkv_world.Past.{Called, CommitAsked, TurnAsked}
+use Rattle.law_commit.specs.Below.fkv_world.Runs.{World, happens}
+use Rattle.law_commit.specs.Below.fkv_world.World.{Event, Calls, Moves, Commits, Turns, KeeperMoves, Crashes, seat_at, near}
+use Rattle.law_commit.proofs.Below.fkv_world.Shown.{happens_session, session_apart}
+use Rattle.law_commit.proofs.Below.law_world.OfRuns.Nothing.{idle_ask, in_hand as busy_stays, no_session, none_in_hand}
+use Rattle.law_commit.specs.Below.law_refine.Events.GhostEvents.{moved_ghosts, own_ghosts}
+use Rattle.law_commit.specs.Below.law_refine.Events.Sessions.{step_ghosts}
+use Rattle.law_commit.proofs.Below.law_refine.OfCalls.Telling.{AreOfKeeper, keeper_end, keeper_start, both_keepers, alive_told, call_nothing, move_nothing, started_now, started_told}
 
 -- the other sessions stay
 abbrev pub OthersStay : World → Event → ℕ → Type 0

@@ -1,11 +1,11 @@
 -- Where no commit is being written the current one is the newest, and finished. And a new store has no key.
 use Rattle.std.proofs.Common.{◌≡◌, ◌≤◌, ◌∙◌, ℕ, zero, suc, inl, inr, arith, ap, refl, sym, subst, Bool, true, false, List, [], ◌∷◌}
 use Rattle.std.specs.Prelude.{None}
-use Rattle.fkv_keeper.specs.Keeping.{Finality, KeeperState}
-use Rattle.fkv_keeper.specs.declared.answers.KeeperTold.{KeeperTold}
-use Rattle.fkv_keeper.specs.declared.keepers.Keeping.{Keeping}
-use Rattle.fkv_keeper.specs.declared.keepers.Keeping.TheVariants.{Ended}
-use Rattle.fkv_opening.specs.declared.opened_store.Opened.{Opened}
+use Rattle.law_commit.specs.Below.fkv_keeper.Keeping.{Finality, KeeperState}
+use Rattle.law_commit.specs.Below.fkv_keeper.KeeperTold.{KeeperTold}
+use Rattle.law_commit.specs.Below.fkv_keeper.TheKeeping.{Keeping}
+use Rattle.law_commit.specs.Below.fkv_keeper.TheKeeping.TheVariants.{Ended}
+use Rattle.law_opening.specs.Below.fkv_opening.TheOpened.{Opened}
 use Rattle.law_commit.specs.BegunCommits.{AreFinished, AreInTurn, AtEnd, AtKeeping, BegunCommit, HaveFinished, IsAsLast}
 use Rattle.law_log.specs.Chains.{Unborn, first_such, has_key, value_at}
 use Rattle.law_log.specs.Ghosts.{shown}

@@ -7,14 +7,14 @@ use Rattle.law_log.specs.Ghosts.{Changes, Log, Ghosts, GhostEvent, Publishes, lo
 use Rattle.law_log.specs.Enabled as order
 use Rattle.law_log.specs.Enabled.{AreEnabled}
 use Rattle.law_log.proofs.Shown.{Held, log_steps, run_held}
-use Rattle.fkv_ops.specs.declared.requests.Seen.{Seen}
-use Rattle.fkv_pending.specs.declared.pending_requests.PendingRequest.{PendingRequest}
-use Rattle.fkv_pending.specs.Attempting.{AttemptState}
-use Rattle.law_local.specs.Tries.AttemptRows.{AttemptKnows, KeepsForAttempt, PendingKnows}
-use Rattle.law_local.proofs.OfTries.AttemptGrows.{attempt_grows, pending_grows}
+use Rattle.law_commit.specs.Below.fkv_ops.Seen.{Seen}
+use Rattle.law_commit.specs.Below.fkv_pending.PendingRequest.{PendingRequest}
+use Rattle.law_commit.specs.Below.fkv_pending.Attempting.{AttemptState}
+use Rattle.law_commit.specs.Below.law_local.Tries.AttemptRows.{AttemptKnows, KeepsForAttempt, PendingKnows}
+use Rattle.law_commit.proofs.Below.law_local.OfTries.AttemptGrows.{attempt_grows, pending_grows}
 use Rattle.law_order.proofs.OfRows.Changed.{AllChange}
 use Rattle.law_order.proofs.OfRows.Kept.{IsNoChange, quiet_no_change, still_keeps}
-use Rattle.law_refine.specs.Events.Effects.{AreQuiet, Behind, ByRecord, InPlace, Quietly, Stepped, TakesEffect}
+use Rattle.law_commit.specs.Below.law_refine.Events.Effects.{AreQuiet, Behind, ByRecord, InPlace, Quietly, Stepped, TakesEffect}
 
 -- what is enabled after a list is enabled before it
 module _ (home : ℕ → ℕ) (m : Map) (number : ℕ) (g : Ghosts) (opened : order.IsOpened home m number g) where

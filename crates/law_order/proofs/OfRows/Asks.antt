@@ -2,12 +2,12 @@
 use Rattle.std.proofs.Common.{◌≡◌, refl, ℕ, Bool, true, false, List, [], ◌∷◌}
 use Rattle.fkv_map.specs.declared.operations.Call.{Call}
 use Rattle.fkv_plane.specs.declared.actions.Action.{Action}
-use Rattle.fkv_ops.specs.declared.requests.Occasion.TheVariants.{Call as AtCall, Poll as AtPoll}
-use Rattle.fkv_ops.specs.declared.requests.Seen.{Seen}
-use Rattle.fkv_session.specs.SessionRun.{SessionEvent, Begins, Replies, Gets, begins, session_happens, session_run}
-use Rattle.fkv_session.specs.Sessions.{SessionState, Seat, IsOpened, bits_of, room_of, is_busy, request_in_hand, session_begun, session_given, session_next}
-use Rattle.law_local.specs.Sessions.Known.{IsHandedOver, IsKnownAnew, catch_after, caught_up_at, with_op}
-use Rattle.law_local.proofs.OfSessions.Known.{begun_known, given_known, next_known, opened_known}
+use Rattle.law_commit.specs.Below.fkv_ops.Occasion.TheVariants.{Call as AtCall, Poll as AtPoll}
+use Rattle.law_commit.specs.Below.fkv_ops.Seen.{Seen}
+use Rattle.law_commit.specs.Below.fkv_session.SessionRun.{SessionEvent, Begins, Replies, Gets, begins, session_happens, session_run}
+use Rattle.law_commit.specs.Below.fkv_session.Sessions.{SessionState, Seat, IsOpened, bits_of, room_of, is_busy, request_in_hand, session_begun, session_given, session_next}
+use Rattle.law_commit.specs.Below.law_local.Sessions.Known.{IsHandedOver, IsKnownAnew, catch_after, caught_up_at, with_op}
+use Rattle.law_commit.proofs.Below.law_local.OfSessions.Known.{begun_known, given_known, next_known, opened_known}
 use Rattle.law_order.specs.Rows.Asked.{SeeksWhereAsked, AttemptSeeks, AllSeek}
 use Rattle.law_order.proofs.OfRows.Seeks.{attempt_seeks, attempt_begun_seeks, latch_seeks}
 

@@ -4,22 +4,22 @@ use Rattle.std.specs.Prelude.{⊤}
 use Rattle.fkv_map.specs.declared.history.HistoryEntry.{HistoryEntry}
 use Rattle.fkv_map.specs.declared.operations.Reply.{Reply}
 use Rattle.fkv_map.specs.Map.{Map}
-use Rattle.fkv_ops.specs.declared.appending.Appending.{Appending}
-use Rattle.fkv_ops.specs.declared.appending.Appending.TheVariants as appending
-use Rattle.fkv_ops.specs.declared.trying.Trying.{Trying}
-use Rattle.fkv_ops.specs.declared.trying.Trying.TheVariants.{Appends}
-use Rattle.fkv_ops.specs.Trying.{TryState}
-use Rattle.fkv_pending.specs.declared.attempting.Attempting.{Attempting}
-use Rattle.fkv_pending.specs.declared.attempting.Attempting.TheVariants.{Tries}
-use Rattle.fkv_pending.specs.Attempting.{AttemptState}
-use Rattle.law_local.specs.Tries.AttemptRows.{KeepsForAttempt}
-use Rattle.law_local.specs.Tries.Kept.{KeepsForAppend, KeepsForTry, KeepsSource, source_of}
-use Rattle.law_local.specs.Tries.TryRows.{IsMadeFor, cell_of}
+use Rattle.law_commit.specs.Below.fkv_ops.TheAppending.{Appending}
+use Rattle.law_commit.specs.Below.fkv_ops.TheAppending.TheVariants as appending
+use Rattle.law_commit.specs.Below.fkv_ops.TheTrying.{Trying}
+use Rattle.law_commit.specs.Below.fkv_ops.TheTrying.TheVariants.{Appends}
+use Rattle.law_commit.specs.Below.fkv_ops.Trying.{TryState}
+use Rattle.law_commit.specs.Below.fkv_pending.TheAttempting.{Attempting}
+use Rattle.law_commit.specs.Below.fkv_pending.TheAttempting.TheVariants.{Tries}
+use Rattle.law_commit.specs.Below.fkv_pending.Attempting.{AttemptState}
+use Rattle.law_commit.specs.Below.law_local.Tries.AttemptRows.{KeepsForAttempt}
+use Rattle.law_commit.specs.Below.law_local.Tries.Kept.{KeepsForAppend, KeepsForTry, KeepsSource, source_of}
+use Rattle.law_commit.specs.Below.law_local.Tries.TryRows.{IsMadeFor, cell_of}
 use Rattle.law_log.specs.Chains.{Cell, IsWithin, Logged, Published, Reserved, chain_from, has_key, value_at}
 use Rattle.law_log.specs.Enabled.{IsEnabled}
 use Rattle.law_log.specs.Ghosts.{Changes, Drops, GhostEvent, Ghosts, Log, Publishes, Reserves, changed, changed_by, dropped, log_after, published}
 use Rattle.law_log.proofs.Shown.{Grows, Held, IsFirst, first_is, in_from, not_reserved, not_unborn, set_else}
-use Rattle.law_refine.specs.Events.Effects.{is_quiet}
+use Rattle.law_commit.specs.Below.law_refine.Events.Effects.{is_quiet}
 
 -- ---- the record that a try copies, where it is about to reserve an address for the copy
 abbrev pub copied : (ℕ → ℕ) → Log → AttemptState → ℕ

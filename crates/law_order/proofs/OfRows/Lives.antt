@@ -1,18 +1,18 @@
 -- At every moment of a life a session's reads which have asked seek a record, and none of its reads shares a latch.
 use Rattle.std.proofs.Common.{◌≡◌, ℕ, zero, suc, List, [], ◌∷◌, sym, subst, true, false}
 use Rattle.std.specs.Prelude.{Some, slice_get}
-use Rattle.fkv_session.specs.Sessions.{SessionState}
-use Rattle.fkv_world.specs.Opened.{IsOpenedWorld}
-use Rattle.fkv_world.specs.OwnEvents.{session_events}
-use Rattle.fkv_world.specs.Runs.{World, run}
-use Rattle.fkv_world.specs.World.{Event, seat_at}
-use Rattle.law_refine.proofs.OfSeen.There.{was_there}
+use Rattle.law_commit.specs.Below.fkv_session.Sessions.{SessionState}
+use Rattle.law_commit.specs.Below.fkv_world.Opened.{IsOpenedWorld}
+use Rattle.law_commit.specs.Below.fkv_world.OwnEvents.{session_events}
+use Rattle.law_commit.specs.Below.fkv_world.Runs.{World, run}
+use Rattle.law_commit.specs.Below.fkv_world.World.{Event, seat_at}
+use Rattle.law_commit.proofs.Below.law_refine.OfSeen.There.{was_there}
 use Rattle.law_order.specs.Rows.Asked.{AllSeek}
 use Rattle.law_order.proofs.OfRows.Asks.{run_seeks}
-use Rattle.fkv_pending.specs.declared.pending_requests.PendingRequest.{PendingRequest}
-use Rattle.fkv_ops.specs.Requests.{is_read}
-use Rattle.fkv_session.specs.Shares.{HasItsBuckets, OnlyUpdatesShare}
-use Rattle.fkv_session.proofs.Shown.{run_updates}
+use Rattle.law_commit.specs.Below.fkv_pending.PendingRequest.{PendingRequest}
+use Rattle.law_commit.specs.Below.fkv_ops.Requests.{is_read}
+use Rattle.law_commit.specs.Below.fkv_session.Shares.{HasItsBuckets, OnlyUpdatesShare}
+use Rattle.law_commit.proofs.Below.fkv_session.Shown.{run_updates}
 
 pub life_seeks : (opening : World) (events : List Event) (session : ℕ) (s : SessionState) → IsOpenedWorld opening → slice_get (run opening events).now.sessions session ≡ Some s → AllSeek s
 life_seeks opening events session s opened found =

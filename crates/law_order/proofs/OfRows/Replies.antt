@@ -8,28 +8,28 @@ use Rattle.fkv_map.specs.declared.operations.Op.{Op}
 use Rattle.fkv_map.specs.declared.operations.Op.TheVariants as op
 use Rattle.fkv_map.specs.Map.{IsReserved, is_reserved, absent_word}
 use Rattle.law_log.specs.Ghosts.{Log}
-use Rattle.fkv_ops.specs.declared.requests.Occasion.TheVariants.{Call as AtCall, Poll as AtPoll}
-use Rattle.fkv_ops.specs.declared.requests.Seen.{Seen}
-use Rattle.fkv_pending.specs.declared.attempting.Attempting.TheVariants.{Tries}
-use Rattle.fkv_pending.specs.declared.pending_requests.PendingRequest.{PendingRequest}
-use Rattle.fkv_pending.specs.Attempting.{AttemptState}
-use Rattle.fkv_pending.specs.Pending.{with_latch}
-use Rattle.fkv_ops.specs.Requests.{is_read}
+use Rattle.law_commit.specs.Below.fkv_ops.Occasion.TheVariants.{Call as AtCall, Poll as AtPoll}
+use Rattle.law_commit.specs.Below.fkv_ops.Seen.{Seen}
+use Rattle.law_commit.specs.Below.fkv_pending.TheAttempting.TheVariants.{Tries}
+use Rattle.law_commit.specs.Below.fkv_pending.PendingRequest.{PendingRequest}
+use Rattle.law_commit.specs.Below.fkv_pending.Attempting.{AttemptState}
+use Rattle.law_commit.specs.Below.fkv_pending.Pending.{with_latch}
+use Rattle.law_commit.specs.Below.fkv_ops.Requests.{is_read}
 use Rattle.fkv_plane.specs.declared.asks.Ask.TheVariants.{Done}
-use Rattle.fkv_session.specs.declared.sessions.CatchCause.{CatchCause}
-use Rattle.fkv_session.specs.declared.sessions.CatchCause.TheVariants.{Shifts}
-use Rattle.fkv_session.specs.declared.sessions.Sitting.{Sitting}
-use Rattle.fkv_session.specs.declared.sessions.Sitting.TheVariants.{Attempts, CatchesUp, Polls}
-use Rattle.fkv_session.specs.Sessions.{SessionState, Seat, bits_of, room_of, is_busy, is_full, is_spent, refusal_of, request_in_hand, session_begun, session_next}
-use Rattle.law_local.specs.Sessions.Inputs.{AttemptsBy, AttemptsSo}
-use Rattle.law_local.specs.Sessions.Known.{IsHandedOver, IsKnownAnew, KnowsRequests, attempt_after, catch_after, catch_comes_to, caught_up_at, is_attempting, is_polling, with_op}
-use Rattle.law_local.proofs.OfSessions.AttemptInputs.{attempt_goes}
-use Rattle.law_local.proofs.OfSessions.Known.{begun_known, next_known}
-use Rattle.law_local.specs.Tries.AttemptRows.{AttemptKnows, IsTrueOfAttempt, PendingKnows}
-use Rattle.law_local.specs.Tries.HeldRows.{SoughtKnows}
-use Rattle.law_local.specs.Tries.OnWay.{IsOrderly}
-use Rattle.law_local.specs.Tries.TryRows.{NoneLaterPast, RequestKnows, head_in, key_in}
-use Rattle.law_local.proofs.OfTries.AttemptSteps.{attempt_begins, attempt_leads}
+use Rattle.law_commit.specs.Below.fkv_session.CatchCause.{CatchCause}
+use Rattle.law_commit.specs.Below.fkv_session.CatchCause.TheVariants.{Shifts}
+use Rattle.law_commit.specs.Below.fkv_session.Sitting.{Sitting}
+use Rattle.law_commit.specs.Below.fkv_session.Sitting.TheVariants.{Attempts, CatchesUp, Polls}
+use Rattle.law_commit.specs.Below.fkv_session.Sessions.{SessionState, Seat, bits_of, room_of, is_busy, is_full, is_spent, refusal_of, request_in_hand, session_begun, session_next}
+use Rattle.law_commit.specs.Below.law_local.Sessions.Inputs.{AttemptsBy, AttemptsSo}
+use Rattle.law_commit.specs.Below.law_local.Sessions.Known.{IsHandedOver, IsKnownAnew, KnowsRequests, attempt_after, catch_after, catch_comes_to, caught_up_at, is_attempting, is_polling, with_op}
+use Rattle.law_commit.proofs.Below.law_local.OfSessions.AttemptInputs.{attempt_goes}
+use Rattle.law_commit.proofs.Below.law_local.OfSessions.Known.{begun_known, next_known}
+use Rattle.law_commit.specs.Below.law_local.Tries.AttemptRows.{AttemptKnows, IsTrueOfAttempt, PendingKnows}
+use Rattle.law_commit.specs.Below.law_local.Tries.HeldRows.{SoughtKnows}
+use Rattle.law_commit.specs.Below.law_local.Tries.OnWay.{IsOrderly}
+use Rattle.law_commit.specs.Below.law_local.Tries.TryRows.{NoneLaterPast, RequestKnows, head_in, key_in}
+use Rattle.law_commit.proofs.Below.law_local.OfTries.AttemptSteps.{attempt_begins, attempt_leads}
 use Rattle.law_order.specs.Rows.Asked.{SeeksWhereAsked, AttemptSeeks}
 use Rattle.law_order.proofs.OfRows.Seeks.{attempt_seeks, attempt_begun_seeks}
 

@@ -6,57 +6,57 @@ use Rattle.law_log.specs.Chains.{value_at, version_at}
 use Rattle.law_log.specs.Ghosts.{Changes, Log, log_after}
 use Rattle.law_log.specs.Enabled.{AreEnabled}
 use Rattle.law_log.proofs.Shown.{run_held}
-use Rattle.fkv_ops.specs.declared.requests.Seen.{Seen}
+use Rattle.law_commit.specs.Below.fkv_ops.Seen.{Seen}
 use Rattle.fkv_epoch.proofs.Shown.{none_some, some_same}
 use Rattle.fkv_map.specs.declared.history.HistoryEntry.{HistoryEntry}
-use Rattle.fkv_ops.specs.declared.trying.Trying.{Trying}
-use Rattle.fkv_ops.specs.declared.trying.Trying.TheVariants.{ChangesValue, SwapsValue}
-use Rattle.fkv_pending.specs.declared.attempting.Attempting.{Attempting}
-use Rattle.fkv_pending.specs.declared.attempting.Attempting.TheVariants.{Tries}
-use Rattle.fkv_pending.specs.declared.pending_requests.PendingRequest.{PendingRequest}
-use Rattle.fkv_pending.specs.Attempting.{AttemptState}
+use Rattle.law_commit.specs.Below.fkv_ops.TheTrying.{Trying}
+use Rattle.law_commit.specs.Below.fkv_ops.TheTrying.TheVariants.{ChangesValue, SwapsValue}
+use Rattle.law_commit.specs.Below.fkv_pending.TheAttempting.{Attempting}
+use Rattle.law_commit.specs.Below.fkv_pending.TheAttempting.TheVariants.{Tries}
+use Rattle.law_commit.specs.Below.fkv_pending.PendingRequest.{PendingRequest}
+use Rattle.law_commit.specs.Below.fkv_pending.Attempting.{AttemptState}
 use Rattle.fkv_plane.specs.declared.asks.Ask.{Ask}
 use Rattle.fkv_plane.specs.declared.asks.Ask.TheVariants.{Done}
-use Rattle.fkv_session.specs.declared.sessions.CatchCause.TheVariants.{Shifts}
-use Rattle.fkv_session.specs.declared.sessions.Sitting.{Sitting}
-use Rattle.fkv_session.specs.declared.sessions.Sitting.TheVariants.{CatchesUp}
-use Rattle.fkv_session.specs.Sessions.{SessionState, Seat, bits_of, room_of, asks_after, attempts, catch_ledto, caught, is_word_ask, session_ask, session_next, sitting_next}
-use Rattle.law_local.specs.Sessions.Inputs.{AttemptsSo}
-use Rattle.law_local.specs.Sessions.Known.{KnowsRequests, attempt_after, catch_after, catch_comes_to, is_attempting}
-use Rattle.law_local.proofs.OfSessions.Known.{stays_known}
-use Rattle.law_local.specs.Tries.AttemptRows.{AttemptKnows, IsTrueOfAttempt, KeepsForAttempt, PendingKnows}
-use Rattle.law_local.specs.Tries.Kept.{ChangesLog, KeepsSource, Swaps}
-use Rattle.law_local.specs.Tries.Kept.{Changes as ChangesOne}
-use Rattle.law_local.specs.Tries.Replies.{IsTrueReply}
-use Rattle.law_local.specs.Tries.TryRows.{cell_of, head_in}
-use Rattle.law_local.proofs.OfTries.OwnEvents.{attempt_needs}
-use Rattle.law_local.proofs.OfTries.OnWay.{orderly}
-use Rattle.law_local.proofs.OfTries.AttemptGrows.{pending_later}
-use Rattle.fkv_world.specs.Moves.{Near, session_moved}
-use Rattle.fkv_world.specs.Runs.{World, run}
-use Rattle.fkv_world.specs.Actors.{is_of_session}
-use Rattle.fkv_world.specs.World.{Calls, Event, Moves, Now, near, seat_at}
-use Rattle.fkv_world.proofs.Shown.{same_seat, session_apart}
+use Rattle.law_commit.specs.Below.fkv_session.CatchCause.TheVariants.{Shifts}
+use Rattle.law_commit.specs.Below.fkv_session.Sitting.{Sitting}
+use Rattle.law_commit.specs.Below.fkv_session.Sitting.TheVariants.{CatchesUp}
+use Rattle.law_commit.specs.Below.fkv_session.Sessions.{SessionState, Seat, bits_of, room_of, asks_after, attempts, catch_ledto, caught, is_word_ask, session_ask, session_next, sitting_next}
+use Rattle.law_commit.specs.Below.law_local.Sessions.Inputs.{AttemptsSo}
+use Rattle.law_commit.specs.Below.law_local.Sessions.Known.{KnowsRequests, attempt_after, catch_after, catch_comes_to, is_attempting}
+use Rattle.law_commit.proofs.Below.law_local.OfSessions.Known.{stays_known}
+use Rattle.law_commit.specs.Below.law_local.Tries.AttemptRows.{AttemptKnows, IsTrueOfAttempt, KeepsForAttempt, PendingKnows}
+use Rattle.law_commit.specs.Below.law_local.Tries.Kept.{ChangesLog, KeepsSource, Swaps}
+use Rattle.law_commit.specs.Below.law_local.Tries.Kept.{Changes as ChangesOne}
+use Rattle.law_commit.specs.Below.law_local.Tries.Replies.{IsTrueReply}
+use Rattle.law_commit.specs.Below.law_local.Tries.TryRows.{cell_of, head_in}
+use Rattle.law_commit.proofs.Below.law_local.OfTries.OwnEvents.{attempt_needs}
+use Rattle.law_commit.proofs.Below.law_local.OfTries.OnWay.{orderly}
+use Rattle.law_commit.proofs.Below.law_local.OfTries.AttemptGrows.{pending_later}
+use Rattle.law_commit.specs.Below.fkv_world.Moves.{Near, session_moved}
+use Rattle.law_commit.specs.Below.fkv_world.Runs.{World, run}
+use Rattle.law_commit.specs.Below.fkv_world.Actors.{is_of_session}
+use Rattle.law_commit.specs.Below.fkv_world.World.{Calls, Event, Moves, Now, near, seat_at}
+use Rattle.law_commit.proofs.Below.fkv_world.Shown.{same_seat, session_apart}
 use Rattle.law_order.specs.Known.Begins.{BegunLife, home_of_world}
 use Rattle.law_order.specs.Known.Knows.{AllKnowBehind, AreKnown, SessionKnows}
 use Rattle.law_order.specs.Known.Told.{AreToldTruly, reply_in}
-use Rattle.law_refine.specs.Events.GhostEvents.{life_ghosts, mapped}
+use Rattle.law_commit.specs.Below.law_refine.Events.GhostEvents.{life_ghosts, mapped}
 use Rattle.law_order.proofs.OfKnown.Newest.{known_now}
 use Rattle.law_opening.proofs.OfChanges.OfSessions.Attempting.{life_attempts}
 use Rattle.law_opening.proofs.OfChanges.OfSessions.Calm.{calm_known, is_calm, not_calm}
 use Rattle.law_opening.proofs.OfChanges.OfSessions.Comes.{SessionComes, Stays, Begins, Steps, session_comes}
-use Rattle.law_world.specs.GuardSessions.InPlace.{try_changes}
+use Rattle.law_commit.specs.Below.law_world.GuardSessions.InPlace.{try_changes}
 use Rattle.law_order.specs.Apart.Given.{Given}
 use Rattle.law_order.specs.Apart.Lives.{AllApartBehind, OpensApart}
 use Rattle.law_order.proofs.OfApart.Beside.{spares}
 use Rattle.law_order.proofs.OfApart.Heart.{Makes}
 use Rattle.law_order.proofs.OfApart.Newest.{passes}
 use Rattle.law_order.proofs.OfEnabled.Own.{sitting_attempts, sitting_tries}
-use Rattle.law_refine.specs.Seen.Ops.{HasPlainOp, OpIsPlain}
-use Rattle.law_refine.proofs.OfSeen.Lives.{head_rises, life_head_fixed}
-use Rattle.law_refine.proofs.OfSeen.Ops.{life_op_kept}
-use Rattle.law_refine.proofs.OfSeen.Alone.{moves_alone}
-use Rattle.law_refine.proofs.OfSeen.There.{there_before}
+use Rattle.law_commit.specs.Below.law_refine.Seen.Ops.{HasPlainOp, OpIsPlain}
+use Rattle.law_commit.proofs.Below.law_refine.OfSeen.Lives.{head_rises, life_head_fixed}
+use Rattle.law_commit.proofs.Below.law_refine.OfSeen.Ops.{life_op_kept}
+use Rattle.law_commit.proofs.Below.law_refine.OfSeen.Alone.{moves_alone}
+use Rattle.law_commit.proofs.Below.law_refine.OfSeen.There.{there_before}
 use Rattle.law_order.specs.Rows.Asked.{SeeksWhereAsked, AttemptSeeks}
 use Rattle.law_order.proofs.OfRows.Changed.{IsChangedBy}
 use Rattle.law_order.proofs.OfRows.Kept.{Copies, changed_else, copied, keeps_by}

@@ -4,16 +4,16 @@ use Rattle.fkv_map.specs.declared.history.HistoryEntry.{HistoryEntry}
 use Rattle.law_log.specs.Ghosts.{Changes, Ghosts, GhostEvent, log_after}
 use Rattle.law_log.specs.Enabled.{AreEnabled}
 use Rattle.law_log.proofs.Shown.{enabled_before}
-use Rattle.fkv_ops.specs.declared.requests.Seen.{Seen}
-use Rattle.fkv_pending.specs.declared.pending_requests.PendingRequest.{PendingRequest}
-use Rattle.fkv_pending.specs.Attempting.{AttemptState}
-use Rattle.law_local.specs.Tries.AttemptRows.{AttemptKnows, KeepsForAttempt, PendingKnows}
-use Rattle.fkv_world.specs.Runs.{World, run}
-use Rattle.fkv_world.specs.World.{Event}
+use Rattle.law_commit.specs.Below.fkv_ops.Seen.{Seen}
+use Rattle.law_commit.specs.Below.fkv_pending.PendingRequest.{PendingRequest}
+use Rattle.law_commit.specs.Below.fkv_pending.Attempting.{AttemptState}
+use Rattle.law_commit.specs.Below.law_local.Tries.AttemptRows.{AttemptKnows, KeepsForAttempt, PendingKnows}
+use Rattle.law_commit.specs.Below.fkv_world.Runs.{World, run}
+use Rattle.law_commit.specs.Below.fkv_world.World.{Event}
 use Rattle.law_order.specs.Known.Begins.{BegunLife, home_of_world}
-use Rattle.law_refine.specs.Events.Effects.{step_at}
-use Rattle.law_refine.specs.Events.GhostEvents.{ghost_events, life_ghosts, mapped, serials_in}
-use Rattle.law_refine.proofs.OfEvents.EventEffects.{life_makes}
+use Rattle.law_commit.specs.Below.law_refine.Events.Effects.{step_at}
+use Rattle.law_commit.specs.Below.law_refine.Events.GhostEvents.{ghost_events, life_ghosts, mapped, serials_in}
+use Rattle.law_commit.proofs.Below.law_refine.OfEvents.EventEffects.{life_makes}
 use Rattle.law_order.proofs.OfRows.Along.{attempt_along, pending_along}
 use Rattle.law_order.proofs.OfRows.Changed.{IsChangedBy, event_change}
 

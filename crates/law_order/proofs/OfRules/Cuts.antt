@@ -7,19 +7,19 @@ use Rattle.std.proofs.lemmas.List.{get_or-map}
 use Rattle.std.proofs.lemmas.Option.{slice_get-get_or, slice_get_within}
 use Rattle.fkv_base.specs.Limits.{last_serial, last_version}
 use Rattle.fkv_base.specs.declared.numbers.Serial.{Serial}
-use Rattle.fkv_commit.specs.Cuts.{serial_said}
-use Rattle.fkv_commit.specs.Finishing as finishing
-use Rattle.fkv_core.specs.OpeningPlaces.{StandAsTold, StandOfSession}
-use Rattle.fkv_core.specs.Openings.{IsOpeningWorld}
-use Rattle.fkv_keeper.specs.Keeping.{Finality}
-use Rattle.fkv_opening.specs.Opening.{point_of}
-use Rattle.fkv_opening.specs.declared.opened_store.Opened.{Opened}
+use Rattle.law_commit.specs.Below.fkv_commit.Cuts.{serial_said}
+use Rattle.law_commit.specs.Below.fkv_commit.Finishing as finishing
+use Rattle.law_opening.specs.Below.fkv_core.OpeningPlaces.{StandAsTold, StandOfSession}
+use Rattle.law_opening.specs.Below.fkv_core.Openings.{IsOpeningWorld}
+use Rattle.law_commit.specs.Below.fkv_keeper.Keeping.{Finality}
+use Rattle.law_opening.specs.Below.fkv_opening.Opening.{point_of}
+use Rattle.law_opening.specs.Below.fkv_opening.TheOpened.{Opened}
 use Rattle.fkv_plane.specs.Asked.{word_at}
 use Rattle.fkv_plane.specs.Places.{session_place}
 use Rattle.fkv_plane.specs.declared.places.SessionWord.TheVariants as own
-use Rattle.fkv_session.specs.CatchingUp.{cut_at, cut_of}
-use Rattle.fkv_session.specs.Sessions.{SessionState}
-use Rattle.fkv_world.specs.World.{Now, seat_at}
+use Rattle.law_commit.specs.Below.fkv_session.CatchingUp.{cut_at, cut_of}
+use Rattle.law_commit.specs.Below.fkv_session.Sessions.{SessionState}
+use Rattle.law_commit.specs.Below.fkv_world.World.{Now, seat_at}
 use Rattle.law_commit.specs.Cuts.{IsCutPlace, ShowCuts, ShowsCut, ShowsDurable}
 use Rattle.law_commit.proofs.OfCuts.Serials.{low_said}
 use Rattle.law_opening.proofs.OfChanges.OfDevice.Mailboxes.{are_told, words_told}

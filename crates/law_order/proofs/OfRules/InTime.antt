@@ -1,10 +1,10 @@
 -- Where the lines of a life's events stand among the log's events, and so each read of a life is answered in time.
 use Rattle.std.proofs.Common.{◌≡◌, inl, inr, ℕ, ◌∙◌, append_assoc, Bool, true, false, List, [], ◌∷◌, ◌++◌, refl, sym, ap, subst}
 use Rattle.std.specs.Prelude.{length, map, if◌then◌else◌}
-use Rattle.fkv_core.specs.Openings.{IsOpeningWorld, beginning}
+use Rattle.law_opening.specs.Below.fkv_core.Openings.{IsOpeningWorld, beginning}
 use Rattle.fkv_map.specs.declared.history.HistoryEntry.{HistoryEntry}
 use Rattle.fkv_map.specs.declared.operations.Reply.{Reply}
-use Rattle.fkv_opening.specs.declared.opened_store.Opened.{Opened}
+use Rattle.law_opening.specs.Below.fkv_opening.TheOpened.{Opened}
 use Rattle.law_opening.specs.Log.Begins.{Begins}
 use Rattle.law_opening.specs.Log.Lives.{KeepsRules, ghosts_beside}
 use Rattle.law_opening.specs.Log.Maps.{opening_map}
@@ -14,16 +14,16 @@ use Rattle.law_log.specs.Enabled as order
 use Rattle.law_log.specs.Enabled.{AreEnabled}
 use Rattle.law_log.specs.Trace.{AnswersRead, CallsRead, IsIn, TraceLine, history_of}
 use Rattle.law_log.proofs.Shown.{enabled_before}
-use Rattle.law_world.specs.Runs.Added.{told_at, told_by}
-use Rattle.fkv_world.specs.Past.{TraceEvent}
-use Rattle.fkv_world.specs.Runs.{World, happens, run}
-use Rattle.fkv_world.specs.World.{Event, Now}
-use Rattle.law_refine.proofs.OfCalls.SameHistory.{same_history}
-use Rattle.law_refine.specs.Calls.Calls.{event_adds}
-use Rattle.law_world.specs.Guarded.Shows.{IsOpened}
-use Rattle.law_refine.specs.Events.GhostEvents.{fixed_ghosts, ghost_events, home_in, mapped, own_ghosts, safe_at, serials_in}
-use Rattle.law_refine.specs.Events.Lines.{lines_added}
-use Rattle.law_refine.specs.Records.Changes.{AreChangesPublished}
+use Rattle.law_commit.specs.Below.law_world.Runs.Added.{told_at, told_by}
+use Rattle.law_commit.specs.Below.fkv_world.Past.{TraceEvent}
+use Rattle.law_commit.specs.Below.fkv_world.Runs.{World, happens, run}
+use Rattle.law_commit.specs.Below.fkv_world.World.{Event, Now}
+use Rattle.law_commit.proofs.Below.law_refine.OfCalls.SameHistory.{same_history}
+use Rattle.law_commit.specs.Below.law_refine.Calls.Calls.{event_adds}
+use Rattle.law_commit.specs.Below.law_world.Guarded.Shows.{IsOpened}
+use Rattle.law_commit.specs.Below.law_refine.Events.GhostEvents.{fixed_ghosts, ghost_events, home_in, mapped, own_ghosts, safe_at, serials_in}
+use Rattle.law_commit.specs.Below.law_refine.Events.Lines.{lines_added}
+use Rattle.law_commit.specs.Below.law_refine.Records.Changes.{AreChangesPublished}
 use Rattle.law_order.specs.Rules.InTime.{IsInTime, ReadsInTime}
 use Rattle.law_order.specs.Rules.Ordered.{effects_so_far}
 use Rattle.law_order.proofs.OfRules.Kept.{same_entries}

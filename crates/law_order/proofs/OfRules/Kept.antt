@@ -1,17 +1,17 @@
 -- Where the rules are kept: the life's history has the entries of the log's, and each of its events is permitted.
 use Rattle.std.proofs.Common.{◌≡◌, ℕ, List, [], ◌∷◌, ◌++◌}
-use Rattle.fkv_core.specs.Openings.{IsOpeningWorld, beginning}
-use Rattle.fkv_opening.specs.declared.opened_store.Opened.{Opened}
+use Rattle.law_opening.specs.Below.fkv_core.Openings.{IsOpeningWorld, beginning}
+use Rattle.law_opening.specs.Below.fkv_opening.TheOpened.{Opened}
 use Rattle.law_opening.specs.Log.Begins.{Begins}
 use Rattle.law_opening.specs.Log.Lives.{ghosts_beside}
 use Rattle.law_opening.specs.Log.OpeningLog.{opening_ghosts}
-use Rattle.fkv_world.specs.Runs.{World, run}
-use Rattle.fkv_world.specs.World.{Event, Now}
-use Rattle.law_refine.proofs.OfCalls.LifeHistory.{life_entries}
-use Rattle.law_refine.specs.Calls.Calls.{entries_of}
-use Rattle.law_world.specs.Guarded.Shows.{ArePermitted, IsPermitted, IsOpened}
-use Rattle.law_refine.proofs.OfRecords.Meets.{life_meets_published}
-use Rattle.law_refine.specs.Records.Changes.{AreChangesPublished}
+use Rattle.law_commit.specs.Below.fkv_world.Runs.{World, run}
+use Rattle.law_commit.specs.Below.fkv_world.World.{Event, Now}
+use Rattle.law_commit.proofs.Below.law_refine.OfCalls.LifeHistory.{life_entries}
+use Rattle.law_commit.specs.Below.law_refine.Calls.Calls.{entries_of}
+use Rattle.law_commit.specs.Below.law_world.Guarded.Shows.{ArePermitted, IsPermitted, IsOpened}
+use Rattle.law_commit.proofs.Below.law_refine.OfRecords.Meets.{life_meets_published}
+use Rattle.law_commit.specs.Below.law_refine.Records.Changes.{AreChangesPublished}
 use Rattle.law_order.specs.Rules.Ordered.{effects_so_far}
 use Rattle.law_order.proofs.OfRules.Beginning.{world_opens}
 

@@ -4,13 +4,13 @@ use Rattle.std.specs.Prelude.{Option, None, Some, slice_get}
 use Rattle.std.proofs.lemmas.List.{get_or-map}
 use Rattle.std.proofs.lemmas.Option.{slice_get_within}
 use Rattle.fkv_base.specs.declared.numbers.Serial.{Serial}
-use Rattle.fkv_core.specs.Openings.{IsOpeningWorld}
-use Rattle.fkv_keeper.specs.Keeping.{Finality}
+use Rattle.law_opening.specs.Below.fkv_core.Openings.{IsOpeningWorld}
+use Rattle.law_commit.specs.Below.fkv_keeper.Keeping.{Finality}
 use Rattle.fkv_map.specs.History.{point_of}
-use Rattle.fkv_opening.specs.Opening as opening
-use Rattle.fkv_opening.specs.declared.opened_store.Opened.{Opened}
-use Rattle.fkv_session.specs.Sessions.{SessionState}
-use Rattle.fkv_world.specs.World.{Now}
+use Rattle.law_opening.specs.Below.fkv_opening.Opening as opening
+use Rattle.law_opening.specs.Below.fkv_opening.TheOpened.{Opened}
+use Rattle.law_commit.specs.Below.fkv_session.Sessions.{SessionState}
+use Rattle.law_commit.specs.Below.fkv_world.World.{Now}
 use Rattle.law_commit.specs.Accepted.{serial_at, serial_of}
 use Rattle.law_commit.proofs.OfPoints.Taken.{none_past, point_past}
 

@@ -6,8 +6,8 @@ use Rattle.fkv_map.specs.Map.{Map, reply_to_read}
 use Rattle.fkv_map.specs.declared.history.HistoryEntry.{HistoryEntry}
 use Rattle.fkv_map.specs.declared.operations.Reply.{Reply}
 use Rattle.law_log.specs.Trace.{Effect, TraceLine, CallsUpdate, HasUpdate, HaveTakenEffect, IsFresh, IsIn, OrdersCalls, ReadsAreFresh, called_as}
-use Rattle.law_refine.specs.Calls.Calls.{entries_of}
-use Rattle.law_refine.proofs.OfCalls.SameHistory.{same_history, same_reply, same_update}
+use Rattle.law_commit.specs.Below.law_refine.Calls.Calls.{entries_of}
+use Rattle.law_commit.proofs.Below.law_refine.OfCalls.SameHistory.{same_history, same_reply, same_update}
 use Rattle.std.specs.FinMap.{get}
 
 -- ---- cut at the same place

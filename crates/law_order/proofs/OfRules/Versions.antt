@@ -1,10 +1,10 @@
 -- The records of an opened store's log are of its commit's version.
 use Rattle.std.proofs.Common.{◌≡◌, ℕ, ◌+◌, List, arith, ap, Bool, true, false}
 use Rattle.std.specs.Prelude.{Some, cond}
-use Rattle.fkv_core.specs.Openings.{IsOpeningWorld}
-use Rattle.fkv_keeper.specs.Keeping.{Finality}
-use Rattle.fkv_opening.specs.declared.opened_store.Opened.{Opened}
-use Rattle.fkv_world.specs.World.{Now}
+use Rattle.law_opening.specs.Below.fkv_core.Openings.{IsOpeningWorld}
+use Rattle.law_commit.specs.Below.fkv_keeper.Keeping.{Finality}
+use Rattle.law_opening.specs.Below.fkv_opening.TheOpened.{Opened}
+use Rattle.law_commit.specs.Below.fkv_world.World.{Now}
 use Rattle.law_commit.specs.PhaseVersions.{phase_version, version_said}
 use Rattle.law_commit.specs.Phases.Staged.{OpensAtRest}
 use Rattle.law_commit.specs.Versions.Cells.{CellsUpto, made_in}

@@ -2,27 +2,27 @@
 use Rattle.std.proofs.Common.{◌≡◌, ℕ, zero, suc, ◌≤◌, ◌∙◌, append_assoc, Bool, true, false, Option, List, [], ◌∷◌, ◌++◌, refl, sym, ap, subst, inl, inr}
 use Rattle.std.specs.Prelude.{None, Some, slice_get}
 use Rattle.std.specs.Option.{is_some}
-use Rattle.fkv_core.specs.Openings.{IsOpeningWorld, beginning}
-use Rattle.fkv_filling.specs.OpeningIndex.{opening_lists}
+use Rattle.law_opening.specs.Below.fkv_core.Openings.{IsOpeningWorld, beginning}
+use Rattle.law_opening.specs.Below.fkv_filling.OpeningIndex.{opening_lists}
 use Rattle.fkv_index.specs.Slots.{entry_addr}
 use Rattle.fkv_map.specs.Map.{Map, reply_to_read}
 use Rattle.fkv_map.specs.declared.history.HistoryEntry.{HistoryEntry}
 use Rattle.fkv_map.specs.declared.operations.Reply.{Reply}
-use Rattle.fkv_opening.specs.declared.opened_store.Opened.{Opened}
-use Rattle.fkv_ops.specs.Requests.{is_read}
-use Rattle.fkv_ops.specs.declared.answers.DiskRecord.{DiskRecord}
-use Rattle.fkv_pending.specs.declared.pending_requests.PendingRequest.{PendingRequest}
-use Rattle.fkv_pending.specs.declared.pending_requests.Ticket.{Ticket}
-use Rattle.fkv_session.specs.Sessions.{SessionState, is_busy}
-use Rattle.fkv_session.specs.declared.sessions.Sitting.{Sitting}
-use Rattle.fkv_session.specs.declared.sessions.Sitting.TheVariants.{Polls}
-use Rattle.fkv_world.specs.Past.{Traced}
-use Rattle.fkv_world.specs.Runs.{World, run}
-use Rattle.fkv_world.specs.World.{Event, Now}
-use Rattle.law_local.specs.Tries.AttemptRows.{PendingKnows}
-use Rattle.law_local.specs.Tries.HeldRows.{SoughtKnows}
-use Rattle.law_local.specs.Tries.ReadRows.{SoughtReads}
-use Rattle.law_local.specs.Tries.TryRows.{head_in, key_in}
+use Rattle.law_opening.specs.Below.fkv_opening.TheOpened.{Opened}
+use Rattle.law_commit.specs.Below.fkv_ops.Requests.{is_read}
+use Rattle.law_commit.specs.Below.fkv_ops.DiskRecord.{DiskRecord}
+use Rattle.law_commit.specs.Below.fkv_pending.PendingRequest.{PendingRequest}
+use Rattle.law_commit.specs.Below.fkv_pending.Ticket.{Ticket}
+use Rattle.law_commit.specs.Below.fkv_session.Sessions.{SessionState, is_busy}
+use Rattle.law_commit.specs.Below.fkv_session.Sitting.{Sitting}
+use Rattle.law_commit.specs.Below.fkv_session.Sitting.TheVariants.{Polls}
+use Rattle.law_commit.specs.Below.fkv_world.Past.{Traced}
+use Rattle.law_commit.specs.Below.fkv_world.Runs.{World, run}
+use Rattle.law_commit.specs.Below.fkv_world.World.{Event, Now}
+use Rattle.law_commit.specs.Below.law_local.Tries.AttemptRows.{PendingKnows}
+use Rattle.law_commit.specs.Below.law_local.Tries.HeldRows.{SoughtKnows}
+use Rattle.law_commit.specs.Below.law_local.Tries.ReadRows.{SoughtReads}
+use Rattle.law_commit.specs.Below.law_local.Tries.TryRows.{head_in, key_in}
 use Rattle.law_log.specs.Chains.{value_at}
 use Rattle.law_log.specs.Enabled.{AreEnabled, IsLineEnabled, IsOpened}
 use Rattle.law_log.specs.Ghosts.{Ghosts, GhostEvent, HasValue, Log, Reading, Tells, Walks, first_from, ghost_run}
@@ -53,12 +53,12 @@ use Rattle.law_order.proofs.OfReads.Spared.{IsBehindSpared, IsPast, behind_spare
 use Rattle.law_order.proofs.OfRules.InTime.{IsTold, behind, told}
 use Rattle.law_order.proofs.OfRules.ReadRuns.{WasCalled, had_in_time, run_so, walks_so}
 use Rattle.law_order.proofs.OfTickets.Events.{before_few}
-use Rattle.law_refine.proofs.OfEvents.RequestNames.{life_named}
-use Rattle.law_refine.specs.Calls.Calls.{event_adds}
-use Rattle.law_refine.specs.Events.GhostEvents.{ghost_events, life_ghosts, mapped, serials_in}
-use Rattle.law_refine.specs.Events.Lines.{read_waiting}
-use Rattle.law_refine.specs.Events.Names.{AreNamedSo, IsNamedSo, is_read_name}
-use Rattle.law_refine.specs.Events.Sessions.{ticket_of}
+use Rattle.law_commit.proofs.Below.law_refine.OfEvents.RequestNames.{life_named}
+use Rattle.law_commit.specs.Below.law_refine.Calls.Calls.{event_adds}
+use Rattle.law_commit.specs.Below.law_refine.Events.GhostEvents.{ghost_events, life_ghosts, mapped, serials_in}
+use Rattle.law_commit.specs.Below.law_refine.Events.Lines.{read_waiting}
+use Rattle.law_commit.specs.Below.law_refine.Events.Names.{AreNamedSo, IsNamedSo, is_read_name}
+use Rattle.law_commit.specs.Below.law_refine.Events.Sessions.{ticket_of}
 
 -- ---- a shorter life
 fits_before : (later before : List Event) → CallsFit (later ++ before) → CallsFit before

@@ -2,18 +2,18 @@
 use Rattle.std.proofs.Common.{◌≡◌, ◌∙◌, ap, sym, subst, arith, ℕ, ◌+◌, ◌*◌, ◌^◌, ◌<◌, ◌≤◌, List}
 use Rattle.fkv_base.specs.Limits.{last_version}
 use Rattle.fkv_base.specs.declared.phases.Phase.TheVariants.{Rest}
-use Rattle.fkv_core.specs.OpeningWords.{AreWordsOfOpened}
-use Rattle.fkv_core.specs.Openings.{IsOpeningWorld}
+use Rattle.law_opening.specs.Below.fkv_core.OpeningWords.{AreWordsOfOpened}
+use Rattle.law_opening.specs.Below.fkv_core.Openings.{IsOpeningWorld}
 use Rattle.fkv_epoch.specs.Claiming.{phase_stored}
-use Rattle.fkv_keeper.specs.Keeping.{Finality}
-use Rattle.fkv_opening.specs.declared.opened_store.Opened.{Opened}
+use Rattle.law_commit.specs.Below.fkv_keeper.Keeping.{Finality}
+use Rattle.law_opening.specs.Below.fkv_opening.TheOpened.{Opened}
 use Rattle.fkv_plane.specs.Asked.{word_at}
 use Rattle.fkv_plane.specs.Places.{shared_place}
 use Rattle.fkv_plane.specs.declared.places.SharedWord.TheVariants as one
 use Rattle.fkv_words.specs.PhaseWords.{phase_said}
 use Rattle.fkv_words.specs.Phases.{phase_number}
 use Rattle.fkv_words.specs.declared.phase_words.PhaseSaid.TheVariants.{Says}
-use Rattle.fkv_world.specs.World.{Now}
+use Rattle.law_commit.specs.Below.fkv_world.World.{Now}
 use Rattle.law_commit.proofs.OfPhases.StageWords.{stored_says}
 use Rattle.law_commit.specs.Floor.Stands.{OpensSeen}
 use Rattle.law_commit.specs.PhaseStores.{phase_at}

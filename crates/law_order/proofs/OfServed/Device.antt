@@ -1,15 +1,15 @@
 -- A life of the order law begins with numbers that fit if its log does, and what is flushed in it is fixed.
 use Rattle.std.proofs.Common.{◌≡◌, ℕ, ◌<◌, ◌≤◌, subst, arith, List}
-use Rattle.fkv_flush.specs.GuardLevels.{levels_of}
-use Rattle.fkv_world.specs.Runs.{run}
-use Rattle.fkv_world.specs.World.{Event}
+use Rattle.law_commit.specs.Below.fkv_flush.GuardLevels.{levels_of}
+use Rattle.law_commit.specs.Below.fkv_world.Runs.{run}
+use Rattle.law_commit.specs.Below.fkv_world.World.{Event}
 use Rattle.law_opening.proofs.OfChanges.Openings.{linked_log}
 use Rattle.law_opening.specs.Changes.Fits.{CellsFit}
 use Rattle.law_opening.specs.Changes.Laws.{BeginsFitting}
-use Rattle.law_world.proofs.OfGuarded.Worlds.{life_shows}
+use Rattle.law_commit.proofs.Below.law_world.OfGuarded.Worlds.{life_shows}
 use Rattle.law_order.specs.Known.Begins.{BegunLife, home_of_world}
-use Rattle.law_refine.proofs.OfEvents.Fixed.{ghost_fixed}
-use Rattle.law_refine.specs.Events.GhostEvents.{life_ghosts, safe_at}
+use Rattle.law_commit.proofs.Below.law_refine.OfEvents.Fixed.{ghost_fixed}
+use Rattle.law_commit.specs.Below.law_refine.Events.GhostEvents.{life_ghosts, safe_at}
 
 some_start : (fixed safe start : ℕ) → 0 < fixed → fixed ≡ safe → safe ≡ start → 0 < start
 some_start fixed safe start some one other = omega (arith, some, one, other)

@@ -6,11 +6,11 @@ use Rattle.law_log.specs.Chains.{Cell, Published}
 use Rattle.law_log.specs.Ghosts.{Log, Ghosts, GhostEvent, log_after, ghosts_after, ghost_run}
 use Rattle.law_log.specs.Enabled.{AreEnabled, IsOpened}
 use Rattle.law_log.proofs.Shown.{enabled_before, Grows}
-use Rattle.fkv_world.specs.Runs.{World, run}
-use Rattle.fkv_world.specs.World.{Event}
+use Rattle.law_commit.specs.Below.fkv_world.Runs.{World, run}
+use Rattle.law_commit.specs.Below.fkv_world.World.{Event}
 use Rattle.law_order.specs.Known.Begins.{home_of_world}
-use Rattle.law_refine.specs.Events.GhostEvents.{serials_in, ghost_events, mapped, life_ghosts}
-use Rattle.law_refine.proofs.OfEvents.Below.{one_step}
+use Rattle.law_commit.specs.Below.law_refine.Events.GhostEvents.{serials_in, ghost_events, mapped, life_ghosts}
+use Rattle.law_commit.proofs.Below.law_refine.OfEvents.Below.{one_step}
 
 -- it is there, and changes no more
 pub record IsFixedAs (log : Log) (a : ℕ) (cell : Cell) : Type 0 where

@@ -6,16 +6,16 @@ use Rattle.law_log.specs.Chains.{Cell, Logged, Published}
 use Rattle.law_log.specs.Enabled.{AreEnabled}
 use Rattle.fkv_plane.specs.declared.places.RecordWord.TheVariants as rec
 use Rattle.fkv_record.specs.Places as image
-use Rattle.law_local.specs.Tries.MailRows.{IsRecordOf}
-use Rattle.fkv_world.specs.World.{Event}
+use Rattle.law_commit.specs.Below.law_local.Tries.MailRows.{IsRecordOf}
+use Rattle.law_commit.specs.Below.fkv_world.World.{Event}
 use Rattle.law_opening.proofs.OfChanges.OfDevice.There.{CallsLaw, device_there, read_then, there_read}
 use Rattle.law_opening.proofs.OfChanges.OfDevice.Words.{WordsLaw, header_fits, read_back, value_fits}
 use Rattle.law_opening.proofs.OfChanges.OfFits.Life.{life_fits}
 use Rattle.law_opening.specs.Changes.Images.{IsInImage}
 use Rattle.law_order.specs.Known.Begins.{BegunLife, home_of_world}
-use Rattle.law_refine.specs.Mail.MailEvents.{record_read}
-use Rattle.law_refine.specs.Events.GhostEvents.{life_ghosts, mapped}
-use Rattle.law_refine.specs.Records.Changes.{AreChangesPublished}
+use Rattle.law_commit.specs.Below.law_refine.Mail.MailEvents.{record_read}
+use Rattle.law_commit.specs.Below.law_refine.Events.GhostEvents.{life_ghosts, mapped}
+use Rattle.law_commit.specs.Below.law_refine.Records.Changes.{AreChangesPublished}
 use Rattle.law_order.specs.Served.Fits.{CallsFit, CellFits, CellsFit}
 use Rattle.law_order.specs.Served.Served.{ServedShow}
 use Rattle.law_order.proofs.OfServed.Device.{begins_fitting, flushed_fixed}

@@ -2,35 +2,35 @@
 use Rattle.std.proofs.Common.{◌≡◌, ℕ, ◌∙◌, refl, sym, ap, subst, Bool, true, false}
 use Rattle.std.specs.Prelude.{◌==◌, ⊤, if◌then◌else◌, Option, Some, None}
 use Rattle.fkv_map.specs.Keys.{key_of}
-use Rattle.fkv_ops.specs.declared.answers.DiskRecord.{DiskRecord}
-use Rattle.fkv_ops.specs.declared.answers.TryAnswer.{TryAnswer}
-use Rattle.fkv_ops.specs.declared.answers.TryAnswer.TheVariants as answer
-use Rattle.fkv_ops.specs.declared.header_words.HeaderSaid.{HeaderSaid}
-use Rattle.fkv_ops.specs.declared.header_words.HeaderSaid.TheVariants.{Says, Spoiled}
-use Rattle.fkv_ops.specs.declared.requests.HeldRecord.{HeldRecord}
-use Rattle.fkv_ops.specs.declared.requests.Occasion.{Occasion}
-use Rattle.fkv_ops.specs.declared.requests.Request.{Request}
-use Rattle.fkv_ops.specs.declared.requests.Seen.{Seen}
-use Rattle.fkv_ops.specs.HeaderWords.{header_said}
-use Rattle.fkv_ops.specs.Requests.{is_read}
-use Rattle.fkv_ops.specs.Trying.{is_prepare, told_value, try_ask, try_next}
-use Rattle.fkv_ops.specs.Values.{value_of}
-use Rattle.fkv_ops.specs.declared.trying.Trying.{Trying}
-use Rattle.fkv_ops.specs.declared.trying.Trying.TheVariants as trying
-use Rattle.fkv_ops.specs.Trying.{TryState, trying_ask}
-use Rattle.fkv_ops.proofs.Shown.{TryRestsOrAsks, is_try_end, try_done, try_rests}
-use Rattle.fkv_pending.specs.declared.attempting.Attempting.{Attempting}
-use Rattle.fkv_pending.specs.declared.attempting.Attempting.TheVariants.{Ended, Looks, Puts, Tries}
-use Rattle.fkv_pending.specs.declared.mailing.MailAnswer.{MailAnswer}
-use Rattle.fkv_pending.specs.declared.mailing.MailAnswer.TheVariants as mail
-use Rattle.fkv_pending.specs.declared.mailing.MailRecord.{MailRecord}
-use Rattle.fkv_pending.specs.declared.mailing.MailTask.TheVariants.{Take}
-use Rattle.fkv_pending.specs.declared.mailing.Mailing.TheVariants.{LoadsState}
-use Rattle.fkv_pending.specs.declared.pending_requests.PendingRequest.{PendingRequest}
-use Rattle.fkv_pending.specs.Attempting.{AttemptState, attempt_begun, attempt_ended, attempt_next, attempting_next, awaits_record, goes_on, held_kept, held_of, is_seeking_read, look_ledto, moved_on, new_attempt, not_ready, put_ledto, puts, puts_addr, read_on, record_taken, tried, tries, try_ledto, waits_for_disk}
-use Rattle.fkv_pending.specs.Mailing.{mail_ask, mail_next}
-use Rattle.fkv_pending.proofs.Shown.{AttemptAsksAt, AttemptRestsOrAsks}
-use Rattle.fkv_pending.specs.Pending.{with_asked, with_held, with_latch, with_sought}
+use Rattle.law_commit.specs.Below.fkv_ops.DiskRecord.{DiskRecord}
+use Rattle.law_commit.specs.Below.fkv_ops.TryAnswer.{TryAnswer}
+use Rattle.law_commit.specs.Below.fkv_ops.TryAnswer.TheVariants as answer
+use Rattle.law_commit.specs.Below.fkv_ops.HeaderSaid.{HeaderSaid}
+use Rattle.law_commit.specs.Below.fkv_ops.HeaderSaid.TheVariants.{Says, Spoiled}
+use Rattle.law_commit.specs.Below.fkv_ops.HeldRecord.{HeldRecord}
+use Rattle.law_commit.specs.Below.fkv_ops.Occasion.{Occasion}
+use Rattle.law_commit.specs.Below.fkv_ops.Request.{Request}
+use Rattle.law_commit.specs.Below.fkv_ops.Seen.{Seen}
+use Rattle.law_commit.specs.Below.fkv_ops.HeaderWords.{header_said}
+use Rattle.law_commit.specs.Below.fkv_ops.Requests.{is_read}
+use Rattle.law_commit.specs.Below.fkv_ops.Trying.{is_prepare, told_value, try_ask, try_next}
+use Rattle.law_commit.specs.Below.fkv_ops.Values.{value_of}
+use Rattle.law_commit.specs.Below.fkv_ops.TheTrying.{Trying}
+use Rattle.law_commit.specs.Below.fkv_ops.TheTrying.TheVariants as trying
+use Rattle.law_commit.specs.Below.fkv_ops.Trying.{TryState, trying_ask}
+use Rattle.law_commit.proofs.Below.fkv_ops.Shown.{TryRestsOrAsks, is_try_end, try_done, try_rests}
+use Rattle.law_commit.specs.Below.fkv_pending.TheAttempting.{Attempting}
+use Rattle.law_commit.specs.Below.fkv_pending.TheAttempting.TheVariants.{Ended, Looks, Puts, Tries}
+use Rattle.law_commit.specs.Below.fkv_pending.MailAnswer.{MailAnswer}
+use Rattle.law_commit.specs.Below.fkv_pending.MailAnswer.TheVariants as mail
+use Rattle.law_commit.specs.Below.fkv_pending.MailRecord.{MailRecord}
+use Rattle.law_commit.specs.Below.fkv_pending.MailTask.TheVariants.{Take}
+use Rattle.law_commit.specs.Below.fkv_pending.TheMailing.TheVariants.{LoadsState}
+use Rattle.law_commit.specs.Below.fkv_pending.PendingRequest.{PendingRequest}
+use Rattle.law_commit.specs.Below.fkv_pending.Attempting.{AttemptState, attempt_begun, attempt_ended, attempt_next, attempting_next, awaits_record, goes_on, held_kept, held_of, is_seeking_read, look_ledto, moved_on, new_attempt, not_ready, put_ledto, puts, puts_addr, read_on, record_taken, tried, tries, try_ledto, waits_for_disk}
+use Rattle.law_commit.specs.Below.fkv_pending.Mailing.{mail_ask, mail_next}
+use Rattle.law_commit.proofs.Below.fkv_pending.Shown.{AttemptAsksAt, AttemptRestsOrAsks}
+use Rattle.law_commit.specs.Below.fkv_pending.Pending.{with_asked, with_held, with_latch, with_sought}
 use Rattle.fkv_plane.specs.declared.asks.Ask.{Ask}
 use Rattle.fkv_plane.specs.declared.asks.Ask.TheVariants.{Done}
 use Rattle.fkv_plane.specs.declared.places.Places.{Places}

@@ -6,12 +6,12 @@ use Rattle.fkv_plane.specs.declared.asks.Ask.{Ask}
 use Rattle.fkv_plane.specs.declared.asks.Ask.TheVariants.{Done, Put, Take}
 use Rattle.fkv_plane.specs.Asked.{reply_to}
 use Rattle.fkv_plane.specs.Plane.{action_at}
-use Rattle.fkv_session.specs.declared.answers.Told.{Told}
-use Rattle.fkv_session.specs.declared.sessions.Sitting.{Sitting}
-use Rattle.fkv_session.specs.declared.sessions.Sitting.TheVariants.{Idle, Turns}
-use Rattle.fkv_session.specs.OwnTurns.{own_turn_ask, own_turn_given}
-use Rattle.fkv_session.specs.Sessions.{Seat, SessionState, session_ask, sitting_given}
-use Rattle.fkv_world.specs.Moves.{Near, session_asks, session_gets, session_moved, session_replied, session_settled}
+use Rattle.law_commit.specs.Below.fkv_session.Told.{Told}
+use Rattle.law_commit.specs.Below.fkv_session.Sitting.{Sitting}
+use Rattle.law_commit.specs.Below.fkv_session.Sitting.TheVariants.{Idle, Turns}
+use Rattle.law_commit.specs.Below.fkv_session.OwnTurns.{own_turn_ask, own_turn_given}
+use Rattle.law_commit.specs.Below.fkv_session.Sessions.{Seat, SessionState, session_ask, sitting_given}
+use Rattle.law_commit.specs.Below.fkv_world.Moves.{Near, session_asks, session_gets, session_moved, session_replied, session_settled}
 use Rattle.law_opening.proofs.OfChanges.OfSessions.Calm.{is_calm, next_calm, turned_calm}
 
 action_calm : (k : Seat) (s : SessionState) (step : Sitting) (action : Action) → s.step ≡ step → is_calm step ≡ true → is_calm (sitting_given k s step action).step ≡ true

@@ -11,17 +11,17 @@ use Rattle.fkv_epoch.specs.Refreshing.{refresh_ask, refresh_finish, refresh_next
 use Rattle.fkv_latch.specs.declared.latching.LatchAnswer.{LatchAnswer}
 use Rattle.fkv_latch.specs.declared.latching.LatchAnswer.TheVariants.{Taken}
 use Rattle.fkv_latch.specs.Latching.{latch_next, latch_next_ask}
-use Rattle.fkv_ops.specs.declared.requests.Seen.{Seen}
-use Rattle.fkv_ops.specs.Trying.{is_prepare}
-use Rattle.fkv_pending.specs.declared.pending_requests.PendingRequest.{PendingRequest}
-use Rattle.fkv_pending.specs.Pending.{is_unlatched}
+use Rattle.law_commit.specs.Below.fkv_ops.Seen.{Seen}
+use Rattle.law_commit.specs.Below.fkv_ops.Trying.{is_prepare}
+use Rattle.law_commit.specs.Below.fkv_pending.PendingRequest.{PendingRequest}
+use Rattle.law_commit.specs.Below.fkv_pending.Pending.{is_unlatched}
 use Rattle.fkv_plane.specs.declared.asks.Ask.{Ask}
 use Rattle.fkv_plane.specs.declared.asks.Ask.TheVariants.{Done}
 use Rattle.fkv_plane.specs.declared.places.Places.{Places}
 use Rattle.fkv_plane.specs.Passing.{passed}
-use Rattle.fkv_session.specs.declared.catching_up.Catching.{Catching}
-use Rattle.fkv_session.specs.declared.catching_up.Catching.TheVariants.{Ended, Finishes, Latches, Protects, Refreshes, StoresCut, StoresOwing}
-use Rattle.fkv_session.specs.CatchingUp.{CatchState, catch_ask, catch_next, catch_requests, catching_ask, catching_next, cuts, enters_prepare, finish_ledto, finishes, is_same_version, latch_begun, latch_ledto, latch_wanted, latches, refresh_ledto, seen_after, takes_up}
+use Rattle.law_commit.specs.Below.fkv_session.Catching.{Catching}
+use Rattle.law_commit.specs.Below.fkv_session.Catching.TheVariants.{Ended, Finishes, Latches, Protects, Refreshes, StoresCut, StoresOwing}
+use Rattle.law_commit.specs.Below.fkv_session.CatchingUp.{CatchState, catch_ask, catch_next, catch_requests, catching_ask, catching_next, cuts, enters_prepare, finish_ledto, finishes, is_same_version, latch_begun, latch_ledto, latch_wanted, latches, refresh_ledto, seen_after, takes_up}
 use Rattle.fkv_words.specs.declared.phase_words.PhaseSaid.{PhaseSaid}
 use Rattle.fkv_words.specs.declared.phase_words.PhaseSaid.TheVariants.{Says, Spoiled}
 use Rattle.fkv_words.specs.PhaseWords.{phase_said}

@@ -16,38 +16,38 @@ use Rattle.fkv_latch.specs.declared.latching.Latching.TheVariants.{AddsShare}
 use Rattle.fkv_latch.specs.Latching.{is_exclusive, latch_ask, one_share}
 use Rattle.fkv_latch.specs.LatchWorld.{has_latch}
 use Rattle.fkv_map.specs.Keys.{key_of}
-use Rattle.fkv_ops.specs.declared.requests.Occasion.TheVariants.{Call as AtCall, Poll as AtPoll}
-use Rattle.fkv_ops.specs.declared.requests.Request.{Request}
-use Rattle.fkv_ops.specs.declared.requests.Seen.{Seen}
-use Rattle.fkv_ops.specs.declared.trying.Trying.{Trying}
-use Rattle.fkv_ops.specs.declared.trying.Trying.TheVariants.{TakesShared, Walks}
-use Rattle.fkv_ops.specs.declared.walking.WalkAnswer.TheVariants as walked
-use Rattle.fkv_ops.specs.declared.walking.Walking.{Walking}
-use Rattle.fkv_ops.specs.declared.walking.Walking.TheVariants.{Ended, Finds, HasFound, LoadsValue, Meets}
-use Rattle.fkv_ops.specs.Requests.{is_read}
-use Rattle.fkv_ops.specs.Trying.{TryState, is_above, is_prepare, must_shift, trying_ask}
-use Rattle.fkv_ops.specs.Walking.{WalkState, walk_next}
-use Rattle.fkv_pending.specs.declared.attempting.Attempting.{Attempting}
-use Rattle.fkv_pending.specs.declared.attempting.Attempting.TheVariants.{Tries}
-use Rattle.fkv_pending.specs.Attempting.{attempting_ask}
+use Rattle.law_commit.specs.Below.fkv_ops.Occasion.TheVariants.{Call as AtCall, Poll as AtPoll}
+use Rattle.law_commit.specs.Below.fkv_ops.Request.{Request}
+use Rattle.law_commit.specs.Below.fkv_ops.Seen.{Seen}
+use Rattle.law_commit.specs.Below.fkv_ops.TheTrying.{Trying}
+use Rattle.law_commit.specs.Below.fkv_ops.TheTrying.TheVariants.{TakesShared, Walks}
+use Rattle.law_commit.specs.Below.fkv_ops.WalkAnswer.TheVariants as walked
+use Rattle.law_commit.specs.Below.fkv_ops.TheWalking.{Walking}
+use Rattle.law_commit.specs.Below.fkv_ops.TheWalking.TheVariants.{Ended, Finds, HasFound, LoadsValue, Meets}
+use Rattle.law_commit.specs.Below.fkv_ops.Requests.{is_read}
+use Rattle.law_commit.specs.Below.fkv_ops.Trying.{TryState, is_above, is_prepare, must_shift, trying_ask}
+use Rattle.law_commit.specs.Below.fkv_ops.Walking.{WalkState, walk_next}
+use Rattle.law_commit.specs.Below.fkv_pending.TheAttempting.{Attempting}
+use Rattle.law_commit.specs.Below.fkv_pending.TheAttempting.TheVariants.{Tries}
+use Rattle.law_commit.specs.Below.fkv_pending.Attempting.{attempting_ask}
 use Rattle.fkv_plane.specs.declared.asks.Ask.TheVariants.{Add, Load}
 use Rattle.fkv_plane.specs.declared.places.SharedWord.TheVariants as one
 use Rattle.fkv_plane.specs.Asked.{reply_to, word_at}
 use Rattle.fkv_plane.specs.Passing.{passed}
 use Rattle.fkv_plane.specs.Places.{bucket_place, shared_place}
-use Rattle.fkv_session.specs.declared.catching_up.Catching.TheVariants as catching
-use Rattle.fkv_session.specs.declared.sessions.CatchCause.TheVariants.{Shifts}
-use Rattle.fkv_session.specs.declared.sessions.Sitting.{Sitting}
-use Rattle.fkv_session.specs.declared.sessions.Sitting.TheVariants.{Attempts, CatchesUp, Polls}
-use Rattle.fkv_session.specs.CatchingUp.{catching_ask}
-use Rattle.fkv_session.specs.Sessions.{Seat, SessionState, session_ask, sitting_ask}
+use Rattle.law_commit.specs.Below.fkv_session.Catching.TheVariants as catching
+use Rattle.law_commit.specs.Below.fkv_session.CatchCause.TheVariants.{Shifts}
+use Rattle.law_commit.specs.Below.fkv_session.Sitting.{Sitting}
+use Rattle.law_commit.specs.Below.fkv_session.Sitting.TheVariants.{Attempts, CatchesUp, Polls}
+use Rattle.law_commit.specs.Below.fkv_session.CatchingUp.{catching_ask}
+use Rattle.law_commit.specs.Below.fkv_session.Sessions.{Seat, SessionState, session_ask, sitting_ask}
 use Rattle.fkv_words.specs.declared.phase_words.PhaseSaid.{PhaseSaid}
 use Rattle.fkv_words.specs.declared.phase_words.PhaseSaid.TheVariants.{Says, Spoiled}
 use Rattle.fkv_words.specs.PhaseWords.{phase_said}
-use Rattle.fkv_world.specs.Opened.{HasBecome}
-use Rattle.fkv_world.specs.Runs.{run}
-use Rattle.fkv_world.specs.World.{Event, Now, seat_at}
-use Rattle.fkv_world.proofs.Shown.{places_stay, shape_stays}
+use Rattle.law_commit.specs.Below.fkv_world.Opened.{HasBecome}
+use Rattle.law_commit.specs.Below.fkv_world.Runs.{run}
+use Rattle.law_commit.specs.Below.fkv_world.World.{Event, Now, seat_at}
+use Rattle.law_commit.proofs.Below.fkv_world.Shown.{places_stay, shape_stays}
 use Rattle.law_apart.specs.Apart.Rows.{HasComeTo, HasMet, HasMetFirst, LatchRow, MetIn, SharesRow, TryApart, WalkApart}
 use Rattle.law_apart.proofs.OfApart.Tries.{came_stays}
 use Rattle.law_apart.proofs.OfApart.Walks.{walk_apart, walk_met}
@@ -64,14 +64,14 @@ use Rattle.law_commit.proofs.OfQuiet.Ranks.{few_stages, staged_rank}
 use Rattle.law_commit.proofs.OfShares.Enters.{bucket_latch}
 use Rattle.law_commit.proofs.OfShares.Onward.{rank_high}
 use Rattle.law_commit.proofs.Shown.{view_seen}
-use Rattle.law_local.specs.Sessions.Inputs.{AttemptsBy, IsAttemptInPoll}
-use Rattle.law_local.specs.Sessions.Known.{is_attempting}
-use Rattle.law_local.specs.Tries.AttemptRows.{AttemptRow}
-use Rattle.law_local.specs.Tries.AttemptRows as local
-use Rattle.law_local.specs.Tries.Replies.{IsTrueReply}
-use Rattle.law_local.specs.Tries.TryRows.{TryRow, key_in}
-use Rattle.law_local.specs.Tries.WalkRows.{begin_of}
-use Rattle.law_local.proofs.OfTries.OnWay.{orderly}
+use Rattle.law_commit.specs.Below.law_local.Sessions.Inputs.{AttemptsBy, IsAttemptInPoll}
+use Rattle.law_commit.specs.Below.law_local.Sessions.Known.{is_attempting}
+use Rattle.law_commit.specs.Below.law_local.Tries.AttemptRows.{AttemptRow}
+use Rattle.law_commit.specs.Below.law_local.Tries.AttemptRows as local
+use Rattle.law_commit.specs.Below.law_local.Tries.Replies.{IsTrueReply}
+use Rattle.law_commit.specs.Below.law_local.Tries.TryRows.{TryRow, key_in}
+use Rattle.law_commit.specs.Below.law_local.Tries.WalkRows.{begin_of}
+use Rattle.law_commit.proofs.Below.law_local.OfTries.OnWay.{orderly}
 use Rattle.law_log.specs.Chains.{version_at}
 use Rattle.law_log.specs.Enabled.{AreEnabled}
 use Rattle.law_log.specs.Ghosts.{Log}
@@ -87,7 +87,7 @@ use Rattle.law_order.proofs.OfApart.Newest.{held, same_seen, shares, tells, tria
 use Rattle.law_order.proofs.OfShifts.Catches.{HasPassed, SaysElse, loads_next}
 use Rattle.law_order.proofs.OfShifts.Sessions.{Come, RepliesSo}
 use Rattle.law_order.proofs.OfShifts.Tries.{ShiftsBy}
-use Rattle.law_refine.specs.Events.GhostEvents.{life_ghosts, mapped}
+use Rattle.law_commit.specs.Below.law_refine.Events.GhostEvents.{life_ghosts, mapped}
 
 -- ---- what a test says
 shift_so : (prepare read above : Bool) → (prepare && not read && above) ≡ true → (prepare ≡ true) × (read ≡ false) × (above ≡ true)

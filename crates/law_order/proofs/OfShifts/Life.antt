@@ -1,48 +1,48 @@
 -- So no attempt of a life ends as a shift and isn't made again.
 use Rattle.std.proofs.Common.{◌≡◌, inl, inr, ℕ, zero, suc, ◌≤◌, ◌∙◌, refl, sym, ap, subst, arith, List, [], ◌∷◌, ◌++◌, Bool, true, false}
 use Rattle.std.specs.Prelude.{⊤, ◌||◌, Option, Some, None, if◌then◌else◌, slice_get}
-use Rattle.fkv_ops.specs.declared.answers.TryAnswer.{TryAnswer}
-use Rattle.fkv_ops.specs.declared.answers.TryAnswer.TheVariants as tried
-use Rattle.fkv_ops.specs.declared.requests.Seen.{Seen}
-use Rattle.fkv_ops.specs.declared.trying.Trying.{Trying}
-use Rattle.fkv_ops.specs.declared.trying.Trying.TheVariants as trying
-use Rattle.fkv_ops.specs.Requests.{is_read}
-use Rattle.fkv_ops.specs.Trying.{TryState}
-use Rattle.fkv_pending.specs.declared.attempting.Attempting.{Attempting}
-use Rattle.fkv_pending.specs.declared.attempting.Attempting.TheVariants as attempting
-use Rattle.fkv_pending.specs.declared.pending_requests.PendingRequest.{PendingRequest}
-use Rattle.fkv_pending.specs.Attempting.{AttemptState}
+use Rattle.law_commit.specs.Below.fkv_ops.TryAnswer.{TryAnswer}
+use Rattle.law_commit.specs.Below.fkv_ops.TryAnswer.TheVariants as tried
+use Rattle.law_commit.specs.Below.fkv_ops.Seen.{Seen}
+use Rattle.law_commit.specs.Below.fkv_ops.TheTrying.{Trying}
+use Rattle.law_commit.specs.Below.fkv_ops.TheTrying.TheVariants as trying
+use Rattle.law_commit.specs.Below.fkv_ops.Requests.{is_read}
+use Rattle.law_commit.specs.Below.fkv_ops.Trying.{TryState}
+use Rattle.law_commit.specs.Below.fkv_pending.TheAttempting.{Attempting}
+use Rattle.law_commit.specs.Below.fkv_pending.TheAttempting.TheVariants as attempting
+use Rattle.law_commit.specs.Below.fkv_pending.PendingRequest.{PendingRequest}
+use Rattle.law_commit.specs.Below.fkv_pending.Attempting.{AttemptState}
 use Rattle.fkv_plane.specs.declared.actions.Action.{Action}
 use Rattle.fkv_plane.specs.declared.asks.Ask.{Ask}
 use Rattle.fkv_plane.specs.declared.asks.Ask.TheVariants.{Add, Cas, Done, Load, Max, Put, Store, Swap, Take}
 use Rattle.fkv_plane.specs.declared.places.Places.{Places}
 use Rattle.fkv_plane.specs.Asked.{reply_to}
 use Rattle.fkv_plane.specs.Plane.{action_at}
-use Rattle.fkv_session.specs.declared.answers.Told.{Told}
-use Rattle.fkv_session.specs.declared.catching_up.Catching.{Catching}
-use Rattle.fkv_session.specs.declared.catching_up.Catching.TheVariants as catching
-use Rattle.fkv_session.specs.declared.sessions.CatchCause.TheVariants.{Refreshes, Shifts, Wakes}
-use Rattle.fkv_session.specs.declared.sessions.Sitting.{Sitting}
-use Rattle.fkv_session.specs.declared.sessions.Sitting.TheVariants.{Attempts, CatchesUp, ClearsMail, Idle, Leaves, LoadsDurable, Polls, StoresCut, StoresOwing, Turns}
-use Rattle.fkv_session.specs.CatchingUp.{CatchState}
-use Rattle.fkv_session.specs.SessionRun.{Replies, SessionEvent, session_happens, session_run}
-use Rattle.fkv_session.specs.Sessions.{Seat, SessionState, is_busy, session_ask, session_next}
-use Rattle.fkv_session.specs.Shares.{AllUpdatesShare}
-use Rattle.fkv_world.specs.Actors.{is_of_session}
-use Rattle.fkv_world.specs.Moves.{Near, session_moved}
-use Rattle.fkv_world.specs.Opened.{HasBecome}
-use Rattle.fkv_world.specs.OwnEvents.{session_events, session_got, session_part, session_part_found, session_part_of, session_slots, session_steps}
-use Rattle.fkv_world.specs.Runs.{World, run}
-use Rattle.fkv_world.specs.World as world
-use Rattle.fkv_world.specs.World.{Calls, Commits, Crashes, Event, KeeperMoves, Moves, Now, near, seat_at}
-use Rattle.fkv_world.proofs.Shown.{same_seat, session_runs, session_runs_on}
+use Rattle.law_commit.specs.Below.fkv_session.Told.{Told}
+use Rattle.law_commit.specs.Below.fkv_session.Catching.{Catching}
+use Rattle.law_commit.specs.Below.fkv_session.Catching.TheVariants as catching
+use Rattle.law_commit.specs.Below.fkv_session.CatchCause.TheVariants.{Refreshes, Shifts, Wakes}
+use Rattle.law_commit.specs.Below.fkv_session.Sitting.{Sitting}
+use Rattle.law_commit.specs.Below.fkv_session.Sitting.TheVariants.{Attempts, CatchesUp, ClearsMail, Idle, Leaves, LoadsDurable, Polls, StoresCut, StoresOwing, Turns}
+use Rattle.law_commit.specs.Below.fkv_session.CatchingUp.{CatchState}
+use Rattle.law_commit.specs.Below.fkv_session.SessionRun.{Replies, SessionEvent, session_happens, session_run}
+use Rattle.law_commit.specs.Below.fkv_session.Sessions.{Seat, SessionState, is_busy, session_ask, session_next}
+use Rattle.law_commit.specs.Below.fkv_session.Shares.{AllUpdatesShare}
+use Rattle.law_commit.specs.Below.fkv_world.Actors.{is_of_session}
+use Rattle.law_commit.specs.Below.fkv_world.Moves.{Near, session_moved}
+use Rattle.law_commit.specs.Below.fkv_world.Opened.{HasBecome}
+use Rattle.law_commit.specs.Below.fkv_world.OwnEvents.{session_events, session_got, session_part, session_part_found, session_part_of, session_slots, session_steps}
+use Rattle.law_commit.specs.Below.fkv_world.Runs.{World, run}
+use Rattle.law_commit.specs.Below.fkv_world.World as world
+use Rattle.law_commit.specs.Below.fkv_world.World.{Calls, Commits, Crashes, Event, KeeperMoves, Moves, Now, near, seat_at}
+use Rattle.law_commit.proofs.Below.fkv_world.Shown.{same_seat, session_runs, session_runs_on}
 use Rattle.law_opening.proofs.OfChanges.OfSessions.Calm.{is_calm, not_calm}
 use Rattle.law_opening.proofs.OfChanges.OfSessions.Comes.{SessionComes, Stays, Steps, session_comes}
 use Rattle.law_opening.proofs.OfChanges.OfSessions.Comes as comes
 use Rattle.law_commit.specs.Quiet.{rank_now}
 use Rattle.law_commit.specs.Shares.Waiting.{ShareSitting, has_shifted, shifts_at, shifts_by}
 use Rattle.law_commit.proofs.OfQuiet.Ranks.{ranks_rise}
-use Rattle.law_local.specs.Sessions.Known.{is_attempting}
+use Rattle.law_commit.specs.Below.law_local.Sessions.Known.{is_attempting}
 use Rattle.law_log.specs.Enabled.{AreEnabled}
 use Rattle.law_order.specs.Apart.Given.{Given}
 use Rattle.law_order.specs.Apart.Lives.{AllApartBehind, NoneHasShifted, OpensApart}
@@ -57,9 +57,9 @@ use Rattle.law_order.proofs.OfShifts.Facts.{replies_so}
 use Rattle.law_order.proofs.OfShifts.Sessions.{Come, LeadsRow, RepliesSo, SitsRow, begun_leads, next_leads, none_shifts, settled}
 use Rattle.law_order.proofs.OfShifts.Slots.{attempt_puts_none, is_put}
 use Rattle.law_order.proofs.OfShifts.Tries.{IsShift, ShiftRow}
-use Rattle.law_refine.specs.Events.GhostEvents.{life_ghosts, mapped}
-use Rattle.law_refine.proofs.OfSeen.Alone.{moves_alone}
-use Rattle.law_refine.proofs.OfSeen.There.{there_before}
+use Rattle.law_commit.specs.Below.law_refine.Events.GhostEvents.{life_ghosts, mapped}
+use Rattle.law_commit.proofs.Below.law_refine.OfSeen.Alone.{moves_alone}
+use Rattle.law_commit.proofs.Below.law_refine.OfSeen.There.{there_before}
 
 -- each session's control state tells so of shifts
 abbrev pub AllShiftSo : World → List Event → Type 0

@@ -6,39 +6,39 @@ use Rattle.fkv_base.specs.declared.faults.Fault.TheVariants as fault
 use Rattle.fkv_map.specs.declared.operations.Call.{Call}
 use Rattle.fkv_map.specs.declared.operations.Call.TheVariants as call
 use Rattle.fkv_map.specs.declared.operations.Op.{Op}
-use Rattle.fkv_ops.specs.declared.answers.Reason.{Reason}
-use Rattle.fkv_ops.specs.declared.answers.Reason.TheVariants as reason
-use Rattle.fkv_ops.specs.declared.answers.TryAnswer.{TryAnswer}
-use Rattle.fkv_ops.specs.declared.answers.TryAnswer.TheVariants as tried
-use Rattle.fkv_ops.specs.declared.requests.HeldRecord.{HeldRecord}
-use Rattle.fkv_ops.specs.declared.requests.Occasion.TheVariants.{Call as AtCall, Poll as AtPoll}
-use Rattle.fkv_ops.specs.declared.requests.Seen.{Seen}
-use Rattle.fkv_ops.specs.Requests.{is_read}
-use Rattle.fkv_ops.specs.Trying.{is_prepare}
-use Rattle.fkv_pending.specs.declared.attempting.Attempting.TheVariants.{Tries}
-use Rattle.fkv_pending.specs.declared.mailing.MailAnswer.{MailAnswer}
-use Rattle.fkv_pending.specs.declared.mailing.MailAnswer.TheVariants.{Cleared}
-use Rattle.fkv_pending.specs.declared.mailing.MailTask.TheVariants.{Clear}
-use Rattle.fkv_pending.specs.declared.mailing.Mailing.TheVariants.{LoadsState}
-use Rattle.fkv_pending.specs.declared.pending_requests.PendingRequest.{PendingRequest}
-use Rattle.fkv_pending.specs.Attempting.{AttemptState, attempt_ask, attempt_begun, attempt_next}
-use Rattle.fkv_pending.specs.Mailing.{mail_ask, mail_next}
-use Rattle.fkv_pending.specs.Pending.{with_asked, with_held}
-use Rattle.fkv_pending.proofs.Shown.{AttemptRestsOrAsks, attempt_begun_rests, attempt_rests}
+use Rattle.law_commit.specs.Below.fkv_ops.Reason.{Reason}
+use Rattle.law_commit.specs.Below.fkv_ops.Reason.TheVariants as reason
+use Rattle.law_commit.specs.Below.fkv_ops.TryAnswer.{TryAnswer}
+use Rattle.law_commit.specs.Below.fkv_ops.TryAnswer.TheVariants as tried
+use Rattle.law_commit.specs.Below.fkv_ops.HeldRecord.{HeldRecord}
+use Rattle.law_commit.specs.Below.fkv_ops.Occasion.TheVariants.{Call as AtCall, Poll as AtPoll}
+use Rattle.law_commit.specs.Below.fkv_ops.Seen.{Seen}
+use Rattle.law_commit.specs.Below.fkv_ops.Requests.{is_read}
+use Rattle.law_commit.specs.Below.fkv_ops.Trying.{is_prepare}
+use Rattle.law_commit.specs.Below.fkv_pending.TheAttempting.TheVariants.{Tries}
+use Rattle.law_commit.specs.Below.fkv_pending.MailAnswer.{MailAnswer}
+use Rattle.law_commit.specs.Below.fkv_pending.MailAnswer.TheVariants.{Cleared}
+use Rattle.law_commit.specs.Below.fkv_pending.MailTask.TheVariants.{Clear}
+use Rattle.law_commit.specs.Below.fkv_pending.TheMailing.TheVariants.{LoadsState}
+use Rattle.law_commit.specs.Below.fkv_pending.PendingRequest.{PendingRequest}
+use Rattle.law_commit.specs.Below.fkv_pending.Attempting.{AttemptState, attempt_ask, attempt_begun, attempt_next}
+use Rattle.law_commit.specs.Below.fkv_pending.Mailing.{mail_ask, mail_next}
+use Rattle.law_commit.specs.Below.fkv_pending.Pending.{with_asked, with_held}
+use Rattle.law_commit.proofs.Below.fkv_pending.Shown.{AttemptRestsOrAsks, attempt_begun_rests, attempt_rests}
 use Rattle.fkv_plane.specs.declared.asks.Ask.{Ask}
 use Rattle.fkv_plane.specs.declared.asks.Ask.TheVariants.{Done}
-use Rattle.fkv_session.specs.declared.answers.Told.{Told}
-use Rattle.fkv_session.specs.declared.answers.Told.TheVariants as told
-use Rattle.fkv_session.specs.declared.catching_up.Catching.TheVariants as catching
-use Rattle.fkv_session.specs.declared.sessions.CatchCause.{CatchCause}
-use Rattle.fkv_session.specs.declared.sessions.CatchCause.TheVariants.{Refreshes, Shifts, Wakes}
-use Rattle.fkv_session.specs.declared.sessions.Sitting.{Sitting}
-use Rattle.fkv_session.specs.declared.sessions.Sitting.TheVariants.{Attempts, CatchesUp, ClearsMail, Idle, Leaves, LoadsDurable, Polls, StoresCut, StoresOwing, Turns}
-use Rattle.fkv_session.specs.CatchingUp.{catch_ask, refresh_begun, wake_begun}
-use Rattle.fkv_session.specs.OwnTurns.{own_turn_begun}
-use Rattle.fkv_session.specs.Sessions.{Seat, SessionState, accepts, answers, answers_after_turn, asks_after, attempt_left, attempt_ledto, attempt_moved, attempted, attempts, bits_of, call_begun, catch_ledto, caught, clear_ledto, finishes_request, is_finished, is_no_room, is_owed, is_word_ask, keeps_request, lacks_room, leave_ledto, op_begun, own_turn_moved, poll_begun, poll_call, poll_ledto, polls_at, polls_request, refresh_call, refusal_of, refuses, request_finished, request_in_hand, room_of, serial_taken, session_ask, session_begun, session_next, shifts, sitting_next, sleep_call, ticket_after, turn_ledto, update_done, wake_call, with_request}
-use Rattle.fkv_session.specs.Shares.{is_shift}
-use Rattle.fkv_session.proofs.Shown.{attempt_ends}
+use Rattle.law_commit.specs.Below.fkv_session.Told.{Told}
+use Rattle.law_commit.specs.Below.fkv_session.Told.TheVariants as told
+use Rattle.law_commit.specs.Below.fkv_session.Catching.TheVariants as catching
+use Rattle.law_commit.specs.Below.fkv_session.CatchCause.{CatchCause}
+use Rattle.law_commit.specs.Below.fkv_session.CatchCause.TheVariants.{Refreshes, Shifts, Wakes}
+use Rattle.law_commit.specs.Below.fkv_session.Sitting.{Sitting}
+use Rattle.law_commit.specs.Below.fkv_session.Sitting.TheVariants.{Attempts, CatchesUp, ClearsMail, Idle, Leaves, LoadsDurable, Polls, StoresCut, StoresOwing, Turns}
+use Rattle.law_commit.specs.Below.fkv_session.CatchingUp.{catch_ask, refresh_begun, wake_begun}
+use Rattle.law_commit.specs.Below.fkv_session.OwnTurns.{own_turn_begun}
+use Rattle.law_commit.specs.Below.fkv_session.Sessions.{Seat, SessionState, accepts, answers, answers_after_turn, asks_after, attempt_left, attempt_ledto, attempt_moved, attempted, attempts, bits_of, call_begun, catch_ledto, caught, clear_ledto, finishes_request, is_finished, is_no_room, is_owed, is_word_ask, keeps_request, lacks_room, leave_ledto, op_begun, own_turn_moved, poll_begun, poll_call, poll_ledto, polls_at, polls_request, refresh_call, refusal_of, refuses, request_finished, request_in_hand, room_of, serial_taken, session_ask, session_begun, session_next, shifts, sitting_next, sleep_call, ticket_after, turn_ledto, update_done, wake_call, with_request}
+use Rattle.law_commit.specs.Below.fkv_session.Shares.{is_shift}
+use Rattle.law_commit.proofs.Below.fkv_session.Shown.{attempt_ends}
 use Rattle.fkv_words.specs.PhaseWords.{phase_said}
 use Rattle.law_commit.specs.Shares.Waiting.{is_shifted, shifts_at}
 use Rattle.law_order.proofs.OfShifts.Attempts.{AttemptRow, HasCome, attempt_begins_row, attempt_shifts}

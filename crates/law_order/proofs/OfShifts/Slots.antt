@@ -1,13 +1,13 @@
 -- An attempt gives no action to a slot.
 use Rattle.std.proofs.Common.{◌≡◌, refl, Bool, true, false}
-use Rattle.fkv_pending.specs.Attempting.{attempting_ask}
+use Rattle.law_commit.specs.Below.fkv_pending.Attempting.{attempting_ask}
 use Rattle.fkv_plane.specs.declared.asks.Ask.{Ask}
 use Rattle.fkv_plane.specs.declared.asks.Ask.TheVariants.{Put}
-use Rattle.fkv_session.specs.declared.sessions.Sitting.{Sitting}
-use Rattle.fkv_session.specs.declared.sessions.Sitting.TheVariants.{Attempts, Polls}
-use Rattle.fkv_session.specs.Sessions.{Seat, SessionState, sitting_ask}
-use Rattle.law_local.specs.Sessions.Known.{is_attempting}
-use Rattle.law_refine.proofs.OfIndex.SessionAsks.{attempt_whole, is_part_ask, passed_part}
+use Rattle.law_commit.specs.Below.fkv_session.Sitting.{Sitting}
+use Rattle.law_commit.specs.Below.fkv_session.Sitting.TheVariants.{Attempts, Polls}
+use Rattle.law_commit.specs.Below.fkv_session.Sessions.{Seat, SessionState, sitting_ask}
+use Rattle.law_commit.specs.Below.law_local.Sessions.Known.{is_attempting}
+use Rattle.law_commit.proofs.Below.law_refine.OfIndex.SessionAsks.{attempt_whole, is_part_ask, passed_part}
 
 abbrev pub is_put : {A : Type 0} → Ask A → Bool
 is_put (Put slot action) = true

@@ -8,32 +8,32 @@ use Rattle.fkv_latch.specs.declared.latching.LatchAnswer.TheVariants as latch
 use Rattle.fkv_latch.specs.declared.latching.LatchTask.TheVariants.{DropExclusive, DropShared, TakeExclusive, TakeShared}
 use Rattle.fkv_latch.specs.declared.latching.Latching.TheVariants.{AddsShare}
 use Rattle.fkv_latch.specs.Latching.{is_exclusive, latch_next, latch_next_ask}
-use Rattle.fkv_log.specs.declared.regions.Region.{Region}
-use Rattle.fkv_log.specs.Regions.{seen_region_of}
+use Rattle.law_commit.specs.Below.fkv_log.Region.{Region}
+use Rattle.law_commit.specs.Below.fkv_log.Regions.{seen_region_of}
 use Rattle.fkv_map.specs.declared.operations.Reply.{Reply}
 use Rattle.fkv_map.specs.Keys.{key_of, reply_from}
 use Rattle.fkv_map.specs.Map.{absent_word}
-use Rattle.fkv_ops.specs.declared.answers.Reason.TheVariants as reason
-use Rattle.fkv_ops.specs.declared.answers.TryAnswer.{TryAnswer}
-use Rattle.fkv_ops.specs.declared.answers.TryAnswer.TheVariants as answer
-use Rattle.fkv_ops.specs.declared.appending.AppendAnswer.{AppendAnswer}
-use Rattle.fkv_ops.specs.declared.appending.AppendAnswer.TheVariants as append
-use Rattle.fkv_ops.specs.declared.requests.HeldRecord.{HeldRecord}
-use Rattle.fkv_ops.specs.declared.requests.Occasion.{Occasion}
-use Rattle.fkv_ops.specs.declared.requests.Occasion.TheVariants.{Call, Poll}
-use Rattle.fkv_ops.specs.declared.requests.Request.{Request}
-use Rattle.fkv_ops.specs.declared.requests.Seen.{Seen}
-use Rattle.fkv_ops.specs.declared.trying.OldValue.{OldValue}
-use Rattle.fkv_ops.specs.declared.trying.OldValue.TheVariants.{InMemory, Known}
-use Rattle.fkv_ops.specs.declared.trying.Trying.{Trying}
-use Rattle.fkv_ops.specs.declared.trying.Trying.TheVariants.{Appends, ChangesValue, DropsExclusive, DropsShared, Ended, LoadsAnswer, LoadsCurrent, LoadsOld, LoadsSafe, SwapsValue, TakesExclusive, TakesShared, Walks}
-use Rattle.fkv_ops.specs.declared.walking.WalkAnswer.{WalkAnswer}
-use Rattle.fkv_ops.specs.declared.walking.WalkAnswer.TheVariants as walk
-use Rattle.fkv_ops.specs.Appending.{append_ask, append_next}
-use Rattle.fkv_ops.specs.Requests.{is_blind, is_read}
-use Rattle.fkv_ops.specs.Trying.{TryState, answer_ledto, append_ledto, appends, awaits, changes, copies, copies_from, current_ledto, ended_without, ends, exclusive_dropped, exclusive_ledto, full_at, has_walked, held_used, is_own_version, is_wait, met_disk, met_nowhere, met_record, must_shift, new_try, old_ledto, region_met, shared_dropped, shared_ledto, takes_effect, told_value, try_begun, try_next, trying_next, walk_ledto, walked, walks, wants_exclusive, wants_shared, with_latch}
-use Rattle.fkv_ops.specs.Values.{value_of}
-use Rattle.fkv_ops.specs.Walking.{walk_ask, walk_next, walk_on}
+use Rattle.law_commit.specs.Below.fkv_ops.Reason.TheVariants as reason
+use Rattle.law_commit.specs.Below.fkv_ops.TryAnswer.{TryAnswer}
+use Rattle.law_commit.specs.Below.fkv_ops.TryAnswer.TheVariants as answer
+use Rattle.law_commit.specs.Below.fkv_ops.AppendAnswer.{AppendAnswer}
+use Rattle.law_commit.specs.Below.fkv_ops.AppendAnswer.TheVariants as append
+use Rattle.law_commit.specs.Below.fkv_ops.HeldRecord.{HeldRecord}
+use Rattle.law_commit.specs.Below.fkv_ops.Occasion.{Occasion}
+use Rattle.law_commit.specs.Below.fkv_ops.Occasion.TheVariants.{Call, Poll}
+use Rattle.law_commit.specs.Below.fkv_ops.Request.{Request}
+use Rattle.law_commit.specs.Below.fkv_ops.Seen.{Seen}
+use Rattle.law_commit.specs.Below.fkv_ops.OldValue.{OldValue}
+use Rattle.law_commit.specs.Below.fkv_ops.OldValue.TheVariants.{InMemory, Known}
+use Rattle.law_commit.specs.Below.fkv_ops.TheTrying.{Trying}
+use Rattle.law_commit.specs.Below.fkv_ops.TheTrying.TheVariants.{Appends, ChangesValue, DropsExclusive, DropsShared, Ended, LoadsAnswer, LoadsCurrent, LoadsOld, LoadsSafe, SwapsValue, TakesExclusive, TakesShared, Walks}
+use Rattle.law_commit.specs.Below.fkv_ops.WalkAnswer.{WalkAnswer}
+use Rattle.law_commit.specs.Below.fkv_ops.WalkAnswer.TheVariants as walk
+use Rattle.law_commit.specs.Below.fkv_ops.Appending.{append_ask, append_next}
+use Rattle.law_commit.specs.Below.fkv_ops.Requests.{is_blind, is_read}
+use Rattle.law_commit.specs.Below.fkv_ops.Trying.{TryState, answer_ledto, append_ledto, appends, awaits, changes, copies, copies_from, current_ledto, ended_without, ends, exclusive_dropped, exclusive_ledto, full_at, has_walked, held_used, is_own_version, is_wait, met_disk, met_nowhere, met_record, must_shift, new_try, old_ledto, region_met, shared_dropped, shared_ledto, takes_effect, told_value, try_begun, try_next, trying_next, walk_ledto, walked, walks, wants_exclusive, wants_shared, with_latch}
+use Rattle.law_commit.specs.Below.fkv_ops.Values.{value_of}
+use Rattle.law_commit.specs.Below.fkv_ops.Walking.{walk_ask, walk_next, walk_on}
 use Rattle.fkv_plane.specs.declared.asks.Ask.{Ask}
 use Rattle.fkv_plane.specs.declared.asks.Ask.TheVariants.{Done}
 use Rattle.fkv_plane.specs.declared.places.Places.{Places}

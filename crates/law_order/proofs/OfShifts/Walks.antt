@@ -8,17 +8,17 @@ use Rattle.fkv_index.specs.declared.finding.Found.{Found}
 use Rattle.fkv_index.specs.declared.finding.Found.TheVariants as found
 use Rattle.fkv_index.specs.Finding.{find_next, find_next_ask}
 use Rattle.fkv_index.specs.Slots.{entry_addr}
-use Rattle.fkv_log.specs.declared.loading.LoadAnswer.{LoadAnswer}
-use Rattle.fkv_log.specs.declared.loading.LoadAnswer.TheVariants as loaded
-use Rattle.fkv_log.specs.declared.loading.Loading.TheVariants as load
-use Rattle.fkv_log.specs.Loading.{load_next, load_next_ask}
-use Rattle.fkv_ops.specs.declared.header_words.HeaderSaid.{HeaderSaid}
-use Rattle.fkv_ops.specs.declared.header_words.HeaderSaid.TheVariants.{Says, Spoiled}
-use Rattle.fkv_ops.specs.declared.walking.WalkAnswer.TheVariants as walk
-use Rattle.fkv_ops.specs.declared.walking.Walking.{Walking}
-use Rattle.fkv_ops.specs.declared.walking.Walking.TheVariants.{Ended, Finds, HasFound, LoadsValue, Meets}
-use Rattle.fkv_ops.specs.HeaderWords.{header_said}
-use Rattle.fkv_ops.specs.Walking.{WalkState, find_ledto, first_met, load_ledto, reached, record_met, slot_found, walk_next, walking_next}
+use Rattle.law_commit.specs.Below.fkv_log.LoadAnswer.{LoadAnswer}
+use Rattle.law_commit.specs.Below.fkv_log.LoadAnswer.TheVariants as loaded
+use Rattle.law_commit.specs.Below.fkv_log.TheLoading.TheVariants as load
+use Rattle.law_commit.specs.Below.fkv_log.Loading.{load_next, load_next_ask}
+use Rattle.law_commit.specs.Below.fkv_ops.HeaderSaid.{HeaderSaid}
+use Rattle.law_commit.specs.Below.fkv_ops.HeaderSaid.TheVariants.{Says, Spoiled}
+use Rattle.law_commit.specs.Below.fkv_ops.WalkAnswer.TheVariants as walk
+use Rattle.law_commit.specs.Below.fkv_ops.TheWalking.{Walking}
+use Rattle.law_commit.specs.Below.fkv_ops.TheWalking.TheVariants.{Ended, Finds, HasFound, LoadsValue, Meets}
+use Rattle.law_commit.specs.Below.fkv_ops.HeaderWords.{header_said}
+use Rattle.law_commit.specs.Below.fkv_ops.Walking.{WalkState, find_ledto, first_met, load_ledto, reached, record_met, slot_found, walk_next, walking_next}
 use Rattle.fkv_plane.specs.declared.asks.Ask.{Ask}
 use Rattle.fkv_plane.specs.declared.asks.Ask.TheVariants.{Done}
 use Rattle.fkv_plane.specs.declared.places.Places.{Places}

@@ -3,9 +3,9 @@ use Rattle.std.proofs.Common.{◌≡◌, ℕ, zero, suc, ◌+◌, ◌<◌, ◌�
 use Rattle.std.specs.Prelude.{◌==◌, Some, slice_get}
 use Rattle.std.proofs.lemmas.Bool.Decides.{nat_tests}
 use Rattle.fkv_words.specs.Fields.{bit_of}
-use Rattle.fkv_pending.specs.declared.pending_requests.RequestName.{RequestName}
-use Rattle.fkv_pending.specs.declared.pending_requests.RequestName.TheVariants.{Update, Read}
-use Rattle.fkv_session.specs.Accounts.{RiseWithin, is_update, number_of}
+use Rattle.law_commit.specs.Below.fkv_pending.RequestName.{RequestName}
+use Rattle.law_commit.specs.Below.fkv_pending.RequestName.TheVariants.{Update, Read}
+use Rattle.law_commit.specs.Below.fkv_session.Accounts.{RiseWithin, is_update, number_of}
 use Rattle.law_order.specs.Known.Told.{AreApart}
 use Rattle.law_order.proofs.OfTickets.Tickets.{is_ticket}
 

@@ -4,11 +4,11 @@ use Rattle.std.specs.Prelude.{None, if◌then◌else◌}
 use Rattle.fkv_map.specs.declared.operations.Call.{Call}
 use Rattle.fkv_plane.specs.declared.actions.Action.{Action}
 use Rattle.fkv_words.specs.Fields.{bit_of}
-use Rattle.fkv_session.specs.declared.answers.Finished.{Finished}
-use Rattle.fkv_session.specs.declared.sessions.Sitting.{Sitting}
-use Rattle.fkv_session.specs.declared.sessions.Sitting.TheVariants.{Idle, Turns}
-use Rattle.fkv_session.specs.SessionRun.{SessionEvent, Begins, Replies, Gets, Telling, all_told, answered, begins, is_calling, session_happens, session_run, told_after, tellings, with_coming}
-use Rattle.fkv_session.specs.Sessions.{SessionState, Seat, asks_after, is_busy, is_word_ask, session_ask, session_begun, sitting_given, sitting_next}
+use Rattle.law_commit.specs.Below.fkv_session.Finished.{Finished}
+use Rattle.law_commit.specs.Below.fkv_session.Sitting.{Sitting}
+use Rattle.law_commit.specs.Below.fkv_session.Sitting.TheVariants.{Idle, Turns}
+use Rattle.law_commit.specs.Below.fkv_session.SessionRun.{SessionEvent, Begins, Replies, Gets, Telling, all_told, answered, begins, is_calling, session_happens, session_run, told_after, tellings, with_coming}
+use Rattle.law_commit.specs.Below.fkv_session.Sessions.{SessionState, Seat, asks_after, is_busy, is_word_ask, session_ask, session_begun, sitting_given, sitting_next}
 
 -- how many calls begin
 abbrev pub with_call : SessionEvent → ℕ → ℕ

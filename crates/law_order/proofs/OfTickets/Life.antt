@@ -2,16 +2,16 @@
 use Rattle.std.proofs.Common.{◌≡◌, ℕ, ◌^◌, ◌<◌, ◌≤◌, ◌∙◌, refl, sym, arith, List, [], ◌∷◌}
 use Rattle.std.specs.Prelude.{Option, Some, None, slice_get}
 use Rattle.fkv_epoch.proofs.Shown.{none_some}
-use Rattle.fkv_session.specs.Accounts.{names_of, number_of}
-use Rattle.fkv_session.specs.SessionRun.{SessionEvent, all_told, in_hand, session_run}
-use Rattle.fkv_session.specs.Sessions.{SessionState, Seat, IsOpened}
-use Rattle.fkv_session.proofs.Shown.{AreBooksKept, run_holds, run_tickets}
-use Rattle.fkv_world.specs.Opened.{IsOpenedWorld}
-use Rattle.fkv_world.specs.OwnEvents.{session_events}
-use Rattle.fkv_world.specs.Runs.{World, run}
-use Rattle.fkv_world.specs.World.{Event, seat_at}
-use Rattle.law_world.proofs.OfRuns.Nothing.{none_ever}
-use Rattle.law_world.proofs.OfSessions.OwnRun.{of_run}
+use Rattle.law_commit.specs.Below.fkv_session.Accounts.{names_of, number_of}
+use Rattle.law_commit.specs.Below.fkv_session.SessionRun.{SessionEvent, all_told, in_hand, session_run}
+use Rattle.law_commit.specs.Below.fkv_session.Sessions.{SessionState, Seat, IsOpened}
+use Rattle.law_commit.proofs.Below.fkv_session.Shown.{AreBooksKept, run_holds, run_tickets}
+use Rattle.law_commit.specs.Below.fkv_world.Opened.{IsOpenedWorld}
+use Rattle.law_commit.specs.Below.fkv_world.OwnEvents.{session_events}
+use Rattle.law_commit.specs.Below.fkv_world.Runs.{World, run}
+use Rattle.law_commit.specs.Below.fkv_world.World.{Event, seat_at}
+use Rattle.law_commit.proofs.Below.law_world.OfRuns.Nothing.{none_ever}
+use Rattle.law_commit.proofs.Below.law_world.OfSessions.OwnRun.{of_run}
 use Rattle.law_order.specs.Known.Told.{AreApart, NamesAreApart, TicketsAreApart}
 use Rattle.law_order.specs.Tickets.Few.{HasFewCalls}
 use Rattle.law_order.proofs.OfTickets.Apart.{apart, rise_once}

@@ -3,13 +3,13 @@ use Rattle.std.proofs.Common.{◌≡◌, ℕ, suc, ◌+◌, ◌^◌, ◌<◌, �
 use Rattle.std.specs.Prelude.{◌==◌}
 use Rattle.std.proofs.lemmas.Bool.Decides.{nat_tests}
 use Rattle.fkv_words.specs.Fields.{bit_of}
-use Rattle.fkv_pending.specs.declared.pending_requests.RequestName.{RequestName}
-use Rattle.fkv_pending.specs.declared.pending_requests.RequestName.TheVariants.{Update, Read}
-use Rattle.fkv_session.specs.declared.answers.Told.{Told}
-use Rattle.fkv_session.specs.declared.answers.Told.TheVariants as told
-use Rattle.fkv_session.specs.Accounts.{left_pending, number_of, with_pending}
-use Rattle.fkv_session.specs.SessionRun.{Telling}
-use Rattle.fkv_session.specs.Tickets.{ComeInTurn, newest_ticket, tickets_given, with_ticket}
+use Rattle.law_commit.specs.Below.fkv_pending.RequestName.{RequestName}
+use Rattle.law_commit.specs.Below.fkv_pending.RequestName.TheVariants.{Update, Read}
+use Rattle.law_commit.specs.Below.fkv_session.Told.{Told}
+use Rattle.law_commit.specs.Below.fkv_session.Told.TheVariants as told
+use Rattle.law_commit.specs.Below.fkv_session.Accounts.{left_pending, number_of, with_pending}
+use Rattle.law_commit.specs.Below.fkv_session.SessionRun.{Telling}
+use Rattle.law_commit.specs.Below.fkv_session.Tickets.{ComeInTurn, newest_ticket, tickets_given, with_ticket}
 
 -- an answer gives one ticket at most
 given_few : (its : Told) (tickets : List ℕ) (count : ℕ) → length tickets ≤ count → length (with_ticket its tickets) ≤ suc count

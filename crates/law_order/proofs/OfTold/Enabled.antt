@@ -6,18 +6,18 @@ use Rattle.law_log.specs.Ghosts.{Log, Ghosts, GhostEvent, Tells, ghost_run}
 use Rattle.law_log.specs.Enabled.{AreEnabled, IsLineEnabled, IsOpened}
 use Rattle.law_log.specs.Trace.{Effect, TraceLine, CallsUpdate, RefusesUpdate, GivesResult, CallsRead, AnswersRead, IsIn, called_as}
 use Rattle.law_log.proofs.Shown.{run_on, IsSound, run_sound}
-use Rattle.fkv_world.specs.Runs.{World, run}
-use Rattle.fkv_world.specs.World.{Event}
-use Rattle.law_refine.specs.Calls.Calls.{EachIsEnabled, IsCallEnabled, effects_of_life, entries_of, event_adds, lines_of_life}
-use Rattle.law_refine.proofs.OfCalls.UpdateLines.{event_is_enabled}
-use Rattle.law_refine.proofs.OfCalls.LifeHistory.{life_entries}
-use Rattle.law_refine.proofs.OfCalls.SameHistory.{same_reply, same_update}
+use Rattle.law_commit.specs.Below.fkv_world.Runs.{World, run}
+use Rattle.law_commit.specs.Below.fkv_world.World.{Event}
+use Rattle.law_commit.specs.Below.law_refine.Calls.Calls.{EachIsEnabled, IsCallEnabled, effects_of_life, entries_of, event_adds, lines_of_life}
+use Rattle.law_commit.proofs.Below.law_refine.OfCalls.UpdateLines.{event_is_enabled}
+use Rattle.law_commit.proofs.Below.law_refine.OfCalls.LifeHistory.{life_entries}
+use Rattle.law_commit.proofs.Below.law_refine.OfCalls.SameHistory.{same_reply, same_update}
 use Rattle.law_order.specs.Known.Answered.{IsAnswerEnabled, EachAnswered, acted, acted_ghosts}
 use Rattle.law_order.specs.Known.Begins.{BegunLife, home_of_world}
-use Rattle.law_refine.specs.Events.GhostEvents.{ghost_events, life_ghosts, mapped}
-use Rattle.law_refine.proofs.OfEvents.Trace.{ghost_trace}
-use Rattle.law_refine.specs.Records.Changes.{AreChangesPublished}
-use Rattle.law_refine.proofs.OfRecords.Meets.{life_meets_published}
+use Rattle.law_commit.specs.Below.law_refine.Events.GhostEvents.{ghost_events, life_ghosts, mapped}
+use Rattle.law_commit.proofs.Below.law_refine.OfEvents.Trace.{ghost_trace}
+use Rattle.law_commit.specs.Below.law_refine.Records.Changes.{AreChangesPublished}
+use Rattle.law_commit.proofs.Below.law_refine.OfRecords.Meets.{life_meets_published}
 use Rattle.law_order.proofs.OfTold.Lines.{acted_trace, told_log, told_trace}
 use Rattle.law_order.proofs.OfTold.Runs.{free_read, enabled_on}
 

@@ -3,11 +3,11 @@ use Rattle.std.proofs.Common.{◌≡◌, ℕ, refl, ap, Bool, true, false, List,
 use Rattle.std.specs.Prelude.{map, if◌then◌else◌, ◌==◌}
 use Rattle.law_log.specs.Ghosts.{Ghosts, GhostEvent, Tells, FindsEntry, TakesValue, Reserves, Publishes, Drops, Changes, Fixes, ghosts_after, ghost_run}
 use Rattle.law_log.specs.Trace.{TraceLine}
-use Rattle.fkv_world.specs.Runs.{World, run}
-use Rattle.fkv_world.specs.World.{Event}
+use Rattle.law_commit.specs.Below.fkv_world.Runs.{World, run}
+use Rattle.law_commit.specs.Below.fkv_world.World.{Event}
 use Rattle.law_order.specs.Known.Answered.{acted}
-use Rattle.law_refine.specs.Events.GhostEvents.{fixed_ghosts, own_ghosts, safe_at}
-use Rattle.law_refine.proofs.OfEvents.Own.{AreOwn, own_own}
+use Rattle.law_commit.specs.Below.law_refine.Events.GhostEvents.{fixed_ghosts, own_ghosts, safe_at}
+use Rattle.law_commit.proofs.Below.law_refine.OfEvents.Own.{AreOwn, own_own}
 
 pub told_log : (home : ℕ → ℕ) (g : Ghosts) (lines : List TraceLine) → (ghost_run home g (map Tells lines)).log ≡ g.log
 unfolding ghost_run ghosts_after

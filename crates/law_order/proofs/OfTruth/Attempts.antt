@@ -1,16 +1,16 @@
 -- What a session attempts at a moment of a life: by what it has seen, and with what it is asked for.
 use Rattle.std.proofs.Common.{◌≡◌, ℕ, List, sym, subst, true}
 use Rattle.std.specs.Prelude.{Some, slice_get}
-use Rattle.fkv_session.specs.declared.sessions.Sitting.{Sitting}
-use Rattle.fkv_session.specs.declared.sessions.Sitting.TheVariants.{Attempts, Polls}
-use Rattle.fkv_session.specs.Sessions.{SessionState, Seat}
-use Rattle.law_local.specs.Sessions.Inputs.{AttemptsBy, AttemptsSo}
-use Rattle.law_local.specs.Sessions.Known.{is_attempting}
-use Rattle.fkv_world.specs.Opened.{IsOpenedWorld}
-use Rattle.fkv_world.specs.Runs.{World, run}
-use Rattle.fkv_world.specs.World.{Event, seat_at}
-use Rattle.fkv_world.proofs.Shown.{same_seat}
-use Rattle.law_world.specs.Guarded.Shows.{IsOpened}
+use Rattle.law_commit.specs.Below.fkv_session.Sitting.{Sitting}
+use Rattle.law_commit.specs.Below.fkv_session.Sitting.TheVariants.{Attempts, Polls}
+use Rattle.law_commit.specs.Below.fkv_session.Sessions.{SessionState, Seat}
+use Rattle.law_commit.specs.Below.law_local.Sessions.Inputs.{AttemptsBy, AttemptsSo}
+use Rattle.law_commit.specs.Below.law_local.Sessions.Known.{is_attempting}
+use Rattle.law_commit.specs.Below.fkv_world.Opened.{IsOpenedWorld}
+use Rattle.law_commit.specs.Below.fkv_world.Runs.{World, run}
+use Rattle.law_commit.specs.Below.fkv_world.World.{Event, seat_at}
+use Rattle.law_commit.proofs.Below.fkv_world.Shown.{same_seat}
+use Rattle.law_commit.specs.Below.law_world.Guarded.Shows.{IsOpened}
 use Rattle.law_opening.proofs.OfChanges.OfSessions.Attempting.{life_attempts}
 
 -- ---- by what it attempts

@@ -2,8 +2,8 @@
 use Rattle.std.proofs.Common.{◌≡◌, ℕ, ◌<◌, ◌≤◌, ◌∙◌, inl, inr, sym, ap, arith, List, []}
 use Rattle.std.specs.Prelude.{Some, slice_get}
 use Rattle.std.proofs.lemmas.Bool.{cases_lt}
-use Rattle.fkv_ops.specs.HeaderWords.{header_said}
-use Rattle.fkv_ops.specs.Values.{value_of}
+use Rattle.law_commit.specs.Below.fkv_ops.HeaderWords.{header_said}
+use Rattle.law_commit.specs.Below.fkv_ops.Values.{value_of}
 use Rattle.law_log.specs.Chains.{Cell, Published}
 use Rattle.law_log.specs.Ghosts.{Ghosts, Log}
 use Rattle.law_log.proofs.Shown.{not_unborn}
@@ -12,23 +12,23 @@ use Rattle.fkv_plane.specs.declared.places.RecordWord.{RecordWord}
 use Rattle.fkv_plane.specs.declared.places.RecordWord.TheVariants as rec
 use Rattle.fkv_plane.specs.Asked.{word_at}
 use Rattle.fkv_plane.specs.Places.{record_place}
-use Rattle.fkv_session.specs.Sessions.{SessionState}
-use Rattle.law_local.specs.Tries.WordsShow.{IsHere}
-use Rattle.fkv_world.specs.Runs.{World, run}
-use Rattle.fkv_world.specs.World.{Event, Now}
-use Rattle.fkv_world.proofs.Shown.{places_stay}
-use Rattle.law_world.specs.Guarded.Shows.{IsOpened}
-use Rattle.law_refine.specs.Events.GhostEvents.{life_ghosts}
-use Rattle.law_refine.specs.Events.Reserved.{tail_at, IsUnbornFrom, ReservesNothing}
-use Rattle.law_refine.proofs.OfEvents.Unborn.{ghost_unborn}
-use Rattle.law_refine.proofs.OfEvents.Fixed.{life_rises}
-use Rattle.law_refine.specs.Records.Cells.{ShowsCell}
-use Rattle.law_refine.specs.Records.Changes.{AreChangesPublished}
-use Rattle.law_refine.specs.Records.Frames.{IsAttempting, words_framed}
-use Rattle.law_refine.proofs.OfRecords.Standing.{HasFrame, stands_in, stood_here}
-use Rattle.law_refine.proofs.OfRecords.Frames.{finds_framed, frames_show_log, head_above}
-use Rattle.law_refine.proofs.OfRecords.Life.{life_holds}
-use Rattle.law_refine.proofs.OfRecords.FrameOwners.{sees_safely}
+use Rattle.law_commit.specs.Below.fkv_session.Sessions.{SessionState}
+use Rattle.law_commit.specs.Below.law_local.Tries.WordsShow.{IsHere}
+use Rattle.law_commit.specs.Below.fkv_world.Runs.{World, run}
+use Rattle.law_commit.specs.Below.fkv_world.World.{Event, Now}
+use Rattle.law_commit.proofs.Below.fkv_world.Shown.{places_stay}
+use Rattle.law_commit.specs.Below.law_world.Guarded.Shows.{IsOpened}
+use Rattle.law_commit.specs.Below.law_refine.Events.GhostEvents.{life_ghosts}
+use Rattle.law_commit.specs.Below.law_refine.Events.Reserved.{tail_at, IsUnbornFrom, ReservesNothing}
+use Rattle.law_commit.proofs.Below.law_refine.OfEvents.Unborn.{ghost_unborn}
+use Rattle.law_commit.proofs.Below.law_refine.OfEvents.Fixed.{life_rises}
+use Rattle.law_commit.specs.Below.law_refine.Records.Cells.{ShowsCell}
+use Rattle.law_commit.specs.Below.law_refine.Records.Changes.{AreChangesPublished}
+use Rattle.law_commit.specs.Below.law_refine.Records.Frames.{IsAttempting, words_framed}
+use Rattle.law_commit.proofs.Below.law_refine.OfRecords.Standing.{HasFrame, stands_in, stood_here}
+use Rattle.law_commit.proofs.Below.law_refine.OfRecords.Frames.{finds_framed, frames_show_log, head_above}
+use Rattle.law_commit.proofs.Below.law_refine.OfRecords.Life.{life_holds}
+use Rattle.law_commit.proofs.Below.law_refine.OfRecords.FrameOwners.{sees_safely}
 
 -- what is published lies below the tail
 pub published_below : (opening : World) (start : ℕ) (ghosts : Ghosts) (events : List Event) (a : ℕ) (cell : Cell) → IsOpened opening.now start → IsUnbornFrom (tail_at opening.now) ghosts

@@ -11,24 +11,24 @@ use Rattle.fkv_index.specs.declared.finding.Found.TheVariants.{Slot, NoSlot}
 use Rattle.fkv_index.specs.Finding.{find_next_ask}
 use Rattle.law_log.specs.Chains.{head_of}
 use Rattle.law_log.specs.Ghosts.{Log}
-use Rattle.fkv_ops.specs.declared.requests.Request.{Request}
-use Rattle.fkv_ops.specs.declared.trying.Trying.{Trying}
-use Rattle.fkv_ops.specs.declared.trying.Trying.TheVariants.{Walks}
-use Rattle.fkv_ops.specs.declared.walking.Walking.{Walking}
-use Rattle.fkv_ops.specs.declared.walking.Walking.TheVariants.{Finds}
-use Rattle.fkv_ops.specs.Requests.{purpose_of}
-use Rattle.fkv_ops.specs.Trying.{TryState}
-use Rattle.fkv_pending.specs.declared.attempting.Attempting.{Attempting}
-use Rattle.fkv_pending.specs.declared.attempting.Attempting.TheVariants.{Looks, Tries}
-use Rattle.fkv_pending.specs.Attempting.{AttemptState}
-use Rattle.law_local.specs.Tries.AttemptRows.{AttemptRow}
-use Rattle.law_local.specs.Tries.MailRows.{IsTrueOfLook}
-use Rattle.law_local.specs.Tries.Replies.{LeadsToHead, EndsAtHead}
-use Rattle.law_local.specs.Tries.TryRows.{TryRow}
-use Rattle.law_local.specs.Tries.WordsShow.{WalkSearches, TrySearches, AttemptMeets}
+use Rattle.law_commit.specs.Below.fkv_ops.Request.{Request}
+use Rattle.law_commit.specs.Below.fkv_ops.TheTrying.{Trying}
+use Rattle.law_commit.specs.Below.fkv_ops.TheTrying.TheVariants.{Walks}
+use Rattle.law_commit.specs.Below.fkv_ops.TheWalking.{Walking}
+use Rattle.law_commit.specs.Below.fkv_ops.TheWalking.TheVariants.{Finds}
+use Rattle.law_commit.specs.Below.fkv_ops.Requests.{purpose_of}
+use Rattle.law_commit.specs.Below.fkv_ops.Trying.{TryState}
+use Rattle.law_commit.specs.Below.fkv_pending.TheAttempting.{Attempting}
+use Rattle.law_commit.specs.Below.fkv_pending.TheAttempting.TheVariants.{Looks, Tries}
+use Rattle.law_commit.specs.Below.fkv_pending.Attempting.{AttemptState}
+use Rattle.law_commit.specs.Below.law_local.Tries.AttemptRows.{AttemptRow}
+use Rattle.law_commit.specs.Below.law_local.Tries.MailRows.{IsTrueOfLook}
+use Rattle.law_commit.specs.Below.law_local.Tries.Replies.{LeadsToHead, EndsAtHead}
+use Rattle.law_commit.specs.Below.law_local.Tries.TryRows.{TryRow}
+use Rattle.law_commit.specs.Below.law_local.Tries.WordsShow.{WalkSearches, TrySearches, AttemptMeets}
 use Rattle.law_opening.proofs.OfChanges.OfSessions.Attempting.{FindsBy}
-use Rattle.law_refine.specs.Heads.Searches.{IsHeadFound, IsHeadAnswered}
-use Rattle.law_refine.specs.Index.Finders.{attempt_part, try_work, walk_work}
+use Rattle.law_commit.specs.Below.law_refine.Heads.Searches.{IsHeadFound, IsHeadAnswered}
+use Rattle.law_commit.specs.Below.law_refine.Index.Finders.{attempt_part, try_work, walk_work}
 
 -- ---- what a search finds
 leads_to_head : (head : ℕ) (its : Found) → IsHeadFound head its → LeadsToHead head its

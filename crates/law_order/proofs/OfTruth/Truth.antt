@@ -6,26 +6,26 @@ use Rattle.fkv_map.specs.Keys.{key_of}
 use Rattle.law_log.specs.Chains.{head_of}
 use Rattle.law_log.specs.Ghosts.{Log}
 use Rattle.law_log.specs.Enabled.{AreEnabled}
-use Rattle.fkv_ops.specs.declared.requests.Seen.{Seen}
-use Rattle.fkv_pending.specs.Attempting.{attempt_ask}
+use Rattle.law_commit.specs.Below.fkv_ops.Seen.{Seen}
+use Rattle.law_commit.specs.Below.fkv_pending.Attempting.{attempt_ask}
 use Rattle.fkv_plane.specs.Asked.{reply_to}
-use Rattle.fkv_session.specs.Sessions.{SessionState}
-use Rattle.law_local.specs.Sessions.Known.{is_attempting}
-use Rattle.law_local.specs.Tries.AttemptRows.{AttemptKnows, IsTrueOfAttempt}
-use Rattle.law_local.specs.Tries.WordsShow.{WordsShow, AttemptMeets}
-use Rattle.law_local.proofs.OfTries.Words.{attempt_true}
-use Rattle.fkv_world.specs.Runs.{World, run}
-use Rattle.fkv_world.specs.World.{Event, Now, seat_at}
-use Rattle.fkv_world.proofs.Shown.{shape_stays}
-use Rattle.law_refine.specs.Heads.Heads.{head_at}
-use Rattle.law_refine.specs.Heads.Searches.{home_attempted}
-use Rattle.law_refine.proofs.OfHeads.LifeHeads.{life_found}
-use Rattle.law_refine.specs.Index.Finders.{session_part}
+use Rattle.law_commit.specs.Below.fkv_session.Sessions.{SessionState}
+use Rattle.law_commit.specs.Below.law_local.Sessions.Known.{is_attempting}
+use Rattle.law_commit.specs.Below.law_local.Tries.AttemptRows.{AttemptKnows, IsTrueOfAttempt}
+use Rattle.law_commit.specs.Below.law_local.Tries.WordsShow.{WordsShow, AttemptMeets}
+use Rattle.law_commit.proofs.Below.law_local.OfTries.Words.{attempt_true}
+use Rattle.law_commit.specs.Below.fkv_world.Runs.{World, run}
+use Rattle.law_commit.specs.Below.fkv_world.World.{Event, Now, seat_at}
+use Rattle.law_commit.proofs.Below.fkv_world.Shown.{shape_stays}
+use Rattle.law_commit.specs.Below.law_refine.Heads.Heads.{head_at}
+use Rattle.law_commit.specs.Below.law_refine.Heads.Searches.{home_attempted}
+use Rattle.law_commit.proofs.Below.law_refine.OfHeads.LifeHeads.{life_found}
+use Rattle.law_commit.specs.Below.law_refine.Index.Finders.{session_part}
 use Rattle.law_order.specs.Known.Begins.{BegunLife, home_of_world}
 use Rattle.law_order.specs.Known.Knows.{AreKnown}
 use Rattle.law_order.specs.Known.Told.{AreToldTruly, LookTruly, reply_in}
-use Rattle.law_refine.specs.Events.GhostEvents.{home_number, life_ghosts, mapped}
-use Rattle.law_refine.specs.Records.Changes.{AreChangesPublished}
+use Rattle.law_commit.specs.Below.law_refine.Events.GhostEvents.{home_number, life_ghosts, mapped}
+use Rattle.law_commit.specs.Below.law_refine.Records.Changes.{AreChangesPublished}
 use Rattle.law_order.proofs.OfKnown.Newest.{known_now}
 use Rattle.law_opening.proofs.OfChanges.OfSessions.Attempting.{FindsBy, attempt_reply, attempting_is, finds_by}
 use Rattle.law_order.proofs.OfTruth.Attempts.{life_seen}

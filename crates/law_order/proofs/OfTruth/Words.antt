@@ -3,17 +3,17 @@ use Rattle.std.proofs.Common.{◌≡◌, ℕ, ◌<◌, sym, arith, List, []}
 use Rattle.std.specs.Prelude.{Some, slice_get}
 use Rattle.law_log.specs.Enabled.{AreEnabled}
 use Rattle.law_log.proofs.Shown.{run_held}
-use Rattle.fkv_session.specs.Sessions.{SessionState}
-use Rattle.law_local.specs.Tries.Replies.{IsAboveAll}
-use Rattle.law_local.specs.Tries.WordsShow.{WordsShow}
-use Rattle.fkv_world.specs.Runs.{run}
-use Rattle.fkv_world.specs.World.{Event}
+use Rattle.law_commit.specs.Below.fkv_session.Sessions.{SessionState}
+use Rattle.law_commit.specs.Below.law_local.Tries.Replies.{IsAboveAll}
+use Rattle.law_commit.specs.Below.law_local.Tries.WordsShow.{WordsShow}
+use Rattle.law_commit.specs.Below.fkv_world.Runs.{run}
+use Rattle.law_commit.specs.Below.fkv_world.World.{Event}
 use Rattle.law_order.specs.Known.Begins.{BegunLife, home_of_world}
-use Rattle.law_refine.specs.Events.GhostEvents.{life_ghosts, mapped}
-use Rattle.law_refine.specs.Events.Reserved.{tail_at}
-use Rattle.law_refine.proofs.OfEvents.Fixed.{ghost_fixed, life_rises}
-use Rattle.law_refine.specs.Records.Changes.{AreChangesPublished}
-use Rattle.law_refine.specs.Records.Frames.{IsAttempting}
+use Rattle.law_commit.specs.Below.law_refine.Events.GhostEvents.{life_ghosts, mapped}
+use Rattle.law_commit.specs.Below.law_refine.Events.Reserved.{tail_at}
+use Rattle.law_commit.proofs.Below.law_refine.OfEvents.Fixed.{ghost_fixed, life_rises}
+use Rattle.law_commit.specs.Below.law_refine.Records.Changes.{AreChangesPublished}
+use Rattle.law_commit.specs.Below.law_refine.Records.Frames.{IsAttempting}
 use Rattle.law_order.proofs.OfTruth.Frames.{published_below, shows_here}
 
 -- the log begins above 0, and the tail never falls

@@ -6,7 +6,7 @@ use Rattle.law_commit.specs.Quiet.{LatchesAtItsVersion, NoneIsLeft}
 use Rattle.law_commit.specs.Shares.Alone.{BitIsPastPrepare}
 use Rattle.law_commit.specs.Shares.Since.{OlderComeSharing}
 use Rattle.law_commit.specs.Shares.Waiting.{SharesInPrepare}
-use Rattle.law_refine.specs.Latches.InTries.{StandsBesideNone}
+use Rattle.law_commit.specs.Below.law_refine.Latches.InTries.{StandsBesideNone}
 
 pub record Given : Type 0 where
   pub sound : PaperIsSound

@@ -1,9 +1,9 @@
 -- What the sessions of a life know of versions.
 use Rattle.std.specs.Prelude.{◌≡◌, ℕ, false, List, Some, slice_get}
-use Rattle.fkv_session.specs.Sessions.{SessionState}
-use Rattle.fkv_world.specs.Runs.{World, run}
-use Rattle.fkv_world.specs.OwnEvents.{session_events}
-use Rattle.fkv_world.specs.World.{Event, seat_at}
+use Rattle.law_commit.specs.Below.fkv_session.Sessions.{SessionState}
+use Rattle.law_commit.specs.Below.fkv_world.Runs.{World, run}
+use Rattle.law_commit.specs.Below.fkv_world.OwnEvents.{session_events}
+use Rattle.law_commit.specs.Below.fkv_world.World.{Event, seat_at}
 use Rattle.law_apart.specs.Apart.Rows.{SessionApart}
 use Rattle.law_commit.specs.PhaseVersions.{phase_version}
 use Rattle.law_commit.specs.Quiet.{OpensQuiet}
@@ -11,8 +11,8 @@ use Rattle.law_commit.specs.Shares.Waiting.{has_shifted}
 use Rattle.law_commit.specs.Versions.Cells.{CellsUpto}
 use Rattle.law_log.specs.Ghosts.{Ghosts}
 use Rattle.law_order.specs.Known.Begins.{BegunLife, home_of_world}
-use Rattle.law_refine.specs.Latches.Shows as latches
-use Rattle.law_refine.specs.Events.GhostEvents.{life_ghosts}
+use Rattle.law_commit.specs.Below.law_refine.Latches.Shows as latches
+use Rattle.law_commit.specs.Below.law_refine.Events.GhostEvents.{life_ghosts}
 
 -- no attempt of a life ends as a shift and isn't made again
 abbrev pub NoneHasShifted : World → List Event → Type 0

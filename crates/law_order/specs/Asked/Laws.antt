@@ -1,13 +1,13 @@
 -- What is shown of the mailboxes of a life.
 use Rattle.std.specs.Prelude.{◌≡◌, ℕ, List, Some, slice_get, true}
-use Rattle.fkv_session.specs.Sessions.{SessionState}
-use Rattle.law_local.specs.Sessions.Known.{is_attempting}
-use Rattle.fkv_world.specs.Runs.{World, run}
-use Rattle.fkv_world.specs.World.{Event}
+use Rattle.law_commit.specs.Below.fkv_session.Sessions.{SessionState}
+use Rattle.law_commit.specs.Below.law_local.Sessions.Known.{is_attempting}
+use Rattle.law_commit.specs.Below.fkv_world.Runs.{World, run}
+use Rattle.law_commit.specs.Below.fkv_world.World.{Event}
 use Rattle.law_order.specs.Asked.Asked.{AsksForSought, HaveAskedSought, LooksForAsked}
-use Rattle.law_world.specs.Guarded.Shows as guard
-use Rattle.law_refine.specs.Mail.Reads.{mail_notes, mail_past}
-use Rattle.law_refine.specs.Mail.Shows.{IsOpened}
+use Rattle.law_commit.specs.Below.law_world.Guarded.Shows as guard
+use Rattle.law_commit.specs.Below.law_refine.Mail.Reads.{mail_notes, mail_past}
+use Rattle.law_commit.specs.Below.law_refine.Mail.Shows.{IsOpened}
 
 -- an attempt that looks into the mailbox looks for what was asked for there last
 abbrev pub LooksForWhatIsAsked : Type 0

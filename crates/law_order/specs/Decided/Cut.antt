@@ -2,19 +2,19 @@
 use Rattle.std.specs.List.{flat_map}
 use Rattle.std.specs.Prelude.{◌≡◌, ◌⊎◌, ◌<◌, ◌≤◌, ◌+◌, ◌^◌, ℕ, List, Some, slice_get}
 use Rattle.fkv_base.specs.declared.commits.CommitKind.TheVariants.{Full}
-use Rattle.fkv_core.specs.Openings.{IsOpeningWorld, beginning}
-use Rattle.fkv_opening.specs.Opened.{IsStoreOf}
-use Rattle.fkv_opening.specs.declared.opened_store.Opened.{Opened}
+use Rattle.law_opening.specs.Below.fkv_core.Openings.{IsOpeningWorld, beginning}
+use Rattle.law_opening.specs.Below.fkv_opening.Opened.{IsStoreOf}
+use Rattle.law_opening.specs.Below.fkv_opening.TheOpened.{Opened}
 use Rattle.fkv_record.specs.Layout.{triple_bytes}
 use Rattle.fkv_record.specs.declared.triples.Triple.{Triple}
-use Rattle.fkv_scan.specs.Log as scan
-use Rattle.fkv_world.specs.World.{Event, Now}
+use Rattle.law_opening.specs.Below.fkv_scan.Log as scan
+use Rattle.law_commit.specs.Below.fkv_world.World.{Event, Now}
 use Rattle.law_log.specs.Chains.{Cell, Published}
 use Rattle.law_log.specs.Ghosts.{Log}
 use Rattle.law_log.specs.Trace.{IsIn}
 use Rattle.law_opening.specs.Log.Lives.{ghosts_beside}
-use Rattle.law_paper.specs.Paper.Images.{IsCut, IsDecided}
-use Rattle.law_paper.specs.Paper.Stands.{CoversChains}
+use Rattle.law_commit.specs.Below.law_paper.Paper.Images.{IsCut, IsDecided}
+use Rattle.law_commit.specs.Below.law_paper.Paper.Stands.{CoversChains}
 use Rattle.law_commit.specs.BegunCommits.{BegunCommit, life_begun}
 use Rattle.law_commit.specs.Decided.Below.{CellsBelow}
 use Rattle.law_commit.specs.Decided.Ended.{HasEnded, span_of, span_opened}

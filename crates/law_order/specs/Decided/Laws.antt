@@ -1,19 +1,19 @@
 -- What the law says of decided addresses in the lives of opened stores.
 use Rattle.std.specs.Prelude.{◌≡◌, ◌⊎◌, ◌<◌, ◌≤◌, ℕ, true, List, Some}
 use Rattle.fkv_base.specs.declared.commits.CommitKind.TheVariants.{Full}
-use Rattle.fkv_commit.specs.declared.commits.Commit.{Commit}
-use Rattle.fkv_filling.specs.OpeningIndex.{opening_lists}
-use Rattle.fkv_core.specs.Openings.{IsOpeningWorld, beginning}
-use Rattle.fkv_opening.specs.Opened.{IsStoreOf}
-use Rattle.fkv_opening.specs.declared.opened_store.Opened.{Opened}
+use Rattle.law_commit.specs.Below.fkv_commit.Commit.{Commit}
+use Rattle.law_opening.specs.Below.fkv_filling.OpeningIndex.{opening_lists}
+use Rattle.law_opening.specs.Below.fkv_core.Openings.{IsOpeningWorld, beginning}
+use Rattle.law_opening.specs.Below.fkv_opening.Opened.{IsStoreOf}
+use Rattle.law_opening.specs.Below.fkv_opening.TheOpened.{Opened}
 use Rattle.fkv_words.specs.PhaseWords.{phase_said}
-use Rattle.fkv_world.specs.Runs.{World, run}
-use Rattle.fkv_world.specs.World.{Event, Now}
+use Rattle.law_commit.specs.Below.fkv_world.Runs.{World, run}
+use Rattle.law_commit.specs.Below.fkv_world.World.{Event, Now}
 use Rattle.law_log.specs.Ghosts.{Ghosts}
 use Rattle.law_log.specs.Trace.{IsIn}
 use Rattle.law_opening.specs.Log.OpeningLog.{opening_ghosts}
-use Rattle.law_refine.specs.Events.GhostEvents.{life_ghosts}
-use Rattle.law_refine.specs.Events.Reserved.{tail_at}
+use Rattle.law_commit.specs.Below.law_refine.Events.GhostEvents.{life_ghosts}
+use Rattle.law_commit.specs.Below.law_refine.Events.Reserved.{tail_at}
 use Rattle.law_commit.specs.Copied.Covers.{before_copy}
 use Rattle.law_commit.specs.Copied.Runs.{seen_by_copy}
 use Rattle.law_commit.specs.Decided.Cells.{DecidedBelow, SettledFrom, TakenFrom}

@@ -1,16 +1,16 @@
 -- What a life leaves of the records with which the store was opened, in the words of `law_paper`.
 use Rattle.std.specs.Prelude.{◌≡◌, ◌<◌, ◌≤◌, ℕ, List}
-use Rattle.fkv_core.specs.Openings.{IsOpeningWorld}
-use Rattle.fkv_opening.specs.Opened.{IsStoreOf}
-use Rattle.fkv_opening.specs.declared.opened_store.Opened.{Opened}
-use Rattle.fkv_pairs.specs.Pairs.{log_of_store}
+use Rattle.law_opening.specs.Below.fkv_core.Openings.{IsOpeningWorld}
+use Rattle.law_opening.specs.Below.fkv_opening.Opened.{IsStoreOf}
+use Rattle.law_opening.specs.Below.fkv_opening.TheOpened.{Opened}
+use Rattle.law_opening.specs.Below.fkv_pairs.Pairs.{log_of_store}
 use Rattle.fkv_record.specs.declared.lost_ranges.LostRange.{LostRange}
-use Rattle.fkv_scan.specs.Log as scan
-use Rattle.fkv_world.specs.World.{Event, Now}
+use Rattle.law_opening.specs.Below.fkv_scan.Log as scan
+use Rattle.law_commit.specs.Below.fkv_world.World.{Event, Now}
 use Rattle.law_log.specs.Chains.{Cell, Published}
 use Rattle.law_log.specs.Ghosts.{Log}
 use Rattle.law_opening.specs.Log.OpeningLog.{opening_log}
-use Rattle.law_paper.specs.Paper.Old.{HasWhatCounted, LosesTheRest}
+use Rattle.law_commit.specs.Below.law_paper.Paper.Old.{HasWhatCounted, LosesTheRest}
 use Rattle.law_order.specs.Decided.Cut.{log_beside}
 
 -- so it is in each life of an opened store: of what recovery met in its image, of the log with which the life began, and of the log beside it now

@@ -1,19 +1,19 @@
 -- What a full commit of a life has written as its checkpoint.
 use Rattle.std.specs.Prelude.{◌≡◌, ◌<◌, ◌^◌, ℕ, List, ◌++◌, Some, slice_get}
 use Rattle.std.specs.List.{flat_map}
-use Rattle.fkv_checkpoint.specs.Copied.{copied_after}
-use Rattle.fkv_checkpoint.specs.Triples.{all_bytes}
-use Rattle.fkv_commit.specs.declared.commits.Commit.{Commit}
-use Rattle.fkv_keeper.specs.CheckpointLaws.{HasCopied}
-use Rattle.fkv_keeper.specs.declared.keepers.Keeping.TheVariants.{Waits}
+use Rattle.law_commit.specs.Below.fkv_checkpoint.Copied.{copied_after}
+use Rattle.law_commit.specs.Below.fkv_checkpoint.Triples.{all_bytes}
+use Rattle.law_commit.specs.Below.fkv_commit.Commit.{Commit}
+use Rattle.law_commit.specs.Below.fkv_keeper.CheckpointLaws.{HasCopied}
+use Rattle.law_commit.specs.Below.fkv_keeper.TheKeeping.TheVariants.{Waits}
 use Rattle.fkv_record.specs.Layout.{triple_bytes}
 use Rattle.fkv_record.specs.declared.triples.Triple.{Triple}
-use Rattle.fkv_scan.specs.Log.{AreApart}
-use Rattle.fkv_world.specs.OwnEvents.{keeper_events}
-use Rattle.fkv_world.specs.Runs.{World}
-use Rattle.fkv_world.specs.World.{Event}
+use Rattle.law_opening.specs.Below.fkv_scan.Log.{AreApart}
+use Rattle.law_commit.specs.Below.fkv_world.OwnEvents.{keeper_events}
+use Rattle.law_commit.specs.Below.fkv_world.Runs.{World}
+use Rattle.law_commit.specs.Below.fkv_world.World.{Event}
 use Rattle.law_commit.specs.BegunCommits.{BegunCommit}
-use Rattle.law_world.specs.Keeper.Lives.{keeper_after, replies_copied}
+use Rattle.law_commit.specs.Below.law_world.Keeper.Lives.{keeper_after, replies_copied}
 
 -- This is the commit as the keeper has it in hand.
 pub record IsOfCommit (hand : Commit) (c : BegunCommit) : Type 0 where

@@ -1,9 +1,9 @@
 -- Where the commit ends whose writes have begun.
 use Rattle.std.specs.Prelude.{◌≡◌, ⊤, ℕ, ◌≤◌, Some}
-use Rattle.fkv_commit.specs.declared.commits.Commit.{Commit}
-use Rattle.fkv_keeper.specs.declared.keepers.Keeping.{Keeping}
-use Rattle.fkv_keeper.specs.declared.keepers.Keeping.TheVariants.{Writes, Finishes}
-use Rattle.fkv_keeper.specs.Keeping.{KeeperState}
+use Rattle.law_commit.specs.Below.fkv_commit.Commit.{Commit}
+use Rattle.law_commit.specs.Below.fkv_keeper.TheKeeping.{Keeping}
+use Rattle.law_commit.specs.Below.fkv_keeper.TheKeeping.TheVariants.{Writes, Finishes}
+use Rattle.law_commit.specs.Below.fkv_keeper.Keeping.{KeeperState}
 
 -- the commit in hand ends at or below an address
 abbrev pub CommitEndsBy : ℕ → KeeperState → Type 0

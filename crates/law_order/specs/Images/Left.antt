@@ -1,10 +1,10 @@
 -- The images that a crash may leave of a life.
 use Rattle.std.specs.Prelude.{ℕ, List}
-use Rattle.fkv_core.specs.Openings.{beginning}
+use Rattle.law_opening.specs.Below.fkv_core.Openings.{beginning}
 use Rattle.fkv_disk.specs.Calls.{MayLeave}
-use Rattle.fkv_flush.specs.GuardLevels.{levels_of}
-use Rattle.fkv_world.specs.Runs.{run}
-use Rattle.fkv_world.specs.World.{Event, Now}
+use Rattle.law_commit.specs.Below.fkv_flush.GuardLevels.{levels_of}
+use Rattle.law_commit.specs.Below.fkv_world.Runs.{run}
+use Rattle.law_commit.specs.Below.fkv_world.World.{Event, Now}
 
 -- a crash may leave this image behind these events
 abbrev pub IsLeft : Now → List ℕ → List Event → List ℕ → Type 0

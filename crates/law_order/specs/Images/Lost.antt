@@ -1,17 +1,17 @@
 -- What the lost ranges in a commit's slot lose.
 use Rattle.std.specs.Prelude.{◌≡◌, ◌⊎◌, ℕ, ◌≤◌, List}
-use Rattle.fkv_keeper.specs.LastCommits.{lost_written}
-use Rattle.fkv_opening.specs.Opened.{IsStoreOf}
-use Rattle.fkv_opening.specs.declared.opened_store.Opened.{Opened}
-use Rattle.fkv_pairs.specs.Pairs.{log_of_store}
+use Rattle.law_commit.specs.Below.fkv_keeper.LastCommits.{lost_written}
+use Rattle.law_opening.specs.Below.fkv_opening.Opened.{IsStoreOf}
+use Rattle.law_opening.specs.Below.fkv_opening.TheOpened.{Opened}
+use Rattle.law_opening.specs.Below.fkv_pairs.Pairs.{log_of_store}
 use Rattle.fkv_record.specs.declared.lost_ranges.LostRange.{LostRange}
 use Rattle.fkv_record.specs.declared.records.Record.{Record}
-use Rattle.fkv_scan.specs.Records.{losses}
-use Rattle.fkv_world.specs.World.{Now}
+use Rattle.law_opening.specs.Below.fkv_scan.Records.{losses}
+use Rattle.law_commit.specs.Below.fkv_world.World.{Now}
 use Rattle.law_commit.specs.BegunCommits.{BegunCommit}
 use Rattle.law_order.specs.Images.Fits.{NamesNone}
 use Rattle.law_opening.specs.Log.OpeningLog.{opening_log}
-use Rattle.law_paper.specs.Paper.Old.{LosesTheRest}
+use Rattle.law_commit.specs.Below.law_paper.Paper.Old.{LosesTheRest}
 
 -- These ranges lose no record from an address on.
 abbrev pub LosesNoneFrom : ℕ → List LostRange → Type 0

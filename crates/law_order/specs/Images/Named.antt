@@ -2,16 +2,16 @@
 use Rattle.std.specs.Prelude.{◌≡◌, ◌⊎◌, ℕ, ◌≤◌, true, List, length, Some}
 use Rattle.fkv_base.specs.declared.commits.CommitKind.TheVariants.{Full}
 use Rattle.fkv_base.specs.declared.shapes.Shape.{Shape}
-use Rattle.fkv_core.specs.Openings.{beginning}
-use Rattle.fkv_keeper.specs.LastCommits.{slot_place, slot_written}
-use Rattle.fkv_keeper.specs.declared.last_commits.Checkpoint.{Checkpoint}
-use Rattle.fkv_manifest.specs.Newest.{newest, slot_in}
+use Rattle.law_opening.specs.Below.fkv_core.Openings.{beginning}
+use Rattle.law_commit.specs.Below.fkv_keeper.LastCommits.{slot_place, slot_written}
+use Rattle.law_commit.specs.Below.fkv_keeper.Checkpoint.{Checkpoint}
+use Rattle.law_commit.specs.Below.fkv_manifest.Newest.{newest, slot_in}
 use Rattle.fkv_record.specs.Places.{most_triples}
-use Rattle.fkv_world.specs.World.{Event, Now}
+use Rattle.law_commit.specs.Below.fkv_world.World.{Event, Now}
 use Rattle.law_commit.specs.BegunCommits.{BegunCommit, commit_opened, life_begun}
 use Rattle.law_log.specs.Trace.{IsIn}
-use Rattle.law_world.specs.Standing.Opening.{IsBehind}
-use Rattle.law_world.specs.Standing.Standing.{triples_in}
+use Rattle.law_commit.specs.Below.law_world.Standing.Opening.{IsBehind}
+use Rattle.law_commit.specs.Below.law_world.Standing.Standing.{triples_in}
 
 -- the commits whose gate's write this life has called, and the opening's
 abbrev pub begun_so_far : Now → List ℕ → List Event → List BegunCommit

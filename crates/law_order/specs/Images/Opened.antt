@@ -1,15 +1,15 @@
 -- The newest slot of an image: that of the opened bytes, or one of a commit of the life.
 use Rattle.std.specs.Prelude.{◌≡◌, List, ℕ}
 use Rattle.fkv_base.specs.declared.shapes.Shape.{Shape}
-use Rattle.fkv_manifest.specs.Newest.{slot_in}
-use Rattle.fkv_newest.specs.Manifest.{Suits}
-use Rattle.fkv_newest.specs.Newest.{IsNewest, slot_place}
-use Rattle.fkv_newest.specs.declared.newest_slots.Newest.{Newest}
+use Rattle.law_commit.specs.Below.fkv_manifest.Newest.{slot_in}
+use Rattle.law_opening.specs.Below.fkv_newest.Manifest.{Suits}
+use Rattle.law_opening.specs.Below.fkv_newest.Newest.{IsNewest, slot_place}
+use Rattle.law_opening.specs.Below.fkv_newest.TheNewest.{Newest}
 use Rattle.fkv_record.specs.declared.formats.Format.TheVariants.{Third}
 use Rattle.fkv_record.specs.declared.manifest_slots.ManifestSlot.{ManifestSlot}
 use Rattle.fkv_record.specs.Manifest.{newest_bytes, said_in}
 use Rattle.fkv_record.specs.Places.{open_number}
-use Rattle.law_paper.specs.Paper.Opened.{with_numbers}
+use Rattle.law_commit.specs.Below.law_paper.Paper.Opened.{with_numbers}
 
 -- the newest slot of the opened bytes, as it stands in an image: beside what the image's open slots name
 abbrev pub newest_in : List ℕ → Newest → Newest

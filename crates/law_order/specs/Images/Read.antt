@@ -1,12 +1,12 @@
 -- The newest slot of an image is read back as the commit that it is of.
 use Rattle.std.specs.Prelude.{◌≡◌, ◌⊎◌, ℕ, List}
-use Rattle.fkv_keeper.specs.LastCommits.{slot_said}
-use Rattle.fkv_newest.specs.Newest.{IsNewestOf}
-use Rattle.fkv_newest.specs.declared.newest_slots.Newest.{Newest}
-use Rattle.fkv_opening.specs.Opened.{IsStoreOf}
-use Rattle.fkv_opening.specs.declared.opened_store.Opened.{Opened}
+use Rattle.law_commit.specs.Below.fkv_keeper.LastCommits.{slot_said}
+use Rattle.law_opening.specs.Below.fkv_newest.Newest.{IsNewestOf}
+use Rattle.law_opening.specs.Below.fkv_newest.TheNewest.{Newest}
+use Rattle.law_opening.specs.Below.fkv_opening.Opened.{IsStoreOf}
+use Rattle.law_opening.specs.Below.fkv_opening.TheOpened.{Opened}
 use Rattle.fkv_record.specs.Manifest.{said_in}
-use Rattle.fkv_world.specs.World.{Event, Now}
+use Rattle.law_commit.specs.Below.fkv_world.World.{Event, Now}
 use Rattle.law_commit.specs.BegunCommits.{BegunCommit, commit_opened}
 use Rattle.law_order.specs.Images.Fits.{FitsLife, NamesFit}
 use Rattle.law_order.specs.Images.Left.{flushed_so_far}

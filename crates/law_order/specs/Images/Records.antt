@@ -1,14 +1,14 @@
 -- What an image shows of the log beside a life.
 use Rattle.std.specs.Prelude.{◌≡◌, ℕ, ◌+◌, ◌<◌, ◌≤◌, true, List}
-use Rattle.fkv_opening.specs.declared.opened_store.Opened.{Opened}
+use Rattle.law_opening.specs.Below.fkv_opening.TheOpened.{Opened}
 use Rattle.fkv_record.specs.declared.records.Record.{Record}
-use Rattle.fkv_scan.specs.Log as scan
-use Rattle.fkv_scan.specs.Records.{Stands}
-use Rattle.fkv_world.specs.World.{Event, Now}
+use Rattle.law_opening.specs.Below.fkv_scan.Log as scan
+use Rattle.law_opening.specs.Below.fkv_scan.Records.{Stands}
+use Rattle.law_commit.specs.Below.fkv_world.World.{Event, Now}
 use Rattle.law_order.specs.Images.Left.{flushed_so_far}
 use Rattle.law_log.specs.Chains.{Cell, Published, Dropped}
 use Rattle.law_opening.specs.Log.Lives.{ghosts_beside}
-use Rattle.law_paper.specs.Paper.Images.{ShowsCell, ShowsDropped}
+use Rattle.law_commit.specs.Below.law_paper.Paper.Images.{ShowsCell, ShowsDropped}
 
 -- The image has a record that was given up as the log has it: with the invalid bit, of its version, and with what it leads to, which is below itself.
 pub record ShowsGivenUp (image : scan.Log) (a : ℕ) (cell : Cell) : Type 0 where

@@ -1,13 +1,13 @@
 -- What the laws of `in_turn` say.
 use Rattle.std.specs.Prelude.{ℕ, List}
-use Rattle.fkv_core.specs.Openings.{IsOpeningWorld, beginning}
+use Rattle.law_opening.specs.Below.fkv_core.Openings.{IsOpeningWorld, beginning}
 use Rattle.fkv_disk.specs.Device.{LeavesOnly}
-use Rattle.fkv_opening.specs.Opened.{IsStoreOf}
-use Rattle.fkv_opening.specs.declared.opened_store.Opened.{Opened}
-use Rattle.fkv_world.specs.OwnEvents.{keeper_events}
-use Rattle.fkv_world.specs.World.{Event, Now}
-use Rattle.law_world.specs.Keeper.Lives.{IsLifeTold}
-use Rattle.law_world.specs.Standing.Opening.{AreNumbersInTurn}
+use Rattle.law_opening.specs.Below.fkv_opening.Opened.{IsStoreOf}
+use Rattle.law_opening.specs.Below.fkv_opening.TheOpened.{Opened}
+use Rattle.law_commit.specs.Below.fkv_world.OwnEvents.{keeper_events}
+use Rattle.law_commit.specs.Below.fkv_world.World.{Event, Now}
+use Rattle.law_commit.specs.Below.law_world.Keeper.Lives.{IsLifeTold}
+use Rattle.law_commit.specs.Below.law_world.Standing.Opening.{AreNumbersInTurn}
 use Rattle.law_opening.specs.Lives.OpenedFrom.{IsOpenedFrom}
 use Rattle.law_opening.specs.Lives.Steps.{AllLeadOn, OneCommitStands, Step, device_behind, events_of, now_behind}
 use Rattle.law_commit.specs.Floor.Stands.{FloorStands, LiveViewsAreNear}

@@ -3,9 +3,9 @@ use Rattle.std.specs.Prelude.{ℕ, ⊤, map, List, [], ◌∷◌, ◌++◌}
 use Rattle.law_log.specs.Ghosts.{Ghosts, GhostEvent, Tells, ghost_run}
 use Rattle.law_log.specs.Enabled.{IsLineEnabled}
 use Rattle.law_log.specs.Trace.{TraceLine, AnswersRead}
-use Rattle.fkv_world.specs.Runs.{World, run}
-use Rattle.fkv_world.specs.World.{Event}
-use Rattle.law_refine.specs.Events.GhostEvents.{fixed_ghosts, life_ghosts, own_ghosts, safe_at}
+use Rattle.law_commit.specs.Below.fkv_world.Runs.{World, run}
+use Rattle.law_commit.specs.Below.fkv_world.World.{Event}
+use Rattle.law_commit.specs.Below.law_refine.Events.GhostEvents.{fixed_ghosts, life_ghosts, own_ghosts, safe_at}
 use Rattle.law_order.specs.Known.Begins.{home_of_world}
 
 -- What an event is to the log before it tells its lines: what its session does, then a raise of the safe read-only offset.

@@ -6,14 +6,14 @@ use Rattle.law_commit.specs.Floor.Stands.{OpensSeen}
 use Rattle.law_log.specs.Chains.{Cell, Published}
 use Rattle.law_log.specs.Ghosts.{Ghosts}
 use Rattle.law_log.specs.Enabled as order
-use Rattle.fkv_world.specs.Opened.{IsOpenedWorld}
-use Rattle.fkv_world.specs.Runs.{World}
-use Rattle.law_world.specs.Guarded.OpenedStore.{IsOpenedStore}
-use Rattle.law_refine.specs.Heads.Heads.{LeadToHeads}
-use Rattle.law_refine.specs.Index.Shows as index
-use Rattle.law_refine.specs.Mail.Shows as mail
-use Rattle.law_refine.specs.Events.GhostEvents.{home_in, safe_at}
-use Rattle.law_refine.specs.Events.Reserved.{IsUnbornFrom, ReservesNothing, tail_at}
+use Rattle.law_commit.specs.Below.fkv_world.Opened.{IsOpenedWorld}
+use Rattle.law_commit.specs.Below.fkv_world.Runs.{World}
+use Rattle.law_commit.specs.Below.law_world.Guarded.OpenedStore.{IsOpenedStore}
+use Rattle.law_commit.specs.Below.law_refine.Heads.Heads.{LeadToHeads}
+use Rattle.law_commit.specs.Below.law_refine.Index.Shows as index
+use Rattle.law_commit.specs.Below.law_refine.Mail.Shows as mail
+use Rattle.law_commit.specs.Below.law_refine.Events.GhostEvents.{home_in, safe_at}
+use Rattle.law_commit.specs.Below.law_refine.Events.Reserved.{IsUnbornFrom, ReservesNothing, tail_at}
 
 -- the home of a key in the store of a world
 abbrev pub home_of_world : World → ℕ → ℕ

@@ -1,13 +1,13 @@
 -- What is shown of a session's own steps.
 use Rattle.std.specs.Prelude.{◌≡◌, ◌∷◌, ◌++◌, List, false}
 use Rattle.law_log.specs.Enabled.{AreEnabled}
-use Rattle.fkv_world.specs.Runs.{run}
-use Rattle.fkv_world.specs.World.{Event}
+use Rattle.law_commit.specs.Below.fkv_world.Runs.{run}
+use Rattle.law_commit.specs.Below.fkv_world.World.{Event}
 use Rattle.law_order.specs.Known.Begins.{BegunLife, home_of_world}
 use Rattle.law_order.specs.Known.Knows.{AreKnown}
 use Rattle.law_order.specs.Known.Told.{AreToldTruly}
-use Rattle.law_refine.specs.Events.GhostEvents.{fixed_ghosts, life_ghosts, mapped, own_ghosts, safe_at}
-use Rattle.law_refine.specs.Records.Changes.{AreChangesPublished, ChangesPublished}
+use Rattle.law_commit.specs.Below.law_refine.Events.GhostEvents.{fixed_ghosts, life_ghosts, mapped, own_ghosts, safe_at}
+use Rattle.law_commit.specs.Below.law_refine.Records.Changes.{AreChangesPublished, ChangesPublished}
 use Rattle.law_order.specs.Apart.Given.{Given}
 use Rattle.law_order.specs.Apart.Lives.{AllApartBehind, OpensApart}
 

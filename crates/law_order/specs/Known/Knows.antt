@@ -1,12 +1,12 @@
 -- What the sessions of a world know of the log.
 use Rattle.std.specs.Prelude.{◌≡◌, ℕ, List, [], ◌∷◌, slice_get, Some}
 use Rattle.law_log.specs.Ghosts.{Ghosts, Log}
-use Rattle.fkv_session.specs.Sessions.{SessionState}
-use Rattle.law_local.specs.Sessions.Known.{KnowsRequests}
-use Rattle.law_local.specs.Tries.AttemptRows.{AttemptKnows, PendingKnows}
-use Rattle.fkv_world.specs.Runs.{World, run}
-use Rattle.fkv_world.specs.World.{Event, Now}
-use Rattle.law_refine.specs.Events.GhostEvents.{life_ghosts}
+use Rattle.law_commit.specs.Below.fkv_session.Sessions.{SessionState}
+use Rattle.law_commit.specs.Below.law_local.Sessions.Known.{KnowsRequests}
+use Rattle.law_commit.specs.Below.law_local.Tries.AttemptRows.{AttemptKnows, PendingKnows}
+use Rattle.law_commit.specs.Below.fkv_world.Runs.{World, run}
+use Rattle.law_commit.specs.Below.fkv_world.World.{Event, Now}
+use Rattle.law_commit.specs.Below.law_refine.Events.GhostEvents.{life_ghosts}
 use Rattle.law_order.specs.Known.Begins.{BegunLife, home_of_world}
 
 -- what a session knows: each request that waits, by what the session has seen, and the attempt that is under way

@@ -1,16 +1,16 @@
 -- What sessions are told by the words of the store where that is true of the log, and how their tickets stand apart.
 use Rattle.std.specs.Prelude.{◌≡◌, ℕ, true, List, [], ◌∷◌, slice_get, Some}
 use Rattle.law_log.specs.Ghosts.{Log}
-use Rattle.fkv_pending.specs.declared.attempting.Attempting.TheVariants.{Looks}
-use Rattle.fkv_pending.specs.declared.pending_requests.RequestName.{RequestName}
+use Rattle.law_commit.specs.Below.fkv_pending.TheAttempting.TheVariants.{Looks}
+use Rattle.law_commit.specs.Below.fkv_pending.RequestName.{RequestName}
 use Rattle.fkv_plane.specs.Asked.{reply_to}
-use Rattle.fkv_session.specs.Accounts.{names_of}
-use Rattle.fkv_session.specs.Sessions.{SessionState, session_ask}
-use Rattle.law_local.specs.Sessions.Known.{is_attempting}
-use Rattle.law_local.specs.Tries.AttemptRows.{IsTrueOfAttempt}
-use Rattle.law_local.specs.Tries.MailRows.{IsTrueOfLook}
-use Rattle.fkv_world.specs.Runs.{World, run}
-use Rattle.fkv_world.specs.World.{Event, Now, seat_at}
+use Rattle.law_commit.specs.Below.fkv_session.Accounts.{names_of}
+use Rattle.law_commit.specs.Below.fkv_session.Sessions.{SessionState, session_ask}
+use Rattle.law_commit.specs.Below.law_local.Sessions.Known.{is_attempting}
+use Rattle.law_commit.specs.Below.law_local.Tries.AttemptRows.{IsTrueOfAttempt}
+use Rattle.law_commit.specs.Below.law_local.Tries.MailRows.{IsTrueOfLook}
+use Rattle.law_commit.specs.Below.fkv_world.Runs.{World, run}
+use Rattle.law_commit.specs.Below.fkv_world.World.{Event, Now, seat_at}
 
 -- the reply that the words give to a session's ask
 abbrev pub reply_in : Now → ℕ → SessionState → ℕ

@@ -1,13 +1,13 @@
 -- What the laws of `truth` say.
 use Rattle.std.specs.Prelude.{List}
 use Rattle.law_log.specs.Enabled.{AreEnabled}
-use Rattle.fkv_world.specs.Runs.{run}
-use Rattle.fkv_world.specs.World.{Event}
+use Rattle.law_commit.specs.Below.fkv_world.Runs.{run}
+use Rattle.law_commit.specs.Below.fkv_world.World.{Event}
 use Rattle.law_order.specs.Known.Begins.{BegunLife, home_of_world}
 use Rattle.law_order.specs.Known.Knows.{AreKnown}
 use Rattle.law_order.specs.Known.Told.{AreToldTruly, LookTruly}
-use Rattle.law_refine.specs.Events.GhostEvents.{life_ghosts, mapped}
-use Rattle.law_refine.specs.Records.Changes.{AreChangesPublished}
+use Rattle.law_commit.specs.Below.law_refine.Events.GhostEvents.{life_ghosts, mapped}
+use Rattle.law_commit.specs.Below.law_refine.Records.Changes.{AreChangesPublished}
 
 -- what the words of the store tell an attempt is true of the log
 abbrev pub WordsAreTrue : Type 0

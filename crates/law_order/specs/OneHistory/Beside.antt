@@ -1,7 +1,7 @@
 -- That the log beside a life has its history.
 use Rattle.std.specs.Prelude.{◌≡◌, ℕ, List}
-use Rattle.fkv_opening.specs.declared.opened_store.Opened.{Opened}
-use Rattle.fkv_world.specs.World.{Event, Now}
+use Rattle.law_opening.specs.Below.fkv_opening.TheOpened.{Opened}
+use Rattle.law_commit.specs.Below.fkv_world.World.{Event, Now}
 use Rattle.law_opening.specs.Log.Lives.{ghosts_beside}
 use Rattle.law_order.specs.Rules.Ordered.{effects_so_far}
 

@@ -4,18 +4,18 @@ use Rattle.fkv_base.specs.declared.commits.CommitKind.{CommitKind}
 use Rattle.fkv_base.specs.declared.commits.CommitKind.TheVariants.{Full, Log}
 use Rattle.fkv_base.specs.declared.phases.Phase.TheVariants.{Rest}
 use Rattle.fkv_base.specs.declared.shapes.Shape.{Shape}
-use Rattle.fkv_keeper.specs.declared.answers.KeeperTold.TheVariants.{Begun}
-use Rattle.fkv_keeper.specs.declared.keepers.Keeping.TheVariants.{Ended}
+use Rattle.law_commit.specs.Below.fkv_keeper.KeeperTold.TheVariants.{Begun}
+use Rattle.law_commit.specs.Below.fkv_keeper.TheKeeping.TheVariants.{Ended}
 use Rattle.fkv_map.specs.declared.operations.Call.{Call}
 use Rattle.fkv_map.specs.declared.operations.Call.TheVariants as call
 use Rattle.fkv_map.specs.declared.operations.Reply.TheVariants.{Nothing, Number}
 use Rattle.fkv_record.specs.Points.{serial_numbers}
-use Rattle.fkv_session.specs.Sessions.{SessionState}
-use Rattle.fkv_world.specs.World.{Event, Calls, Moves, Commits, Turns, KeeperMoves, Now}
+use Rattle.law_commit.specs.Below.fkv_session.Sessions.{SessionState}
+use Rattle.law_commit.specs.Below.fkv_world.World.{Event, Calls, Moves, Commits, Turns, KeeperMoves, Now}
 use Rattle.law_commit.specs.BegunCommits.{kind_opened}
 use Rattle.law_log.specs.Trace.{Effect}
 use Rattle.law_log.specs.Worked.{entry_of}
-use Rattle.law_refine.specs.Events.Worked.{adds_5, gives_70}
+use Rattle.law_commit.specs.Below.law_refine.Events.Worked.{adds_5, gives_70}
 use Rattle.law_order.specs.OneHistory.EachLife.{Life}
 use Rattle.law_order.specs.OneHistory.NewLives.{IsNewLife, IsOrderedLife}
 use Rattle.law_order.specs.Rules.Ordered.{effects_so_far, now_after}

@@ -1,15 +1,15 @@
 -- The lives of new stores, of which the order law speaks, and one that is worked out.
 use Rattle.std.specs.Prelude.{◌≡◌, ℕ, List}
 use Rattle.fkv_base.specs.declared.shapes.Shape.{Shape}
-use Rattle.fkv_creating.specs.Created.{IsCreated, IsNewStore}
-use Rattle.fkv_keeper.specs.Keeping.{KeeperState}
-use Rattle.fkv_opening.specs.Opened.{IsStoreOf}
-use Rattle.fkv_opening.specs.declared.opened_store.Opened.{Opened}
+use Rattle.law_opening.specs.Below.fkv_creating.Created.{IsCreated, IsNewStore}
+use Rattle.law_commit.specs.Below.fkv_keeper.Keeping.{KeeperState}
+use Rattle.law_opening.specs.Below.fkv_opening.Opened.{IsStoreOf}
+use Rattle.law_opening.specs.Below.fkv_opening.TheOpened.{Opened}
 use Rattle.fkv_plane.specs.declared.places.Places.{Places}
-use Rattle.fkv_session.specs.Sessions.{SessionState}
-use Rattle.fkv_world.specs.World.{Event, Now}
+use Rattle.law_commit.specs.Below.fkv_session.Sessions.{SessionState}
+use Rattle.law_commit.specs.Below.fkv_world.World.{Event, Now}
 use Rattle.law_commit.specs.WorkedRuns.{worked_world}
-use Rattle.law_refine.specs.Events.Worked.{first_world, worked_events, worked_history}
+use Rattle.law_commit.specs.Below.law_refine.Events.Worked.{first_world, worked_events, worked_history}
 use Rattle.law_order.specs.OneHistory.EachLife.{IsLife, Life}
 use Rattle.law_order.specs.Rules.InTime.{ReadsInTime}
 use Rattle.law_order.specs.Rules.Ordered.{HasLegalHistory, IsGuarded, OrdersItsCalls, ReadsFreshly, RunsActionsOnce, effects_so_far}

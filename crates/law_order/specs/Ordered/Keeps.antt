@@ -1,18 +1,18 @@
 -- What every life keeps to, event by event.
 use Rattle.std.specs.Prelude.{ℕ, List}
-use Rattle.fkv_core.specs.Openings.{beginning}
-use Rattle.fkv_opening.specs.declared.opened_store.Opened.{Opened}
+use Rattle.law_opening.specs.Below.fkv_core.Openings.{beginning}
+use Rattle.law_opening.specs.Below.fkv_opening.TheOpened.{Opened}
 use Rattle.law_log.specs.Ghosts.{Ghosts}
 use Rattle.law_log.specs.Enabled.{AreEnabled}
-use Rattle.fkv_world.specs.Runs.{World}
-use Rattle.fkv_world.specs.World.{Event, Now}
+use Rattle.law_commit.specs.Below.fkv_world.Runs.{World}
+use Rattle.law_commit.specs.Below.fkv_world.World.{Event, Now}
 use Rattle.law_opening.specs.Log.OpeningLog.{opening_ghosts}
 use Rattle.law_order.specs.Apart.Lives.{AllApartBehind}
 use Rattle.law_order.specs.Known.Begins.{home_of_world}
 use Rattle.law_order.specs.Known.Knows.{AreKnown}
-use Rattle.law_refine.specs.Events.GhostEvents.{mapped}
+use Rattle.law_commit.specs.Below.law_refine.Events.GhostEvents.{mapped}
 use Rattle.law_order.specs.Reads.Reads.{AreReadsKnown}
-use Rattle.law_refine.specs.Records.Changes.{AreChangesPublished}
+use Rattle.law_commit.specs.Below.law_refine.Records.Changes.{AreChangesPublished}
 
 -- The life has kept to the rules of the log beside it so far: each event of the log was enabled, and what a session was about to change in place was published.
 -- At each moment its sessions have known what they have to of the log, and reads have come as far in it as their sessions' control states say.

@@ -1,13 +1,13 @@
 -- What the laws of `ordered` say.
 use Rattle.std.specs.Prelude.{List}
 use Rattle.law_log.specs.Enabled.{AreEnabled}
-use Rattle.fkv_world.specs.World.{Event}
+use Rattle.law_commit.specs.Below.fkv_world.World.{Event}
 use Rattle.law_order.specs.Known.Begins.{BegunLife, home_of_world}
 use Rattle.law_order.specs.Known.Told.{TicketsAreApart}
-use Rattle.law_refine.specs.Events.GhostEvents.{mapped}
+use Rattle.law_commit.specs.Below.law_refine.Events.GhostEvents.{mapped}
 use Rattle.law_order.specs.Ordered.Keeps.{KeepsOrder}
 use Rattle.law_order.specs.Ordered.Met.{AllReadsSeek, MeetsItsReads, PollsTryNoRead}
-use Rattle.law_refine.specs.Records.Changes.{AreChangesPublished}
+use Rattle.law_commit.specs.Below.law_refine.Records.Changes.{AreChangesPublished}
 use Rattle.law_order.specs.Apart.Given.{Given}
 use Rattle.law_order.specs.Apart.Lives.{OpensApart}
 use Rattle.law_order.specs.Served.Fits.{CallsFit, CellsFit}

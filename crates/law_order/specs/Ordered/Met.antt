@@ -1,20 +1,20 @@
 -- What a try of a read comes to.
 use Rattle.std.specs.Prelude.{◌≡◌, ◌≢◌, ⊤, ℕ, false, true, List, Some, slice_get}
 use Rattle.std.specs.Option.{is_some}
-use Rattle.fkv_ops.specs.declared.answers.TryAnswer.{TryAnswer}
-use Rattle.fkv_ops.specs.declared.answers.TryAnswer.TheVariants.{Absent, AwaitsDisk, Found}
-use Rattle.fkv_ops.specs.declared.trying.Trying.TheVariants.{Ended}
-use Rattle.fkv_ops.specs.Requests.{is_read}
-use Rattle.fkv_ops.specs.Trying.{try_next}
-use Rattle.fkv_pending.specs.declared.attempting.Attempting.TheVariants.{Tries}
-use Rattle.fkv_pending.specs.declared.pending_requests.PendingRequest.{PendingRequest}
-use Rattle.fkv_session.specs.declared.sessions.Sitting.TheVariants.{Polls}
-use Rattle.fkv_session.specs.Sessions.{SessionState, room_of}
-use Rattle.fkv_world.specs.Runs.{World, run}
-use Rattle.fkv_world.specs.World.{Event, Now, seat_at}
-use Rattle.fkv_core.specs.Openings.{beginning}
-use Rattle.fkv_opening.specs.declared.opened_store.Opened.{Opened}
-use Rattle.law_local.specs.Sessions.Known.{is_attempting}
+use Rattle.law_commit.specs.Below.fkv_ops.TryAnswer.{TryAnswer}
+use Rattle.law_commit.specs.Below.fkv_ops.TryAnswer.TheVariants.{Absent, AwaitsDisk, Found}
+use Rattle.law_commit.specs.Below.fkv_ops.TheTrying.TheVariants.{Ended}
+use Rattle.law_commit.specs.Below.fkv_ops.Requests.{is_read}
+use Rattle.law_commit.specs.Below.fkv_ops.Trying.{try_next}
+use Rattle.law_commit.specs.Below.fkv_pending.TheAttempting.TheVariants.{Tries}
+use Rattle.law_commit.specs.Below.fkv_pending.PendingRequest.{PendingRequest}
+use Rattle.law_commit.specs.Below.fkv_session.Sitting.TheVariants.{Polls}
+use Rattle.law_commit.specs.Below.fkv_session.Sessions.{SessionState, room_of}
+use Rattle.law_commit.specs.Below.fkv_world.Runs.{World, run}
+use Rattle.law_commit.specs.Below.fkv_world.World.{Event, Now, seat_at}
+use Rattle.law_opening.specs.Below.fkv_core.Openings.{beginning}
+use Rattle.law_opening.specs.Below.fkv_opening.TheOpened.{Opened}
+use Rattle.law_commit.specs.Below.law_local.Sessions.Known.{is_attempting}
 use Rattle.law_order.specs.Known.Told.{reply_in}
 
 -- It tells a value, or none, or it seeks a record of the device. It isn't turned away: it has met no contention, shifts nowhere, and needs no room.

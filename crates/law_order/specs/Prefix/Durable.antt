@@ -1,10 +1,10 @@
 -- What sessions are told as durable, from one answer to the next.
 use Rattle.std.specs.Prelude.{◌<◌, ℕ, List}
-use Rattle.fkv_opening.specs.declared.opened_store.Opened.{Opened}
+use Rattle.law_opening.specs.Below.fkv_opening.TheOpened.{Opened}
 use Rattle.fkv_plane.specs.declared.places.SessionWord.TheVariants.{Durable}
 use Rattle.fkv_plane.specs.Asked.{word_at}
 use Rattle.fkv_plane.specs.Places.{session_place}
-use Rattle.fkv_world.specs.World.{Event, Now}
+use Rattle.law_commit.specs.Below.fkv_world.World.{Event, Now}
 use Rattle.law_commit.specs.ToldDurable.{NoneFalls}
 use Rattle.law_order.specs.Prefix.Law.{past_so_far}
 use Rattle.law_order.specs.Rules.Ordered.{now_after}

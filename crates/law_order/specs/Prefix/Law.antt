@@ -2,18 +2,18 @@
 use Rattle.std.specs.Prelude.{◌≡◌, ⊤, ℕ, ◌+◌, ◌≤◌, true, false, List, [], ◌∷◌, ◌++◌, Some}
 use Rattle.fkv_base.specs.declared.faults.Fault.{Fault}
 use Rattle.fkv_base.specs.declared.numbers.Serial.{Serial}
-use Rattle.fkv_commit.specs.declared.commits.Commit.{Commit}
-use Rattle.fkv_core.specs.Openings.{beginning, newest_commit}
+use Rattle.law_commit.specs.Below.fkv_commit.Commit.{Commit}
+use Rattle.law_opening.specs.Below.fkv_core.Openings.{beginning, newest_commit}
 use Rattle.fkv_disk.specs.Calls.{Call, MayLeave}
 use Rattle.fkv_map.specs.History.{AreAtMost, IsLegal, IsWhole, content, kept, point_of}
 use Rattle.fkv_map.specs.Map.{Map}
 use Rattle.fkv_map.specs.declared.history.HistoryEntry.{HistoryEntry}
-use Rattle.fkv_opening.specs.Faults.{IsFaultOf}
-use Rattle.fkv_opening.specs.Opened.{IsStoreOf}
-use Rattle.fkv_opening.specs.declared.opened_store.Opened.{Opened}
-use Rattle.fkv_world.specs.Past.{Traced}
-use Rattle.fkv_world.specs.Runs.{run}
-use Rattle.fkv_world.specs.World.{Event, Now}
+use Rattle.law_opening.specs.Below.fkv_opening.Faults.{IsFaultOf}
+use Rattle.law_opening.specs.Below.fkv_opening.Opened.{IsStoreOf}
+use Rattle.law_opening.specs.Below.fkv_opening.TheOpened.{Opened}
+use Rattle.law_commit.specs.Below.fkv_world.Past.{Traced}
+use Rattle.law_commit.specs.Below.fkv_world.Runs.{run}
+use Rattle.law_commit.specs.Below.fkv_world.World.{Event, Now}
 use Rattle.law_commit.specs.Accepted.{serial_at}
 use Rattle.law_commit.specs.BegunCommits.{AreInTurn, BegunCommit}
 use Rattle.law_commit.specs.FinishedCommits.{commits_finished, commits_told, told_of}

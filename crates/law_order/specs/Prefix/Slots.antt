@@ -1,11 +1,11 @@
 -- That each home of a life's log has a slot of the index.
 use Rattle.std.specs.Prelude.{◌≡◌, ℕ, List}
-use Rattle.fkv_core.specs.Openings.{IsOpeningWorld}
-use Rattle.fkv_opening.specs.Opened.{IsStoreOf}
-use Rattle.fkv_opening.specs.declared.opened_store.Opened.{Opened}
-use Rattle.fkv_scan.specs.Log as scan
-use Rattle.fkv_world.specs.World.{Event, Now}
-use Rattle.law_paper.specs.Paper.Slots.{HasSlots}
+use Rattle.law_opening.specs.Below.fkv_core.Openings.{IsOpeningWorld}
+use Rattle.law_opening.specs.Below.fkv_opening.Opened.{IsStoreOf}
+use Rattle.law_opening.specs.Below.fkv_opening.TheOpened.{Opened}
+use Rattle.law_opening.specs.Below.fkv_scan.Log as scan
+use Rattle.law_commit.specs.Below.fkv_world.World.{Event, Now}
+use Rattle.law_commit.specs.Below.law_paper.Paper.Slots.{HasSlots}
 use Rattle.law_order.specs.Decided.Cut.{log_beside}
 
 -- as an image of the store's shape wants it

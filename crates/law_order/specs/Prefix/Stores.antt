@@ -1,22 +1,22 @@
 -- A store that is of a commit by the log beside a life.
 use Rattle.std.specs.Prelude.{◌≡◌, ◌≤◌, ℕ, List}
-use Rattle.fkv_core.specs.Openings.{IsOpeningWorld, beginning}
+use Rattle.law_opening.specs.Below.fkv_core.Openings.{IsOpeningWorld, beginning}
 use Rattle.fkv_map.specs.History.{IsLegal, content, kept}
 use Rattle.fkv_map.specs.Map.{Map}
-use Rattle.fkv_newest.specs.declared.newest_slots.Newest.{Newest}
-use Rattle.fkv_opening.specs.Opened.{IsStoreOf}
-use Rattle.fkv_opening.specs.declared.opened_store.Opened.{Opened}
-use Rattle.fkv_world.specs.World.{Event, Now}
+use Rattle.law_opening.specs.Below.fkv_newest.TheNewest.{Newest}
+use Rattle.law_opening.specs.Below.fkv_opening.Opened.{IsStoreOf}
+use Rattle.law_opening.specs.Below.fkv_opening.TheOpened.{Opened}
+use Rattle.law_commit.specs.Below.fkv_world.World.{Event, Now}
 use Rattle.law_log.specs.Ghosts.{Ghosts}
 use Rattle.law_log.specs.Trace.{history_of}
 use Rattle.law_opening.specs.Log.Lives.{KeepsRules, ghosts_beside}
 use Rattle.law_opening.specs.Log.Maps.{opening_map}
 use Rattle.law_opening.specs.Log.OpeningLog.{opening_ghosts}
 use Rattle.law_order.specs.Prefix.Law.{kept_so_far}
-use Rattle.law_paper.specs.Kept.{KeepsPrefix, PointsSplit}
-use Rattle.law_paper.specs.Paper.Named.{IsOfCommit}
-use Rattle.law_refine.specs.Events.GhostEvents.{home_in}
-use Rattle.law_refine.specs.Records.Changes.{AreChangesPublished}
+use Rattle.law_commit.specs.Below.law_paper.Kept.{KeepsPrefix, PointsSplit}
+use Rattle.law_commit.specs.Below.law_paper.Paper.Named.{IsOfCommit}
+use Rattle.law_commit.specs.Below.law_refine.Events.GhostEvents.{home_in}
+use Rattle.law_commit.specs.Below.law_refine.Records.Changes.{AreChangesPublished}
 
 -- The map of an image's store is the content of what its points keep, if it has a commit's values by a log, and its points keep just these.
 abbrev pub JoinsValuesAndPoints : Type 0

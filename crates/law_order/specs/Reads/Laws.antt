@@ -1,14 +1,14 @@
 -- What is shown of the reads of a life.
 use Rattle.std.specs.Prelude.{◌∷◌, [], List}
 use Rattle.law_log.specs.Enabled.{AreEnabled}
-use Rattle.fkv_world.specs.Runs.{run}
-use Rattle.fkv_world.specs.World.{Event}
-use Rattle.law_refine.specs.Calls.Calls.{event_adds}
+use Rattle.law_commit.specs.Below.fkv_world.Runs.{run}
+use Rattle.law_commit.specs.Below.fkv_world.World.{Event}
+use Rattle.law_commit.specs.Below.law_refine.Calls.Calls.{event_adds}
 use Rattle.law_order.specs.Known.Answered.{EachAnswered, acted_ghosts}
 use Rattle.law_order.specs.Known.Begins.{BegunLife, home_of_world}
 use Rattle.law_order.specs.Known.Knows.{AreKnown}
 use Rattle.law_order.specs.Known.Told.{AreToldTruly, TicketsAreApart}
-use Rattle.law_refine.specs.Events.GhostEvents.{life_ghosts, mapped}
+use Rattle.law_commit.specs.Below.law_refine.Events.GhostEvents.{life_ghosts, mapped}
 use Rattle.law_order.specs.Reads.Reads.{AreReadsKnown}
 
 -- no session has a read as the life begins

@@ -2,27 +2,27 @@
 use Rattle.std.specs.Prelude.{◌≡◌, ⊤, ℕ, if◌then◌else◌, Bool, true, false, List, [], ◌∷◌, slice_get, Some}
 use Rattle.fkv_map.specs.declared.operations.Op.{Op}
 use Rattle.fkv_map.specs.Keys.{key_of, as_number}
-use Rattle.fkv_ops.specs.Requests.{is_read}
+use Rattle.law_commit.specs.Below.fkv_ops.Requests.{is_read}
 use Rattle.law_log.specs.Ghosts.{Ghosts, Reading}
-use Rattle.fkv_pending.specs.declared.pending_requests.PendingRequest.{PendingRequest}
-use Rattle.fkv_pending.specs.Attempting.{AttemptState, is_poll}
-use Rattle.fkv_session.specs.declared.answers.Finished.{Finished}
-use Rattle.fkv_session.specs.declared.answers.Finished.TheVariants as finished
-use Rattle.fkv_session.specs.declared.answers.Told.{Told}
-use Rattle.fkv_session.specs.declared.answers.Told.TheVariants as told
-use Rattle.fkv_session.specs.declared.sessions.CatchCause.{CatchCause}
-use Rattle.fkv_session.specs.declared.sessions.CatchCause.TheVariants.{Shifts}
-use Rattle.fkv_session.specs.declared.sessions.Sitting.{Sitting}
-use Rattle.fkv_session.specs.declared.sessions.Sitting.TheVariants.{Attempts, CatchesUp, ClearsMail, Polls, StoresOwing, Turns}
-use Rattle.fkv_session.specs.Sessions.{SessionState}
-use Rattle.law_local.specs.Tries.ReadRows.{IsCalledFor, HasRead, SoughtReads, AttemptReads}
-use Rattle.law_local.specs.Tries.TryRows.{key_in}
-use Rattle.fkv_world.specs.Past.{Traced}
-use Rattle.fkv_world.specs.Runs.{World, run}
-use Rattle.fkv_world.specs.World.{Event}
-use Rattle.law_refine.specs.Events.GhostEvents.{life_ghosts}
-use Rattle.law_refine.specs.Events.Lines.{read_in_hand, read_waiting, gives_ticket}
-use Rattle.law_refine.specs.Events.Sessions.{ticket_of}
+use Rattle.law_commit.specs.Below.fkv_pending.PendingRequest.{PendingRequest}
+use Rattle.law_commit.specs.Below.fkv_pending.Attempting.{AttemptState, is_poll}
+use Rattle.law_commit.specs.Below.fkv_session.Finished.{Finished}
+use Rattle.law_commit.specs.Below.fkv_session.Finished.TheVariants as finished
+use Rattle.law_commit.specs.Below.fkv_session.Told.{Told}
+use Rattle.law_commit.specs.Below.fkv_session.Told.TheVariants as told
+use Rattle.law_commit.specs.Below.fkv_session.CatchCause.{CatchCause}
+use Rattle.law_commit.specs.Below.fkv_session.CatchCause.TheVariants.{Shifts}
+use Rattle.law_commit.specs.Below.fkv_session.Sitting.{Sitting}
+use Rattle.law_commit.specs.Below.fkv_session.Sitting.TheVariants.{Attempts, CatchesUp, ClearsMail, Polls, StoresOwing, Turns}
+use Rattle.law_commit.specs.Below.fkv_session.Sessions.{SessionState}
+use Rattle.law_commit.specs.Below.law_local.Tries.ReadRows.{IsCalledFor, HasRead, SoughtReads, AttemptReads}
+use Rattle.law_commit.specs.Below.law_local.Tries.TryRows.{key_in}
+use Rattle.law_commit.specs.Below.fkv_world.Past.{Traced}
+use Rattle.law_commit.specs.Below.fkv_world.Runs.{World, run}
+use Rattle.law_commit.specs.Below.fkv_world.World.{Event}
+use Rattle.law_commit.specs.Below.law_refine.Events.GhostEvents.{life_ghosts}
+use Rattle.law_commit.specs.Below.law_refine.Events.Lines.{read_in_hand, read_waiting, gives_ticket}
+use Rattle.law_commit.specs.Below.law_refine.Events.Sessions.{ticket_of}
 
 -- a ticket was given to a read of the session
 abbrev pub is_given : ℕ → ℕ → List Traced → Bool

@@ -1,13 +1,13 @@
 -- That each image which a crash may leave holds the commit that its newest slot names.
 use Rattle.std.specs.Prelude.{◌≡◌, ◌≤◌, ℕ, List}
 use Rattle.fkv_map.specs.History.{point_of}
-use Rattle.fkv_newest.specs.declared.newest_slots.Newest.{Newest}
-use Rattle.fkv_opening.specs.declared.opened_store.Opened.{Opened}
-use Rattle.fkv_world.specs.World.{Event, Now}
+use Rattle.law_opening.specs.Below.fkv_newest.TheNewest.{Newest}
+use Rattle.law_opening.specs.Below.fkv_opening.TheOpened.{Opened}
+use Rattle.law_commit.specs.Below.fkv_world.World.{Event, Now}
 use Rattle.law_order.specs.Images.Named.{NamesBegun}
 use Rattle.law_opening.specs.Lives.Reaching.{ReachesFar}
 use Rattle.law_order.specs.Decided.Cut.{log_beside}
-use Rattle.law_paper.specs.Paper.Named.{HoldsCommit}
+use Rattle.law_commit.specs.Below.law_paper.Paper.Named.{HoldsCommit}
 use Rattle.law_order.specs.Recovered.Leaves.{SaidOfLeft, SaidOfNamed, homes_of}
 
 -- the image holds the commit of its life that it names

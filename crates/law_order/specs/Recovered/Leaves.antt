@@ -1,15 +1,15 @@
 -- The images that a crash may leave of a life, and the commit of this life that the newest slot of one names.
 use Rattle.std.specs.Prelude.{◌≡◌, ℕ, List}
-use Rattle.fkv_core.specs.Openings.{IsOpeningWorld}
-use Rattle.fkv_newest.specs.Newest.{IsNewestOf}
-use Rattle.fkv_newest.specs.declared.newest_slots.Newest.{Newest}
-use Rattle.fkv_opening.specs.Faults.{log_of}
-use Rattle.fkv_opening.specs.Opened.{IsStoreOf}
-use Rattle.fkv_opening.specs.declared.opened_store.Opened.{Opened}
-use Rattle.fkv_pairs.specs.Pairs.{log_of_store}
+use Rattle.law_opening.specs.Below.fkv_core.Openings.{IsOpeningWorld}
+use Rattle.law_opening.specs.Below.fkv_newest.Newest.{IsNewestOf}
+use Rattle.law_opening.specs.Below.fkv_newest.TheNewest.{Newest}
+use Rattle.law_opening.specs.Below.fkv_opening.Faults.{log_of}
+use Rattle.law_opening.specs.Below.fkv_opening.Opened.{IsStoreOf}
+use Rattle.law_opening.specs.Below.fkv_opening.TheOpened.{Opened}
+use Rattle.law_opening.specs.Below.fkv_pairs.Pairs.{log_of_store}
 use Rattle.fkv_record.specs.declared.triples.Triple.{Triple}
-use Rattle.fkv_scan.specs.Log as scan
-use Rattle.fkv_world.specs.World.{Event, Now}
+use Rattle.law_opening.specs.Below.fkv_scan.Log as scan
+use Rattle.law_commit.specs.Below.fkv_world.World.{Event, Now}
 use Rattle.law_opening.specs.Changes.Fits.{CallsFit}
 use Rattle.law_commit.specs.BegunCommits.{BegunCommit, commit_opened}
 use Rattle.law_order.specs.Images.Left.{IsLeft, flushed_so_far}
@@ -18,8 +18,8 @@ use Rattle.law_order.specs.Images.Read.{SaysCommit}
 use Rattle.law_log.specs.Trace.{IsIn}
 use Rattle.law_opening.specs.Lives.Reaching.{ReachesFar}
 use Rattle.law_order.specs.Tickets.Few.{HasFewCalls}
-use Rattle.law_refine.specs.Events.GhostEvents.{home_in}
-use Rattle.law_world.specs.Standing.Standing.{triples_in}
+use Rattle.law_commit.specs.Below.law_refine.Events.GhostEvents.{home_in}
+use Rattle.law_commit.specs.Below.law_world.Standing.Standing.{triples_in}
 
 -- A crash may leave this image of a life, behind these events. The life is one of an opened store whose image reached far.
 pub record Leaves (o : Opened) (n : Now) (bytes : List ℕ) (events : List Event) (image : List ℕ) : Type 0 where

@@ -1,15 +1,15 @@
 -- The premises of `law_paper` on an image that names a commit of its life, each as a part that is shown by itself.
 use Rattle.std.specs.Prelude.{◌≡◌, ◌⊎◌, ◌<◌, ◌≤◌, ℕ, List}
-use Rattle.fkv_opening.specs.Faults.{HasCheckpoint}
-use Rattle.fkv_opening.specs.declared.opened_store.Opened.{Opened}
+use Rattle.law_opening.specs.Below.fkv_opening.Faults.{HasCheckpoint}
+use Rattle.law_opening.specs.Below.fkv_opening.TheOpened.{Opened}
 use Rattle.fkv_record.specs.declared.triples.Triple.{Triple}
-use Rattle.fkv_world.specs.World.{Event, Now}
+use Rattle.law_commit.specs.Below.fkv_world.World.{Event, Now}
 use Rattle.law_order.specs.Images.Read.{ReadsBack}
 use Rattle.law_log.specs.Chains.{Cell, Published}
 use Rattle.law_order.specs.Decided.Cut.{log_beside}
-use Rattle.law_paper.specs.Paper.Images.{IsOrderly, ShowsLog}
-use Rattle.law_paper.specs.Paper.Old.{GoesOnFrom, HasWhatCounted, LosesTheRest, WasSound}
-use Rattle.law_paper.specs.Paper.Stands.{CoversChains}
+use Rattle.law_commit.specs.Below.law_paper.Paper.Images.{IsOrderly, ShowsLog}
+use Rattle.law_commit.specs.Below.law_paper.Paper.Old.{GoesOnFrom, HasWhatCounted, LosesTheRest, WasSound}
+use Rattle.law_commit.specs.Below.law_paper.Paper.Stands.{CoversChains}
 use Rattle.law_order.specs.Recovered.Leaves.{Leaves, NamesNew, SaidOfLeft, SaidOfNamed, homes_of, log_named, log_then}
 
 -- ---- the log's part

@@ -1,16 +1,16 @@
 -- What the points of a commit keep of the life in which it has begun.
 use Rattle.std.specs.Prelude.{◌≡◌, ℕ, List}
-use Rattle.fkv_keeper.specs.LastCommits.{points_written}
+use Rattle.law_commit.specs.Below.fkv_keeper.LastCommits.{points_written}
 use Rattle.fkv_map.specs.History.{AreAtMost, IsWhole, point_of}
-use Rattle.fkv_opening.specs.declared.opened_store.Opened.{Opened}
-use Rattle.fkv_world.specs.World.{Event, Now}
+use Rattle.law_opening.specs.Below.fkv_opening.TheOpened.{Opened}
+use Rattle.law_commit.specs.Below.fkv_world.World.{Event, Now}
 use Rattle.law_commit.specs.BegunCommits.{BegunCommit}
 use Rattle.law_order.specs.Images.Named.{begun_so_far}
 use Rattle.law_log.specs.Trace.{IsIn}
 use Rattle.law_order.specs.OneHistory.EachLife.{IsLife, Life}
 use Rattle.law_order.specs.Prefix.Law.{history_so_far}
 use Rattle.law_order.specs.Rules.Ordered.{effects_so_far}
-use Rattle.law_paper.specs.Kept.{PointsSplit}
+use Rattle.law_commit.specs.Below.law_paper.Kept.{PointsSplit}
 
 -- What the points of a commit keep of a life.
 pub record KeepsItsPoints (o : Opened) (n : Now) (bytes : List ℕ) (events : List Event) (c : BegunCommit) : Type 0 where

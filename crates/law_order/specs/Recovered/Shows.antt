@@ -1,6 +1,6 @@
 -- What the log beside a life is to the commit with which the store was opened.
 use Rattle.law_order.specs.Decided.Cut.{log_beside}
-use Rattle.law_paper.specs.Paper.Opened.{StandsAsOpened}
+use Rattle.law_commit.specs.Below.law_paper.Paper.Opened.{StandsAsOpened}
 use Rattle.law_order.specs.Recovered.Leaves.{SaidOfLeft, homes_of, log_then}
 
 -- The log stands as `law_paper` asks while that commit is in force.

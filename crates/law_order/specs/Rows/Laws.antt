@@ -1,17 +1,17 @@
 -- What is shown of what requests and attempts know.
 use Rattle.std.specs.Prelude.{◌∷◌, List}
 use Rattle.law_log.specs.Enabled.{AreEnabled}
-use Rattle.fkv_ops.specs.declared.requests.Seen.{Seen}
-use Rattle.fkv_pending.specs.declared.pending_requests.PendingRequest.{PendingRequest}
-use Rattle.fkv_session.specs.SessionRun.{SessionEvent, session_run}
-use Rattle.fkv_session.specs.Sessions.{IsOpened, Seat, SessionState}
-use Rattle.law_local.specs.Tries.AttemptRows.{PendingKnows}
-use Rattle.fkv_world.specs.Runs.{run}
-use Rattle.fkv_world.specs.World.{Event}
+use Rattle.law_commit.specs.Below.fkv_ops.Seen.{Seen}
+use Rattle.law_commit.specs.Below.fkv_pending.PendingRequest.{PendingRequest}
+use Rattle.law_commit.specs.Below.fkv_session.SessionRun.{SessionEvent, session_run}
+use Rattle.law_commit.specs.Below.fkv_session.Sessions.{IsOpened, Seat, SessionState}
+use Rattle.law_commit.specs.Below.law_local.Tries.AttemptRows.{PendingKnows}
+use Rattle.law_commit.specs.Below.fkv_world.Runs.{run}
+use Rattle.law_commit.specs.Below.fkv_world.World.{Event}
 use Rattle.law_order.specs.Known.Begins.{BegunLife, home_of_world}
 use Rattle.law_order.specs.Known.Knows.{AllKnowBehind, AreKnown}
 use Rattle.law_order.specs.Known.Told.{AreToldTruly}
-use Rattle.law_refine.specs.Events.GhostEvents.{life_ghosts, mapped}
+use Rattle.law_commit.specs.Below.law_refine.Events.GhostEvents.{life_ghosts, mapped}
 use Rattle.law_order.specs.Apart.Given.{Given}
 use Rattle.law_order.specs.Apart.Lives.{AllApartBehind, OpensApart}
 use Rattle.law_order.specs.Rows.Asked.{AllSeek}

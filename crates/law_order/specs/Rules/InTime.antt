@@ -1,17 +1,17 @@
 -- A read gives a value that its key had between its call and its answer.
 use Rattle.std.specs.Prelude.{◌≡◌, ℕ, List, ◌∷◌, ◌++◌}
 use Rattle.std.specs.FinMap.{get}
-use Rattle.fkv_core.specs.Openings.{beginning}
+use Rattle.law_opening.specs.Below.fkv_core.Openings.{beginning}
 use Rattle.fkv_map.specs.History.{content}
 use Rattle.fkv_map.specs.Map.{Map, reply_to_read}
 use Rattle.fkv_map.specs.declared.history.HistoryEntry.{HistoryEntry}
 use Rattle.fkv_map.specs.declared.operations.Reply.{Reply}
-use Rattle.fkv_opening.specs.declared.opened_store.Opened.{Opened}
+use Rattle.law_opening.specs.Below.fkv_opening.TheOpened.{Opened}
 use Rattle.law_opening.specs.Log.Maps.{opening_map}
 use Rattle.law_log.specs.Trace.{AnswersRead, CallsRead, IsIn, history_of}
 use Rattle.law_order.specs.Rules.Ordered.{effects_so_far}
-use Rattle.fkv_world.specs.World.{Event, Now}
-use Rattle.law_refine.specs.Calls.Calls.{event_adds}
+use Rattle.law_commit.specs.Below.fkv_world.World.{Event, Now}
+use Rattle.law_commit.specs.Below.law_refine.Calls.Calls.{event_adds}
 
 -- the reply is the key's value after all of a history at one moment, and some of what it has more at a later one
 pub record IsInTime (m : Map) (first last : List HistoryEntry) (key : ℕ) (reply : Reply) : Type 0 where

@@ -1,26 +1,26 @@
 -- The order law of an opened store's life, in the words of the life itself.
 use Rattle.std.specs.Prelude.{◌≡◌, ℕ, List, ◌∷◌, ◌++◌}
-use Rattle.fkv_core.specs.Openings.{IsOpeningWorld, beginning}
+use Rattle.law_opening.specs.Below.fkv_core.Openings.{IsOpeningWorld, beginning}
 use Rattle.fkv_epoch.specs.EpochWorld.{Claimed, Ran}
 use Rattle.fkv_epoch.specs.Once.{Among, HasRunOnce}
-use Rattle.fkv_flush.specs.GuardLevels.{AreInOrder, Rises, levels_of}
-use Rattle.fkv_flush.specs.GuardLimit.{EndsPages}
-use Rattle.fkv_flush.specs.GuardWorld.{GuardWorld}
-use Rattle.fkv_flush.specs.Guarded.{IsCovered}
+use Rattle.law_commit.specs.Below.fkv_flush.GuardLevels.{AreInOrder, Rises, levels_of}
+use Rattle.law_commit.specs.Below.fkv_flush.GuardLimit.{EndsPages}
+use Rattle.law_commit.specs.Below.fkv_flush.GuardWorld.{GuardWorld}
+use Rattle.law_commit.specs.Below.fkv_flush.Guarded.{IsCovered}
 use Rattle.fkv_map.specs.History.{IsLegal}
-use Rattle.fkv_opening.specs.Opened.{IsStoreOf}
-use Rattle.fkv_opening.specs.declared.opened_store.Opened.{Opened}
+use Rattle.law_opening.specs.Below.fkv_opening.Opened.{IsStoreOf}
+use Rattle.law_opening.specs.Below.fkv_opening.TheOpened.{Opened}
 use Rattle.law_opening.specs.Log.Lives.{KeepsRules}
 use Rattle.law_opening.specs.Log.Maps.{opening_map}
 use Rattle.law_opening.specs.Log.OpeningLog.{opening_ghosts}
 use Rattle.law_log.specs.Trace.{Effect, OrdersCalls, ReadsAreFresh, TraceLine, history_of}
-use Rattle.fkv_world.specs.Runs.{run}
-use Rattle.fkv_world.specs.World.{Event, Now}
-use Rattle.law_refine.specs.Calls.Calls.{effects_of_life, lines_of_life}
-use Rattle.law_world.specs.Guarded.KeptGuarded.{ChangesOpenPlaces, OpensNextPage, WritesOpenPlaces}
-use Rattle.law_world.specs.Guarded.LoadedSince.{HaveLoadedSince}
-use Rattle.law_world.specs.Guarded.Shows.{ArePermitted, Shows, seen_by_guard}
-use Rattle.law_refine.specs.Records.Changes.{AreChangesPublished}
+use Rattle.law_commit.specs.Below.fkv_world.Runs.{run}
+use Rattle.law_commit.specs.Below.fkv_world.World.{Event, Now}
+use Rattle.law_commit.specs.Below.law_refine.Calls.Calls.{effects_of_life, lines_of_life}
+use Rattle.law_commit.specs.Below.law_world.Guarded.KeptGuarded.{ChangesOpenPlaces, OpensNextPage, WritesOpenPlaces}
+use Rattle.law_commit.specs.Below.law_world.Guarded.LoadedSince.{HaveLoadedSince}
+use Rattle.law_commit.specs.Below.law_world.Guarded.Shows.{ArePermitted, Shows, seen_by_guard}
+use Rattle.law_commit.specs.Below.law_refine.Records.Changes.{AreChangesPublished}
 
 -- what has taken effect in a life so far, and what its calls were told, each the newest first
 abbrev pub effects_so_far : Now → List ℕ → List Event → List Effect

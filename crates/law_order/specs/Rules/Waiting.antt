@@ -1,20 +1,20 @@
 -- A read that has to wait gives a value that its key had by then.
 use Rattle.std.specs.Prelude.{◌≡◌, ℕ, List, ◌∷◌, ◌++◌, Some, false, slice_get}
-use Rattle.fkv_core.specs.Openings.{beginning}
+use Rattle.law_opening.specs.Below.fkv_core.Openings.{beginning}
 use Rattle.fkv_map.specs.declared.operations.Reply.{Reply}
-use Rattle.fkv_opening.specs.declared.opened_store.Opened.{Opened}
-use Rattle.fkv_pending.specs.declared.pending_requests.PendingRequest.{PendingRequest}
-use Rattle.fkv_pending.specs.declared.pending_requests.RequestName.TheVariants.{Read}
-use Rattle.fkv_pending.specs.declared.pending_requests.Ticket.{Ticket}
-use Rattle.fkv_session.specs.Sessions.{SessionState, is_busy}
-use Rattle.fkv_world.specs.Runs.{run}
-use Rattle.fkv_world.specs.World.{Event, Now}
+use Rattle.law_opening.specs.Below.fkv_opening.TheOpened.{Opened}
+use Rattle.law_commit.specs.Below.fkv_pending.PendingRequest.{PendingRequest}
+use Rattle.law_commit.specs.Below.fkv_pending.RequestName.TheVariants.{Read}
+use Rattle.law_commit.specs.Below.fkv_pending.Ticket.{Ticket}
+use Rattle.law_commit.specs.Below.fkv_session.Sessions.{SessionState, is_busy}
+use Rattle.law_commit.specs.Below.fkv_world.Runs.{run}
+use Rattle.law_commit.specs.Below.fkv_world.World.{Event, Now}
 use Rattle.law_log.specs.Trace.{AnswersRead, CallsRead, IsIn, history_of}
 use Rattle.law_opening.specs.Log.Maps.{opening_map}
 use Rattle.law_order.specs.Rules.InTime.{IsInTime}
 use Rattle.law_order.specs.Rules.Ordered.{effects_so_far}
-use Rattle.law_refine.specs.Calls.Calls.{event_adds}
-use Rattle.law_refine.specs.Events.Lines.{read_waiting}
+use Rattle.law_commit.specs.Below.law_refine.Calls.Calls.{event_adds}
+use Rattle.law_commit.specs.Below.law_refine.Events.Lines.{read_waiting}
 
 -- a session at rest has a read that waits under this ticket
 pub record HasWaiting (n : Now) (number : ℕ) (ticket : Ticket) : Type 0 where

@@ -1,13 +1,13 @@
 -- What the laws of `served` and `fits` say.
 use Rattle.std.specs.Prelude.{ℕ, List}
 use Rattle.law_log.specs.Enabled.{AreEnabled}
-use Rattle.fkv_opening.specs.Opened.{IsStoreOf}
-use Rattle.fkv_opening.specs.declared.opened_store.Opened.{Opened}
-use Rattle.fkv_world.specs.World.{Event}
+use Rattle.law_opening.specs.Below.fkv_opening.Opened.{IsStoreOf}
+use Rattle.law_opening.specs.Below.fkv_opening.TheOpened.{Opened}
+use Rattle.law_commit.specs.Below.fkv_world.World.{Event}
 use Rattle.law_opening.specs.Log.OpeningLog.{opening_ghosts}
 use Rattle.law_order.specs.Known.Begins.{BegunLife, home_of_world}
-use Rattle.law_refine.specs.Events.GhostEvents.{life_ghosts, mapped}
-use Rattle.law_refine.specs.Records.Changes.{AreChangesPublished}
+use Rattle.law_commit.specs.Below.law_refine.Events.GhostEvents.{life_ghosts, mapped}
+use Rattle.law_commit.specs.Below.law_refine.Records.Changes.{AreChangesPublished}
 use Rattle.law_order.specs.Served.Fits.{CallsFit, CellsFit}
 use Rattle.law_order.specs.Served.Served.{ServedShow}
 

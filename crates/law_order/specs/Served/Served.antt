@@ -1,15 +1,15 @@
 -- What the device gives for a record that is flushed, beside the log.
 use Rattle.std.specs.Prelude.{◌≡◌, ℕ, ◌<◌, List, ◌++◌}
 use Rattle.fkv_base.specs.declared.numbers.Addr.{Addr}
-use Rattle.fkv_flush.specs.GuardLevels.{levels_of}
+use Rattle.law_commit.specs.Below.fkv_flush.GuardLevels.{levels_of}
 use Rattle.law_log.specs.Chains.{Cell, Published}
 use Rattle.law_log.specs.Ghosts.{Ghosts}
-use Rattle.fkv_pending.specs.declared.mailing.MailRecord.{MailRecord}
-use Rattle.law_local.specs.Tries.MailRows.{IsRecordOf}
-use Rattle.fkv_world.specs.Runs.{World, run}
-use Rattle.fkv_world.specs.World.{Event}
-use Rattle.law_refine.specs.Mail.Reads.{record_there}
-use Rattle.law_refine.specs.Events.GhostEvents.{life_ghosts}
+use Rattle.law_commit.specs.Below.fkv_pending.MailRecord.{MailRecord}
+use Rattle.law_commit.specs.Below.law_local.Tries.MailRows.{IsRecordOf}
+use Rattle.law_commit.specs.Below.fkv_world.Runs.{World, run}
+use Rattle.law_commit.specs.Below.fkv_world.World.{Event}
+use Rattle.law_commit.specs.Below.law_refine.Mail.Reads.{record_there}
+use Rattle.law_commit.specs.Below.law_refine.Events.GhostEvents.{life_ghosts}
 
 -- What it gave at an earlier moment, at an address that was flushed and where a record was published by then, is the record that is there now.
 abbrev pub ServedShow : World → Ghosts → List Event → Type 0

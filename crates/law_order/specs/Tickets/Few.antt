@@ -1,6 +1,6 @@
 -- Lives in which so few calls begin that no ticket comes again.
 use Rattle.std.specs.Prelude.{ℕ, suc, ◌-◌, ◌^◌, ◌<◌, List, [], ◌∷◌}
-use Rattle.fkv_world.specs.World.{Event, Calls}
+use Rattle.law_commit.specs.Below.fkv_world.World.{Event, Calls}
 
 -- how many calls of sessions begin
 abbrev pub with_begun : Event → ℕ → ℕ

@@ -1,8 +1,8 @@
 -- What the law of `tickets` says.
 use Rattle.std.specs.Prelude.{List}
-use Rattle.fkv_world.specs.Opened.{IsOpenedWorld}
-use Rattle.fkv_world.specs.Runs.{World}
-use Rattle.fkv_world.specs.World.{Event}
+use Rattle.law_commit.specs.Below.fkv_world.Opened.{IsOpenedWorld}
+use Rattle.law_commit.specs.Below.fkv_world.Runs.{World}
+use Rattle.law_commit.specs.Below.fkv_world.World.{Event}
 use Rattle.law_order.specs.Known.Told.{TicketsAreApart}
 use Rattle.law_order.specs.Tickets.Few.{HasFewCalls}
 

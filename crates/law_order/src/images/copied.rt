@@ -1,8 +1,7 @@
 //! What full commits write.
 ghost use Rattle.law_order.specs.Images.Laws.Copied as copied;
 
-use fkv_checkpoint::law_copied;
-use law_commit::{law_begun, law_copies_cover, law_world_copied};
+use law_commit::{law_begun, law_copied, law_copies_cover, law_world_copied};
 use law_opening::{law_guard_opens, law_index_opens, law_long_opens, law_told_opens};
 
 /// Each full commit that has begun in a life, finished or not, has written the triples of a copy of the index. The keeper had finished that copy at a moment

@@ -1,11 +1,10 @@
 //! What the commits of a life name.
 ghost use Rattle.law_order.specs.Images.Laws.Fits as fits;
 
-use fkv_keeper::law_of_slots;
-use fkv_manifest::law_gates;
-use law_commit::law_begun;
+use law_commit::{
+    law_begun, law_gates, law_of_kept_slots, law_world_is_guarded, law_world_one_commit_stands,
+};
 use law_opening::{law_guard_opens, law_long_opens, law_told_opens};
-use law_world::{law_world_is_guarded, law_world_one_commit_stands};
 
 /// Each commit that has begun in a life is newer than the opening's, and not of the last version. Its scan begins at a tail that a keeper has loaded in prepare,
 /// for it or for an older checkpoint. Its log ends at a tail that was loaded later. So the first isn't above the second, nor that above the flushed offset.
@@ -15,7 +14,7 @@ pub fn law_commits_fit()
     ensures each { fits.CommitsFitTheirLife }
     ensures named { fits.ImagesNameAFit }
 {
-    law_of_slots();
+    law_of_kept_slots();
     law_guard_opens();
     law_told_opens();
     law_long_opens();

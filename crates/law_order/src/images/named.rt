@@ -1,10 +1,8 @@
 //! Which commit an image names.
 ghost use Rattle.law_order.specs.Images.Laws.Named.{ImagesNameABegun};
 
-use fkv_manifest::law_gates;
-use law_commit::law_begun;
+use law_commit::{law_begun, law_gates, law_world_one_commit_stands};
 use law_opening::{law_guard_opens, law_long_opens, law_told_opens};
-use law_world::law_world_one_commit_stands;
 
 /// In each image that a crash may leave of a life, the newest slot is that of the newest finished commit. Or it is that of the one in hand, if the write that
 /// opens its gate was called. Once the sync behind that has succeeded it is that one's alone. So no image is of a commit older than one whose points may have

@@ -5,8 +5,8 @@ use crate::images::fits::law_commits_fit;
 use crate::images::lengths::law_images_are_long;
 use crate::images::opened::{law_images_keep_their_shape, law_images_name_their_commit};
 use fkv_record::law_spellings_apart;
+use law_commit::law_world_is_guarded;
 use law_opening::{law_guard_opens, law_long_opens, law_told_opens};
-use law_world::law_world_is_guarded;
 
 /// So the newest slot of each image that a crash may leave of a life is read back, in the store's shape. It says the number, end, points, checkpoint and lost
 /// ranges of the commit for which this life has written it, or it is as it was opened. The image ends behind the slots, the triples of the checkpoint, and the

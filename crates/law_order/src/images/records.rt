@@ -2,11 +2,11 @@
 ghost use Rattle.law_order.specs.Images.Laws.Records as records;
 
 use fkv_record::law_spellings_apart;
+use law_commit::{law_device_shows_log, law_stands_show_log};
 use law_opening::{
     law_guard_opens, law_lives_change_published, law_lives_fit, law_log_begins, law_log_counted,
     law_log_opened,
 };
-use law_refine::{law_device_shows_log, law_stands_show_log};
 
 /// In each image that a crash may leave of a life, commits and crashes anywhere, the records below the flushed offset stand as the log beside the life has
 /// them. A published one is valid, with its key, its value, its version and what it leads to. One that was given up has the invalid bit, its version and what

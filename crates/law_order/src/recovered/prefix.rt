@@ -1,6 +1,5 @@
 //! The law of prefixes.
-ghost use Rattle.law_order.specs.OneHistory.EachLife.{InEachLife};
-ghost use Rattle.law_order.specs.Prefix.Law as said;
+ghost use Rattle.law_order.specs.Said as said;
 
 use crate::recovered::holds::law_images_hold;
 use crate::recovered::points::law_points_keep;
@@ -14,7 +13,7 @@ use law_opening::law_lives_change_published;
 /// commit there. It is the newest finished one, or the one that is being finished. Its points are no less than what sessions were told as durable. The store's map is
 /// the one with which the life began, behind a replay of just the updates up to each session's point. The replay is legal, with the replies that were given.
 pub fn law_images_recovered()
-    ensures { InEachLife said.RecoversPrefix }
+    ensures { said.InEachLife said.RecoversPrefix }
 {
     law_images_hold();
     law_points_keep();

@@ -1,6 +1,5 @@
 //! What an image has of the checkpoint that its commit uses.
-ghost use Rattle.law_order.specs.Recovered.Leaves as leaves;
-ghost use Rattle.law_order.specs.Recovered.Parts as parts;
+ghost use Rattle.law_order.specs.Said as said;
 
 use crate::{
     law_commits_fit, law_commits_in_turn, law_commits_lose_the_rest, law_cut_opens,
@@ -10,7 +9,7 @@ use crate::{
 /// If an image that a crash may leave names a commit which uses the checkpoint with which the store was opened, its triples are those of then. For no commit of
 /// the life has written to their area.
 pub fn law_images_keep_checkpoint()
-    ensures { leaves.OfEachLeft parts.KeepsCheckpoint }
+    ensures { said.OfEachLeft said.KeepsCheckpoint }
 {
     law_commits_fit();
 }
@@ -19,7 +18,7 @@ pub fn law_images_keep_checkpoint()
 /// that checkpoint are read back. If the life has made it, they cover the chains of the log, and what is published below its first address is of no later
 /// version. Else recovery meets again what it met at the opening, and the lost ranges lose just what was left out then.
 pub fn law_images_use_checkpoints()
-    ensures { leaves.OfEachNamed parts.UsesItsCheckpoint }
+    ensures { said.OfEachNamed said.UsesItsCheckpoint }
 {
     law_images_keep_old();
     law_commits_fit();

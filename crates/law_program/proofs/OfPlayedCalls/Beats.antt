@@ -2,12 +2,12 @@
 use Rattle.std.proofs.Common.{◌≡◌, ◌≢◌, ◌∙◌, ℕ, zero, suc, List, [], ◌∷◌, ◌++◌, Bool, true, false, ap, replicate, refl, sym, subst}
 use Rattle.std.specs.Prelude.{Option, Some, None, Result, Ok, Err}
 use Rattle.fkv_base.specs.declared.faults.Fault.{Fault}
-use Rattle.fkv_core.specs.Worlds.{WorldModel}
-use Rattle.fkv_core.specs.declared.events.Event as events
-use Rattle.fkv_core.specs.declared.events.Told as tells
-use Rattle.fkv_core.specs.declared.events.Told.TheVariants as told
-use Rattle.fkv_keeper.specs.declared.answers.Finished as keeper
-use Rattle.fkv_keeper.specs.declared.answers.Turn as turns
+use Rattle.law_order.specs.Below.fkv_core.Worlds.{WorldModel}
+use Rattle.law_order.specs.Below.fkv_core.Event as events
+use Rattle.law_order.specs.Below.fkv_core.TheTold as tells
+use Rattle.law_order.specs.Below.fkv_core.TheTold.TheVariants as told
+use Rattle.law_order.specs.Below.fkv_keeper.Finished as keeper
+use Rattle.law_order.specs.Below.fkv_keeper.Turn as turns
 use Rattle.fkv_map.specs.declared.operations.Call.{Call}
 use Rattle.fkv_playing.specs.Beats.{IsBeat, heard, outcome_of, outcome_of_finished, outcome_of_told, outcome_of_turn, seats_behind}
 use Rattle.fkv_playing.specs.Groups.{is_struck_by}
@@ -21,8 +21,8 @@ use Rattle.fkv_playing.specs.declared.calls.Outcome.TheVariants.{GoesOn, Struck}
 use Rattle.fkv_playing.specs.declared.calls.Stage.{Stage}
 use Rattle.fkv_playing.specs.declared.calls.Stage.TheVariants as stage
 use Rattle.fkv_playing.specs.declared.calls.Telling.{Telling}
-use Rattle.fkv_world.specs.Runs.{World, run}
-use Rattle.fkv_world.specs.World.{Event, Moves, Now}
+use Rattle.law_order.specs.Below.fkv_world.Runs.{World, run}
+use Rattle.law_order.specs.Below.fkv_world.World.{Event, Moves, Now}
 use Rattle.law_program.proofs.OfPlayedCalls.Steps.{GoesByRules, IsAnsweredNow, IsRuled, answered_now, led_on, stage_event}
 
 -- ---- by the outcome

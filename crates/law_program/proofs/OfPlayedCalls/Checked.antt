@@ -15,14 +15,14 @@ use Rattle.fkv_map.specs.History.{content, kept}
 use Rattle.fkv_map.specs.Map.{Map, as_numbers}
 use Rattle.fkv_map.specs.declared.history.HistoryEntry.{HistoryEntry}
 use Rattle.fkv_map.proofs.Shown.{entries-map_of, key_cmp}
-use Rattle.fkv_opening.specs.declared.opened_store.Opened.{Opened}
-use Rattle.fkv_pairs.specs.Pairs.{ArePairs}
+use Rattle.law_order.specs.Below.fkv_opening.TheOpened.{Opened}
+use Rattle.law_order.specs.Below.fkv_pairs.Pairs.{ArePairs}
 use Rattle.fkv_playing.specs.Players.{IsArmed, PlayerState}
 use Rattle.fkv_runs.specs.Crashes.{Agrees, kept_behind}
 use Rattle.fkv_runs.specs.Openings.{Begins}
-use Rattle.fkv_scan.specs.Log.{Log}
-use Rattle.fkv_world.specs.World.{Event, Now}
-use Rattle.law_opening.specs.Log.Records as records
+use Rattle.law_order.specs.Below.fkv_scan.Log.{Log}
+use Rattle.law_order.specs.Below.fkv_world.World.{Event, Now}
+use Rattle.law_order.specs.Below.law_opening.Log.Records as records
 use Rattle.law_order.specs.OneHistory.EachLife.{Life}
 use Rattle.law_order.specs.Prefix.Law.{first_of, history_so_far, kept_of_all, map_of, points_of}
 use Rattle.law_program.specs.PlayedCalls.AllLives.{first_life, with_events}

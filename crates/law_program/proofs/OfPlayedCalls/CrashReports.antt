@@ -2,18 +2,18 @@
 use Rattle.std.proofs.Common.{◌≡◌, ◌∙◌, refl, subst, ℕ, Bool, List}
 use Rattle.fkv_base.specs.declared.faults.Fault.{Fault}
 use Rattle.fkv_base.specs.declared.faults.Fault.TheVariants as fault
-use Rattle.fkv_core.specs.Openings.{beginning}
+use Rattle.law_order.specs.Below.fkv_core.Openings.{beginning}
 use Rattle.fkv_disk.specs.Calls.{MayLeave}
-use Rattle.fkv_opening.specs.Faults.{IsFaultOf}
-use Rattle.fkv_opening.specs.declared.opened_store.Opened.{Opened}
+use Rattle.law_order.specs.Below.fkv_opening.Faults.{IsFaultOf}
+use Rattle.law_order.specs.Below.fkv_opening.TheOpened.{Opened}
 use Rattle.fkv_playing.specs.Players.{PlayerState}
 use Rattle.fkv_runs.specs.Crashes.{IsCause, IsCrash, kept_behind}
 use Rattle.fkv_runs.specs.Openings.{Medium}
 use Rattle.fkv_texts.specs.Refusals.{last_refusal}
-use Rattle.fkv_world.specs.Runs.{World, run}
-use Rattle.fkv_world.specs.World.{Event, Now}
+use Rattle.law_order.specs.Below.fkv_world.Runs.{World, run}
+use Rattle.law_order.specs.Below.fkv_world.World.{Event, Now}
 use Rattle.law_order.specs.OneHistory.EachLife.{InEachLife, IsLife, Life}
-use Rattle.law_opening.specs.Lives.Reaching.{ReachesFar}
+use Rattle.law_order.specs.Below.law_opening.Lives.Reaching.{ReachesFar}
 use Rattle.law_order.specs.Prefix.Law.{HoldsPrefix, RecoversPrefix, calls_so_far}
 use Rattle.law_program.specs.PlayedCalls.CrashReports.{CrashesTakeWhatIsKept, IsReportOfKept}
 use Rattle.law_order.specs.Tickets.Few.{HasFewCalls}

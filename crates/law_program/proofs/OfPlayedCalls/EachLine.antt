@@ -5,14 +5,14 @@ use Rattle.std.proofs.lemmas.List.{append-nil}
 use Rattle.fkv_base.specs.declared.faults.Fault.TheVariants.{NoSession}
 use Rattle.fkv_base.specs.declared.phases.Phase.{Phase}
 use Rattle.fkv_base.specs.declared.phases.Phase.TheVariants as phase
-use Rattle.fkv_core.specs.Openings.{beginning}
-use Rattle.fkv_core.specs.Worlds.{WorldModel}
-use Rattle.fkv_core.specs.declared.events.Event as events
-use Rattle.fkv_core.specs.declared.events.Told as tells
+use Rattle.law_order.specs.Below.fkv_core.Openings.{beginning}
+use Rattle.law_order.specs.Below.fkv_core.Worlds.{WorldModel}
+use Rattle.law_order.specs.Below.fkv_core.Event as events
+use Rattle.law_order.specs.Below.fkv_core.TheTold as tells
 use Rattle.fkv_epoch.proofs.Shown.{none_some}
 use Rattle.fkv_map.specs.declared.operations.Call.{Call}
 use Rattle.fkv_map.specs.declared.operations.Call.TheVariants as call
-use Rattle.fkv_opening.specs.declared.opened_store.Opened.{Opened}
+use Rattle.law_order.specs.Below.fkv_opening.TheOpened.{Opened}
 use Rattle.fkv_playing.specs.Beats.{IsBeat, seats_behind}
 use Rattle.fkv_playing.specs.Finishes.{AreRounds, IsFinishIn, IsPlayedAlone, behind_rounds, calls_of_seat, calls_of_seats, most_rounds, round_of, rounds}
 use Rattle.fkv_playing.specs.Groups.{is_struck_by, missing_session}
@@ -29,8 +29,8 @@ use Rattle.fkv_playing.specs.declared.calls.Telling.{Telling}
 use Rattle.fkv_playing.specs.declared.calls.Telling.TheVariants.{Finished, Whole}
 use Rattle.fkv_texts.specs.Keeper.{nothing_to_finish}
 use Rattle.fkv_texts.specs.Refusals.{session_refusal}
-use Rattle.fkv_world.specs.Runs.{World, run}
-use Rattle.fkv_world.specs.World.{Calls, Event, Moves, Now}
+use Rattle.law_order.specs.Below.fkv_world.Runs.{World, run}
+use Rattle.law_order.specs.Below.fkv_world.World.{Calls, Event, Moves, Now}
 use Rattle.law_order.specs.OneHistory.EachLife.{InEachLife, IsLife}
 use Rattle.law_order.specs.Prefix.Law.{TellsFinished}
 use Rattle.law_order.specs.Rules.Waiting.{WaitingReadsInTime}
@@ -53,7 +53,7 @@ use Rattle.law_program.proofs.OfPlayedCalls.PolledReads.{reads_answered}
 use Rattle.law_program.proofs.OfPlayedCalls.Replies.{AnswersWholeCalls, at_rest_behind, missing_number, op_answered}
 use Rattle.law_program.proofs.OfPlayedCalls.Steps.{GoesByRules}
 use Rattle.law_program.proofs.OfPlayedCalls.Waiting.{seats_kept}
-use Rattle.law_refine.specs.Results.Results.{NobodyCalls}
+use Rattle.law_order.specs.Below.law_refine.Results.Results.{NobodyCalls}
 
 -- ---- the events of a call
 session_moves : (number count : ℕ) (asked : Call) → AreMovesOf (Session number asked) (replicate count (Moves number))

@@ -5,7 +5,7 @@ use Rattle.std.proofs.lemmas.Bool.Decides.{nat_tests}
 use Rattle.std.proofs.lemmas.List.{length-append}
 use Rattle.fkv_base.specs.Limits.{max_sessions}
 use Rattle.fkv_epoch.proofs.Shown.{some_same}
-use Rattle.fkv_opening.specs.declared.opened_store.Opened.{Opened}
+use Rattle.law_order.specs.Below.fkv_opening.TheOpened.{Opened}
 use Rattle.fkv_playing.specs.Finishes.{calls_of_seat, calls_of_seats, most_rounds, round_of, rounds}
 use Rattle.fkv_playing.specs.Groups.{queues_behind}
 use Rattle.fkv_playing.specs.Players.{PlayerState}
@@ -18,7 +18,7 @@ use Rattle.fkv_playing.specs.declared.calls.Outcome.TheVariants.{GoesOn}
 use Rattle.fkv_playing.specs.declared.calls.Stage.{Stage}
 use Rattle.fkv_playing.specs.declared.calls.Stage.TheVariants as stage
 use Rattle.fkv_playing.specs.declared.calls.Telling.{Telling}
-use Rattle.fkv_world.specs.World.{Calls, Event, Now}
+use Rattle.law_order.specs.Below.fkv_world.World.{Calls, Event, Now}
 use Rattle.law_order.specs.Tickets.Few.{calls_in}
 use Rattle.law_program.specs.PlayedCalls.EachLine.{ArePlayedInLife, IsCalledAlone}
 use Rattle.law_program.specs.PlayedCalls.FewCalls.{left_in, most_of_finish}

@@ -3,22 +3,22 @@ use Rattle.std.proofs.Common.{◌≡◌, ◌∙◌, ℕ, List, [], ◌∷◌, Bo
 use Rattle.std.specs.Prelude.{Option, Some, Ok}
 use Rattle.fkv_base.specs.declared.numbers.Serial.{Serial}
 use Rattle.fkv_base.specs.declared.numbers.Version.{Version}
-use Rattle.fkv_core.specs.Lives.{IsAnswerSaid, answers_of, with_answer}
-use Rattle.fkv_core.specs.Openings.{beginning, newest_commit}
-use Rattle.fkv_core.specs.Told.{keeper_told}
-use Rattle.fkv_core.specs.declared.events.Told as tells
-use Rattle.fkv_core.specs.declared.events.Told.TheVariants as told
+use Rattle.law_order.specs.Below.fkv_core.Lives.{IsAnswerSaid, answers_of, with_answer}
+use Rattle.law_order.specs.Below.fkv_core.Openings.{beginning, newest_commit}
+use Rattle.law_order.specs.Below.fkv_core.Told.{keeper_told}
+use Rattle.law_order.specs.Below.fkv_core.TheTold as tells
+use Rattle.law_order.specs.Below.fkv_core.TheTold.TheVariants as told
 use Rattle.fkv_epoch.proofs.Shown.{some_same}
-use Rattle.fkv_keeper.specs.Answers.{AreFinishesTold, IsKeeperTold}
-use Rattle.fkv_keeper.specs.Keeping.{Finality, end_told}
-use Rattle.fkv_keeper.specs.declared.answers.Finished.{Finished}
-use Rattle.fkv_keeper.specs.declared.answers.KeeperAsk.{KeeperAsk}
-use Rattle.fkv_keeper.specs.declared.answers.KeeperTold.{KeeperTold}
-use Rattle.fkv_keeper.specs.declared.answers.KeeperTold.TheVariants.{Begun, CommitRefused, Device, TurnRefused, Turned}
-use Rattle.fkv_opening.specs.declared.opened_store.Opened.{Opened}
-use Rattle.fkv_world.specs.Past.{Answered, KeeperAnswered, TraceEvent, Traced}
-use Rattle.fkv_world.specs.World.{Event, Now}
-use Rattle.law_commit.specs.FinishedCommits.{ToldCommit, commits_told, told_of, with_told}
+use Rattle.law_order.specs.Below.fkv_keeper.Answers.{AreFinishesTold, IsKeeperTold}
+use Rattle.law_order.specs.Below.fkv_keeper.Keeping.{Finality, end_told}
+use Rattle.law_order.specs.Below.fkv_keeper.Finished.{Finished}
+use Rattle.law_order.specs.Below.fkv_keeper.KeeperAsk.{KeeperAsk}
+use Rattle.law_order.specs.Below.fkv_keeper.KeeperTold.{KeeperTold}
+use Rattle.law_order.specs.Below.fkv_keeper.KeeperTold.TheVariants.{Begun, CommitRefused, Device, TurnRefused, Turned}
+use Rattle.law_order.specs.Below.fkv_opening.TheOpened.{Opened}
+use Rattle.law_order.specs.Below.fkv_world.Past.{Answered, KeeperAnswered, TraceEvent, Traced}
+use Rattle.law_order.specs.Below.fkv_world.World.{Event, Now}
+use Rattle.law_order.specs.Below.law_commit.FinishedCommits.{ToldCommit, commits_told, told_of, with_told}
 use Rattle.law_order.specs.OneHistory.EachLife.{InEachLife, IsLife}
 use Rattle.law_order.specs.Prefix.Law.{TellsFinished, trace_so_far}
 use Rattle.law_program.specs.PlayedCalls.FinishedCommits.{FinishesWhatIsTold, finished_so_far, with_commit, with_finished}

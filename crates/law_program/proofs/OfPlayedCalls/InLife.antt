@@ -4,14 +4,14 @@ use Rattle.std.specs.Prelude.{Option, Some, None, slice_get, ◌==◌}
 use Rattle.std.proofs.lemmas.Bool.Decides.{nat_tests}
 use Rattle.fkv_epoch.proofs.Shown.{none_some, same_or, some_same}
 use Rattle.fkv_map.specs.declared.operations.Call.{Call}
-use Rattle.fkv_session.specs.Sessions.{SessionState, is_busy}
-use Rattle.fkv_session.specs.declared.answers.Told.{Told}
-use Rattle.fkv_session.specs.declared.sessions.Sitting.TheVariants.{Idle}
-use Rattle.fkv_world.specs.Runs.{World, happens, run}
-use Rattle.fkv_world.specs.World.{Calls, Event, Moves}
-use Rattle.fkv_world.proofs.Shown.{is_over, session_apart}
-use Rattle.law_world.proofs.OfRuns.Nothing.{no_session}
-use Rattle.law_refine.specs.Results.Results.{NobodyCalls}
+use Rattle.law_order.specs.Below.fkv_session.Sessions.{SessionState, is_busy}
+use Rattle.law_order.specs.Below.fkv_session.Told.{Told}
+use Rattle.law_order.specs.Below.fkv_session.Sitting.TheVariants.{Idle}
+use Rattle.law_order.specs.Below.fkv_world.Runs.{World, happens, run}
+use Rattle.law_order.specs.Below.fkv_world.World.{Calls, Event, Moves}
+use Rattle.law_order.proofs.Below.fkv_world.Shown.{is_over, session_apart}
+use Rattle.law_order.proofs.Below.law_world.OfRuns.Nothing.{no_session}
+use Rattle.law_order.specs.Below.law_refine.Results.Results.{NobodyCalls}
 use Rattle.law_order.specs.Served.Fits.{CallFits, CallsFit}
 use Rattle.law_order.specs.Tickets.Few.{HasFewCalls}
 use Rattle.law_program.specs.PlayedCalls.PlayedCalls.{called_alone}

@@ -1,35 +1,35 @@
 -- What the keeper does leaves sessions as they are, and nothing takes effect by it; nor is a session told anything.
 use Rattle.std.proofs.Common.{◌≡◌, ◌∙◌, ℕ, List, [], ◌∷◌, ◌++◌, Bool, true, false, ap, append_assoc, refl, sym, subst, length}
 use Rattle.std.specs.Prelude.{if◌then◌else◌, slice_get}
-use Rattle.fkv_core.specs.Openings.{beginning}
-use Rattle.fkv_keeper.specs.KeeperRun.{is_in_hand}
-use Rattle.fkv_keeper.specs.KeeperAsks.{keeper_calls}
-use Rattle.fkv_keeper.specs.Keeping.{Finality, keeper_ask}
-use Rattle.fkv_keeper.specs.declared.keepers.Keeping.{Keeping}
-use Rattle.fkv_keeper.specs.declared.keepers.Keeping.TheVariants.{Ended}
-use Rattle.fkv_opening.specs.declared.opened_store.Opened.{Opened}
+use Rattle.law_order.specs.Below.fkv_core.Openings.{beginning}
+use Rattle.law_order.specs.Below.fkv_keeper.KeeperRun.{is_in_hand}
+use Rattle.law_order.specs.Below.fkv_keeper.KeeperAsks.{keeper_calls}
+use Rattle.law_order.specs.Below.fkv_keeper.Keeping.{Finality, keeper_ask}
+use Rattle.law_order.specs.Below.fkv_keeper.TheKeeping.{Keeping}
+use Rattle.law_order.specs.Below.fkv_keeper.TheKeeping.TheVariants.{Ended}
+use Rattle.law_order.specs.Below.fkv_opening.TheOpened.{Opened}
 use Rattle.fkv_playing.specs.declared.calls.ActorCall.{ActorCall}
 use Rattle.fkv_playing.specs.declared.calls.ActorCall.TheVariants.{Session, Commit, Turn}
-use Rattle.fkv_world.specs.Actors.{is_of_keeper, is_of_session}
-use Rattle.fkv_world.specs.Past as world
-use Rattle.fkv_world.specs.Past.{CommitAsked, KeeperAnswered, Past, TraceEvent, Traced, TurnAsked, calls_after, keeper_answered, life_past, traced}
-use Rattle.fkv_world.specs.Runs.{World, happens, read_by_keeper, run}
-use Rattle.fkv_world.specs.World.{Calls, Commits, Crashes, Event, KeeperMoves, Moves, Now, Turns, life_goes}
-use Rattle.fkv_world.proofs.Shown.{is_over, lived, session_apart, world_of}
+use Rattle.law_order.specs.Below.fkv_world.Actors.{is_of_keeper, is_of_session}
+use Rattle.law_order.specs.Below.fkv_world.Past as world
+use Rattle.law_order.specs.Below.fkv_world.Past.{CommitAsked, KeeperAnswered, Past, TraceEvent, Traced, TurnAsked, calls_after, keeper_answered, life_past, traced}
+use Rattle.law_order.specs.Below.fkv_world.Runs.{World, happens, read_by_keeper, run}
+use Rattle.law_order.specs.Below.fkv_world.World.{Calls, Commits, Crashes, Event, KeeperMoves, Moves, Now, Turns, life_goes}
+use Rattle.law_order.proofs.Below.fkv_world.Shown.{is_over, lived, session_apart, world_of}
 use Rattle.law_log.specs.Trace.{history_of}
 use Rattle.fkv_map.specs.History.{content}
-use Rattle.law_opening.specs.Log.Maps.{opening_map}
+use Rattle.law_order.specs.Below.law_opening.Log.Maps.{opening_map}
 use Rattle.law_program.specs.PlayedCalls.EachLine.{AreMovesOf, IsMoveOf, begun_by}
 use Rattle.law_program.specs.WholeCalls.WholeCalls.{map_after}
 use Rattle.law_program.specs.PlayedCalls.Waiting.{SeatsKeepKeys, key_told}
 use Rattle.law_program.proofs.OfPlayedCalls.Led.{IsKeepers}
 use Rattle.law_program.proofs.OfPlayedCalls.Waiting.{other_told, stands_on}
 use Rattle.law_order.proofs.OfReads.Numbers.{other_waiting}
-use Rattle.law_refine.proofs.OfCalls.Called.{is_other}
-use Rattle.law_refine.specs.Events.Lines.{read_waiting}
+use Rattle.law_order.proofs.Below.law_refine.OfCalls.Called.{is_other}
+use Rattle.law_order.specs.Below.law_refine.Events.Lines.{read_waiting}
 use Rattle.fkv_playing.specs.Seats.{SeatState}
-use Rattle.law_refine.specs.Calls.Calls.{effects_in_log}
-use Rattle.law_refine.specs.Results.Results.{NobodyCalls}
+use Rattle.law_order.specs.Below.law_refine.Calls.Calls.{effects_in_log}
+use Rattle.law_order.specs.Below.law_refine.Results.Results.{NobodyCalls}
 
 -- ---- one event
 -- Nothing has taken effect, and no session was told a ticket.

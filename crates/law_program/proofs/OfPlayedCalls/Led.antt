@@ -1,23 +1,23 @@
 -- Over an honest device a life goes on by each beat of a call, and shows the device with the world.
 use Rattle.std.proofs.Common.{◌≡◌, ◌∙◌, ℕ, zero, suc, List, [], ◌∷◌, ◌++◌, Bool, true, false, ap, append_assoc, inl, inr, length, refl, replicate, sym, subst}
 use Rattle.std.specs.Prelude.{Option, Some, None, ⊤}
-use Rattle.fkv_core.specs.Lives.{IsAnswerSaid, IsSaid, LeadsOn, answers_of}
-use Rattle.fkv_core.specs.Told.{IsKeepingTold, IsTold, keeper_told}
-use Rattle.fkv_core.specs.Worlds.{WorldModel, took_place}
-use Rattle.fkv_core.specs.declared.events.Event as events
-use Rattle.fkv_core.specs.declared.events.Told as tells
-use Rattle.fkv_core.specs.declared.events.Told.TheVariants as told
+use Rattle.law_order.specs.Below.fkv_core.Lives.{IsAnswerSaid, IsSaid, LeadsOn, answers_of}
+use Rattle.law_order.specs.Below.fkv_core.Told.{IsKeepingTold, IsTold, keeper_told}
+use Rattle.law_order.specs.Below.fkv_core.Worlds.{WorldModel, took_place}
+use Rattle.law_order.specs.Below.fkv_core.Event as events
+use Rattle.law_order.specs.Below.fkv_core.TheTold as tells
+use Rattle.law_order.specs.Below.fkv_core.TheTold.TheVariants as told
 use Rattle.fkv_disk.specs.Device.{IsAfter}
 use Rattle.fkv_epoch.proofs.Shown.{none_some, some_same}
-use Rattle.fkv_keeper.specs.KeeperRun.{is_in_hand}
-use Rattle.fkv_keeper.specs.Answers.{IsKeeperTold}
-use Rattle.fkv_keeper.specs.Keeping.{Finality, KeeperState, end_told}
-use Rattle.fkv_keeper.specs.declared.answers.KeeperAsk.{KeeperAsk}
-use Rattle.fkv_keeper.specs.declared.answers.KeeperAsk.TheVariants as ask
-use Rattle.fkv_keeper.specs.declared.answers.KeeperTold.{KeeperTold}
-use Rattle.fkv_keeper.specs.declared.answers.KeeperTold.TheVariants.{Begun, CommitRefused, Device, TurnRefused, Turned}
-use Rattle.fkv_keeper.specs.declared.keepers.Keeping.{Keeping}
-use Rattle.fkv_keeper.specs.declared.keepers.Keeping.TheVariants.{Ended}
+use Rattle.law_order.specs.Below.fkv_keeper.KeeperRun.{is_in_hand}
+use Rattle.law_order.specs.Below.fkv_keeper.Answers.{IsKeeperTold}
+use Rattle.law_order.specs.Below.fkv_keeper.Keeping.{Finality, KeeperState, end_told}
+use Rattle.law_order.specs.Below.fkv_keeper.KeeperAsk.{KeeperAsk}
+use Rattle.law_order.specs.Below.fkv_keeper.KeeperAsk.TheVariants as ask
+use Rattle.law_order.specs.Below.fkv_keeper.KeeperTold.{KeeperTold}
+use Rattle.law_order.specs.Below.fkv_keeper.KeeperTold.TheVariants.{Begun, CommitRefused, Device, TurnRefused, Turned}
+use Rattle.law_order.specs.Below.fkv_keeper.TheKeeping.{Keeping}
+use Rattle.law_order.specs.Below.fkv_keeper.TheKeeping.TheVariants.{Ended}
 use Rattle.fkv_map.specs.declared.operations.Call.{Call}
 use Rattle.fkv_playing.specs.Beats.{IsBeat, asked_of, event_of, heard, seats_behind}
 use Rattle.fkv_playing.specs.Groups.{is_struck_by}
@@ -32,10 +32,10 @@ use Rattle.fkv_playing.specs.declared.calls.Outcome.TheVariants.{GoesOn}
 use Rattle.fkv_playing.specs.declared.calls.Stage.{Stage}
 use Rattle.fkv_playing.specs.declared.calls.Stage.TheVariants as stage
 use Rattle.fkv_playing.specs.declared.calls.Telling.{Telling}
-use Rattle.fkv_world.specs.Opened.{IsOpenedWorld}
-use Rattle.fkv_world.specs.Past.{Answered, KeeperAnswered, TraceEvent}
-use Rattle.fkv_world.specs.Runs.{World, run}
-use Rattle.fkv_world.specs.World.{Event, Moves, Now}
+use Rattle.law_order.specs.Below.fkv_world.Opened.{IsOpenedWorld}
+use Rattle.law_order.specs.Below.fkv_world.Past.{Answered, KeeperAnswered, TraceEvent}
+use Rattle.law_order.specs.Below.fkv_world.Runs.{World, run}
+use Rattle.law_order.specs.Below.fkv_world.World.{Event, Moves, Now}
 use Rattle.law_program.specs.PlayedCalls.EachLine.{AreMovesOf, IsMoveOf, IsOfKeeper, begun_by}
 use Rattle.law_program.proofs.OfPlayedCalls.Beats.{HasEnded, ended_heard, unheard, unheard_then, untold}
 

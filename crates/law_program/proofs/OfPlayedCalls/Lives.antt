@@ -1,7 +1,7 @@
 -- A life begins over a device that holds a store's image.
 use Rattle.std.proofs.Common.{◌≡◌, ◌∙◌, ℕ, zero, suc, List, [], ap, replicate, sym, subst}
 use Rattle.std.specs.Prelude.{Bool, Some, slice_get}
-use Rattle.fkv_core.specs.Openings.{IsOpeningWorld, beginning}
+use Rattle.law_order.specs.Below.fkv_core.Openings.{IsOpeningWorld, beginning}
 use Rattle.fkv_disk.specs.Calls.{ReadsAs}
 use Rattle.fkv_disk.specs.Device.{IsAfter, LeavesOnly}
 use Rattle.fkv_disk.specs.Fuse.{FuseLeaves, armed}
@@ -11,18 +11,18 @@ use Rattle.fkv_disk.specs.declared.fuses.FuseState.{FuseState}
 use Rattle.fkv_disk.specs.declared.fuses.FuseState.TheVariants.{Armed, Blown, BlownAt, Sound}
 use Rattle.fkv_disk.proofs.Shown.{is_opened}
 use Rattle.fkv_epoch.proofs.Shown.{none_some, some_same}
-use Rattle.fkv_opening.specs.Opened.{IsStoreOf}
-use Rattle.fkv_opening.specs.declared.opened_store.Opened.{Opened}
+use Rattle.law_order.specs.Below.fkv_opening.Opened.{IsStoreOf}
+use Rattle.law_order.specs.Below.fkv_opening.TheOpened.{Opened}
 use Rattle.fkv_playing.specs.Players.{PlayerState}
 use Rattle.fkv_playing.specs.Seats.{SeatState, first_seat}
 use Rattle.fkv_runs.specs.Openings.{Holds}
 use Rattle.fkv_texts.specs.Polls.{key_of_ticket}
-use Rattle.fkv_world.specs.Runs.{run}
-use Rattle.fkv_world.specs.World.{Now}
+use Rattle.law_order.specs.Below.fkv_world.Runs.{run}
+use Rattle.law_order.specs.Below.fkv_world.World.{Now}
 use Rattle.law_program.specs.PlayedCalls.EachLine.{IsLifeOver}
 use Rattle.law_program.specs.PlayedCalls.Lives.{ArmingGoesOn, CrashesGoOn, LivesBegin}
 use Rattle.law_program.specs.PlayedCalls.PlayedCalls.{IsQuietLife}
-use Rattle.law_refine.specs.Results.Results.{NobodyCalls}
+use Rattle.law_order.specs.Below.law_refine.Results.Results.{NobodyCalls}
 use Rattle.law_program.specs.PlayedCalls.Waiting.{SeatsKeepKeys}
 use Rattle.law_program.proofs.OfPlayedCalls.NewStores.{PairsAreMap}
 use Rattle.law_program.proofs.OfPlayedCalls.Scripts.{opening_idle, opening_quiet, opening_shows}

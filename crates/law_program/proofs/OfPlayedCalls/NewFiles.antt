@@ -2,13 +2,13 @@
 use Rattle.std.proofs.Common.{ℕ, List, [], Bool, subst}
 use Rattle.std.specs.Prelude.{◌↔◌, Option}
 use Rattle.fkv_base.specs.declared.shapes.Shape.{Shape}
-use Rattle.fkv_core.specs.Worlds.{WorldModel}
-use Rattle.fkv_core.specs.declared.events.Event as events
-use Rattle.fkv_core.specs.declared.events.Told as tells
-use Rattle.fkv_creating.specs.Created.{IsCreated, IsNewStore, created_bytes}
+use Rattle.law_order.specs.Below.fkv_core.Worlds.{WorldModel}
+use Rattle.law_order.specs.Below.fkv_core.Event as events
+use Rattle.law_order.specs.Below.fkv_core.TheTold as tells
+use Rattle.law_order.specs.Below.fkv_creating.Created.{IsCreated, IsNewStore, created_bytes}
 use Rattle.fkv_map.specs.Map.{Map}
-use Rattle.fkv_opening.specs.Opened.{IsStoreOf}
-use Rattle.fkv_opening.specs.declared.opened_store.Opened.{Opened}
+use Rattle.law_order.specs.Below.fkv_opening.Opened.{IsStoreOf}
+use Rattle.law_order.specs.Below.fkv_opening.TheOpened.{Opened}
 use Rattle.law_program.specs.PlayedCalls.NewFiles.{NewFilesPlayMap, NewStoresBeginQuiet}
 use Rattle.law_program.specs.PlayedCalls.Scripts.{FilesPlayMap, IsPlayOfMap}
 use Rattle.law_program.proofs.OfPlayedCalls.NewStores.{PairsAreMap, new_is_empty}

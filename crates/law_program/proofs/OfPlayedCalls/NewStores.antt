@@ -6,15 +6,15 @@ use Rattle.fkv_base.specs.declared.numbers.Addr.{Addr}
 use Rattle.fkv_base.specs.declared.numbers.Key.{Key}
 use Rattle.fkv_base.specs.declared.numbers.Value.{Value}
 use Rattle.fkv_base.specs.declared.shapes.Shape.{Shape}
-use Rattle.fkv_chains.specs.Reached.{Reached, in_scan, led_to, linked}
-use Rattle.fkv_creating.specs.Created.{IsNewStore}
-use Rattle.fkv_opening.specs.Opened.{IsStoreOf}
-use Rattle.fkv_opening.specs.declared.opened_store.Opened.{Opened}
-use Rattle.law_opening.specs.Log.Maps.{opening_map}
-use Rattle.law_opening.specs.Log.Records.{map_of}
-use Rattle.fkv_pairs.specs.Pairs.{ArePairs, HasValue, log_of_store}
+use Rattle.law_order.specs.Below.fkv_chains.Reached.{Reached, in_scan, led_to, linked}
+use Rattle.law_order.specs.Below.fkv_creating.Created.{IsNewStore}
+use Rattle.law_order.specs.Below.fkv_opening.Opened.{IsStoreOf}
+use Rattle.law_order.specs.Below.fkv_opening.TheOpened.{Opened}
+use Rattle.law_order.specs.Below.law_opening.Log.Maps.{opening_map}
+use Rattle.law_order.specs.Below.law_opening.Log.Records.{map_of}
+use Rattle.law_order.specs.Below.fkv_pairs.Pairs.{ArePairs, HasValue, log_of_store}
 use Rattle.fkv_record.specs.declared.triples.Triple.{Triple}
-use Rattle.fkv_scan.specs.Log.{HasTriple, Log}
+use Rattle.law_order.specs.Below.fkv_scan.Log.{HasTriple, Log}
 
 -- ---- a log that has no room for a record
 abbrev no_triples : List Triple

@@ -2,17 +2,17 @@
 use Rattle.std.proofs.Common.{◌≡◌, ◌≢◌, ◌∙◌, ℕ, List, [], ◌∷◌, ◌++◌, Bool, true, false, ap, append-nil, append_assoc, arith, refl, sym, subst}
 use Rattle.std.specs.Prelude.{⊤, Option, Some, None, if◌then◌else◌, not, ◌==◌, slice_get}
 use Rattle.std.proofs.lemmas.Bool.Decides.{nat_tests}
-use Rattle.fkv_core.specs.Alone.{in_hand}
-use Rattle.fkv_core.specs.Openings.{IsOpeningWorld, beginning}
-use Rattle.fkv_core.specs.Showing.{effect_at, effect_of}
-use Rattle.fkv_core.specs.Told.{IsSessionEnd, IsSittingTold, IsTold, may_begin, may_move, numbered}
-use Rattle.fkv_core.specs.Worlds.{WorldModel, took_place}
-use Rattle.fkv_core.specs.declared.events.Actor.TheVariants.{Session as session}
-use Rattle.fkv_core.specs.declared.events.Event as events
-use Rattle.fkv_core.specs.declared.events.Told as tells
+use Rattle.law_order.specs.Below.fkv_core.Alone.{in_hand}
+use Rattle.law_order.specs.Below.fkv_core.Openings.{IsOpeningWorld, beginning}
+use Rattle.law_order.specs.Below.fkv_core.Showing.{effect_at, effect_of}
+use Rattle.law_order.specs.Below.fkv_core.Told.{IsSessionEnd, IsSittingTold, IsTold, may_begin, may_move, numbered}
+use Rattle.law_order.specs.Below.fkv_core.Worlds.{WorldModel, took_place}
+use Rattle.law_order.specs.Below.fkv_core.Actor.TheVariants.{Session as session}
+use Rattle.law_order.specs.Below.fkv_core.Event as events
+use Rattle.law_order.specs.Below.fkv_core.TheTold as tells
 use Rattle.fkv_epoch.proofs.Shown.{none_some, some_same}
 use Rattle.fkv_map.specs.declared.history.HistoryEntry.{HistoryEntry}
-use Rattle.fkv_opening.specs.declared.opened_store.Opened.{Opened}
+use Rattle.law_order.specs.Below.fkv_opening.TheOpened.{Opened}
 use Rattle.fkv_playing.specs.Beats.{IsBeat, effects_behind, event_of, listed, outcome_of}
 use Rattle.fkv_playing.specs.Players.{PlayerState, is_struck}
 use Rattle.fkv_playing.specs.Queues.{rank_of}
@@ -23,26 +23,26 @@ use Rattle.fkv_playing.specs.declared.calls.Outcome.TheVariants.{GoesOn}
 use Rattle.fkv_playing.specs.declared.calls.Stage.{Stage}
 use Rattle.fkv_playing.specs.declared.calls.Stage.TheVariants as stage
 use Rattle.fkv_playing.specs.declared.calls.Telling.{Telling}
-use Rattle.fkv_session.specs.Replies.{with_effect}
-use Rattle.fkv_session.specs.Sessions.{SessionState, is_busy}
-use Rattle.fkv_session.specs.declared.answers.Answer.{Answer}
-use Rattle.fkv_session.specs.declared.answers.Finished.{Finished}
-use Rattle.fkv_session.specs.declared.sessions.Sitting.{Sitting}
-use Rattle.fkv_session.specs.declared.sessions.Sitting.TheVariants.{Idle}
-use Rattle.fkv_world.specs.Actors.{is_of_session}
-use Rattle.fkv_world.specs.Past as past
-use Rattle.fkv_world.specs.Runs.{World, happens, read_by_keeper, run}
-use Rattle.fkv_world.specs.World.{Calls, Event, KeeperMoves, Moves, Now, life_goes, session_calls, session_moves}
-use Rattle.fkv_world.proofs.Shown.{session_apart}
+use Rattle.law_order.specs.Below.fkv_session.Replies.{with_effect}
+use Rattle.law_order.specs.Below.fkv_session.Sessions.{SessionState, is_busy}
+use Rattle.law_order.specs.Below.fkv_session.Answer.{Answer}
+use Rattle.law_order.specs.Below.fkv_session.Finished.{Finished}
+use Rattle.law_order.specs.Below.fkv_session.Sitting.{Sitting}
+use Rattle.law_order.specs.Below.fkv_session.Sitting.TheVariants.{Idle}
+use Rattle.law_order.specs.Below.fkv_world.Actors.{is_of_session}
+use Rattle.law_order.specs.Below.fkv_world.Past as past
+use Rattle.law_order.specs.Below.fkv_world.Runs.{World, happens, read_by_keeper, run}
+use Rattle.law_order.specs.Below.fkv_world.World.{Calls, Event, KeeperMoves, Moves, Now, life_goes, session_calls, session_moves}
+use Rattle.law_order.proofs.Below.fkv_world.Shown.{session_apart}
 use Rattle.law_answers.specs.Effects.Kept as told_law
 use Rattle.law_answers.specs.Effects.Kept.{told_behind, updates}
 use Rattle.law_answers.specs.Effects.Laws.{EventsTellTheirEffects}
 use Rattle.law_log.specs.Trace.{history_of}
-use Rattle.law_opening.specs.Lives.Laws.{GuardOpens}
+use Rattle.law_order.specs.Below.law_opening.Lives.Laws.{GuardOpens}
 use Rattle.law_order.specs.Prefix.Law.{history_so_far}
 use Rattle.law_order.proofs.OfRules.Beginning.{world_opens}
-use Rattle.law_refine.specs.Calls.Calls.{effects_in_log}
-use Rattle.law_world.proofs.OfRuns.Nothing.{in_hand as called_in_hand, no_session}
+use Rattle.law_order.specs.Below.law_refine.Calls.Calls.{effects_in_log}
+use Rattle.law_order.proofs.Below.law_world.OfRuns.Nothing.{in_hand as called_in_hand, no_session}
 use Rattle.law_program.specs.PlayedCalls.EachLine.{ItsNumbersFit, begun_by}
 use Rattle.law_program.specs.PlayedCalls.Interleaved.{IsLifeShown}
 use Rattle.law_program.specs.PlayedCalls.Noted.{IsNoted}

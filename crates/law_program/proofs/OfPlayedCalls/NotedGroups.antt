@@ -4,12 +4,12 @@ use Rattle.std.specs.Prelude.{Option, Some, None, filter, slice_get, slice_set}
 use Rattle.std.proofs.lemmas.Bool.Decides.{nat_tests}
 use Rattle.fkv_base.specs.declared.phases.Phase.{Phase}
 use Rattle.fkv_base.specs.declared.phases.Phase.TheVariants as phase
-use Rattle.fkv_core.specs.Worlds.{WorldModel}
-use Rattle.fkv_core.specs.declared.events.Event as events
-use Rattle.fkv_core.specs.declared.events.Told as tells
+use Rattle.law_order.specs.Below.fkv_core.Worlds.{WorldModel}
+use Rattle.law_order.specs.Below.fkv_core.Event as events
+use Rattle.law_order.specs.Below.fkv_core.TheTold as tells
 use Rattle.fkv_epoch.proofs.Shown.{item_spared, item_written, none_some, same_or, some_same}
 use Rattle.fkv_map.specs.declared.history.HistoryEntry.{HistoryEntry}
-use Rattle.fkv_opening.specs.declared.opened_store.Opened.{Opened}
+use Rattle.law_order.specs.Below.fkv_opening.TheOpened.{Opened}
 use Rattle.fkv_playing.specs.Beats.{IsBeat}
 use Rattle.fkv_playing.specs.Finishes.{IsFinishIn, IsPlayedAlone, most_rounds, round_of, rounds}
 use Rattle.fkv_playing.specs.Groups.{GroupState, IsBeatOf, IsPick, missing_session, queues_behind}
@@ -25,9 +25,9 @@ use Rattle.fkv_playing.specs.declared.calls.Stage.{Stage}
 use Rattle.fkv_playing.specs.declared.calls.Stage.TheVariants as stage
 use Rattle.fkv_playing.specs.declared.calls.Telling.{Telling}
 use Rattle.fkv_playing.specs.declared.calls.Telling.TheVariants.{Finished, Whole}
-use Rattle.fkv_world.specs.World.{Event, Now}
+use Rattle.law_order.specs.Below.fkv_world.World.{Event, Now}
 use Rattle.law_answers.specs.Effects.Laws.{EventsTellTheirEffects}
-use Rattle.law_opening.specs.Lives.Laws.{GuardOpens}
+use Rattle.law_order.specs.Below.law_opening.Lives.Laws.{GuardOpens}
 use Rattle.law_order.specs.Tickets.Few.{calls_in}
 use Rattle.law_program.specs.PlayedCalls.EachLine.{ItsNumbersFit}
 use Rattle.law_program.specs.PlayedCalls.FewCalls.{left_in}

@@ -2,7 +2,7 @@
 use Rattle.std.proofs.Common.{◌≡◌, ◌∙◌, ℕ, List, [], ◌∷◌, ◌++◌, false, ap, inl, inr, refl, sym, subst}
 use Rattle.std.specs.Prelude.{Some, length, slice_get}
 use Rattle.fkv_base.specs.declared.numbers.Key.{Key}
-use Rattle.fkv_core.specs.Openings.{beginning}
+use Rattle.law_order.specs.Below.fkv_core.Openings.{beginning}
 use Rattle.fkv_epoch.proofs.Shown.{some_same}
 use Rattle.fkv_map.specs.History.{IsLegal, content}
 use Rattle.fkv_map.specs.Map.{Map, reply_to}
@@ -11,34 +11,34 @@ use Rattle.fkv_map.specs.declared.operations.Call.TheVariants as call
 use Rattle.fkv_map.specs.declared.operations.Op.TheVariants.{Read}
 use Rattle.fkv_map.specs.declared.operations.Reply.{Reply}
 use Rattle.fkv_map.proofs.Shown.{IsLegal-earlier, IsLegal-later}
-use Rattle.fkv_opening.specs.declared.opened_store.Opened.{Opened}
+use Rattle.law_order.specs.Below.fkv_opening.TheOpened.{Opened}
 use Rattle.fkv_playing.specs.Players.{PlayerState}
 use Rattle.fkv_playing.specs.declared.calls.Telling.{Telling}
-use Rattle.fkv_session.specs.Answers.{IsAnswerTold}
-use Rattle.fkv_session.specs.SessionRun.{telling}
-use Rattle.fkv_session.specs.Sessions.{SessionState, is_busy}
-use Rattle.fkv_session.specs.declared.answers.Answer.{Answer}
-use Rattle.fkv_session.specs.declared.answers.Answer.TheVariants as answer
-use Rattle.fkv_session.specs.declared.answers.Finished.{Finished}
-use Rattle.fkv_session.specs.declared.answers.Finished.TheVariants as finished
-use Rattle.fkv_session.specs.declared.answers.Told.{Told}
-use Rattle.fkv_session.specs.declared.answers.Told.TheVariants as told
-use Rattle.fkv_session.specs.declared.sessions.Sitting.{Sitting}
-use Rattle.fkv_session.specs.declared.sessions.Sitting.TheVariants.{Idle}
+use Rattle.law_order.specs.Below.fkv_session.Answers.{IsAnswerTold}
+use Rattle.law_order.specs.Below.fkv_session.SessionRun.{telling}
+use Rattle.law_order.specs.Below.fkv_session.Sessions.{SessionState, is_busy}
+use Rattle.law_order.specs.Below.fkv_session.Answer.{Answer}
+use Rattle.law_order.specs.Below.fkv_session.Answer.TheVariants as answer
+use Rattle.law_order.specs.Below.fkv_session.Finished.{Finished}
+use Rattle.law_order.specs.Below.fkv_session.Finished.TheVariants as finished
+use Rattle.law_order.specs.Below.fkv_session.Told.{Told}
+use Rattle.law_order.specs.Below.fkv_session.Told.TheVariants as told
+use Rattle.law_order.specs.Below.fkv_session.Sitting.{Sitting}
+use Rattle.law_order.specs.Below.fkv_session.Sitting.TheVariants.{Idle}
 use Rattle.fkv_texts.specs.Sessions.{finished_by}
-use Rattle.fkv_world.specs.Opened.{IsOpenedWorld}
-use Rattle.fkv_world.specs.Past.{Answered, Called, Traced}
-use Rattle.fkv_world.specs.Runs.{World, run}
-use Rattle.fkv_world.specs.World.{Calls, Event, Now}
+use Rattle.law_order.specs.Below.fkv_world.Opened.{IsOpenedWorld}
+use Rattle.law_order.specs.Below.fkv_world.Past.{Answered, Called, Traced}
+use Rattle.law_order.specs.Below.fkv_world.Runs.{World, run}
+use Rattle.law_order.specs.Below.fkv_world.World.{Calls, Event, Now}
 use Rattle.law_log.specs.Trace.{CallsRead, Effect, GivesResult, IsIn, history_of}
-use Rattle.law_opening.specs.Log.Maps.{opening_map}
+use Rattle.law_order.specs.Below.law_opening.Log.Maps.{opening_map}
 use Rattle.law_order.specs.OneHistory.EachLife.{InEachLife, IsLife, Life}
 use Rattle.law_order.specs.Rules.Ordered.{HasLegalHistory, OrdersItsCalls, effects_so_far, lines_so_far}
 use Rattle.law_order.proofs.OfRules.Beginning.{world_opens}
-use Rattle.law_refine.specs.Calls.Calls.{event_adds}
-use Rattle.law_refine.specs.Events.GhostEvents.{serials_in}
-use Rattle.law_refine.specs.Events.Lines.{finished_line, finished_lines, lines_of}
-use Rattle.law_refine.specs.Results.Results.{NobodyCalls}
+use Rattle.law_order.specs.Below.law_refine.Calls.Calls.{event_adds}
+use Rattle.law_order.specs.Below.law_refine.Events.GhostEvents.{serials_in}
+use Rattle.law_order.specs.Below.law_refine.Events.Lines.{finished_line, finished_lines, lines_of}
+use Rattle.law_order.specs.Below.law_refine.Results.Results.{NobodyCalls}
 use Rattle.law_program.specs.PlayedCalls.Finished.{AreRepliedAtEffects, IsRepliedAtEffect}
 use Rattle.law_program.specs.PlayedCalls.PlayedCalls.{IsQuietLife, called_alone}
 use Rattle.law_program.proofs.OfPlayedCalls.Beats.{EndsCall}

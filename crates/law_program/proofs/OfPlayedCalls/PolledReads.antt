@@ -4,7 +4,7 @@ use Rattle.std.specs.Prelude.{Option, Some, slice_get}
 use Rattle.std.proofs.lemmas.List.{append-nil}
 use Rattle.fkv_base.specs.declared.numbers.Key.{Key}
 use Rattle.fkv_base.specs.declared.numbers.Value.{Value}
-use Rattle.fkv_core.specs.Openings.{beginning}
+use Rattle.law_order.specs.Below.fkv_core.Openings.{beginning}
 use Rattle.fkv_map.specs.History.{content}
 use Rattle.fkv_map.specs.Map.{Map, reply_to}
 use Rattle.fkv_map.specs.declared.history.HistoryEntry.{HistoryEntry}
@@ -12,33 +12,33 @@ use Rattle.fkv_map.specs.declared.operations.Call.{Call}
 use Rattle.fkv_map.specs.declared.operations.Call.TheVariants as call
 use Rattle.fkv_map.specs.declared.operations.Op.TheVariants.{Read}
 use Rattle.fkv_map.specs.declared.operations.Reply.{Reply}
-use Rattle.fkv_opening.specs.declared.opened_store.Opened.{Opened}
-use Rattle.fkv_pending.specs.declared.pending_requests.Ticket.{Ticket}
+use Rattle.law_order.specs.Below.fkv_opening.TheOpened.{Opened}
+use Rattle.law_order.specs.Below.fkv_pending.Ticket.{Ticket}
 use Rattle.fkv_playing.specs.Seats.{SeatState}
-use Rattle.fkv_session.specs.Accounts.{AreAccountedFor, names_of}
-use Rattle.fkv_session.specs.Answers.{IsAnswerTold}
-use Rattle.fkv_session.specs.SessionRun.{in_hand, telling}
-use Rattle.fkv_session.specs.declared.answers.Answer.{Answer}
-use Rattle.fkv_session.specs.declared.answers.Finished.{Finished}
-use Rattle.fkv_session.specs.declared.answers.Finished.TheVariants as finished
-use Rattle.fkv_session.specs.declared.answers.Told.{Told}
-use Rattle.fkv_session.specs.declared.answers.Told.TheVariants as told
+use Rattle.law_order.specs.Below.fkv_session.Accounts.{AreAccountedFor, names_of}
+use Rattle.law_order.specs.Below.fkv_session.Answers.{IsAnswerTold}
+use Rattle.law_order.specs.Below.fkv_session.SessionRun.{in_hand, telling}
+use Rattle.law_order.specs.Below.fkv_session.Answer.{Answer}
+use Rattle.law_order.specs.Below.fkv_session.Finished.{Finished}
+use Rattle.law_order.specs.Below.fkv_session.Finished.TheVariants as finished
+use Rattle.law_order.specs.Below.fkv_session.Told.{Told}
+use Rattle.law_order.specs.Below.fkv_session.Told.TheVariants as told
 use Rattle.fkv_texts.specs.Polls.{key_of_ticket}
-use Rattle.fkv_world.specs.Opened.{IsOpenedWorld, answers_of}
-use Rattle.fkv_world.specs.Past.{Answered, Called, Traced}
-use Rattle.fkv_world.specs.Runs.{run}
-use Rattle.fkv_world.specs.World.{Calls, Event, Moves, Now}
+use Rattle.law_order.specs.Below.fkv_world.Opened.{IsOpenedWorld, answers_of}
+use Rattle.law_order.specs.Below.fkv_world.Past.{Answered, Called, Traced}
+use Rattle.law_order.specs.Below.fkv_world.Runs.{run}
+use Rattle.law_order.specs.Below.fkv_world.World.{Calls, Event, Moves, Now}
 use Rattle.law_log.specs.Trace.{AnswersRead, CallsRead, Effect, IsIn, TraceLine, history_of}
 use Rattle.law_order.specs.OneHistory.EachLife.{InEachLife, IsLife, Life}
-use Rattle.law_opening.specs.Log.Maps.{opening_map}
+use Rattle.law_order.specs.Below.law_opening.Log.Maps.{opening_map}
 use Rattle.law_order.specs.Rules.InTime.{IsInTime}
 use Rattle.law_order.specs.Rules.Ordered.{ReadsFreshly, effects_so_far, lines_so_far}
 use Rattle.law_order.specs.Rules.Waiting.{WaitingReadsInTime, waiting_read}
 use Rattle.law_order.proofs.OfReads.LifeNumbers.{life_numbered}
 use Rattle.law_order.proofs.OfReads.Numbers.{own_below}
-use Rattle.law_refine.specs.Calls.Calls.{event_adds}
-use Rattle.law_refine.specs.Events.GhostEvents.{serials_in}
-use Rattle.law_refine.specs.Events.Lines.{event_lines, lines_of, read_reply}
+use Rattle.law_order.specs.Below.law_refine.Calls.Calls.{event_adds}
+use Rattle.law_order.specs.Below.law_refine.Events.GhostEvents.{serials_in}
+use Rattle.law_order.specs.Below.law_refine.Events.Lines.{event_lines, lines_of, read_reply}
 use Rattle.law_program.specs.PlayedCalls.PlayedCalls.{called_alone}
 use Rattle.law_program.specs.PlayedCalls.Waiting.{AreReadAtCalls, IsReadAtCall, IsReadCalled, SeatsKeepKeys, StandsForKey, key_told, reader_of}
 use Rattle.law_program.proofs.OfPlayedCalls.Polled.{IsPolled, IsTraced, finished_in, line_in, polled, trace_of_call}

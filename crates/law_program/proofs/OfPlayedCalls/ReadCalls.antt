@@ -4,10 +4,10 @@ use Rattle.fkv_base.specs.declared.numbers.Key.{Key}
 use Rattle.fkv_map.specs.declared.operations.Call.{Call}
 use Rattle.fkv_map.specs.declared.operations.Call.TheVariants as call
 use Rattle.fkv_map.specs.declared.operations.Op.TheVariants as op
-use Rattle.fkv_world.specs.Past.{Answered, Called, TraceEvent, Traced}
+use Rattle.law_order.specs.Below.fkv_world.Past.{Answered, Called, TraceEvent, Traced}
 use Rattle.law_log.specs.Trace.{CallsRead, IsIn}
-use Rattle.law_refine.specs.Events.Lines.{call_lines, event_lines, lines_of}
-use Rattle.law_refine.proofs.OfCalls.UpdateLines.{answer_calls, called_below, in_either}
+use Rattle.law_order.specs.Below.law_refine.Events.Lines.{call_lines, event_lines, lines_of}
+use Rattle.law_order.proofs.Below.law_refine.OfCalls.UpdateLines.{answer_calls, called_below, in_either}
 
 -- ---- a call's line is its own
 -- the call is of a read of this key

@@ -20,7 +20,7 @@ use Rattle.fkv_runs.specs.declared.pieces.Piece.{Piece}
 use Rattle.fkv_runs.specs.declared.pieces.Piece.TheVariants.{Group, Finish, Crash, CrashAt, FailAt}
 use Rattle.fkv_runs.specs.declared.settings.Settings.{Settings}
 use Rattle.fkv_playing.specs.declared.players.Waits.{Waits}
-use Rattle.fkv_world.specs.World.{Event}
+use Rattle.law_order.specs.Below.fkv_world.World.{Event}
 use Rattle.law_order.specs.Tickets.Few.{calls_in}
 use Rattle.law_program.specs.PlayedCalls.EachLine.{EachLineGoesOn, IsFinishInLife, IsLineInLife, IsPlayedInLife, IsRefusedLine, ItsNumbersFit}
 use Rattle.law_program.specs.PlayedCalls.FewCalls.{ArmsKeepSeats, HasFewSeats, begun_in, left_in, most_of_finish}

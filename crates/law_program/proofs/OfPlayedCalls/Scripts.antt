@@ -2,16 +2,16 @@
 use Rattle.std.proofs.Common.{◌≡◌, ◌∙◌, ◌⊎◌, ◌+◌, ◌-◌, ◌^◌, ◌<◌, ◌≤◌, ℕ, zero, suc, List, [], ◌∷◌, ◌++◌, Bool, false, ap, arith, inl, inr, length, refl, sym, subst, take}
 use Rattle.std.specs.Prelude.{Option}
 use Rattle.std.proofs.lemmas.List.{append-nil, take_all}
-use Rattle.fkv_core.specs.Openings.{IsOpeningSession, IsOpeningWorld}
-use Rattle.fkv_core.specs.Worlds.{WorldModel}
-use Rattle.fkv_core.specs.declared.events.Event as events
-use Rattle.fkv_core.specs.declared.events.Told as tells
+use Rattle.law_order.specs.Below.fkv_core.Openings.{IsOpeningSession, IsOpeningWorld}
+use Rattle.law_order.specs.Below.fkv_core.Worlds.{WorldModel}
+use Rattle.law_order.specs.Below.fkv_core.Event as events
+use Rattle.law_order.specs.Below.fkv_core.TheTold as tells
 use Rattle.fkv_map.specs.Map.{Map}
 use Rattle.fkv_map.specs.declared.operations.Call.TheVariants as call
 use Rattle.fkv_map.specs.declared.operations.Op.{Op}
-use Rattle.fkv_opening.specs.Opened.{IsStoreOf}
-use Rattle.fkv_opening.specs.declared.opened_store.Opened.{Opened}
-use Rattle.law_opening.specs.Log.Maps.{opening_map}
+use Rattle.law_order.specs.Below.fkv_opening.Opened.{IsStoreOf}
+use Rattle.law_order.specs.Below.fkv_opening.TheOpened.{Opened}
+use Rattle.law_order.specs.Below.law_opening.Log.Maps.{opening_map}
 use Rattle.fkv_playing.specs.InTurn.{InTurn}
 use Rattle.fkv_playing.specs.Players.{PlayerState}
 use Rattle.fkv_playing.specs.Texts.{answer_told}
@@ -27,9 +27,9 @@ use Rattle.fkv_runs.specs.declared.pieces.Piece.{Piece}
 use Rattle.fkv_runs.specs.declared.pieces.Piece.TheVariants.{Group}
 use Rattle.fkv_runs.specs.declared.settings.Settings.{Settings}
 use Rattle.law_program.specs.WholeCalls.WholeCalls.{map_after}
-use Rattle.fkv_world.specs.Runs.{run}
-use Rattle.fkv_world.specs.World.{Calls, Event, Now}
-use Rattle.law_refine.specs.Results.Results.{NobodyCalls, in_call}
+use Rattle.law_order.specs.Below.fkv_world.Runs.{run}
+use Rattle.law_order.specs.Below.fkv_world.World.{Calls, Event, Now}
+use Rattle.law_order.specs.Below.law_refine.Results.Results.{NobodyCalls, in_call}
 use Rattle.fkv_map.specs.Fits.{OpFits}
 use Rattle.law_order.specs.Tickets.Few.{HasFewCalls, calls_in}
 use Rattle.law_program.specs.PlayedCalls.PlayedCalls.{IsLineOfSession, IsQuietLife, IsRefusedSession, LinesReplyAsMap}

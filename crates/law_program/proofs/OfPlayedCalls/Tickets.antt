@@ -5,32 +5,32 @@ use Rattle.std.proofs.lemmas.Bool.Decides.{nat_tests}
 use Rattle.fkv_base.specs.declared.numbers.Key.{Key}
 use Rattle.fkv_epoch.proofs.Shown.{none_some, some_same}
 use Rattle.fkv_map.specs.declared.operations.Call.{Call}
-use Rattle.fkv_pending.specs.declared.pending_requests.RequestName.{RequestName}
-use Rattle.fkv_pending.specs.declared.pending_requests.RequestName.TheVariants.{Read}
-use Rattle.fkv_pending.specs.declared.pending_requests.Ticket.{Ticket}
-use Rattle.fkv_session.specs.Accounts.{AreAccountedFor, left_pending, name_finished, names_finished, names_of, number_of, polled, with_pending}
-use Rattle.fkv_session.specs.SessionRun.{Telling, in_hand, telling}
-use Rattle.fkv_session.specs.Sessions.{SessionState, is_busy}
-use Rattle.fkv_session.proofs.Shown.{run_holds}
-use Rattle.fkv_session.specs.declared.answers.Finished.{Finished}
-use Rattle.fkv_session.specs.declared.answers.Told.{Told}
-use Rattle.fkv_session.specs.declared.answers.Told.TheVariants as told
-use Rattle.fkv_session.specs.declared.sessions.Sitting.TheVariants.{Idle}
-use Rattle.fkv_world.specs.Opened.{HasBecome, IsOpenedWorld, answer_to, answers_of, life_told}
-use Rattle.fkv_world.specs.OwnEvents.{session_events}
-use Rattle.fkv_world.specs.Past.{Answered, Called, TraceEvent, Traced}
-use Rattle.fkv_world.specs.Runs.{World, run}
-use Rattle.fkv_world.specs.World.{Event, seat_at}
-use Rattle.law_world.proofs.OfRuns.Nothing.{none_ever}
-use Rattle.law_world.proofs.OfSessions.OwnRun.{of_run, opened_so}
-use Rattle.law_refine.proofs.OfCalls.Life.{told_so}
+use Rattle.law_order.specs.Below.fkv_pending.RequestName.{RequestName}
+use Rattle.law_order.specs.Below.fkv_pending.RequestName.TheVariants.{Read}
+use Rattle.law_order.specs.Below.fkv_pending.Ticket.{Ticket}
+use Rattle.law_order.specs.Below.fkv_session.Accounts.{AreAccountedFor, left_pending, name_finished, names_finished, names_of, number_of, polled, with_pending}
+use Rattle.law_order.specs.Below.fkv_session.SessionRun.{Telling, in_hand, telling}
+use Rattle.law_order.specs.Below.fkv_session.Sessions.{SessionState, is_busy}
+use Rattle.law_order.proofs.Below.fkv_session.Shown.{run_holds}
+use Rattle.law_order.specs.Below.fkv_session.Finished.{Finished}
+use Rattle.law_order.specs.Below.fkv_session.Told.{Told}
+use Rattle.law_order.specs.Below.fkv_session.Told.TheVariants as told
+use Rattle.law_order.specs.Below.fkv_session.Sitting.TheVariants.{Idle}
+use Rattle.law_order.specs.Below.fkv_world.Opened.{HasBecome, IsOpenedWorld, answer_to, answers_of, life_told}
+use Rattle.law_order.specs.Below.fkv_world.OwnEvents.{session_events}
+use Rattle.law_order.specs.Below.fkv_world.Past.{Answered, Called, TraceEvent, Traced}
+use Rattle.law_order.specs.Below.fkv_world.Runs.{World, run}
+use Rattle.law_order.specs.Below.fkv_world.World.{Event, seat_at}
+use Rattle.law_order.proofs.Below.law_world.OfRuns.Nothing.{none_ever}
+use Rattle.law_order.proofs.Below.law_world.OfSessions.OwnRun.{of_run, opened_so}
+use Rattle.law_order.proofs.Below.law_refine.OfCalls.Life.{told_so}
 use Rattle.law_log.specs.Trace.{CallsRead, IsIn}
 use Rattle.law_order.specs.Reads.Reads.{is_given}
 use Rattle.law_order.proofs.OfReads.Numbers.{IsOwn, is_call_of}
 use Rattle.law_order.proofs.OfTickets.Tickets.{is_ticket}
-use Rattle.law_refine.specs.Events.Lines.{CallMade, call_lines, call_made, event_lines, gives_ticket, last_call, lines_of, number_of_call, read_waiting}
-use Rattle.law_refine.specs.Events.Lines as lines
-use Rattle.law_refine.proofs.OfCalls.UpdateLines.{called_below, in_either}
+use Rattle.law_order.specs.Below.law_refine.Events.Lines.{CallMade, call_lines, call_made, event_lines, gives_ticket, last_call, lines_of, number_of_call, read_waiting}
+use Rattle.law_order.specs.Below.law_refine.Events.Lines as lines
+use Rattle.law_order.proofs.Below.law_refine.OfCalls.UpdateLines.{called_below, in_either}
 use Rattle.law_program.specs.PlayedCalls.Waiting.{key_made, key_told}
 use Rattle.law_program.proofs.OfPlayedCalls.Polled.{trace_of_call}
 use Rattle.law_program.proofs.OfPlayedCalls.ReadCalls.{IsReadOf, called_at, called_before, reads_here}

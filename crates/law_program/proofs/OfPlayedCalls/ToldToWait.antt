@@ -3,32 +3,32 @@ use Rattle.std.proofs.Common.{◌≡◌, ◌∙◌, ℕ, zero, suc, ◌+◌, ◌
 use Rattle.std.specs.Prelude.{◌==◌, if◌then◌else◌, Some, slice_get}
 use Rattle.std.proofs.lemmas.Bool.Decides.{nat_tests}
 use Rattle.fkv_base.specs.declared.numbers.Key.{Key}
-use Rattle.fkv_core.specs.Openings.{beginning}
+use Rattle.law_order.specs.Below.fkv_core.Openings.{beginning}
 use Rattle.fkv_map.specs.declared.operations.Call.{Call}
 use Rattle.fkv_map.specs.declared.operations.Call.TheVariants as call
 use Rattle.fkv_map.specs.declared.operations.Op.TheVariants as op
-use Rattle.fkv_pending.specs.declared.pending_requests.PendingRequest.{PendingRequest}
-use Rattle.fkv_pending.specs.declared.pending_requests.RequestName.{RequestName}
-use Rattle.fkv_pending.specs.declared.pending_requests.RequestName.TheVariants.{Read, Update}
-use Rattle.fkv_pending.specs.declared.pending_requests.Ticket.{Ticket}
-use Rattle.fkv_session.specs.Accounts.{AreAccountedFor, left_pending, names_of, number_of, polled}
-use Rattle.fkv_session.specs.SessionRun.{Telling, in_hand, telling}
-use Rattle.fkv_session.specs.Sessions.{SessionState, is_busy}
-use Rattle.fkv_session.specs.declared.answers.Finished.{Finished}
-use Rattle.fkv_session.specs.declared.answers.Told.{Told}
-use Rattle.fkv_session.specs.declared.answers.Told.TheVariants as told
-use Rattle.fkv_session.specs.declared.sessions.Sitting.{Sitting}
-use Rattle.fkv_session.specs.declared.sessions.Sitting.TheVariants.{Idle}
-use Rattle.fkv_world.specs.Opened.{answers_of}
-use Rattle.fkv_world.specs.Past.{Traced}
-use Rattle.fkv_world.specs.Runs.{run}
-use Rattle.fkv_world.specs.World.{Calls, Event, Now}
+use Rattle.law_order.specs.Below.fkv_pending.PendingRequest.{PendingRequest}
+use Rattle.law_order.specs.Below.fkv_pending.RequestName.{RequestName}
+use Rattle.law_order.specs.Below.fkv_pending.RequestName.TheVariants.{Read, Update}
+use Rattle.law_order.specs.Below.fkv_pending.Ticket.{Ticket}
+use Rattle.law_order.specs.Below.fkv_session.Accounts.{AreAccountedFor, left_pending, names_of, number_of, polled}
+use Rattle.law_order.specs.Below.fkv_session.SessionRun.{Telling, in_hand, telling}
+use Rattle.law_order.specs.Below.fkv_session.Sessions.{SessionState, is_busy}
+use Rattle.law_order.specs.Below.fkv_session.Finished.{Finished}
+use Rattle.law_order.specs.Below.fkv_session.Told.{Told}
+use Rattle.law_order.specs.Below.fkv_session.Told.TheVariants as told
+use Rattle.law_order.specs.Below.fkv_session.Sitting.{Sitting}
+use Rattle.law_order.specs.Below.fkv_session.Sitting.TheVariants.{Idle}
+use Rattle.law_order.specs.Below.fkv_world.Opened.{answers_of}
+use Rattle.law_order.specs.Below.fkv_world.Past.{Traced}
+use Rattle.law_order.specs.Below.fkv_world.Runs.{run}
+use Rattle.law_order.specs.Below.fkv_world.World.{Calls, Event, Now}
 use Rattle.law_order.specs.Rules.Ordered.{effects_so_far}
 use Rattle.law_order.specs.Rules.Waiting.{HasWaiting}
 use Rattle.law_order.proofs.OfTickets.Tickets.{is_ticket}
-use Rattle.law_refine.proofs.OfResults.InCall.{result_told}
-use Rattle.law_refine.specs.Calls.Calls.{effects_in_log}
-use Rattle.law_world.proofs.OfRuns.Added.{history_so}
+use Rattle.law_order.proofs.Below.law_refine.OfResults.InCall.{result_told}
+use Rattle.law_order.specs.Below.law_refine.Calls.Calls.{effects_in_log}
+use Rattle.law_order.proofs.Below.law_world.OfRuns.Added.{history_so}
 use Rattle.law_program.specs.PlayedCalls.PlayedCalls.{called_alone}
 use Rattle.law_program.proofs.OfPlayedCalls.Polled.{IsTraced, trace_of_call}
 use Rattle.law_program.proofs.OfPlayedCalls.Tickets.{accounted}

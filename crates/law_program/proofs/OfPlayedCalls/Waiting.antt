@@ -5,33 +5,33 @@ use Rattle.std.specs.List.{find}
 use Rattle.std.proofs.lemmas.Bool.Decides.{nat_tests}
 use Rattle.std.proofs.lemmas.List.{append-nil, reverse-append}
 use Rattle.fkv_base.specs.declared.numbers.Key.{Key}
-use Rattle.fkv_core.specs.Openings.{beginning}
+use Rattle.law_order.specs.Below.fkv_core.Openings.{beginning}
 use Rattle.fkv_epoch.proofs.Shown.{item_spared, item_written, none_some, same_or, some_same}
 use Rattle.fkv_map.specs.declared.operations.Call.{Call}
 use Rattle.fkv_map.specs.declared.operations.Call.TheVariants as call
 use Rattle.fkv_map.specs.declared.operations.Op.TheVariants.{Read}
-use Rattle.fkv_pending.specs.declared.pending_requests.Ticket.{Ticket}
+use Rattle.law_order.specs.Below.fkv_pending.Ticket.{Ticket}
 use Rattle.fkv_playing.specs.Seats.{SeatState, read_of, seat_answered, seat_behind, seats_answered, waiting_behind}
-use Rattle.fkv_session.specs.Answers.{IsAnswerTold}
-use Rattle.fkv_session.specs.SessionRun.{telling}
-use Rattle.fkv_session.specs.declared.answers.Answer.{Answer}
-use Rattle.fkv_session.specs.declared.answers.Answer.TheVariants as answer
-use Rattle.fkv_session.specs.declared.answers.Finished.{Finished}
-use Rattle.fkv_session.specs.declared.answers.Told.{Told}
-use Rattle.fkv_session.specs.declared.answers.Told.TheVariants as told
+use Rattle.law_order.specs.Below.fkv_session.Answers.{IsAnswerTold}
+use Rattle.law_order.specs.Below.fkv_session.SessionRun.{telling}
+use Rattle.law_order.specs.Below.fkv_session.Answer.{Answer}
+use Rattle.law_order.specs.Below.fkv_session.Answer.TheVariants as answer
+use Rattle.law_order.specs.Below.fkv_session.Finished.{Finished}
+use Rattle.law_order.specs.Below.fkv_session.Told.{Told}
+use Rattle.law_order.specs.Below.fkv_session.Told.TheVariants as told
 use Rattle.fkv_texts.specs.Polls.{has_ticket, key_of_ticket}
 use Rattle.fkv_texts.specs.Sessions.{key_of_call}
 use Rattle.fkv_texts.specs.declared.polls.WaitingRead.{WaitingRead}
-use Rattle.fkv_world.specs.Past.{Answered, Called, TraceEvent, Traced}
-use Rattle.fkv_world.specs.Runs.{run}
-use Rattle.fkv_world.specs.World.{Calls, Event, Moves, Now}
+use Rattle.law_order.specs.Below.fkv_world.Past.{Answered, Called, TraceEvent, Traced}
+use Rattle.law_order.specs.Below.fkv_world.Runs.{run}
+use Rattle.law_order.specs.Below.fkv_world.World.{Calls, Event, Moves, Now}
 use Rattle.law_log.specs.Trace.{CallsRead, IsIn}
 use Rattle.law_order.specs.Rules.Ordered.{lines_so_far}
 use Rattle.law_order.specs.Rules.Waiting.{HasWaiting, waiting_read}
 use Rattle.law_order.proofs.OfReads.Numbers.{called_hand, other_waiting, same_number}
-use Rattle.law_refine.proofs.OfCalls.Called.{is_other}
-use Rattle.law_refine.specs.Events.GhostEvents.{serials_in}
-use Rattle.law_refine.specs.Events.Lines.{gives_ticket, last_call, lines_of, read_in_hand, read_waiting}
+use Rattle.law_order.proofs.Below.law_refine.OfCalls.Called.{is_other}
+use Rattle.law_order.specs.Below.law_refine.Events.GhostEvents.{serials_in}
+use Rattle.law_order.specs.Below.law_refine.Events.Lines.{gives_ticket, last_call, lines_of, read_in_hand, read_waiting}
 use Rattle.law_program.specs.PlayedCalls.PlayedCalls.{called_alone}
 use Rattle.law_program.specs.PlayedCalls.Waiting.{IsReadCalled, SeatsKeepKeys, StandsForKey, key_made, key_or, key_told, reader_of}
 use Rattle.law_program.proofs.OfPlayedCalls.Polled.{IsTraced, trace_of_call}

@@ -7,24 +7,24 @@ use Rattle.fkv_epoch.proofs.Shown.{some_same}
 use Rattle.fkv_map.specs.declared.operations.Call.{Call}
 use Rattle.fkv_map.specs.declared.operations.Call.TheVariants as call
 use Rattle.fkv_map.specs.declared.operations.Op.TheVariants.{Read}
-use Rattle.fkv_session.specs.declared.answers.Finished.{Finished}
-use Rattle.fkv_session.specs.declared.answers.Told.{Told}
-use Rattle.fkv_session.specs.declared.sessions.Sitting.{Sitting}
-use Rattle.fkv_session.specs.declared.sessions.Sitting.TheVariants.{Idle}
-use Rattle.fkv_session.specs.SessionRun.{telling}
-use Rattle.fkv_session.specs.Sessions.{SessionState, is_busy, sitting_ask}
-use Rattle.fkv_world.specs.Actors.{session_goes}
-use Rattle.law_world.specs.Runs.Added.{begun_by, call_answered, call_begun, ended_by, is_calling, session_answered, told_at, told_by}
-use Rattle.fkv_world.specs.Moves.{session_asks}
-use Rattle.fkv_world.specs.Past.{Answered, Called, TraceEvent, Traced}
-use Rattle.fkv_world.specs.Runs.{World, happens, run}
-use Rattle.fkv_world.specs.World.{Calls, Event, Moves, Now, near, seat_at}
-use Rattle.fkv_world.proofs.Shown.{session_own, session_written}
-use Rattle.law_world.proofs.OfRuns.Added.{trace_so}
+use Rattle.law_order.specs.Below.fkv_session.Finished.{Finished}
+use Rattle.law_order.specs.Below.fkv_session.Told.{Told}
+use Rattle.law_order.specs.Below.fkv_session.Sitting.{Sitting}
+use Rattle.law_order.specs.Below.fkv_session.Sitting.TheVariants.{Idle}
+use Rattle.law_order.specs.Below.fkv_session.SessionRun.{telling}
+use Rattle.law_order.specs.Below.fkv_session.Sessions.{SessionState, is_busy, sitting_ask}
+use Rattle.law_order.specs.Below.fkv_world.Actors.{session_goes}
+use Rattle.law_order.specs.Below.law_world.Runs.Added.{begun_by, call_answered, call_begun, ended_by, is_calling, session_answered, told_at, told_by}
+use Rattle.law_order.specs.Below.fkv_world.Moves.{session_asks}
+use Rattle.law_order.specs.Below.fkv_world.Past.{Answered, Called, TraceEvent, Traced}
+use Rattle.law_order.specs.Below.fkv_world.Runs.{World, happens, run}
+use Rattle.law_order.specs.Below.fkv_world.World.{Calls, Event, Moves, Now, near, seat_at}
+use Rattle.law_order.proofs.Below.fkv_world.Shown.{session_own, session_written}
+use Rattle.law_order.proofs.Below.law_world.OfRuns.Added.{trace_so}
 use Rattle.law_log.specs.Trace.{CallsRead, IsIn, TraceLine}
-use Rattle.law_refine.specs.Calls.Calls.{event_adds}
-use Rattle.law_refine.specs.Events.GhostEvents.{serials_in}
-use Rattle.law_refine.specs.Events.Lines.{event_lines, lines_added}
+use Rattle.law_order.specs.Below.law_refine.Calls.Calls.{event_adds}
+use Rattle.law_order.specs.Below.law_refine.Events.GhostEvents.{serials_in}
+use Rattle.law_order.specs.Below.law_refine.Events.Lines.{event_lines, lines_added}
 use Rattle.law_program.specs.PlayedCalls.PlayedCalls.{called_alone}
 use Rattle.law_program.proofs.OfWholeCalls.InLists.{in_left, in_right}
 

@@ -3,35 +3,35 @@ use Rattle.std.proofs.Common.{◌≡◌, ◌∙◌, ℕ, ◌+◌, Bool, true, fa
 use Rattle.std.specs.Prelude.{length, slice_get, Some, if◌then◌else◌, ◌==◌}
 use Rattle.std.proofs.lemmas.Bool.Decides.{nat_tests}
 use Rattle.fkv_base.specs.declared.numbers.Key.{Key}
-use Rattle.fkv_core.specs.Openings.{IsOpeningWorld, beginning}
+use Rattle.law_order.specs.Below.fkv_core.Openings.{IsOpeningWorld, beginning}
 use Rattle.fkv_epoch.proofs.Shown.{some_same}
 use Rattle.fkv_map.specs.declared.operations.Call.TheVariants as call
 use Rattle.fkv_map.specs.declared.operations.Op.{Op}
 use Rattle.fkv_map.specs.declared.operations.Op.TheVariants.{Read}
 use Rattle.fkv_map.specs.declared.operations.Reply.TheVariants as reply
-use Rattle.fkv_opening.specs.declared.opened_store.Opened.{Opened}
-use Rattle.law_opening.specs.Log.Maps.{opening_map}
-use Rattle.fkv_ops.specs.Requests.{is_read}
+use Rattle.law_order.specs.Below.fkv_opening.TheOpened.{Opened}
+use Rattle.law_order.specs.Below.law_opening.Log.Maps.{opening_map}
+use Rattle.law_order.specs.Below.fkv_ops.Requests.{is_read}
 use Rattle.law_log.specs.Trace as order
 use Rattle.law_log.specs.Trace.{AnswersRead, CallsRead, GivesResult, IsIn, TraceLine}
 use Rattle.law_order.specs.Rules.Ordered.{HasLegalHistory, OrdersItsCalls, ReadsFreshly, effects_so_far, lines_so_far}
 use Rattle.law_order.proofs.OfRules.Beginning.{world_opens}
-use Rattle.fkv_session.specs.declared.answers.Finished.{Finished}
-use Rattle.fkv_session.specs.declared.answers.Told.{Told}
-use Rattle.fkv_session.specs.declared.answers.Told.TheVariants as told
-use Rattle.fkv_session.specs.declared.sessions.Sitting.{Sitting}
-use Rattle.fkv_session.specs.declared.sessions.Sitting.TheVariants.{Idle}
-use Rattle.fkv_session.specs.SessionRun.{telling}
-use Rattle.fkv_session.specs.Sessions.{SessionState, is_busy}
-use Rattle.fkv_world.specs.Past.{Answered, Called, Effect, Traced}
-use Rattle.fkv_world.specs.Runs.{World, run}
-use Rattle.fkv_world.specs.World.{Event, Now}
-use Rattle.law_refine.specs.Calls.Calls.{effect_in_log, effects_in_log}
-use Rattle.law_refine.specs.Events.GhostEvents.{serials_in}
-use Rattle.law_refine.specs.Events.Lines.{last_call, lines_of, number_of_call}
-use Rattle.law_refine.specs.Results.Results.{IsResult, NobodyCalls, history_at, in_call}
-use Rattle.law_refine.proofs.OfResults.There.{given_at_rest}
-use Rattle.law_refine.proofs.OfResults.InCall.{result_told}
+use Rattle.law_order.specs.Below.fkv_session.Finished.{Finished}
+use Rattle.law_order.specs.Below.fkv_session.Told.{Told}
+use Rattle.law_order.specs.Below.fkv_session.Told.TheVariants as told
+use Rattle.law_order.specs.Below.fkv_session.Sitting.{Sitting}
+use Rattle.law_order.specs.Below.fkv_session.Sitting.TheVariants.{Idle}
+use Rattle.law_order.specs.Below.fkv_session.SessionRun.{telling}
+use Rattle.law_order.specs.Below.fkv_session.Sessions.{SessionState, is_busy}
+use Rattle.law_order.specs.Below.fkv_world.Past.{Answered, Called, Effect, Traced}
+use Rattle.law_order.specs.Below.fkv_world.Runs.{World, run}
+use Rattle.law_order.specs.Below.fkv_world.World.{Event, Now}
+use Rattle.law_order.specs.Below.law_refine.Calls.Calls.{effect_in_log, effects_in_log}
+use Rattle.law_order.specs.Below.law_refine.Events.GhostEvents.{serials_in}
+use Rattle.law_order.specs.Below.law_refine.Events.Lines.{last_call, lines_of, number_of_call}
+use Rattle.law_order.specs.Below.law_refine.Results.Results.{IsResult, NobodyCalls, history_at, in_call}
+use Rattle.law_order.proofs.Below.law_refine.OfResults.There.{given_at_rest}
+use Rattle.law_order.proofs.Below.law_refine.OfResults.InCall.{result_told}
 use Rattle.law_program.specs.WholeCalls.WholeCalls.{AreGivenSoFar, HasHappenedAlone, HasReadAlone, IsAnsweredByMap, TellsAlone, TellsRead}
 use Rattle.law_program.proofs.OfWholeCalls.CallTold.{TraceAt, in_call_told}
 use Rattle.law_program.proofs.OfWholeCalls.Whole.{answered_alone}

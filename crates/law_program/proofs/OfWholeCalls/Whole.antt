@@ -7,8 +7,8 @@ use Rattle.fkv_map.specs.declared.operations.Op.TheVariants.{Read}
 use Rattle.fkv_map.specs.declared.operations.Reply.{Reply}
 use Rattle.fkv_map.specs.declared.operations.Reply.TheVariants as reply
 use Rattle.law_log.specs.Trace.{Effect, OrdersCalls, ReadsAreFresh, TraceLine, history_of}
-use Rattle.fkv_session.specs.declared.answers.Told.{Told}
-use Rattle.fkv_session.specs.declared.answers.Told.TheVariants as told
+use Rattle.law_order.specs.Below.fkv_session.Told.{Told}
+use Rattle.law_order.specs.Below.fkv_session.Told.TheVariants as told
 use Rattle.law_program.specs.WholeCalls.WholeCalls.{AreAllGiven, HasHappenedAlone, HasReadAlone, IsMapsReply, LeavesMap, TellsAlone, TellsRead}
 use Rattle.law_program.proofs.OfWholeCalls.Fresh.{fresh_alone}
 use Rattle.law_program.proofs.OfWholeCalls.Updated.{update_alone}

@@ -2,10 +2,10 @@
 use Rattle.std.specs.Prelude.{◌≡◌, ⊤, ℕ, Bool, true, false, List, [], ◌∷◌, ◌++◌}
 use Rattle.fkv_base.specs.declared.faults.Fault.TheVariants.{Device}
 use Rattle.fkv_base.specs.declared.shapes.Shape.{Shape}
-use Rattle.fkv_creating.specs.Created.{IsCreated}
+use Rattle.law_order.specs.Below.fkv_creating.Created.{IsCreated}
 use Rattle.fkv_map.specs.History.{content}
-use Rattle.fkv_opening.specs.Opened.{IsStoreOf}
-use Rattle.fkv_opening.specs.declared.opened_store.Opened.{Opened}
+use Rattle.law_order.specs.Below.fkv_opening.Opened.{IsStoreOf}
+use Rattle.law_order.specs.Below.fkv_opening.TheOpened.{Opened}
 use Rattle.fkv_playing.specs.InTurn.{InTurn}
 use Rattle.fkv_playing.specs.Players.{PlayerState}
 use Rattle.fkv_playing.specs.declared.players.Waits.{Waits}
@@ -15,8 +15,8 @@ use Rattle.fkv_runs.specs.declared.pieces.Piece.{Piece}
 use Rattle.fkv_runs.specs.declared.pieces.Piece.TheVariants.{Group, Finish, Crash}
 use Rattle.fkv_runs.specs.declared.settings.Settings.{Settings}
 use Rattle.fkv_texts.specs.Refusals.{last_refusal}
-use Rattle.fkv_world.specs.World.{Event, Now}
-use Rattle.law_opening.specs.Log.Records as records
+use Rattle.law_order.specs.Below.fkv_world.World.{Event, Now}
+use Rattle.law_order.specs.Below.law_opening.Log.Records as records
 use Rattle.law_order.specs.OneHistory.EachLife.{Life}
 use Rattle.law_order.specs.Prefix.Law.{AreLives, BeginsBehind, BeginsWithKept, first_of, kept_of_all, map_of}
 use Rattle.law_order.specs.Tickets.Few.{HasFewCalls}

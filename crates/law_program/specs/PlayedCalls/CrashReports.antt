@@ -4,18 +4,18 @@ use Rattle.fkv_base.specs.declared.faults.Fault.TheVariants.{Device}
 use Rattle.fkv_base.specs.declared.numbers.Key.{Key}
 use Rattle.fkv_base.specs.declared.numbers.Value.{Value}
 use Rattle.fkv_map.specs.History.{content}
-use Rattle.fkv_opening.specs.declared.opened_store.Opened.{Opened}
+use Rattle.law_order.specs.Below.fkv_opening.TheOpened.{Opened}
 use Rattle.fkv_playing.specs.Players.{PlayerState}
 use Rattle.fkv_runs.specs.Crashes.{crash_text}
 use Rattle.fkv_runs.specs.Openings.{Medium}
 use Rattle.fkv_runs.specs.Runs.{IsCrashed, RunState}
 use Rattle.fkv_runs.specs.declared.settings.Settings.{Settings}
 use Rattle.fkv_texts.specs.Refusals.{last_refusal}
-use Rattle.fkv_world.specs.World.{Event, Now}
-use Rattle.law_commit.specs.BegunCommits.{BegunCommit}
-use Rattle.law_opening.specs.Log.Maps.{opening_map}
-use Rattle.law_opening.specs.Log.Records.{map_of}
-use Rattle.law_opening.specs.Lives.Reaching.{ReachesFar}
+use Rattle.law_order.specs.Below.fkv_world.World.{Event, Now}
+use Rattle.law_order.specs.Below.law_commit.BegunCommits.{BegunCommit}
+use Rattle.law_order.specs.Below.law_opening.Log.Maps.{opening_map}
+use Rattle.law_order.specs.Below.law_opening.Log.Records.{map_of}
+use Rattle.law_order.specs.Below.law_opening.Lives.Reaching.{ReachesFar}
 use Rattle.law_order.specs.Prefix.Law.{IsCurrent, IsKeptOf, kept_so_far, past_so_far}
 use Rattle.law_order.specs.Tickets.Few.{HasFewCalls}
 use Rattle.law_program.specs.PlayedCalls.EachLine.{IsLifeOver}

@@ -1,14 +1,14 @@
 -- Each line of a call, and each finish, over a device that is honest: a life goes on by it, and shows the device with the world.
 use Rattle.std.specs.Prelude.{◌≡◌, ◌⊎◌, ◌+◌, ◌-◌, ◌^◌, ◌<◌, ⊤, ℕ, Bool, true, false, List, [], ◌∷◌, ◌++◌, length, take, Option}
-use Rattle.fkv_core.specs.Openings.{beginning}
-use Rattle.fkv_core.specs.Worlds.{WorldModel}
-use Rattle.fkv_core.specs.declared.events.Event as events
-use Rattle.fkv_core.specs.declared.events.Told as tells
-use Rattle.fkv_core.specs.declared.events.Told.TheVariants as told
+use Rattle.law_order.specs.Below.fkv_core.Openings.{beginning}
+use Rattle.law_order.specs.Below.fkv_core.Worlds.{WorldModel}
+use Rattle.law_order.specs.Below.fkv_core.Event as events
+use Rattle.law_order.specs.Below.fkv_core.TheTold as tells
+use Rattle.law_order.specs.Below.fkv_core.TheTold.TheVariants as told
 use Rattle.fkv_disk.specs.Device.{IsAfter}
 use Rattle.fkv_map.specs.declared.operations.Call.TheVariants as call
 use Rattle.fkv_map.specs.declared.operations.Op.{Op}
-use Rattle.fkv_opening.specs.declared.opened_store.Opened.{Opened}
+use Rattle.law_order.specs.Below.fkv_opening.TheOpened.{Opened}
 use Rattle.fkv_playing.specs.Beats.{asked_of}
 use Rattle.fkv_playing.specs.Finishes.{IsFinish, most_rounds, round_of, rounds}
 use Rattle.fkv_playing.specs.Groups.{IsGroup, is_struck_by}
@@ -21,13 +21,13 @@ use Rattle.fkv_playing.specs.declared.calls.ActorCall.TheVariants.{Session, Comm
 use Rattle.fkv_playing.specs.declared.calls.Outcome.{Outcome}
 use Rattle.fkv_playing.specs.declared.calls.Telling.{Telling}
 use Rattle.fkv_playing.specs.declared.calls.Telling.TheVariants.{Finished, Whole}
-use Rattle.fkv_session.specs.Answers.{IsAnswerTold}
-use Rattle.fkv_session.specs.declared.answers.Answer.{Answer}
-use Rattle.fkv_session.specs.declared.answers.Finished as finishes
-use Rattle.fkv_session.specs.declared.answers.Told.{Told}
+use Rattle.law_order.specs.Below.fkv_session.Answers.{IsAnswerTold}
+use Rattle.law_order.specs.Below.fkv_session.Answer.{Answer}
+use Rattle.law_order.specs.Below.fkv_session.Finished as finishes
+use Rattle.law_order.specs.Below.fkv_session.Told.{Told}
 use Rattle.fkv_texts.specs.Keeper.{not_finished, nothing_to_finish}
-use Rattle.fkv_world.specs.Runs.{run}
-use Rattle.fkv_world.specs.World.{Calls, Commits, Event, KeeperMoves, Moves, Now, Turns}
+use Rattle.law_order.specs.Below.fkv_world.Runs.{run}
+use Rattle.law_order.specs.Below.fkv_world.World.{Calls, Commits, Event, KeeperMoves, Moves, Now, Turns}
 use Rattle.law_order.specs.Served.Fits.{CallFits}
 use Rattle.law_order.specs.Tickets.Few.{HasFewCalls, calls_in}
 use Rattle.law_program.specs.PlayedCalls.Finished.{IsCallAnswered}
@@ -35,7 +35,7 @@ use Rattle.law_program.specs.PlayedCalls.FinishedCommits.{FinishesWhatIsTold}
 use Rattle.law_program.specs.PlayedCalls.PlayedCalls.{IsQuietLife, IsRefusedSession, IsToldTo}
 use Rattle.law_program.specs.PlayedCalls.Waiting.{SeatsKeepKeys}
 use Rattle.law_program.specs.WholeCalls.WholeCalls.{IsAnsweredByMap, map_after}
-use Rattle.law_refine.specs.Results.Results.{NobodyCalls}
+use Rattle.law_order.specs.Below.law_refine.Results.Results.{NobodyCalls}
 
 -- ---- a call that is alone, in a life
 -- the event by which a call begins

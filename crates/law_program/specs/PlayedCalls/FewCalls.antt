@@ -7,7 +7,7 @@ use Rattle.fkv_playing.specs.Queues.{QueueState}
 use Rattle.fkv_playing.specs.declared.players.Waits.{Waits}
 use Rattle.fkv_runs.specs.declared.pieces.Piece.{Piece}
 use Rattle.fkv_runs.specs.declared.pieces.Piece.TheVariants.{Group, Finish}
-use Rattle.fkv_world.specs.World.{Event}
+use Rattle.law_order.specs.Below.fkv_world.World.{Event}
 use Rattle.law_order.specs.Tickets.Few.{calls_in}
 
 -- so many calls are left to begin, beside those that are in hand

@@ -1,19 +1,19 @@
 -- What a poll has finished, by the history.
 use Rattle.std.specs.Prelude.{◌≡◌, ℕ, List, ◌∷◌, ◌++◌, Some, slice_get}
 use Rattle.fkv_base.specs.declared.numbers.Serial.{Serial}
-use Rattle.fkv_core.specs.declared.events.Told as tells
-use Rattle.fkv_core.specs.declared.events.Told.TheVariants as told
+use Rattle.law_order.specs.Below.fkv_core.TheTold as tells
+use Rattle.law_order.specs.Below.fkv_core.TheTold.TheVariants as told
 use Rattle.fkv_map.specs.History.{content}
 use Rattle.fkv_map.specs.Map.{reply_to}
 use Rattle.fkv_map.specs.declared.operations.Reply.{Reply}
-use Rattle.fkv_opening.specs.declared.opened_store.Opened.{Opened}
+use Rattle.law_order.specs.Below.fkv_opening.TheOpened.{Opened}
 use Rattle.fkv_playing.specs.Seats.{SeatState}
-use Rattle.fkv_session.specs.declared.answers.Answer.{Answer}
-use Rattle.fkv_session.specs.declared.answers.Finished.TheVariants as finished
+use Rattle.law_order.specs.Below.fkv_session.Answer.{Answer}
+use Rattle.law_order.specs.Below.fkv_session.Finished.TheVariants as finished
 use Rattle.fkv_texts.specs.Sessions.{finished_by}
-use Rattle.fkv_world.specs.World.{Event, Now}
+use Rattle.law_order.specs.Below.fkv_world.World.{Event, Now}
 use Rattle.law_log.specs.Trace.{Effect, IsIn, called_as, history_of}
-use Rattle.law_opening.specs.Log.Maps.{opening_map}
+use Rattle.law_order.specs.Below.law_opening.Log.Maps.{opening_map}
 use Rattle.law_order.specs.Rules.Ordered.{effects_so_far, lines_so_far}
 use Rattle.law_program.specs.PlayedCalls.Waiting.{AreReadAtCalls}
 

@@ -1,10 +1,10 @@
 -- What the keeper tells of commits that have finished.
 use Rattle.std.specs.Prelude.{◌≡◌, ℕ, List, ◌∷◌, Option, None, Some, Ok}
-use Rattle.fkv_core.specs.declared.events.Told.{Told}
-use Rattle.fkv_core.specs.declared.events.Told.TheVariants.{Turn}
-use Rattle.fkv_keeper.specs.declared.answers.Finished.{Finished}
-use Rattle.fkv_world.specs.World.{Event, Now}
-use Rattle.law_commit.specs.FinishedCommits.{ToldCommit, commits_finished}
+use Rattle.law_order.specs.Below.fkv_core.TheTold.{Told}
+use Rattle.law_order.specs.Below.fkv_core.TheTold.TheVariants.{Turn}
+use Rattle.law_order.specs.Below.fkv_keeper.Finished.{Finished}
+use Rattle.law_order.specs.Below.fkv_world.World.{Event, Now}
+use Rattle.law_order.specs.Below.law_commit.FinishedCommits.{ToldCommit, commits_finished}
 use Rattle.law_order.specs.Prefix.Law.{past_so_far}
 
 -- the commits that have finished in a life so far, each by its number and its points, the newest first

@@ -6,14 +6,14 @@ use Rattle.fkv_disk.specs.Fuse.{FuseLeaves}
 use Rattle.fkv_disk.specs.Fuses.{fuse_device, fuse_state}
 use Rattle.fkv_disk.specs.declared.fuses.Fuse.{Fuse}
 use Rattle.fkv_map.specs.declared.history.HistoryEntry.{HistoryEntry}
-use Rattle.fkv_opening.specs.Opened.{IsStoreOf}
-use Rattle.fkv_opening.specs.declared.opened_store.Opened.{Opened}
+use Rattle.law_order.specs.Below.fkv_opening.Opened.{IsStoreOf}
+use Rattle.law_order.specs.Below.fkv_opening.TheOpened.{Opened}
 use Rattle.fkv_playing.specs.Players.{IsArmed, PlayerState}
 use Rattle.fkv_playing.specs.declared.players.Waits.{Waits}
 use Rattle.fkv_runs.specs.Crashes.{IsCrash, crash_text}
 use Rattle.fkv_runs.specs.Openings.{Begins}
-use Rattle.fkv_world.specs.World.{Event, Now}
-use Rattle.law_opening.specs.Log.Records.{map_of}
+use Rattle.law_order.specs.Below.fkv_world.World.{Event, Now}
+use Rattle.law_order.specs.Below.law_opening.Log.Records.{map_of}
 use Rattle.law_program.specs.PlayedCalls.EachLine.{IsLifeOver}
 use Rattle.law_program.specs.WholeCalls.WholeCalls.{map_after}
 

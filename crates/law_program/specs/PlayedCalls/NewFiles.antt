@@ -2,19 +2,19 @@
 use Rattle.std.specs.Prelude.{◌-◌, ◌^◌, ◌<◌, ℕ, Bool, List, [], length, Option}
 use Rattle.std.specs.FinMap.{empty}
 use Rattle.fkv_base.specs.declared.shapes.Shape.{Shape}
-use Rattle.fkv_core.specs.Openings.{IsOpeningWorld}
-use Rattle.fkv_core.specs.Worlds.{WorldModel}
-use Rattle.fkv_core.specs.declared.events.Event as events
-use Rattle.fkv_core.specs.declared.events.Told as tells
-use Rattle.fkv_creating.specs.Created.{IsCreated, IsNewStore}
+use Rattle.law_order.specs.Below.fkv_core.Openings.{IsOpeningWorld}
+use Rattle.law_order.specs.Below.fkv_core.Worlds.{WorldModel}
+use Rattle.law_order.specs.Below.fkv_core.Event as events
+use Rattle.law_order.specs.Below.fkv_core.TheTold as tells
+use Rattle.law_order.specs.Below.fkv_creating.Created.{IsCreated, IsNewStore}
 use Rattle.fkv_map.specs.declared.history.HistoryEntry.{HistoryEntry}
-use Rattle.fkv_opening.specs.declared.opened_store.Opened.{Opened}
+use Rattle.law_order.specs.Below.fkv_opening.TheOpened.{Opened}
 use Rattle.fkv_playing.specs.Players.{PlayerState}
 use Rattle.fkv_runs.specs.Files.{IsRunOfLife}
 use Rattle.fkv_runs.specs.Openings.{Begins}
 use Rattle.fkv_runs.specs.declared.pieces.Piece.{Piece}
-use Rattle.fkv_world.specs.World.{Now}
-use Rattle.law_refine.specs.Results.Results.{NobodyCalls}
+use Rattle.law_order.specs.Below.fkv_world.World.{Now}
+use Rattle.law_order.specs.Below.law_refine.Results.Results.{NobodyCalls}
 use Rattle.law_program.specs.PlayedCalls.PlayedCalls.{IsQuietLife}
 use Rattle.law_program.specs.PlayedCalls.Scripts.{ArePiecesOf, EachFits, IsPlayOfMap, SessionOp}
 

@@ -1,11 +1,11 @@
 -- What a player notes of the lives of a run, if it keeps their history: each update as it takes effect.
 use Rattle.std.specs.Prelude.{◌≡◌, ◌≢◌, ⊤, ℕ, Bool, true, List, [], ◌∷◌, ◌++◌, length, Option, Some, None, slice_get, false}
 use Rattle.std.specs.FinMap.{empty}
-use Rattle.fkv_core.specs.Worlds.{WorldModel}
-use Rattle.fkv_core.specs.declared.events.Event as events
-use Rattle.fkv_core.specs.declared.events.Told as tells
+use Rattle.law_order.specs.Below.fkv_core.Worlds.{WorldModel}
+use Rattle.law_order.specs.Below.fkv_core.Event as events
+use Rattle.law_order.specs.Below.fkv_core.TheTold as tells
 use Rattle.fkv_map.specs.declared.history.HistoryEntry.{HistoryEntry}
-use Rattle.fkv_opening.specs.declared.opened_store.Opened.{Opened}
+use Rattle.law_order.specs.Below.fkv_opening.TheOpened.{Opened}
 use Rattle.fkv_playing.specs.Finishes.{IsFinish, most_rounds, round_of, rounds}
 use Rattle.fkv_playing.specs.Groups.{IsGroup}
 use Rattle.fkv_playing.specs.Players.{PlayerState}
@@ -13,7 +13,7 @@ use Rattle.fkv_playing.specs.Queues.{AreQueuesOf, QueueState, rank_of}
 use Rattle.fkv_playing.specs.declared.calls.ActorCall.{ActorCall}
 use Rattle.fkv_playing.specs.declared.calls.Outcome.{Outcome}
 use Rattle.fkv_playing.specs.declared.players.Waits.{Waits}
-use Rattle.fkv_world.specs.World.{Event, Now}
+use Rattle.law_order.specs.Below.fkv_world.World.{Event, Now}
 use Rattle.law_order.specs.OneHistory.EachLife.{Life}
 use Rattle.law_order.specs.Prefix.Law.{first_of, history_so_far, kept_of_all, map_of, points_of}
 use Rattle.law_program.specs.PlayedCalls.FewCalls.{left_in}

@@ -1,17 +1,17 @@
 -- Played calls: what an operation prints that is played alone, by the map that the store shows before it.
 use Rattle.std.specs.Prelude.{◌≡◌, ◌⊎◌, ℕ, Bool, false, List, [], ◌∷◌, Option, Some, slice_get, ◌++◌, replicate, true, ⊤}
 use Rattle.fkv_base.specs.declared.faults.Fault.TheVariants.{NoSession}
-use Rattle.fkv_core.specs.Openings.{IsOpeningWorld, beginning}
-use Rattle.fkv_core.specs.Worlds.{WorldModel}
-use Rattle.fkv_core.specs.declared.events.Event as events
-use Rattle.fkv_core.specs.declared.events.Told as tells
-use Rattle.fkv_core.specs.declared.events.Told.TheVariants as told
+use Rattle.law_order.specs.Below.fkv_core.Openings.{IsOpeningWorld, beginning}
+use Rattle.law_order.specs.Below.fkv_core.Worlds.{WorldModel}
+use Rattle.law_order.specs.Below.fkv_core.Event as events
+use Rattle.law_order.specs.Below.fkv_core.TheTold as tells
+use Rattle.law_order.specs.Below.fkv_core.TheTold.TheVariants as told
 use Rattle.fkv_map.specs.declared.operations.Call.{Call}
 use Rattle.fkv_map.specs.declared.operations.Call.TheVariants as call
 use Rattle.fkv_map.specs.declared.operations.Op.{Op}
-use Rattle.fkv_opening.specs.Opened.{IsStoreOf}
-use Rattle.fkv_opening.specs.declared.opened_store.Opened.{Opened}
-use Rattle.fkv_ops.specs.Requests.{is_read}
+use Rattle.law_order.specs.Below.fkv_opening.Opened.{IsStoreOf}
+use Rattle.law_order.specs.Below.fkv_opening.TheOpened.{Opened}
+use Rattle.law_order.specs.Below.fkv_ops.Requests.{is_read}
 use Rattle.fkv_playing.specs.Finishes.{IsPlayedAlone}
 use Rattle.fkv_playing.specs.Groups.{IsGroup}
 use Rattle.fkv_playing.specs.Players.{PlayerState}
@@ -22,16 +22,16 @@ use Rattle.fkv_playing.specs.declared.calls.ActorCall.TheVariants.{Session}
 use Rattle.fkv_playing.specs.declared.calls.Outcome.TheVariants.{Answered}
 use Rattle.fkv_playing.specs.declared.calls.Telling.{Telling}
 use Rattle.fkv_playing.specs.declared.calls.Telling.TheVariants.{Whole}
-use Rattle.fkv_session.specs.Answers.{IsAnswerTold}
-use Rattle.fkv_session.specs.declared.answers.Answer.{Answer}
-use Rattle.fkv_session.specs.declared.answers.Finished.{Finished}
-use Rattle.fkv_session.specs.declared.answers.Told.{Told}
-use Rattle.fkv_session.specs.declared.answers.Told.TheVariants as tellings
+use Rattle.law_order.specs.Below.fkv_session.Answers.{IsAnswerTold}
+use Rattle.law_order.specs.Below.fkv_session.Answer.{Answer}
+use Rattle.law_order.specs.Below.fkv_session.Finished.{Finished}
+use Rattle.law_order.specs.Below.fkv_session.Told.{Told}
+use Rattle.law_order.specs.Below.fkv_session.Told.TheVariants as tellings
 use Rattle.fkv_texts.specs.Refusals.{session_refusal}
 use Rattle.law_program.specs.WholeCalls.WholeCalls.{IsAnsweredByMap}
-use Rattle.fkv_world.specs.Runs.{run}
-use Rattle.fkv_world.specs.World.{Calls, Event, Moves, Now}
-use Rattle.law_refine.specs.Results.Results.{NobodyCalls, in_call}
+use Rattle.law_order.specs.Below.fkv_world.Runs.{run}
+use Rattle.law_order.specs.Below.fkv_world.World.{Calls, Event, Moves, Now}
+use Rattle.law_order.specs.Below.law_refine.Results.Results.{NobodyCalls, in_call}
 use Rattle.fkv_map.specs.Fits.{OpFits}
 use Rattle.law_order.specs.Served.Fits.{CallFits, CallsFit}
 use Rattle.law_order.specs.Tickets.Few.{HasFewCalls}

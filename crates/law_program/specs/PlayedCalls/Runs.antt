@@ -1,6 +1,6 @@
 -- Runs of a store in memory whose calls aren't interleaved: piece by piece, in the life in hand, or behind a crash in the next one.
 use Rattle.std.specs.Prelude.{◌≡◌, ◌⊎◌, ⊤, ℕ, Bool, true, false, List, [], ◌∷◌, ◌++◌}
-use Rattle.fkv_opening.specs.declared.opened_store.Opened.{Opened}
+use Rattle.law_order.specs.Below.fkv_opening.TheOpened.{Opened}
 use Rattle.fkv_playing.specs.InTurn.{InTurn}
 use Rattle.fkv_playing.specs.Players.{PlayerState}
 use Rattle.fkv_playing.specs.declared.calls.ActorCall.{ActorCall}
@@ -12,7 +12,7 @@ use Rattle.fkv_runs.specs.Runs.{IsCrashed, IsPiece, RunState}
 use Rattle.fkv_runs.specs.declared.pieces.Piece.{Piece}
 use Rattle.fkv_runs.specs.declared.pieces.Piece.TheVariants.{Group, Finish}
 use Rattle.fkv_runs.specs.declared.settings.Settings.{Settings}
-use Rattle.fkv_world.specs.World.{Event, Now}
+use Rattle.law_order.specs.Below.fkv_world.World.{Event, Now}
 use Rattle.law_program.specs.PlayedCalls.EachLine.{IsFinishCutShort, IsFinishInLife, IsLifeOver, IsPlayedInLife, IsRefusedLine, ItsNumbersFit}
 use Rattle.law_program.specs.PlayedCalls.FewCalls.{HasFewSeats, HasFewWith}
 use Rattle.law_program.specs.PlayedCalls.Interleaved.{IsLifeShown}

@@ -2,28 +2,28 @@
 use Rattle.std.specs.Prelude.{◌≡◌, ◌<◌, ℕ, List, [], ◌∷◌, ◌++◌, length, if◌then◌else◌, Option, None, Some, slice_get}
 use Rattle.fkv_base.specs.declared.numbers.Key.{Key}
 use Rattle.fkv_base.specs.declared.numbers.Value.{Value}
-use Rattle.fkv_core.specs.Openings.{beginning}
+use Rattle.law_order.specs.Below.fkv_core.Openings.{beginning}
 use Rattle.fkv_map.specs.Map.{reply_to}
 use Rattle.fkv_map.specs.declared.operations.Call.TheVariants as call
 use Rattle.fkv_map.specs.declared.operations.Op.TheVariants.{Read}
-use Rattle.fkv_opening.specs.declared.opened_store.Opened.{Opened}
-use Rattle.fkv_pending.specs.declared.pending_requests.Ticket.{Ticket}
+use Rattle.law_order.specs.Below.fkv_opening.TheOpened.{Opened}
+use Rattle.law_order.specs.Below.fkv_pending.Ticket.{Ticket}
 use Rattle.fkv_playing.specs.Seats.{SeatState}
-use Rattle.fkv_session.specs.declared.answers.Answer.{Answer}
-use Rattle.fkv_session.specs.declared.answers.Finished.TheVariants as finished
+use Rattle.law_order.specs.Below.fkv_session.Answer.{Answer}
+use Rattle.law_order.specs.Below.fkv_session.Finished.TheVariants as finished
 use Rattle.fkv_texts.specs.Polls.{key_of_ticket}
 use Rattle.fkv_texts.specs.Sessions.{finished_by, key_of_call}
 use Rattle.fkv_texts.specs.declared.polls.WaitingRead.{WaitingRead}
-use Rattle.fkv_world.specs.Past.{Traced}
-use Rattle.fkv_world.specs.Runs.{run}
-use Rattle.fkv_world.specs.World.{Calls, Event, Now}
+use Rattle.law_order.specs.Below.fkv_world.Past.{Traced}
+use Rattle.law_order.specs.Below.fkv_world.Runs.{run}
+use Rattle.law_order.specs.Below.fkv_world.World.{Calls, Event, Now}
 use Rattle.law_log.specs.Trace.{CallsRead, IsIn}
 use Rattle.law_order.specs.Rules.Ordered.{effects_so_far, lines_so_far}
 use Rattle.law_order.specs.Rules.Waiting.{HasWaiting, waiting_read}
 use Rattle.law_program.specs.PlayedCalls.PlayedCalls.{called_alone}
 use Rattle.law_program.specs.WholeCalls.WholeCalls.{map_after}
-use Rattle.law_refine.specs.Calls.Calls.{event_adds}
-use Rattle.law_refine.specs.Events.Lines.{CallMade, gives_ticket, last_call, read_reply, read_waiting}
+use Rattle.law_order.specs.Below.law_refine.Calls.Calls.{event_adds}
+use Rattle.law_order.specs.Below.law_refine.Events.Lines.{CallMade, gives_ticket, last_call, read_reply, read_waiting}
 
 -- The session called a read of this key in the life, and nobody else did anything until it was told this ticket. The read has this number. Nothing took effect
 -- in its call, and behind that it waits.

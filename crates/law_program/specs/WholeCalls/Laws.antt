@@ -1,15 +1,15 @@
 -- What the laws of `whole_calls` say.
 use Rattle.std.specs.Prelude.{◌≡◌, ℕ, List, Some, false, slice_get}
-use Rattle.fkv_core.specs.Openings.{IsOpeningWorld, beginning}
+use Rattle.law_order.specs.Below.fkv_core.Openings.{IsOpeningWorld, beginning}
 use Rattle.fkv_map.specs.declared.operations.Op.{Op}
-use Rattle.fkv_opening.specs.declared.opened_store.Opened.{Opened}
+use Rattle.law_order.specs.Below.fkv_opening.TheOpened.{Opened}
 use Rattle.law_order.specs.Rules.Ordered.{HasLegalHistory, OrdersItsCalls, ReadsFreshly}
-use Rattle.fkv_session.specs.declared.answers.Told.{Told}
-use Rattle.fkv_session.specs.declared.sessions.Sitting.TheVariants.{Idle}
-use Rattle.fkv_session.specs.Sessions.{SessionState}
-use Rattle.fkv_world.specs.Runs.{run}
-use Rattle.fkv_world.specs.World.{Event, Now}
-use Rattle.law_refine.specs.Results.Results.{NobodyCalls, in_call}
+use Rattle.law_order.specs.Below.fkv_session.Told.{Told}
+use Rattle.law_order.specs.Below.fkv_session.Sitting.TheVariants.{Idle}
+use Rattle.law_order.specs.Below.fkv_session.Sessions.{SessionState}
+use Rattle.law_order.specs.Below.fkv_world.Runs.{run}
+use Rattle.law_order.specs.Below.fkv_world.World.{Event, Now}
+use Rattle.law_order.specs.Below.law_refine.Results.Results.{NobodyCalls, in_call}
 use Rattle.law_program.specs.WholeCalls.WholeCalls.{AreGivenSoFar, HappensAlone, IsAnsweredByMap, IsToldAlone}
 
 -- what happens alone is answered by the map

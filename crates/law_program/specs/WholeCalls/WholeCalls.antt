@@ -7,13 +7,13 @@ use Rattle.fkv_map.specs.declared.operations.Op.{Op}
 use Rattle.fkv_map.specs.declared.operations.Op.TheVariants.{Read}
 use Rattle.fkv_map.specs.declared.operations.Reply.{Reply}
 use Rattle.fkv_map.specs.declared.operations.Reply.TheVariants as reply
-use Rattle.fkv_opening.specs.declared.opened_store.Opened.{Opened}
-use Rattle.law_opening.specs.Log.Maps.{opening_map}
+use Rattle.law_order.specs.Below.fkv_opening.TheOpened.{Opened}
+use Rattle.law_order.specs.Below.law_opening.Log.Maps.{opening_map}
 use Rattle.law_log.specs.Trace.{AnswersRead, CallsRead, Effect, GivesResult, IsIn, TraceLine, history_of}
 use Rattle.law_order.specs.Rules.Ordered.{effects_so_far, lines_so_far}
-use Rattle.fkv_session.specs.declared.answers.Told.{Told}
-use Rattle.fkv_session.specs.declared.answers.Told.TheVariants as told
-use Rattle.fkv_world.specs.World.{Event, Now}
+use Rattle.law_order.specs.Below.fkv_session.Told.{Told}
+use Rattle.law_order.specs.Below.fkv_session.Told.TheVariants as told
+use Rattle.law_order.specs.Below.fkv_world.World.{Event, Now}
 
 -- the map that a store shows after these events of a life: its own after the history so far
 abbrev pub map_after : Opened → Now → List ℕ → List Event → Map

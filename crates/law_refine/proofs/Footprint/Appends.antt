@@ -12,25 +12,25 @@ use Rattle.fkv_index.specs.declared.publishing.PublishAnswer.TheVariants as publ
 use Rattle.fkv_index.specs.declared.publishing.Publishing.{Publishing}
 use Rattle.fkv_index.specs.declared.publishing.Publishing.TheVariants as publishing
 use Rattle.fkv_index.specs.Publishing.{publish_ask, publish_next, publish_next_ask}
-use Rattle.fkv_log.specs.declared.filling.Filling.{Filling}
-use Rattle.fkv_log.specs.declared.filling.Filling.TheVariants as fill
-use Rattle.fkv_log.specs.declared.invalidating.Invalidating.{Invalidating}
-use Rattle.fkv_log.specs.declared.invalidating.Invalidating.TheVariants as invalidate
-use Rattle.fkv_log.specs.declared.record_words.RecordWords.{RecordWords}
-use Rattle.fkv_log.specs.declared.reserving.ReserveAnswer.{ReserveAnswer}
-use Rattle.fkv_log.specs.declared.reserving.ReserveAnswer.TheVariants as reserve
-use Rattle.fkv_log.specs.declared.reserving.Reserving.{Reserving}
-use Rattle.fkv_log.specs.declared.reserving.Reserving.TheVariants as reserving
-use Rattle.fkv_log.specs.Filling.{fill_begun, fill_ask, fill_next}
-use Rattle.fkv_log.specs.Invalidating.{invalidate_ask, invalidate_next}
-use Rattle.fkv_log.specs.Reserving.{reserve_ask, reserve_next, reserve_next_ask}
-use Rattle.fkv_ops.specs.declared.appending.AppendAnswer.{AppendAnswer}
-use Rattle.fkv_ops.specs.declared.appending.AppendAnswer.TheVariants as answer
-use Rattle.fkv_ops.specs.declared.appending.Appending.{Appending}
-use Rattle.fkv_ops.specs.declared.appending.Appending.TheVariants.{Ended, Reserves, Fills, Publishes, Invalidates}
-use Rattle.fkv_ops.specs.declared.appending.FoundSlot.{FoundSlot}
-use Rattle.fkv_ops.specs.Appending.{AppendState, append_begun, appending_ask, append_ask, append_ended, addr_reserved, reserve_ledto, fill_ledto, publish_ledto, invalidate_ledto, appending_next, append_next}
-use Rattle.fkv_ops.specs.Trying.{TryState}
+use Rattle.law_world.specs.Below.fkv_log.TheFilling.{Filling}
+use Rattle.law_world.specs.Below.fkv_log.TheFilling.TheVariants as fill
+use Rattle.law_world.specs.Below.fkv_log.TheInvalidating.{Invalidating}
+use Rattle.law_world.specs.Below.fkv_log.TheInvalidating.TheVariants as invalidate
+use Rattle.law_world.specs.Below.fkv_log.RecordWords.{RecordWords}
+use Rattle.law_world.specs.Below.fkv_log.ReserveAnswer.{ReserveAnswer}
+use Rattle.law_world.specs.Below.fkv_log.ReserveAnswer.TheVariants as reserve
+use Rattle.law_world.specs.Below.fkv_log.TheReserving.{Reserving}
+use Rattle.law_world.specs.Below.fkv_log.TheReserving.TheVariants as reserving
+use Rattle.law_world.specs.Below.fkv_log.Filling.{fill_begun, fill_ask, fill_next}
+use Rattle.law_world.specs.Below.fkv_log.Invalidating.{invalidate_ask, invalidate_next}
+use Rattle.law_world.specs.Below.fkv_log.Reserving.{reserve_ask, reserve_next, reserve_next_ask}
+use Rattle.law_world.specs.Below.fkv_ops.AppendAnswer.{AppendAnswer}
+use Rattle.law_world.specs.Below.fkv_ops.AppendAnswer.TheVariants as answer
+use Rattle.law_world.specs.Below.fkv_ops.TheAppending.{Appending}
+use Rattle.law_world.specs.Below.fkv_ops.TheAppending.TheVariants.{Ended, Reserves, Fills, Publishes, Invalidates}
+use Rattle.law_world.specs.Below.fkv_ops.FoundSlot.{FoundSlot}
+use Rattle.law_world.specs.Below.fkv_ops.Appending.{AppendState, append_begun, appending_ask, append_ask, append_ended, addr_reserved, reserve_ledto, fill_ledto, publish_ledto, invalidate_ledto, appending_next, append_next}
+use Rattle.law_world.specs.Below.fkv_ops.Trying.{TryState}
 use Rattle.law_refine.specs.Footprint.{Part, TheIndex, Spares}
 use Rattle.law_refine.specs.Index.Finders.{append_work, entry_in}
 use Rattle.law_refine.proofs.Footprint.Finds.{IsIndexAlone}

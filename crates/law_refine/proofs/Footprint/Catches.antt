@@ -18,12 +18,12 @@ use Rattle.fkv_latch.specs.declared.latching.LatchAnswer.TheVariants.{Taken}
 use Rattle.fkv_latch.specs.declared.latching.LatchTask.TheVariants.{TakeShared}
 use Rattle.fkv_latch.specs.declared.latching.Latching.TheVariants as latching
 use Rattle.fkv_latch.specs.Latching.{latch_next, latch_next_ask}
-use Rattle.fkv_ops.specs.declared.requests.Seen.{Seen}
-use Rattle.fkv_pending.specs.declared.pending_requests.PendingRequest.{PendingRequest}
-use Rattle.fkv_pending.specs.Pending.{is_unlatched}
-use Rattle.fkv_session.specs.declared.catching_up.Catching.{Catching}
-use Rattle.fkv_session.specs.declared.catching_up.Catching.TheVariants.{Ended, Refreshes, Protects, StoresCut, StoresOwing, Latches, Finishes}
-use Rattle.fkv_session.specs.CatchingUp.{CatchState, version_before, catching_ask, catch_ask, finishes, latch_begun, latch_wanted, latches, cuts, is_same_version, enters_prepare, takes_up, seen_after, refresh_ledto, protect_ledto, latch_ledto, finish_ledto, catch_requests, catching_next, catch_next}
+use Rattle.law_world.specs.Below.fkv_ops.Seen.{Seen}
+use Rattle.law_world.specs.Below.fkv_pending.PendingRequest.{PendingRequest}
+use Rattle.law_world.specs.Below.fkv_pending.Pending.{is_unlatched}
+use Rattle.law_world.specs.Below.fkv_session.Catching.{Catching}
+use Rattle.law_world.specs.Below.fkv_session.Catching.TheVariants.{Ended, Refreshes, Protects, StoresCut, StoresOwing, Latches, Finishes}
+use Rattle.law_world.specs.Below.fkv_session.CatchingUp.{CatchState, version_before, catching_ask, catch_ask, finishes, latch_begun, latch_wanted, latches, cuts, is_same_version, enters_prepare, takes_up, seen_after, refresh_ledto, protect_ledto, latch_ledto, finish_ledto, catch_requests, catching_next, catch_next}
 use Rattle.law_refine.proofs.Footprint.Epochs.{refresh_spares, protect_spares}
 use Rattle.law_refine.specs.Latches.Latchers.{catch_latching}
 use Rattle.law_refine.specs.Footprint.{Part, TheLatches, TheMarks, HasSeat, Spares}

@@ -16,30 +16,30 @@ use Rattle.fkv_plane.specs.declared.asks.Ask.TheVariants.{Done}
 use Rattle.fkv_plane.specs.declared.places.Places.{Places}
 use Rattle.fkv_plane.specs.declared.places.SharedWord.TheVariants as one
 use Rattle.fkv_base.specs.declared.commits.CommitKind.{CommitKind}
-use Rattle.fkv_commit.specs.declared.deferring.Deferred.TheVariants.{EntersPhase, ShowsReadOnly}
-use Rattle.fkv_commit.specs.declared.deferring.DeferAnswer.{DeferAnswer}
-use Rattle.fkv_commit.specs.declared.deferring.DeferAnswer.TheVariants.{Held, Spent, Armed}
-use Rattle.fkv_commit.specs.declared.entering.Entering.{Entering}
-use Rattle.fkv_commit.specs.declared.entering.Entering.TheVariants as entering
-use Rattle.fkv_commit.specs.declared.finishing.Finishing.{Finishing}
-use Rattle.fkv_commit.specs.declared.finishing.Finishing.TheVariants as finishing
-use Rattle.fkv_commit.specs.declared.seeking.Seeking.{Seeking}
-use Rattle.fkv_commit.specs.declared.seeking.Seeking.TheVariants as seeking
-use Rattle.fkv_commit.specs.declared.starting.Starting.{Starting}
-use Rattle.fkv_commit.specs.declared.starting.Starting.TheVariants as starting
-use Rattle.fkv_commit.specs.declared.waiting.Waiting.{Waiting}
-use Rattle.fkv_commit.specs.declared.waiting.Waiting.TheVariants as waiting
-use Rattle.fkv_commit.specs.Commits.{version_after}
-use Rattle.fkv_commit.specs.Cuts.{serial_said, version_said}
-use Rattle.fkv_commit.specs.Deferring.{defer_begun, defer_next}
-use Rattle.fkv_commit.specs.Entering as enters
-use Rattle.fkv_commit.specs.Entering.{EnterState, entering_ask, enter_ask, enter_begun, entering_next, enter_next}
-use Rattle.fkv_commit.specs.Finishing.{FinishState, durable_from, finish_begun, finishing_ask, finish_ask, finishing_next, finish_next}
-use Rattle.fkv_commit.specs.Seeking as seeks
-use Rattle.fkv_commit.specs.Seeking.{SeekState, owing_from, seek_begun, seeking_ask, seek_ask, points_from, point_taken, slot_led, cut_met, other_met, seeking_next, seek_next}
-use Rattle.fkv_commit.specs.Starting as starts
-use Rattle.fkv_commit.specs.Starting.{StartState, start_begun, is_lost_full, starting_ask, start_ask, refused, phase_found, starting_next, start_next}
-use Rattle.fkv_commit.specs.Waiting.{WaitState, waiting_ask, wait_ask}
+use Rattle.law_world.specs.Below.fkv_commit.Deferred.TheVariants.{EntersPhase, ShowsReadOnly}
+use Rattle.law_world.specs.Below.fkv_commit.DeferAnswer.{DeferAnswer}
+use Rattle.law_world.specs.Below.fkv_commit.DeferAnswer.TheVariants.{Held, Spent, Armed}
+use Rattle.law_world.specs.Below.fkv_commit.TheEntering.{Entering}
+use Rattle.law_world.specs.Below.fkv_commit.TheEntering.TheVariants as entering
+use Rattle.law_world.specs.Below.fkv_commit.TheFinishing.{Finishing}
+use Rattle.law_world.specs.Below.fkv_commit.TheFinishing.TheVariants as finishing
+use Rattle.law_world.specs.Below.fkv_commit.TheSeeking.{Seeking}
+use Rattle.law_world.specs.Below.fkv_commit.TheSeeking.TheVariants as seeking
+use Rattle.law_world.specs.Below.fkv_commit.TheStarting.{Starting}
+use Rattle.law_world.specs.Below.fkv_commit.TheStarting.TheVariants as starting
+use Rattle.law_world.specs.Below.fkv_commit.TheWaiting.{Waiting}
+use Rattle.law_world.specs.Below.fkv_commit.TheWaiting.TheVariants as waiting
+use Rattle.law_world.specs.Below.fkv_commit.Commits.{version_after}
+use Rattle.law_world.specs.Below.fkv_commit.Cuts.{serial_said, version_said}
+use Rattle.law_world.specs.Below.fkv_commit.Deferring.{defer_begun, defer_next}
+use Rattle.law_world.specs.Below.fkv_commit.Entering as enters
+use Rattle.law_world.specs.Below.fkv_commit.Entering.{EnterState, entering_ask, enter_ask, enter_begun, entering_next, enter_next}
+use Rattle.law_world.specs.Below.fkv_commit.Finishing.{FinishState, durable_from, finish_begun, finishing_ask, finish_ask, finishing_next, finish_next}
+use Rattle.law_world.specs.Below.fkv_commit.Seeking as seeks
+use Rattle.law_world.specs.Below.fkv_commit.Seeking.{SeekState, owing_from, seek_begun, seeking_ask, seek_ask, points_from, point_taken, slot_led, cut_met, other_met, seeking_next, seek_next}
+use Rattle.law_world.specs.Below.fkv_commit.Starting as starts
+use Rattle.law_world.specs.Below.fkv_commit.Starting.{StartState, start_begun, is_lost_full, starting_ask, start_ask, refused, phase_found, starting_next, start_next}
+use Rattle.law_world.specs.Below.fkv_commit.Waiting.{WaitState, waiting_ask, wait_ask}
 use Rattle.law_refine.specs.Footprint.{Part, ThePhase, TheDurable, HasSeats, Spares}
 use Rattle.law_refine.proofs.Footprint.Latching.{passed_spares}
 use Rattle.law_refine.proofs.Footprint.Outside.{shared_outside, phase_outside, durable_outside, seat_of}

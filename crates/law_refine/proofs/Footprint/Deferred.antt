@@ -8,11 +8,11 @@ use Rattle.fkv_epoch.specs.declared.raising.RaiseAnswer.{RaiseAnswer}
 use Rattle.fkv_epoch.specs.declared.raising.RaiseAnswer.TheVariants as raised
 use Rattle.fkv_epoch.specs.Arming.{arm_ask, arm_next}
 use Rattle.fkv_epoch.specs.Raising.{IsRaiseInRange, raise_next, raise_next_ask, HasSlotInRange}
-use Rattle.fkv_commit.specs.declared.deferring.Deferred.{Deferred}
-use Rattle.fkv_commit.specs.declared.deferring.Deferring.{Deferring}
-use Rattle.fkv_commit.specs.declared.deferring.Deferring.TheVariants.{Ended, Seeks, Holds, Raises, Puts, Arms}
+use Rattle.law_world.specs.Below.fkv_commit.Deferred.{Deferred}
+use Rattle.law_world.specs.Below.fkv_commit.TheDeferring.{Deferring}
+use Rattle.law_world.specs.Below.fkv_commit.TheDeferring.TheVariants.{Ended, Seeks, Holds, Raises, Puts, Arms}
 use Rattle.fkv_epoch.proofs.Shown.{next_in_range, on_in_range, next_ask_in_range}
-use Rattle.fkv_commit.specs.Deferring.{DeferState, defer_begun, deferring_ask, defer_ask, seek_ledto, raise_ledto, arm_ledto, deferring_next, defer_next, deferring_on, defer_on}
+use Rattle.law_world.specs.Below.fkv_commit.Deferring.{DeferState, defer_begun, deferring_ask, defer_ask, seek_ledto, raise_ledto, arm_ledto, deferring_next, defer_next, deferring_on, defer_on}
 use Rattle.law_refine.specs.Footprint.{Part, Spares}
 use Rattle.law_refine.proofs.Footprint.Latching.{passed_spares}
 use Rattle.law_refine.proofs.Footprint.Epochs.{raise_spares, ArmsInRange, arm_spares, arm_range}

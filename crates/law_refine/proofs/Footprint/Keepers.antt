@@ -12,37 +12,37 @@ use Rattle.fkv_plane.specs.declared.asks.Ask.{Ask}
 use Rattle.fkv_plane.specs.declared.asks.Ask.TheVariants.{Done}
 use Rattle.fkv_plane.specs.declared.places.Places.{Places}
 use Rattle.fkv_plane.specs.Passing.{passed}
-use Rattle.fkv_checkpoint.specs.declared.copying.CopyStep.{CopyStep}
-use Rattle.fkv_checkpoint.specs.declared.copying.CopyStep.TheVariants as copy
-use Rattle.fkv_checkpoint.specs.Copying.{Copier, copy_step_ask, copy_begun}
-use Rattle.fkv_commit.specs.declared.commits.Commit.{Commit}
+use Rattle.law_world.specs.Below.fkv_checkpoint.CopyStep.{CopyStep}
+use Rattle.law_world.specs.Below.fkv_checkpoint.CopyStep.TheVariants as copy
+use Rattle.law_world.specs.Below.fkv_checkpoint.Copying.{Copier, copy_step_ask, copy_begun}
+use Rattle.law_world.specs.Below.fkv_commit.Commit.{Commit}
 use Rattle.fkv_base.specs.declared.commits.CommitKind.{CommitKind}
-use Rattle.fkv_commit.specs.declared.entering.EnterAnswer.{EnterAnswer}
-use Rattle.fkv_commit.specs.declared.entering.EnterAnswer.TheVariants as enter
-use Rattle.fkv_commit.specs.declared.finishing.FinishAnswer.{FinishAnswer}
-use Rattle.fkv_commit.specs.declared.seeking.SeekAnswer.{SeekAnswer}
-use Rattle.fkv_commit.specs.declared.seeking.SeekAnswer.TheVariants as seek
-use Rattle.fkv_commit.specs.declared.starting.StartAnswer.{StartAnswer}
-use Rattle.fkv_commit.specs.declared.starting.StartAnswer.TheVariants as start
-use Rattle.fkv_commit.specs.declared.waiting.WaitAnswer.{WaitAnswer}
-use Rattle.fkv_commit.specs.declared.waiting.WaitAnswer.TheVariants as wait
-use Rattle.fkv_commit.specs.Entering.{enter_begun, enter_next}
-use Rattle.fkv_commit.specs.Finishing.{finish_next}
-use Rattle.fkv_commit.specs.Seeking.{seek_begun, seek_next}
-use Rattle.fkv_commit.specs.Starting.{start_begun, start_next}
-use Rattle.fkv_commit.specs.Waiting.{wait_begun, wait_next}
-use Rattle.fkv_manifest.specs.declared.answers.WriteAnswer.{WriteAnswer}
-use Rattle.fkv_manifest.specs.declared.answers.WriteAnswer.TheVariants as write
-use Rattle.fkv_manifest.specs.Committing.{commit_next, commit_answer}
-use Rattle.fkv_maintain.specs.declared.maintaining.MaintainAnswer.{MaintainAnswer}
-use Rattle.fkv_maintain.specs.declared.maintaining.MaintainAnswer.TheVariants as maintain
-use Rattle.fkv_maintain.specs.Maintaining.{maintain_begun, maintain_ask, maintain_next, maintain_given, maintain_called}
-use Rattle.fkv_keeper.specs.declared.answers.KeeperTold.{KeeperTold}
-use Rattle.fkv_keeper.specs.declared.answers.KeeperTold.TheVariants.{TurnRefused, CommitRefused}
-use Rattle.fkv_keeper.specs.declared.keepers.Keeping.{Keeping}
-use Rattle.fkv_keeper.specs.declared.keepers.Keeping.TheVariants.{Ended, Starts, Maintains, LoadsPhase, Enters, Copies, Seeks, Waits, Writes, Finishes}
-use Rattle.fkv_keeper.specs.Keeping.{KeeperState, copy_asked, device_passed, write_asked, keeping_ask, keeper_ask, ended, turned, commit_asked, turn_asked, start_ledto, maintain_ledto, copies, copies_next, part_begun, phase_ledto, enter_ledto, copy_ledto, seek_ledto, writes_begun, wait_ledto, finished, finish_ledto, copy_driven, keeping_next, keeping_given, write_ledto, writes_called, keeping_called}
-use Rattle.fkv_keeper.specs.KeeperRun.{KeeperEvent, BeginsTurn, BeginsCommit, Replies, Gets, Calls, IsOpened, is_in_hand, begins, keeper_happens, keeper_run}
+use Rattle.law_world.specs.Below.fkv_commit.EnterAnswer.{EnterAnswer}
+use Rattle.law_world.specs.Below.fkv_commit.EnterAnswer.TheVariants as enter
+use Rattle.law_world.specs.Below.fkv_commit.FinishAnswer.{FinishAnswer}
+use Rattle.law_world.specs.Below.fkv_commit.SeekAnswer.{SeekAnswer}
+use Rattle.law_world.specs.Below.fkv_commit.SeekAnswer.TheVariants as seek
+use Rattle.law_world.specs.Below.fkv_commit.StartAnswer.{StartAnswer}
+use Rattle.law_world.specs.Below.fkv_commit.StartAnswer.TheVariants as start
+use Rattle.law_world.specs.Below.fkv_commit.WaitAnswer.{WaitAnswer}
+use Rattle.law_world.specs.Below.fkv_commit.WaitAnswer.TheVariants as wait
+use Rattle.law_world.specs.Below.fkv_commit.Entering.{enter_begun, enter_next}
+use Rattle.law_world.specs.Below.fkv_commit.Finishing.{finish_next}
+use Rattle.law_world.specs.Below.fkv_commit.Seeking.{seek_begun, seek_next}
+use Rattle.law_world.specs.Below.fkv_commit.Starting.{start_begun, start_next}
+use Rattle.law_world.specs.Below.fkv_commit.Waiting.{wait_begun, wait_next}
+use Rattle.law_world.specs.Below.fkv_manifest.WriteAnswer.{WriteAnswer}
+use Rattle.law_world.specs.Below.fkv_manifest.WriteAnswer.TheVariants as write
+use Rattle.law_world.specs.Below.fkv_manifest.Committing.{commit_next, commit_answer}
+use Rattle.law_world.specs.Below.fkv_maintain.MaintainAnswer.{MaintainAnswer}
+use Rattle.law_world.specs.Below.fkv_maintain.MaintainAnswer.TheVariants as maintain
+use Rattle.law_world.specs.Below.fkv_maintain.Maintaining.{maintain_begun, maintain_ask, maintain_next, maintain_given, maintain_called}
+use Rattle.law_world.specs.Below.fkv_keeper.KeeperTold.{KeeperTold}
+use Rattle.law_world.specs.Below.fkv_keeper.KeeperTold.TheVariants.{TurnRefused, CommitRefused}
+use Rattle.law_world.specs.Below.fkv_keeper.TheKeeping.{Keeping}
+use Rattle.law_world.specs.Below.fkv_keeper.TheKeeping.TheVariants.{Ended, Starts, Maintains, LoadsPhase, Enters, Copies, Seeks, Waits, Writes, Finishes}
+use Rattle.law_world.specs.Below.fkv_keeper.Keeping.{KeeperState, copy_asked, device_passed, write_asked, keeping_ask, keeper_ask, ended, turned, commit_asked, turn_asked, start_ledto, maintain_ledto, copies, copies_next, part_begun, phase_ledto, enter_ledto, copy_ledto, seek_ledto, writes_begun, wait_ledto, finished, finish_ledto, copy_driven, keeping_next, keeping_given, write_ledto, writes_called, keeping_called}
+use Rattle.law_world.specs.Below.fkv_keeper.KeeperRun.{KeeperEvent, BeginsTurn, BeginsCommit, Replies, Gets, Calls, IsOpened, is_in_hand, begins, keeper_happens, keeper_run}
 use Rattle.law_refine.specs.Mail.Servers.{keeper_serving}
 use Rattle.law_refine.specs.Footprint.{Part, ThePhase, HasSeats, Spares}
 use Rattle.law_refine.proofs.Footprint.Latching.{passed_spares}

@@ -4,15 +4,15 @@ use Rattle.std.proofs.Common.{◌≡◌, ℕ, ◌∙◌, refl, sym, subst, List,
 use Rattle.std.specs.Prelude.{Option, Some, None, slice_get}
 use Rattle.fkv_base.specs.declared.shapes.Shape.{Shape}
 use Rattle.fkv_plane.specs.declared.places.Places.{Places}
-use Rattle.fkv_keeper.specs.declared.keepers.Keeping.TheVariants.{Finishes}
-use Rattle.fkv_keeper.specs.KeeperRun as keeper
-use Rattle.fkv_keeper.specs.Keeping.{KeeperState, keeper_ask}
-use Rattle.fkv_session.specs.Sessions.{SessionState, Seat}
-use Rattle.fkv_session.specs.SessionRun.{session_run}
-use Rattle.fkv_world.specs.OwnEvents.{keeper_events, session_events}
-use Rattle.fkv_world.specs.Runs.{World, run}
-use Rattle.fkv_world.specs.World.{Event, seat_at}
-use Rattle.fkv_world.proofs.Shown.{keeper_runs, session_runs, same_seat, places_stay, shape_stays}
+use Rattle.law_world.specs.Below.fkv_keeper.TheKeeping.TheVariants.{Finishes}
+use Rattle.law_world.specs.Below.fkv_keeper.KeeperRun as keeper
+use Rattle.law_world.specs.Below.fkv_keeper.Keeping.{KeeperState, keeper_ask}
+use Rattle.law_world.specs.Below.fkv_session.Sessions.{SessionState, Seat}
+use Rattle.law_world.specs.Below.fkv_session.SessionRun.{session_run}
+use Rattle.law_world.specs.Below.fkv_world.OwnEvents.{keeper_events, session_events}
+use Rattle.law_world.specs.Below.fkv_world.Runs.{World, run}
+use Rattle.law_world.specs.Below.fkv_world.World.{Event, seat_at}
+use Rattle.law_world.proofs.Below.fkv_world.Shown.{keeper_runs, session_runs, same_seat, places_stay, shape_stays}
 use Rattle.law_world.proofs.OfRuns.Nothing.{none_ever}
 use Rattle.law_refine.specs.Footprint.{Part, ThePhase, HasSeats, Spares}
 use Rattle.law_refine.specs.Mail.Servers.{serving_of}

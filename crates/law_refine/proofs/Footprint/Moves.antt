@@ -13,21 +13,21 @@ use Rattle.fkv_epoch.specs.declared.raising.Raising.{Raising}
 use Rattle.fkv_epoch.specs.Arming.{arm_ask, arm_next}
 use Rattle.fkv_epoch.specs.Raising.{IsRaiseInRange, raise_ask, raise_next, raise_next_ask, raise_on, HasSlotInRange}
 use Rattle.fkv_epoch.proofs.Shown.{next_in_range, on_in_range, next_ask_in_range}
-use Rattle.fkv_log.specs.declared.moving.MoveAnswer.{MoveAnswer}
-use Rattle.fkv_log.specs.declared.moving.Moving.{Moving}
-use Rattle.fkv_log.specs.declared.moving.Moving.TheVariants as move
-use Rattle.fkv_log.specs.declared.moving.Offset.{Offset}
-use Rattle.fkv_log.specs.declared.moving.Offset.TheVariants.{ReadOnly, Head}
-use Rattle.fkv_log.specs.declared.moving.Target.{Target}
-use Rattle.fkv_log.specs.declared.shifting.Shifting.{Shifting}
-use Rattle.fkv_log.specs.declared.shifting.Shifting.TheVariants as shift
-use Rattle.fkv_log.specs.declared.turning.TurnForm.{TurnForm}
-use Rattle.fkv_log.specs.declared.turning.TurnForm.TheVariants.{Whole, OpensOnly}
-use Rattle.fkv_log.specs.declared.turning.Turning.{Turning}
-use Rattle.fkv_log.specs.declared.turning.Turning.TheVariants as turn
-use Rattle.fkv_log.specs.Moving.{Mover, offset_place, move_begun, moving_ask, raise_led, arm_led, moving_next, move_next, move_next_ask}
-use Rattle.fkv_log.specs.Shifting.{ShiftState, shift_at, mutable_start, shifting_ask, shift_ask, shift_led, shifting_next, shift_next}
-use Rattle.fkv_log.specs.Turning.{TurnState, turn_at, frame_end, frame_taken, turning_ask, turn_ask, turn_led, turning_next, turn_next}
+use Rattle.law_world.specs.Below.fkv_log.MoveAnswer.{MoveAnswer}
+use Rattle.law_world.specs.Below.fkv_log.TheMoving.{Moving}
+use Rattle.law_world.specs.Below.fkv_log.TheMoving.TheVariants as move
+use Rattle.law_world.specs.Below.fkv_log.Offset.{Offset}
+use Rattle.law_world.specs.Below.fkv_log.Offset.TheVariants.{ReadOnly, Head}
+use Rattle.law_world.specs.Below.fkv_log.Target.{Target}
+use Rattle.law_world.specs.Below.fkv_log.TheShifting.{Shifting}
+use Rattle.law_world.specs.Below.fkv_log.TheShifting.TheVariants as shift
+use Rattle.law_world.specs.Below.fkv_log.TurnForm.{TurnForm}
+use Rattle.law_world.specs.Below.fkv_log.TurnForm.TheVariants.{Whole, OpensOnly}
+use Rattle.law_world.specs.Below.fkv_log.TheTurning.{Turning}
+use Rattle.law_world.specs.Below.fkv_log.TheTurning.TheVariants as turn
+use Rattle.law_world.specs.Below.fkv_log.Moving.{Mover, offset_place, move_begun, moving_ask, raise_led, arm_led, moving_next, move_next, move_next_ask}
+use Rattle.law_world.specs.Below.fkv_log.Shifting.{ShiftState, shift_at, mutable_start, shifting_ask, shift_ask, shift_led, shifting_next, shift_next}
+use Rattle.law_world.specs.Below.fkv_log.Turning.{TurnState, turn_at, frame_end, frame_taken, turning_ask, turn_ask, turn_led, turning_next, turn_next}
 use Rattle.law_refine.specs.Footprint.{Part, IsOutside, Spares}
 use Rattle.law_refine.proofs.Footprint.Latching.{passed_spares}
 use Rattle.law_refine.proofs.Footprint.Outside.{shared_outside}

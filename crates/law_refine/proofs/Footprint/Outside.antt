@@ -11,7 +11,7 @@ use Rattle.fkv_plane.specs.declared.places.SharedWord.{SharedWord}
 use Rattle.fkv_plane.specs.declared.places.SharedWord.TheVariants as one
 use Rattle.fkv_plane.specs.Places.{shared_place, drain_place, session_number, session_place, bucket_place, record_place, frames_start}
 use Rattle.fkv_latch.specs.LatchWorld.{has_latch, latch_of}
-use Rattle.fkv_session.specs.CatchingUp.{cut_of}
+use Rattle.law_world.specs.Below.fkv_session.CatchingUp.{cut_of}
 use Rattle.law_refine.specs.Footprint.{OwnWords, Marks, Durable, Mail, first_word, last_word, Part, TheIndex, TheLatches, ThePhase, OfSession, TheMarks, TheDurable, TheMailbox, IsElsewhere, IsOutside, MaySet, HasSeat, HasSeats}
 
 -- of a session's sixteen words

@@ -8,13 +8,13 @@ use Rattle.fkv_plane.specs.declared.asks.Ask.TheVariants.{Done}
 use Rattle.fkv_plane.specs.declared.places.Places.{Places}
 use Rattle.fkv_epoch.specs.Claiming.{IsClaimInRange, claim_next, claim_given}
 use Rattle.fkv_epoch.specs.Scanning.{scan_next}
-use Rattle.fkv_log.specs.declared.moving.MoveAnswer.{MoveAnswer}
-use Rattle.fkv_log.specs.declared.shifting.ShiftAnswer.{ShiftAnswer}
-use Rattle.fkv_log.specs.Shifting.{shift_next}
-use Rattle.fkv_log.specs.Turning.{turn_next}
-use Rattle.fkv_session.specs.declared.own_turns.OwnTurning.{OwnTurning}
-use Rattle.fkv_session.specs.declared.own_turns.OwnTurning.TheVariants.{Ended, Scans, Claims, Shifts, Opens}
-use Rattle.fkv_session.specs.OwnTurns.{OwnTurnState, own_turn_begun, own_turning_ask, own_turn_ask, scan_ledto, claim_ledto, shift_ledto, open_ledto, own_turning_next, own_turn_next, own_turning_given, own_turn_given}
+use Rattle.law_world.specs.Below.fkv_log.MoveAnswer.{MoveAnswer}
+use Rattle.law_world.specs.Below.fkv_log.ShiftAnswer.{ShiftAnswer}
+use Rattle.law_world.specs.Below.fkv_log.Shifting.{shift_next}
+use Rattle.law_world.specs.Below.fkv_log.Turning.{turn_next}
+use Rattle.law_world.specs.Below.fkv_session.OwnTurning.{OwnTurning}
+use Rattle.law_world.specs.Below.fkv_session.OwnTurning.TheVariants.{Ended, Scans, Claims, Shifts, Opens}
+use Rattle.law_world.specs.Below.fkv_session.OwnTurns.{OwnTurnState, own_turn_begun, own_turning_ask, own_turn_ask, scan_ledto, claim_ledto, shift_ledto, open_ledto, own_turning_next, own_turn_next, own_turning_given, own_turn_given}
 use Rattle.law_refine.specs.Footprint.{Part, ThePhase, Spares, stores_phase}
 use Rattle.law_refine.proofs.Footprint.Latching.{passed_spares}
 use Rattle.law_refine.proofs.Footprint.Epochs.{scan_spares, claim_spares, claim_range, claim_given_range}

@@ -5,12 +5,12 @@ use Rattle.std.proofs.lemmas.Bool.Decides.{nat_tests}
 use Rattle.fkv_plane.specs.declared.places.Places.{Places}
 use Rattle.fkv_plane.specs.declared.places.SessionWord.TheVariants as own
 use Rattle.fkv_plane.specs.declared.places.SharedWord.TheVariants as one
-use Rattle.fkv_flush.specs.declared.flushing.Flushing.{Flushing}
-use Rattle.fkv_flush.specs.declared.flushing.Flushing.TheVariants as flush
-use Rattle.fkv_flush.specs.declared.serving.Serving.{Serving}
-use Rattle.fkv_flush.specs.declared.serving.Serving.TheVariants as serve
-use Rattle.fkv_flush.specs.Flushing.{flush_ask}
-use Rattle.fkv_flush.specs.Serving.{asked_state, serve_ask, mailbox_from, serve_next, serve_read}
+use Rattle.law_world.specs.Below.fkv_flush.TheFlushing.{Flushing}
+use Rattle.law_world.specs.Below.fkv_flush.TheFlushing.TheVariants as flush
+use Rattle.law_world.specs.Below.fkv_flush.TheServing.{Serving}
+use Rattle.law_world.specs.Below.fkv_flush.TheServing.TheVariants as serve
+use Rattle.law_world.specs.Below.fkv_flush.Flushing.{flush_ask}
+use Rattle.law_world.specs.Below.fkv_flush.Serving.{asked_state, serve_ask, mailbox_from, serve_next, serve_read}
 use Rattle.law_refine.specs.Mail.Servers.{is_serving}
 use Rattle.law_refine.specs.Footprint.{Part, TheMailbox, HasSeats, Spares}
 use Rattle.law_refine.proofs.Footprint.Outside.{shared_outside, mail_outside, seat_of}

@@ -13,18 +13,18 @@ use Rattle.fkv_index.specs.declared.finding.Purpose.{Purpose}
 use Rattle.fkv_index.specs.declared.homes.Home.{Home}
 use Rattle.fkv_index.specs.Slots.{entry_addr}
 use Rattle.fkv_index.specs.Finding.{find_next, find_next_ask}
-use Rattle.fkv_log.specs.declared.loading.LoadAnswer.{LoadAnswer}
-use Rattle.fkv_log.specs.declared.loading.LoadAnswer.TheVariants as load
-use Rattle.fkv_log.specs.declared.loading.Loading.{Loading}
-use Rattle.fkv_log.specs.declared.loading.Loading.TheVariants as loading
-use Rattle.fkv_log.specs.Loading.{load_ask, load_next, load_next_ask}
-use Rattle.fkv_ops.specs.declared.header_words.HeaderSaid.{HeaderSaid}
-use Rattle.fkv_ops.specs.declared.header_words.HeaderSaid.TheVariants.{Says, Spoiled}
-use Rattle.fkv_ops.specs.declared.walking.WalkAnswer.TheVariants as answer
-use Rattle.fkv_ops.specs.declared.walking.Walking.{Walking}
-use Rattle.fkv_ops.specs.declared.walking.Walking.TheVariants.{Ended, Finds, Meets, HasFound, LoadsValue}
-use Rattle.fkv_ops.specs.HeaderWords.{header_said}
-use Rattle.fkv_ops.specs.Walking.{WalkState, walk_begun, walking_ask, walk_ask, walk_ended, reached, slot_found, find_ledto, first_met, record_met, load_ledto, value_ledto, walking_next, walk_next, walking_on, walk_on}
+use Rattle.law_world.specs.Below.fkv_log.LoadAnswer.{LoadAnswer}
+use Rattle.law_world.specs.Below.fkv_log.LoadAnswer.TheVariants as load
+use Rattle.law_world.specs.Below.fkv_log.TheLoading.{Loading}
+use Rattle.law_world.specs.Below.fkv_log.TheLoading.TheVariants as loading
+use Rattle.law_world.specs.Below.fkv_log.Loading.{load_ask, load_next, load_next_ask}
+use Rattle.law_world.specs.Below.fkv_ops.HeaderSaid.{HeaderSaid}
+use Rattle.law_world.specs.Below.fkv_ops.HeaderSaid.TheVariants.{Says, Spoiled}
+use Rattle.law_world.specs.Below.fkv_ops.WalkAnswer.TheVariants as answer
+use Rattle.law_world.specs.Below.fkv_ops.TheWalking.{Walking}
+use Rattle.law_world.specs.Below.fkv_ops.TheWalking.TheVariants.{Ended, Finds, Meets, HasFound, LoadsValue}
+use Rattle.law_world.specs.Below.fkv_ops.HeaderWords.{header_said}
+use Rattle.law_world.specs.Below.fkv_ops.Walking.{WalkState, walk_begun, walking_ask, walk_ask, walk_ended, reached, slot_found, find_ledto, first_met, record_met, load_ledto, value_ledto, walking_next, walk_next, walking_on, walk_on}
 use Rattle.fkv_plane.specs.declared.places.SharedWord.TheVariants as one
 use Rattle.law_refine.specs.Footprint.{Part, TheIndex, Spares}
 use Rattle.law_refine.proofs.Footprint.Latching.{passed_spares}

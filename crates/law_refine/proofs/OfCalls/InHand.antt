@@ -5,27 +5,27 @@ use Rattle.std.proofs.lemmas.Bool.Decides.{nat_tests}
 use Rattle.fkv_base.specs.declared.numbers.Serial.{Serial}
 use Rattle.fkv_epoch.proofs.Shown.{none_some}
 use Rattle.fkv_map.specs.declared.history.HistoryEntry.{HistoryEntry}
-use Rattle.fkv_ops.specs.Requests.{is_read}
+use Rattle.law_world.specs.Below.fkv_ops.Requests.{is_read}
 use Rattle.law_log.specs.Trace as log
 use Rattle.law_log.specs.Trace.{IsIn, called_as, HasUpdate}
-use Rattle.fkv_pending.specs.declared.pending_requests.RequestName.{RequestName}
-use Rattle.fkv_pending.specs.declared.pending_requests.RequestName.TheVariants.{Update, Read}
+use Rattle.law_world.specs.Below.fkv_pending.RequestName.{RequestName}
+use Rattle.law_world.specs.Below.fkv_pending.RequestName.TheVariants.{Update, Read}
 use Rattle.fkv_plane.specs.Asked.{reply_to}
-use Rattle.fkv_session.specs.declared.sessions.Sitting.{Sitting}
-use Rattle.fkv_session.specs.declared.sessions.Sitting.TheVariants.{Attempts, Polls}
-use Rattle.fkv_session.specs.Accounts.{number_of}
-use Rattle.fkv_session.specs.Replies.{is_of}
-use Rattle.fkv_session.specs.SessionRun.{session_run}
-use Rattle.fkv_session.specs.Sessions.{SessionState, Seat, session_ask, session_next, ticket_after}
+use Rattle.law_world.specs.Below.fkv_session.Sitting.{Sitting}
+use Rattle.law_world.specs.Below.fkv_session.Sitting.TheVariants.{Attempts, Polls}
+use Rattle.law_world.specs.Below.fkv_session.Accounts.{number_of}
+use Rattle.law_world.specs.Below.fkv_session.Replies.{is_of}
+use Rattle.law_world.specs.Below.fkv_session.SessionRun.{session_run}
+use Rattle.law_world.specs.Below.fkv_session.Sessions.{SessionState, Seat, session_ask, session_next, ticket_after}
 use Rattle.law_world.specs.Runs.Added.{IsEffectOf}
-use Rattle.fkv_world.specs.Opened.{HasBecome, IsOpenedWorld, effects_of}
-use Rattle.fkv_world.specs.OwnEvents.{session_events}
-use Rattle.fkv_world.specs.Past.{Effect}
-use Rattle.fkv_world.specs.Runs.{World, run}
-use Rattle.fkv_world.specs.World.{Event, seat_at}
+use Rattle.law_world.specs.Below.fkv_world.Opened.{HasBecome, IsOpenedWorld, effects_of}
+use Rattle.law_world.specs.Below.fkv_world.OwnEvents.{session_events}
+use Rattle.law_world.specs.Below.fkv_world.Past.{Effect}
+use Rattle.law_world.specs.Below.fkv_world.Runs.{World, run}
+use Rattle.law_world.specs.Below.fkv_world.World.{Event, seat_at}
 use Rattle.law_world.proofs.OfSessions.OwnRun.{here, opened_so}
 use Rattle.law_world.proofs.OfSessions.Effects.{life_made}
-use Rattle.fkv_world.proofs.Shown.{same_seat}
+use Rattle.law_world.proofs.Below.fkv_world.Shown.{same_seat}
 use Rattle.law_world.proofs.OfRuns.Nothing.{none_ever}
 use Rattle.law_refine.specs.Events.GhostEvents.{serials_in}
 use Rattle.law_refine.specs.Calls.Calls.{effects_in_log, effects_of_life, lines_of_life, IsUpdateInHand}

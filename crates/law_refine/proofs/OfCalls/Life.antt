@@ -3,25 +3,25 @@ use Rattle.std.proofs.Common.{◌≡◌, ℕ, zero, suc, ◌+◌, ◌∙◌, Lis
 use Rattle.std.specs.Prelude.{slice_get, ◌==◌, ⊤}
 use Rattle.std.proofs.lemmas.Bool.Decides.{nat_tests}
 use Rattle.fkv_epoch.proofs.Shown.{some_same}
-use Rattle.fkv_session.specs.declared.answers.Finished.{Finished}
-use Rattle.fkv_session.specs.declared.answers.Told.{Told}
-use Rattle.fkv_session.specs.declared.answers.Told.TheVariants as told
-use Rattle.fkv_session.specs.declared.sessions.Sitting.{Sitting}
-use Rattle.fkv_session.specs.declared.sessions.Sitting.TheVariants.{Idle, Attempts, Polls}
-use Rattle.fkv_session.specs.Accounts.{AreInTurn, serials_given, serials_after}
-use Rattle.fkv_session.specs.Replies.{effects_told, op_called, serials_taken}
-use Rattle.fkv_session.specs.SessionRun.{SessionEvent, Begins, Replies, Gets, session_happens, session_run, Telling, with_finished, all_told, with_coming}
-use Rattle.fkv_session.specs.Sessions.{SessionState, Seat, IsOpened, is_busy}
-use Rattle.fkv_session.proofs.Shown.{IsTold, run_holds, run_request, run_told}
+use Rattle.law_world.specs.Below.fkv_session.Finished.{Finished}
+use Rattle.law_world.specs.Below.fkv_session.Told.{Told}
+use Rattle.law_world.specs.Below.fkv_session.Told.TheVariants as told
+use Rattle.law_world.specs.Below.fkv_session.Sitting.{Sitting}
+use Rattle.law_world.specs.Below.fkv_session.Sitting.TheVariants.{Idle, Attempts, Polls}
+use Rattle.law_world.specs.Below.fkv_session.Accounts.{AreInTurn, serials_given, serials_after}
+use Rattle.law_world.specs.Below.fkv_session.Replies.{effects_told, op_called, serials_taken}
+use Rattle.law_world.specs.Below.fkv_session.SessionRun.{SessionEvent, Begins, Replies, Gets, session_happens, session_run, Telling, with_finished, all_told, with_coming}
+use Rattle.law_world.specs.Below.fkv_session.Sessions.{SessionState, Seat, IsOpened, is_busy}
+use Rattle.law_world.proofs.Below.fkv_session.Shown.{IsTold, run_holds, run_request, run_told}
 use Rattle.law_world.specs.Runs.Added.{call_answered, told_at, told_by}
-use Rattle.fkv_world.specs.Opened.{HasBecome, IsOpenedWorld, answers_of, life_told}
-use Rattle.fkv_world.specs.OwnEvents.{session_events}
-use Rattle.fkv_world.specs.Past.{Traced, TraceEvent, Called, Answered}
-use Rattle.fkv_world.specs.Runs.{World, happens, run}
-use Rattle.fkv_world.specs.World.{Event, seat_at}
+use Rattle.law_world.specs.Below.fkv_world.Opened.{HasBecome, IsOpenedWorld, answers_of, life_told}
+use Rattle.law_world.specs.Below.fkv_world.OwnEvents.{session_events}
+use Rattle.law_world.specs.Below.fkv_world.Past.{Traced, TraceEvent, Called, Answered}
+use Rattle.law_world.specs.Below.fkv_world.Runs.{World, happens, run}
+use Rattle.law_world.specs.Below.fkv_world.World.{Event, seat_at}
 use Rattle.law_world.proofs.OfSessions.Heard.{life_heard}
 use Rattle.law_world.proofs.OfSessions.OwnRun.{of_run, opened_so}
-use Rattle.fkv_world.proofs.Shown.{same_seat, session_runs, session_runs_on}
+use Rattle.law_world.proofs.Below.fkv_world.Shown.{same_seat, session_runs, session_runs_on}
 use Rattle.law_world.proofs.OfRuns.Added.{trace_so}
 use Rattle.law_refine.specs.Events.GhostEvents.{serial_in, serials_in}
 use Rattle.law_refine.specs.Events.Lines.{newest_serial, next_serial, lines_of}

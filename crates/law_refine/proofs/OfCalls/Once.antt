@@ -7,21 +7,21 @@ use Rattle.fkv_base.specs.declared.numbers.Serial.{Serial}
 use Rattle.fkv_map.specs.declared.history.HistoryEntry.{HistoryEntry}
 use Rattle.fkv_map.specs.declared.operations.Op.{Op}
 use Rattle.fkv_map.specs.declared.operations.Reply.{Reply}
-use Rattle.fkv_ops.specs.Requests.{is_read}
-use Rattle.fkv_pending.specs.declared.pending_requests.PendingRequest.{PendingRequest}
-use Rattle.fkv_pending.specs.declared.pending_requests.RequestName.{RequestName}
-use Rattle.fkv_pending.specs.declared.pending_requests.RequestName.TheVariants.{Update, Read}
-use Rattle.fkv_session.specs.declared.answers.Finished.{Finished}
-use Rattle.fkv_session.specs.declared.answers.Finished.TheVariants as finished
-use Rattle.fkv_session.specs.declared.answers.Told.{Told}
-use Rattle.fkv_session.specs.declared.answers.Told.TheVariants as told
-use Rattle.fkv_session.specs.declared.sessions.Sitting.{Sitting}
-use Rattle.fkv_session.specs.declared.sessions.Sitting.TheVariants.{Attempts, Polls}
-use Rattle.fkv_session.specs.Sessions.{SessionState, Seat, IsOpened, ticket_after, name_of, entry_of, session_next}
-use Rattle.fkv_session.specs.SessionRun.{SessionEvent, Replies, session_happens, session_run, Telling, all_told, in_hand}
-use Rattle.fkv_session.specs.Accounts.{AreInTurn, AreAccountedFor, serials_given, serials_after, with_serial, with_pending, left_pending, polled, names_of, names_finished, number_of, is_update}
-use Rattle.fkv_session.specs.Replies.{is_done, with_effect, effects_told, op_called, Taken, serials_taken, UpdateDone, done_by, with_done, done_by_poll, done_told, AreAnswered, is_of}
-use Rattle.fkv_session.proofs.Shown.{IsTold, Knows, made_of, run_holds, run_told}
+use Rattle.law_world.specs.Below.fkv_ops.Requests.{is_read}
+use Rattle.law_world.specs.Below.fkv_pending.PendingRequest.{PendingRequest}
+use Rattle.law_world.specs.Below.fkv_pending.RequestName.{RequestName}
+use Rattle.law_world.specs.Below.fkv_pending.RequestName.TheVariants.{Update, Read}
+use Rattle.law_world.specs.Below.fkv_session.Finished.{Finished}
+use Rattle.law_world.specs.Below.fkv_session.Finished.TheVariants as finished
+use Rattle.law_world.specs.Below.fkv_session.Told.{Told}
+use Rattle.law_world.specs.Below.fkv_session.Told.TheVariants as told
+use Rattle.law_world.specs.Below.fkv_session.Sitting.{Sitting}
+use Rattle.law_world.specs.Below.fkv_session.Sitting.TheVariants.{Attempts, Polls}
+use Rattle.law_world.specs.Below.fkv_session.Sessions.{SessionState, Seat, IsOpened, ticket_after, name_of, entry_of, session_next}
+use Rattle.law_world.specs.Below.fkv_session.SessionRun.{SessionEvent, Replies, session_happens, session_run, Telling, all_told, in_hand}
+use Rattle.law_world.specs.Below.fkv_session.Accounts.{AreInTurn, AreAccountedFor, serials_given, serials_after, with_serial, with_pending, left_pending, polled, names_of, names_finished, number_of, is_update}
+use Rattle.law_world.specs.Below.fkv_session.Replies.{is_done, with_effect, effects_told, op_called, Taken, serials_taken, UpdateDone, done_by, with_done, done_by_poll, done_told, AreAnswered, is_of}
+use Rattle.law_world.proofs.Below.fkv_session.Shown.{IsTold, Knows, made_of, run_holds, run_told}
 
 number_both : {A : Type 0} (such : A → Bool) (xs ys : List A) → number_of such (xs ++ ys) ≡ number_of such xs + number_of such ys
 number_both such [] ys = omega arith

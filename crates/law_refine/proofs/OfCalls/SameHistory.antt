@@ -7,8 +7,8 @@ use Rattle.fkv_map.specs.declared.operations.Reply.{Reply}
 use Rattle.law_log.specs.Chains.{Cell, Logged, Unborn, Reserved, Published, Dropped}
 use Rattle.law_log.specs.Ghosts.{Log, Ghosts, GhostEvent, Publishes, Drops, Changes, published, dropped, changed, log_after, ghosts_after, ghost_run}
 use Rattle.law_log.specs.Trace.{Effect, IsIn, HasUpdate, HasReply, history_of}
-use Rattle.fkv_session.specs.Replies.{with_effect}
-use Rattle.fkv_world.specs.Past as world
+use Rattle.law_world.specs.Below.fkv_session.Replies.{with_effect}
+use Rattle.law_world.specs.Below.fkv_world.Past as world
 use Rattle.law_refine.specs.Events.Effects.{is_quiet, AreQuiet, Stepped, TakesEffect, Quietly, Behind, InPlace, ByRecord}
 use Rattle.law_refine.specs.Events.Published.{IsPublished, AllMeetPublished}
 use Rattle.law_refine.specs.Events.Reservations.{Reservation}

@@ -9,21 +9,21 @@ use Rattle.fkv_plane.specs.declared.asks.Ask.{Ask}
 use Rattle.fkv_plane.specs.declared.asks.Ask.TheVariants.{Put, Take, Done}
 use Rattle.fkv_plane.specs.Asked.{reply_to}
 use Rattle.fkv_plane.specs.Plane.{action_at}
-use Rattle.fkv_keeper.specs.declared.keepers.Keeping.{Keeping}
-use Rattle.fkv_keeper.specs.declared.keepers.Keeping.TheVariants.{Ended}
-use Rattle.fkv_keeper.specs.Keeping.{Finality}
-use Rattle.fkv_keeper.specs.KeeperRun.{is_in_hand}
-use Rattle.fkv_session.specs.declared.answers.Told.{Told}
-use Rattle.fkv_session.specs.SessionRun.{SessionEvent, Begins, Replies, Gets, session_run}
-use Rattle.fkv_session.specs.Sessions.{SessionState, Seat, is_busy, session_ask, session_begun, session_next}
-use Rattle.fkv_world.specs.Actors.{is_of_session, session_goes}
+use Rattle.law_world.specs.Below.fkv_keeper.TheKeeping.{Keeping}
+use Rattle.law_world.specs.Below.fkv_keeper.TheKeeping.TheVariants.{Ended}
+use Rattle.law_world.specs.Below.fkv_keeper.Keeping.{Finality}
+use Rattle.law_world.specs.Below.fkv_keeper.KeeperRun.{is_in_hand}
+use Rattle.law_world.specs.Below.fkv_session.Told.{Told}
+use Rattle.law_world.specs.Below.fkv_session.SessionRun.{SessionEvent, Begins, Replies, Gets, session_run}
+use Rattle.law_world.specs.Below.fkv_session.Sessions.{SessionState, Seat, is_busy, session_ask, session_begun, session_next}
+use Rattle.law_world.specs.Below.fkv_world.Actors.{is_of_session, session_goes}
 use Rattle.law_world.specs.Runs.Added.{call_begun, begun_by, call_answered, session_answered, keeper_told, is_calling, ended_by, told_by}
-use Rattle.fkv_world.specs.Moves.{Near}
-use Rattle.fkv_world.specs.OwnEvents.{session_got, session_slots, session_steps, session_part, session_part_found, session_part_of}
-use Rattle.fkv_world.specs.Past.{TraceEvent, Called, Answered, CommitAsked, TurnAsked}
-use Rattle.fkv_world.specs.Runs.{World, happens}
-use Rattle.fkv_world.specs.World.{Event, Calls, Moves, Commits, Turns, KeeperMoves, Crashes, Now, seat_at, near}
-use Rattle.fkv_world.proofs.Shown.{happens_session, is_over, session_apart, session_written}
+use Rattle.law_world.specs.Below.fkv_world.Moves.{Near}
+use Rattle.law_world.specs.Below.fkv_world.OwnEvents.{session_got, session_slots, session_steps, session_part, session_part_found, session_part_of}
+use Rattle.law_world.specs.Below.fkv_world.Past.{TraceEvent, Called, Answered, CommitAsked, TurnAsked}
+use Rattle.law_world.specs.Below.fkv_world.Runs.{World, happens}
+use Rattle.law_world.specs.Below.fkv_world.World.{Event, Calls, Moves, Commits, Turns, KeeperMoves, Crashes, Now, seat_at, near}
+use Rattle.law_world.proofs.Below.fkv_world.Shown.{happens_session, is_over, session_apart, session_written}
 use Rattle.law_world.proofs.OfRuns.Nothing.{in_hand as busy_stays, no_session, none_in_hand}
 
 -- no session tells these

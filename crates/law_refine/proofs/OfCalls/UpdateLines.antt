@@ -12,24 +12,24 @@ use Rattle.fkv_map.specs.declared.operations.Reply.{Reply}
 use Rattle.fkv_map.specs.declared.operations.Reply.TheVariants as reply
 use Rattle.law_log.specs.Trace as log
 use Rattle.law_log.specs.Trace.{TraceLine, GivesResult, CallsRead, IsIn, called_as, HasUpdate, HasReply}
-use Rattle.fkv_session.specs.declared.answers.Finished.{Finished}
-use Rattle.fkv_session.specs.declared.answers.Finished.TheVariants as finished
-use Rattle.fkv_session.specs.declared.answers.Told.{Told}
-use Rattle.fkv_session.specs.declared.answers.Told.TheVariants as told
-use Rattle.fkv_session.specs.declared.sessions.Sitting.{Sitting}
-use Rattle.fkv_session.specs.declared.sessions.Sitting.TheVariants.{Idle}
-use Rattle.fkv_session.specs.Accounts.{number_of}
-use Rattle.fkv_session.specs.Replies.{is_of, UpdateDone, done_by, with_done, done_by_poll, done_told, with_effect, AreRepliesOfEffects}
-use Rattle.fkv_session.specs.SessionRun.{Telling, with_finished, in_hand}
-use Rattle.fkv_session.specs.Sessions.{SessionState, is_busy}
-use Rattle.fkv_session.proofs.Shown.{run_none, run_replies}
+use Rattle.law_world.specs.Below.fkv_session.Finished.{Finished}
+use Rattle.law_world.specs.Below.fkv_session.Finished.TheVariants as finished
+use Rattle.law_world.specs.Below.fkv_session.Told.{Told}
+use Rattle.law_world.specs.Below.fkv_session.Told.TheVariants as told
+use Rattle.law_world.specs.Below.fkv_session.Sitting.{Sitting}
+use Rattle.law_world.specs.Below.fkv_session.Sitting.TheVariants.{Idle}
+use Rattle.law_world.specs.Below.fkv_session.Accounts.{number_of}
+use Rattle.law_world.specs.Below.fkv_session.Replies.{is_of, UpdateDone, done_by, with_done, done_by_poll, done_told, with_effect, AreRepliesOfEffects}
+use Rattle.law_world.specs.Below.fkv_session.SessionRun.{Telling, with_finished, in_hand}
+use Rattle.law_world.specs.Below.fkv_session.Sessions.{SessionState, is_busy}
+use Rattle.law_world.proofs.Below.fkv_session.Shown.{run_none, run_replies}
 use Rattle.law_world.specs.Runs.Added.{call_answered, told_at, told_by}
-use Rattle.fkv_world.specs.Opened.{HasBecome, IsOpenedWorld, answers_of, effects_of, life_told}
-use Rattle.fkv_world.specs.Opened as world
-use Rattle.fkv_world.specs.OwnEvents.{session_events}
-use Rattle.fkv_world.specs.Past.{Effect, Traced, TraceEvent, Called, Answered}
-use Rattle.fkv_world.specs.Runs.{World, happens, run}
-use Rattle.fkv_world.specs.World.{Event, seat_at}
+use Rattle.law_world.specs.Below.fkv_world.Opened.{HasBecome, IsOpenedWorld, answers_of, effects_of, life_told}
+use Rattle.law_world.specs.Below.fkv_world.Opened as world
+use Rattle.law_world.specs.Below.fkv_world.OwnEvents.{session_events}
+use Rattle.law_world.specs.Below.fkv_world.Past.{Effect, Traced, TraceEvent, Called, Answered}
+use Rattle.law_world.specs.Below.fkv_world.Runs.{World, happens, run}
+use Rattle.law_world.specs.Below.fkv_world.World.{Event, seat_at}
 use Rattle.law_world.proofs.OfSessions.Effects.{life_made}
 use Rattle.law_world.proofs.OfSessions.OwnRun.{of_run, opened_so, to_run}
 use Rattle.law_world.proofs.OfRuns.Added.{trace_so}

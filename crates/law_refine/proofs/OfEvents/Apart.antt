@@ -2,33 +2,33 @@
 use Rattle.std.proofs.Common.{◌≡◌, ℕ, suc, ◌<◌, ◌≤◌, ◌∙◌, refl, sym, ap, subst, List}
 use Rattle.std.specs.Prelude.{Option, Some, None}
 use Rattle.fkv_map.specs.declared.history.HistoryEntry.{HistoryEntry}
-use Rattle.fkv_flush.specs.Guarded.{undecided_at, undecided_of}
-use Rattle.fkv_flush.specs.GuardReserved.{UndecidedApart}
-use Rattle.fkv_flush.specs.GuardSeen.{LastSeen}
-use Rattle.fkv_flush.specs.GuardWorld.{GuardWorld}
-use Rattle.fkv_flush.specs.GuardLevels.{levels_of}
-use Rattle.fkv_flush.proofs.Shown.{opening_apart, opening_sound, run_apart, undecided_fresh}
-use Rattle.fkv_log.specs.declared.invalidating.Invalidating.{Invalidating}
-use Rattle.fkv_log.specs.declared.invalidating.Invalidating.TheVariants as invalidating
-use Rattle.fkv_ops.specs.declared.appending.Appending.{Appending}
-use Rattle.fkv_ops.specs.declared.appending.Appending.TheVariants as appending
-use Rattle.fkv_ops.specs.declared.trying.Trying.{Trying}
-use Rattle.fkv_ops.specs.declared.trying.Trying.TheVariants.{Appends}
-use Rattle.fkv_ops.specs.Appending.{AppendState}
-use Rattle.fkv_ops.specs.Trying.{TryState}
-use Rattle.fkv_pending.specs.declared.attempting.Attempting.{Attempting}
-use Rattle.fkv_pending.specs.declared.attempting.Attempting.TheVariants.{Tries}
-use Rattle.fkv_pending.specs.declared.pending_requests.PendingRequest.{PendingRequest}
-use Rattle.fkv_pending.specs.Attempting.{AttemptState}
-use Rattle.fkv_session.specs.declared.sessions.Sitting.{Sitting}
-use Rattle.fkv_session.specs.declared.sessions.Sitting.TheVariants as sitting
-use Rattle.fkv_session.specs.Sessions.{SessionState}
+use Rattle.law_world.specs.Below.fkv_flush.Guarded.{undecided_at, undecided_of}
+use Rattle.law_world.specs.Below.fkv_flush.GuardReserved.{UndecidedApart}
+use Rattle.law_world.specs.Below.fkv_flush.GuardSeen.{LastSeen}
+use Rattle.law_world.specs.Below.fkv_flush.GuardWorld.{GuardWorld}
+use Rattle.law_world.specs.Below.fkv_flush.GuardLevels.{levels_of}
+use Rattle.law_world.proofs.Below.fkv_flush.Shown.{opening_apart, opening_sound, run_apart, undecided_fresh}
+use Rattle.law_world.specs.Below.fkv_log.TheInvalidating.{Invalidating}
+use Rattle.law_world.specs.Below.fkv_log.TheInvalidating.TheVariants as invalidating
+use Rattle.law_world.specs.Below.fkv_ops.TheAppending.{Appending}
+use Rattle.law_world.specs.Below.fkv_ops.TheAppending.TheVariants as appending
+use Rattle.law_world.specs.Below.fkv_ops.TheTrying.{Trying}
+use Rattle.law_world.specs.Below.fkv_ops.TheTrying.TheVariants.{Appends}
+use Rattle.law_world.specs.Below.fkv_ops.Appending.{AppendState}
+use Rattle.law_world.specs.Below.fkv_ops.Trying.{TryState}
+use Rattle.law_world.specs.Below.fkv_pending.TheAttempting.{Attempting}
+use Rattle.law_world.specs.Below.fkv_pending.TheAttempting.TheVariants.{Tries}
+use Rattle.law_world.specs.Below.fkv_pending.PendingRequest.{PendingRequest}
+use Rattle.law_world.specs.Below.fkv_pending.Attempting.{AttemptState}
+use Rattle.law_world.specs.Below.fkv_session.Sitting.{Sitting}
+use Rattle.law_world.specs.Below.fkv_session.Sitting.TheVariants as sitting
+use Rattle.law_world.specs.Below.fkv_session.Sessions.{SessionState}
 use Rattle.law_world.specs.GuardSessions.Likenesses.{append_undecided, invalidate_undecided, last_seen}
 use Rattle.law_world.specs.GuardSessions.Tries.{try_likeness_at}
 use Rattle.law_world.specs.GuardSessions.Attempts.{attempt_likeness_at}
 use Rattle.law_world.specs.GuardSessions.Sessions.{sitting_likeness}
-use Rattle.fkv_world.specs.Runs.{World, run}
-use Rattle.fkv_world.specs.World.{Event, Now}
+use Rattle.law_world.specs.Below.fkv_world.Runs.{World, run}
+use Rattle.law_world.specs.Below.fkv_world.World.{Event, Now}
 use Rattle.law_world.specs.Guarded.GuardEvents as guard
 use Rattle.law_world.specs.Guarded.GuardEvents.{keeper_number}
 use Rattle.law_world.specs.Guarded.Shows.{IsOpened, Shows, guard_opening, seen_by_guard}

@@ -12,21 +12,21 @@ use Rattle.fkv_plane.specs.declared.places.SharedWord.TheVariants as one
 use Rattle.fkv_plane.specs.Asked.{asked, asked_place}
 use Rattle.fkv_plane.specs.Passing.{passed}
 use Rattle.fkv_plane.specs.Places.{shared_place}
-use Rattle.fkv_log.specs.declared.invalidating.Invalidating.{Invalidating}
-use Rattle.fkv_log.specs.declared.invalidating.Invalidating.TheVariants as invalidating
-use Rattle.fkv_log.specs.declared.reserving.ReserveAnswer.TheVariants as reserve
-use Rattle.fkv_log.specs.declared.reserving.Reserving.{Reserving}
-use Rattle.fkv_log.specs.declared.reserving.Reserving.TheVariants as reserving
-use Rattle.fkv_log.specs.Reserving.{reserve_ask, reserve_next, reserve_next_ask, no_room_at}
-use Rattle.fkv_log.specs.Filling.{fill_begun, fill_ask, fill_next}
-use Rattle.fkv_log.specs.Invalidating.{invalidate_ask, invalidate_next}
+use Rattle.law_world.specs.Below.fkv_log.TheInvalidating.{Invalidating}
+use Rattle.law_world.specs.Below.fkv_log.TheInvalidating.TheVariants as invalidating
+use Rattle.law_world.specs.Below.fkv_log.ReserveAnswer.TheVariants as reserve
+use Rattle.law_world.specs.Below.fkv_log.TheReserving.{Reserving}
+use Rattle.law_world.specs.Below.fkv_log.TheReserving.TheVariants as reserving
+use Rattle.law_world.specs.Below.fkv_log.Reserving.{reserve_ask, reserve_next, reserve_next_ask, no_room_at}
+use Rattle.law_world.specs.Below.fkv_log.Filling.{fill_begun, fill_ask, fill_next}
+use Rattle.law_world.specs.Below.fkv_log.Invalidating.{invalidate_ask, invalidate_next}
 use Rattle.fkv_index.specs.declared.publishing.PublishAnswer.{PublishAnswer}
 use Rattle.fkv_index.specs.declared.publishing.PublishAnswer.TheVariants as publish
 use Rattle.fkv_index.specs.Publishing.{publish_next, publish_next_ask}
-use Rattle.fkv_ops.specs.declared.appending.AppendAnswer.TheVariants as answer
-use Rattle.fkv_ops.specs.declared.appending.Appending.{Appending}
-use Rattle.fkv_ops.specs.declared.appending.Appending.TheVariants.{Ended, Reserves as Taking, Fills, Publishes as Publishing, Invalidates}
-use Rattle.fkv_ops.specs.Appending.{AppendState, append_ended, appending_ask, append_ask, addr_reserved, reserve_ledto, fill_ledto, publish_ledto, invalidate_ledto, appending_next, append_next}
+use Rattle.law_world.specs.Below.fkv_ops.AppendAnswer.TheVariants as answer
+use Rattle.law_world.specs.Below.fkv_ops.TheAppending.{Appending}
+use Rattle.law_world.specs.Below.fkv_ops.TheAppending.TheVariants.{Ended, Reserves as Taking, Fills, Publishes as Publishing, Invalidates}
+use Rattle.law_world.specs.Below.fkv_ops.Appending.{AppendState, append_ended, appending_ask, append_ask, addr_reserved, reserve_ledto, fill_ledto, publish_ledto, invalidate_ledto, appending_next, append_next}
 use Rattle.law_refine.specs.Events.Appends.{reserved_ghosts, publish_ghosts, invalidate_ghosts, append_ghosts}
 use Rattle.law_local.specs.Tries.TryRows.{cell_of}
 use Rattle.law_refine.specs.Events.Reservations.{Reservation, MovesOn, TakesTail, Keeps, TakesOne, LosesOne, PublishesOne, DropsOne, reservation, invalidate_reserves, append_reserves}

@@ -9,32 +9,32 @@ use Rattle.fkv_plane.specs.declared.asks.Ask.{Ask}
 use Rattle.fkv_plane.specs.declared.asks.Ask.TheVariants.{Done}
 use Rattle.fkv_plane.specs.declared.places.Places.{Places}
 use Rattle.fkv_plane.specs.Passing.{passed}
-use Rattle.fkv_ops.specs.declared.answers.DiskRecord.{DiskRecord}
-use Rattle.fkv_ops.specs.declared.answers.TryAnswer.{TryAnswer}
-use Rattle.fkv_ops.specs.declared.answers.TryAnswer.TheVariants as answer
-use Rattle.fkv_ops.specs.declared.header_words.HeaderSaid.{HeaderSaid}
-use Rattle.fkv_ops.specs.declared.header_words.HeaderSaid.TheVariants.{Says, Spoiled}
-use Rattle.fkv_ops.specs.HeaderWords.{header_said}
-use Rattle.fkv_ops.specs.Values.{value_of}
-use Rattle.fkv_ops.specs.Trying.{TryState, try_ask, try_next, told_value}
-use Rattle.fkv_ops.proofs.Shown.{is_try_end, TryRestsOrAsks}
-use Rattle.fkv_pending.specs.declared.attempting.Attempting.{Attempting}
-use Rattle.fkv_pending.specs.declared.attempting.Attempting.TheVariants.{Ended, Looks, Tries, Puts}
-use Rattle.fkv_pending.specs.declared.mailing.MailAnswer.{MailAnswer}
-use Rattle.fkv_pending.specs.declared.mailing.MailAnswer.TheVariants as mail
-use Rattle.fkv_pending.specs.declared.mailing.MailRecord.{MailRecord}
-use Rattle.fkv_pending.specs.Mailing.{mail_ask, mail_next}
-use Rattle.fkv_pending.specs.Pending.{with_sought, with_held, with_latch, with_asked}
-use Rattle.fkv_pending.specs.Attempting.{AttemptState, attempting_ask, attempt_ask, attempt_ended, waits_for_disk, puts_addr, puts, tries, is_seeking_read, held_of, moved_on, read_on, record_taken, look_ledto, held_kept, awaits_record, tried, try_ledto, put_ledto, mail_moved, try_moved, attempting_next, attempt_next}
-use Rattle.fkv_pending.proofs.Shown.{AttemptRestsOrAsks}
-use Rattle.fkv_session.specs.Sessions.{Seat, bits_of, room_of}
+use Rattle.law_world.specs.Below.fkv_ops.DiskRecord.{DiskRecord}
+use Rattle.law_world.specs.Below.fkv_ops.TryAnswer.{TryAnswer}
+use Rattle.law_world.specs.Below.fkv_ops.TryAnswer.TheVariants as answer
+use Rattle.law_world.specs.Below.fkv_ops.HeaderSaid.{HeaderSaid}
+use Rattle.law_world.specs.Below.fkv_ops.HeaderSaid.TheVariants.{Says, Spoiled}
+use Rattle.law_world.specs.Below.fkv_ops.HeaderWords.{header_said}
+use Rattle.law_world.specs.Below.fkv_ops.Values.{value_of}
+use Rattle.law_world.specs.Below.fkv_ops.Trying.{TryState, try_ask, try_next, told_value}
+use Rattle.law_world.proofs.Below.fkv_ops.Shown.{is_try_end, TryRestsOrAsks}
+use Rattle.law_world.specs.Below.fkv_pending.TheAttempting.{Attempting}
+use Rattle.law_world.specs.Below.fkv_pending.TheAttempting.TheVariants.{Ended, Looks, Tries, Puts}
+use Rattle.law_world.specs.Below.fkv_pending.MailAnswer.{MailAnswer}
+use Rattle.law_world.specs.Below.fkv_pending.MailAnswer.TheVariants as mail
+use Rattle.law_world.specs.Below.fkv_pending.MailRecord.{MailRecord}
+use Rattle.law_world.specs.Below.fkv_pending.Mailing.{mail_ask, mail_next}
+use Rattle.law_world.specs.Below.fkv_pending.Pending.{with_sought, with_held, with_latch, with_asked}
+use Rattle.law_world.specs.Below.fkv_pending.Attempting.{AttemptState, attempting_ask, attempt_ask, attempt_ended, waits_for_disk, puts_addr, puts, tries, is_seeking_read, held_of, moved_on, read_on, record_taken, look_ledto, held_kept, awaits_record, tried, try_ledto, put_ledto, mail_moved, try_moved, attempting_next, attempt_next}
+use Rattle.law_world.proofs.Below.fkv_pending.Shown.{AttemptRestsOrAsks}
+use Rattle.law_world.specs.Below.fkv_session.Sessions.{Seat, bits_of, room_of}
 use Rattle.law_refine.specs.Events.Tries.{try_ghosts}
 use Rattle.fkv_map.specs.declared.history.HistoryEntry.{HistoryEntry}
 use Rattle.fkv_map.specs.declared.operations.Reply.{Reply}
 use Rattle.law_refine.specs.Events.Reservations.{try_reserves, attempt_reserves}
 use Rattle.law_refine.specs.Events.Effects.{AreQuiet, Stepped, stepped, TakesEffect, Quietly, Behind}
 use Rattle.law_refine.specs.Events.Sessions.{value_ghosts, tried_ghosts, attempt_ghosts}
-use Rattle.fkv_ops.specs.Requests.{is_read}
+use Rattle.law_world.specs.Below.fkv_ops.Requests.{is_read}
 use Rattle.law_refine.proofs.OfEvents.ReadTries.{read_quiet}
 use Rattle.law_refine.proofs.OfEvents.RequestNames.{TriesAt, TriesIts}
 use Rattle.law_refine.proofs.OfEvents.TryEffects.{made_entry, passes_on, quiet, try_takes}

@@ -9,27 +9,27 @@ use Rattle.fkv_plane.specs.declared.asks.Ask.TheVariants.{Done}
 use Rattle.fkv_plane.specs.declared.places.Places.{Places}
 use Rattle.fkv_plane.specs.Asked.{asked, asked_place}
 use Rattle.fkv_plane.specs.Passing.{is_done}
-use Rattle.fkv_ops.specs.declared.answers.DiskRecord.{DiskRecord}
-use Rattle.fkv_ops.specs.declared.answers.TryAnswer.{TryAnswer}
-use Rattle.fkv_ops.specs.declared.answers.TryAnswer.TheVariants as answer
-use Rattle.fkv_ops.specs.declared.requests.Occasion.{Occasion}
-use Rattle.fkv_ops.specs.declared.requests.Seen.{Seen}
-use Rattle.fkv_ops.specs.declared.trying.Trying.{Trying}
-use Rattle.fkv_ops.specs.declared.trying.Trying.TheVariants as trying
-use Rattle.fkv_ops.specs.Trying.{TryState, try_ask, try_next}
-use Rattle.fkv_ops.proofs.Shown.{is_try_end, TryRestsOrAsks, try_done, try_rests}
-use Rattle.fkv_pending.specs.declared.attempting.Attempting.{Attempting}
-use Rattle.fkv_pending.specs.declared.attempting.Attempting.TheVariants.{Ended, Looks, Tries, Puts}
-use Rattle.fkv_pending.specs.declared.mailing.MailAnswer.{MailAnswer}
-use Rattle.fkv_pending.specs.declared.mailing.MailAnswer.TheVariants as mail
-use Rattle.fkv_pending.specs.declared.mailing.MailTask.TheVariants.{Take}
-use Rattle.fkv_pending.specs.declared.mailing.Mailing.TheVariants.{LoadsState}
-use Rattle.fkv_pending.specs.declared.pending_requests.PendingRequest.{PendingRequest}
-use Rattle.fkv_pending.specs.Mailing.{mail_ask, mail_next}
-use Rattle.fkv_pending.specs.Pending.{with_sought, with_held, with_latch}
-use Rattle.fkv_pending.specs.Attempting.{AttemptState, attempting_ask, attempt_ask, waits_for_disk, puts_addr, puts, tries, is_seeking_read, goes_on, attempt_begun, look_ledto, held_kept, awaits_record, tried, try_ledto, put_ledto, mail_moved, try_moved, attempting_next, attempt_next, new_attempt}
-use Rattle.fkv_pending.proofs.Shown.{AttemptRestsOrAsks}
-use Rattle.fkv_session.specs.Sessions.{Seat, bits_of, room_of}
+use Rattle.law_world.specs.Below.fkv_ops.DiskRecord.{DiskRecord}
+use Rattle.law_world.specs.Below.fkv_ops.TryAnswer.{TryAnswer}
+use Rattle.law_world.specs.Below.fkv_ops.TryAnswer.TheVariants as answer
+use Rattle.law_world.specs.Below.fkv_ops.Occasion.{Occasion}
+use Rattle.law_world.specs.Below.fkv_ops.Seen.{Seen}
+use Rattle.law_world.specs.Below.fkv_ops.TheTrying.{Trying}
+use Rattle.law_world.specs.Below.fkv_ops.TheTrying.TheVariants as trying
+use Rattle.law_world.specs.Below.fkv_ops.Trying.{TryState, try_ask, try_next}
+use Rattle.law_world.proofs.Below.fkv_ops.Shown.{is_try_end, TryRestsOrAsks, try_done, try_rests}
+use Rattle.law_world.specs.Below.fkv_pending.TheAttempting.{Attempting}
+use Rattle.law_world.specs.Below.fkv_pending.TheAttempting.TheVariants.{Ended, Looks, Tries, Puts}
+use Rattle.law_world.specs.Below.fkv_pending.MailAnswer.{MailAnswer}
+use Rattle.law_world.specs.Below.fkv_pending.MailAnswer.TheVariants as mail
+use Rattle.law_world.specs.Below.fkv_pending.MailTask.TheVariants.{Take}
+use Rattle.law_world.specs.Below.fkv_pending.TheMailing.TheVariants.{LoadsState}
+use Rattle.law_world.specs.Below.fkv_pending.PendingRequest.{PendingRequest}
+use Rattle.law_world.specs.Below.fkv_pending.Mailing.{mail_ask, mail_next}
+use Rattle.law_world.specs.Below.fkv_pending.Pending.{with_sought, with_held, with_latch}
+use Rattle.law_world.specs.Below.fkv_pending.Attempting.{AttemptState, attempting_ask, attempt_ask, waits_for_disk, puts_addr, puts, tries, is_seeking_read, goes_on, attempt_begun, look_ledto, held_kept, awaits_record, tried, try_ledto, put_ledto, mail_moved, try_moved, attempting_next, attempt_next, new_attempt}
+use Rattle.law_world.proofs.Below.fkv_pending.Shown.{AttemptRestsOrAsks}
+use Rattle.law_world.specs.Below.fkv_session.Sessions.{Seat, bits_of, room_of}
 use Rattle.law_refine.specs.Events.Reservations.{MovesOn, Keeps, Behind, Reservation, try_reserves, attempt_reserves}
 use Rattle.law_refine.specs.Events.Sessions.{value_ghosts, tried_ghosts, attempt_ghosts}
 use Rattle.law_refine.specs.Events.Tries.{try_ghosts}

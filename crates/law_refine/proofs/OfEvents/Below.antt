@@ -10,10 +10,10 @@ use Rattle.law_log.specs.Trace.{TraceLine}
 use Rattle.law_log.proofs.Shown.{Steps, enabled_before, log_steps, run_held, set_else}
 use Rattle.fkv_plane.specs.declared.asks.Ask.{Ask}
 use Rattle.fkv_plane.specs.Asked.{asked, asked_place, reply_to, word_found}
-use Rattle.fkv_session.specs.declared.answers.Told.{Told}
-use Rattle.fkv_session.specs.Sessions.{SessionState, Seat, session_ask}
-use Rattle.fkv_world.specs.Runs.{World, happens, run}
-use Rattle.fkv_world.specs.World.{Event, Moves, seat_at}
+use Rattle.law_world.specs.Below.fkv_session.Told.{Told}
+use Rattle.law_world.specs.Below.fkv_session.Sessions.{SessionState, Seat, session_ask}
+use Rattle.law_world.specs.Below.fkv_world.Runs.{World, happens, run}
+use Rattle.law_world.specs.Below.fkv_world.World.{Event, Moves, seat_at}
 use Rattle.law_world.specs.Guarded.Shows as guard
 use Rattle.law_refine.specs.Events.GhostEvents.{home_in, moved_ghosts, own_ghosts, safe_at, fixed_ghosts, traced_by, serials_in, ghost_events, mapped, life_ghosts}
 use Rattle.law_refine.specs.Events.Lines.{lines_added}

@@ -9,16 +9,16 @@ use Rattle.law_log.specs.Trace.{TraceLine}
 use Rattle.fkv_plane.specs.declared.asks.Ask.{Ask}
 use Rattle.fkv_plane.specs.declared.asks.Ask.TheVariants.{Put, Take, Done}
 use Rattle.fkv_plane.specs.Asked.{reply_to}
-use Rattle.fkv_session.specs.declared.answers.Finished.{Finished}
-use Rattle.fkv_session.specs.declared.answers.Told.{Told}
-use Rattle.fkv_session.specs.declared.sessions.Sitting.{Sitting}
-use Rattle.fkv_session.specs.declared.sessions.Sitting.TheVariants.{Idle}
-use Rattle.fkv_session.specs.Sessions.{SessionState, Seat, session_ask, session_next}
-use Rattle.fkv_world.specs.Past.{Effect, Past, Traced, effect_made, answer_traced, session_traced, history_after, life_past}
-use Rattle.fkv_world.specs.Runs.{World, happens, run}
-use Rattle.fkv_world.specs.World.{Event, Calls, Moves, Commits, Turns, KeeperMoves, Crashes, seat_at}
+use Rattle.law_world.specs.Below.fkv_session.Finished.{Finished}
+use Rattle.law_world.specs.Below.fkv_session.Told.{Told}
+use Rattle.law_world.specs.Below.fkv_session.Sitting.{Sitting}
+use Rattle.law_world.specs.Below.fkv_session.Sitting.TheVariants.{Idle}
+use Rattle.law_world.specs.Below.fkv_session.Sessions.{SessionState, Seat, session_ask, session_next}
+use Rattle.law_world.specs.Below.fkv_world.Past.{Effect, Past, Traced, effect_made, answer_traced, session_traced, history_after, life_past}
+use Rattle.law_world.specs.Below.fkv_world.Runs.{World, happens, run}
+use Rattle.law_world.specs.Below.fkv_world.World.{Event, Calls, Moves, Commits, Turns, KeeperMoves, Crashes, seat_at}
 use Rattle.law_world.proofs.OfRuns.Added.{history_so}
-use Rattle.fkv_world.proofs.Shown.{is_over}
+use Rattle.law_world.proofs.Below.fkv_world.Shown.{is_over}
 use Rattle.law_world.proofs.OfRuns.Nothing.{no_session}
 use Rattle.law_world.specs.Guarded.Shows.{IsOpened}
 use Rattle.law_refine.specs.Events.Effects.{AreQuiet, Stepped, TakesEffect, Quietly, Behind, MakesEffect, no_step, mover_step, step_at}

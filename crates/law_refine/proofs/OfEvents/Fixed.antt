@@ -6,12 +6,12 @@ use Rattle.law_log.specs.Chains.{Logged, Reserved, Published}
 use Rattle.law_log.specs.Ghosts.{Log, Ghosts, GhostEvent, Tells, FindsEntry, TakesValue, Reserves, Publishes, Drops, Changes, Fixes, published, dropped, changed, log_after, ghosts_after, ghost_run}
 use Rattle.law_log.specs.Trace.{TraceLine}
 use Rattle.fkv_map.specs.declared.history.HistoryEntry.{HistoryEntry}
-use Rattle.fkv_flush.specs.GuardLevels.{levels_of, Rises}
-use Rattle.fkv_flush.specs.GuardWorld.{GuardWorld}
-use Rattle.fkv_flush.proofs.Shown.{events_calm}
-use Rattle.fkv_world.specs.Runs.{World, happens, run}
-use Rattle.fkv_world.specs.World.{Event}
-use Rattle.fkv_world.proofs.Shown.{is_over}
+use Rattle.law_world.specs.Below.fkv_flush.GuardLevels.{levels_of, Rises}
+use Rattle.law_world.specs.Below.fkv_flush.GuardWorld.{GuardWorld}
+use Rattle.law_world.proofs.Below.fkv_flush.Shown.{events_calm}
+use Rattle.law_world.specs.Below.fkv_world.Runs.{World, happens, run}
+use Rattle.law_world.specs.Below.fkv_world.World.{Event}
+use Rattle.law_world.proofs.Below.fkv_world.Shown.{is_over}
 use Rattle.law_world.specs.Guarded.GuardEvents as guard
 use Rattle.law_world.specs.Guarded.Shows.{IsOpened, seen_by_guard}
 use Rattle.law_world.proofs.OfGuarded.Outer.{later_write_outer}

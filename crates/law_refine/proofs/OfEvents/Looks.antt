@@ -5,20 +5,20 @@ use Rattle.fkv_map.specs.Keys.{key_of}
 use Rattle.fkv_plane.specs.declared.asks.Ask.{Ask}
 use Rattle.fkv_plane.specs.declared.asks.Ask.TheVariants.{Done}
 use Rattle.fkv_plane.specs.declared.places.Places.{Places}
-use Rattle.fkv_ops.specs.declared.answers.DiskRecord.{DiskRecord}
-use Rattle.fkv_ops.specs.declared.answers.Reason.TheVariants as reason
-use Rattle.fkv_ops.specs.declared.answers.TryAnswer.{TryAnswer}
-use Rattle.fkv_ops.specs.declared.answers.TryAnswer.TheVariants as answer
-use Rattle.fkv_ops.specs.declared.header_words.HeaderSaid.{HeaderSaid}
-use Rattle.fkv_ops.specs.declared.header_words.HeaderSaid.TheVariants.{Says, Spoiled}
-use Rattle.fkv_ops.specs.HeaderWords.{header_said}
-use Rattle.fkv_ops.specs.Values.{value_of}
-use Rattle.fkv_ops.specs.Trying.{told_value}
-use Rattle.fkv_pending.specs.declared.mailing.MailAnswer.{MailAnswer}
-use Rattle.fkv_pending.specs.declared.mailing.MailAnswer.TheVariants as mail
-use Rattle.fkv_pending.specs.declared.mailing.MailRecord.{MailRecord}
-use Rattle.fkv_pending.specs.Pending.{with_sought, with_held, with_asked}
-use Rattle.fkv_pending.specs.Attempting.{AttemptState, attempt_ended, waits_for_disk, puts_addr, puts, tries, is_seeking_read, held_of, moved_on, read_on, record_taken, look_ledto}
+use Rattle.law_world.specs.Below.fkv_ops.DiskRecord.{DiskRecord}
+use Rattle.law_world.specs.Below.fkv_ops.Reason.TheVariants as reason
+use Rattle.law_world.specs.Below.fkv_ops.TryAnswer.{TryAnswer}
+use Rattle.law_world.specs.Below.fkv_ops.TryAnswer.TheVariants as answer
+use Rattle.law_world.specs.Below.fkv_ops.HeaderSaid.{HeaderSaid}
+use Rattle.law_world.specs.Below.fkv_ops.HeaderSaid.TheVariants.{Says, Spoiled}
+use Rattle.law_world.specs.Below.fkv_ops.HeaderWords.{header_said}
+use Rattle.law_world.specs.Below.fkv_ops.Values.{value_of}
+use Rattle.law_world.specs.Below.fkv_ops.Trying.{told_value}
+use Rattle.law_world.specs.Below.fkv_pending.MailAnswer.{MailAnswer}
+use Rattle.law_world.specs.Below.fkv_pending.MailAnswer.TheVariants as mail
+use Rattle.law_world.specs.Below.fkv_pending.MailRecord.{MailRecord}
+use Rattle.law_world.specs.Below.fkv_pending.Pending.{with_sought, with_held, with_asked}
+use Rattle.law_world.specs.Below.fkv_pending.Attempting.{AttemptState, attempt_ended, waits_for_disk, puts_addr, puts, tries, is_seeking_read, held_of, moved_on, read_on, record_taken, look_ledto}
 
 module _ (Holds : AttemptState → Type 0) (ended : (a : AttemptState) (its : TryAnswer) → Holds (attempt_ended a its)) (puts_hold : (a : AttemptState) (sought : Option DiskRecord) → Holds (puts_addr a sought)) (p : Places) (bits : ℕ)
     (tries_hold : (a : AttemptState) → Holds (tries p bits a)) where

@@ -16,50 +16,50 @@ use Rattle.fkv_epoch.proofs.Shown.{none_some, some_same}
 use Rattle.fkv_latch.specs.declared.latching.LatchAnswer.{LatchAnswer}
 use Rattle.fkv_latch.specs.declared.latching.LatchAnswer.TheVariants.{Taken}
 use Rattle.fkv_latch.specs.Latching.{latch_next_ask}
-use Rattle.fkv_ops.specs.declared.answers.DiskRecord.{DiskRecord}
-use Rattle.fkv_ops.specs.declared.answers.Reason.{Reason}
-use Rattle.fkv_ops.specs.declared.answers.Reason.TheVariants as reason
-use Rattle.fkv_ops.specs.declared.answers.TryAnswer.{TryAnswer}
-use Rattle.fkv_ops.specs.declared.answers.TryAnswer.TheVariants as answer
-use Rattle.fkv_ops.specs.declared.header_words.HeaderSaid.{HeaderSaid}
-use Rattle.fkv_ops.specs.declared.header_words.HeaderSaid.TheVariants.{Says, Spoiled}
-use Rattle.fkv_ops.specs.declared.requests.Occasion.{Occasion}
-use Rattle.fkv_ops.specs.declared.requests.Occasion.TheVariants.{Call as AtCall, Poll as AtPoll}
-use Rattle.fkv_ops.specs.declared.requests.Seen.{Seen}
-use Rattle.fkv_ops.specs.HeaderWords.{header_said}
-use Rattle.fkv_ops.specs.Requests.{is_read}
-use Rattle.fkv_ops.specs.Values.{value_of}
-use Rattle.fkv_ops.specs.Trying.{TryState, try_ask, told_value}
-use Rattle.fkv_pending.specs.declared.attempting.Attempting.{Attempting}
-use Rattle.fkv_pending.specs.declared.attempting.Attempting.TheVariants.{Ended, Looks, Tries, Puts}
-use Rattle.fkv_pending.specs.declared.mailing.MailAnswer.{MailAnswer}
-use Rattle.fkv_pending.specs.declared.mailing.MailAnswer.TheVariants as mail
-use Rattle.fkv_pending.specs.declared.mailing.MailRecord.{MailRecord}
-use Rattle.fkv_pending.specs.declared.mailing.MailTask.TheVariants.{Clear}
-use Rattle.fkv_pending.specs.declared.mailing.Mailing.TheVariants.{LoadsState}
-use Rattle.fkv_pending.specs.declared.pending_requests.PendingRequest.{PendingRequest}
-use Rattle.fkv_pending.specs.declared.pending_requests.RequestName.{RequestName}
-use Rattle.fkv_pending.specs.Mailing.{mail_ask, mail_next}
-use Rattle.fkv_pending.specs.Pending.{with_sought, with_held, with_latch, with_asked}
-use Rattle.fkv_pending.specs.Attempting.{AttemptState, attempt_begun, attempt_ask, attempt_ended, waits_for_disk, puts_addr, puts, tries, is_seeking_read, goes_on, held_of, moved_on, read_on, record_taken, look_ledto, held_kept, awaits_record, tried, try_ledto, put_ledto, mail_moved, try_moved, attempting_next, attempt_next, new_attempt}
-use Rattle.fkv_session.specs.declared.answers.Told.{Told}
-use Rattle.fkv_session.specs.declared.answers.Told.TheVariants as told
-use Rattle.fkv_session.specs.declared.catching_up.Catching.{Catching}
-use Rattle.fkv_session.specs.declared.catching_up.Catching.TheVariants.{Latches}
-use Rattle.fkv_session.specs.declared.sessions.CatchCause.{CatchCause}
-use Rattle.fkv_session.specs.declared.sessions.CatchCause.TheVariants as cause
-use Rattle.fkv_session.specs.declared.sessions.Sitting.{Sitting}
-use Rattle.fkv_session.specs.declared.sessions.Sitting.TheVariants.{Idle, Attempts, CatchesUp, ClearsMail, Polls, StoresOwing, Turns, StoresCut, Leaves, LoadsDurable}
-use Rattle.fkv_session.specs.CatchingUp.{CatchState, catch_ask, latched, latch_marked, catching_requests}
-use Rattle.fkv_session.specs.OwnTurns.{own_turn_ask, own_turn_begun, own_turn_given}
-use Rattle.fkv_session.specs.SessionRun.{SessionEvent, Begins, Replies, Gets, begins, session_happens, session_run}
-use Rattle.fkv_session.specs.Sessions.{SessionState, Seat, bits_of, room_of, is_busy, session_ask, answers, answers_after_turn, request_in_hand, attempts, polls_request, polls_at, update_done, is_no_room, with_request, serial_taken, ticket_after, accepts, shifts, attempted, attempt_left, attempt_ledto, caught_up, catch_ledto, clear_ledto, is_finished, is_owed, request_finished, finishes_request, lacks_room, keeps_request, poll_ledto, turn_ledto, leave_ledto, attempt_moved, caught, own_turn_moved, sitting_next, sitting_given, is_word_ask, asks_after, refusal_of, op_begun, refresh_call, poll_begun, poll_call, sleep_call, wake_call, call_begun}
-use Rattle.fkv_session.proofs.Shown.{attempt_keeps}
+use Rattle.law_world.specs.Below.fkv_ops.DiskRecord.{DiskRecord}
+use Rattle.law_world.specs.Below.fkv_ops.Reason.{Reason}
+use Rattle.law_world.specs.Below.fkv_ops.Reason.TheVariants as reason
+use Rattle.law_world.specs.Below.fkv_ops.TryAnswer.{TryAnswer}
+use Rattle.law_world.specs.Below.fkv_ops.TryAnswer.TheVariants as answer
+use Rattle.law_world.specs.Below.fkv_ops.HeaderSaid.{HeaderSaid}
+use Rattle.law_world.specs.Below.fkv_ops.HeaderSaid.TheVariants.{Says, Spoiled}
+use Rattle.law_world.specs.Below.fkv_ops.Occasion.{Occasion}
+use Rattle.law_world.specs.Below.fkv_ops.Occasion.TheVariants.{Call as AtCall, Poll as AtPoll}
+use Rattle.law_world.specs.Below.fkv_ops.Seen.{Seen}
+use Rattle.law_world.specs.Below.fkv_ops.HeaderWords.{header_said}
+use Rattle.law_world.specs.Below.fkv_ops.Requests.{is_read}
+use Rattle.law_world.specs.Below.fkv_ops.Values.{value_of}
+use Rattle.law_world.specs.Below.fkv_ops.Trying.{TryState, try_ask, told_value}
+use Rattle.law_world.specs.Below.fkv_pending.TheAttempting.{Attempting}
+use Rattle.law_world.specs.Below.fkv_pending.TheAttempting.TheVariants.{Ended, Looks, Tries, Puts}
+use Rattle.law_world.specs.Below.fkv_pending.MailAnswer.{MailAnswer}
+use Rattle.law_world.specs.Below.fkv_pending.MailAnswer.TheVariants as mail
+use Rattle.law_world.specs.Below.fkv_pending.MailRecord.{MailRecord}
+use Rattle.law_world.specs.Below.fkv_pending.MailTask.TheVariants.{Clear}
+use Rattle.law_world.specs.Below.fkv_pending.TheMailing.TheVariants.{LoadsState}
+use Rattle.law_world.specs.Below.fkv_pending.PendingRequest.{PendingRequest}
+use Rattle.law_world.specs.Below.fkv_pending.RequestName.{RequestName}
+use Rattle.law_world.specs.Below.fkv_pending.Mailing.{mail_ask, mail_next}
+use Rattle.law_world.specs.Below.fkv_pending.Pending.{with_sought, with_held, with_latch, with_asked}
+use Rattle.law_world.specs.Below.fkv_pending.Attempting.{AttemptState, attempt_begun, attempt_ask, attempt_ended, waits_for_disk, puts_addr, puts, tries, is_seeking_read, goes_on, held_of, moved_on, read_on, record_taken, look_ledto, held_kept, awaits_record, tried, try_ledto, put_ledto, mail_moved, try_moved, attempting_next, attempt_next, new_attempt}
+use Rattle.law_world.specs.Below.fkv_session.Told.{Told}
+use Rattle.law_world.specs.Below.fkv_session.Told.TheVariants as told
+use Rattle.law_world.specs.Below.fkv_session.Catching.{Catching}
+use Rattle.law_world.specs.Below.fkv_session.Catching.TheVariants.{Latches}
+use Rattle.law_world.specs.Below.fkv_session.CatchCause.{CatchCause}
+use Rattle.law_world.specs.Below.fkv_session.CatchCause.TheVariants as cause
+use Rattle.law_world.specs.Below.fkv_session.Sitting.{Sitting}
+use Rattle.law_world.specs.Below.fkv_session.Sitting.TheVariants.{Idle, Attempts, CatchesUp, ClearsMail, Polls, StoresOwing, Turns, StoresCut, Leaves, LoadsDurable}
+use Rattle.law_world.specs.Below.fkv_session.CatchingUp.{CatchState, catch_ask, latched, latch_marked, catching_requests}
+use Rattle.law_world.specs.Below.fkv_session.OwnTurns.{own_turn_ask, own_turn_begun, own_turn_given}
+use Rattle.law_world.specs.Below.fkv_session.SessionRun.{SessionEvent, Begins, Replies, Gets, begins, session_happens, session_run}
+use Rattle.law_world.specs.Below.fkv_session.Sessions.{SessionState, Seat, bits_of, room_of, is_busy, session_ask, answers, answers_after_turn, request_in_hand, attempts, polls_request, polls_at, update_done, is_no_room, with_request, serial_taken, ticket_after, accepts, shifts, attempted, attempt_left, attempt_ledto, caught_up, catch_ledto, clear_ledto, is_finished, is_owed, request_finished, finishes_request, lacks_room, keeps_request, poll_ledto, turn_ledto, leave_ledto, attempt_moved, caught, own_turn_moved, sitting_next, sitting_given, is_word_ask, asks_after, refusal_of, op_begun, refresh_call, poll_begun, poll_call, sleep_call, wake_call, call_begun}
+use Rattle.law_world.proofs.Below.fkv_session.Shown.{attempt_keeps}
 use Rattle.fkv_map.specs.declared.operations.Call.TheVariants.{Refresh}
-use Rattle.fkv_world.specs.OwnEvents.{session_part_of}
-use Rattle.fkv_world.specs.Runs.{World, happens, run}
-use Rattle.fkv_world.specs.World.{Event, Now, seat_at}
-use Rattle.fkv_world.proofs.Shown.{happens_session}
+use Rattle.law_world.specs.Below.fkv_world.OwnEvents.{session_part_of}
+use Rattle.law_world.specs.Below.fkv_world.Runs.{World, happens, run}
+use Rattle.law_world.specs.Below.fkv_world.World.{Event, Now, seat_at}
+use Rattle.law_world.proofs.Below.fkv_world.Shown.{happens_session}
 use Rattle.law_world.specs.Guarded.Shows as guard
 use Rattle.law_world.proofs.OfRuns.Nothing.{none_then}
 use Rattle.law_refine.specs.Events.Names.{is_read_name, IsNamedSo, AreNamedSo, AttemptsNamedSo, RequestsAreNamed}

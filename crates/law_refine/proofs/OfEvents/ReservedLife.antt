@@ -14,12 +14,12 @@ use Rattle.fkv_plane.specs.declared.asks.Ask.{Ask}
 use Rattle.fkv_plane.specs.declared.places.SharedWord.TheVariants as one
 use Rattle.fkv_plane.specs.Asked.{asked, asked_place, reply_to, word_at, word_found}
 use Rattle.fkv_plane.specs.Places.{shared_place}
-use Rattle.fkv_session.specs.declared.answers.Told.{Told}
-use Rattle.fkv_session.specs.Sessions.{SessionState, Seat, session_ask}
-use Rattle.fkv_world.specs.Actors.{is_of_session, session_goes}
-use Rattle.fkv_world.specs.Runs.{World, happens, run}
-use Rattle.fkv_world.specs.World.{Event, Calls, Moves, Commits, Turns, KeeperMoves, Crashes, Now, seat_at, near}
-use Rattle.fkv_world.proofs.Shown.{is_over, session_apart, session_written}
+use Rattle.law_world.specs.Below.fkv_session.Told.{Told}
+use Rattle.law_world.specs.Below.fkv_session.Sessions.{SessionState, Seat, session_ask}
+use Rattle.law_world.specs.Below.fkv_world.Actors.{is_of_session, session_goes}
+use Rattle.law_world.specs.Below.fkv_world.Runs.{World, happens, run}
+use Rattle.law_world.specs.Below.fkv_world.World.{Event, Calls, Moves, Commits, Turns, KeeperMoves, Crashes, Now, seat_at, near}
+use Rattle.law_world.proofs.Below.fkv_world.Shown.{is_over, session_apart, session_written}
 use Rattle.law_world.proofs.OfRuns.Nothing.{no_session}
 use Rattle.law_world.specs.Guarded.Shows.{IsOpened}
 use Rattle.law_refine.specs.Events.GhostEvents.{home_in, moved_ghosts, own_ghosts, safe_at, fixed_ghosts, traced_by, serials_in, ghost_events, mapped, life_ghosts}

@@ -6,9 +6,9 @@ use Rattle.law_log.specs.Trace.{TraceLine}
 use Rattle.fkv_plane.specs.declared.asks.Ask.{Ask}
 use Rattle.fkv_plane.specs.declared.asks.Ask.TheVariants.{Put, Take, Done}
 use Rattle.fkv_plane.specs.Asked.{reply_to}
-use Rattle.fkv_session.specs.declared.answers.Told.{Told}
-use Rattle.fkv_session.specs.Sessions.{SessionState, Seat}
-use Rattle.fkv_world.specs.Past.{Traced}
+use Rattle.law_world.specs.Below.fkv_session.Told.{Told}
+use Rattle.law_world.specs.Below.fkv_session.Sessions.{SessionState, Seat}
+use Rattle.law_world.specs.Below.fkv_world.Past.{Traced}
 use Rattle.law_refine.specs.Events.GhostEvents.{fixed_ghosts}
 use Rattle.law_refine.specs.Events.Reservations.{AreStill, Reservation, TakesTail, MovesOn, Keeps, Behind, TakesOne, LosesOne, PublishesOne, DropsOne}
 use Rattle.law_refine.specs.Events.Sessions.{sitting_ghosts, step_ghosts}

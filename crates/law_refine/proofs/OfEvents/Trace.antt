@@ -4,9 +4,9 @@ use Rattle.std.specs.Prelude.{length, map, if◌then◌else◌, ◌==◌}
 use Rattle.law_log.specs.Ghosts.{Ghosts, GhostEvent, Tells, FindsEntry, TakesValue, Reserves, Publishes, Drops, Changes, Fixes, trace_after, ghosts_after, ghost_run}
 use Rattle.law_log.specs.Trace.{TraceLine}
 use Rattle.law_world.specs.Runs.Added.{told_at, begun_by, ended_by}
-use Rattle.fkv_world.specs.Past.{Traced}
-use Rattle.fkv_world.specs.Runs.{World, happens, run}
-use Rattle.fkv_world.specs.World.{Event}
+use Rattle.law_world.specs.Below.fkv_world.Past.{Traced}
+use Rattle.law_world.specs.Below.fkv_world.Runs.{World, happens, run}
+use Rattle.law_world.specs.Below.fkv_world.World.{Event}
 use Rattle.law_world.proofs.OfRuns.Added.{trace_so}
 use Rattle.law_refine.specs.Events.GhostEvents.{own_ghosts, safe_at, fixed_ghosts, traced_by, serials_in, ghost_events, mapped, home_in, life_ghosts}
 use Rattle.law_refine.specs.Events.Lines.{event_lines, lines_of, lines_added}

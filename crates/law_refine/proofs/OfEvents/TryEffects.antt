@@ -18,40 +18,40 @@ use Rattle.fkv_plane.specs.declared.places.RecordWord.TheVariants as rec
 use Rattle.fkv_plane.specs.Places.{record_place}
 use Rattle.fkv_plane.specs.declared.places.Places.{Places}
 use Rattle.fkv_plane.specs.Passing.{passed}
-use Rattle.fkv_log.specs.declared.regions.Region.{Region}
-use Rattle.fkv_log.specs.Regions.{seen_region_of}
+use Rattle.law_world.specs.Below.fkv_log.Region.{Region}
+use Rattle.law_world.specs.Below.fkv_log.Regions.{seen_region_of}
 use Rattle.fkv_latch.specs.declared.latching.LatchAnswer.{LatchAnswer}
 use Rattle.fkv_latch.specs.declared.latching.LatchAnswer.TheVariants as latch
 use Rattle.fkv_latch.specs.declared.latching.LatchTask.TheVariants.{DropShared, TakeExclusive, DropExclusive}
 use Rattle.fkv_latch.specs.Latching.{latch_next_ask}
 use Rattle.fkv_index.specs.declared.finding.Found.{Found}
-use Rattle.fkv_ops.specs.declared.answers.Reason.TheVariants as reason
-use Rattle.fkv_ops.specs.declared.answers.TryAnswer.{TryAnswer}
-use Rattle.fkv_ops.specs.declared.answers.TryAnswer.TheVariants as answer
-use Rattle.fkv_ops.specs.declared.appending.Appending.{Appending}
-use Rattle.fkv_ops.specs.declared.appending.Appending.TheVariants as appending
-use Rattle.fkv_ops.specs.declared.appending.AppendAnswer.{AppendAnswer}
-use Rattle.fkv_ops.specs.declared.appending.AppendAnswer.TheVariants as append
-use Rattle.fkv_ops.specs.declared.requests.HeldRecord.{HeldRecord}
-use Rattle.fkv_ops.specs.declared.requests.Request.{Request}
-use Rattle.fkv_ops.specs.declared.trying.OldValue.{OldValue}
-use Rattle.fkv_ops.specs.declared.trying.OldValue.TheVariants.{InMemory, Known}
-use Rattle.fkv_ops.specs.declared.trying.Trying.{Trying}
-use Rattle.fkv_ops.specs.declared.trying.Trying.TheVariants.{Ended, TakesShared, Walks, LoadsSafe, SwapsValue, LoadsCurrent, ChangesValue, LoadsAnswer, TakesExclusive, LoadsOld, Appends, DropsExclusive, DropsShared}
-use Rattle.fkv_ops.specs.declared.walking.WalkAnswer.{WalkAnswer}
-use Rattle.fkv_ops.specs.declared.walking.WalkAnswer.TheVariants as walk
-use Rattle.fkv_ops.specs.Requests.{is_read, is_blind}
-use Rattle.fkv_ops.specs.Values.{value_of, word_of}
-use Rattle.fkv_ops.specs.Walking.{WalkState, walk_ask, walk_next, walk_on}
-use Rattle.fkv_ops.specs.Appending.{AppendState, append_ask, append_next, append_ended, appending_ask, reserve_ledto, fill_ledto, publish_ledto, invalidate_ledto, appending_next}
-use Rattle.fkv_ops.specs.Trying.{TryState, with_latch, is_wait, ended_without, ends, takes_effect, full_at, shared_ledto, must_shift, wants_exclusive, appends, copies_from, copies, awaits, held_used, met_nowhere, met_disk, changes, is_own_version, region_met, met_record, walked, has_walked, walk_ledto, safe_loaded, current_ledto, told_value, answer_ledto, exclusive_ledto, old_ledto, append_ledto, exclusive_dropped, shared_dropped, latch_moved, walk_moved, trying_ask, try_ask, trying_next, try_next}
-use Rattle.fkv_ops.proofs.Shown.{is_append_end, TryRestsOrAsks, IsAppendUnderWay}
-use Rattle.fkv_pending.specs.declared.pending_requests.PendingRequest.{PendingRequest}
-use Rattle.fkv_log.specs.declared.reserving.ReserveAnswer.{ReserveAnswer}
-use Rattle.fkv_log.specs.declared.reserving.ReserveAnswer.TheVariants as reserve
-use Rattle.fkv_log.specs.Reserving.{reserve_next, reserve_next_ask}
-use Rattle.fkv_log.specs.Filling.{fill_begun, fill_ask, fill_next}
-use Rattle.fkv_log.specs.Invalidating.{invalidate_ask, invalidate_next}
+use Rattle.law_world.specs.Below.fkv_ops.Reason.TheVariants as reason
+use Rattle.law_world.specs.Below.fkv_ops.TryAnswer.{TryAnswer}
+use Rattle.law_world.specs.Below.fkv_ops.TryAnswer.TheVariants as answer
+use Rattle.law_world.specs.Below.fkv_ops.TheAppending.{Appending}
+use Rattle.law_world.specs.Below.fkv_ops.TheAppending.TheVariants as appending
+use Rattle.law_world.specs.Below.fkv_ops.AppendAnswer.{AppendAnswer}
+use Rattle.law_world.specs.Below.fkv_ops.AppendAnswer.TheVariants as append
+use Rattle.law_world.specs.Below.fkv_ops.HeldRecord.{HeldRecord}
+use Rattle.law_world.specs.Below.fkv_ops.Request.{Request}
+use Rattle.law_world.specs.Below.fkv_ops.OldValue.{OldValue}
+use Rattle.law_world.specs.Below.fkv_ops.OldValue.TheVariants.{InMemory, Known}
+use Rattle.law_world.specs.Below.fkv_ops.TheTrying.{Trying}
+use Rattle.law_world.specs.Below.fkv_ops.TheTrying.TheVariants.{Ended, TakesShared, Walks, LoadsSafe, SwapsValue, LoadsCurrent, ChangesValue, LoadsAnswer, TakesExclusive, LoadsOld, Appends, DropsExclusive, DropsShared}
+use Rattle.law_world.specs.Below.fkv_ops.WalkAnswer.{WalkAnswer}
+use Rattle.law_world.specs.Below.fkv_ops.WalkAnswer.TheVariants as walk
+use Rattle.law_world.specs.Below.fkv_ops.Requests.{is_read, is_blind}
+use Rattle.law_world.specs.Below.fkv_ops.Values.{value_of, word_of}
+use Rattle.law_world.specs.Below.fkv_ops.Walking.{WalkState, walk_ask, walk_next, walk_on}
+use Rattle.law_world.specs.Below.fkv_ops.Appending.{AppendState, append_ask, append_next, append_ended, appending_ask, reserve_ledto, fill_ledto, publish_ledto, invalidate_ledto, appending_next}
+use Rattle.law_world.specs.Below.fkv_ops.Trying.{TryState, with_latch, is_wait, ended_without, ends, takes_effect, full_at, shared_ledto, must_shift, wants_exclusive, appends, copies_from, copies, awaits, held_used, met_nowhere, met_disk, changes, is_own_version, region_met, met_record, walked, has_walked, walk_ledto, safe_loaded, current_ledto, told_value, answer_ledto, exclusive_ledto, old_ledto, append_ledto, exclusive_dropped, shared_dropped, latch_moved, walk_moved, trying_ask, try_ask, trying_next, try_next}
+use Rattle.law_world.proofs.Below.fkv_ops.Shown.{is_append_end, TryRestsOrAsks, IsAppendUnderWay}
+use Rattle.law_world.specs.Below.fkv_pending.PendingRequest.{PendingRequest}
+use Rattle.law_world.specs.Below.fkv_log.ReserveAnswer.{ReserveAnswer}
+use Rattle.law_world.specs.Below.fkv_log.ReserveAnswer.TheVariants as reserve
+use Rattle.law_world.specs.Below.fkv_log.Reserving.{reserve_next, reserve_next_ask}
+use Rattle.law_world.specs.Below.fkv_log.Filling.{fill_begun, fill_ask, fill_next}
+use Rattle.law_world.specs.Below.fkv_log.Invalidating.{invalidate_ask, invalidate_next}
 use Rattle.fkv_index.specs.declared.publishing.PublishAnswer.{PublishAnswer}
 use Rattle.fkv_index.specs.declared.publishing.PublishAnswer.TheVariants as publish
 use Rattle.fkv_index.specs.declared.publishing.Publishing.{Publishing}

@@ -11,11 +11,11 @@ use Rattle.fkv_plane.specs.declared.places.SharedWord.TheVariants as one
 use Rattle.fkv_plane.specs.Asked.{asked, asked_place, reply_to, word_at, word_found, words_after, words_changed}
 use Rattle.fkv_plane.specs.Places.{shared_place}
 use Rattle.fkv_epoch.proofs.Shown.{word_written}
-use Rattle.fkv_flush.specs.GuardWorld.{GuardWorld}
-use Rattle.fkv_session.specs.declared.answers.Told.{Told}
-use Rattle.fkv_session.specs.Sessions.{SessionState, Seat, session_ask}
-use Rattle.fkv_world.specs.Runs.{World, happens, run}
-use Rattle.fkv_world.specs.World.{Event, Moves, seat_at}
+use Rattle.law_world.specs.Below.fkv_flush.GuardWorld.{GuardWorld}
+use Rattle.law_world.specs.Below.fkv_session.Told.{Told}
+use Rattle.law_world.specs.Below.fkv_session.Sessions.{SessionState, Seat, session_ask}
+use Rattle.law_world.specs.Below.fkv_world.Runs.{World, happens, run}
+use Rattle.law_world.specs.Below.fkv_world.World.{Event, Moves, seat_at}
 use Rattle.law_world.proofs.OfRuns.OneWord.{session_writes}
 use Rattle.law_world.specs.Guarded.Shows.{IsOpened, seen_by_guard}
 use Rattle.law_world.proofs.OfGuarded.Worlds.{life_shows}

@@ -4,30 +4,30 @@ use Rattle.std.specs.Prelude.{slice_get, Some}
 use Rattle.std.proofs.lemmas.Nat.{and_mask}
 use Rattle.fkv_base.specs.declared.shapes.Shape.{Shape}
 use Rattle.fkv_plane.specs.declared.places.Places.{Places}
-use Rattle.fkv_keeper.specs.KeeperRun as keeper
-use Rattle.fkv_keeper.specs.Keeping.{KeeperState}
-use Rattle.fkv_session.specs.Sessions.{SessionState, IsOpened}
-use Rattle.fkv_world.specs.Opened.{IsOpenedWorld}
-use Rattle.fkv_world.specs.World.{life_goes}
-use Rattle.fkv_world.specs.Moves.{session_settled, session_asks}
-use Rattle.fkv_world.specs.Past.{history_after, life_past}
-use Rattle.fkv_world.specs.Runs.{run}
+use Rattle.law_world.specs.Below.fkv_keeper.KeeperRun as keeper
+use Rattle.law_world.specs.Below.fkv_keeper.Keeping.{KeeperState}
+use Rattle.law_world.specs.Below.fkv_session.Sessions.{SessionState, IsOpened}
+use Rattle.law_world.specs.Below.fkv_world.Opened.{IsOpenedWorld}
+use Rattle.law_world.specs.Below.fkv_world.World.{life_goes}
+use Rattle.law_world.specs.Below.fkv_world.Moves.{session_settled, session_asks}
+use Rattle.law_world.specs.Below.fkv_world.Past.{history_after, life_past}
+use Rattle.law_world.specs.Below.fkv_world.Runs.{run}
 use Rattle.law_world.specs.Runs.Added.{begun_by, ended_by}
-use Rattle.fkv_session.specs.Sessions.{sitting_ask, attempts, polls_at, op_begun, refresh_call, poll_call, sleep_call, wake_call, accepts, shifts, attempt_ledto, catch_ledto, clear_ledto, finishes_request, keeps_request, poll_ledto, turn_ledto, leave_ledto, sitting_next, sitting_given}
-use Rattle.fkv_pending.specs.Attempting.{attempting_ask, look_ledto, try_ledto, put_ledto, attempting_next}
-use Rattle.fkv_pending.specs.Pending.{with_sought, with_held, with_latch, with_asked}
-use Rattle.fkv_pending.specs.Mailing.{mail_ask, mail_next}
-use Rattle.fkv_ops.specs.Trying.{trying_ask, ends, shared_ledto, appends, copies_from, copies, held_used, walk_ledto, current_ledto, answer_ledto, exclusive_ledto, old_ledto, append_ledto, exclusive_dropped, shared_dropped, trying_next}
-use Rattle.fkv_ops.specs.Walking.{walking_ask, find_ledto, load_ledto, value_ledto, walking_next, walking_on}
-use Rattle.fkv_ops.specs.Appending.{appending_ask, reserve_ledto, fill_ledto, publish_ledto, invalidate_ledto, appending_next}
-use Rattle.fkv_ops.specs.HeaderWords.{header_said}
+use Rattle.law_world.specs.Below.fkv_session.Sessions.{sitting_ask, attempts, polls_at, op_begun, refresh_call, poll_call, sleep_call, wake_call, accepts, shifts, attempt_ledto, catch_ledto, clear_ledto, finishes_request, keeps_request, poll_ledto, turn_ledto, leave_ledto, sitting_next, sitting_given}
+use Rattle.law_world.specs.Below.fkv_pending.Attempting.{attempting_ask, look_ledto, try_ledto, put_ledto, attempting_next}
+use Rattle.law_world.specs.Below.fkv_pending.Pending.{with_sought, with_held, with_latch, with_asked}
+use Rattle.law_world.specs.Below.fkv_pending.Mailing.{mail_ask, mail_next}
+use Rattle.law_world.specs.Below.fkv_ops.Trying.{trying_ask, ends, shared_ledto, appends, copies_from, copies, held_used, walk_ledto, current_ledto, answer_ledto, exclusive_ledto, old_ledto, append_ledto, exclusive_dropped, shared_dropped, trying_next}
+use Rattle.law_world.specs.Below.fkv_ops.Walking.{walking_ask, find_ledto, load_ledto, value_ledto, walking_next, walking_on}
+use Rattle.law_world.specs.Below.fkv_ops.Appending.{appending_ask, reserve_ledto, fill_ledto, publish_ledto, invalidate_ledto, appending_next}
+use Rattle.law_world.specs.Below.fkv_ops.HeaderWords.{header_said}
 use Rattle.fkv_index.specs.Finding.{find_step_ask, find_led}
 use Rattle.fkv_index.specs.Publishing.{publish_ask, publish_next, publish_next_ask}
 use Rattle.fkv_index.specs.Slots.{slot_word}
-use Rattle.fkv_log.specs.Reserving.{reserve_ask, reserve_next, reserve_next_ask}
-use Rattle.fkv_log.specs.Filling.{fill_ask, fill_next}
-use Rattle.fkv_log.specs.Loading.{load_ask, load_next, load_next_ask, load_on}
-use Rattle.fkv_log.specs.Invalidating.{invalidate_ask, invalidate_next}
+use Rattle.law_world.specs.Below.fkv_log.Reserving.{reserve_ask, reserve_next, reserve_next_ask}
+use Rattle.law_world.specs.Below.fkv_log.Filling.{fill_ask, fill_next}
+use Rattle.law_world.specs.Below.fkv_log.Loading.{load_ask, load_next, load_next_ask, load_on}
+use Rattle.law_world.specs.Below.fkv_log.Invalidating.{invalidate_ask, invalidate_next}
 use Rattle.fkv_plane.specs.Passing.{passed}
 use Rattle.law_log.specs.Ghosts.{set_at, ghosts_after, ghost_run}
 use Rattle.law_refine.specs.Events.GhostEvents.{ghost_events, mapped}

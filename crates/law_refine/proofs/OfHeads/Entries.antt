@@ -9,8 +9,8 @@ use Rattle.fkv_index.specs.Slots.{entry_addr, entry_tag}
 use Rattle.law_log.specs.Ghosts.{Log}
 use Rattle.fkv_index.specs.OneEntry.{IsHome}
 use Rattle.fkv_index.specs.IndexWorld.{index_run, new_entry}
-use Rattle.fkv_world.specs.Runs.{World}
-use Rattle.fkv_world.specs.World.{Now}
+use Rattle.law_world.specs.Below.fkv_world.Runs.{World}
+use Rattle.law_world.specs.Below.fkv_world.World.{Now}
 use Rattle.law_refine.specs.Index.IndexEvents.{mapped}
 use Rattle.law_refine.specs.Index.LifeEntries.{lists_seen}
 use Rattle.law_refine.specs.Events.GhostEvents.{home_number}

@@ -24,11 +24,11 @@ use Rattle.fkv_index.specs.OneEntry.{IsHome}
 use Rattle.fkv_index.specs.Publishing.{publish_first}
 use Rattle.fkv_index.specs.Slots.{entry_addr, entry_tag}
 use Rattle.fkv_index.proofs.Shown.{IsSound, WorkKnows, homes_are_there}
-use Rattle.fkv_session.specs.declared.answers.Told.TheVariants.{Slept}
-use Rattle.fkv_session.specs.Sessions.{SessionState, session_ask}
-use Rattle.fkv_world.specs.Runs.{World, happens, run}
-use Rattle.fkv_world.specs.World.{Event, Calls, Moves, Commits, Turns, KeeperMoves, Crashes, Now, seat_at}
-use Rattle.fkv_world.proofs.Shown.{places_stay, shape_stays}
+use Rattle.law_world.specs.Below.fkv_session.Told.TheVariants.{Slept}
+use Rattle.law_world.specs.Below.fkv_session.Sessions.{SessionState, session_ask}
+use Rattle.law_world.specs.Below.fkv_world.Runs.{World, happens, run}
+use Rattle.law_world.specs.Below.fkv_world.World.{Event, Calls, Moves, Commits, Turns, KeeperMoves, Crashes, Now, seat_at}
+use Rattle.law_world.proofs.Below.fkv_world.Shown.{places_stay, shape_stays}
 use Rattle.law_world.specs.Guarded.Shows as guard
 use Rattle.law_refine.specs.Index.Finders.{Search, KeptSlot, SessionWork, NoWork, Searches, KeepsSlot, PublishesEntry, search_in, session_part}
 use Rattle.law_refine.specs.Index.LifeEntries.{lists_seen, AskForThese, entry_won, won_there}

@@ -6,26 +6,26 @@ use Rattle.fkv_base.specs.declared.numbers.Addr.{Addr}
 use Rattle.fkv_plane.specs.declared.asks.Ask.{Ask}
 use Rattle.fkv_plane.specs.declared.asks.Ask.TheVariants.{Done}
 use Rattle.fkv_plane.specs.declared.places.Places.{Places}
-use Rattle.fkv_log.specs.declared.reserving.ReserveAnswer.{ReserveAnswer}
-use Rattle.fkv_log.specs.declared.reserving.ReserveAnswer.TheVariants as reserve
-use Rattle.fkv_log.specs.Reserving.{reserve_next, reserve_next_ask}
-use Rattle.fkv_log.specs.Filling.{fill_begun, fill_ask, fill_next}
-use Rattle.fkv_log.specs.Invalidating.{invalidate_ask, invalidate_next}
+use Rattle.law_world.specs.Below.fkv_log.ReserveAnswer.{ReserveAnswer}
+use Rattle.law_world.specs.Below.fkv_log.ReserveAnswer.TheVariants as reserve
+use Rattle.law_world.specs.Below.fkv_log.Reserving.{reserve_next, reserve_next_ask}
+use Rattle.law_world.specs.Below.fkv_log.Filling.{fill_begun, fill_ask, fill_next}
+use Rattle.law_world.specs.Below.fkv_log.Invalidating.{invalidate_ask, invalidate_next}
 use Rattle.fkv_index.specs.declared.publishing.PublishAnswer.{PublishAnswer}
 use Rattle.fkv_index.specs.declared.publishing.PublishAnswer.TheVariants as publish
 use Rattle.fkv_index.specs.declared.publishing.Publishing.{Publishing}
 use Rattle.fkv_index.specs.Publishing.{publish_first, publish_next, publish_next_ask, published_where}
 use Rattle.fkv_index.specs.IndexWorld.{may_publish, new_entry}
 use Rattle.fkv_index.specs.Slots.{entry_addr}
-use Rattle.fkv_ops.specs.declared.appending.Appending.{Appending}
-use Rattle.fkv_ops.specs.declared.appending.Appending.TheVariants as appending
-use Rattle.fkv_ops.specs.declared.appending.AppendAnswer.{AppendAnswer}
-use Rattle.fkv_ops.specs.declared.appending.AppendAnswer.TheVariants as append
-use Rattle.fkv_ops.specs.declared.appending.FoundSlot.{FoundSlot}
-use Rattle.fkv_ops.specs.Appending.{AppendState, append_ended, addr_reserved, reserve_ledto, fill_ledto, publish_ledto, invalidate_ledto, appending_next, append_next}
-use Rattle.fkv_ops.specs.Requests.{is_read}
-use Rattle.fkv_ops.specs.Trying.{TryState, slot_of}
-use Rattle.fkv_ops.proofs.Shown.{is_append_end}
+use Rattle.law_world.specs.Below.fkv_ops.TheAppending.{Appending}
+use Rattle.law_world.specs.Below.fkv_ops.TheAppending.TheVariants as appending
+use Rattle.law_world.specs.Below.fkv_ops.AppendAnswer.{AppendAnswer}
+use Rattle.law_world.specs.Below.fkv_ops.AppendAnswer.TheVariants as append
+use Rattle.law_world.specs.Below.fkv_ops.FoundSlot.{FoundSlot}
+use Rattle.law_world.specs.Below.fkv_ops.Appending.{AppendState, append_ended, addr_reserved, reserve_ledto, fill_ledto, publish_ledto, invalidate_ledto, appending_next, append_next}
+use Rattle.law_world.specs.Below.fkv_ops.Requests.{is_read}
+use Rattle.law_world.specs.Below.fkv_ops.Trying.{TryState, slot_of}
+use Rattle.law_world.proofs.Below.fkv_ops.Shown.{is_append_end}
 use Rattle.law_refine.specs.Index.Finders.{SessionWork, NoWork, KeepsSlot, PublishesEntry, slot_kept, kept_work, append_work}
 use Rattle.law_refine.proofs.OfIndex.Goes.{WorkGoes, Drops, Enters, stays}
 use Rattle.law_refine.proofs.OfIndex.WalkParts.{IsUpdate, kept_quiet}

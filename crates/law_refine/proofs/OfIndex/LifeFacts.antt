@@ -17,10 +17,10 @@ use Rattle.fkv_index.specs.OneEntry.{IsIndex, HasSlot, IsTrueAnswer, spare_in, s
 use Rattle.fkv_index.specs.Publishing.{publish_first, publish_ask}
 use Rattle.fkv_index.specs.SlotOrders.{slot_order, IsFilled, HasTagsOnce}
 use Rattle.fkv_index.proofs.Shown.{IsSound, run_sound, opening_sound, sound_answers, sound_full, sound_lost, sound_spares, sound_slots, sound_entries, sound_filled, sound_tags}
-use Rattle.fkv_session.specs.declared.answers.Told.TheVariants as told
-use Rattle.fkv_session.specs.Sessions.{SessionState}
-use Rattle.fkv_world.specs.World.{Event, Now, seat_at}
-use Rattle.fkv_world.specs.Runs.{World, run}
+use Rattle.law_world.specs.Below.fkv_session.Told.TheVariants as told
+use Rattle.law_world.specs.Below.fkv_session.Sessions.{SessionState}
+use Rattle.law_world.specs.Below.fkv_world.World.{Event, Now, seat_at}
+use Rattle.law_world.specs.Below.fkv_world.Runs.{World, run}
 use Rattle.law_refine.specs.Index.Finders.{Search, SessionWork, NoWork, Searches, KeepsSlot, PublishesEntry, search_in, session_part}
 use Rattle.law_refine.specs.Index.IndexEvents.{mapped}
 use Rattle.law_refine.specs.Index.LifeEntries.{lists_seen, spare_held, session_spare, IsIndexNow, FullIsSo, ContendedHasLost, AreAnsweredSo, AreSlotsKept, AreOrders, AskForThese}

@@ -20,11 +20,11 @@ use Rattle.fkv_index.specs.Publishing.{publish_first, publish_ask, publish_next_
 use Rattle.fkv_index.specs.Searches.{LinksOne, IsLinkBy}
 use Rattle.fkv_index.specs.SlotOrders.{OrdersMove}
 use Rattle.fkv_index.proofs.Shown.{IsSound, event_entries, event_happened, event_orders, sound_lists}
-use Rattle.fkv_keeper.specs.Keeping.{keeper_ask}
-use Rattle.fkv_session.specs.Sessions.{SessionState, is_busy, session_ask}
-use Rattle.fkv_world.specs.Moves.{session_moved}
-use Rattle.fkv_world.specs.Runs.{World, run}
-use Rattle.fkv_world.specs.World.{Event, Calls, Moves, Commits, Turns, KeeperMoves, Crashes, Now, seat_at, near, session_called}
+use Rattle.law_world.specs.Below.fkv_keeper.Keeping.{keeper_ask}
+use Rattle.law_world.specs.Below.fkv_session.Sessions.{SessionState, is_busy, session_ask}
+use Rattle.law_world.specs.Below.fkv_world.Moves.{session_moved}
+use Rattle.law_world.specs.Below.fkv_world.Runs.{World, run}
+use Rattle.law_world.specs.Below.fkv_world.World.{Event, Calls, Moves, Commits, Turns, KeeperMoves, Crashes, Now, seat_at, near, session_called}
 use Rattle.law_refine.specs.Index.Finders.{Search, KeptSlot, SessionWork, NoWork, Searches, KeepsSlot, PublishesEntry, search_in, entry_in, session_part, session_search, session_entry}
 use Rattle.law_refine.specs.Index.IndexEvents.{search_begun, publish_begun, begun_by, changed_at, changed_by, asked_by, moved_events, called_events, life_events, index_events, mapped}
 use Rattle.law_refine.specs.Index.LifeEntries.{won_there, entry_won, IsLinkNow, MovesIndex, EachMovesIndex}

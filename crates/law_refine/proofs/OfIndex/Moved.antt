@@ -6,9 +6,9 @@ use Rattle.fkv_plane.specs.declared.asks.Ask.{Ask}
 use Rattle.fkv_plane.specs.declared.asks.Ask.TheVariants.{Load, Store, Swap, Cas, Add, Max, Put, Take, Done}
 use Rattle.fkv_plane.specs.Asked.{words_after, reply_to}
 use Rattle.fkv_plane.specs.Plane.{action_at}
-use Rattle.fkv_session.specs.declared.answers.Told.{Told}
-use Rattle.fkv_session.specs.Sessions.{SessionState, Seat, session_ask, session_next, is_word_ask}
-use Rattle.fkv_world.specs.Moves.{Near, session_gets, session_settled, session_replied, session_asks}
+use Rattle.law_world.specs.Below.fkv_session.Told.{Told}
+use Rattle.law_world.specs.Below.fkv_session.Sessions.{SessionState, Seat, session_ask, session_next, is_word_ask}
+use Rattle.law_world.specs.Below.fkv_world.Moves.{Near, session_gets, session_settled, session_replied, session_asks}
 use Rattle.law_refine.specs.Index.Finders.{NoWork, IndexPart, session_part}
 use Rattle.law_refine.proofs.OfIndex.Goes.{IsQuiet, stays_part, goes_on_to}
 use Rattle.law_refine.proofs.OfIndex.SessionParts.{SittingKnows, SessionGoes, Homes, session_goes, given_goes}

@@ -1,9 +1,9 @@
 -- What a world that was opened owes for its index.
 use Rattle.std.proofs.Common.{◌≡◌, ℕ, sym, List}
 use Rattle.fkv_index.specs.OneEntry.{IsIndexAt}
-use Rattle.fkv_keeper.specs.NewKeepers.{ArePlacesOfStore}
-use Rattle.fkv_world.specs.Opened.{IsOpenedWorld}
-use Rattle.fkv_world.specs.Runs.{World}
+use Rattle.law_world.specs.Below.fkv_keeper.NewKeepers.{ArePlacesOfStore}
+use Rattle.law_world.specs.Below.fkv_world.Opened.{IsOpenedWorld}
+use Rattle.law_world.specs.Below.fkv_world.Runs.{World}
 use Rattle.law_refine.specs.Index.Shows.{IsOpened, opening_index}
 
 -- its words lie where they do in a store of its shape, its index is in order, and its keeper finishes commits for just its sessions

@@ -15,8 +15,8 @@ use Rattle.fkv_index.specs.IndexWorld as index
 use Rattle.fkv_index.specs.IndexWorld.{IndexActor, IndexNow, is_bucket_place, is_link_place, is_barred, new_entry, actor_step, actor_after}
 use Rattle.fkv_index.specs.Publishing.{publish_first, publish_ask, publish_next}
 use Rattle.fkv_index.specs.Slots.{link_of}
-use Rattle.fkv_session.specs.declared.answers.Told.{Told}
-use Rattle.fkv_session.specs.declared.answers.Told.TheVariants as told
+use Rattle.law_world.specs.Below.fkv_session.Told.{Told}
+use Rattle.law_world.specs.Below.fkv_session.Told.TheVariants as told
 use Rattle.law_world.proofs.OfRuns.Nothing.{item_back}
 use Rattle.law_refine.specs.Index.Finders.{Search, KeptSlot, SessionWork, NoWork, Searches, KeepsSlot, PublishesEntry, IndexPart, search_in, entry_in}
 use Rattle.law_refine.specs.Index.IndexEvents.{changed_at, changed_by, asked_by}

@@ -6,18 +6,18 @@ use Rattle.fkv_plane.specs.declared.asks.Ask.TheVariants.{Load, Store, Swap, Cas
 use Rattle.fkv_plane.specs.declared.places.Places.{Places}
 use Rattle.fkv_plane.specs.Passing.{passed, is_done}
 use Rattle.fkv_plane.proofs.Shown.{passed_done}
-use Rattle.fkv_log.specs.declared.filling.Filling.{Filling}
-use Rattle.fkv_log.specs.declared.filling.Filling.TheVariants as fill
-use Rattle.fkv_log.specs.declared.invalidating.Invalidating.{Invalidating}
-use Rattle.fkv_log.specs.declared.invalidating.Invalidating.TheVariants as invalidate
-use Rattle.fkv_log.specs.declared.loading.Loading.{Loading}
-use Rattle.fkv_log.specs.declared.loading.Loading.TheVariants as load
-use Rattle.fkv_log.specs.declared.reserving.Reserving.{Reserving}
-use Rattle.fkv_log.specs.declared.reserving.Reserving.TheVariants as reserve
-use Rattle.fkv_log.specs.Filling.{fill_ask}
-use Rattle.fkv_log.specs.Invalidating.{invalidate_ask}
-use Rattle.fkv_log.specs.Loading.{load_ask}
-use Rattle.fkv_log.specs.Reserving.{reserve_ask}
+use Rattle.law_world.specs.Below.fkv_log.TheFilling.{Filling}
+use Rattle.law_world.specs.Below.fkv_log.TheFilling.TheVariants as fill
+use Rattle.law_world.specs.Below.fkv_log.TheInvalidating.{Invalidating}
+use Rattle.law_world.specs.Below.fkv_log.TheInvalidating.TheVariants as invalidate
+use Rattle.law_world.specs.Below.fkv_log.TheLoading.{Loading}
+use Rattle.law_world.specs.Below.fkv_log.TheLoading.TheVariants as load
+use Rattle.law_world.specs.Below.fkv_log.TheReserving.{Reserving}
+use Rattle.law_world.specs.Below.fkv_log.TheReserving.TheVariants as reserve
+use Rattle.law_world.specs.Below.fkv_log.Filling.{fill_ask}
+use Rattle.law_world.specs.Below.fkv_log.Invalidating.{invalidate_ask}
+use Rattle.law_world.specs.Below.fkv_log.Loading.{load_ask}
+use Rattle.law_world.specs.Below.fkv_log.Reserving.{reserve_ask}
 use Rattle.fkv_index.specs.declared.finding.FindStep.{FindStep}
 use Rattle.fkv_index.specs.declared.finding.FindStep.TheVariants as find
 use Rattle.fkv_index.specs.declared.finding.Finding.{Finding}
@@ -29,30 +29,30 @@ use Rattle.fkv_index.specs.Publishing.{publish_first, publish_ask}
 use Rattle.fkv_latch.specs.declared.latching.Latching.{Latching}
 use Rattle.fkv_latch.specs.declared.latching.Latching.TheVariants as latch
 use Rattle.fkv_latch.specs.Latching.{latch_ask}
-use Rattle.fkv_ops.specs.declared.answers.TryAnswer.TheVariants as tried
-use Rattle.fkv_ops.specs.declared.appending.Appending.{Appending}
-use Rattle.fkv_ops.specs.declared.appending.Appending.TheVariants as appending
-use Rattle.fkv_ops.specs.declared.trying.Trying.{Trying}
-use Rattle.fkv_ops.specs.declared.trying.Trying.TheVariants as trying
-use Rattle.fkv_ops.specs.declared.walking.WalkAnswer.{WalkAnswer}
-use Rattle.fkv_ops.specs.declared.walking.Walking.{Walking}
-use Rattle.fkv_ops.specs.declared.walking.Walking.TheVariants as walking
-use Rattle.fkv_ops.specs.Appending.{AppendState, appending_ask}
-use Rattle.fkv_ops.specs.Requests.{is_read}
-use Rattle.fkv_ops.specs.Trying.{TryState, trying_ask, has_walked}
-use Rattle.fkv_ops.specs.Walking.{WalkState, walking_ask}
-use Rattle.fkv_pending.specs.declared.attempting.Attempting.{Attempting}
-use Rattle.fkv_pending.specs.declared.attempting.Attempting.TheVariants as attempting
-use Rattle.fkv_pending.specs.declared.mailing.Mailing.{Mailing}
-use Rattle.fkv_pending.specs.declared.mailing.Mailing.TheVariants as mailing
-use Rattle.fkv_pending.specs.Attempting.{AttemptState, attempting_ask, attempt_ask}
-use Rattle.fkv_pending.specs.Mailing.{mail_ask}
-use Rattle.fkv_pending.proofs.Shown.{AttemptRestsOrAsks, attempt_done}
-use Rattle.fkv_session.specs.declared.answers.Told.{Told}
-use Rattle.fkv_session.specs.declared.answers.Told.TheVariants as told
-use Rattle.fkv_session.specs.declared.sessions.Sitting.{Sitting}
-use Rattle.fkv_session.specs.declared.sessions.Sitting.TheVariants.{Attempts, Polls}
-use Rattle.fkv_session.specs.Sessions.{SessionState, Seat, sitting_ask, session_ask, is_word_ask}
+use Rattle.law_world.specs.Below.fkv_ops.TryAnswer.TheVariants as tried
+use Rattle.law_world.specs.Below.fkv_ops.TheAppending.{Appending}
+use Rattle.law_world.specs.Below.fkv_ops.TheAppending.TheVariants as appending
+use Rattle.law_world.specs.Below.fkv_ops.TheTrying.{Trying}
+use Rattle.law_world.specs.Below.fkv_ops.TheTrying.TheVariants as trying
+use Rattle.law_world.specs.Below.fkv_ops.WalkAnswer.{WalkAnswer}
+use Rattle.law_world.specs.Below.fkv_ops.TheWalking.{Walking}
+use Rattle.law_world.specs.Below.fkv_ops.TheWalking.TheVariants as walking
+use Rattle.law_world.specs.Below.fkv_ops.Appending.{AppendState, appending_ask}
+use Rattle.law_world.specs.Below.fkv_ops.Requests.{is_read}
+use Rattle.law_world.specs.Below.fkv_ops.Trying.{TryState, trying_ask, has_walked}
+use Rattle.law_world.specs.Below.fkv_ops.Walking.{WalkState, walking_ask}
+use Rattle.law_world.specs.Below.fkv_pending.TheAttempting.{Attempting}
+use Rattle.law_world.specs.Below.fkv_pending.TheAttempting.TheVariants as attempting
+use Rattle.law_world.specs.Below.fkv_pending.TheMailing.{Mailing}
+use Rattle.law_world.specs.Below.fkv_pending.TheMailing.TheVariants as mailing
+use Rattle.law_world.specs.Below.fkv_pending.Attempting.{AttemptState, attempting_ask, attempt_ask}
+use Rattle.law_world.specs.Below.fkv_pending.Mailing.{mail_ask}
+use Rattle.law_world.proofs.Below.fkv_pending.Shown.{AttemptRestsOrAsks, attempt_done}
+use Rattle.law_world.specs.Below.fkv_session.Told.{Told}
+use Rattle.law_world.specs.Below.fkv_session.Told.TheVariants as told
+use Rattle.law_world.specs.Below.fkv_session.Sitting.{Sitting}
+use Rattle.law_world.specs.Below.fkv_session.Sitting.TheVariants.{Attempts, Polls}
+use Rattle.law_world.specs.Below.fkv_session.Sessions.{SessionState, Seat, sitting_ask, session_ask, is_word_ask}
 use Rattle.law_refine.specs.Index.Finders.{Search, KeptSlot, SessionWork, NoWork, Searches, KeepsSlot, PublishesEntry, IndexPart, slot_kept, kept_work, ended_work, walk_work, append_work, try_work, attempt_part, sitting_part, session_part}
 use Rattle.law_refine.proofs.OfIndex.Goes.{part}
 use Rattle.law_refine.proofs.OfIndex.AppendParts.{AppendKnows}

@@ -7,10 +7,10 @@ use Rattle.fkv_plane.specs.declared.asks.Ask.{Ask}
 use Rattle.fkv_plane.specs.declared.asks.Ask.TheVariants.{Load, Store, Swap, Cas, Add, Max, Put, Take, Done}
 use Rattle.fkv_plane.specs.declared.places.Places.{Places}
 use Rattle.fkv_plane.specs.Passing.{is_done}
-use Rattle.fkv_log.specs.declared.loading.LoadAnswer.{LoadAnswer}
-use Rattle.fkv_log.specs.declared.loading.LoadAnswer.TheVariants as load
-use Rattle.fkv_log.specs.declared.loading.Loading.TheVariants as loading
-use Rattle.fkv_log.specs.Loading.{load_next, load_next_ask}
+use Rattle.law_world.specs.Below.fkv_log.LoadAnswer.{LoadAnswer}
+use Rattle.law_world.specs.Below.fkv_log.LoadAnswer.TheVariants as load
+use Rattle.law_world.specs.Below.fkv_log.TheLoading.TheVariants as loading
+use Rattle.law_world.specs.Below.fkv_log.Loading.{load_next, load_next_ask}
 use Rattle.fkv_index.specs.declared.finding.FindAnswer.{FindAnswer}
 use Rattle.fkv_index.specs.declared.finding.Found.{Found}
 use Rattle.fkv_index.specs.declared.finding.Found.TheVariants as found
@@ -19,17 +19,17 @@ use Rattle.fkv_index.specs.Finding.{find_led, find_next, find_next_ask}
 use Rattle.fkv_index.specs.Searches.{IsFoundFor}
 use Rattle.fkv_index.specs.Slots.{entry_addr}
 use Rattle.fkv_index.proofs.Shown.{MayLink, led_so, update_led, led_may}
-use Rattle.fkv_ops.specs.declared.header_words.HeaderSaid.{HeaderSaid}
-use Rattle.fkv_ops.specs.declared.header_words.HeaderSaid.TheVariants.{Says, Spoiled}
-use Rattle.fkv_ops.specs.declared.walking.WalkAnswer.{WalkAnswer}
-use Rattle.fkv_ops.specs.declared.walking.WalkAnswer.TheVariants as walk
-use Rattle.fkv_ops.specs.declared.walking.Walking.{Walking}
-use Rattle.fkv_ops.specs.declared.walking.Walking.TheVariants as walking
-use Rattle.fkv_ops.specs.HeaderWords.{header_said}
-use Rattle.fkv_ops.specs.Requests.{is_read, purpose_of}
-use Rattle.fkv_ops.specs.Trying.{TryState, has_walked}
-use Rattle.fkv_ops.specs.Walking.{WalkState, walk_ask, walking_ask, walking_next, walk_next, walking_on, walk_on, walk_ended, reached, slot_found, find_ledto, first_met, record_met, load_ledto, value_ledto}
-use Rattle.fkv_ops.proofs.Shown.{is_walk_end}
+use Rattle.law_world.specs.Below.fkv_ops.HeaderSaid.{HeaderSaid}
+use Rattle.law_world.specs.Below.fkv_ops.HeaderSaid.TheVariants.{Says, Spoiled}
+use Rattle.law_world.specs.Below.fkv_ops.WalkAnswer.{WalkAnswer}
+use Rattle.law_world.specs.Below.fkv_ops.WalkAnswer.TheVariants as walk
+use Rattle.law_world.specs.Below.fkv_ops.TheWalking.{Walking}
+use Rattle.law_world.specs.Below.fkv_ops.TheWalking.TheVariants as walking
+use Rattle.law_world.specs.Below.fkv_ops.HeaderWords.{header_said}
+use Rattle.law_world.specs.Below.fkv_ops.Requests.{is_read, purpose_of}
+use Rattle.law_world.specs.Below.fkv_ops.Trying.{TryState, has_walked}
+use Rattle.law_world.specs.Below.fkv_ops.Walking.{WalkState, walk_ask, walking_ask, walking_next, walk_next, walking_on, walk_on, walk_ended, reached, slot_found, find_ledto, first_met, record_met, load_ledto, value_ledto}
+use Rattle.law_world.proofs.Below.fkv_ops.Shown.{is_walk_end}
 use Rattle.law_refine.specs.Index.Finders.{Search, KeptSlot, SessionWork, NoWork, Searches, KeepsSlot, IndexPart, slot_kept, kept_work, ended_work, walk_work}
 use Rattle.law_refine.proofs.OfIndex.FindingFacts.{next_home}
 use Rattle.law_refine.proofs.OfIndex.Goes.{spare_by, WorkGoes, SeeksOn, HasFound, Drops, Goes, part, IsQuiet, stays, IsLeft, Gone, Kept, left}

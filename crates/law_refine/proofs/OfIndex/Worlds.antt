@@ -7,14 +7,14 @@ use Rattle.fkv_plane.specs.declared.places.Places.{Places}
 use Rattle.fkv_plane.specs.Asked.{words_after, reply_to}
 use Rattle.fkv_index.proofs.Shown.{homes_are_there}
 use Rattle.fkv_index.specs.IndexWorld.{IndexActor, IndexEvent, IndexNow, rested_actor}
-use Rattle.fkv_keeper.specs.declared.answers.KeeperTold.{KeeperTold}
-use Rattle.fkv_keeper.specs.Keeping.{keeper_ask}
-use Rattle.fkv_session.specs.declared.answers.Told.{Told}
-use Rattle.fkv_session.specs.Sessions.{SessionState, Seat, is_busy, session_ask, session_begun}
-use Rattle.fkv_world.specs.World.{Event, Calls, Moves, Commits, Turns, KeeperMoves, Crashes, Now, seat_at, near, with_session, session_calls, session_moves, life_goes}
-use Rattle.fkv_world.specs.Moves.{Near, session_moved}
-use Rattle.fkv_world.specs.Runs.{World, read_by_keeper, happens, run}
-use Rattle.fkv_world.proofs.Shown.{is_over, lives}
+use Rattle.law_world.specs.Below.fkv_keeper.KeeperTold.{KeeperTold}
+use Rattle.law_world.specs.Below.fkv_keeper.Keeping.{keeper_ask}
+use Rattle.law_world.specs.Below.fkv_session.Told.{Told}
+use Rattle.law_world.specs.Below.fkv_session.Sessions.{SessionState, Seat, is_busy, session_ask, session_begun}
+use Rattle.law_world.specs.Below.fkv_world.World.{Event, Calls, Moves, Commits, Turns, KeeperMoves, Crashes, Now, seat_at, near, with_session, session_calls, session_moves, life_goes}
+use Rattle.law_world.specs.Below.fkv_world.Moves.{Near, session_moved}
+use Rattle.law_world.specs.Below.fkv_world.Runs.{World, read_by_keeper, happens, run}
+use Rattle.law_world.proofs.Below.fkv_world.Shown.{is_over, lives}
 use Rattle.law_world.proofs.OfRuns.OneWord.{keeper_writes}
 use Rattle.law_refine.specs.Index.Finders.{NoWork, session_part, session_search, session_entry}
 use Rattle.law_refine.specs.Index.IndexEvents.{begun_by, asked_by, changed_by, moved_events, called_events, life_events, index_events, mapped}

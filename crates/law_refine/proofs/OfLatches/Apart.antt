@@ -4,13 +4,13 @@ use Rattle.fkv_latch.specs.LatchWorld.{LatchActor, LatchWorld, has_latch, times}
 use Rattle.fkv_latch.specs.Latched.{shares_of}
 use Rattle.fkv_latch.proofs.Shown.{sound_apart}
 use Rattle.fkv_latch.specs.declared.latching.Latching.TheVariants as latching
-use Rattle.fkv_session.specs.declared.sessions.Sitting.{Sitting}
-use Rattle.fkv_session.specs.declared.sessions.Sitting.TheVariants.{Idle}
-use Rattle.fkv_session.specs.Sessions.{SessionState, Seat, is_busy}
-use Rattle.fkv_session.specs.SessionRun.{session_run}
-use Rattle.fkv_session.specs.Shares.{sharing}
-use Rattle.fkv_session.proofs.Shown.{run_accounts}
-use Rattle.fkv_world.specs.World.{Now, seat_at}
+use Rattle.law_world.specs.Below.fkv_session.Sitting.{Sitting}
+use Rattle.law_world.specs.Below.fkv_session.Sitting.TheVariants.{Idle}
+use Rattle.law_world.specs.Below.fkv_session.Sessions.{SessionState, Seat, is_busy}
+use Rattle.law_world.specs.Below.fkv_session.SessionRun.{session_run}
+use Rattle.law_world.specs.Below.fkv_session.Shares.{sharing}
+use Rattle.law_world.proofs.Below.fkv_session.Shown.{run_accounts}
+use Rattle.law_world.specs.Below.fkv_world.World.{Now, seat_at}
 use Rattle.law_refine.specs.Latches.Latchers.{sitting_latching}
 use Rattle.law_refine.specs.Latches.Shows.{AreApart, Shows}
 use Rattle.law_refine.proofs.OfLatches.Seats.{Sits}

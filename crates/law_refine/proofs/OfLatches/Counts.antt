@@ -13,10 +13,10 @@ use Rattle.fkv_latch.specs.declared.latching.Latching.TheVariants.{AtRest, AddsS
 use Rattle.fkv_latch.specs.Latching.{one_share, latch_ask, latch_next, latch_next_ask, is_exclusive, is_free}
 use Rattle.fkv_latch.specs.LatchWorld.{LatchActor, times, without, begun_by, given, replied}
 use Rattle.fkv_latch.specs.Latched.{shares_of}
-use Rattle.fkv_pending.specs.declared.pending_requests.PendingRequest.{PendingRequest}
-use Rattle.fkv_session.specs.declared.answers.Told.{Told}
-use Rattle.fkv_session.specs.Sessions.{Seat, bits_of}
-use Rattle.fkv_session.specs.Shares.{added_by, latch_of, sharing}
+use Rattle.law_world.specs.Below.fkv_pending.PendingRequest.{PendingRequest}
+use Rattle.law_world.specs.Below.fkv_session.Told.{Told}
+use Rattle.law_world.specs.Below.fkv_session.Sessions.{Seat, bits_of}
+use Rattle.law_world.specs.Below.fkv_session.Shares.{added_by, latch_of, sharing}
 
 abbrev pub actor_of : Latching → List ℕ → List ℕ → LatchActor
 actor_of step shared exclusive = record { step = step; shared = shared; exclusive = exclusive }

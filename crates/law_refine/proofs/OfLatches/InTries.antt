@@ -9,23 +9,23 @@ use Rattle.fkv_latch.specs.LatchWorld.{LatchActor, LatchWorld, has_latch, times}
 use Rattle.fkv_latch.specs.Latched.{added_shares, shares_of}
 use Rattle.fkv_latch.proofs.Shown.{sound_apart}
 use Rattle.fkv_plane.specs.declared.places.Places.{Places}
-use Rattle.fkv_ops.specs.declared.trying.Trying.{Trying}
-use Rattle.fkv_ops.specs.declared.trying.Trying.TheVariants.{TakesShared, TakesExclusive, DropsExclusive, DropsShared}
-use Rattle.fkv_ops.specs.Trying.{TryState}
-use Rattle.fkv_ops.proofs.Shown.{shares_owed}
-use Rattle.fkv_pending.specs.declared.attempting.Attempting.{Attempting}
-use Rattle.fkv_pending.specs.declared.attempting.Attempting.TheVariants.{Tries}
-use Rattle.fkv_pending.specs.declared.pending_requests.PendingRequest.{PendingRequest}
-use Rattle.fkv_pending.specs.Attempting.{AttemptState}
-use Rattle.fkv_session.specs.declared.catching_up.Catching.{Catching}
-use Rattle.fkv_session.specs.declared.catching_up.Catching.TheVariants.{Latches}
-use Rattle.fkv_session.specs.declared.sessions.Sitting.{Sitting}
-use Rattle.fkv_session.specs.declared.sessions.Sitting.TheVariants.{Attempts, CatchesUp, Polls}
-use Rattle.fkv_session.specs.CatchingUp.{CatchState}
-use Rattle.fkv_session.specs.Sessions.{SessionState, Seat, bits_of}
-use Rattle.fkv_session.specs.Shares.{HasItsBuckets, is_sharing, latch_of, sharing}
-use Rattle.fkv_session.proofs.Shown.{Book, KnowsShare, StepShares, owed_at, owed_in, there}
-use Rattle.fkv_world.specs.World.{Now, seat_at}
+use Rattle.law_world.specs.Below.fkv_ops.TheTrying.{Trying}
+use Rattle.law_world.specs.Below.fkv_ops.TheTrying.TheVariants.{TakesShared, TakesExclusive, DropsExclusive, DropsShared}
+use Rattle.law_world.specs.Below.fkv_ops.Trying.{TryState}
+use Rattle.law_world.proofs.Below.fkv_ops.Shown.{shares_owed}
+use Rattle.law_world.specs.Below.fkv_pending.TheAttempting.{Attempting}
+use Rattle.law_world.specs.Below.fkv_pending.TheAttempting.TheVariants.{Tries}
+use Rattle.law_world.specs.Below.fkv_pending.PendingRequest.{PendingRequest}
+use Rattle.law_world.specs.Below.fkv_pending.Attempting.{AttemptState}
+use Rattle.law_world.specs.Below.fkv_session.Catching.{Catching}
+use Rattle.law_world.specs.Below.fkv_session.Catching.TheVariants.{Latches}
+use Rattle.law_world.specs.Below.fkv_session.Sitting.{Sitting}
+use Rattle.law_world.specs.Below.fkv_session.Sitting.TheVariants.{Attempts, CatchesUp, Polls}
+use Rattle.law_world.specs.Below.fkv_session.CatchingUp.{CatchState}
+use Rattle.law_world.specs.Below.fkv_session.Sessions.{SessionState, Seat, bits_of}
+use Rattle.law_world.specs.Below.fkv_session.Shares.{HasItsBuckets, is_sharing, latch_of, sharing}
+use Rattle.law_world.proofs.Below.fkv_session.Shown.{Book, KnowsShare, StepShares, owed_at, owed_in, there}
+use Rattle.law_world.specs.Below.fkv_world.World.{Now, seat_at}
 use Rattle.law_refine.specs.Latches.InTries.{HasItsShares, attempt_held, attempt_shares, caught_shares, met_at, own_shares, session_held, session_shares, try_shares}
 use Rattle.law_refine.specs.Latches.Latchers.{attempt_latching, catch_latching, its_latch, session_alone, sitting_latching, try_latching}
 use Rattle.law_refine.proofs.OfLatches.AttemptLatches.{AttemptKnows}

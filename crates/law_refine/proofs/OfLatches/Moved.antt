@@ -14,10 +14,10 @@ use Rattle.fkv_latch.specs.declared.latching.Latching.TheVariants as latching
 use Rattle.fkv_latch.specs.Latching.{latch_ask}
 use Rattle.fkv_latch.specs.LatchWorld.{LatchEvent, Moves, Changes, LatchActor, LatchWorld, has_latch, is_at_rest, replied, latch_happens, latch_run}
 use Rattle.fkv_latch.proofs.Shown.{moves, changes_other, changes_link}
-use Rattle.fkv_session.specs.declared.answers.Told.{Told}
-use Rattle.fkv_session.specs.declared.answers.Told.TheVariants as told
-use Rattle.fkv_session.specs.Sessions.{SessionState, Seat, bits_of, session_ask, is_word_ask}
-use Rattle.fkv_world.specs.Moves.{Near, session_gets, session_settled, session_replied, session_asks}
+use Rattle.law_world.specs.Below.fkv_session.Told.{Told}
+use Rattle.law_world.specs.Below.fkv_session.Told.TheVariants as told
+use Rattle.law_world.specs.Below.fkv_session.Sessions.{SessionState, Seat, bits_of, session_ask, is_word_ask}
+use Rattle.law_world.specs.Below.fkv_world.Moves.{Near, session_gets, session_settled, session_replied, session_asks}
 use Rattle.law_refine.specs.Latches.Latchers.{session_latching}
 use Rattle.law_refine.specs.Latches.LatchEvents.{changed_at, changed_by, asked_by}
 use Rattle.law_refine.specs.Latches.Shows.{KeepsLatch, SparesLatches}

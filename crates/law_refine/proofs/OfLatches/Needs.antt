@@ -9,22 +9,22 @@ use Rattle.fkv_plane.specs.declared.places.Places.{Places}
 use Rattle.fkv_index.specs.declared.homes.Home.{Home}
 use Rattle.fkv_index.specs.Slots.{home_of}
 use Rattle.fkv_latch.specs.declared.latching.Latching.TheVariants as latching
-use Rattle.fkv_ops.specs.declared.trying.Trying.{Trying}
-use Rattle.fkv_ops.specs.declared.trying.Trying.TheVariants.{TakesShared, TakesExclusive, DropsExclusive, DropsShared}
-use Rattle.fkv_ops.specs.Trying.{TryState}
-use Rattle.fkv_ops.proofs.Shown.{shares_owed}
-use Rattle.fkv_pending.specs.declared.attempting.Attempting.{Attempting}
-use Rattle.fkv_pending.specs.declared.attempting.Attempting.TheVariants.{Tries}
-use Rattle.fkv_pending.specs.declared.pending_requests.PendingRequest.{PendingRequest}
-use Rattle.fkv_pending.specs.Attempting.{AttemptState}
-use Rattle.fkv_session.specs.declared.catching_up.Catching.{Catching}
-use Rattle.fkv_session.specs.declared.catching_up.Catching.TheVariants.{Latches}
-use Rattle.fkv_session.specs.declared.sessions.Sitting.{Sitting}
-use Rattle.fkv_session.specs.declared.sessions.Sitting.TheVariants.{Attempts, CatchesUp, Polls}
-use Rattle.fkv_session.specs.CatchingUp.{CatchState}
-use Rattle.fkv_session.specs.Sessions.{SessionState, Seat, bits_of}
-use Rattle.fkv_session.specs.Shares.{HasItsBuckets, latch_of, is_sharing, sharing}
-use Rattle.fkv_session.proofs.Shown.{there, IsTryOf, owed_in, KnowsShare, owed_at, Book, StepShares}
+use Rattle.law_world.specs.Below.fkv_ops.TheTrying.{Trying}
+use Rattle.law_world.specs.Below.fkv_ops.TheTrying.TheVariants.{TakesShared, TakesExclusive, DropsExclusive, DropsShared}
+use Rattle.law_world.specs.Below.fkv_ops.Trying.{TryState}
+use Rattle.law_world.proofs.Below.fkv_ops.Shown.{shares_owed}
+use Rattle.law_world.specs.Below.fkv_pending.TheAttempting.{Attempting}
+use Rattle.law_world.specs.Below.fkv_pending.TheAttempting.TheVariants.{Tries}
+use Rattle.law_world.specs.Below.fkv_pending.PendingRequest.{PendingRequest}
+use Rattle.law_world.specs.Below.fkv_pending.Attempting.{AttemptState}
+use Rattle.law_world.specs.Below.fkv_session.Catching.{Catching}
+use Rattle.law_world.specs.Below.fkv_session.Catching.TheVariants.{Latches}
+use Rattle.law_world.specs.Below.fkv_session.Sitting.{Sitting}
+use Rattle.law_world.specs.Below.fkv_session.Sitting.TheVariants.{Attempts, CatchesUp, Polls}
+use Rattle.law_world.specs.Below.fkv_session.CatchingUp.{CatchState}
+use Rattle.law_world.specs.Below.fkv_session.Sessions.{SessionState, Seat, bits_of}
+use Rattle.law_world.specs.Below.fkv_session.Shares.{HasItsBuckets, latch_of, is_sharing, sharing}
+use Rattle.law_world.proofs.Below.fkv_session.Shown.{there, IsTryOf, owed_in, KnowsShare, owed_at, Book, StepShares}
 use Rattle.law_refine.specs.Latches.Latchers.{its_latch, try_latching, attempt_latching, catch_latching, sitting_latching}
 use Rattle.law_refine.proofs.OfLatches.TryLatches.{Adds, Gives, Loads, Sets, TryKnows}
 use Rattle.law_refine.proofs.OfLatches.AttemptLatches.{AttemptKnows}

@@ -1,9 +1,9 @@
 -- What a world that was opened owes for its latches.
 use Rattle.std.proofs.Common.{◌≡◌, sym}
-use Rattle.fkv_keeper.specs.NewKeepers.{ArePlacesOfStore}
+use Rattle.law_world.specs.Below.fkv_keeper.NewKeepers.{ArePlacesOfStore}
 use Rattle.fkv_latch.specs.Latched as latches
-use Rattle.fkv_world.specs.Opened.{IsOpenedWorld}
-use Rattle.fkv_world.specs.Runs.{World}
+use Rattle.law_world.specs.Below.fkv_world.Opened.{IsOpenedWorld}
+use Rattle.law_world.specs.Below.fkv_world.Runs.{World}
 use Rattle.law_refine.specs.Latches.Shows.{IsOpened}
 
 -- its words lie where they do in a store of its shape, no latch is held, and its keeper finishes commits for just its sessions

@@ -8,10 +8,10 @@ use Rattle.fkv_plane.specs.declared.places.Places.{Places}
 use Rattle.fkv_plane.specs.Asked.{word_at}
 use Rattle.fkv_latch.specs.LatchWorld.{LatchWorld, has_latch, latch_of}
 use Rattle.fkv_latch.specs.Latched.{opening}
-use Rattle.fkv_keeper.specs.Keeping.{keeper_ask}
-use Rattle.fkv_session.specs.Sessions.{SessionState, Seat, session_ask}
-use Rattle.fkv_world.specs.Runs.{World, run}
-use Rattle.fkv_world.specs.World.{Event, Calls, Moves, Commits, Turns, KeeperMoves, Crashes, Now, seat_at}
+use Rattle.law_world.specs.Below.fkv_keeper.Keeping.{keeper_ask}
+use Rattle.law_world.specs.Below.fkv_session.Sessions.{SessionState, Seat, session_ask}
+use Rattle.law_world.specs.Below.fkv_world.Runs.{World, run}
+use Rattle.law_world.specs.Below.fkv_world.World.{Event, Calls, Moves, Commits, Turns, KeeperMoves, Crashes, Now, seat_at}
 use Rattle.law_refine.specs.Latches.Shows.{SparesLatches, SessionSpares, IsPermitted, ArePermitted, IsOpened, seen_by_latches}
 use Rattle.law_refine.specs.Footprint.{TheLatches, Spares}
 use Rattle.law_refine.proofs.Footprint.Lives.{keeper_spares}

@@ -20,12 +20,12 @@ use Rattle.fkv_latch.specs.Latching.{one_share, latch_first, latch_ask, latch_ne
 use Rattle.fkv_latch.specs.LatchWorld.{Begins, LatchActor, LatchWorld, has_latch, times, is_at_rest, may_do, may_begin, begun_by, given, replied, latch_run}
 use Rattle.fkv_latch.specs.Latched.{shares_of}
 use Rattle.fkv_latch.proofs.Shown.{IsActor, IsSound, begins}
-use Rattle.fkv_session.specs.declared.answers.Told.{Told}
-use Rattle.fkv_session.specs.declared.answers.Told.TheVariants as told
-use Rattle.fkv_session.specs.Sessions.{SessionState, Seat, IsOpened, bits_of, session_ask, session_next, session_given}
-use Rattle.fkv_session.specs.SessionRun.{SessionEvent, Replies, Gets, session_happens, session_run}
-use Rattle.fkv_session.specs.Shares.{added_by, times_added, shares_added, shares_dropped, HasItsBuckets}
-use Rattle.fkv_session.proofs.Shown.{Book, StepShares, run_shares, run_room}
+use Rattle.law_world.specs.Below.fkv_session.Told.{Told}
+use Rattle.law_world.specs.Below.fkv_session.Told.TheVariants as told
+use Rattle.law_world.specs.Below.fkv_session.Sessions.{SessionState, Seat, IsOpened, bits_of, session_ask, session_next, session_given}
+use Rattle.law_world.specs.Below.fkv_session.SessionRun.{SessionEvent, Replies, Gets, session_happens, session_run}
+use Rattle.law_world.specs.Below.fkv_session.Shares.{added_by, times_added, shares_added, shares_dropped, HasItsBuckets}
+use Rattle.law_world.proofs.Below.fkv_session.Shown.{Book, StepShares, run_shares, run_room}
 use Rattle.law_refine.specs.Latches.Latchers.{session_latching, session_alone}
 use Rattle.law_refine.specs.Latches.LatchEvents.{begun_at}
 use Rattle.law_refine.specs.Latches.Shows.{SparesLatches}

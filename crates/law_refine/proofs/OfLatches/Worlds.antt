@@ -13,17 +13,17 @@ use Rattle.fkv_latch.specs.declared.latching.Latching.TheVariants as latching
 use Rattle.fkv_latch.specs.LatchWorld.{LatchActor, LatchWorld, replied, latch_run}
 use Rattle.fkv_latch.specs.Latched.{opening}
 use Rattle.fkv_latch.proofs.Shown.{IsSound, run_sound, opening_sound}
-use Rattle.fkv_keeper.specs.declared.answers.KeeperTold.{KeeperTold}
-use Rattle.fkv_keeper.specs.declared.answers.KeeperTold.TheVariants.{Device}
-use Rattle.fkv_keeper.specs.Keeping.{KeeperState, keeper_ask}
-use Rattle.fkv_session.specs.declared.sessions.Sitting.{Sitting}
-use Rattle.fkv_session.specs.declared.sessions.Sitting.TheVariants.{Idle}
-use Rattle.fkv_session.specs.Sessions.{SessionState, Seat, bits_of, is_busy, session_ask, session_begun}
-use Rattle.fkv_session.specs.SessionRun.{Begins, begins, session_happens, session_run}
-use Rattle.fkv_session.specs.Shares.{times_added}
-use Rattle.fkv_world.specs.World.{Event, Calls, Moves, Commits, Turns, KeeperMoves, Crashes, Now, seat_at, near, with_session, session_calls, session_moves, life_goes, happens_now}
-use Rattle.fkv_world.specs.Moves.{Near, session_moved, keeper_settled, keeper_replied, keeper_asks}
-use Rattle.fkv_world.specs.Runs.{World, run, read_by_keeper}
+use Rattle.law_world.specs.Below.fkv_keeper.KeeperTold.{KeeperTold}
+use Rattle.law_world.specs.Below.fkv_keeper.KeeperTold.TheVariants.{Device}
+use Rattle.law_world.specs.Below.fkv_keeper.Keeping.{KeeperState, keeper_ask}
+use Rattle.law_world.specs.Below.fkv_session.Sitting.{Sitting}
+use Rattle.law_world.specs.Below.fkv_session.Sitting.TheVariants.{Idle}
+use Rattle.law_world.specs.Below.fkv_session.Sessions.{SessionState, Seat, bits_of, is_busy, session_ask, session_begun}
+use Rattle.law_world.specs.Below.fkv_session.SessionRun.{Begins, begins, session_happens, session_run}
+use Rattle.law_world.specs.Below.fkv_session.Shares.{times_added}
+use Rattle.law_world.specs.Below.fkv_world.World.{Event, Calls, Moves, Commits, Turns, KeeperMoves, Crashes, Now, seat_at, near, with_session, session_calls, session_moves, life_goes, happens_now}
+use Rattle.law_world.specs.Below.fkv_world.Moves.{Near, session_moved, keeper_settled, keeper_replied, keeper_asks}
+use Rattle.law_world.specs.Below.fkv_world.Runs.{World, run, read_by_keeper}
 use Rattle.law_refine.specs.Latches.Latchers.{session_latching, sitting_latching, sitting_alone}
 use Rattle.law_refine.specs.Latches.LatchEvents.{begun_at, asked_by, changed_by, moved_events, called_events, life_events, latch_events, mapped}
 use Rattle.law_refine.specs.Latches.Shows.{SparesLatches, SessionSpares, IsPermitted, ArePermitted, IsOpened}

@@ -6,28 +6,28 @@ use Rattle.fkv_plane.specs.declared.asks.Ask.{Ask}
 use Rattle.fkv_plane.specs.declared.asks.Ask.TheVariants.{Done}
 use Rattle.fkv_plane.specs.declared.places.Places.{Places}
 use Rattle.fkv_plane.specs.Passing.{passed}
-use Rattle.fkv_ops.specs.declared.answers.DiskRecord.{DiskRecord}
-use Rattle.fkv_ops.specs.declared.answers.TryAnswer.{TryAnswer}
-use Rattle.fkv_ops.specs.declared.answers.TryAnswer.TheVariants as answer
-use Rattle.fkv_ops.specs.declared.header_words.HeaderSaid.{HeaderSaid}
-use Rattle.fkv_ops.specs.declared.header_words.HeaderSaid.TheVariants.{Says, Spoiled}
-use Rattle.fkv_ops.specs.declared.requests.Occasion.{Occasion}
-use Rattle.fkv_ops.specs.declared.requests.Seen.{Seen}
-use Rattle.fkv_ops.specs.HeaderWords.{header_said}
-use Rattle.fkv_ops.specs.Trying.{try_ask, try_next, told_value}
-use Rattle.fkv_ops.specs.Values.{value_of}
-use Rattle.fkv_pending.specs.declared.attempting.Attempting.{Attempting}
-use Rattle.fkv_pending.specs.declared.attempting.Attempting.TheVariants.{Ended, Looks, Tries, Puts}
-use Rattle.fkv_pending.specs.declared.mailing.MailAnswer.TheVariants as mail
-use Rattle.fkv_pending.specs.declared.mailing.MailRecord.{MailRecord}
-use Rattle.fkv_pending.specs.declared.mailing.MailTask.TheVariants.{Take, Put}
-use Rattle.fkv_pending.specs.declared.mailing.Mailing.{Mailing}
-use Rattle.fkv_pending.specs.declared.mailing.Mailing.TheVariants as mailing
-use Rattle.fkv_pending.specs.declared.pending_requests.PendingRequest.{PendingRequest}
-use Rattle.fkv_pending.specs.Mailing.{mail_ask, mail_next}
-use Rattle.fkv_pending.specs.MailWorld.{is_at_end, has_emptied}
-use Rattle.fkv_pending.specs.Pending.{with_sought, with_held, with_latch, with_asked}
-use Rattle.fkv_pending.specs.Attempting.{AttemptState, attempting_ask, attempt_ask, attempt_ended, waits_for_disk, puts_addr, puts, tries, is_seeking_read, goes_on, attempt_begun, held_of, moved_on, read_on, record_taken, look_ledto, held_kept, tried, try_ledto, put_ledto, mail_moved, try_moved, attempting_next, attempt_next, new_attempt}
+use Rattle.law_world.specs.Below.fkv_ops.DiskRecord.{DiskRecord}
+use Rattle.law_world.specs.Below.fkv_ops.TryAnswer.{TryAnswer}
+use Rattle.law_world.specs.Below.fkv_ops.TryAnswer.TheVariants as answer
+use Rattle.law_world.specs.Below.fkv_ops.HeaderSaid.{HeaderSaid}
+use Rattle.law_world.specs.Below.fkv_ops.HeaderSaid.TheVariants.{Says, Spoiled}
+use Rattle.law_world.specs.Below.fkv_ops.Occasion.{Occasion}
+use Rattle.law_world.specs.Below.fkv_ops.Seen.{Seen}
+use Rattle.law_world.specs.Below.fkv_ops.HeaderWords.{header_said}
+use Rattle.law_world.specs.Below.fkv_ops.Trying.{try_ask, try_next, told_value}
+use Rattle.law_world.specs.Below.fkv_ops.Values.{value_of}
+use Rattle.law_world.specs.Below.fkv_pending.TheAttempting.{Attempting}
+use Rattle.law_world.specs.Below.fkv_pending.TheAttempting.TheVariants.{Ended, Looks, Tries, Puts}
+use Rattle.law_world.specs.Below.fkv_pending.MailAnswer.TheVariants as mail
+use Rattle.law_world.specs.Below.fkv_pending.MailRecord.{MailRecord}
+use Rattle.law_world.specs.Below.fkv_pending.MailTask.TheVariants.{Take, Put}
+use Rattle.law_world.specs.Below.fkv_pending.TheMailing.{Mailing}
+use Rattle.law_world.specs.Below.fkv_pending.TheMailing.TheVariants as mailing
+use Rattle.law_world.specs.Below.fkv_pending.PendingRequest.{PendingRequest}
+use Rattle.law_world.specs.Below.fkv_pending.Mailing.{mail_ask, mail_next}
+use Rattle.law_world.specs.Below.fkv_pending.MailWorld.{is_at_end, has_emptied}
+use Rattle.law_world.specs.Below.fkv_pending.Pending.{with_sought, with_held, with_latch, with_asked}
+use Rattle.law_world.specs.Below.fkv_pending.Attempting.{AttemptState, attempting_ask, attempt_ask, attempt_ended, waits_for_disk, puts_addr, puts, tries, is_seeking_read, goes_on, attempt_begun, held_of, moved_on, read_on, record_taken, look_ledto, held_kept, tried, try_ledto, put_ledto, mail_moved, try_moved, attempting_next, attempt_next, new_attempt}
 use Rattle.law_refine.specs.Mail.Mailers.{attempt_mailing}
 
 -- what a machine has become where it may have begun a task

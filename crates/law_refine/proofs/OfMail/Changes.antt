@@ -8,19 +8,19 @@ use Rattle.fkv_plane.specs.declared.asks.Ask.{Ask}
 use Rattle.fkv_plane.specs.declared.places.SessionWord.TheVariants as own
 use Rattle.fkv_plane.specs.Asked.{words_after}
 use Rattle.fkv_plane.specs.Places.{session_place}
-use Rattle.fkv_flush.specs.declared.serving.Serving.{Serving}
-use Rattle.fkv_flush.specs.declared.serving.Serving.TheVariants as serve
-use Rattle.fkv_flush.specs.Serving.{serve_ask}
-use Rattle.fkv_keeper.specs.Keeping.{KeeperState, keeper_ask}
-use Rattle.fkv_keeper.specs.KeeperRun.{is_in_hand}
-use Rattle.fkv_pending.specs.declared.mailing.Mailing.{Mailing}
-use Rattle.fkv_pending.specs.Mailing.{mail_ask}
-use Rattle.fkv_pending.specs.MailWorld.{Mailbox, mailbox_of, Keeping, GivesHeader, GivesKey, GivesValue, GivesReady, MailWorld, Moves as MailMoves, Serves, keeper_words, mail_happens}
-use Rattle.fkv_pending.specs.Mailbox.{SessionChanges, KeeperChanges, AtEachMoment, ChangesAreKept}
-use Rattle.fkv_session.specs.Sessions.{SessionState, session_ask}
-use Rattle.fkv_world.specs.Runs.{World, happens, run}
-use Rattle.fkv_world.specs.World.{Event, Calls, Moves, Commits, Turns, KeeperMoves, Crashes, Now, seat_at, session_calls, life_goes}
-use Rattle.fkv_world.proofs.Shown.{is_over, lives}
+use Rattle.law_world.specs.Below.fkv_flush.TheServing.{Serving}
+use Rattle.law_world.specs.Below.fkv_flush.TheServing.TheVariants as serve
+use Rattle.law_world.specs.Below.fkv_flush.Serving.{serve_ask}
+use Rattle.law_world.specs.Below.fkv_keeper.Keeping.{KeeperState, keeper_ask}
+use Rattle.law_world.specs.Below.fkv_keeper.KeeperRun.{is_in_hand}
+use Rattle.law_world.specs.Below.fkv_pending.TheMailing.{Mailing}
+use Rattle.law_world.specs.Below.fkv_pending.Mailing.{mail_ask}
+use Rattle.law_world.specs.Below.fkv_pending.MailWorld.{Mailbox, mailbox_of, Keeping, GivesHeader, GivesKey, GivesValue, GivesReady, MailWorld, Moves as MailMoves, Serves, keeper_words, mail_happens}
+use Rattle.law_world.specs.Below.fkv_pending.Mailbox.{SessionChanges, KeeperChanges, AtEachMoment, ChangesAreKept}
+use Rattle.law_world.specs.Below.fkv_session.Sessions.{SessionState, session_ask}
+use Rattle.law_world.specs.Below.fkv_world.Runs.{World, happens, run}
+use Rattle.law_world.specs.Below.fkv_world.World.{Event, Calls, Moves, Commits, Turns, KeeperMoves, Crashes, Now, seat_at, session_calls, life_goes}
+use Rattle.law_world.proofs.Below.fkv_world.Shown.{is_over, lives}
 use Rattle.law_world.proofs.OfRuns.OneWord.{keeper_writes, session_writes}
 use Rattle.law_world.proofs.OfRuns.Nothing.{no_session}
 use Rattle.law_refine.specs.Mail.MailEvents.{mapped}

@@ -6,12 +6,12 @@ use Rattle.fkv_base.specs.declared.numbers.Addr.{Addr}
 use Rattle.fkv_plane.specs.declared.places.SessionWord.TheVariants as own
 use Rattle.fkv_plane.specs.Asked.{word_at, words_after}
 use Rattle.fkv_plane.specs.Places.{session_place}
-use Rattle.fkv_flush.specs.declared.serving.Serving.{Serving}
-use Rattle.fkv_flush.specs.declared.serving.Serving.TheVariants as serve
-use Rattle.fkv_flush.specs.Serving.{asked_state, mail_of, serve_ask, serve_next, serve_read, mailbox_from}
-use Rattle.fkv_pending.specs.declared.mailing.MailRecord.{MailRecord}
-use Rattle.fkv_pending.specs.Mailing.{mail_asked}
-use Rattle.fkv_pending.specs.MailWorld.{Mailbox, mailbox_of, Keeping, FindsState, FindsAddress, Reads, GivesHeader, GivesKey, GivesValue, GivesReady, MailWorld, MailEvent, Serves, mail_happens, mail_run}
+use Rattle.law_world.specs.Below.fkv_flush.TheServing.{Serving}
+use Rattle.law_world.specs.Below.fkv_flush.TheServing.TheVariants as serve
+use Rattle.law_world.specs.Below.fkv_flush.Serving.{asked_state, mail_of, serve_ask, serve_next, serve_read, mailbox_from}
+use Rattle.law_world.specs.Below.fkv_pending.MailRecord.{MailRecord}
+use Rattle.law_world.specs.Below.fkv_pending.Mailing.{mail_asked}
+use Rattle.law_world.specs.Below.fkv_pending.MailWorld.{Mailbox, mailbox_of, Keeping, FindsState, FindsAddress, Reads, GivesHeader, GivesKey, GivesValue, GivesReady, MailWorld, MailEvent, Serves, mail_happens, mail_run}
 use Rattle.law_refine.specs.Mail.MailEvents.{served_events, record_read}
 use Rattle.law_refine.specs.Mail.Servers.{is_serving, record_of, ServesIt, ServesIf, KeepsUp}
 use Rattle.law_refine.proofs.OfMail.KeeperServes.{IsIdle, first_idle, serve_after}

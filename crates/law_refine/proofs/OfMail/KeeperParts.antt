@@ -6,19 +6,19 @@ use Rattle.fkv_base.specs.declared.shapes.Shape.{Shape}
 use Rattle.fkv_plane.specs.declared.asks.Ask.{Ask}
 use Rattle.fkv_plane.specs.declared.asks.Ask.TheVariants.{Done}
 use Rattle.fkv_plane.specs.declared.places.Places.{Places}
-use Rattle.fkv_commit.specs.Starting.{start_begun}
-use Rattle.fkv_maintain.specs.declared.maintaining.MaintainAnswer.{MaintainAnswer}
-use Rattle.fkv_maintain.specs.declared.maintaining.MaintainAnswer.TheVariants as maintain
-use Rattle.fkv_maintain.specs.MaintainRun as part
-use Rattle.fkv_maintain.specs.MaintainRun.{MaintainEvent, maintain_happens}
-use Rattle.fkv_maintain.specs.Maintaining.{MaintainState, maintain_begun, maintain_ask, maintain_next, maintain_given, maintain_called}
-use Rattle.fkv_keeper.specs.declared.answers.KeeperTold.TheVariants.{TurnRefused, CommitRefused}
-use Rattle.fkv_keeper.specs.declared.keepers.Keeping.{Keeping}
-use Rattle.fkv_keeper.specs.declared.keepers.Keeping.TheVariants.{Ended, Starts, Maintains, LoadsPhase, Enters, Copies, Seeks, Waits, Writes, Finishes}
-use Rattle.fkv_keeper.specs.CheckpointLaws.{MayFollow}
-use Rattle.fkv_keeper.specs.KeeperRun.{KeeperEvent, BeginsTurn, BeginsCommit, Replies, Gets, Calls, is_in_hand, begins, keeper_happens}
-use Rattle.fkv_keeper.specs.Keeping.{KeeperState, ended, commit_asked, turn_asked, maintain_ledto, keeping_next, keeping_given, keeping_called}
-use Rattle.fkv_keeper.proofs.Shown.{each_move}
+use Rattle.law_world.specs.Below.fkv_commit.Starting.{start_begun}
+use Rattle.law_world.specs.Below.fkv_maintain.MaintainAnswer.{MaintainAnswer}
+use Rattle.law_world.specs.Below.fkv_maintain.MaintainAnswer.TheVariants as maintain
+use Rattle.law_world.specs.Below.fkv_maintain.MaintainRun as part
+use Rattle.law_world.specs.Below.fkv_maintain.MaintainRun.{MaintainEvent, maintain_happens}
+use Rattle.law_world.specs.Below.fkv_maintain.Maintaining.{MaintainState, maintain_begun, maintain_ask, maintain_next, maintain_given, maintain_called}
+use Rattle.law_world.specs.Below.fkv_keeper.KeeperTold.TheVariants.{TurnRefused, CommitRefused}
+use Rattle.law_world.specs.Below.fkv_keeper.TheKeeping.{Keeping}
+use Rattle.law_world.specs.Below.fkv_keeper.TheKeeping.TheVariants.{Ended, Starts, Maintains, LoadsPhase, Enters, Copies, Seeks, Waits, Writes, Finishes}
+use Rattle.law_world.specs.Below.fkv_keeper.CheckpointLaws.{MayFollow}
+use Rattle.law_world.specs.Below.fkv_keeper.KeeperRun.{KeeperEvent, BeginsTurn, BeginsCommit, Replies, Gets, Calls, is_in_hand, begins, keeper_happens}
+use Rattle.law_world.specs.Below.fkv_keeper.Keeping.{KeeperState, ended, commit_asked, turn_asked, maintain_ledto, keeping_next, keeping_given, keeping_called}
+use Rattle.law_world.proofs.Below.fkv_keeper.Shown.{each_move}
 
 -- this is so of the parts of a turn, where one is made
 abbrev pub TurnsWith : (MaintainState → Type 0) → KeeperState → Keeping → Type 0

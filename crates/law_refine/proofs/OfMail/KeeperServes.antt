@@ -9,24 +9,24 @@ use Rattle.fkv_plane.specs.declared.places.Places.{Places}
 use Rattle.fkv_plane.specs.Asked.{reply_to, words_after}
 use Rattle.fkv_plane.specs.Passing.{passed}
 use Rattle.fkv_plane.specs.Plane.{action_at}
-use Rattle.fkv_flush.specs.declared.serving.Serving.{Serving}
-use Rattle.fkv_flush.specs.declared.serving.Serving.TheVariants as serve
-use Rattle.fkv_flush.specs.Serving.{serve_ask, serve_next, serve_read, mailbox_from}
-use Rattle.fkv_maintain.specs.declared.maintaining.Maintaining.{Maintaining}
-use Rattle.fkv_maintain.specs.declared.maintaining.Maintaining.TheVariants.{Through, Spent, Broken, Scans, Claims, Flushes, Shifts, Turns, Serves}
-use Rattle.fkv_maintain.specs.MaintainRun.{MaintainEvent, maintain_happens}
-use Rattle.fkv_maintain.specs.Maintaining.{MaintainState, device_asked, maintaining_ask, maintain_ask, serve_ledto, maintaining_next, maintaining_called}
-use Rattle.fkv_maintain.specs.Parts.{MayFollow}
-use Rattle.fkv_maintain.proofs.Shown.{follows_in_order}
-use Rattle.fkv_keeper.specs.declared.answers.KeeperTold.{KeeperTold}
-use Rattle.fkv_keeper.specs.declared.answers.KeeperTold.TheVariants.{Device}
-use Rattle.fkv_keeper.specs.declared.keepers.Keeping.{Keeping}
-use Rattle.fkv_keeper.specs.declared.keepers.Keeping.TheVariants.{Ended, Maintains}
-use Rattle.fkv_keeper.specs.KeeperRun.{KeeperEvent, Replies, Gets, Calls, is_in_hand, keeper_happens, keeper_run}
-use Rattle.fkv_keeper.specs.Keeping.{KeeperState, end_told, turn_over, device_passed, keeping_ask, keeper_ask, keeper_next, keeper_called, maintain_ledto, keeping_next, keeping_called}
-use Rattle.fkv_world.specs.Moves.{Near}
-use Rattle.fkv_world.specs.OwnEvents.{keeper_got, keeper_slots, keeper_steps}
-use Rattle.fkv_world.proofs.Shown.{keeper_runs_on}
+use Rattle.law_world.specs.Below.fkv_flush.TheServing.{Serving}
+use Rattle.law_world.specs.Below.fkv_flush.TheServing.TheVariants as serve
+use Rattle.law_world.specs.Below.fkv_flush.Serving.{serve_ask, serve_next, serve_read, mailbox_from}
+use Rattle.law_world.specs.Below.fkv_maintain.TheMaintaining.{Maintaining}
+use Rattle.law_world.specs.Below.fkv_maintain.TheMaintaining.TheVariants.{Through, Spent, Broken, Scans, Claims, Flushes, Shifts, Turns, Serves}
+use Rattle.law_world.specs.Below.fkv_maintain.MaintainRun.{MaintainEvent, maintain_happens}
+use Rattle.law_world.specs.Below.fkv_maintain.Maintaining.{MaintainState, device_asked, maintaining_ask, maintain_ask, serve_ledto, maintaining_next, maintaining_called}
+use Rattle.law_world.specs.Below.fkv_maintain.Parts.{MayFollow}
+use Rattle.law_world.proofs.Below.fkv_maintain.Shown.{follows_in_order}
+use Rattle.law_world.specs.Below.fkv_keeper.KeeperTold.{KeeperTold}
+use Rattle.law_world.specs.Below.fkv_keeper.KeeperTold.TheVariants.{Device}
+use Rattle.law_world.specs.Below.fkv_keeper.TheKeeping.{Keeping}
+use Rattle.law_world.specs.Below.fkv_keeper.TheKeeping.TheVariants.{Ended, Maintains}
+use Rattle.law_world.specs.Below.fkv_keeper.KeeperRun.{KeeperEvent, Replies, Gets, Calls, is_in_hand, keeper_happens, keeper_run}
+use Rattle.law_world.specs.Below.fkv_keeper.Keeping.{KeeperState, end_told, turn_over, device_passed, keeping_ask, keeper_ask, keeper_next, keeper_called, maintain_ledto, keeping_next, keeping_called}
+use Rattle.law_world.specs.Below.fkv_world.Moves.{Near}
+use Rattle.law_world.specs.Below.fkv_world.OwnEvents.{keeper_got, keeper_slots, keeper_steps}
+use Rattle.law_world.proofs.Below.fkv_world.Shown.{keeper_runs_on}
 use Rattle.law_refine.specs.Mail.Servers.{maintain_serving, keeper_serving, serving_of}
 use Rattle.law_refine.proofs.OfMail.KeeperParts.{TurnsWith, happens_with}
 

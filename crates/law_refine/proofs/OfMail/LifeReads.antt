@@ -7,22 +7,22 @@ use Rattle.fkv_disk.specs.Calls.{reads_as}
 use Rattle.fkv_map.specs.declared.operations.Call.{Call}
 use Rattle.fkv_plane.specs.declared.asks.Ask.{Ask}
 use Rattle.fkv_plane.specs.declared.asks.Ask.TheVariants.{Load, Store, Swap, Cas, Add, Max, Put, Take, Done}
-use Rattle.fkv_flush.specs.declared.serving.Serving.{Serving}
-use Rattle.fkv_flush.specs.declared.serving.Serving.TheVariants as serve
-use Rattle.fkv_flush.specs.Serving.{mail_place}
-use Rattle.fkv_keeper.specs.KeeperRun.{is_in_hand}
-use Rattle.fkv_keeper.specs.Keeping.{KeeperState, keeper_ask}
-use Rattle.fkv_pending.specs.declared.mailing.MailRecord.{MailRecord}
-use Rattle.fkv_pending.specs.declared.mailing.Mailing.{Mailing}
-use Rattle.fkv_pending.specs.declared.mailing.Mailing.TheVariants as mailing
-use Rattle.fkv_pending.specs.Mailing.{mail_asked}
-use Rattle.fkv_pending.specs.MailWorld.{Mailbox, mailbox_of, Keeping, FindsState, FindsAddress, Reads, GivesHeader, GivesKey, GivesValue, GivesReady, MailWorld, MailEvent, Begins, BeginsPut, Moves as MailMoves, Serves, Changes, keeper_next, mail_happens, mail_run}
-use Rattle.fkv_pending.specs.Mailbox.{served_notes, past_of}
-use Rattle.fkv_pending.proofs.Shown.{IsSound, moment_sound}
-use Rattle.fkv_session.specs.Sessions.{SessionState, is_busy, session_ask}
-use Rattle.fkv_world.specs.Moves.{session_moved}
-use Rattle.fkv_world.specs.Runs.{World, read_by_keeper, run}
-use Rattle.fkv_world.specs.World.{Event, Calls, Moves, Commits, Turns, KeeperMoves, Crashes, Now, seat_at, near, session_called}
+use Rattle.law_world.specs.Below.fkv_flush.TheServing.{Serving}
+use Rattle.law_world.specs.Below.fkv_flush.TheServing.TheVariants as serve
+use Rattle.law_world.specs.Below.fkv_flush.Serving.{mail_place}
+use Rattle.law_world.specs.Below.fkv_keeper.KeeperRun.{is_in_hand}
+use Rattle.law_world.specs.Below.fkv_keeper.Keeping.{KeeperState, keeper_ask}
+use Rattle.law_world.specs.Below.fkv_pending.MailRecord.{MailRecord}
+use Rattle.law_world.specs.Below.fkv_pending.TheMailing.{Mailing}
+use Rattle.law_world.specs.Below.fkv_pending.TheMailing.TheVariants as mailing
+use Rattle.law_world.specs.Below.fkv_pending.Mailing.{mail_asked}
+use Rattle.law_world.specs.Below.fkv_pending.MailWorld.{Mailbox, mailbox_of, Keeping, FindsState, FindsAddress, Reads, GivesHeader, GivesKey, GivesValue, GivesReady, MailWorld, MailEvent, Begins, BeginsPut, Moves as MailMoves, Serves, Changes, keeper_next, mail_happens, mail_run}
+use Rattle.law_world.specs.Below.fkv_pending.Mailbox.{served_notes, past_of}
+use Rattle.law_world.proofs.Below.fkv_pending.Shown.{IsSound, moment_sound}
+use Rattle.law_world.specs.Below.fkv_session.Sessions.{SessionState, is_busy, session_ask}
+use Rattle.law_world.specs.Below.fkv_world.Moves.{session_moved}
+use Rattle.law_world.specs.Below.fkv_world.Runs.{World, read_by_keeper, run}
+use Rattle.law_world.specs.Below.fkv_world.World.{Event, Calls, Moves, Commits, Turns, KeeperMoves, Crashes, Now, seat_at, near, session_called}
 use Rattle.law_refine.specs.Mail.MailEvents.{begins, changed_by, asked_by, own_events, moved_events, begun_events, called_events, served_events, record_read, keeper_events, life_events, mail_events, mapped}
 use Rattle.law_refine.specs.Mail.Mailers.{session_mailing}
 use Rattle.law_refine.specs.Mail.Reads.{mail_past, mail_notes, record_there, ReadSince}

@@ -3,23 +3,23 @@ use Rattle.std.proofs.Common.{◌≡◌, ℕ, ◌<◌, ◌∙◌, refl, sym, sub
 use Rattle.std.specs.Prelude.{if◌then◌else◌, slice_get}
 use Rattle.fkv_base.specs.declared.faults.Fault.TheVariants as fault
 use Rattle.fkv_base.specs.declared.commits.CommitKind.{CommitKind}
-use Rattle.fkv_commit.specs.Starting.{start_begun}
-use Rattle.fkv_maintain.specs.Maintaining.{maintain_begun}
-use Rattle.fkv_flush.specs.declared.serving.Serving.{Serving}
-use Rattle.fkv_flush.specs.declared.serving.Serving.TheVariants as serve
-use Rattle.fkv_keeper.specs.declared.answers.KeeperTold.TheVariants.{TurnRefused, CommitRefused}
-use Rattle.fkv_keeper.specs.declared.keepers.Keeping.{Keeping}
-use Rattle.fkv_keeper.specs.declared.keepers.Keeping.TheVariants.{Ended, Starts, Maintains}
-use Rattle.fkv_keeper.specs.KeeperRun.{is_in_hand}
-use Rattle.fkv_keeper.specs.Keeping.{KeeperState, ended, commit_asked, turn_asked}
-use Rattle.fkv_pending.specs.declared.mailing.MailAnswer.TheVariants.{NotReady}
-use Rattle.fkv_pending.specs.declared.mailing.Mailing.TheVariants as mailing
-use Rattle.fkv_pending.specs.MailWorld.{mailbox_of, FindsState, MailWorld, mail_run}
-use Rattle.fkv_pending.specs.Mailbox.{MailPast, past_of}
-use Rattle.fkv_pending.proofs.Shown.{IsSound, moment_sound}
-use Rattle.fkv_world.specs.Runs.{World, read_by_keeper, happens, run}
-use Rattle.fkv_world.specs.World.{Event, Calls, Moves, Commits, Turns, KeeperMoves, Crashes, Now, life_goes}
-use Rattle.fkv_world.proofs.Shown.{is_over, lives}
+use Rattle.law_world.specs.Below.fkv_commit.Starting.{start_begun}
+use Rattle.law_world.specs.Below.fkv_maintain.Maintaining.{maintain_begun}
+use Rattle.law_world.specs.Below.fkv_flush.TheServing.{Serving}
+use Rattle.law_world.specs.Below.fkv_flush.TheServing.TheVariants as serve
+use Rattle.law_world.specs.Below.fkv_keeper.KeeperTold.TheVariants.{TurnRefused, CommitRefused}
+use Rattle.law_world.specs.Below.fkv_keeper.TheKeeping.{Keeping}
+use Rattle.law_world.specs.Below.fkv_keeper.TheKeeping.TheVariants.{Ended, Starts, Maintains}
+use Rattle.law_world.specs.Below.fkv_keeper.KeeperRun.{is_in_hand}
+use Rattle.law_world.specs.Below.fkv_keeper.Keeping.{KeeperState, ended, commit_asked, turn_asked}
+use Rattle.law_world.specs.Below.fkv_pending.MailAnswer.TheVariants.{NotReady}
+use Rattle.law_world.specs.Below.fkv_pending.TheMailing.TheVariants as mailing
+use Rattle.law_world.specs.Below.fkv_pending.MailWorld.{mailbox_of, FindsState, MailWorld, mail_run}
+use Rattle.law_world.specs.Below.fkv_pending.Mailbox.{MailPast, past_of}
+use Rattle.law_world.proofs.Below.fkv_pending.Shown.{IsSound, moment_sound}
+use Rattle.law_world.specs.Below.fkv_world.Runs.{World, read_by_keeper, happens, run}
+use Rattle.law_world.specs.Below.fkv_world.World.{Event, Calls, Moves, Commits, Turns, KeeperMoves, Crashes, Now, life_goes}
+use Rattle.law_world.proofs.Below.fkv_world.Shown.{is_over, lives}
 use Rattle.law_refine.specs.Mail.MailEvents.{called_events, moved_events, life_events, mail_events, mapped}
 use Rattle.law_refine.specs.Mail.Servers.{serving_of, keeper_serving, KeepsUp}
 use Rattle.law_refine.specs.Mail.Shows.{IsPermitted, IsOpened, Shows, mail_opening, seen_by_mailbox}

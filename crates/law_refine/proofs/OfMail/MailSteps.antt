@@ -9,12 +9,12 @@ use Rattle.fkv_plane.specs.declared.places.Places.{Places}
 use Rattle.fkv_plane.specs.declared.places.SessionWord.TheVariants as own
 use Rattle.fkv_plane.specs.Asked.{word_at, words_after, reply_to}
 use Rattle.fkv_plane.specs.Places.{session_place}
-use Rattle.fkv_pending.specs.declared.mailing.MailTask.{MailTask}
-use Rattle.fkv_pending.specs.declared.mailing.Mailing.{Mailing}
-use Rattle.fkv_pending.specs.declared.mailing.Mailing.TheVariants as mailing
-use Rattle.fkv_pending.specs.Mailing.{mail_asked, mail_ask, mail_next}
-use Rattle.fkv_pending.specs.MailWorld.{Mailbox, mailbox_of, is_mail_place, MailWorld, MailEvent, Moves, mail_happens, mail_run}
-use Rattle.fkv_pending.proofs.Shown.{KnowsMail, box_moved, spared_box}
+use Rattle.law_world.specs.Below.fkv_pending.MailTask.{MailTask}
+use Rattle.law_world.specs.Below.fkv_pending.TheMailing.{Mailing}
+use Rattle.law_world.specs.Below.fkv_pending.TheMailing.TheVariants as mailing
+use Rattle.law_world.specs.Below.fkv_pending.Mailing.{mail_asked, mail_ask, mail_next}
+use Rattle.law_world.specs.Below.fkv_pending.MailWorld.{Mailbox, mailbox_of, is_mail_place, MailWorld, MailEvent, Moves, mail_happens, mail_run}
+use Rattle.law_world.proofs.Below.fkv_pending.Shown.{KnowsMail, box_moved, spared_box}
 use Rattle.law_refine.specs.Footprint.{IsAmong, Mail, Spares, TheMailbox}
 use Rattle.law_refine.specs.Mail.MailEvents.{begins, changed_by}
 use Rattle.law_refine.proofs.OfMail.AttemptSits.{begun}

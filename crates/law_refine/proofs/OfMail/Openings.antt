@@ -1,7 +1,7 @@
 -- What a store that was just opened owes for a session's mailbox.
 use Rattle.std.proofs.Common.{ℕ, ◌<◌, arith}
-use Rattle.fkv_flush.specs.GuardMail.{AreEmpty}
-use Rattle.fkv_world.specs.World.{Now}
+use Rattle.law_world.specs.Below.fkv_flush.GuardMail.{AreEmpty}
+use Rattle.law_world.specs.Below.fkv_world.World.{Now}
 use Rattle.law_world.specs.Guarded.Shows as guard
 use Rattle.law_refine.specs.Mail.Shows.{IsOpened}
 

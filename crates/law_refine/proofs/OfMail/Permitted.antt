@@ -4,16 +4,16 @@ use Rattle.std.proofs.Common.{◌≡◌, ℕ, ◌<◌, ◌∙◌, refl, sym, ap,
 use Rattle.std.specs.Prelude.{Option, Some, None, slice_get}
 use Rattle.fkv_base.specs.declared.shapes.Shape.{Shape}
 use Rattle.fkv_plane.specs.declared.places.Places.{Places}
-use Rattle.fkv_keeper.specs.declared.keepers.Keeping.{Keeping}
-use Rattle.fkv_keeper.specs.declared.keepers.Keeping.TheVariants.{Ended, Starts, Maintains, LoadsPhase, Enters, Copies, Seeks, Waits, Writes, Finishes}
-use Rattle.fkv_keeper.specs.KeeperRun.{IsOpened as IsKeeperOpened, is_in_hand, keeper_run}
-use Rattle.fkv_keeper.specs.Keeping.{KeeperState, keeper_ask}
-use Rattle.fkv_keeper.proofs.Shown.{IsSound, run_sound}
-use Rattle.fkv_session.specs.Sessions.{SessionState, Seat}
-use Rattle.fkv_world.specs.OwnEvents.{keeper_events, session_events}
-use Rattle.fkv_world.specs.Runs.{World, run}
-use Rattle.fkv_world.specs.World.{Event, Calls, Moves, Commits, Turns, KeeperMoves, Crashes, Now, seat_at}
-use Rattle.fkv_world.proofs.Shown.{keeper_runs, places_stay}
+use Rattle.law_world.specs.Below.fkv_keeper.TheKeeping.{Keeping}
+use Rattle.law_world.specs.Below.fkv_keeper.TheKeeping.TheVariants.{Ended, Starts, Maintains, LoadsPhase, Enters, Copies, Seeks, Waits, Writes, Finishes}
+use Rattle.law_world.specs.Below.fkv_keeper.KeeperRun.{IsOpened as IsKeeperOpened, is_in_hand, keeper_run}
+use Rattle.law_world.specs.Below.fkv_keeper.Keeping.{KeeperState, keeper_ask}
+use Rattle.law_world.proofs.Below.fkv_keeper.Shown.{IsSound, run_sound}
+use Rattle.law_world.specs.Below.fkv_session.Sessions.{SessionState, Seat}
+use Rattle.law_world.specs.Below.fkv_world.OwnEvents.{keeper_events, session_events}
+use Rattle.law_world.specs.Below.fkv_world.Runs.{World, run}
+use Rattle.law_world.specs.Below.fkv_world.World.{Event, Calls, Moves, Commits, Turns, KeeperMoves, Crashes, Now, seat_at}
+use Rattle.law_world.proofs.Below.fkv_world.Shown.{keeper_runs, places_stay}
 use Rattle.law_refine.specs.Mail.Servers.{serving_of, is_serving}
 use Rattle.law_refine.specs.Mail.Shows.{SessionSpares, IsPermitted, ArePermitted, IsOpened}
 use Rattle.law_refine.specs.Footprint.{TheMailbox, Spares}

@@ -5,12 +5,12 @@ use Rattle.fkv_record.specs.Places.{record_place}
 use Rattle.fkv_disk.specs.Bytes.{bytes_at}
 use Rattle.fkv_disk.specs.Calls.{Call, reads_as, ReadsAs}
 use Rattle.fkv_disk.proofs.Shown.{reads_within}
-use Rattle.fkv_flush.specs.GuardFlushed.{IsSynced, stands}
-use Rattle.fkv_flush.specs.GuardLevels.{levels_of}
-use Rattle.fkv_world.specs.World.{Event}
-use Rattle.fkv_world.specs.Runs.{World, run}
+use Rattle.law_world.specs.Below.fkv_flush.GuardFlushed.{IsSynced, stands}
+use Rattle.law_world.specs.Below.fkv_flush.GuardLevels.{levels_of}
+use Rattle.law_world.specs.Below.fkv_world.World.{Event}
+use Rattle.law_world.specs.Below.fkv_world.Runs.{World, run}
 use Rattle.law_world.proofs.OfKeeper.OwnCalls.{opened_stays}
-use Rattle.fkv_world.proofs.Shown.{shape_stays}
+use Rattle.law_world.proofs.Below.fkv_world.Shown.{shape_stays}
 use Rattle.law_world.specs.Guarded.GuardEvents.{mapped}
 use Rattle.law_world.specs.Guarded.OpenedStore.{IsOpenedStore}
 use Rattle.law_world.specs.Guarded.Shows.{ArePermitted, guard_opening}

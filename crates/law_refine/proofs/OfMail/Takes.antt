@@ -6,21 +6,21 @@ use Rattle.fkv_base.specs.declared.numbers.Addr.{Addr}
 use Rattle.fkv_plane.specs.declared.asks.Ask.{Ask}
 use Rattle.fkv_plane.specs.declared.asks.Ask.TheVariants.{Done}
 use Rattle.fkv_plane.specs.Asked.{reply_to}
-use Rattle.fkv_pending.specs.declared.mailing.MailAnswer.{MailAnswer}
-use Rattle.fkv_pending.specs.declared.mailing.MailAnswer.TheVariants.{Cleared, NotReady, Taken, Asked, Occupied}
-use Rattle.fkv_pending.specs.declared.mailing.MailRecord.{MailRecord}
-use Rattle.fkv_pending.specs.declared.mailing.MailTask.{MailTask}
-use Rattle.fkv_pending.specs.declared.mailing.MailTask.TheVariants as task
-use Rattle.fkv_pending.specs.declared.mailing.Mailing.{Mailing}
-use Rattle.fkv_pending.specs.declared.mailing.Mailing.TheVariants as mailing
-use Rattle.fkv_pending.specs.Mailing.{mail_asked, mail_ask, mail_next}
-use Rattle.fkv_pending.specs.MailWorld.{Mailbox, mailbox_of, MailWorld, MailEvent, Moves as MailMoves, is_at_end, mail_happens}
-use Rattle.fkv_pending.specs.Mailbox.{MailNote, HasAskedFor, WasServed, HasTaken, HasLetGo, MailPast, asked_then, asked_notes, answered_notes, past_moved, past_of, IsAskedFor, IsServed, AreInTurn}
-use Rattle.fkv_pending.proofs.Shown.{IsSound, KnowsMail, moment_sound}
-use Rattle.fkv_session.specs.Sessions.{SessionState, session_ask}
-use Rattle.fkv_world.specs.Moves.{session_moved}
-use Rattle.fkv_world.specs.Runs.{World, read_by_keeper, run}
-use Rattle.fkv_world.specs.World.{Event, Moves, Now, seat_at, near}
+use Rattle.law_world.specs.Below.fkv_pending.MailAnswer.{MailAnswer}
+use Rattle.law_world.specs.Below.fkv_pending.MailAnswer.TheVariants.{Cleared, NotReady, Taken, Asked, Occupied}
+use Rattle.law_world.specs.Below.fkv_pending.MailRecord.{MailRecord}
+use Rattle.law_world.specs.Below.fkv_pending.MailTask.{MailTask}
+use Rattle.law_world.specs.Below.fkv_pending.MailTask.TheVariants as task
+use Rattle.law_world.specs.Below.fkv_pending.TheMailing.{Mailing}
+use Rattle.law_world.specs.Below.fkv_pending.TheMailing.TheVariants as mailing
+use Rattle.law_world.specs.Below.fkv_pending.Mailing.{mail_asked, mail_ask, mail_next}
+use Rattle.law_world.specs.Below.fkv_pending.MailWorld.{Mailbox, mailbox_of, MailWorld, MailEvent, Moves as MailMoves, is_at_end, mail_happens}
+use Rattle.law_world.specs.Below.fkv_pending.Mailbox.{MailNote, HasAskedFor, WasServed, HasTaken, HasLetGo, MailPast, asked_then, asked_notes, answered_notes, past_moved, past_of, IsAskedFor, IsServed, AreInTurn}
+use Rattle.law_world.proofs.Below.fkv_pending.Shown.{IsSound, KnowsMail, moment_sound}
+use Rattle.law_world.specs.Below.fkv_session.Sessions.{SessionState, session_ask}
+use Rattle.law_world.specs.Below.fkv_world.Moves.{session_moved}
+use Rattle.law_world.specs.Below.fkv_world.Runs.{World, read_by_keeper, run}
+use Rattle.law_world.specs.Below.fkv_world.World.{Event, Moves, Now, seat_at, near}
 use Rattle.law_refine.specs.Mail.MailEvents.{begins, changed_by, asked_by, own_events, moved_events, life_events, mail_events, mapped}
 use Rattle.law_refine.specs.Mail.Mailers.{session_mailing, IsAsFar}
 use Rattle.law_refine.specs.Mail.Reads.{mail_past, mail_notes, IsTaking, HasTakenRead, TakesWhatWasRead}

@@ -7,24 +7,24 @@ use Rattle.fkv_plane.specs.declared.asks.Ask.{Ask}
 use Rattle.fkv_plane.specs.declared.places.SessionWord.TheVariants as own
 use Rattle.fkv_plane.specs.Asked.{words_after, reply_to}
 use Rattle.fkv_plane.specs.Places.{session_place}
-use Rattle.fkv_flush.specs.declared.serving.Serving.{Serving}
-use Rattle.fkv_flush.specs.declared.serving.Serving.TheVariants as serve
-use Rattle.fkv_flush.specs.Serving.{serve_ask}
-use Rattle.fkv_keeper.specs.declared.answers.KeeperTold.{KeeperTold}
-use Rattle.fkv_keeper.specs.KeeperRun.{is_in_hand, keeper_run}
-use Rattle.fkv_keeper.specs.Keeping.{KeeperState, keeper_ask}
-use Rattle.fkv_pending.specs.declared.mailing.Mailing.{Mailing}
-use Rattle.fkv_pending.specs.Mailing.{mail_asked, mail_ask, mail_next}
-use Rattle.fkv_pending.specs.MailWorld.{Mailbox, mailbox_of, Keeping, FindsState, MailWorld, MailEvent, mail_run}
-use Rattle.fkv_pending.specs.Mailbox.{MailPast}
-use Rattle.fkv_pending.proofs.Shown.{IsSound, KnowsMail, moved_box}
-use Rattle.fkv_session.specs.declared.answers.Told.{Told}
-use Rattle.fkv_session.specs.Sessions.{SessionState, Seat, is_busy, session_ask, session_begun}
-use Rattle.fkv_world.specs.Moves.{Near, session_moved}
-use Rattle.fkv_world.specs.OwnEvents.{keeper_part}
-use Rattle.fkv_world.specs.Runs.{World, read_by_keeper, happens}
-use Rattle.fkv_world.specs.World.{Moves, KeeperMoves, Now, seat_at, near, with_session, keeper_asked, session_calls, session_moves, life_goes}
-use Rattle.fkv_world.proofs.Shown.{happens_keeper, lives}
+use Rattle.law_world.specs.Below.fkv_flush.TheServing.{Serving}
+use Rattle.law_world.specs.Below.fkv_flush.TheServing.TheVariants as serve
+use Rattle.law_world.specs.Below.fkv_flush.Serving.{serve_ask}
+use Rattle.law_world.specs.Below.fkv_keeper.KeeperTold.{KeeperTold}
+use Rattle.law_world.specs.Below.fkv_keeper.KeeperRun.{is_in_hand, keeper_run}
+use Rattle.law_world.specs.Below.fkv_keeper.Keeping.{KeeperState, keeper_ask}
+use Rattle.law_world.specs.Below.fkv_pending.TheMailing.{Mailing}
+use Rattle.law_world.specs.Below.fkv_pending.Mailing.{mail_asked, mail_ask, mail_next}
+use Rattle.law_world.specs.Below.fkv_pending.MailWorld.{Mailbox, mailbox_of, Keeping, FindsState, MailWorld, MailEvent, mail_run}
+use Rattle.law_world.specs.Below.fkv_pending.Mailbox.{MailPast}
+use Rattle.law_world.proofs.Below.fkv_pending.Shown.{IsSound, KnowsMail, moved_box}
+use Rattle.law_world.specs.Below.fkv_session.Told.{Told}
+use Rattle.law_world.specs.Below.fkv_session.Sessions.{SessionState, Seat, is_busy, session_ask, session_begun}
+use Rattle.law_world.specs.Below.fkv_world.Moves.{Near, session_moved}
+use Rattle.law_world.specs.Below.fkv_world.OwnEvents.{keeper_part}
+use Rattle.law_world.specs.Below.fkv_world.Runs.{World, read_by_keeper, happens}
+use Rattle.law_world.specs.Below.fkv_world.World.{Moves, KeeperMoves, Now, seat_at, near, with_session, keeper_asked, session_calls, session_moves, life_goes}
+use Rattle.law_world.proofs.Below.fkv_world.Shown.{happens_keeper, lives}
 use Rattle.law_world.proofs.OfRuns.OneWord.{keeper_writes, session_writes}
 use Rattle.law_refine.specs.Mail.MailEvents.{begins, changed_by, asked_by, own_events, moved_events, begun_events, called_events, served_events, record_read, keeper_events}
 use Rattle.law_refine.specs.Mail.Mailers.{session_mailing, IsAsFar}

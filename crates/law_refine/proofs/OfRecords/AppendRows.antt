@@ -9,24 +9,24 @@ use Rattle.fkv_plane.specs.declared.asks.Ask.TheVariants.{Done}
 use Rattle.fkv_plane.specs.declared.places.Places.{Places}
 use Rattle.fkv_plane.specs.declared.places.RecordWord.{RecordWord}
 use Rattle.fkv_plane.specs.declared.places.RecordWord.TheVariants as rec
-use Rattle.fkv_log.specs.declared.filling.Filling.{Filling}
-use Rattle.fkv_log.specs.declared.filling.Filling.TheVariants as fill
-use Rattle.fkv_log.specs.declared.invalidating.Invalidating.{Invalidating}
-use Rattle.fkv_log.specs.declared.invalidating.Invalidating.TheVariants as invalidate
-use Rattle.fkv_log.specs.declared.record_words.RecordWords.{RecordWords}
-use Rattle.fkv_log.specs.declared.reserving.ReserveAnswer.{ReserveAnswer}
-use Rattle.fkv_log.specs.declared.reserving.ReserveAnswer.TheVariants as reserve
-use Rattle.fkv_log.specs.Reserving.{reserve_next, reserve_next_ask}
-use Rattle.fkv_log.specs.Filling.{fill_begun, fill_ask, fill_next}
-use Rattle.fkv_log.specs.Invalidating.{invalidate_ask, invalidate_next, invalidated}
+use Rattle.law_world.specs.Below.fkv_log.TheFilling.{Filling}
+use Rattle.law_world.specs.Below.fkv_log.TheFilling.TheVariants as fill
+use Rattle.law_world.specs.Below.fkv_log.TheInvalidating.{Invalidating}
+use Rattle.law_world.specs.Below.fkv_log.TheInvalidating.TheVariants as invalidate
+use Rattle.law_world.specs.Below.fkv_log.RecordWords.{RecordWords}
+use Rattle.law_world.specs.Below.fkv_log.ReserveAnswer.{ReserveAnswer}
+use Rattle.law_world.specs.Below.fkv_log.ReserveAnswer.TheVariants as reserve
+use Rattle.law_world.specs.Below.fkv_log.Reserving.{reserve_next, reserve_next_ask}
+use Rattle.law_world.specs.Below.fkv_log.Filling.{fill_begun, fill_ask, fill_next}
+use Rattle.law_world.specs.Below.fkv_log.Invalidating.{invalidate_ask, invalidate_next, invalidated}
 use Rattle.fkv_index.specs.declared.publishing.PublishAnswer.TheVariants as publish
 use Rattle.fkv_index.specs.declared.publishing.Publishing.{Publishing}
 use Rattle.fkv_index.specs.declared.publishing.Publishing.TheVariants.{AtRest, SwapsEntry}
 use Rattle.fkv_index.specs.Publishing.{publish_next, publish_next_ask}
-use Rattle.fkv_ops.specs.declared.appending.AppendAnswer.TheVariants as append
-use Rattle.fkv_ops.specs.declared.appending.Appending.{Appending}
-use Rattle.fkv_ops.specs.declared.appending.Appending.TheVariants as appending
-use Rattle.fkv_ops.specs.Appending.{AppendState, append_ended, reserve_ledto, fill_ledto, publish_ledto, invalidate_ledto, appending_next}
+use Rattle.law_world.specs.Below.fkv_ops.AppendAnswer.TheVariants as append
+use Rattle.law_world.specs.Below.fkv_ops.TheAppending.{Appending}
+use Rattle.law_world.specs.Below.fkv_ops.TheAppending.TheVariants as appending
+use Rattle.law_world.specs.Below.fkv_ops.Appending.{AppendState, append_ended, reserve_ledto, fill_ledto, publish_ledto, invalidate_ledto, appending_next}
 
 -- by address, the words that stand for the record there
 abbrev pub Standing : Type 0

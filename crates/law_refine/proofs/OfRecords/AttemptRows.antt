@@ -6,22 +6,22 @@ use Rattle.fkv_map.specs.Map.{is_reserved}
 use Rattle.fkv_plane.specs.declared.asks.Ask.{Ask}
 use Rattle.fkv_plane.specs.declared.asks.Ask.TheVariants.{Done}
 use Rattle.fkv_plane.specs.declared.places.Places.{Places}
-use Rattle.fkv_ops.specs.declared.answers.DiskRecord.{DiskRecord}
-use Rattle.fkv_ops.specs.declared.answers.TryAnswer.{TryAnswer}
-use Rattle.fkv_ops.specs.declared.answers.TryAnswer.TheVariants as answer
-use Rattle.fkv_ops.specs.declared.requests.Occasion.{Occasion}
-use Rattle.fkv_ops.specs.declared.requests.Seen.{Seen}
-use Rattle.fkv_ops.specs.Trying.{TryState, try_ask}
-use Rattle.fkv_pending.specs.declared.attempting.Attempting.{Attempting}
-use Rattle.fkv_pending.specs.declared.attempting.Attempting.TheVariants.{Ended, Looks, Tries, Puts}
-use Rattle.fkv_pending.specs.declared.mailing.MailAnswer.{MailAnswer}
-use Rattle.fkv_pending.specs.declared.mailing.MailAnswer.TheVariants as mail
-use Rattle.fkv_pending.specs.declared.pending_requests.PendingRequest.{PendingRequest}
-use Rattle.fkv_pending.specs.Mailing.{mail_ask, mail_next}
-use Rattle.fkv_pending.specs.Pending.{with_sought, with_held, with_latch}
-use Rattle.fkv_pending.specs.Attempting.{AttemptState, attempt_begun, waits_for_disk, puts_addr, puts, tries, is_seeking_read, goes_on, look_ledto, held_kept, awaits_record, tried, try_ledto, put_ledto, mail_moved, try_moved, attempting_next, attempt_next, new_attempt}
-use Rattle.fkv_session.specs.Sessions.{Seat, bits_of, room_of}
-use Rattle.fkv_session.proofs.Shown.{attempt_keeps}
+use Rattle.law_world.specs.Below.fkv_ops.DiskRecord.{DiskRecord}
+use Rattle.law_world.specs.Below.fkv_ops.TryAnswer.{TryAnswer}
+use Rattle.law_world.specs.Below.fkv_ops.TryAnswer.TheVariants as answer
+use Rattle.law_world.specs.Below.fkv_ops.Occasion.{Occasion}
+use Rattle.law_world.specs.Below.fkv_ops.Seen.{Seen}
+use Rattle.law_world.specs.Below.fkv_ops.Trying.{TryState, try_ask}
+use Rattle.law_world.specs.Below.fkv_pending.TheAttempting.{Attempting}
+use Rattle.law_world.specs.Below.fkv_pending.TheAttempting.TheVariants.{Ended, Looks, Tries, Puts}
+use Rattle.law_world.specs.Below.fkv_pending.MailAnswer.{MailAnswer}
+use Rattle.law_world.specs.Below.fkv_pending.MailAnswer.TheVariants as mail
+use Rattle.law_world.specs.Below.fkv_pending.PendingRequest.{PendingRequest}
+use Rattle.law_world.specs.Below.fkv_pending.Mailing.{mail_ask, mail_next}
+use Rattle.law_world.specs.Below.fkv_pending.Pending.{with_sought, with_held, with_latch}
+use Rattle.law_world.specs.Below.fkv_pending.Attempting.{AttemptState, attempt_begun, waits_for_disk, puts_addr, puts, tries, is_seeking_read, goes_on, look_ledto, held_kept, awaits_record, tried, try_ledto, put_ledto, mail_moved, try_moved, attempting_next, attempt_next, new_attempt}
+use Rattle.law_world.specs.Below.fkv_session.Sessions.{Seat, bits_of, room_of}
+use Rattle.law_world.proofs.Below.fkv_session.Shown.{attempt_keeps}
 use Rattle.law_refine.proofs.OfRecords.AppendRows.{Standing}
 use Rattle.law_refine.proofs.OfRecords.TryRows.{TryStandsNow, TryWrites, begun_so, try_so}
 use Rattle.law_refine.proofs.OfEvents.Looks.{look_holds}

@@ -4,9 +4,9 @@ use Rattle.std.specs.Prelude.{Option, Some, None, slice_get}
 use Rattle.std.proofs.lemmas.Bool.{cases_lt}
 use Rattle.law_log.specs.Chains.{Logged, Unborn, Published}
 use Rattle.law_log.specs.Ghosts.{Ghosts}
-use Rattle.fkv_session.specs.Sessions.{SessionState}
-use Rattle.fkv_world.specs.Runs.{World, run}
-use Rattle.fkv_world.specs.World.{Event, Moves}
+use Rattle.law_world.specs.Below.fkv_session.Sessions.{SessionState}
+use Rattle.law_world.specs.Below.fkv_world.Runs.{World, run}
+use Rattle.law_world.specs.Below.fkv_world.World.{Event, Moves}
 use Rattle.law_world.specs.Guarded.Shows.{IsOpened, SessionIsBelowTail, ChangesBelowTail, AreBelowTail, ArePermitted}
 use Rattle.law_world.proofs.OfGuarded.BelowTail.{below_permitted}
 use Rattle.law_refine.specs.Events.GhostEvents.{life_ghosts}

@@ -9,42 +9,42 @@ use Rattle.fkv_plane.specs.declared.places.RecordWord.TheVariants as rec
 use Rattle.fkv_plane.specs.Asked.{word_at}
 use Rattle.fkv_plane.specs.Passing.{is_done}
 use Rattle.fkv_plane.specs.Places.{frames_start}
-use Rattle.fkv_log.specs.declared.filling.Filling.{Filling}
-use Rattle.fkv_log.specs.declared.filling.Filling.TheVariants as fill
-use Rattle.fkv_log.specs.declared.invalidating.Invalidating.{Invalidating}
-use Rattle.fkv_log.specs.declared.invalidating.Invalidating.TheVariants as invalidate
-use Rattle.fkv_log.specs.declared.reserving.ReserveAnswer.{ReserveAnswer}
-use Rattle.fkv_log.specs.declared.reserving.ReserveAnswer.TheVariants as reserved
-use Rattle.fkv_log.specs.declared.reserving.Reserving.{Reserving}
-use Rattle.fkv_log.specs.declared.reserving.Reserving.TheVariants as reserve
-use Rattle.fkv_log.specs.Reserving.{reserve_next_ask}
+use Rattle.law_world.specs.Below.fkv_log.TheFilling.{Filling}
+use Rattle.law_world.specs.Below.fkv_log.TheFilling.TheVariants as fill
+use Rattle.law_world.specs.Below.fkv_log.TheInvalidating.{Invalidating}
+use Rattle.law_world.specs.Below.fkv_log.TheInvalidating.TheVariants as invalidate
+use Rattle.law_world.specs.Below.fkv_log.ReserveAnswer.{ReserveAnswer}
+use Rattle.law_world.specs.Below.fkv_log.ReserveAnswer.TheVariants as reserved
+use Rattle.law_world.specs.Below.fkv_log.TheReserving.{Reserving}
+use Rattle.law_world.specs.Below.fkv_log.TheReserving.TheVariants as reserve
+use Rattle.law_world.specs.Below.fkv_log.Reserving.{reserve_next_ask}
 use Rattle.fkv_plane.specs.Asked.{asked, reply_to}
 use Rattle.fkv_index.specs.declared.publishing.Publishing.{Publishing}
 use Rattle.fkv_index.specs.declared.publishing.Publishing.TheVariants.{AtRest, SwapsEntry}
-use Rattle.fkv_flush.specs.GuardAsks.{writes}
-use Rattle.fkv_flush.specs.GuardSeen.{LastSeen}
-use Rattle.fkv_flush.specs.GuardWorld.{Actor, Work, Fills, Invalidates, GuardTask, GuardWorld, GuardEvent, Begins, Resumes, Moves, Publishes, Shifts, is_idle, shift_rests, turn_rests}
-use Rattle.fkv_flush.specs.GuardWorld as guard
-use Rattle.fkv_flush.specs.Guarded.{event_writes}
-use Rattle.fkv_flush.proofs.Shown.{IsSound, FitsWork}
-use Rattle.fkv_ops.specs.declared.appending.Appending.{Appending}
-use Rattle.fkv_ops.specs.declared.appending.Appending.TheVariants as appending
-use Rattle.fkv_ops.specs.declared.trying.Trying.{Trying}
-use Rattle.fkv_ops.specs.declared.trying.Trying.TheVariants.{SwapsValue, ChangesValue, Appends}
-use Rattle.fkv_ops.specs.Appending.{AppendState}
-use Rattle.fkv_ops.specs.Trying.{TryState}
-use Rattle.fkv_pending.specs.declared.attempting.Attempting.{Attempting}
-use Rattle.fkv_pending.specs.declared.attempting.Attempting.TheVariants.{Tries}
-use Rattle.fkv_pending.specs.Attempting.{AttemptState}
-use Rattle.fkv_session.specs.declared.catching_up.Catching.{Catching}
-use Rattle.fkv_session.specs.declared.catching_up.Catching.TheVariants as catching
-use Rattle.fkv_session.specs.declared.own_turns.OwnTurning.{OwnTurning}
-use Rattle.fkv_session.specs.declared.own_turns.OwnTurning.TheVariants as turning
-use Rattle.fkv_session.specs.declared.sessions.Sitting.{Sitting}
-use Rattle.fkv_session.specs.declared.sessions.Sitting.TheVariants.{Attempts, CatchesUp, Polls, Turns, Leaves}
-use Rattle.fkv_session.specs.CatchingUp.{CatchState}
-use Rattle.fkv_session.specs.OwnTurns.{OwnTurnState}
-use Rattle.fkv_session.specs.Sessions.{SessionState, Seat, session_ask}
+use Rattle.law_world.specs.Below.fkv_flush.GuardAsks.{writes}
+use Rattle.law_world.specs.Below.fkv_flush.GuardSeen.{LastSeen}
+use Rattle.law_world.specs.Below.fkv_flush.GuardWorld.{Actor, Work, Fills, Invalidates, GuardTask, GuardWorld, GuardEvent, Begins, Resumes, Moves, Publishes, Shifts, is_idle, shift_rests, turn_rests}
+use Rattle.law_world.specs.Below.fkv_flush.GuardWorld as guard
+use Rattle.law_world.specs.Below.fkv_flush.Guarded.{event_writes}
+use Rattle.law_world.proofs.Below.fkv_flush.Shown.{IsSound, FitsWork}
+use Rattle.law_world.specs.Below.fkv_ops.TheAppending.{Appending}
+use Rattle.law_world.specs.Below.fkv_ops.TheAppending.TheVariants as appending
+use Rattle.law_world.specs.Below.fkv_ops.TheTrying.{Trying}
+use Rattle.law_world.specs.Below.fkv_ops.TheTrying.TheVariants.{SwapsValue, ChangesValue, Appends}
+use Rattle.law_world.specs.Below.fkv_ops.Appending.{AppendState}
+use Rattle.law_world.specs.Below.fkv_ops.Trying.{TryState}
+use Rattle.law_world.specs.Below.fkv_pending.TheAttempting.{Attempting}
+use Rattle.law_world.specs.Below.fkv_pending.TheAttempting.TheVariants.{Tries}
+use Rattle.law_world.specs.Below.fkv_pending.Attempting.{AttemptState}
+use Rattle.law_world.specs.Below.fkv_session.Catching.{Catching}
+use Rattle.law_world.specs.Below.fkv_session.Catching.TheVariants as catching
+use Rattle.law_world.specs.Below.fkv_session.OwnTurning.{OwnTurning}
+use Rattle.law_world.specs.Below.fkv_session.OwnTurning.TheVariants as turning
+use Rattle.law_world.specs.Below.fkv_session.Sitting.{Sitting}
+use Rattle.law_world.specs.Below.fkv_session.Sitting.TheVariants.{Attempts, CatchesUp, Polls, Turns, Leaves}
+use Rattle.law_world.specs.Below.fkv_session.CatchingUp.{CatchState}
+use Rattle.law_world.specs.Below.fkv_session.OwnTurns.{OwnTurnState}
+use Rattle.law_world.specs.Below.fkv_session.Sessions.{SessionState, Seat, session_ask}
 use Rattle.law_world.specs.GuardSessions.Attempts.{attempt_events, attempt_likeness_at}
 use Rattle.law_world.specs.GuardSessions.Catches.{catch_events, catch_likeness_at}
 use Rattle.law_world.specs.GuardSessions.Likenesses.{append_work, fill_work, invalidate_work, reserve_work}

@@ -8,37 +8,37 @@ use Rattle.fkv_epoch.specs.EpochWorld.{EpochMachine, Protects, Sight, is_at_rest
 use Rattle.fkv_epoch.specs.declared.protecting.Protecting.TheVariants as protect
 use Rattle.fkv_epoch.specs.Once.{goes_by}
 use Rattle.fkv_epoch.proofs.Shown.{some_same}
-use Rattle.fkv_log.specs.declared.filling.Filling.{Filling}
-use Rattle.fkv_log.specs.declared.filling.Filling.TheVariants as fill
-use Rattle.fkv_log.specs.declared.invalidating.Invalidating.{Invalidating}
-use Rattle.fkv_log.specs.declared.invalidating.Invalidating.TheVariants as invalidate
-use Rattle.fkv_log.specs.declared.record_words.RecordWords.{RecordWords}
-use Rattle.fkv_flush.specs.Guarded.{GoesBy, seen_at, seen_of}
-use Rattle.fkv_flush.specs.GuardLevels.{levels_of}
-use Rattle.fkv_flush.specs.GuardSeen.{LastSeen}
-use Rattle.fkv_flush.specs.GuardWorld.{Actor, GuardWorld}
-use Rattle.fkv_flush.proofs.Shown.{machine_at, FitsMachine}
-use Rattle.fkv_ops.specs.declared.appending.Appending.{Appending}
-use Rattle.fkv_ops.specs.declared.appending.Appending.TheVariants as appending
-use Rattle.fkv_ops.specs.declared.trying.Trying.{Trying}
-use Rattle.fkv_ops.specs.declared.trying.Trying.TheVariants.{SwapsValue, ChangesValue, Appends}
-use Rattle.fkv_ops.specs.Appending.{AppendState}
-use Rattle.fkv_ops.specs.Trying.{TryState}
-use Rattle.fkv_pending.specs.declared.attempting.Attempting.{Attempting}
-use Rattle.fkv_pending.specs.declared.attempting.Attempting.TheVariants.{Tries}
-use Rattle.fkv_pending.specs.declared.pending_requests.PendingRequest.{PendingRequest}
-use Rattle.fkv_pending.specs.Attempting.{AttemptState}
-use Rattle.fkv_session.specs.declared.sessions.Sitting.{Sitting}
-use Rattle.fkv_session.specs.declared.sessions.Sitting.TheVariants.{Attempts, Polls}
-use Rattle.fkv_session.specs.Sessions.{SessionState}
+use Rattle.law_world.specs.Below.fkv_log.TheFilling.{Filling}
+use Rattle.law_world.specs.Below.fkv_log.TheFilling.TheVariants as fill
+use Rattle.law_world.specs.Below.fkv_log.TheInvalidating.{Invalidating}
+use Rattle.law_world.specs.Below.fkv_log.TheInvalidating.TheVariants as invalidate
+use Rattle.law_world.specs.Below.fkv_log.RecordWords.{RecordWords}
+use Rattle.law_world.specs.Below.fkv_flush.Guarded.{GoesBy, seen_at, seen_of}
+use Rattle.law_world.specs.Below.fkv_flush.GuardLevels.{levels_of}
+use Rattle.law_world.specs.Below.fkv_flush.GuardSeen.{LastSeen}
+use Rattle.law_world.specs.Below.fkv_flush.GuardWorld.{Actor, GuardWorld}
+use Rattle.law_world.proofs.Below.fkv_flush.Shown.{machine_at, FitsMachine}
+use Rattle.law_world.specs.Below.fkv_ops.TheAppending.{Appending}
+use Rattle.law_world.specs.Below.fkv_ops.TheAppending.TheVariants as appending
+use Rattle.law_world.specs.Below.fkv_ops.TheTrying.{Trying}
+use Rattle.law_world.specs.Below.fkv_ops.TheTrying.TheVariants.{SwapsValue, ChangesValue, Appends}
+use Rattle.law_world.specs.Below.fkv_ops.Appending.{AppendState}
+use Rattle.law_world.specs.Below.fkv_ops.Trying.{TryState}
+use Rattle.law_world.specs.Below.fkv_pending.TheAttempting.{Attempting}
+use Rattle.law_world.specs.Below.fkv_pending.TheAttempting.TheVariants.{Tries}
+use Rattle.law_world.specs.Below.fkv_pending.PendingRequest.{PendingRequest}
+use Rattle.law_world.specs.Below.fkv_pending.Attempting.{AttemptState}
+use Rattle.law_world.specs.Below.fkv_session.Sitting.{Sitting}
+use Rattle.law_world.specs.Below.fkv_session.Sitting.TheVariants.{Attempts, Polls}
+use Rattle.law_world.specs.Below.fkv_session.Sessions.{SessionState}
 use Rattle.law_world.specs.GuardSessions.Attempts.{attempt_likeness_at}
 use Rattle.law_world.specs.GuardSessions.Followed.{Sits}
 use Rattle.law_world.specs.GuardSessions.Likenesses.{last_seen}
 use Rattle.law_world.specs.GuardSessions.InPlace.{try_changes, attempt_changes, sitting_changes, changed_in_place, SessionMayChange}
 use Rattle.law_world.specs.GuardSessions.Sessions.{sitting_likeness, is_protected_at}
 use Rattle.law_world.specs.GuardSessions.Tries.{try_likeness_at}
-use Rattle.fkv_world.specs.Runs.{World, run}
-use Rattle.fkv_world.specs.World.{Event, Now}
+use Rattle.law_world.specs.Below.fkv_world.Runs.{World, run}
+use Rattle.law_world.specs.Below.fkv_world.World.{Event, Now}
 use Rattle.law_world.specs.Guarded.Shows.{IsOpened, seen_by_guard}
 use Rattle.law_world.proofs.OfGuarded.Worlds.{life_shows}
 use Rattle.law_refine.specs.Events.GhostEvents.{safe_at}

@@ -8,27 +8,27 @@ use Rattle.fkv_epoch.proofs.Shown.{same_or, some_same}
 use Rattle.fkv_plane.specs.declared.places.Places.{Places}
 use Rattle.fkv_plane.specs.Asked.{word_at}
 use Rattle.fkv_plane.specs.Places.{frames_start}
-use Rattle.fkv_flush.specs.GuardCalm.{IsOther}
-use Rattle.fkv_flush.specs.Guarded.{event_writes, IsPermittedEvent, ArePermittedEvents}
-use Rattle.fkv_flush.specs.GuardWorld as guard
-use Rattle.fkv_flush.specs.GuardWorld.{Actor, Work, GuardWorld, GuardEvent, ToDo, Begins, Resumes, Publishes, Updates, RaisesReadOnly, RaisesFor, Changes, guard_happens, guard_run, is_idle, may_update}
-use Rattle.fkv_flush.proofs.Shown.{IsSound, Spares, unwritten}
-use Rattle.fkv_keeper.specs.declared.keepers.Keeping.{Keeping}
-use Rattle.fkv_keeper.specs.declared.keepers.Keeping.TheVariants as keeping
-use Rattle.fkv_keeper.specs.Keeping.{KeeperState}
-use Rattle.fkv_keeper.specs.KeeperRun.{is_in_hand}
-use Rattle.fkv_maintain.specs.declared.maintaining.Maintaining.{Maintaining}
-use Rattle.fkv_maintain.specs.declared.maintaining.Maintaining.TheVariants as maintain
-use Rattle.fkv_maintain.specs.Maintaining.{MaintainState}
-use Rattle.fkv_session.specs.Sessions.{SessionState, is_busy, session_begun}
+use Rattle.law_world.specs.Below.fkv_flush.GuardCalm.{IsOther}
+use Rattle.law_world.specs.Below.fkv_flush.Guarded.{event_writes, IsPermittedEvent, ArePermittedEvents}
+use Rattle.law_world.specs.Below.fkv_flush.GuardWorld as guard
+use Rattle.law_world.specs.Below.fkv_flush.GuardWorld.{Actor, Work, GuardWorld, GuardEvent, ToDo, Begins, Resumes, Publishes, Updates, RaisesReadOnly, RaisesFor, Changes, guard_happens, guard_run, is_idle, may_update}
+use Rattle.law_world.proofs.Below.fkv_flush.Shown.{IsSound, Spares, unwritten}
+use Rattle.law_world.specs.Below.fkv_keeper.TheKeeping.{Keeping}
+use Rattle.law_world.specs.Below.fkv_keeper.TheKeeping.TheVariants as keeping
+use Rattle.law_world.specs.Below.fkv_keeper.Keeping.{KeeperState}
+use Rattle.law_world.specs.Below.fkv_keeper.KeeperRun.{is_in_hand}
+use Rattle.law_world.specs.Below.fkv_maintain.TheMaintaining.{Maintaining}
+use Rattle.law_world.specs.Below.fkv_maintain.TheMaintaining.TheVariants as maintain
+use Rattle.law_world.specs.Below.fkv_maintain.Maintaining.{MaintainState}
+use Rattle.law_world.specs.Below.fkv_session.Sessions.{SessionState, is_busy, session_begun}
 use Rattle.law_world.specs.GuardSessions.Sessions.{sitting_onward}
 use Rattle.law_world.specs.GuardSessions.Steps.{onward_events}
 use Rattle.law_world.specs.GuardKeeper.KeeperEvents.{keeper_move_events, turn_asked_events}
 use Rattle.law_world.specs.GuardKeeper.KeeperShown.{keeping_work}
 use Rattle.law_world.specs.GuardKeeper.MaintainShown.{maintaining_work}
-use Rattle.fkv_world.specs.Moves.{session_moved}
-use Rattle.fkv_world.specs.Runs.{World, happens, read_by_keeper, run}
-use Rattle.fkv_world.specs.World.{Event, Calls, Moves, Commits, Turns, KeeperMoves, Crashes, Now, seat_at, near}
+use Rattle.law_world.specs.Below.fkv_world.Moves.{session_moved}
+use Rattle.law_world.specs.Below.fkv_world.Runs.{World, happens, read_by_keeper, run}
+use Rattle.law_world.specs.Below.fkv_world.World.{Event, Calls, Moves, Commits, Turns, KeeperMoves, Crashes, Now, seat_at, near}
 use Rattle.law_world.specs.Guarded.GuardEvents.{called_events, moved_events, keeper_number, life_events, guard_events}
 use Rattle.law_world.specs.Guarded.Shows.{IsOpened, Shows, seen_by_guard}
 use Rattle.law_world.proofs.OfGuarded.OneStep.{IsStep}

@@ -16,13 +16,13 @@ use Rattle.fkv_plane.specs.declared.places.Places.{Places}
 use Rattle.fkv_plane.specs.declared.places.RecordWord.{RecordWord}
 use Rattle.fkv_plane.specs.declared.places.RecordWord.TheVariants as rec
 use Rattle.fkv_plane.specs.Asked.{asked}
-use Rattle.fkv_log.specs.declared.invalidating.Invalidating.{Invalidating}
-use Rattle.fkv_log.specs.declared.invalidating.Invalidating.TheVariants as invalidating
-use Rattle.fkv_log.specs.Invalidating.{invalidated}
-use Rattle.fkv_log.specs.declared.record_words.RecordWords.{RecordWords}
-use Rattle.fkv_log.specs.declared.reserving.ReserveAnswer.{ReserveAnswer}
-use Rattle.fkv_log.specs.declared.reserving.ReserveAnswer.TheVariants as reserve
-use Rattle.fkv_log.specs.Reserving.{reserve_next_ask}
+use Rattle.law_world.specs.Below.fkv_log.TheInvalidating.{Invalidating}
+use Rattle.law_world.specs.Below.fkv_log.TheInvalidating.TheVariants as invalidating
+use Rattle.law_world.specs.Below.fkv_log.Invalidating.{invalidated}
+use Rattle.law_world.specs.Below.fkv_log.RecordWords.{RecordWords}
+use Rattle.law_world.specs.Below.fkv_log.ReserveAnswer.{ReserveAnswer}
+use Rattle.law_world.specs.Below.fkv_log.ReserveAnswer.TheVariants as reserve
+use Rattle.law_world.specs.Below.fkv_log.Reserving.{reserve_next_ask}
 use Rattle.fkv_index.specs.declared.finding.Found.{Found}
 use Rattle.fkv_index.specs.declared.finding.Found.TheVariants.{Slot, NoSlot}
 use Rattle.fkv_index.specs.declared.finding.FindAnswer.{FindAnswer}
@@ -30,27 +30,27 @@ use Rattle.fkv_index.specs.Finding.{find_next_ask}
 use Rattle.fkv_index.specs.declared.publishing.PublishAnswer.{PublishAnswer}
 use Rattle.fkv_index.specs.declared.publishing.PublishAnswer.TheVariants.{Won}
 use Rattle.fkv_index.specs.Publishing.{publish_next_ask}
-use Rattle.fkv_ops.specs.declared.answers.TryAnswer.{TryAnswer}
-use Rattle.fkv_ops.specs.declared.answers.TryAnswer.TheVariants as answer
-use Rattle.fkv_ops.specs.declared.appending.Appending.{Appending}
-use Rattle.fkv_ops.specs.declared.appending.Appending.TheVariants as appending
-use Rattle.fkv_ops.specs.declared.trying.Trying.{Trying}
-use Rattle.fkv_ops.specs.declared.trying.Trying.TheVariants.{Walks, SwapsValue, ChangesValue, Appends}
-use Rattle.fkv_ops.specs.declared.walking.Walking.{Walking}
-use Rattle.fkv_ops.specs.declared.walking.Walking.TheVariants.{Finds}
-use Rattle.fkv_ops.specs.Appending.{AppendState}
-use Rattle.fkv_ops.specs.Trying.{TryState, trying_ask}
-use Rattle.fkv_ops.specs.Values.{value_of}
-use Rattle.fkv_ops.specs.Walking.{WalkState}
-use Rattle.fkv_pending.specs.declared.attempting.Attempting.{Attempting}
-use Rattle.fkv_pending.specs.declared.attempting.Attempting.TheVariants.{Tries}
-use Rattle.fkv_pending.specs.declared.pending_requests.PendingRequest.{PendingRequest}
-use Rattle.fkv_pending.specs.Attempting.{AttemptState, attempt_ask, attempt_next, attempting_ask}
-use Rattle.fkv_session.specs.declared.sessions.Sitting.{Sitting}
-use Rattle.fkv_session.specs.declared.sessions.Sitting.TheVariants.{Attempts, Polls}
-use Rattle.fkv_session.specs.Sessions.{SessionState, Seat, bits_of, room_of, sitting_ask}
+use Rattle.law_world.specs.Below.fkv_ops.TryAnswer.{TryAnswer}
+use Rattle.law_world.specs.Below.fkv_ops.TryAnswer.TheVariants as answer
+use Rattle.law_world.specs.Below.fkv_ops.TheAppending.{Appending}
+use Rattle.law_world.specs.Below.fkv_ops.TheAppending.TheVariants as appending
+use Rattle.law_world.specs.Below.fkv_ops.TheTrying.{Trying}
+use Rattle.law_world.specs.Below.fkv_ops.TheTrying.TheVariants.{Walks, SwapsValue, ChangesValue, Appends}
+use Rattle.law_world.specs.Below.fkv_ops.TheWalking.{Walking}
+use Rattle.law_world.specs.Below.fkv_ops.TheWalking.TheVariants.{Finds}
+use Rattle.law_world.specs.Below.fkv_ops.Appending.{AppendState}
+use Rattle.law_world.specs.Below.fkv_ops.Trying.{TryState, trying_ask}
+use Rattle.law_world.specs.Below.fkv_ops.Values.{value_of}
+use Rattle.law_world.specs.Below.fkv_ops.Walking.{WalkState}
+use Rattle.law_world.specs.Below.fkv_pending.TheAttempting.{Attempting}
+use Rattle.law_world.specs.Below.fkv_pending.TheAttempting.TheVariants.{Tries}
+use Rattle.law_world.specs.Below.fkv_pending.PendingRequest.{PendingRequest}
+use Rattle.law_world.specs.Below.fkv_pending.Attempting.{AttemptState, attempt_ask, attempt_next, attempting_ask}
+use Rattle.law_world.specs.Below.fkv_session.Sitting.{Sitting}
+use Rattle.law_world.specs.Below.fkv_session.Sitting.TheVariants.{Attempts, Polls}
+use Rattle.law_world.specs.Below.fkv_session.Sessions.{SessionState, Seat, bits_of, room_of, sitting_ask}
 use Rattle.law_world.specs.GuardSessions.InPlace.{try_changes, attempt_changes, sitting_changes}
-use Rattle.fkv_world.specs.Past.{Traced}
+use Rattle.law_world.specs.Below.fkv_world.Past.{Traced}
 use Rattle.law_refine.specs.Events.Appends.{entry_made, reserved_ghosts, publish_ghosts, invalidate_ghosts, append_ghosts}
 use Rattle.law_world.specs.GuardSessions.Tries.{is_for_entry}
 use Rattle.law_local.specs.Tries.TryRows.{cell_of}

@@ -4,11 +4,11 @@ use Rattle.std.proofs.lemmas.Bool.{cases_lt}
 use Rattle.std.proofs.Math.Nat.{mul-le-mul}
 use Rattle.fkv_base.specs.Limits.{max_disk_pages, max_page, min_page}
 use Rattle.fkv_base.proofs.Shown.{ring_between}
-use Rattle.fkv_flush.specs.GuardLevels.{levels_of}
+use Rattle.law_world.specs.Below.fkv_flush.GuardLevels.{levels_of}
 use Rattle.law_log.specs.Chains.{Cell, Logged, Unborn, Published, Dropped}
 use Rattle.law_log.specs.Ghosts.{Ghosts, ghost_run}
-use Rattle.fkv_world.specs.Runs.{World, run}
-use Rattle.fkv_world.specs.World.{Event}
+use Rattle.law_world.specs.Below.fkv_world.Runs.{World, run}
+use Rattle.law_world.specs.Below.fkv_world.World.{Event}
 use Rattle.law_world.specs.Guarded.Shows.{IsOpened}
 use Rattle.law_world.proofs.OfGuarded.OfLives.{life_paged}
 use Rattle.law_refine.specs.Events.GhostEvents.{ghost_events, mapped, life_ghosts, serials_in}

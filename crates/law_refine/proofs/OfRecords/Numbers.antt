@@ -10,10 +10,10 @@ use Rattle.fkv_words.specs.declared.headers.Header.{Header}
 use Rattle.fkv_words.specs.Fields.{bit_of}
 use Rattle.fkv_words.specs.Layout.{header_word}
 use Rattle.fkv_words.proofs.Shown.{bit_small}
-use Rattle.fkv_log.specs.declared.record_words.RecordWords.{RecordWords}
-use Rattle.fkv_ops.specs.declared.header_words.HeaderSaid.TheVariants.{Says}
-use Rattle.fkv_ops.specs.HeaderWords.{header_said}
-use Rattle.fkv_ops.specs.Values.{value_of, word_of}
+use Rattle.law_world.specs.Below.fkv_log.RecordWords.{RecordWords}
+use Rattle.law_world.specs.Below.fkv_ops.HeaderSaid.TheVariants.{Says}
+use Rattle.law_world.specs.Below.fkv_ops.HeaderWords.{header_said}
+use Rattle.law_world.specs.Below.fkv_ops.Values.{value_of, word_of}
 use Rattle.fkv_plane.specs.declared.places.RecordWord.{RecordWord}
 use Rattle.law_local.specs.Tries.TryRows.{cell_of}
 use Rattle.law_refine.specs.Records.Cells.{ShowsCell}

@@ -12,28 +12,28 @@ use Rattle.fkv_plane.specs.declared.places.RecordWord.TheVariants as rec
 use Rattle.fkv_plane.specs.Asked.{asked, asked_place, reply_to}
 use Rattle.fkv_plane.specs.Passing.{passed}
 use Rattle.fkv_plane.specs.Plane.{action_at}
-use Rattle.fkv_log.specs.declared.filling.Filling.{Filling}
-use Rattle.fkv_log.specs.declared.filling.Filling.TheVariants as fill
-use Rattle.fkv_log.specs.declared.invalidating.Invalidating.{Invalidating}
-use Rattle.fkv_log.specs.declared.invalidating.Invalidating.TheVariants as invalidate
-use Rattle.fkv_log.specs.declared.record_words.RecordWords.{RecordWords}
-use Rattle.fkv_log.specs.Filling.{fill_ask}
-use Rattle.fkv_log.specs.Invalidating.{invalidate_ask}
-use Rattle.fkv_ops.specs.declared.appending.Appending.{Appending}
-use Rattle.fkv_ops.specs.declared.appending.Appending.TheVariants as appending
-use Rattle.fkv_ops.specs.declared.trying.Trying.{Trying}
-use Rattle.fkv_ops.specs.declared.trying.Trying.TheVariants.{Appends}
-use Rattle.fkv_ops.specs.Appending.{AppendState, appending_ask}
-use Rattle.fkv_ops.specs.Trying.{TryState, trying_ask}
-use Rattle.fkv_pending.specs.declared.attempting.Attempting.{Attempting}
-use Rattle.fkv_pending.specs.declared.attempting.Attempting.TheVariants.{Tries}
-use Rattle.fkv_pending.specs.declared.pending_requests.PendingRequest.{PendingRequest}
-use Rattle.fkv_pending.specs.Attempting.{AttemptState, attempting_ask}
-use Rattle.fkv_session.specs.declared.answers.Told.{Told}
-use Rattle.fkv_session.specs.declared.sessions.Sitting.{Sitting}
-use Rattle.fkv_session.specs.declared.sessions.Sitting.TheVariants.{Attempts, CatchesUp, Polls}
-use Rattle.fkv_session.specs.Sessions.{SessionState, Seat, session_ask, sitting_ask}
-use Rattle.fkv_world.specs.Moves.{Near, session_asks, session_gets, session_replied, session_settled}
+use Rattle.law_world.specs.Below.fkv_log.TheFilling.{Filling}
+use Rattle.law_world.specs.Below.fkv_log.TheFilling.TheVariants as fill
+use Rattle.law_world.specs.Below.fkv_log.TheInvalidating.{Invalidating}
+use Rattle.law_world.specs.Below.fkv_log.TheInvalidating.TheVariants as invalidate
+use Rattle.law_world.specs.Below.fkv_log.RecordWords.{RecordWords}
+use Rattle.law_world.specs.Below.fkv_log.Filling.{fill_ask}
+use Rattle.law_world.specs.Below.fkv_log.Invalidating.{invalidate_ask}
+use Rattle.law_world.specs.Below.fkv_ops.TheAppending.{Appending}
+use Rattle.law_world.specs.Below.fkv_ops.TheAppending.TheVariants as appending
+use Rattle.law_world.specs.Below.fkv_ops.TheTrying.{Trying}
+use Rattle.law_world.specs.Below.fkv_ops.TheTrying.TheVariants.{Appends}
+use Rattle.law_world.specs.Below.fkv_ops.Appending.{AppendState, appending_ask}
+use Rattle.law_world.specs.Below.fkv_ops.Trying.{TryState, trying_ask}
+use Rattle.law_world.specs.Below.fkv_pending.TheAttempting.{Attempting}
+use Rattle.law_world.specs.Below.fkv_pending.TheAttempting.TheVariants.{Tries}
+use Rattle.law_world.specs.Below.fkv_pending.PendingRequest.{PendingRequest}
+use Rattle.law_world.specs.Below.fkv_pending.Attempting.{AttemptState, attempting_ask}
+use Rattle.law_world.specs.Below.fkv_session.Told.{Told}
+use Rattle.law_world.specs.Below.fkv_session.Sitting.{Sitting}
+use Rattle.law_world.specs.Below.fkv_session.Sitting.TheVariants.{Attempts, CatchesUp, Polls}
+use Rattle.law_world.specs.Below.fkv_session.Sessions.{SessionState, Seat, session_ask, sitting_ask}
+use Rattle.law_world.specs.Below.fkv_world.Moves.{Near, session_asks, session_gets, session_replied, session_settled}
 use Rattle.law_refine.specs.Events.Reservations.{Reservation, reservation, append_reserves, try_reserves, attempt_reserves}
 use Rattle.law_refine.specs.Events.Reserved.{sitting_reserves, reserved_by}
 use Rattle.law_refine.proofs.OfRecords.AppendRows.{Standing, FillStands, FillWrites, InvalidateWrites, AppendStands, AppendWrites}

@@ -8,15 +8,15 @@ use Rattle.fkv_plane.specs.declared.places.RecordWord.{RecordWord}
 use Rattle.fkv_plane.specs.declared.places.SharedWord.TheVariants as one
 use Rattle.fkv_plane.specs.Asked.{word_at}
 use Rattle.fkv_plane.specs.Places.{record_place, shared_place}
-use Rattle.fkv_flush.specs.GuardFlushed.{is_open, stands}
-use Rattle.fkv_flush.specs.GuardLevels.{levels_of}
-use Rattle.fkv_flush.specs.GuardWorld.{GuardNow, GuardWorld}
-use Rattle.fkv_flush.proofs.Shown.{stood_open}
-use Rattle.fkv_world.specs.Actors.{place_named}
-use Rattle.fkv_world.specs.Runs.{World, happens, run}
-use Rattle.fkv_world.specs.World.{Event, Now}
+use Rattle.law_world.specs.Below.fkv_flush.GuardFlushed.{is_open, stands}
+use Rattle.law_world.specs.Below.fkv_flush.GuardLevels.{levels_of}
+use Rattle.law_world.specs.Below.fkv_flush.GuardWorld.{GuardNow, GuardWorld}
+use Rattle.law_world.proofs.Below.fkv_flush.Shown.{stood_open}
+use Rattle.law_world.specs.Below.fkv_world.Actors.{place_named}
+use Rattle.law_world.specs.Below.fkv_world.Runs.{World, happens, run}
+use Rattle.law_world.specs.Below.fkv_world.World.{Event, Now}
 use Rattle.law_world.proofs.OfRuns.OneWord.{one_word}
-use Rattle.fkv_world.proofs.Shown.{places_stay}
+use Rattle.law_world.proofs.Below.fkv_world.Shown.{places_stay}
 use Rattle.law_world.specs.Guarded.GuardEvents.{mapped}
 use Rattle.law_world.specs.Guarded.Shows.{IsOpened, guard_opening, seen_by_guard}
 use Rattle.law_world.proofs.OfGuarded.Worlds.{life_shows}

@@ -26,32 +26,32 @@ use Rattle.fkv_epoch.specs.Arming.{arm_ask}
 use Rattle.fkv_epoch.specs.EpochWorld.{EpochMachine, Protects, Refreshes, Leaves, Scans, Claims, Raises, Arms, EpochWorld, is_own}
 use Rattle.fkv_epoch.proofs.Shown as epochs
 use Rattle.fkv_epoch.proofs.Shown.{none_some, some_same}
-use Rattle.fkv_log.specs.declared.filling.Filling.TheVariants as fill
-use Rattle.fkv_log.specs.declared.invalidating.Invalidating.TheVariants as invalidate
-use Rattle.fkv_log.specs.declared.moving.Moving.{Moving}
-use Rattle.fkv_log.specs.declared.moving.Moving.TheVariants as move
-use Rattle.fkv_log.specs.declared.moving.Offset.{Offset}
-use Rattle.fkv_log.specs.declared.moving.Offset.TheVariants.{ReadOnly, Head}
-use Rattle.fkv_log.specs.declared.reserving.Reserving.TheVariants as reserve
-use Rattle.fkv_log.specs.declared.shifting.Shifting.{Shifting}
-use Rattle.fkv_log.specs.declared.shifting.Shifting.TheVariants as shift
-use Rattle.fkv_log.specs.declared.turning.Turning.{Turning}
-use Rattle.fkv_log.specs.declared.turning.Turning.TheVariants as turn
-use Rattle.fkv_log.specs.Filling.{fill_ask}
-use Rattle.fkv_log.specs.Invalidating.{invalidate_ask}
-use Rattle.fkv_log.specs.Moving.{Mover, offset_place, move_ask, moving_ask}
-use Rattle.fkv_log.specs.Reserving.{reserve_ask}
-use Rattle.fkv_log.specs.Shifting.{shift_at, shifting_ask}
-use Rattle.fkv_log.specs.Turning.{turn_at, turning_ask}
-use Rattle.fkv_flush.specs.declared.flushing.Flushing.TheVariants as flush
-use Rattle.fkv_flush.specs.declared.serving.Serving.TheVariants as serve
-use Rattle.fkv_flush.specs.Flushing.{flush_ask}
-use Rattle.fkv_flush.specs.Serving.{serve_ask}
-use Rattle.fkv_flush.specs.GuardAsks.{writes, machine_writes}
-use Rattle.fkv_flush.specs.GuardLevels.{levels_of}
-use Rattle.fkv_flush.specs.GuardWorld.{Actor, Work, Rests, Reserves, Fills, Invalidates, Shifts, Turns, Flushes, Serves, GuardWorld, is_idle, is_guarded, epoch_world}
-use Rattle.fkv_flush.specs.Guarded.{work_writes, actor_writes}
-use Rattle.fkv_flush.proofs.Shown.{IsSound, Knows, Awake, MoveKnows, machine_at, writes_passed}
+use Rattle.law_world.specs.Below.fkv_log.TheFilling.TheVariants as fill
+use Rattle.law_world.specs.Below.fkv_log.TheInvalidating.TheVariants as invalidate
+use Rattle.law_world.specs.Below.fkv_log.TheMoving.{Moving}
+use Rattle.law_world.specs.Below.fkv_log.TheMoving.TheVariants as move
+use Rattle.law_world.specs.Below.fkv_log.Offset.{Offset}
+use Rattle.law_world.specs.Below.fkv_log.Offset.TheVariants.{ReadOnly, Head}
+use Rattle.law_world.specs.Below.fkv_log.TheReserving.TheVariants as reserve
+use Rattle.law_world.specs.Below.fkv_log.TheShifting.{Shifting}
+use Rattle.law_world.specs.Below.fkv_log.TheShifting.TheVariants as shift
+use Rattle.law_world.specs.Below.fkv_log.TheTurning.{Turning}
+use Rattle.law_world.specs.Below.fkv_log.TheTurning.TheVariants as turn
+use Rattle.law_world.specs.Below.fkv_log.Filling.{fill_ask}
+use Rattle.law_world.specs.Below.fkv_log.Invalidating.{invalidate_ask}
+use Rattle.law_world.specs.Below.fkv_log.Moving.{Mover, offset_place, move_ask, moving_ask}
+use Rattle.law_world.specs.Below.fkv_log.Reserving.{reserve_ask}
+use Rattle.law_world.specs.Below.fkv_log.Shifting.{shift_at, shifting_ask}
+use Rattle.law_world.specs.Below.fkv_log.Turning.{turn_at, turning_ask}
+use Rattle.law_world.specs.Below.fkv_flush.TheFlushing.TheVariants as flush
+use Rattle.law_world.specs.Below.fkv_flush.TheServing.TheVariants as serve
+use Rattle.law_world.specs.Below.fkv_flush.Flushing.{flush_ask}
+use Rattle.law_world.specs.Below.fkv_flush.Serving.{serve_ask}
+use Rattle.law_world.specs.Below.fkv_flush.GuardAsks.{writes, machine_writes}
+use Rattle.law_world.specs.Below.fkv_flush.GuardLevels.{levels_of}
+use Rattle.law_world.specs.Below.fkv_flush.GuardWorld.{Actor, Work, Rests, Reserves, Fills, Invalidates, Shifts, Turns, Flushes, Serves, GuardWorld, is_idle, is_guarded, epoch_world}
+use Rattle.law_world.specs.Below.fkv_flush.Guarded.{work_writes, actor_writes}
+use Rattle.law_world.proofs.Below.fkv_flush.Shown.{IsSound, Knows, Awake, MoveKnows, machine_at, writes_passed}
 
 no_place : {X : Type 0} (place : ℕ) → ◌≡◌ {A = Option ℕ} None (Some place) → X
 no_place {X} place e = none_some {Y = X} place e

@@ -10,14 +10,14 @@ use Rattle.fkv_plane.specs.declared.places.RecordWord.{RecordWord}
 use Rattle.fkv_plane.specs.declared.places.RecordWord.TheVariants as rec
 use Rattle.fkv_plane.specs.Asked.{asked, asked_place, reply_to, word_at, word_found, words_after, words_changed}
 use Rattle.fkv_plane.specs.Places.{frames_start, record_number, record_place, word_count}
-use Rattle.fkv_flush.specs.GuardLevels.{levels_of}
-use Rattle.fkv_flush.specs.GuardWorld.{GuardWorld}
-use Rattle.fkv_session.specs.declared.answers.Told.{Told}
-use Rattle.fkv_session.specs.Sessions.{SessionState, Seat, session_ask}
+use Rattle.law_world.specs.Below.fkv_flush.GuardLevels.{levels_of}
+use Rattle.law_world.specs.Below.fkv_flush.GuardWorld.{GuardWorld}
+use Rattle.law_world.specs.Below.fkv_session.Told.{Told}
+use Rattle.law_world.specs.Below.fkv_session.Sessions.{SessionState, Seat, session_ask}
 use Rattle.law_world.specs.GuardSessions.InPlace.{changed_in_place, SessionMayChange}
-use Rattle.fkv_world.specs.Runs.{World, happens, run}
-use Rattle.fkv_world.specs.World.{Event, Moves, Now, seat_at}
-use Rattle.fkv_world.proofs.Shown.{is_over, places_stay}
+use Rattle.law_world.specs.Below.fkv_world.Runs.{World, happens, run}
+use Rattle.law_world.specs.Below.fkv_world.World.{Event, Moves, Now, seat_at}
+use Rattle.law_world.proofs.Below.fkv_world.Shown.{is_over, places_stay}
 use Rattle.law_world.proofs.OfRuns.OneWord.{session_writes}
 use Rattle.law_world.specs.Guarded.Shows.{IsOpened, ArePermitted, IsPermitted, SessionIsPermitted, seen_by_guard}
 use Rattle.law_world.proofs.OfGuarded.Worlds.{life_shows}

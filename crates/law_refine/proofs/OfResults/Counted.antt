@@ -8,19 +8,19 @@ use Rattle.fkv_map.specs.declared.history.HistoryEntry.{HistoryEntry}
 use Rattle.fkv_map.specs.declared.operations.Op.{Op}
 use Rattle.fkv_map.specs.declared.operations.Reply.{Reply}
 use Rattle.law_log.specs.Trace.{IsIn}
-use Rattle.fkv_session.specs.Accounts.{number_of}
-use Rattle.fkv_session.specs.declared.answers.Finished.{Finished}
-use Rattle.fkv_session.specs.declared.sessions.Sitting.{Sitting}
-use Rattle.fkv_session.specs.declared.sessions.Sitting.TheVariants.{Idle}
-use Rattle.fkv_session.specs.Replies.{UpdateDone, done_by, done_told, with_effect, AreRepliesOfEffects}
-use Rattle.fkv_session.specs.SessionRun.{Telling, in_hand, with_coming}
-use Rattle.fkv_session.specs.Sessions.{SessionState, is_busy}
-use Rattle.fkv_session.proofs.Shown.{run_replies}
-use Rattle.fkv_world.specs.Opened.{HasBecome, effects_of, life_effects, life_told}
-use Rattle.fkv_world.specs.OwnEvents.{session_events}
-use Rattle.fkv_world.specs.Past.{Effect}
-use Rattle.fkv_world.specs.Runs.{World}
-use Rattle.fkv_world.specs.World.{Event, seat_at}
+use Rattle.law_world.specs.Below.fkv_session.Accounts.{number_of}
+use Rattle.law_world.specs.Below.fkv_session.Finished.{Finished}
+use Rattle.law_world.specs.Below.fkv_session.Sitting.{Sitting}
+use Rattle.law_world.specs.Below.fkv_session.Sitting.TheVariants.{Idle}
+use Rattle.law_world.specs.Below.fkv_session.Replies.{UpdateDone, done_by, done_told, with_effect, AreRepliesOfEffects}
+use Rattle.law_world.specs.Below.fkv_session.SessionRun.{Telling, in_hand, with_coming}
+use Rattle.law_world.specs.Below.fkv_session.Sessions.{SessionState, is_busy}
+use Rattle.law_world.proofs.Below.fkv_session.Shown.{run_replies}
+use Rattle.law_world.specs.Below.fkv_world.Opened.{HasBecome, effects_of, life_effects, life_told}
+use Rattle.law_world.specs.Below.fkv_world.OwnEvents.{session_events}
+use Rattle.law_world.specs.Below.fkv_world.Past.{Effect}
+use Rattle.law_world.specs.Below.fkv_world.Runs.{World}
+use Rattle.law_world.specs.Below.fkv_world.World.{Event, seat_at}
 use Rattle.law_world.proofs.OfSessions.Effects.{life_made}
 use Rattle.law_world.proofs.OfSessions.OwnRun.{of_run, opened_so}
 use Rattle.law_refine.specs.Results.Results.{StaysOrTakes, TakesEffect, history_at}

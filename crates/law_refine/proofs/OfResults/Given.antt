@@ -5,21 +5,21 @@ use Rattle.std.proofs.lemmas.Bool.Decides.{nat_tests}
 use Rattle.fkv_words.specs.Fields.{bit_of}
 use Rattle.fkv_map.specs.declared.operations.Reply.{Reply}
 use Rattle.law_log.specs.Trace.{GivesResult, IsIn}
-use Rattle.fkv_session.specs.Accounts.{number_of}
-use Rattle.fkv_session.specs.declared.answers.Finished.{Finished}
-use Rattle.fkv_session.specs.declared.answers.Finished.TheVariants as finished
-use Rattle.fkv_session.specs.declared.answers.Told.{Told}
-use Rattle.fkv_session.specs.declared.answers.Told.TheVariants as told
-use Rattle.fkv_session.specs.declared.sessions.Sitting.{Sitting}
-use Rattle.fkv_session.specs.declared.sessions.Sitting.TheVariants.{Idle}
-use Rattle.fkv_session.specs.Replies.{UpdateDone, done_by_poll, done_told, with_done}
-use Rattle.fkv_session.specs.SessionRun.{SessionEvent, session_run, Telling, telling, with_finished, answered, is_calling, told_after, tellings}
-use Rattle.fkv_session.specs.Sessions.{SessionState, Seat, is_busy}
-use Rattle.fkv_world.specs.Opened.{HasBecome, IsOpenedWorld, answers_of, life_told}
-use Rattle.fkv_world.specs.OwnEvents.{session_events}
-use Rattle.fkv_world.specs.Past.{Effect, Traced, TraceEvent, Called, Answered, CommitAsked, TurnAsked, KeeperAnswered}
-use Rattle.fkv_world.specs.Runs.{World, run}
-use Rattle.fkv_world.specs.World.{Event, seat_at}
+use Rattle.law_world.specs.Below.fkv_session.Accounts.{number_of}
+use Rattle.law_world.specs.Below.fkv_session.Finished.{Finished}
+use Rattle.law_world.specs.Below.fkv_session.Finished.TheVariants as finished
+use Rattle.law_world.specs.Below.fkv_session.Told.{Told}
+use Rattle.law_world.specs.Below.fkv_session.Told.TheVariants as told
+use Rattle.law_world.specs.Below.fkv_session.Sitting.{Sitting}
+use Rattle.law_world.specs.Below.fkv_session.Sitting.TheVariants.{Idle}
+use Rattle.law_world.specs.Below.fkv_session.Replies.{UpdateDone, done_by_poll, done_told, with_done}
+use Rattle.law_world.specs.Below.fkv_session.SessionRun.{SessionEvent, session_run, Telling, telling, with_finished, answered, is_calling, told_after, tellings}
+use Rattle.law_world.specs.Below.fkv_session.Sessions.{SessionState, Seat, is_busy}
+use Rattle.law_world.specs.Below.fkv_world.Opened.{HasBecome, IsOpenedWorld, answers_of, life_told}
+use Rattle.law_world.specs.Below.fkv_world.OwnEvents.{session_events}
+use Rattle.law_world.specs.Below.fkv_world.Past.{Effect, Traced, TraceEvent, Called, Answered, CommitAsked, TurnAsked, KeeperAnswered}
+use Rattle.law_world.specs.Below.fkv_world.Runs.{World, run}
+use Rattle.law_world.specs.Below.fkv_world.World.{Event, seat_at}
 use Rattle.law_world.proofs.OfSessions.Heard.{life_heard}
 use Rattle.law_world.proofs.OfSessions.OwnRun.{to_run}
 use Rattle.law_refine.specs.Calls.Calls.{lines_of_life}

@@ -6,19 +6,19 @@ use Rattle.fkv_map.specs.declared.operations.Call.TheVariants as call
 use Rattle.fkv_map.specs.declared.operations.Op.{Op}
 use Rattle.law_log.specs.Trace.{HasUpdate, IsIn}
 use Rattle.fkv_plane.specs.Asked.{reply_to}
-use Rattle.fkv_session.specs.declared.answers.Finished.{Finished}
-use Rattle.fkv_session.specs.declared.answers.Told.{Told}
-use Rattle.fkv_session.specs.declared.answers.Told.TheVariants as told
-use Rattle.fkv_session.specs.declared.sessions.Sitting.TheVariants.{Idle}
-use Rattle.fkv_session.specs.Replies.{done_told}
-use Rattle.fkv_session.specs.SessionRun.{SessionEvent, Begins, session_run, Telling, telling, tellings}
-use Rattle.fkv_session.specs.Sessions.{SessionState, Seat, is_busy, session_ask, session_next}
+use Rattle.law_world.specs.Below.fkv_session.Finished.{Finished}
+use Rattle.law_world.specs.Below.fkv_session.Told.{Told}
+use Rattle.law_world.specs.Below.fkv_session.Told.TheVariants as told
+use Rattle.law_world.specs.Below.fkv_session.Sitting.TheVariants.{Idle}
+use Rattle.law_world.specs.Below.fkv_session.Replies.{done_told}
+use Rattle.law_world.specs.Below.fkv_session.SessionRun.{SessionEvent, Begins, session_run, Telling, telling, tellings}
+use Rattle.law_world.specs.Below.fkv_session.Sessions.{SessionState, Seat, is_busy, session_ask, session_next}
 use Rattle.law_world.specs.Runs.Added.{IsEffectOf, IsHistoryAfter}
-use Rattle.fkv_world.specs.Opened.{HasBecome, IsOpenedWorld, effects_of, life_told}
-use Rattle.fkv_world.specs.OwnEvents.{session_part, session_part_found, session_part_of, session_events}
-use Rattle.fkv_world.specs.Past.{Effect}
-use Rattle.fkv_world.specs.Runs.{World, happens, run}
-use Rattle.fkv_world.specs.World.{Event, Calls, Moves, Now, seat_at, near}
+use Rattle.law_world.specs.Below.fkv_world.Opened.{HasBecome, IsOpenedWorld, effects_of, life_told}
+use Rattle.law_world.specs.Below.fkv_world.OwnEvents.{session_part, session_part_found, session_part_of, session_events}
+use Rattle.law_world.specs.Below.fkv_world.Past.{Effect}
+use Rattle.law_world.specs.Below.fkv_world.Runs.{World, happens, run}
+use Rattle.law_world.specs.Below.fkv_world.World.{Event, Calls, Moves, Now, seat_at, near}
 use Rattle.law_world.proofs.OfSessions.OwnRun.{here, of_run, opened_so, to_run}
 use Rattle.law_world.proofs.OfRuns.Added.{history_so}
 use Rattle.law_refine.proofs.OfCalls.InHand.{effect_in_hand, was_opened}

@@ -6,18 +6,18 @@ use Rattle.fkv_epoch.proofs.Shown.{none_some}
 use Rattle.fkv_map.specs.declared.history.HistoryEntry.{HistoryEntry}
 use Rattle.fkv_map.specs.declared.operations.Op.{Op}
 use Rattle.fkv_map.specs.declared.operations.Reply.{Reply}
-use Rattle.fkv_ops.specs.Requests.{is_read}
-use Rattle.fkv_pending.specs.declared.pending_requests.PendingRequest.{PendingRequest}
-use Rattle.fkv_pending.specs.declared.pending_requests.RequestName.{RequestName}
-use Rattle.fkv_pending.specs.declared.pending_requests.RequestName.TheVariants.{Update, Read}
-use Rattle.fkv_pending.specs.Attempting.{attempt_ask}
+use Rattle.law_world.specs.Below.fkv_ops.Requests.{is_read}
+use Rattle.law_world.specs.Below.fkv_pending.PendingRequest.{PendingRequest}
+use Rattle.law_world.specs.Below.fkv_pending.RequestName.{RequestName}
+use Rattle.law_world.specs.Below.fkv_pending.RequestName.TheVariants.{Update, Read}
+use Rattle.law_world.specs.Below.fkv_pending.Attempting.{attempt_ask}
 use Rattle.fkv_plane.specs.declared.asks.Ask.{Ask}
 use Rattle.fkv_plane.specs.declared.asks.Ask.TheVariants.{Done}
-use Rattle.fkv_session.specs.declared.sessions.CatchCause.TheVariants.{Refreshes, Wakes, Shifts}
-use Rattle.fkv_session.specs.declared.sessions.Sitting.{Sitting}
-use Rattle.fkv_session.specs.declared.sessions.Sitting.TheVariants.{Idle, Attempts, CatchesUp, Turns}
-use Rattle.fkv_session.specs.Sessions.{SessionState, Seat, bits_of, room_of, entry_of, ticket_after, name_of, attempts, catch_ledto, attempt_moved, caught, own_turn_moved, session_next, sitting_next}
-use Rattle.fkv_session.proofs.Shown.{attempt_keeps}
+use Rattle.law_world.specs.Below.fkv_session.CatchCause.TheVariants.{Refreshes, Wakes, Shifts}
+use Rattle.law_world.specs.Below.fkv_session.Sitting.{Sitting}
+use Rattle.law_world.specs.Below.fkv_session.Sitting.TheVariants.{Idle, Attempts, CatchesUp, Turns}
+use Rattle.law_world.specs.Below.fkv_session.Sessions.{SessionState, Seat, bits_of, room_of, entry_of, ticket_after, name_of, attempts, catch_ledto, attempt_moved, caught, own_turn_moved, session_next, sitting_next}
+use Rattle.law_world.proofs.Below.fkv_session.Shown.{attempt_keeps}
 use Rattle.law_world.proofs.OfRuns.EffectStays.{turn_keeps as turned_keeps}
 use Rattle.law_refine.proofs.OfCalls.MadeBy.{call_keeps}
 use Rattle.law_refine.proofs.OfResults.OwnCall.{KnowsOp, Stands, StandsAt, asked, asked_knows, asked_stands}

@@ -7,23 +7,23 @@ use Rattle.fkv_map.specs.declared.operations.Op.{Op}
 use Rattle.fkv_plane.specs.declared.actions.Action.{Action}
 use Rattle.fkv_plane.specs.declared.asks.Ask.{Ask}
 use Rattle.fkv_plane.specs.declared.asks.Ask.TheVariants.{Done}
-use Rattle.fkv_ops.specs.declared.answers.Reason.{Reason}
-use Rattle.fkv_ops.specs.declared.answers.Reason.TheVariants as reason
-use Rattle.fkv_ops.specs.declared.answers.TryAnswer.{TryAnswer}
-use Rattle.fkv_ops.specs.declared.answers.TryAnswer.TheVariants as tried
-use Rattle.fkv_ops.specs.Requests.{is_read}
-use Rattle.fkv_pending.specs.Attempting.{attempt_ask}
-use Rattle.fkv_pending.proofs.Shown.{attempt_rests}
-use Rattle.fkv_session.specs.declared.answers.Told.{Told}
-use Rattle.fkv_session.specs.declared.answers.Told.TheVariants as told
-use Rattle.fkv_session.specs.declared.sessions.CatchCause.TheVariants.{Refreshes, Wakes, Shifts}
-use Rattle.fkv_session.specs.declared.sessions.Sitting.{Sitting}
-use Rattle.fkv_session.specs.declared.sessions.Sitting.TheVariants.{Idle, Attempts, CatchesUp, Turns}
-use Rattle.fkv_session.specs.OwnTurns.{own_turn_given}
-use Rattle.fkv_session.specs.Replies.{effects_told, op_called, serials_taken}
-use Rattle.fkv_session.specs.SessionRun.{SessionEvent, Begins, Replies, Gets, begins, session_happens, session_run, Telling, telling, answered, told_after, tellings, all_told}
-use Rattle.fkv_session.specs.Sessions.{SessionState, Seat, IsOpened, bits_of, room_of, is_busy, answers, answers_after_turn, ticket_after, name_of, attempts, op_begun, attempt_left, serial_taken, is_no_room, with_request, accepts, shifts, attempted, attempt_ledto, catch_ledto, turn_ledto, attempt_moved, caught, own_turn_moved, sitting_next, sitting_given, session_given, session_next, session_ask, asks_after, is_word_ask}
-use Rattle.fkv_session.proofs.Shown.{attempt_ends, attempt_keeps, attempt_so, IsTold, IsUnderWay, IsUpdateEnd, KnowsUpdate, run_told}
+use Rattle.law_world.specs.Below.fkv_ops.Reason.{Reason}
+use Rattle.law_world.specs.Below.fkv_ops.Reason.TheVariants as reason
+use Rattle.law_world.specs.Below.fkv_ops.TryAnswer.{TryAnswer}
+use Rattle.law_world.specs.Below.fkv_ops.TryAnswer.TheVariants as tried
+use Rattle.law_world.specs.Below.fkv_ops.Requests.{is_read}
+use Rattle.law_world.specs.Below.fkv_pending.Attempting.{attempt_ask}
+use Rattle.law_world.proofs.Below.fkv_pending.Shown.{attempt_rests}
+use Rattle.law_world.specs.Below.fkv_session.Told.{Told}
+use Rattle.law_world.specs.Below.fkv_session.Told.TheVariants as told
+use Rattle.law_world.specs.Below.fkv_session.CatchCause.TheVariants.{Refreshes, Wakes, Shifts}
+use Rattle.law_world.specs.Below.fkv_session.Sitting.{Sitting}
+use Rattle.law_world.specs.Below.fkv_session.Sitting.TheVariants.{Idle, Attempts, CatchesUp, Turns}
+use Rattle.law_world.specs.Below.fkv_session.OwnTurns.{own_turn_given}
+use Rattle.law_world.specs.Below.fkv_session.Replies.{effects_told, op_called, serials_taken}
+use Rattle.law_world.specs.Below.fkv_session.SessionRun.{SessionEvent, Begins, Replies, Gets, begins, session_happens, session_run, Telling, telling, answered, told_after, tellings, all_told}
+use Rattle.law_world.specs.Below.fkv_session.Sessions.{SessionState, Seat, IsOpened, bits_of, room_of, is_busy, answers, answers_after_turn, ticket_after, name_of, attempts, op_begun, attempt_left, serial_taken, is_no_room, with_request, accepts, shifts, attempted, attempt_ledto, catch_ledto, turn_ledto, attempt_moved, caught, own_turn_moved, sitting_next, sitting_given, session_given, session_next, session_ask, asks_after, is_word_ask}
+use Rattle.law_world.proofs.Below.fkv_session.Shown.{attempt_ends, attempt_keeps, attempt_so, IsTold, IsUnderWay, IsUpdateEnd, KnowsUpdate, run_told}
 use Rattle.law_refine.proofs.OfCalls.Telling.{AreReplies}
 
 -- what a call of this operation is told, by a session that had this serial

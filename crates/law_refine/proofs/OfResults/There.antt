@@ -4,17 +4,17 @@ use Rattle.std.specs.Prelude.{slice_get, Option, Some}
 use Rattle.fkv_map.specs.declared.history.HistoryEntry.{HistoryEntry}
 use Rattle.law_log.specs.Trace.{GivesResult, IsIn}
 use Rattle.fkv_plane.specs.Asked.{reply_to}
-use Rattle.fkv_session.specs.Replies.{AreOfTheirCalls, effects_told, op_called, serials_taken, with_effect}
-use Rattle.fkv_session.specs.SessionRun.{SessionEvent, Replies, session_happens, session_run}
-use Rattle.fkv_session.specs.Sessions.{SessionState, Seat, IsOpened, session_ask, session_next}
-use Rattle.fkv_session.proofs.Shown.{run_own}
+use Rattle.law_world.specs.Below.fkv_session.Replies.{AreOfTheirCalls, effects_told, op_called, serials_taken, with_effect}
+use Rattle.law_world.specs.Below.fkv_session.SessionRun.{SessionEvent, Replies, session_happens, session_run}
+use Rattle.law_world.specs.Below.fkv_session.Sessions.{SessionState, Seat, IsOpened, session_ask, session_next}
+use Rattle.law_world.proofs.Below.fkv_session.Shown.{run_own}
 use Rattle.law_world.specs.Runs.Added.{IsEffectOf, IsHistoryAfter}
-use Rattle.fkv_world.specs.Opened.{HasBecome, IsOpenedWorld}
-use Rattle.fkv_world.specs.OwnEvents.{session_events, session_part_of}
-use Rattle.fkv_world.specs.Past.{Effect}
-use Rattle.fkv_world.specs.Runs.{World, happens, run}
-use Rattle.fkv_world.specs.World.{Event, seat_at}
-use Rattle.fkv_world.proofs.Shown.{happens_session, same_seat}
+use Rattle.law_world.specs.Below.fkv_world.Opened.{HasBecome, IsOpenedWorld}
+use Rattle.law_world.specs.Below.fkv_world.OwnEvents.{session_events, session_part_of}
+use Rattle.law_world.specs.Below.fkv_world.Past.{Effect}
+use Rattle.law_world.specs.Below.fkv_world.Runs.{World, happens, run}
+use Rattle.law_world.specs.Below.fkv_world.World.{Event, seat_at}
+use Rattle.law_world.proofs.Below.fkv_world.Shown.{happens_session, same_seat}
 use Rattle.law_world.proofs.OfSessions.OwnRun.{here, opened_so}
 use Rattle.law_world.proofs.OfRuns.Added.{history_so}
 use Rattle.law_refine.specs.Calls.Calls.{lines_of_life}

@@ -2,9 +2,9 @@
 use Rattle.std.proofs.Common.{◌≡◌, ℕ, zero, suc, ◌∙◌, refl, sym, subst, arith, Bool, true, false, List}
 use Rattle.std.specs.Prelude.{Option, Some, None, slice_get}
 use Rattle.fkv_epoch.specs.EpochWorld.{EpochPast}
-use Rattle.fkv_flush.specs.GuardWorld.{Actor, GuardEvent, GuardNow, GuardWorld, guard_run, put_near}
-use Rattle.fkv_flush.specs.GuardWorld as guard
-use Rattle.fkv_flush.proofs.Shown.{IsSound, put_there, run_now, run_sound}
+use Rattle.law_world.specs.Below.fkv_flush.GuardWorld.{Actor, GuardEvent, GuardNow, GuardWorld, guard_run, put_near}
+use Rattle.law_world.specs.Below.fkv_flush.GuardWorld as guard
+use Rattle.law_world.proofs.Below.fkv_flush.Shown.{IsSound, put_there, run_now, run_sound}
 use Rattle.law_world.specs.GuardSessions.Followed.{SessionFollows, Sits, is_turning, seat_in}
 use Rattle.law_world.specs.GuardSessions.Sessions.{SessionWritesOuter}
 use Rattle.law_world.proofs.OfGuardSessions.Followed.{session_follows}
@@ -14,20 +14,20 @@ use Rattle.fkv_plane.specs.declared.asks.Ask.{Ask}
 use Rattle.fkv_plane.specs.declared.asks.Ask.TheVariants.{Put, Take, Done}
 use Rattle.fkv_plane.specs.Asked.{reply_to}
 use Rattle.fkv_plane.specs.Passing.{is_done}
-use Rattle.fkv_session.specs.declared.answers.Told.{Told}
-use Rattle.fkv_session.specs.declared.sessions.Sitting.{Sitting}
-use Rattle.fkv_session.specs.declared.sessions.Sitting.TheVariants.{Attempts, Polls}
-use Rattle.fkv_session.specs.AsksLeft.{session_asks_left}
-use Rattle.fkv_session.specs.SessionRun.{SessionEvent, session_run}
-use Rattle.fkv_session.specs.Sessions.{SessionState, Seat, is_busy, session_ask, session_next}
-use Rattle.fkv_session.proofs.Shown.{run_ended, session_left}
+use Rattle.law_world.specs.Below.fkv_session.Told.{Told}
+use Rattle.law_world.specs.Below.fkv_session.Sitting.{Sitting}
+use Rattle.law_world.specs.Below.fkv_session.Sitting.TheVariants.{Attempts, Polls}
+use Rattle.law_world.specs.Below.fkv_session.AsksLeft.{session_asks_left}
+use Rattle.law_world.specs.Below.fkv_session.SessionRun.{SessionEvent, session_run}
+use Rattle.law_world.specs.Below.fkv_session.Sessions.{SessionState, Seat, is_busy, session_ask, session_next}
+use Rattle.law_world.proofs.Below.fkv_session.Shown.{run_ended, session_left}
 use Rattle.law_local.specs.Sessions.Known.{is_attempting}
-use Rattle.fkv_world.specs.Actors.{slot_asked}
-use Rattle.fkv_world.specs.Moves.{Near, session_asks, session_moved, session_replied, session_settled}
-use Rattle.fkv_world.specs.OwnEvents.{session_events}
-use Rattle.fkv_world.specs.Runs.{World, run}
-use Rattle.fkv_world.specs.World.{Event, Now, near, seat_at}
-use Rattle.fkv_world.proofs.Shown.{same_seat}
+use Rattle.law_world.specs.Below.fkv_world.Actors.{slot_asked}
+use Rattle.law_world.specs.Below.fkv_world.Moves.{Near, session_asks, session_moved, session_replied, session_settled}
+use Rattle.law_world.specs.Below.fkv_world.OwnEvents.{session_events}
+use Rattle.law_world.specs.Below.fkv_world.Runs.{World, run}
+use Rattle.law_world.specs.Below.fkv_world.World.{Event, Now, near, seat_at}
+use Rattle.law_world.proofs.Below.fkv_world.Shown.{same_seat}
 use Rattle.law_world.specs.Guarded.Shows.{IsOpened, Shows, seen_by_guard}
 use Rattle.law_world.proofs.OfGuarded.Worlds.{is_world_of, life_shows, world_of}
 use Rattle.law_world.proofs.OfGuarded.Outer.{write_outer}

@@ -2,9 +2,9 @@
 use Rattle.std.proofs.Common.{◌≡◌, ℕ, ◌≤◌, ◌∙◌, refl, sym, ap, subst, arith, Bool, true, false, List, [], ◌∷◌}
 use Rattle.std.specs.Prelude.{if◌then◌else◌, Option, Some, None, slice_get}
 use Rattle.fkv_epoch.proofs.Shown.{some_same}
-use Rattle.fkv_flush.specs.GuardLevels.{levels_of}
-use Rattle.fkv_flush.specs.GuardSeen.{LastSeen}
-use Rattle.fkv_flush.specs.GuardWorld.{GuardWorld}
+use Rattle.law_world.specs.Below.fkv_flush.GuardLevels.{levels_of}
+use Rattle.law_world.specs.Below.fkv_flush.GuardSeen.{LastSeen}
+use Rattle.law_world.specs.Below.fkv_flush.GuardWorld.{GuardWorld}
 use Rattle.fkv_map.specs.declared.operations.Call.{Call}
 use Rattle.law_log.specs.Ghosts.{Ghosts}
 use Rattle.fkv_plane.specs.declared.actions.Action.{Action}
@@ -14,14 +14,14 @@ use Rattle.fkv_plane.specs.declared.places.SharedWord.TheVariants as one
 use Rattle.fkv_plane.specs.Asked.{reply_to}
 use Rattle.fkv_plane.specs.Places.{shared_place}
 use Rattle.fkv_plane.specs.Plane.{action_at}
-use Rattle.fkv_session.specs.declared.answers.Told.{Told}
-use Rattle.fkv_session.specs.Sessions.{SessionState, Seat, is_busy, session_ask, session_begun}
+use Rattle.law_world.specs.Below.fkv_session.Told.{Told}
+use Rattle.law_world.specs.Below.fkv_session.Sessions.{SessionState, Seat, is_busy, session_ask, session_begun}
 use Rattle.law_local.specs.Tries.TryRows.{head_in}
-use Rattle.fkv_world.specs.Actors.{is_of_session, session_goes}
-use Rattle.fkv_world.specs.Moves.{Near, session_gets, session_settled, session_replied, session_asks}
-use Rattle.fkv_world.specs.Runs.{World, happens, run}
-use Rattle.fkv_world.specs.World.{Event, Calls, Moves, Commits, Turns, KeeperMoves, Crashes, near, seat_at}
-use Rattle.fkv_world.proofs.Shown.{is_over, session_apart, session_written}
+use Rattle.law_world.specs.Below.fkv_world.Actors.{is_of_session, session_goes}
+use Rattle.law_world.specs.Below.fkv_world.Moves.{Near, session_gets, session_settled, session_replied, session_asks}
+use Rattle.law_world.specs.Below.fkv_world.Runs.{World, happens, run}
+use Rattle.law_world.specs.Below.fkv_world.World.{Event, Calls, Moves, Commits, Turns, KeeperMoves, Crashes, near, seat_at}
+use Rattle.law_world.proofs.Below.fkv_world.Shown.{is_over, session_apart, session_written}
 use Rattle.law_world.specs.Guarded.Shows.{IsOpened, seen_by_guard}
 use Rattle.law_world.proofs.OfGuarded.Worlds.{life_shows}
 use Rattle.law_refine.specs.Events.GhostEvents.{life_ghosts, safe_at}

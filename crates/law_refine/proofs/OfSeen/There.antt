@@ -2,13 +2,13 @@
 use Rattle.std.proofs.Common.{◌≡◌, ℕ, ◌∙◌, refl, sym, List, [], ◌∷◌}
 use Rattle.std.specs.Prelude.{Option, Some, None, slice_get}
 use Rattle.fkv_epoch.proofs.Shown.{some_same}
-use Rattle.fkv_session.specs.SessionRun.{session_run}
-use Rattle.fkv_session.specs.Sessions.{SessionState}
-use Rattle.fkv_world.specs.OwnEvents.{session_events}
-use Rattle.fkv_world.specs.Runs.{World, happens, run}
-use Rattle.fkv_world.specs.World.{Event, seat_at}
+use Rattle.law_world.specs.Below.fkv_session.SessionRun.{session_run}
+use Rattle.law_world.specs.Below.fkv_session.Sessions.{SessionState}
+use Rattle.law_world.specs.Below.fkv_world.OwnEvents.{session_events}
+use Rattle.law_world.specs.Below.fkv_world.Runs.{World, happens, run}
+use Rattle.law_world.specs.Below.fkv_world.World.{Event, seat_at}
 use Rattle.law_world.proofs.OfRuns.Nothing.{none_then}
-use Rattle.fkv_world.proofs.Shown.{session_runs}
+use Rattle.law_world.proofs.Below.fkv_world.Shown.{session_runs}
 
 -- who is there behind an event was there before it
 pub there_before : (w : World) (event : Event) (number : ℕ) (after : SessionState) → slice_get (happens w event).now.sessions number ≡ Some after → (s : SessionState) × (slice_get w.now.sessions number ≡ Some s)

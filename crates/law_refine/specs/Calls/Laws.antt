@@ -3,10 +3,10 @@ use Rattle.std.specs.Prelude.{◌≡◌, ◌∷◌, ℕ, List, []}
 use Rattle.law_log.specs.Ghosts.{Ghosts}
 use Rattle.law_log.specs.Trace.{history_of}
 use Rattle.law_world.specs.Runs.Added.{IsEffectOf}
-use Rattle.fkv_world.specs.Opened.{IsOpenedWorld}
-use Rattle.fkv_world.specs.Past.{Effect}
-use Rattle.fkv_world.specs.Runs.{World, run}
-use Rattle.fkv_world.specs.World.{Event}
+use Rattle.law_world.specs.Below.fkv_world.Opened.{IsOpenedWorld}
+use Rattle.law_world.specs.Below.fkv_world.Past.{Effect}
+use Rattle.law_world.specs.Below.fkv_world.Runs.{World, run}
+use Rattle.law_world.specs.Below.fkv_world.World.{Event}
 use Rattle.law_refine.specs.Calls.Calls.{EachIsEnabled, IsUpdateInHand, IsCallEnabled, effects_of_life, entries_of, event_adds, lines_of_life}
 use Rattle.law_world.specs.Guarded.Shows as guard
 use Rattle.law_refine.specs.Events.GhostEvents.{home_in, life_ghosts, mapped}

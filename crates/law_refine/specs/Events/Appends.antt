@@ -6,20 +6,20 @@ use Rattle.fkv_map.specs.declared.operations.Reply.{Reply}
 use Rattle.law_log.specs.Ghosts.{GhostEvent, Reserves, Publishes, Drops}
 use Rattle.fkv_plane.specs.declared.asks.Ask.{Ask}
 use Rattle.fkv_plane.specs.declared.asks.Ask.TheVariants.{Done}
-use Rattle.fkv_log.specs.declared.invalidating.Invalidating.{Invalidating}
-use Rattle.fkv_log.specs.declared.invalidating.Invalidating.TheVariants as invalidating
-use Rattle.fkv_log.specs.declared.reserving.ReserveAnswer.{ReserveAnswer}
-use Rattle.fkv_log.specs.declared.reserving.ReserveAnswer.TheVariants.{Reserved}
-use Rattle.fkv_log.specs.Reserving.{reserve_next_ask}
+use Rattle.law_world.specs.Below.fkv_log.TheInvalidating.{Invalidating}
+use Rattle.law_world.specs.Below.fkv_log.TheInvalidating.TheVariants as invalidating
+use Rattle.law_world.specs.Below.fkv_log.ReserveAnswer.{ReserveAnswer}
+use Rattle.law_world.specs.Below.fkv_log.ReserveAnswer.TheVariants.{Reserved}
+use Rattle.law_world.specs.Below.fkv_log.Reserving.{reserve_next_ask}
 use Rattle.fkv_index.specs.declared.publishing.PublishAnswer.{PublishAnswer}
 use Rattle.fkv_index.specs.declared.publishing.PublishAnswer.TheVariants.{Won}
 use Rattle.fkv_index.specs.Publishing.{publish_next_ask}
-use Rattle.fkv_ops.specs.declared.appending.Appending.{Appending}
-use Rattle.fkv_ops.specs.declared.appending.Appending.TheVariants as appending
-use Rattle.fkv_ops.specs.Appending.{AppendState}
-use Rattle.fkv_pending.specs.declared.pending_requests.PendingRequest.{PendingRequest}
-use Rattle.fkv_pending.specs.declared.pending_requests.RequestName.{RequestName}
-use Rattle.fkv_pending.specs.declared.pending_requests.RequestName.TheVariants.{Update, Read}
+use Rattle.law_world.specs.Below.fkv_ops.TheAppending.{Appending}
+use Rattle.law_world.specs.Below.fkv_ops.TheAppending.TheVariants as appending
+use Rattle.law_world.specs.Below.fkv_ops.Appending.{AppendState}
+use Rattle.law_world.specs.Below.fkv_pending.PendingRequest.{PendingRequest}
+use Rattle.law_world.specs.Below.fkv_pending.RequestName.{RequestName}
+use Rattle.law_world.specs.Below.fkv_pending.RequestName.TheVariants.{Update, Read}
 use Rattle.law_world.specs.GuardSessions.Tries.{is_for_entry}
 use Rattle.law_local.specs.Tries.TryRows.{cell_of}
 

@@ -3,20 +3,20 @@ use Rattle.std.specs.Prelude.{◌≡◌, ⊤, ℕ, true, List, [], ◌∷◌, Op
 use Rattle.fkv_base.specs.declared.numbers.Version.{Version}
 use Rattle.fkv_map.specs.declared.history.HistoryEntry.{HistoryEntry}
 use Rattle.fkv_map.specs.Keys.{key_of, value_applied, reply_from}
-use Rattle.fkv_ops.specs.Values.{value_of, word_of}
+use Rattle.law_world.specs.Below.fkv_ops.Values.{value_of, word_of}
 use Rattle.law_log.specs.Ghosts.{GhostEvent, Publishes, Changes}
-use Rattle.fkv_ops.specs.Requests.{is_read}
-use Rattle.fkv_session.specs.declared.sessions.Sitting.{Sitting}
-use Rattle.fkv_session.specs.declared.sessions.Sitting.TheVariants.{Attempts, Polls}
+use Rattle.law_world.specs.Below.fkv_ops.Requests.{is_read}
+use Rattle.law_world.specs.Below.fkv_session.Sitting.{Sitting}
+use Rattle.law_world.specs.Below.fkv_session.Sitting.TheVariants.{Attempts, Polls}
 use Rattle.fkv_index.specs.Slots.{entry_addr}
 use Rattle.fkv_plane.specs.declared.asks.Ask.{Ask}
 use Rattle.fkv_plane.specs.declared.places.Places.{Places}
 use Rattle.fkv_plane.specs.declared.places.RecordWord.TheVariants as rec
 use Rattle.fkv_plane.specs.Asked.{asked, asked_place, reply_to}
 use Rattle.fkv_plane.specs.Places.{record_place}
-use Rattle.fkv_session.specs.Sessions.{SessionState, Seat, session_ask, session_next}
-use Rattle.fkv_world.specs.Past.{Effect, Traced, effect_made}
-use Rattle.fkv_world.specs.World.{Event, Moves, Now, seat_at}
+use Rattle.law_world.specs.Below.fkv_session.Sessions.{SessionState, Seat, session_ask, session_next}
+use Rattle.law_world.specs.Below.fkv_world.Past.{Effect, Traced, effect_made}
+use Rattle.law_world.specs.Below.fkv_world.World.{Event, Moves, Now, seat_at}
 use Rattle.law_refine.specs.Events.Reservations.{Reservation}
 use Rattle.law_refine.specs.Events.Reserved.{reserved_by}
 use Rattle.law_refine.specs.Events.Sessions.{sitting_ghosts}

@@ -6,11 +6,11 @@ use Rattle.fkv_plane.specs.Asked.{word_at}
 use Rattle.fkv_plane.specs.Places.{shared_place}
 use Rattle.fkv_index.specs.declared.homes.Home.{Home}
 use Rattle.fkv_index.specs.Slots.{home_of}
-use Rattle.fkv_session.specs.Sessions.{SessionState, session_ask}
+use Rattle.law_world.specs.Below.fkv_session.Sessions.{SessionState, session_ask}
 use Rattle.law_world.specs.Runs.Added.{told_at, told_by}
-use Rattle.fkv_world.specs.Past.{Traced}
-use Rattle.fkv_world.specs.Runs.{World, happens, run}
-use Rattle.fkv_world.specs.World.{Event, Moves, Now, seat_at}
+use Rattle.law_world.specs.Below.fkv_world.Past.{Traced}
+use Rattle.law_world.specs.Below.fkv_world.Runs.{World, happens, run}
+use Rattle.law_world.specs.Below.fkv_world.World.{Event, Moves, Now, seat_at}
 use Rattle.law_refine.specs.Events.Lines.{lines_added}
 use Rattle.law_refine.specs.Events.Sessions.{step_ghosts}
 

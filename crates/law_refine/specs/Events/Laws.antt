@@ -1,12 +1,12 @@
 -- What the laws of `events` say.
 use Rattle.std.specs.Prelude.{◌≡◌, ℕ, [], List, Some, slice_get}
-use Rattle.fkv_keeper.specs.KeeperRun.{IsOpened}
-use Rattle.fkv_keeper.specs.Keeping.{KeeperState}
+use Rattle.law_world.specs.Below.fkv_keeper.KeeperRun.{IsOpened}
+use Rattle.law_world.specs.Below.fkv_keeper.Keeping.{KeeperState}
 use Rattle.law_log.specs.Ghosts.{Ghosts}
-use Rattle.fkv_session.specs.Sessions.{SessionState}
-use Rattle.fkv_world.specs.Opened.{IsOpenedWorld}
-use Rattle.fkv_world.specs.Runs.{World, happens, run}
-use Rattle.fkv_world.specs.World.{Event, seat_at}
+use Rattle.law_world.specs.Below.fkv_session.Sessions.{SessionState}
+use Rattle.law_world.specs.Below.fkv_world.Opened.{IsOpenedWorld}
+use Rattle.law_world.specs.Below.fkv_world.Runs.{World, happens, run}
+use Rattle.law_world.specs.Below.fkv_world.World.{Event, seat_at}
 use Rattle.law_world.specs.Guarded.Shows as guard
 use Rattle.law_refine.specs.Events.Effects.{AttemptsRead, MakesEffect, TakesItsEffect, TakesNoEffect, step_at}
 use Rattle.law_refine.specs.Events.GhostEvents.{ghost_events, home_in, life_ghosts, mapped, safe_at, serials_in}

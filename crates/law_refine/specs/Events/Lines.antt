@@ -8,13 +8,13 @@ use Rattle.fkv_map.specs.declared.operations.Op.TheVariants.{Read}
 use Rattle.fkv_map.specs.declared.operations.Reply.{Reply}
 use Rattle.fkv_map.specs.declared.operations.Reply.TheVariants as reply
 use Rattle.law_log.specs.Trace.{TraceLine, CallsUpdate, RefusesUpdate, GivesResult, CallsRead, AnswersRead}
-use Rattle.fkv_session.specs.declared.answers.Finished.{Finished}
-use Rattle.fkv_session.specs.declared.answers.Finished.TheVariants as finished
-use Rattle.fkv_session.specs.declared.answers.Told.{Told}
-use Rattle.fkv_session.specs.declared.answers.Told.TheVariants as told
-use Rattle.fkv_session.specs.Accounts.{serials_given}
-use Rattle.fkv_world.specs.Opened.{answers_of}
-use Rattle.fkv_world.specs.Past.{Traced, TraceEvent, Called, Answered}
+use Rattle.law_world.specs.Below.fkv_session.Finished.{Finished}
+use Rattle.law_world.specs.Below.fkv_session.Finished.TheVariants as finished
+use Rattle.law_world.specs.Below.fkv_session.Told.{Told}
+use Rattle.law_world.specs.Below.fkv_session.Told.TheVariants as told
+use Rattle.law_world.specs.Below.fkv_session.Accounts.{serials_given}
+use Rattle.law_world.specs.Below.fkv_world.Opened.{answers_of}
+use Rattle.law_world.specs.Below.fkv_world.Past.{Traced, TraceEvent, Called, Answered}
 
 -- A call of a session, and its number: how long the trace was as it was made. No other call has that.
 pub record CallMade : Type 0 where

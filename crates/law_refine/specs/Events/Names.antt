@@ -1,12 +1,12 @@
 -- What a request is named by: a read waits for a ticket, and an update under its serial.
 use Rattle.std.specs.Prelude.{◌≡◌, ⊤, Bool, true, false, List, [], ◌∷◌}
-use Rattle.fkv_ops.specs.Requests.{is_read}
-use Rattle.fkv_pending.specs.declared.pending_requests.PendingRequest.{PendingRequest}
-use Rattle.fkv_pending.specs.declared.pending_requests.RequestName.{RequestName}
-use Rattle.fkv_pending.specs.declared.pending_requests.RequestName.TheVariants.{Update, Read}
-use Rattle.fkv_session.specs.declared.sessions.Sitting.{Sitting}
-use Rattle.fkv_session.specs.declared.sessions.Sitting.TheVariants.{Attempts, Polls}
-use Rattle.fkv_session.specs.Sessions.{SessionState}
+use Rattle.law_world.specs.Below.fkv_ops.Requests.{is_read}
+use Rattle.law_world.specs.Below.fkv_pending.PendingRequest.{PendingRequest}
+use Rattle.law_world.specs.Below.fkv_pending.RequestName.{RequestName}
+use Rattle.law_world.specs.Below.fkv_pending.RequestName.TheVariants.{Update, Read}
+use Rattle.law_world.specs.Below.fkv_session.Sitting.{Sitting}
+use Rattle.law_world.specs.Below.fkv_session.Sitting.TheVariants.{Attempts, Polls}
+use Rattle.law_world.specs.Below.fkv_session.Sessions.{SessionState}
 
 abbrev pub is_read_name : RequestName → Bool
 is_read_name (Update serial) = false

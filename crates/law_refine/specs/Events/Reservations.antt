@@ -5,18 +5,18 @@ use Rattle.law_log.specs.Chains.{Cell}
 use Rattle.law_log.specs.Ghosts.{GhostEvent, Reserves, Publishes, Drops}
 use Rattle.fkv_plane.specs.declared.places.SharedWord.TheVariants as one
 use Rattle.fkv_plane.specs.Places.{shared_place}
-use Rattle.fkv_log.specs.declared.invalidating.Invalidating.{Invalidating}
-use Rattle.fkv_log.specs.declared.invalidating.Invalidating.TheVariants as invalidating
-use Rattle.fkv_ops.specs.declared.appending.Appending.{Appending}
-use Rattle.fkv_ops.specs.declared.appending.Appending.TheVariants as appending
-use Rattle.fkv_ops.specs.declared.trying.Trying.{Trying}
-use Rattle.fkv_ops.specs.declared.trying.Trying.TheVariants.{Appends}
-use Rattle.fkv_ops.specs.Appending.{AppendState}
-use Rattle.fkv_ops.specs.Trying.{TryState}
-use Rattle.fkv_pending.specs.declared.attempting.Attempting.{Attempting}
-use Rattle.fkv_pending.specs.declared.attempting.Attempting.TheVariants.{Tries}
-use Rattle.fkv_pending.specs.declared.pending_requests.PendingRequest.{PendingRequest}
-use Rattle.fkv_pending.specs.Attempting.{AttemptState}
+use Rattle.law_world.specs.Below.fkv_log.TheInvalidating.{Invalidating}
+use Rattle.law_world.specs.Below.fkv_log.TheInvalidating.TheVariants as invalidating
+use Rattle.law_world.specs.Below.fkv_ops.TheAppending.{Appending}
+use Rattle.law_world.specs.Below.fkv_ops.TheAppending.TheVariants as appending
+use Rattle.law_world.specs.Below.fkv_ops.TheTrying.{Trying}
+use Rattle.law_world.specs.Below.fkv_ops.TheTrying.TheVariants.{Appends}
+use Rattle.law_world.specs.Below.fkv_ops.Appending.{AppendState}
+use Rattle.law_world.specs.Below.fkv_ops.Trying.{TryState}
+use Rattle.law_world.specs.Below.fkv_pending.TheAttempting.{Attempting}
+use Rattle.law_world.specs.Below.fkv_pending.TheAttempting.TheVariants.{Tries}
+use Rattle.law_world.specs.Below.fkv_pending.PendingRequest.{PendingRequest}
+use Rattle.law_world.specs.Below.fkv_pending.Attempting.{AttemptState}
 use Rattle.law_refine.specs.Events.Appends.{entry_made}
 use Rattle.law_local.specs.Tries.TryRows.{cell_of}
 

@@ -6,11 +6,11 @@ use Rattle.law_log.specs.Ghosts.{Log, Ghosts, GhostEvent, Publishes, Drops, ghos
 use Rattle.fkv_plane.specs.declared.places.SharedWord.TheVariants as one
 use Rattle.fkv_plane.specs.Asked.{asked, asked_place, word_at}
 use Rattle.fkv_plane.specs.Places.{shared_place}
-use Rattle.fkv_session.specs.declared.sessions.Sitting.{Sitting}
-use Rattle.fkv_session.specs.declared.sessions.Sitting.TheVariants as sitting
-use Rattle.fkv_session.specs.Sessions.{SessionState, Seat, session_ask, session_next}
-use Rattle.fkv_world.specs.Past.{Traced}
-use Rattle.fkv_world.specs.World.{Now}
+use Rattle.law_world.specs.Below.fkv_session.Sitting.{Sitting}
+use Rattle.law_world.specs.Below.fkv_session.Sitting.TheVariants as sitting
+use Rattle.law_world.specs.Below.fkv_session.Sessions.{SessionState, Seat, session_ask, session_next}
+use Rattle.law_world.specs.Below.fkv_world.Past.{Traced}
+use Rattle.law_world.specs.Below.fkv_world.World.{Now}
 use Rattle.law_refine.specs.Events.GhostEvents.{safe_at}
 use Rattle.law_refine.specs.Events.Reservations.{MovesOn, Reservation, attempt_reserves}
 use Rattle.law_refine.specs.Events.Sessions.{sitting_ghosts}

@@ -10,17 +10,17 @@ use Rattle.law_log.specs.Ghosts.{GhostEvent, Tells, FindsEntry, TakesValue, Rese
 use Rattle.law_log.specs.Trace.{Effect, TraceLine, CallsUpdate, RefusesUpdate, GivesResult, CallsRead, AnswersRead}
 use Rattle.law_log.specs.Worked.{cell_of, empty_log, entry_of}
 use Rattle.fkv_plane.specs.declared.places.Places.{Places}
-use Rattle.fkv_keeper.specs.Keeping.{KeeperState}
-use Rattle.fkv_ops.specs.declared.answers.Reason.TheVariants.{Disk}
-use Rattle.fkv_session.specs.declared.answers.Finished.TheVariants as finished
-use Rattle.fkv_session.specs.declared.answers.Told.TheVariants as told
-use Rattle.fkv_session.specs.declared.sessions.Sitting.TheVariants.{Idle}
-use Rattle.fkv_session.specs.Sessions.{SessionState}
+use Rattle.law_world.specs.Below.fkv_keeper.Keeping.{KeeperState}
+use Rattle.law_world.specs.Below.fkv_ops.Reason.TheVariants.{Disk}
+use Rattle.law_world.specs.Below.fkv_session.Finished.TheVariants as finished
+use Rattle.law_world.specs.Below.fkv_session.Told.TheVariants as told
+use Rattle.law_world.specs.Below.fkv_session.Sitting.TheVariants.{Idle}
+use Rattle.law_world.specs.Below.fkv_session.Sessions.{SessionState}
 use Rattle.law_world.specs.Runs.Added.{told_at}
-use Rattle.fkv_world.specs.Opened.{IsOpenedWorld}
-use Rattle.fkv_world.specs.Past.{Traced, Called, Answered}
-use Rattle.fkv_world.specs.Runs.{World}
-use Rattle.fkv_world.specs.World.{Event, Calls, Moves}
+use Rattle.law_world.specs.Below.fkv_world.Opened.{IsOpenedWorld}
+use Rattle.law_world.specs.Below.fkv_world.Past.{Traced, Called, Answered}
+use Rattle.law_world.specs.Below.fkv_world.Runs.{World}
+use Rattle.law_world.specs.Below.fkv_world.World.{Event, Calls, Moves}
 use Rattle.law_refine.specs.Events.GhostEvents.{fixed_ghosts, home_in, mapped, life_ghosts}
 use Rattle.law_refine.specs.Events.Lines.{lines_of}
 

@@ -6,7 +6,7 @@ use Rattle.fkv_index.specs.IndexWorld.{new_entry}
 use Rattle.fkv_index.specs.OneEntry.{IsHome}
 use Rattle.law_log.specs.Chains.{Logged, Reserved, head_of}
 use Rattle.law_log.specs.Ghosts.{Log, Ghosts, GhostEvent, Publishes, ghost_run}
-use Rattle.fkv_world.specs.World.{Now}
+use Rattle.law_world.specs.Below.fkv_world.World.{Now}
 use Rattle.law_refine.specs.Events.GhostEvents.{home_number}
 
 -- the word of an entry that leads to an address, for a home of this tag; 0 where it leads nowhere

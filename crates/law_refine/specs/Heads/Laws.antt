@@ -1,8 +1,8 @@
 -- What the laws of `heads` say.
 use Rattle.std.specs.Prelude.{ℕ, List}
 use Rattle.law_log.specs.Ghosts.{Ghosts}
-use Rattle.fkv_world.specs.Runs.{World, run}
-use Rattle.fkv_world.specs.World.{Event}
+use Rattle.law_world.specs.Below.fkv_world.Runs.{World, run}
+use Rattle.law_world.specs.Below.fkv_world.World.{Event}
 use Rattle.law_world.specs.Guarded.Shows as guard
 use Rattle.law_refine.specs.Index.LifeEntries.{lists_seen}
 use Rattle.law_refine.specs.Index.Shows as index

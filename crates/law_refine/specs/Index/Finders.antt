@@ -4,21 +4,21 @@ use Rattle.std.specs.Prelude.{ℕ, if◌then◌else◌, Option, Some, None}
 use Rattle.fkv_index.specs.declared.finding.Finding.{Finding}
 use Rattle.fkv_index.specs.declared.finding.Purpose.{Purpose}
 use Rattle.fkv_index.specs.declared.homes.Home.{Home}
-use Rattle.fkv_ops.specs.declared.appending.Appending.{Appending}
-use Rattle.fkv_ops.specs.declared.appending.Appending.TheVariants.{Reserves, Fills, Publishes}
-use Rattle.fkv_ops.specs.declared.trying.Trying.{Trying}
-use Rattle.fkv_ops.specs.declared.trying.Trying.TheVariants.{Walks, LoadsSafe, TakesExclusive, LoadsOld, Appends}
-use Rattle.fkv_ops.specs.declared.walking.WalkAnswer.{WalkAnswer}
-use Rattle.fkv_ops.specs.declared.walking.Walking.{Walking}
-use Rattle.fkv_ops.specs.declared.walking.Walking.TheVariants.{Finds, Ended}
-use Rattle.fkv_ops.specs.Requests.{is_read, purpose_of}
-use Rattle.fkv_ops.specs.Trying.{TryState, has_walked}
-use Rattle.fkv_pending.specs.declared.attempting.Attempting.{Attempting}
-use Rattle.fkv_pending.specs.declared.attempting.Attempting.TheVariants.{Tries}
-use Rattle.fkv_pending.specs.Attempting.{AttemptState}
-use Rattle.fkv_session.specs.declared.sessions.Sitting.{Sitting}
-use Rattle.fkv_session.specs.declared.sessions.Sitting.TheVariants.{Attempts, Polls}
-use Rattle.fkv_session.specs.Sessions.{SessionState}
+use Rattle.law_world.specs.Below.fkv_ops.TheAppending.{Appending}
+use Rattle.law_world.specs.Below.fkv_ops.TheAppending.TheVariants.{Reserves, Fills, Publishes}
+use Rattle.law_world.specs.Below.fkv_ops.TheTrying.{Trying}
+use Rattle.law_world.specs.Below.fkv_ops.TheTrying.TheVariants.{Walks, LoadsSafe, TakesExclusive, LoadsOld, Appends}
+use Rattle.law_world.specs.Below.fkv_ops.WalkAnswer.{WalkAnswer}
+use Rattle.law_world.specs.Below.fkv_ops.TheWalking.{Walking}
+use Rattle.law_world.specs.Below.fkv_ops.TheWalking.TheVariants.{Finds, Ended}
+use Rattle.law_world.specs.Below.fkv_ops.Requests.{is_read, purpose_of}
+use Rattle.law_world.specs.Below.fkv_ops.Trying.{TryState, has_walked}
+use Rattle.law_world.specs.Below.fkv_pending.TheAttempting.{Attempting}
+use Rattle.law_world.specs.Below.fkv_pending.TheAttempting.TheVariants.{Tries}
+use Rattle.law_world.specs.Below.fkv_pending.Attempting.{AttemptState}
+use Rattle.law_world.specs.Below.fkv_session.Sitting.{Sitting}
+use Rattle.law_world.specs.Below.fkv_session.Sitting.TheVariants.{Attempts, Polls}
+use Rattle.law_world.specs.Below.fkv_session.Sessions.{SessionState}
 
 -- a search that is under way, and what for
 pub record Search : Type 0 where

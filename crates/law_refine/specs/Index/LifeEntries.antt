@@ -15,10 +15,10 @@ use Rattle.fkv_index.specs.OneEntry.{IsIndex, HasSlot, IsTrueAnswer, HasLost, Gr
 use Rattle.fkv_index.specs.Searches.{LinksOne}
 use Rattle.fkv_index.specs.Slots.{bucket_slots}
 use Rattle.fkv_index.specs.SlotOrders.{slot_order, IsFilled, HasTagsOnce, OrdersMove}
-use Rattle.fkv_session.specs.declared.answers.Told.TheVariants as told
-use Rattle.fkv_session.specs.Sessions.{SessionState, session_ask}
-use Rattle.fkv_world.specs.World.{Event, Moves, Now, seat_at}
-use Rattle.fkv_world.specs.Runs.{World, run}
+use Rattle.law_world.specs.Below.fkv_session.Told.TheVariants as told
+use Rattle.law_world.specs.Below.fkv_session.Sessions.{SessionState, session_ask}
+use Rattle.law_world.specs.Below.fkv_world.World.{Event, Moves, Now, seat_at}
+use Rattle.law_world.specs.Below.fkv_world.Runs.{World, run}
 use Rattle.law_refine.specs.Index.Finders.{Search, KeptSlot, SessionWork, Searches, KeepsSlot, PublishesEntry, session_part, session_search}
 use Rattle.law_refine.specs.Index.Shows.{IsOpened, seen_by_index}
 

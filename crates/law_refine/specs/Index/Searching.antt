@@ -5,9 +5,9 @@ use Rattle.fkv_plane.specs.Passing.{is_done}
 use Rattle.fkv_index.specs.declared.finding.Purpose.{Purpose}
 use Rattle.fkv_index.specs.declared.homes.Home.{Home}
 use Rattle.fkv_index.specs.Finding.{first_finding, find_next, find_next_ask}
-use Rattle.fkv_session.specs.SessionRun.{SessionEvent, session_run}
-use Rattle.fkv_session.specs.Sessions.{IsOpened, Seat, SessionState, session_next}
-use Rattle.fkv_session.specs.Shares.{HasItsBuckets}
+use Rattle.law_world.specs.Below.fkv_session.SessionRun.{SessionEvent, session_run}
+use Rattle.law_world.specs.Below.fkv_session.Sessions.{IsOpened, Seat, SessionState, session_next}
+use Rattle.law_world.specs.Below.fkv_session.Shares.{HasItsBuckets}
 use Rattle.law_refine.specs.Index.Finders.{Search, session_search}
 
 -- none was under way, or the reply ends it

@@ -10,12 +10,12 @@ use Rattle.fkv_index.specs.Publishing.{publish_first}
 use Rattle.fkv_index.specs.IndexWorld as index
 use Rattle.fkv_index.specs.IndexWorld.{IndexActor, IndexWorld, is_bucket_place, is_link_place, is_publishing, is_seeking, new_entry, index_opening, index_run}
 use Rattle.fkv_index.specs.OneEntry.{IsIndexAt}
-use Rattle.fkv_keeper.specs.KeeperRun as keeper
-use Rattle.fkv_keeper.specs.Keeping.{keeper_ask}
-use Rattle.fkv_session.specs.Sessions as sessions
-use Rattle.fkv_session.specs.Sessions.{SessionState, session_ask}
-use Rattle.fkv_world.specs.World.{Event, Moves, KeeperMoves, Now, seat_at}
-use Rattle.fkv_world.specs.Runs.{World, run}
+use Rattle.law_world.specs.Below.fkv_keeper.KeeperRun as keeper
+use Rattle.law_world.specs.Below.fkv_keeper.Keeping.{keeper_ask}
+use Rattle.law_world.specs.Below.fkv_session.Sessions as sessions
+use Rattle.law_world.specs.Below.fkv_session.Sessions.{SessionState, session_ask}
+use Rattle.law_world.specs.Below.fkv_world.World.{Event, Moves, KeeperMoves, Now, seat_at}
+use Rattle.law_world.specs.Below.fkv_world.Runs.{World, run}
 use Rattle.law_refine.specs.Index.Finders.{SessionWork, NoWork, Searches, KeepsSlot, PublishesEntry, IndexPart, session_part, session_search, session_entry}
 use Rattle.law_refine.specs.Index.IndexEvents.{mapped}
 

@@ -6,21 +6,21 @@ use Rattle.fkv_latch.specs.declared.latching.Latching.{Latching}
 use Rattle.fkv_latch.specs.declared.latching.Latching.TheVariants.{GivesBack}
 use Rattle.fkv_latch.specs.LatchWorld.{LatchActor, LatchWorld, has_latch, times}
 use Rattle.fkv_latch.specs.Latched.{shares_of}
-use Rattle.fkv_ops.specs.declared.trying.Trying.{Trying}
-use Rattle.fkv_ops.specs.declared.trying.Trying.TheVariants.{TakesShared, DropsShared}
-use Rattle.fkv_ops.specs.Trying.{TryState}
-use Rattle.fkv_pending.specs.declared.attempting.Attempting.{Attempting}
-use Rattle.fkv_pending.specs.declared.attempting.Attempting.TheVariants.{Tries}
-use Rattle.fkv_pending.specs.Attempting.{AttemptState}
-use Rattle.fkv_session.specs.declared.catching_up.Catching.{Catching}
-use Rattle.fkv_session.specs.declared.catching_up.Catching.TheVariants.{Latches}
-use Rattle.fkv_session.specs.declared.sessions.Sitting.{Sitting}
-use Rattle.fkv_session.specs.declared.sessions.Sitting.TheVariants.{Attempts, CatchesUp, Polls}
-use Rattle.fkv_session.specs.CatchingUp.{CatchState}
-use Rattle.fkv_session.specs.Sessions.{SessionState, Seat, bits_of}
-use Rattle.fkv_session.specs.Shares.{latch_of, sharing}
-use Rattle.fkv_world.specs.World.{Event, Now, seat_at}
-use Rattle.fkv_world.specs.Runs.{World, run}
+use Rattle.law_world.specs.Below.fkv_ops.TheTrying.{Trying}
+use Rattle.law_world.specs.Below.fkv_ops.TheTrying.TheVariants.{TakesShared, DropsShared}
+use Rattle.law_world.specs.Below.fkv_ops.Trying.{TryState}
+use Rattle.law_world.specs.Below.fkv_pending.TheAttempting.{Attempting}
+use Rattle.law_world.specs.Below.fkv_pending.TheAttempting.TheVariants.{Tries}
+use Rattle.law_world.specs.Below.fkv_pending.Attempting.{AttemptState}
+use Rattle.law_world.specs.Below.fkv_session.Catching.{Catching}
+use Rattle.law_world.specs.Below.fkv_session.Catching.TheVariants.{Latches}
+use Rattle.law_world.specs.Below.fkv_session.Sitting.{Sitting}
+use Rattle.law_world.specs.Below.fkv_session.Sitting.TheVariants.{Attempts, CatchesUp, Polls}
+use Rattle.law_world.specs.Below.fkv_session.CatchingUp.{CatchState}
+use Rattle.law_world.specs.Below.fkv_session.Sessions.{SessionState, Seat, bits_of}
+use Rattle.law_world.specs.Below.fkv_session.Shares.{latch_of, sharing}
+use Rattle.law_world.specs.Below.fkv_world.World.{Event, Now, seat_at}
+use Rattle.law_world.specs.Below.fkv_world.Runs.{World, run}
 use Rattle.law_refine.specs.Latches.Latchers.{session_alone}
 use Rattle.law_refine.specs.Latches.Shows.{IsOpened, seen_by_latches}
 

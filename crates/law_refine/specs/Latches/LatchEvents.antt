@@ -7,11 +7,11 @@ use Rattle.fkv_latch.specs.declared.latching.Latching.TheVariants.{AtRest, AddsS
 use Rattle.fkv_latch.specs.declared.latching.LatchTask.TheVariants as task
 use Rattle.fkv_latch.specs.LatchWorld as latch
 use Rattle.fkv_map.specs.declared.operations.Call.{Call}
-use Rattle.fkv_keeper.specs.Keeping.{keeper_ask}
-use Rattle.fkv_session.specs.Sessions.{SessionState, is_busy, session_ask}
-use Rattle.fkv_world.specs.World.{Event, Calls, Moves, KeeperMoves, Now, seat_at, near, session_called}
-use Rattle.fkv_world.specs.Moves.{session_moved}
-use Rattle.fkv_world.specs.Runs.{World, run}
+use Rattle.law_world.specs.Below.fkv_keeper.Keeping.{keeper_ask}
+use Rattle.law_world.specs.Below.fkv_session.Sessions.{SessionState, is_busy, session_ask}
+use Rattle.law_world.specs.Below.fkv_world.World.{Event, Calls, Moves, KeeperMoves, Now, seat_at, near, session_called}
+use Rattle.law_world.specs.Below.fkv_world.Moves.{session_moved}
+use Rattle.law_world.specs.Below.fkv_world.Runs.{World, run}
 use Rattle.law_refine.specs.Latches.Latchers.{session_latching}
 
 -- the task that has begun where a machine is at its first step

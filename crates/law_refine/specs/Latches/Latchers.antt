@@ -4,18 +4,18 @@ use Rattle.fkv_plane.specs.declared.places.Places.{Places}
 use Rattle.fkv_plane.specs.Places.{bucket_place}
 use Rattle.fkv_latch.specs.declared.latching.Latching.{Latching}
 use Rattle.fkv_latch.specs.declared.latching.Latching.TheVariants.{AtRest}
-use Rattle.fkv_ops.specs.declared.trying.Trying.{Trying}
-use Rattle.fkv_ops.specs.declared.trying.Trying.TheVariants.{TakesShared, TakesExclusive, DropsExclusive, DropsShared, LoadsOld, Appends}
-use Rattle.fkv_ops.specs.Trying.{TryState}
-use Rattle.fkv_pending.specs.declared.attempting.Attempting.{Attempting}
-use Rattle.fkv_pending.specs.declared.attempting.Attempting.TheVariants.{Tries}
-use Rattle.fkv_pending.specs.Attempting.{AttemptState}
-use Rattle.fkv_session.specs.declared.catching_up.Catching.{Catching}
-use Rattle.fkv_session.specs.declared.catching_up.Catching.TheVariants.{Latches}
-use Rattle.fkv_session.specs.declared.sessions.Sitting.{Sitting}
-use Rattle.fkv_session.specs.declared.sessions.Sitting.TheVariants.{Attempts, CatchesUp, Polls}
-use Rattle.fkv_session.specs.CatchingUp.{CatchState}
-use Rattle.fkv_session.specs.Sessions.{SessionState}
+use Rattle.law_world.specs.Below.fkv_ops.TheTrying.{Trying}
+use Rattle.law_world.specs.Below.fkv_ops.TheTrying.TheVariants.{TakesShared, TakesExclusive, DropsExclusive, DropsShared, LoadsOld, Appends}
+use Rattle.law_world.specs.Below.fkv_ops.Trying.{TryState}
+use Rattle.law_world.specs.Below.fkv_pending.TheAttempting.{Attempting}
+use Rattle.law_world.specs.Below.fkv_pending.TheAttempting.TheVariants.{Tries}
+use Rattle.law_world.specs.Below.fkv_pending.Attempting.{AttemptState}
+use Rattle.law_world.specs.Below.fkv_session.Catching.{Catching}
+use Rattle.law_world.specs.Below.fkv_session.Catching.TheVariants.{Latches}
+use Rattle.law_world.specs.Below.fkv_session.Sitting.{Sitting}
+use Rattle.law_world.specs.Below.fkv_session.Sitting.TheVariants.{Attempts, CatchesUp, Polls}
+use Rattle.law_world.specs.Below.fkv_session.CatchingUp.{CatchState}
+use Rattle.law_world.specs.Below.fkv_session.Sessions.{SessionState}
 
 -- the place of the latch of a try's bucket
 abbrev pub its_latch : Places → TryState → ℕ

@@ -7,13 +7,13 @@ use Rattle.fkv_plane.specs.Asked.{asked, asked_place, word_at}
 use Rattle.fkv_latch.specs.declared.latching.Latching.TheVariants.{AtRest}
 use Rattle.fkv_latch.specs.LatchWorld.{LatchActor, LatchWorld, has_latch, latch_of, times, latch_run}
 use Rattle.fkv_latch.specs.Latched as latches
-use Rattle.fkv_keeper.specs.KeeperRun as keeper
-use Rattle.fkv_keeper.specs.Keeping.{keeper_ask}
-use Rattle.fkv_session.specs.Sessions as sessions
-use Rattle.fkv_session.specs.Sessions.{SessionState, Seat, is_busy, session_ask}
-use Rattle.fkv_session.specs.Shares.{sharing}
-use Rattle.fkv_world.specs.World.{Event, Moves, KeeperMoves, Now, seat_at}
-use Rattle.fkv_world.specs.Runs.{World, run}
+use Rattle.law_world.specs.Below.fkv_keeper.KeeperRun as keeper
+use Rattle.law_world.specs.Below.fkv_keeper.Keeping.{keeper_ask}
+use Rattle.law_world.specs.Below.fkv_session.Sessions as sessions
+use Rattle.law_world.specs.Below.fkv_session.Sessions.{SessionState, Seat, is_busy, session_ask}
+use Rattle.law_world.specs.Below.fkv_session.Shares.{sharing}
+use Rattle.law_world.specs.Below.fkv_world.World.{Event, Moves, KeeperMoves, Now, seat_at}
+use Rattle.law_world.specs.Below.fkv_world.Runs.{World, run}
 use Rattle.law_refine.specs.Latches.Latchers.{session_latching, session_alone}
 use Rattle.law_refine.specs.Latches.LatchEvents.{mapped}
 

@@ -2,20 +2,20 @@
 use Rattle.std.specs.Prelude.{ℕ, ◌^◌, ◌==◌, nat_lt, if◌then◌else◌, Bool, List, [], ◌∷◌, ◌++◌, slice_get, Option, Some, None}
 use Rattle.fkv_plane.specs.declared.asks.Ask.{Ask}
 use Rattle.fkv_plane.specs.Asked.{asked, asked_place, word_at}
-use Rattle.fkv_flush.specs.declared.serving.Serving.{Serving}
-use Rattle.fkv_flush.specs.declared.serving.Serving.TheVariants as serve
+use Rattle.law_world.specs.Below.fkv_flush.TheServing.{Serving}
+use Rattle.law_world.specs.Below.fkv_flush.TheServing.TheVariants as serve
 use Rattle.fkv_map.specs.declared.operations.Call.{Call}
 use Rattle.fkv_record.specs.Places.{number_at}
-use Rattle.fkv_keeper.specs.Keeping.{keeper_ask}
-use Rattle.fkv_pending.specs.declared.mailing.MailRecord.{MailRecord}
-use Rattle.fkv_pending.specs.declared.mailing.Mailing.{Mailing}
-use Rattle.fkv_pending.specs.declared.mailing.Mailing.TheVariants.{LoadsState, StoresAddress}
-use Rattle.fkv_pending.specs.MailWorld as mail
-use Rattle.fkv_pending.specs.MailWorld.{mailbox_of}
-use Rattle.fkv_session.specs.Sessions.{SessionState, is_busy, session_ask}
-use Rattle.fkv_world.specs.World.{Event, Calls, Moves, KeeperMoves, Now, seat_at, near, session_called}
-use Rattle.fkv_world.specs.Moves.{session_moved}
-use Rattle.fkv_world.specs.Runs.{World, read_by_keeper, run}
+use Rattle.law_world.specs.Below.fkv_keeper.Keeping.{keeper_ask}
+use Rattle.law_world.specs.Below.fkv_pending.MailRecord.{MailRecord}
+use Rattle.law_world.specs.Below.fkv_pending.TheMailing.{Mailing}
+use Rattle.law_world.specs.Below.fkv_pending.TheMailing.TheVariants.{LoadsState, StoresAddress}
+use Rattle.law_world.specs.Below.fkv_pending.MailWorld as mail
+use Rattle.law_world.specs.Below.fkv_pending.MailWorld.{mailbox_of}
+use Rattle.law_world.specs.Below.fkv_session.Sessions.{SessionState, is_busy, session_ask}
+use Rattle.law_world.specs.Below.fkv_world.World.{Event, Calls, Moves, KeeperMoves, Now, seat_at, near, session_called}
+use Rattle.law_world.specs.Below.fkv_world.Moves.{session_moved}
+use Rattle.law_world.specs.Below.fkv_world.Runs.{World, read_by_keeper, run}
 use Rattle.law_refine.specs.Mail.Mailers.{session_mailing}
 use Rattle.law_refine.specs.Mail.Servers.{serving_of, is_serving, record_of}
 

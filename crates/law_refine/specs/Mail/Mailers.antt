@@ -1,13 +1,13 @@
 -- The machine with which a session works on its mailbox, by its control state.
 use Rattle.std.specs.Prelude.{◌≡◌, true, false, Option, Some, None}
-use Rattle.fkv_pending.specs.declared.attempting.Attempting.{Attempting}
-use Rattle.fkv_pending.specs.declared.attempting.Attempting.TheVariants.{Looks, Puts}
-use Rattle.fkv_pending.specs.declared.mailing.Mailing.{Mailing}
-use Rattle.fkv_pending.specs.Attempting.{AttemptState}
-use Rattle.fkv_pending.specs.MailWorld.{is_at_end}
-use Rattle.fkv_session.specs.declared.sessions.Sitting.{Sitting}
-use Rattle.fkv_session.specs.declared.sessions.Sitting.TheVariants.{Attempts, ClearsMail, Polls}
-use Rattle.fkv_session.specs.Sessions.{SessionState}
+use Rattle.law_world.specs.Below.fkv_pending.TheAttempting.{Attempting}
+use Rattle.law_world.specs.Below.fkv_pending.TheAttempting.TheVariants.{Looks, Puts}
+use Rattle.law_world.specs.Below.fkv_pending.TheMailing.{Mailing}
+use Rattle.law_world.specs.Below.fkv_pending.Attempting.{AttemptState}
+use Rattle.law_world.specs.Below.fkv_pending.MailWorld.{is_at_end}
+use Rattle.law_world.specs.Below.fkv_session.Sitting.{Sitting}
+use Rattle.law_world.specs.Below.fkv_session.Sitting.TheVariants.{Attempts, ClearsMail, Polls}
+use Rattle.law_world.specs.Below.fkv_session.Sessions.{SessionState}
 
 -- an attempt works on the mailbox where it looks for a record there, and where it puts an address there
 abbrev pub attempt_mailing : AttemptState → Attempting → Option Mailing

@@ -1,16 +1,16 @@
 -- The machine with which the keeper serves mailboxes, by its control state.
 use Rattle.std.specs.Prelude.{◌≡◌, ℕ, ◌==◌, Bool, true, false}
 use Rattle.fkv_base.specs.declared.numbers.Addr.{Addr}
-use Rattle.fkv_flush.specs.declared.serving.Serving.{Serving}
-use Rattle.fkv_flush.specs.declared.serving.Serving.TheVariants as serve
-use Rattle.fkv_maintain.specs.declared.maintaining.Maintaining.{Maintaining}
-use Rattle.fkv_maintain.specs.declared.maintaining.Maintaining.TheVariants.{Serves}
-use Rattle.fkv_maintain.specs.Maintaining.{MaintainState}
-use Rattle.fkv_keeper.specs.declared.keepers.Keeping.{Keeping as KeeperStep}
-use Rattle.fkv_keeper.specs.declared.keepers.Keeping.TheVariants.{Maintains}
-use Rattle.fkv_keeper.specs.Keeping.{KeeperState}
-use Rattle.fkv_pending.specs.declared.mailing.MailRecord.{MailRecord}
-use Rattle.fkv_pending.specs.MailWorld.{Keeping, FindsState, Reads, GivesHeader, GivesKey, GivesValue, GivesReady}
+use Rattle.law_world.specs.Below.fkv_flush.TheServing.{Serving}
+use Rattle.law_world.specs.Below.fkv_flush.TheServing.TheVariants as serve
+use Rattle.law_world.specs.Below.fkv_maintain.TheMaintaining.{Maintaining}
+use Rattle.law_world.specs.Below.fkv_maintain.TheMaintaining.TheVariants.{Serves}
+use Rattle.law_world.specs.Below.fkv_maintain.Maintaining.{MaintainState}
+use Rattle.law_world.specs.Below.fkv_keeper.TheKeeping.{Keeping as KeeperStep}
+use Rattle.law_world.specs.Below.fkv_keeper.TheKeeping.TheVariants.{Maintains}
+use Rattle.law_world.specs.Below.fkv_keeper.Keeping.{KeeperState}
+use Rattle.law_world.specs.Below.fkv_pending.MailRecord.{MailRecord}
+use Rattle.law_world.specs.Below.fkv_pending.MailWorld.{Keeping, FindsState, Reads, GivesHeader, GivesKey, GivesValue, GivesReady}
 
 -- the keeper serves mailboxes in the last part of a turn
 abbrev pub maintain_serving : MaintainState → Maintaining → Serving

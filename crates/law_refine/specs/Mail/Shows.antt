@@ -1,14 +1,14 @@
 -- How a mailbox's world shows the engine's, and when its steps are permitted.
 use Rattle.std.specs.Prelude.{◌≡◌, ℕ, ◌<◌, false, List, [], ◌∷◌, slice_get, Option, Some, None, ⊤}
-use Rattle.fkv_pending.specs.MailWorld.{MailWorld, mail_run}
-use Rattle.fkv_pending.specs.Mailbox as mailbox
-use Rattle.fkv_pending.specs.Mailbox.{IsMailOpened}
-use Rattle.fkv_keeper.specs.KeeperRun as keeper
-use Rattle.fkv_keeper.specs.Keeping.{keeper_ask}
-use Rattle.fkv_session.specs.Sessions as sessions
-use Rattle.fkv_session.specs.Sessions.{SessionState, session_ask}
-use Rattle.fkv_world.specs.World.{Event, Moves, KeeperMoves, Now, seat_at}
-use Rattle.fkv_world.specs.Runs.{World, run}
+use Rattle.law_world.specs.Below.fkv_pending.MailWorld.{MailWorld, mail_run}
+use Rattle.law_world.specs.Below.fkv_pending.Mailbox as mailbox
+use Rattle.law_world.specs.Below.fkv_pending.Mailbox.{IsMailOpened}
+use Rattle.law_world.specs.Below.fkv_keeper.KeeperRun as keeper
+use Rattle.law_world.specs.Below.fkv_keeper.Keeping.{keeper_ask}
+use Rattle.law_world.specs.Below.fkv_session.Sessions as sessions
+use Rattle.law_world.specs.Below.fkv_session.Sessions.{SessionState, session_ask}
+use Rattle.law_world.specs.Below.fkv_world.World.{Event, Moves, KeeperMoves, Now, seat_at}
+use Rattle.law_world.specs.Below.fkv_world.Runs.{World, run}
 use Rattle.law_refine.specs.Footprint.{Spares, TheMailbox}
 use Rattle.law_refine.specs.Mail.MailEvents.{mapped}
 use Rattle.law_refine.specs.Mail.Mailers.{session_mailing, IsAsFar}

@@ -3,12 +3,12 @@ use Rattle.std.specs.Prelude.{◌≡◌, ℕ, ◌<◌, ◌≤◌, List, [], ◌�
 use Rattle.fkv_base.specs.declared.numbers.Addr.{Addr}
 use Rattle.fkv_record.specs.Numbers.{spelled}
 use Rattle.fkv_plane.specs.declared.places.RecordWord.TheVariants as rec
-use Rattle.fkv_flush.specs.GuardFlushed.{stands}
-use Rattle.fkv_flush.specs.GuardLevels.{levels_of}
-use Rattle.fkv_pending.specs.declared.mailing.MailRecord.{MailRecord}
-use Rattle.fkv_pending.specs.Mailbox.{MailNote}
-use Rattle.fkv_world.specs.World.{Event}
-use Rattle.fkv_world.specs.Runs.{World, run}
+use Rattle.law_world.specs.Below.fkv_flush.GuardFlushed.{stands}
+use Rattle.law_world.specs.Below.fkv_flush.GuardLevels.{levels_of}
+use Rattle.law_world.specs.Below.fkv_pending.MailRecord.{MailRecord}
+use Rattle.law_world.specs.Below.fkv_pending.Mailbox.{MailNote}
+use Rattle.law_world.specs.Below.fkv_world.World.{Event}
+use Rattle.law_world.specs.Below.fkv_world.Runs.{World, run}
 use Rattle.law_world.specs.Guarded.GuardEvents.{mapped}
 use Rattle.law_world.specs.Guarded.OpenedStore.{IsOpenedStore}
 use Rattle.law_world.specs.Guarded.Shows.{ArePermitted, guard_opening}

@@ -1,8 +1,8 @@
 -- What three words show of a record, and when the words that stand for records show the log's.
 use Rattle.std.specs.Prelude.{◌≡◌, ℕ, ◌≤◌}
-use Rattle.fkv_ops.specs.declared.header_words.HeaderSaid.TheVariants.{Says}
-use Rattle.fkv_ops.specs.HeaderWords.{header_said}
-use Rattle.fkv_ops.specs.Values.{value_of}
+use Rattle.law_world.specs.Below.fkv_ops.HeaderSaid.TheVariants.{Says}
+use Rattle.law_world.specs.Below.fkv_ops.HeaderWords.{header_said}
+use Rattle.law_world.specs.Below.fkv_ops.Values.{value_of}
 use Rattle.law_log.specs.Chains.{Cell, Published}
 use Rattle.law_log.specs.Ghosts.{Log}
 use Rattle.fkv_plane.specs.declared.places.RecordWord.{RecordWord}

@@ -2,9 +2,9 @@
 use Rattle.std.specs.Prelude.{◌≡◌, ⊤, ℕ, List, [], ◌∷◌, Option, Some, None, slice_get}
 use Rattle.law_world.specs.GuardSessions.InPlace.{changed_in_place}
 use Rattle.law_log.specs.Ghosts.{Log, Ghosts}
-use Rattle.fkv_session.specs.Sessions.{SessionState}
-use Rattle.fkv_world.specs.Runs.{World, run}
-use Rattle.fkv_world.specs.World.{Event, Moves, Now}
+use Rattle.law_world.specs.Below.fkv_session.Sessions.{SessionState}
+use Rattle.law_world.specs.Below.fkv_world.Runs.{World, run}
+use Rattle.law_world.specs.Below.fkv_world.World.{Event, Moves, Now}
 use Rattle.law_refine.specs.Events.GhostEvents.{life_ghosts}
 use Rattle.law_refine.specs.Events.Published.{IsPublished}
 

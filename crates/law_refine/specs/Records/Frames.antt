@@ -3,8 +3,8 @@ use Rattle.std.specs.Prelude.{◌≡◌, ⊤, ℕ, ◌+◌, ◌<◌, ◌≤◌, 
 use Rattle.fkv_base.specs.declared.shapes.Shape.{Shape}
 use Rattle.fkv_disk.specs.Bytes.{bytes_at}
 use Rattle.fkv_disk.specs.Calls.{Call}
-use Rattle.fkv_flush.specs.GuardFlushed.{MayShow}
-use Rattle.fkv_flush.specs.GuardLevels.{levels_of}
+use Rattle.law_world.specs.Below.fkv_flush.GuardFlushed.{MayShow}
+use Rattle.law_world.specs.Below.fkv_flush.GuardLevels.{levels_of}
 use Rattle.law_log.specs.Chains.{Cell, Published}
 use Rattle.law_log.specs.Ghosts.{Log}
 use Rattle.fkv_plane.specs.declared.places.RecordWord.{RecordWord}
@@ -13,10 +13,10 @@ use Rattle.fkv_plane.specs.Asked.{word_at}
 use Rattle.fkv_plane.specs.Places.{record_place}
 use Rattle.fkv_record.specs.Numbers.{spelled}
 use Rattle.fkv_record.specs.Places as image
-use Rattle.fkv_session.specs.declared.sessions.Sitting.{Sitting}
-use Rattle.fkv_session.specs.declared.sessions.Sitting.TheVariants.{Attempts, Polls}
-use Rattle.fkv_session.specs.Sessions.{SessionState}
-use Rattle.fkv_world.specs.World.{Now}
+use Rattle.law_world.specs.Below.fkv_session.Sitting.{Sitting}
+use Rattle.law_world.specs.Below.fkv_session.Sitting.TheVariants.{Attempts, Polls}
+use Rattle.law_world.specs.Below.fkv_session.Sessions.{SessionState}
+use Rattle.law_world.specs.Below.fkv_world.World.{Now}
 use Rattle.law_refine.specs.Events.Reserved.{tail_at}
 use Rattle.law_refine.specs.Records.Cells.{ShowsCell}
 

@@ -1,12 +1,12 @@
 -- What the laws of `records` say.
 use Rattle.std.specs.Prelude.{◌≡◌, ◌≤◌, ℕ, List, Some, slice_get}
-use Rattle.fkv_flush.specs.GuardFlushed.{IsSynced, stands}
-use Rattle.fkv_flush.specs.GuardLevels.{levels_of}
+use Rattle.law_world.specs.Below.fkv_flush.GuardFlushed.{IsSynced, stands}
+use Rattle.law_world.specs.Below.fkv_flush.GuardLevels.{levels_of}
 use Rattle.law_log.specs.Enabled.{AreEnabled}
 use Rattle.law_log.specs.Ghosts.{Ghosts}
-use Rattle.fkv_session.specs.Sessions.{SessionState}
-use Rattle.fkv_world.specs.Runs.{World, run}
-use Rattle.fkv_world.specs.World.{Event}
+use Rattle.law_world.specs.Below.fkv_session.Sessions.{SessionState}
+use Rattle.law_world.specs.Below.fkv_world.Runs.{World, run}
+use Rattle.law_world.specs.Below.fkv_world.World.{Event}
 use Rattle.law_world.specs.Guarded.GuardEvents as guarded
 use Rattle.law_world.specs.Guarded.OpenedStore.{IsOpenedStore}
 use Rattle.law_world.specs.Guarded.Shows as guard

@@ -2,13 +2,13 @@
 use Rattle.std.specs.Prelude.{◌≡◌, ◌⊎◌, ℕ, true, false, replicate, List, ◌∷◌, ◌++◌, Some, slice_get}
 use Rattle.fkv_map.specs.declared.operations.Call.TheVariants as call
 use Rattle.fkv_map.specs.declared.operations.Op.{Op}
-use Rattle.fkv_ops.specs.Requests.{is_read}
-use Rattle.fkv_session.specs.declared.answers.Told.{Told}
-use Rattle.fkv_session.specs.declared.answers.Told.TheVariants as told
-use Rattle.fkv_session.specs.Sessions.{SessionState, is_busy}
-use Rattle.fkv_world.specs.Past.{Effect}
-use Rattle.fkv_world.specs.Runs.{World, run}
-use Rattle.fkv_world.specs.World.{Event, Calls, Moves, Now}
+use Rattle.law_world.specs.Below.fkv_ops.Requests.{is_read}
+use Rattle.law_world.specs.Below.fkv_session.Told.{Told}
+use Rattle.law_world.specs.Below.fkv_session.Told.TheVariants as told
+use Rattle.law_world.specs.Below.fkv_session.Sessions.{SessionState, is_busy}
+use Rattle.law_world.specs.Below.fkv_world.Past.{Effect}
+use Rattle.law_world.specs.Below.fkv_world.Runs.{World, run}
+use Rattle.law_world.specs.Below.fkv_world.World.{Event, Calls, Moves, Now}
 
 -- the session of this number begins a call of an operation, and then makes so many moves, and nobody else does anything
 abbrev pub in_call : ℕ → ℕ → Op → List Event → List Event

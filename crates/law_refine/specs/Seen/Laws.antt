@@ -2,11 +2,11 @@
 use Rattle.std.specs.Prelude.{◌≡◌, ◌≤◌, ◌∷◌, ℕ, List, Some, false, slice_get, true}
 use Rattle.law_world.specs.GuardSessions.Followed.{is_turning}
 use Rattle.law_log.specs.Ghosts.{Ghosts}
-use Rattle.fkv_session.specs.Sessions.{SessionState, is_busy, session_ask}
+use Rattle.law_world.specs.Below.fkv_session.Sessions.{SessionState, is_busy, session_ask}
 use Rattle.law_local.specs.Tries.TryRows.{head_in}
-use Rattle.fkv_world.specs.Moves.{session_moved, session_replied}
-use Rattle.fkv_world.specs.Runs.{World, run}
-use Rattle.fkv_world.specs.World.{Event, near, seat_at}
+use Rattle.law_world.specs.Below.fkv_world.Moves.{session_moved, session_replied}
+use Rattle.law_world.specs.Below.fkv_world.Runs.{World, run}
+use Rattle.law_world.specs.Below.fkv_world.World.{Event, near, seat_at}
 use Rattle.law_world.specs.Guarded.Shows.{IsOpened}
 use Rattle.law_refine.specs.Events.GhostEvents.{life_ghosts, safe_at}
 use Rattle.law_refine.specs.Seen.Ops.{HasPlainOp}

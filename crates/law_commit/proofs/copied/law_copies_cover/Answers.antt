@@ -1,5 +1,5 @@
 -- The law, by where the entries of the index lead.
-use Rattle.fkv_checkpoint.proofs.Shown.{sound_left_out}
+use Rattle.law_refine.proofs.Below.fkv_checkpoint.Shown.{sound_left_out}
 use Rattle.law_commit.specs.Copied.Runs.{copy_events, opening_copy}
 use Rattle.law_commit.proofs.OfCopied.Began.{life_begun, life_since}
 use Rattle.law_commit.proofs.OfCopied.BegunFor.{life_begun_for}

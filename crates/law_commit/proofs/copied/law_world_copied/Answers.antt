@@ -1,5 +1,5 @@
 -- The law, by the law of a copy while others go on.
-use Rattle.fkv_checkpoint.proofs.Shown.{sound_left_out}
+use Rattle.law_refine.proofs.Below.fkv_checkpoint.Shown.{sound_left_out}
 use Rattle.law_commit.specs.Copied.Runs.{copy_events, opening_copy}
 use Rattle.law_commit.proofs.OfCopied.Lives.{life_copies, life_keeps, life_writes}
 use Rattle.law_commit.proofs.OfCopied.Sound.{life_sound}

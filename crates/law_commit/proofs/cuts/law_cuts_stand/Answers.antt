@@ -1,7 +1,7 @@
 -- By the law of cuts of a session's own run: what it has stored last stands.
 use Rattle.std.specs.Prelude.{ℕ}
 use Rattle.fkv_plane.specs.Asked.{word_at}
-use Rattle.fkv_world.specs.World.{seat_at}
+use Rattle.law_refine.specs.Below.fkv_world.World.{seat_at}
 use Rattle.law_commit.specs.Cuts.{stored_by_session, word_now}
 use Rattle.law_commit.proofs.OfCuts.Always.{always_told}
 use Rattle.law_commit.proofs.OfCuts.Left.{life_left}

@@ -2,22 +2,22 @@
 use Rattle.std.proofs.Common.{◌≡◌, ◌∙◌, refl, sym, subst, ℕ, List}
 use Rattle.fkv_base.specs.declared.shapes.Shape.{Shape}
 use Rattle.fkv_disk.specs.Bytes.{bytes_at}
-use Rattle.fkv_log.specs.declared.record_words.RecordWords.{RecordWords}
-use Rattle.fkv_opening.specs.Opened.{IsStoreOf}
-use Rattle.fkv_opening.specs.declared.opened_store.Opened.{Opened}
+use Rattle.law_refine.specs.Below.fkv_log.RecordWords.{RecordWords}
+use Rattle.law_paper.specs.Below.fkv_opening.Opened.{IsStoreOf}
+use Rattle.law_paper.specs.Below.fkv_opening.TheOpened.{Opened}
 use Rattle.law_opening.specs.Log.OpeningLog.{opening_log}
 use Rattle.law_opening.specs.Log.Records.{HasWhatCounts, IsCellOf, cell_of}
 use Rattle.law_log.specs.Chains.{Cell, Published}
-use Rattle.fkv_pairs.specs.Pairs.{log_of_store}
+use Rattle.law_paper.specs.Below.fkv_pairs.Pairs.{log_of_store}
 use Rattle.fkv_plane.specs.declared.places.RecordWord.{RecordWord}
 use Rattle.fkv_plane.specs.declared.places.RecordWord.TheVariants as rec
 use Rattle.fkv_record.proofs.Shown.{record_numbered}
 use Rattle.fkv_record.specs.Layout.{record_bytes}
 use Rattle.fkv_record.specs.Places.{record_place}
 use Rattle.fkv_record.specs.declared.records.Record.{Record}
-use Rattle.law_local.specs.Tries.MailRows.{LeadsTo}
+use Rattle.law_refine.specs.Below.law_local.Tries.MailRows.{LeadsTo}
 use Rattle.fkv_words.specs.Layout.{header_word}
-use Rattle.fkv_world.specs.World.{Now}
+use Rattle.law_refine.specs.Below.fkv_world.World.{Now}
 use Rattle.law_opening.specs.Changes.Images.{IsInImage}
 use Rattle.law_refine.proofs.OfRecords.Numbers.{filled_shows}
 

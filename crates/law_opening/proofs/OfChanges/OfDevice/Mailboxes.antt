@@ -7,12 +7,12 @@ use Rattle.fkv_base.specs.Limits.{last_serial}
 use Rattle.fkv_base.specs.declared.numbers.Serial.{Serial}
 use Rattle.fkv_core.specs.OpeningPlaces.{StandAsTold}
 use Rattle.fkv_core.specs.Openings.{IsOpeningWorld}
-use Rattle.fkv_flush.specs.GuardMail.{AreEmpty}
-use Rattle.fkv_opening.specs.Opening.{AreSessionWords, point_of}
-use Rattle.fkv_opening.specs.declared.opened_store.Opened.{Opened}
-use Rattle.fkv_opening.specs.declared.opening_words.SessionWords.{SessionWords}
+use Rattle.law_refine.specs.Below.fkv_flush.GuardMail.{AreEmpty}
+use Rattle.law_paper.specs.Below.fkv_opening.Opening.{AreSessionWords, point_of}
+use Rattle.law_paper.specs.Below.fkv_opening.TheOpened.{Opened}
+use Rattle.law_paper.specs.Below.fkv_opening.SessionWords.{SessionWords}
 use Rattle.fkv_words.specs.declared.cut_word.CutWord.{CutWord}
-use Rattle.fkv_world.specs.World.{Now}
+use Rattle.law_refine.specs.Below.fkv_world.World.{Now}
 
 pub point_small : (o : Opened) (session : ℕ) → session < o.shape.sessions → point_of o session < 2 ^ 48
 point_small o session there =

@@ -1,8 +1,8 @@
 -- The numbers of an opened store's log fit in words, since its records stand in the image.
 use Rattle.std.proofs.Common.{ℕ, sym, subst, List}
-use Rattle.fkv_opening.specs.Opened.{IsStoreOf}
-use Rattle.fkv_opening.specs.declared.opened_store.Opened.{Opened}
-use Rattle.fkv_pairs.specs.Pairs.{log_of_store}
+use Rattle.law_paper.specs.Below.fkv_opening.Opened.{IsStoreOf}
+use Rattle.law_paper.specs.Below.fkv_opening.TheOpened.{Opened}
+use Rattle.law_paper.specs.Below.fkv_pairs.Pairs.{log_of_store}
 use Rattle.fkv_record.specs.declared.records.Record.{Record}
 use Rattle.law_opening.specs.Log.OpeningLog.{opening_ghosts, opening_log}
 use Rattle.law_opening.specs.Log.Records.{HasWhatCounts, IsCellOf, cell_of}

@@ -6,16 +6,16 @@ use Rattle.fkv_base.specs.declared.shapes.Shape.{Shape}
 use Rattle.fkv_disk.proofs.Shown.{length-bytes_at, reads_within}
 use Rattle.fkv_disk.specs.Bytes.{bytes_at}
 use Rattle.fkv_disk.specs.Calls.{Call, ReadsAs, reads_as}
-use Rattle.fkv_flush.specs.GuardFlushed.{IsSynced, calls_made}
-use Rattle.fkv_flush.specs.GuardLevels.{levels_of}
+use Rattle.law_refine.specs.Below.fkv_flush.GuardFlushed.{IsSynced, calls_made}
+use Rattle.law_refine.specs.Below.fkv_flush.GuardLevels.{levels_of}
 use Rattle.fkv_map.specs.Fits.{NumberFits}
-use Rattle.fkv_ops.specs.HeaderWords.{header_said}
-use Rattle.fkv_pending.specs.declared.mailing.MailRecord.{MailRecord}
+use Rattle.law_refine.specs.Below.fkv_ops.HeaderWords.{header_said}
+use Rattle.law_refine.specs.Below.fkv_pending.MailRecord.{MailRecord}
 use Rattle.fkv_plane.specs.declared.places.RecordWord.TheVariants as rec
 use Rattle.fkv_record.specs.Places as image
-use Rattle.fkv_world.proofs.Shown.{shape_stays}
-use Rattle.fkv_world.specs.Runs.{World, run}
-use Rattle.fkv_world.specs.World.{Event}
+use Rattle.law_refine.proofs.Below.fkv_world.Shown.{shape_stays}
+use Rattle.law_refine.specs.Below.fkv_world.Runs.{World, run}
+use Rattle.law_refine.specs.Below.fkv_world.World.{Event}
 use Rattle.law_opening.proofs.OfChanges.Life.{life_holds}
 use Rattle.law_opening.proofs.OfChanges.LifeEvents.{life_low}
 use Rattle.law_opening.proofs.OfChanges.LifeLogs.{life_linked}
@@ -27,10 +27,10 @@ use Rattle.law_opening.specs.Changes.Fits.{CellFits}
 use Rattle.law_opening.specs.Changes.Images.{IsInImage}
 use Rattle.law_opening.specs.Changes.Laws.{BeginsFitting, BeginsLinked}
 use Rattle.law_opening.specs.Changes.Linked.{IsLed}
-use Rattle.law_world.proofs.OfGuarded.Flushed.{life_synced}
-use Rattle.law_world.specs.Guarded.GuardEvents as guarded
-use Rattle.law_world.specs.Guarded.OpenedStore.{IsOpenedStore}
-use Rattle.law_world.specs.Guarded.Shows.{ArePermitted, guard_opening}
+use Rattle.law_refine.proofs.Below.law_world.OfGuarded.Flushed.{life_synced}
+use Rattle.law_refine.specs.Below.law_world.Guarded.GuardEvents as guarded
+use Rattle.law_refine.specs.Below.law_world.Guarded.OpenedStore.{IsOpenedStore}
+use Rattle.law_refine.specs.Below.law_world.Guarded.Shows.{ArePermitted, guard_opening}
 use Rattle.law_log.specs.Chains.{Cell, Logged, Published, Unborn}
 use Rattle.law_log.specs.Ghosts.{Ghosts, Log}
 use Rattle.law_refine.specs.Mail.MailEvents.{record_read}
@@ -43,7 +43,7 @@ use Rattle.law_refine.proofs.OfRecords.Standing.{stands_in}
 use Rattle.law_refine.specs.Events.GhostEvents.{life_ghosts}
 use Rattle.law_refine.specs.Events.Published.{IsPublished}
 use Rattle.law_refine.specs.Records.Cells.{ShowsCell}
-use Rattle.law_world.proofs.OfKeeper.OwnCalls.{opened_stays}
+use Rattle.law_refine.proofs.Below.law_world.OfKeeper.OwnCalls.{opened_stays}
 
 -- the calls of the guard's run are those of the life
 abbrev pub CallsLaw : Type 0

@@ -4,12 +4,12 @@ use Rattle.std.specs.Prelude.{◌==◌, ◌&&◌, not, if◌then◌else◌, Opti
 use Rattle.std.proofs.lemmas.Bool.Decides.{nat_tests}
 use Rattle.fkv_base.specs.declared.numbers.Addr.{Addr}
 use Rattle.fkv_base.specs.declared.numbers.Version.{Version}
-use Rattle.fkv_flush.specs.declared.serving.Mail.{Mail}
-use Rattle.fkv_flush.specs.GuardMail.{GivesWords}
+use Rattle.law_refine.specs.Below.fkv_flush.Mail.{Mail}
+use Rattle.law_refine.specs.Below.fkv_flush.GuardMail.{GivesWords}
 use Rattle.fkv_map.specs.Map.{absent_word}
-use Rattle.fkv_ops.specs.declared.header_words.HeaderSaid.TheVariants.{Says, Spoiled}
-use Rattle.fkv_ops.specs.HeaderWords.{header_said, version_in, previous_in}
-use Rattle.fkv_ops.specs.Values.{value_of}
+use Rattle.law_refine.specs.Below.fkv_ops.HeaderSaid.TheVariants.{Says, Spoiled}
+use Rattle.law_refine.specs.Below.fkv_ops.HeaderWords.{header_said, version_in, previous_in}
+use Rattle.law_refine.specs.Below.fkv_ops.Values.{value_of}
 use Rattle.fkv_record.specs.Numbers.{spelled}
 use Rattle.law_refine.specs.Mail.MailEvents.{record_read}
 use Rattle.law_refine.specs.Mail.Servers.{record_of}

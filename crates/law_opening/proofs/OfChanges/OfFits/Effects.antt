@@ -1,17 +1,17 @@
 -- All that has taken effect in a life was called, so its operations fit in words.
 use Rattle.std.proofs.Common.{inl, inr, sym, subst, List, [], ◌∷◌}
 use Rattle.fkv_map.specs.Fits.{OpFits}
-use Rattle.fkv_world.specs.Opened.{IsOpenedWorld}
-use Rattle.fkv_world.specs.Past as world
-use Rattle.fkv_world.specs.Runs.{World, run}
-use Rattle.fkv_world.specs.World.{Event}
+use Rattle.law_refine.specs.Below.fkv_world.Opened.{IsOpenedWorld}
+use Rattle.law_refine.specs.Below.fkv_world.Past as world
+use Rattle.law_refine.specs.Below.fkv_world.Runs.{World, run}
+use Rattle.law_refine.specs.Below.fkv_world.World.{Event}
 use Rattle.law_opening.proofs.OfChanges.OfFits.Lines.{FoundFits, called_fits, life_lines_fit}
 use Rattle.law_opening.proofs.OfChanges.OfFits.Logs.{AllOpsFit}
 use Rattle.law_opening.specs.Changes.Fits.{CallsFit}
 use Rattle.law_refine.proofs.OfCalls.InHand.{effect_in_hand}
 use Rattle.law_refine.specs.Calls.Calls.{effects_in_log, effects_of_life, entries_of, lines_of_life}
-use Rattle.law_world.proofs.OfRuns.Added.{history_so}
-use Rattle.law_world.specs.Runs.Added.{IsEffectOf}
+use Rattle.law_refine.proofs.Below.law_world.OfRuns.Added.{history_so}
+use Rattle.law_refine.specs.Below.law_world.Runs.Added.{IsEffectOf}
 
 abbrev EntriesFit : List world.Effect → Type 0
 EntriesFit effects = AllOpsFit (entries_of (effects_in_log effects))

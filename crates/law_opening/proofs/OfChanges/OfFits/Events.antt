@@ -2,45 +2,45 @@
 use Rattle.std.proofs.Common.{◌≡◌, ℕ, refl, sym, subst, Bool, true, false, List, [], ◌∷◌}
 use Rattle.std.specs.Prelude.{◌==◌, if◌then◌else◌}
 use Rattle.fkv_index.specs.declared.finding.Found.{Found}
-use Rattle.fkv_log.specs.declared.record_words.RecordWords.{RecordWords}
-use Rattle.fkv_log.specs.declared.reserving.ReserveAnswer.{ReserveAnswer}
-use Rattle.fkv_log.specs.declared.reserving.ReserveAnswer.TheVariants.{Reserved}
+use Rattle.law_refine.specs.Below.fkv_log.RecordWords.{RecordWords}
+use Rattle.law_refine.specs.Below.fkv_log.ReserveAnswer.{ReserveAnswer}
+use Rattle.law_refine.specs.Below.fkv_log.ReserveAnswer.TheVariants.{Reserved}
 use Rattle.fkv_map.specs.Fits.{OpFits}
 use Rattle.fkv_map.specs.Keys.{reply_from}
 use Rattle.fkv_map.specs.declared.history.HistoryEntry.{HistoryEntry}
 use Rattle.fkv_map.specs.declared.operations.Op.{Op}
 use Rattle.fkv_map.specs.declared.operations.Op.TheVariants.{Read}
-use Rattle.fkv_ops.specs.Appending.{AppendState}
-use Rattle.fkv_ops.specs.Trying.{TryState}
-use Rattle.fkv_ops.specs.Values.{value_of}
-use Rattle.fkv_ops.specs.declared.answers.TryAnswer.{TryAnswer}
-use Rattle.fkv_ops.specs.declared.answers.TryAnswer.TheVariants as answer
-use Rattle.fkv_ops.specs.declared.appending.Appending.{Appending}
-use Rattle.fkv_ops.specs.declared.requests.Request.{Request}
-use Rattle.fkv_ops.specs.declared.trying.Trying.{Trying}
-use Rattle.fkv_ops.specs.declared.trying.Trying.TheVariants.{Walks, ChangesValue, SwapsValue, Appends}
-use Rattle.fkv_pending.specs.Attempting.{AttemptState, attempt_ask, attempt_next}
-use Rattle.fkv_pending.specs.declared.attempting.Attempting.{Attempting}
-use Rattle.fkv_pending.specs.declared.attempting.Attempting.TheVariants.{Tries}
-use Rattle.fkv_pending.specs.declared.pending_requests.PendingRequest.{PendingRequest}
+use Rattle.law_refine.specs.Below.fkv_ops.Appending.{AppendState}
+use Rattle.law_refine.specs.Below.fkv_ops.Trying.{TryState}
+use Rattle.law_refine.specs.Below.fkv_ops.Values.{value_of}
+use Rattle.law_refine.specs.Below.fkv_ops.TryAnswer.{TryAnswer}
+use Rattle.law_refine.specs.Below.fkv_ops.TryAnswer.TheVariants as answer
+use Rattle.law_refine.specs.Below.fkv_ops.TheAppending.{Appending}
+use Rattle.law_refine.specs.Below.fkv_ops.Request.{Request}
+use Rattle.law_refine.specs.Below.fkv_ops.TheTrying.{Trying}
+use Rattle.law_refine.specs.Below.fkv_ops.TheTrying.TheVariants.{Walks, ChangesValue, SwapsValue, Appends}
+use Rattle.law_refine.specs.Below.fkv_pending.Attempting.{AttemptState, attempt_ask, attempt_next}
+use Rattle.law_refine.specs.Below.fkv_pending.TheAttempting.{Attempting}
+use Rattle.law_refine.specs.Below.fkv_pending.TheAttempting.TheVariants.{Tries}
+use Rattle.law_refine.specs.Below.fkv_pending.PendingRequest.{PendingRequest}
 use Rattle.fkv_plane.specs.Asked.{reply_to}
 use Rattle.fkv_plane.specs.declared.asks.Ask.{Ask}
 use Rattle.fkv_plane.specs.declared.asks.Ask.TheVariants.{Put, Take, Done}
 use Rattle.fkv_plane.specs.declared.places.Places.{Places}
-use Rattle.fkv_session.specs.Sessions.{Seat, SessionState, bits_of, room_of}
-use Rattle.fkv_session.specs.declared.answers.Told.{Told}
-use Rattle.fkv_session.specs.declared.sessions.Sitting.{Sitting}
-use Rattle.fkv_session.specs.declared.sessions.Sitting.TheVariants.{Attempts, Polls}
-use Rattle.fkv_world.specs.Past.{Traced}
+use Rattle.law_refine.specs.Below.fkv_session.Sessions.{Seat, SessionState, bits_of, room_of}
+use Rattle.law_refine.specs.Below.fkv_session.Told.{Told}
+use Rattle.law_refine.specs.Below.fkv_session.Sitting.{Sitting}
+use Rattle.law_refine.specs.Below.fkv_session.Sitting.TheVariants.{Attempts, Polls}
+use Rattle.law_refine.specs.Below.fkv_world.Past.{Traced}
 use Rattle.law_opening.proofs.OfChanges.OfFits.Logs.{AllMakeFit, both_make}
 use Rattle.law_opening.proofs.OfChanges.OfFits.Numbers.{said_fits}
 use Rattle.law_opening.proofs.OfChanges.OfFits.Rows.{AttemptOk, TryRow, WordsOk}
 use Rattle.law_opening.proofs.OfChanges.Told.{goes_so}
 use Rattle.law_opening.specs.Changes.Fits.{CellFits}
-use Rattle.law_world.specs.GuardSessions.Tries.{is_for_entry}
-use Rattle.law_local.specs.Sessions.Inputs.{AttemptsBy, TriesFor}
-use Rattle.law_local.specs.Sessions.Known.{is_attempting}
-use Rattle.law_local.specs.Tries.TryRows.{cell_of}
+use Rattle.law_refine.specs.Below.law_world.GuardSessions.Tries.{is_for_entry}
+use Rattle.law_refine.specs.Below.law_local.Sessions.Inputs.{AttemptsBy, TriesFor}
+use Rattle.law_refine.specs.Below.law_local.Sessions.Known.{is_attempting}
+use Rattle.law_refine.specs.Below.law_local.Tries.TryRows.{cell_of}
 use Rattle.law_log.specs.Ghosts.{Changes, Drops, Log, Reserves}
 use Rattle.law_refine.specs.Events.Appends.{append_ghosts, entry_made, reserved_ghosts}
 use Rattle.law_refine.specs.Events.Lines.{read_in_hand, read_waiting}

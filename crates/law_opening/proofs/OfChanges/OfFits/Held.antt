@@ -1,12 +1,12 @@
 -- What holds of numbers at each moment of a life, and how it goes from moment to moment.
 use Rattle.std.proofs.Common.{◌≡◌, ℕ, ◌<◌, ◌≤◌, arith, subst, List, [], ◌∷◌, ◌++◌}
 use Rattle.std.specs.Prelude.{Some, slice_get}
-use Rattle.fkv_flush.specs.GuardLevels.{levels_of}
-use Rattle.fkv_ops.specs.declared.header_words.HeaderSaid.{HeaderSaid}
-use Rattle.fkv_pending.specs.declared.mailing.MailRecord.{MailRecord}
-use Rattle.fkv_session.specs.Sessions.{SessionState}
-use Rattle.fkv_world.specs.Runs.{World, run}
-use Rattle.fkv_world.specs.World.{Event}
+use Rattle.law_refine.specs.Below.fkv_flush.GuardLevels.{levels_of}
+use Rattle.law_refine.specs.Below.fkv_ops.HeaderSaid.{HeaderSaid}
+use Rattle.law_refine.specs.Below.fkv_pending.MailRecord.{MailRecord}
+use Rattle.law_refine.specs.Below.fkv_session.Sessions.{SessionState}
+use Rattle.law_refine.specs.Below.fkv_world.Runs.{World, run}
+use Rattle.law_refine.specs.Below.fkv_world.World.{Event}
 use Rattle.law_opening.proofs.OfChanges.LifeLogs.{life_stays}
 use Rattle.law_opening.proofs.OfChanges.OfFits.Logs.{LogOk, LoggedOk}
 use Rattle.law_opening.proofs.OfChanges.OfFits.Mails.{PastOk}
@@ -14,7 +14,7 @@ use Rattle.law_opening.proofs.OfChanges.OfFits.Rows.{AttemptOk, PendingOk, Recor
 use Rattle.law_opening.proofs.OfChanges.Rows.{Stays}
 use Rattle.law_opening.specs.Changes.Fits.{CellsFit}
 use Rattle.law_opening.specs.Changes.Laws.{BeginsLinked}
-use Rattle.law_local.specs.Sessions.Known.{KnowsRequests}
+use Rattle.law_refine.specs.Below.law_local.Sessions.Known.{KnowsRequests}
 use Rattle.law_log.specs.Ghosts.{Ghosts, Log}
 use Rattle.law_refine.specs.Mail.Reads.{mail_past}
 use Rattle.law_refine.proofs.OfEvents.Fixed.{life_rises}

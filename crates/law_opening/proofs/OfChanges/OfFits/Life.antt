@@ -3,31 +3,31 @@ use Rattle.std.proofs.Common.{◌≡◌, ℕ, ◌^◌, ◌<◌, ◌≤◌, ◌�
 use Rattle.std.proofs.lemmas.Bool.Decides.{nat_tests}
 use Rattle.std.specs.Prelude.{◌==◌, map, nat_lt, if◌then◌else◌, Option, Some, None, slice_get}
 use Rattle.fkv_epoch.proofs.Shown.{some_same}
-use Rattle.fkv_flush.specs.declared.serving.Serving.{Serving}
-use Rattle.fkv_flush.specs.declared.serving.Serving.TheVariants as serve
-use Rattle.fkv_keeper.specs.Keeping.{keeper_ask}
+use Rattle.law_refine.specs.Below.fkv_flush.TheServing.{Serving}
+use Rattle.law_refine.specs.Below.fkv_flush.TheServing.TheVariants as serve
+use Rattle.law_refine.specs.Below.fkv_keeper.Keeping.{keeper_ask}
 use Rattle.fkv_map.specs.declared.operations.Call.{Call}
-use Rattle.fkv_ops.specs.declared.requests.Occasion.TheVariants.{Call as AtCall, Poll as AtPoll}
-use Rattle.fkv_pending.specs.Attempting.{AttemptState}
-use Rattle.fkv_pending.specs.MailWorld.{MailEvent, mailbox_of}
-use Rattle.fkv_pending.specs.Mailbox.{past_of}
-use Rattle.fkv_pending.specs.declared.attempting.Attempting.{Attempting}
-use Rattle.fkv_pending.specs.declared.attempting.Attempting.TheVariants as attempting
-use Rattle.fkv_pending.specs.declared.mailing.MailRecord.{MailRecord}
-use Rattle.fkv_pending.specs.declared.mailing.MailTask.TheVariants.{Clear, Put, Take}
-use Rattle.fkv_pending.specs.declared.mailing.Mailing.{Mailing}
-use Rattle.fkv_pending.specs.declared.mailing.Mailing.TheVariants as mailing
-use Rattle.fkv_pending.specs.declared.pending_requests.PendingRequest.{PendingRequest}
+use Rattle.law_refine.specs.Below.fkv_ops.Occasion.TheVariants.{Call as AtCall, Poll as AtPoll}
+use Rattle.law_refine.specs.Below.fkv_pending.Attempting.{AttemptState}
+use Rattle.law_refine.specs.Below.fkv_pending.MailWorld.{MailEvent, mailbox_of}
+use Rattle.law_refine.specs.Below.fkv_pending.Mailbox.{past_of}
+use Rattle.law_refine.specs.Below.fkv_pending.TheAttempting.{Attempting}
+use Rattle.law_refine.specs.Below.fkv_pending.TheAttempting.TheVariants as attempting
+use Rattle.law_refine.specs.Below.fkv_pending.MailRecord.{MailRecord}
+use Rattle.law_refine.specs.Below.fkv_pending.MailTask.TheVariants.{Clear, Put, Take}
+use Rattle.law_refine.specs.Below.fkv_pending.TheMailing.{Mailing}
+use Rattle.law_refine.specs.Below.fkv_pending.TheMailing.TheVariants as mailing
+use Rattle.law_refine.specs.Below.fkv_pending.PendingRequest.{PendingRequest}
 use Rattle.fkv_plane.specs.Asked.{reply_to}
 use Rattle.fkv_plane.specs.declared.asks.Ask.{Ask}
-use Rattle.fkv_session.specs.Sessions.{SessionState, Seat, bits_of, is_busy, request_in_hand, room_of, session_ask, session_next}
-use Rattle.fkv_session.specs.declared.sessions.Sitting.{Sitting}
-use Rattle.fkv_session.specs.declared.sessions.Sitting.TheVariants.{Attempts, ClearsMail, Polls}
-use Rattle.fkv_world.proofs.Shown.{is_over, same_seat, session_written}
-use Rattle.fkv_world.specs.Actors.{is_of_session, session_goes}
-use Rattle.fkv_world.specs.Moves.{Near, session_moved}
-use Rattle.fkv_world.specs.Runs.{World, happens, read_by_keeper, run}
-use Rattle.fkv_world.specs.World.{Event, Calls, Commits, Crashes, KeeperMoves, Moves, Now, Turns, near, seat_at, session_called}
+use Rattle.law_refine.specs.Below.fkv_session.Sessions.{SessionState, Seat, bits_of, is_busy, request_in_hand, room_of, session_ask, session_next}
+use Rattle.law_refine.specs.Below.fkv_session.Sitting.{Sitting}
+use Rattle.law_refine.specs.Below.fkv_session.Sitting.TheVariants.{Attempts, ClearsMail, Polls}
+use Rattle.law_refine.proofs.Below.fkv_world.Shown.{is_over, same_seat, session_written}
+use Rattle.law_refine.specs.Below.fkv_world.Actors.{is_of_session, session_goes}
+use Rattle.law_refine.specs.Below.fkv_world.Moves.{Near, session_moved}
+use Rattle.law_refine.specs.Below.fkv_world.Runs.{World, happens, read_by_keeper, run}
+use Rattle.law_refine.specs.Below.fkv_world.World.{Event, Calls, Commits, Crashes, KeeperMoves, Moves, Now, Turns, near, seat_at, session_called}
 use Rattle.law_opening.proofs.OfChanges.Life.{life_holds, life_told}
 use Rattle.law_opening.proofs.OfChanges.LifeEvents.{life_falls}
 use Rattle.law_opening.proofs.OfChanges.OfDevice.There.{CallsLaw}
@@ -50,9 +50,9 @@ use Rattle.law_opening.proofs.OfChanges.OfSessions.Comes.{SessionComes, Begins, 
 use Rattle.law_opening.proofs.OfChanges.OfSessions.Heads.{head_flushed}
 use Rattle.law_opening.specs.Changes.Fits.{CallsFit, CellFits}
 use Rattle.law_opening.specs.Changes.Laws.{BeginsFitting}
-use Rattle.law_local.proofs.OfSessions.Known.{begun_known, next_known, opened_known, stays_known}
-use Rattle.law_local.specs.Sessions.Inputs.{AttemptsSo}
-use Rattle.law_local.specs.Sessions.Known.{attempt_after, catch_after, caught_up_at, is_attempting, with_op}
+use Rattle.law_refine.proofs.Below.law_local.OfSessions.Known.{begun_known, next_known, opened_known, stays_known}
+use Rattle.law_refine.specs.Below.law_local.Sessions.Inputs.{AttemptsSo}
+use Rattle.law_refine.specs.Below.law_local.Sessions.Known.{attempt_after, catch_after, caught_up_at, is_attempting, with_op}
 use Rattle.law_log.specs.Chains.{Cell, Logged, Unborn, Reserved, Published, Dropped}
 use Rattle.law_log.specs.Ghosts.{Ghosts, GhostEvent, Log, Tells, Fixes, ghost_run}
 use Rattle.law_log.specs.Trace.{TraceLine}

@@ -6,22 +6,22 @@ use Rattle.fkv_map.specs.declared.operations.Call.TheVariants as call
 use Rattle.fkv_map.specs.declared.operations.Op.{Op}
 use Rattle.fkv_map.specs.declared.operations.Op.TheVariants.{Upsert, Delete, Add, Max, Read}
 use Rattle.law_log.specs.Trace.{TraceLine, CallsUpdate, RefusesUpdate, GivesResult, CallsRead, AnswersRead, called_as}
-use Rattle.fkv_keeper.specs.declared.keepers.Keeping.{Keeping}
-use Rattle.fkv_keeper.specs.declared.keepers.Keeping.TheVariants.{Ended}
-use Rattle.fkv_keeper.specs.Keeping.{Finality}
-use Rattle.fkv_keeper.specs.KeeperRun.{is_in_hand}
-use Rattle.fkv_session.specs.declared.answers.Finished.{Finished}
-use Rattle.fkv_session.specs.declared.answers.Finished.TheVariants as finished
-use Rattle.fkv_session.specs.declared.answers.Told.{Told}
-use Rattle.fkv_session.specs.declared.answers.Told.TheVariants as told
-use Rattle.fkv_session.specs.declared.sessions.Sitting.{Sitting}
-use Rattle.fkv_session.specs.declared.sessions.Sitting.TheVariants.{Idle}
-use Rattle.fkv_session.specs.Sessions.{SessionState, is_busy}
-use Rattle.law_world.specs.Runs.Added.{told_at, call_begun, begun_by, call_answered, session_answered, keeper_told, ended_by, told_by, is_calling}
-use Rattle.fkv_world.specs.Past.{Traced, TraceEvent, Called, Answered, CommitAsked, TurnAsked}
-use Rattle.fkv_world.specs.Runs.{World, happens, run}
-use Rattle.fkv_world.specs.World.{Event, Calls, Moves, Commits, Turns, KeeperMoves, Crashes, Now}
-use Rattle.law_world.proofs.OfRuns.Added.{trace_so}
+use Rattle.law_refine.specs.Below.fkv_keeper.TheKeeping.{Keeping}
+use Rattle.law_refine.specs.Below.fkv_keeper.TheKeeping.TheVariants.{Ended}
+use Rattle.law_refine.specs.Below.fkv_keeper.Keeping.{Finality}
+use Rattle.law_refine.specs.Below.fkv_keeper.KeeperRun.{is_in_hand}
+use Rattle.law_refine.specs.Below.fkv_session.Finished.{Finished}
+use Rattle.law_refine.specs.Below.fkv_session.Finished.TheVariants as finished
+use Rattle.law_refine.specs.Below.fkv_session.Told.{Told}
+use Rattle.law_refine.specs.Below.fkv_session.Told.TheVariants as told
+use Rattle.law_refine.specs.Below.fkv_session.Sitting.{Sitting}
+use Rattle.law_refine.specs.Below.fkv_session.Sitting.TheVariants.{Idle}
+use Rattle.law_refine.specs.Below.fkv_session.Sessions.{SessionState, is_busy}
+use Rattle.law_refine.specs.Below.law_world.Runs.Added.{told_at, call_begun, begun_by, call_answered, session_answered, keeper_told, ended_by, told_by, is_calling}
+use Rattle.law_refine.specs.Below.fkv_world.Past.{Traced, TraceEvent, Called, Answered, CommitAsked, TurnAsked}
+use Rattle.law_refine.specs.Below.fkv_world.Runs.{World, happens, run}
+use Rattle.law_refine.specs.Below.fkv_world.World.{Event, Calls, Moves, Commits, Turns, KeeperMoves, Crashes, Now}
+use Rattle.law_refine.proofs.Below.law_world.OfRuns.Added.{trace_so}
 use Rattle.law_refine.specs.Calls.Calls.{lines_of_life}
 use Rattle.law_refine.specs.Events.GhostEvents.{serials_in}
 use Rattle.law_refine.specs.Events.Lines.{CallMade, op_line, call_lines, finished_line, finished_lines, refused_op, refused_call, refused_lines, answer_lines, event_lines, lines_of, last_call, next_serial}

@@ -1,15 +1,15 @@
 -- Whatever a session asks for in its mailbox is there.
 use Rattle.std.proofs.Common.{ℕ, ◌≤◌, Bool, true, false, List, [], ◌∷◌, ◌++◌, Option, Some, None}
 use Rattle.std.specs.Prelude.{⊤, ◌&&◌, not, if◌then◌else◌, ◌==◌}
-use Rattle.fkv_pending.specs.Mailbox.{MailNote, HasAskedFor, WasServed, HasTaken, HasLetGo, MailPast, asked_notes, answered_notes, asked_then, past_after, past_moved, past_of, served_notes}
-use Rattle.fkv_pending.specs.MailWorld.{Keeping, GivesReady, Mailbox, MailEvent, MailWorld, Begins, BeginsPut, Moves, Serves, Changes, has_emptied, is_at_end, mail_happens, mail_run, mailbox_of}
-use Rattle.fkv_pending.specs.Mailing.{mail_asked}
-use Rattle.fkv_pending.specs.declared.mailing.MailAnswer.{MailAnswer}
-use Rattle.fkv_pending.specs.declared.mailing.MailAnswer.TheVariants.{Cleared, Taken}
-use Rattle.fkv_pending.specs.declared.mailing.MailTask.{MailTask}
-use Rattle.fkv_pending.specs.declared.mailing.MailTask.TheVariants as task
-use Rattle.fkv_pending.specs.declared.mailing.Mailing.{Mailing}
-use Rattle.fkv_pending.specs.declared.mailing.Mailing.TheVariants as mailing
+use Rattle.law_refine.specs.Below.fkv_pending.Mailbox.{MailNote, HasAskedFor, WasServed, HasTaken, HasLetGo, MailPast, asked_notes, answered_notes, asked_then, past_after, past_moved, past_of, served_notes}
+use Rattle.law_refine.specs.Below.fkv_pending.MailWorld.{Keeping, GivesReady, Mailbox, MailEvent, MailWorld, Begins, BeginsPut, Moves, Serves, Changes, has_emptied, is_at_end, mail_happens, mail_run, mailbox_of}
+use Rattle.law_refine.specs.Below.fkv_pending.Mailing.{mail_asked}
+use Rattle.law_refine.specs.Below.fkv_pending.MailAnswer.{MailAnswer}
+use Rattle.law_refine.specs.Below.fkv_pending.MailAnswer.TheVariants.{Cleared, Taken}
+use Rattle.law_refine.specs.Below.fkv_pending.MailTask.{MailTask}
+use Rattle.law_refine.specs.Below.fkv_pending.MailTask.TheVariants as task
+use Rattle.law_refine.specs.Below.fkv_pending.TheMailing.{Mailing}
+use Rattle.law_refine.specs.Below.fkv_pending.TheMailing.TheVariants as mailing
 use Rattle.fkv_plane.specs.Passing.{is_done}
 use Rattle.fkv_plane.specs.declared.asks.Ask.{Ask}
 use Rattle.fkv_plane.specs.declared.asks.Ask.TheVariants.{Put, Take, Done}

@@ -6,7 +6,7 @@ use Rattle.fkv_map.specs.Keys.{key_of, value_applied}
 use Rattle.fkv_map.specs.Map.{absent_word, greatest_value}
 use Rattle.fkv_map.specs.declared.operations.Op.{Op}
 use Rattle.fkv_map.specs.declared.operations.Op.TheVariants.{Upsert, Delete, Add, Max, Read}
-use Rattle.fkv_ops.specs.Values.{value_of, word_of}
+use Rattle.law_refine.specs.Below.fkv_ops.Values.{value_of, word_of}
 use Rattle.law_opening.specs.Changes.Fits.{ValueFits}
 
 -- ---- what an operation makes of a value

@@ -1,33 +1,33 @@
 -- What a session that attempts something knows by its control state of numbers: what it has loaded fits in a word, and what it seeks on the device is there.
 use Rattle.std.proofs.Common.{◌≡◌, ◌⊎◌, inl, inr, ℕ, ◌<◌, ◌≤◌, arith, false, subst, Option, Some, None}
 use Rattle.std.specs.Prelude.{⊤, ◌==◌}
-use Rattle.fkv_log.specs.declared.loading.Loading.{Loading}
-use Rattle.fkv_log.specs.declared.loading.Loading.TheVariants as load
-use Rattle.fkv_log.specs.declared.record_words.RecordWords.{RecordWords}
+use Rattle.law_refine.specs.Below.fkv_log.TheLoading.{Loading}
+use Rattle.law_refine.specs.Below.fkv_log.TheLoading.TheVariants as load
+use Rattle.law_refine.specs.Below.fkv_log.RecordWords.{RecordWords}
 use Rattle.fkv_map.specs.Fits.{NumberFits, OpFits}
-use Rattle.fkv_ops.specs.Trying.{TryState}
-use Rattle.fkv_ops.specs.Walking.{WalkState}
-use Rattle.fkv_ops.specs.declared.answers.DiskRecord.{DiskRecord}
-use Rattle.fkv_ops.specs.declared.answers.TryAnswer.{TryAnswer}
-use Rattle.fkv_ops.specs.declared.answers.TryAnswer.TheVariants as answer
-use Rattle.fkv_ops.specs.declared.header_words.HeaderSaid.{HeaderSaid}
-use Rattle.fkv_ops.specs.declared.header_words.HeaderSaid.TheVariants.{Says, Spoiled}
-use Rattle.fkv_ops.specs.declared.requests.HeldRecord.{HeldRecord}
-use Rattle.fkv_ops.specs.declared.trying.OldValue.{OldValue}
-use Rattle.fkv_ops.specs.declared.trying.OldValue.TheVariants.{InMemory, Known}
-use Rattle.fkv_ops.specs.declared.trying.Trying.{Trying}
-use Rattle.fkv_ops.specs.declared.trying.Trying.TheVariants.{Ended, TakesExclusive, Appends, DropsExclusive, DropsShared}
-use Rattle.fkv_ops.specs.declared.walking.WalkAnswer.{WalkAnswer}
-use Rattle.fkv_ops.specs.declared.walking.WalkAnswer.TheVariants as walk
-use Rattle.fkv_ops.specs.declared.walking.Walking.{Walking}
-use Rattle.fkv_ops.specs.declared.walking.Walking.TheVariants as walking
-use Rattle.fkv_pending.specs.Attempting.{AttemptState}
-use Rattle.fkv_pending.specs.declared.mailing.MailRecord.{MailRecord}
-use Rattle.fkv_pending.specs.declared.mailing.MailTask.{MailTask}
-use Rattle.fkv_pending.specs.declared.mailing.MailTask.TheVariants.{Clear, Take, Put}
-use Rattle.fkv_pending.specs.declared.mailing.Mailing.{Mailing}
-use Rattle.fkv_pending.specs.declared.mailing.Mailing.TheVariants as mailing
-use Rattle.fkv_pending.specs.declared.pending_requests.PendingRequest.{PendingRequest}
+use Rattle.law_refine.specs.Below.fkv_ops.Trying.{TryState}
+use Rattle.law_refine.specs.Below.fkv_ops.Walking.{WalkState}
+use Rattle.law_refine.specs.Below.fkv_ops.DiskRecord.{DiskRecord}
+use Rattle.law_refine.specs.Below.fkv_ops.TryAnswer.{TryAnswer}
+use Rattle.law_refine.specs.Below.fkv_ops.TryAnswer.TheVariants as answer
+use Rattle.law_refine.specs.Below.fkv_ops.HeaderSaid.{HeaderSaid}
+use Rattle.law_refine.specs.Below.fkv_ops.HeaderSaid.TheVariants.{Says, Spoiled}
+use Rattle.law_refine.specs.Below.fkv_ops.HeldRecord.{HeldRecord}
+use Rattle.law_refine.specs.Below.fkv_ops.OldValue.{OldValue}
+use Rattle.law_refine.specs.Below.fkv_ops.OldValue.TheVariants.{InMemory, Known}
+use Rattle.law_refine.specs.Below.fkv_ops.TheTrying.{Trying}
+use Rattle.law_refine.specs.Below.fkv_ops.TheTrying.TheVariants.{Ended, TakesExclusive, Appends, DropsExclusive, DropsShared}
+use Rattle.law_refine.specs.Below.fkv_ops.WalkAnswer.{WalkAnswer}
+use Rattle.law_refine.specs.Below.fkv_ops.WalkAnswer.TheVariants as walk
+use Rattle.law_refine.specs.Below.fkv_ops.TheWalking.{Walking}
+use Rattle.law_refine.specs.Below.fkv_ops.TheWalking.TheVariants as walking
+use Rattle.law_refine.specs.Below.fkv_pending.Attempting.{AttemptState}
+use Rattle.law_refine.specs.Below.fkv_pending.MailRecord.{MailRecord}
+use Rattle.law_refine.specs.Below.fkv_pending.MailTask.{MailTask}
+use Rattle.law_refine.specs.Below.fkv_pending.MailTask.TheVariants.{Clear, Take, Put}
+use Rattle.law_refine.specs.Below.fkv_pending.TheMailing.{Mailing}
+use Rattle.law_refine.specs.Below.fkv_pending.TheMailing.TheVariants as mailing
+use Rattle.law_refine.specs.Below.fkv_pending.PendingRequest.{PendingRequest}
 use Rattle.law_opening.proofs.OfChanges.Rows.{IsAt, Stays}
 use Rattle.law_log.specs.Ghosts.{Log}
 use Rattle.law_refine.specs.Events.Published.{IsPublished}

@@ -1,23 +1,23 @@
 -- What an attempt takes from its session's mailbox fits in words, since it was read where a record was there.
 use Rattle.std.proofs.Common.{◌≡◌, ℕ, ◌<◌, ◌∙◌, refl, sym, ap, subst, true, false, List, ◌∷◌, ◌++◌}
 use Rattle.std.specs.Prelude.{Some, slice_get}
-use Rattle.fkv_ops.specs.HeaderWords.{header_said}
-use Rattle.fkv_ops.specs.declared.answers.TryAnswer.TheVariants as answer
-use Rattle.fkv_pending.specs.Attempting.{attempting_ask}
-use Rattle.fkv_pending.specs.Mailbox.{HasAskedFor}
-use Rattle.fkv_pending.specs.Mailing.{mail_ask, mail_next}
-use Rattle.fkv_pending.specs.declared.attempting.Attempting.{Attempting}
-use Rattle.fkv_pending.specs.declared.attempting.Attempting.TheVariants.{Looks}
-use Rattle.fkv_pending.specs.declared.mailing.MailAnswer.TheVariants as mail
-use Rattle.fkv_pending.specs.declared.mailing.MailRecord.{MailRecord}
+use Rattle.law_refine.specs.Below.fkv_ops.HeaderWords.{header_said}
+use Rattle.law_refine.specs.Below.fkv_ops.TryAnswer.TheVariants as answer
+use Rattle.law_refine.specs.Below.fkv_pending.Attempting.{attempting_ask}
+use Rattle.law_refine.specs.Below.fkv_pending.Mailbox.{HasAskedFor}
+use Rattle.law_refine.specs.Below.fkv_pending.Mailing.{mail_ask, mail_next}
+use Rattle.law_refine.specs.Below.fkv_pending.TheAttempting.{Attempting}
+use Rattle.law_refine.specs.Below.fkv_pending.TheAttempting.TheVariants.{Looks}
+use Rattle.law_refine.specs.Below.fkv_pending.MailAnswer.TheVariants as mail
+use Rattle.law_refine.specs.Below.fkv_pending.MailRecord.{MailRecord}
 use Rattle.fkv_plane.proofs.Shown.{passed_reply}
 use Rattle.fkv_plane.specs.Asked.{reply_to}
 use Rattle.fkv_plane.specs.declared.asks.Ask.TheVariants.{Done}
-use Rattle.fkv_session.specs.Sessions.{SessionState, session_ask}
-use Rattle.fkv_session.specs.declared.sessions.Sitting.{Sitting}
-use Rattle.fkv_session.specs.declared.sessions.Sitting.TheVariants.{Attempts, Polls}
-use Rattle.fkv_world.specs.Runs.{World, run}
-use Rattle.fkv_world.specs.World.{Event, Now, seat_at}
+use Rattle.law_refine.specs.Below.fkv_session.Sessions.{SessionState, session_ask}
+use Rattle.law_refine.specs.Below.fkv_session.Sitting.{Sitting}
+use Rattle.law_refine.specs.Below.fkv_session.Sitting.TheVariants.{Attempts, Polls}
+use Rattle.law_refine.specs.Below.fkv_world.Runs.{World, run}
+use Rattle.law_refine.specs.Below.fkv_world.World.{Event, Now, seat_at}
 use Rattle.law_opening.proofs.OfChanges.OfDevice.There.{CallsLaw, read_ok}
 use Rattle.law_opening.proofs.OfChanges.OfDevice.Words.{WordsLaw}
 use Rattle.law_opening.proofs.OfChanges.OfFits.Held.{Held, HeldSoFar, flushed_at, held_now, held_then, log_at, record_grows}
@@ -27,7 +27,7 @@ use Rattle.law_opening.proofs.OfChanges.OfFits.Told.{TakesFit}
 use Rattle.law_opening.proofs.OfChanges.OfMails.Life.{its_seat}
 use Rattle.law_opening.proofs.OfChanges.OfSessions.Attempting.{attempt_reply}
 use Rattle.law_opening.specs.Changes.Laws.{BeginsFitting}
-use Rattle.law_local.specs.Sessions.Known.{is_attempting}
+use Rattle.law_refine.specs.Below.law_local.Sessions.Known.{is_attempting}
 use Rattle.law_log.specs.Ghosts.{Ghosts}
 use Rattle.law_refine.proofs.OfMail.Takes.{takes_read}
 use Rattle.law_refine.specs.Mail.Mailers.{attempt_mailing, sitting_mailing}

@@ -2,28 +2,28 @@
 use Rattle.std.proofs.Common.{◌≡◌, ℕ, ◌≤◌, ◌∙◌, refl, sym, ap, subst, true, List}
 use Rattle.std.specs.Prelude.{⊤, Some, slice_get}
 use Rattle.fkv_base.specs.declared.numbers.Addr.{Addr}
-use Rattle.fkv_log.specs.Loading.{load_ask}
-use Rattle.fkv_log.specs.declared.loading.Loading.{Loading}
-use Rattle.fkv_log.specs.declared.loading.Loading.TheVariants as load
+use Rattle.law_refine.specs.Below.fkv_log.Loading.{load_ask}
+use Rattle.law_refine.specs.Below.fkv_log.TheLoading.{Loading}
+use Rattle.law_refine.specs.Below.fkv_log.TheLoading.TheVariants as load
 use Rattle.fkv_map.specs.Fits.{NumberFits}
-use Rattle.fkv_ops.specs.HeaderWords.{header_said}
-use Rattle.fkv_ops.specs.Trying.{TryState, try_ask, trying_ask}
-use Rattle.fkv_ops.specs.Walking.{walk_ask, walking_ask}
-use Rattle.fkv_ops.specs.declared.answers.TryAnswer.TheVariants as answer
-use Rattle.fkv_ops.specs.declared.requests.Request.{Request}
-use Rattle.fkv_ops.specs.declared.requests.Seen.{Seen}
-use Rattle.fkv_ops.specs.declared.trying.Trying.{Trying}
-use Rattle.fkv_ops.specs.declared.trying.Trying.TheVariants.{Walks, LoadsCurrent, LoadsAnswer, LoadsOld}
-use Rattle.fkv_ops.specs.declared.walking.WalkAnswer.TheVariants as walk
-use Rattle.fkv_ops.specs.declared.walking.Walking.{Walking}
-use Rattle.fkv_ops.specs.declared.walking.Walking.TheVariants.{LoadsValue}
-use Rattle.fkv_pending.specs.Attempting.{AttemptState, attempting_ask}
-use Rattle.fkv_pending.specs.Mailing.{mail_ask, mail_next}
-use Rattle.fkv_pending.specs.declared.attempting.Attempting.{Attempting}
-use Rattle.fkv_pending.specs.declared.attempting.Attempting.TheVariants.{Looks, Tries}
-use Rattle.fkv_pending.specs.declared.mailing.MailAnswer.{MailAnswer}
-use Rattle.fkv_pending.specs.declared.mailing.MailAnswer.TheVariants as mail
-use Rattle.fkv_pending.specs.declared.mailing.MailRecord.{MailRecord}
+use Rattle.law_refine.specs.Below.fkv_ops.HeaderWords.{header_said}
+use Rattle.law_refine.specs.Below.fkv_ops.Trying.{TryState, try_ask, trying_ask}
+use Rattle.law_refine.specs.Below.fkv_ops.Walking.{walk_ask, walking_ask}
+use Rattle.law_refine.specs.Below.fkv_ops.TryAnswer.TheVariants as answer
+use Rattle.law_refine.specs.Below.fkv_ops.Request.{Request}
+use Rattle.law_refine.specs.Below.fkv_ops.Seen.{Seen}
+use Rattle.law_refine.specs.Below.fkv_ops.TheTrying.{Trying}
+use Rattle.law_refine.specs.Below.fkv_ops.TheTrying.TheVariants.{Walks, LoadsCurrent, LoadsAnswer, LoadsOld}
+use Rattle.law_refine.specs.Below.fkv_ops.WalkAnswer.TheVariants as walk
+use Rattle.law_refine.specs.Below.fkv_ops.TheWalking.{Walking}
+use Rattle.law_refine.specs.Below.fkv_ops.TheWalking.TheVariants.{LoadsValue}
+use Rattle.law_refine.specs.Below.fkv_pending.Attempting.{AttemptState, attempting_ask}
+use Rattle.law_refine.specs.Below.fkv_pending.Mailing.{mail_ask, mail_next}
+use Rattle.law_refine.specs.Below.fkv_pending.TheAttempting.{Attempting}
+use Rattle.law_refine.specs.Below.fkv_pending.TheAttempting.TheVariants.{Looks, Tries}
+use Rattle.law_refine.specs.Below.fkv_pending.MailAnswer.{MailAnswer}
+use Rattle.law_refine.specs.Below.fkv_pending.MailAnswer.TheVariants as mail
+use Rattle.law_refine.specs.Below.fkv_pending.MailRecord.{MailRecord}
 use Rattle.fkv_plane.proofs.Shown.{passed_reply}
 use Rattle.fkv_plane.specs.Asked.{reply_to, word_at}
 use Rattle.fkv_plane.specs.Places.{record_place}
@@ -31,9 +31,9 @@ use Rattle.fkv_plane.specs.declared.asks.Ask.{Ask}
 use Rattle.fkv_plane.specs.declared.asks.Ask.TheVariants.{Done}
 use Rattle.fkv_plane.specs.declared.places.Places.{Places}
 use Rattle.fkv_plane.specs.declared.places.RecordWord.TheVariants as rec
-use Rattle.fkv_session.specs.Sessions.{SessionState, Seat, bits_of, sitting_ask}
-use Rattle.fkv_world.specs.Runs.{World, run}
-use Rattle.fkv_world.specs.World.{Event}
+use Rattle.law_refine.specs.Below.fkv_session.Sessions.{SessionState, Seat, bits_of, sitting_ask}
+use Rattle.law_refine.specs.Below.fkv_world.Runs.{World, run}
+use Rattle.law_refine.specs.Below.fkv_world.World.{Event}
 use Rattle.law_opening.proofs.OfChanges.OfDevice.Words.{value_fits}
 use Rattle.law_opening.proofs.OfChanges.OfFits.Attempts.{AttemptValueTold, TakenTold}
 use Rattle.law_opening.proofs.OfChanges.OfFits.Rows.{RecordOk}
@@ -44,8 +44,8 @@ use Rattle.law_opening.proofs.OfChanges.Rows.{IsAt}
 use Rattle.law_opening.proofs.OfChanges.Told.{framed_there, goes_so}
 use Rattle.law_opening.specs.Changes.Fits.{CellsFit}
 use Rattle.law_opening.specs.Changes.Laws.{BeginsLinked}
-use Rattle.law_local.specs.Sessions.Inputs.{AttemptsBy, TriesFor, WalksFor}
-use Rattle.law_local.specs.Sessions.Known.{is_attempting}
+use Rattle.law_refine.specs.Below.law_local.Sessions.Inputs.{AttemptsBy, TriesFor, WalksFor}
+use Rattle.law_refine.specs.Below.law_local.Sessions.Known.{is_attempting}
 use Rattle.law_log.specs.Ghosts.{Ghosts, Log}
 use Rattle.law_refine.specs.Events.GhostEvents.{life_ghosts}
 use Rattle.law_refine.specs.Records.Changes.{AreChangesPublished}

@@ -9,18 +9,18 @@ use Rattle.fkv_index.specs.Slots.{entry_addr}
 use Rattle.fkv_index.specs.declared.finding.FindAnswer.{FindAnswer}
 use Rattle.fkv_index.specs.declared.finding.Found.{Found}
 use Rattle.fkv_index.specs.declared.finding.Found.TheVariants as found
-use Rattle.fkv_log.specs.Loading.{load_ask, load_next, load_next_ask, load_on}
-use Rattle.fkv_log.specs.declared.loading.Loading.{Loading}
-use Rattle.fkv_log.specs.declared.loading.Loading.TheVariants as load
+use Rattle.law_refine.specs.Below.fkv_log.Loading.{load_ask, load_next, load_next_ask, load_on}
+use Rattle.law_refine.specs.Below.fkv_log.TheLoading.{Loading}
+use Rattle.law_refine.specs.Below.fkv_log.TheLoading.TheVariants as load
 use Rattle.fkv_map.specs.Fits.{NumberFits}
-use Rattle.fkv_ops.specs.HeaderWords.{header_said}
-use Rattle.fkv_ops.specs.Walking.{WalkState, walking_ask, walk_ask, walk_ended, reached, slot_found, find_ledto, first_met, record_met, load_ledto, value_ledto, walking_next, walk_next, walking_on, walk_on}
-use Rattle.fkv_ops.specs.declared.header_words.HeaderSaid.{HeaderSaid}
-use Rattle.fkv_ops.specs.declared.header_words.HeaderSaid.TheVariants.{Says, Spoiled}
-use Rattle.fkv_ops.specs.declared.walking.WalkAnswer.{WalkAnswer}
-use Rattle.fkv_ops.specs.declared.walking.WalkAnswer.TheVariants as answer
-use Rattle.fkv_ops.specs.declared.walking.Walking.{Walking}
-use Rattle.fkv_ops.specs.declared.walking.Walking.TheVariants.{Ended, Finds, Meets, HasFound, LoadsValue}
+use Rattle.law_refine.specs.Below.fkv_ops.HeaderWords.{header_said}
+use Rattle.law_refine.specs.Below.fkv_ops.Walking.{WalkState, walking_ask, walk_ask, walk_ended, reached, slot_found, find_ledto, first_met, record_met, load_ledto, value_ledto, walking_next, walk_next, walking_on, walk_on}
+use Rattle.law_refine.specs.Below.fkv_ops.HeaderSaid.{HeaderSaid}
+use Rattle.law_refine.specs.Below.fkv_ops.HeaderSaid.TheVariants.{Says, Spoiled}
+use Rattle.law_refine.specs.Below.fkv_ops.WalkAnswer.{WalkAnswer}
+use Rattle.law_refine.specs.Below.fkv_ops.WalkAnswer.TheVariants as answer
+use Rattle.law_refine.specs.Below.fkv_ops.TheWalking.{Walking}
+use Rattle.law_refine.specs.Below.fkv_ops.TheWalking.TheVariants.{Ended, Finds, Meets, HasFound, LoadsValue}
 use Rattle.fkv_plane.specs.declared.asks.Ask.{Ask}
 use Rattle.fkv_plane.specs.declared.asks.Ask.TheVariants.{Done}
 use Rattle.fkv_plane.specs.declared.places.Places.{Places}

@@ -2,16 +2,16 @@
 use Rattle.std.proofs.Common.{◌≡◌, ℕ, zero, suc, ◌<◌, ◌∙◌, List, [], ◌∷◌, refl, sym, subst, arith, length}
 use Rattle.std.specs.Prelude.{Some, slice_get}
 use Rattle.fkv_plane.specs.declared.places.Places.{Places}
-use Rattle.fkv_session.specs.Sessions.{SessionState}
-use Rattle.fkv_world.proofs.Shown.{places_stay}
-use Rattle.fkv_world.specs.Opened.{HasBecome, IsOpenedWorld}
-use Rattle.fkv_world.specs.OwnEvents.{session_events}
-use Rattle.fkv_world.specs.Runs.{World, run}
-use Rattle.fkv_world.specs.World.{Event, seat_at}
+use Rattle.law_refine.specs.Below.fkv_session.Sessions.{SessionState}
+use Rattle.law_refine.proofs.Below.fkv_world.Shown.{places_stay}
+use Rattle.law_refine.specs.Below.fkv_world.Opened.{HasBecome, IsOpenedWorld}
+use Rattle.law_refine.specs.Below.fkv_world.OwnEvents.{session_events}
+use Rattle.law_refine.specs.Below.fkv_world.Runs.{World, run}
+use Rattle.law_refine.specs.Below.fkv_world.World.{Event, seat_at}
 use Rattle.law_opening.proofs.OfChanges.OfMails.SessionMails.{MailsSo, run_mails}
-use Rattle.law_world.proofs.OfGuarded.Worlds.{life_shows}
-use Rattle.law_world.specs.Guarded.Shows.{IsOpened}
-use Rattle.law_world.proofs.OfSessions.OwnRun.{of_run, opened_so}
+use Rattle.law_refine.proofs.Below.law_world.OfGuarded.Worlds.{life_shows}
+use Rattle.law_refine.specs.Below.law_world.Guarded.Shows.{IsOpened}
+use Rattle.law_refine.proofs.Below.law_world.OfSessions.OwnRun.{of_run, opened_so}
 
 -- a session is one of the store's
 pub its_seat : (opening : World) (start : ℕ) (events : List Event) (session : ℕ) (s : SessionState) → IsOpened opening.now start → slice_get (run opening events).now.sessions session ≡ Some s → session < opening.now.places.sessions

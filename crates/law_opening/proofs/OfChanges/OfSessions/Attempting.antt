@@ -1,26 +1,26 @@
 -- What a session attempts, the search that it has under way, and the reply that it gets.
 use Rattle.fkv_epoch.proofs.Shown.{none_some}
 use Rattle.fkv_index.specs.Finding.{find_next_ask}
-use Rattle.fkv_pending.specs.Attempting.{attempt_ask}
+use Rattle.law_refine.specs.Below.fkv_pending.Attempting.{attempt_ask}
 use Rattle.fkv_plane.proofs.Shown.{passed_reply}
 use Rattle.fkv_plane.specs.Asked.{reply_to}
 use Rattle.fkv_plane.specs.declared.places.Places.{Places}
-use Rattle.fkv_session.specs.Sessions.{Seat, SessionState, sitting_ask}
-use Rattle.fkv_session.specs.declared.answers.Told.TheVariants.{Slept}
-use Rattle.fkv_session.specs.declared.sessions.Sitting.{Sitting}
-use Rattle.fkv_session.specs.declared.sessions.Sitting.TheVariants.{Attempts, Polls}
-use Rattle.fkv_world.specs.Opened.{HasBecome, IsOpenedWorld}
-use Rattle.fkv_world.specs.OwnEvents.{session_events}
-use Rattle.fkv_world.specs.Runs.{World, run}
-use Rattle.fkv_world.specs.World.{Event, seat_at}
-use Rattle.law_local.proofs.OfSessions.SessionInputs.{run_so}
-use Rattle.law_local.specs.Sessions.Inputs.{AttemptsSo}
-use Rattle.law_local.specs.Sessions.Known.{is_attempting}
+use Rattle.law_refine.specs.Below.fkv_session.Sessions.{Seat, SessionState, sitting_ask}
+use Rattle.law_refine.specs.Below.fkv_session.Told.TheVariants.{Slept}
+use Rattle.law_refine.specs.Below.fkv_session.Sitting.{Sitting}
+use Rattle.law_refine.specs.Below.fkv_session.Sitting.TheVariants.{Attempts, Polls}
+use Rattle.law_refine.specs.Below.fkv_world.Opened.{HasBecome, IsOpenedWorld}
+use Rattle.law_refine.specs.Below.fkv_world.OwnEvents.{session_events}
+use Rattle.law_refine.specs.Below.fkv_world.Runs.{World, run}
+use Rattle.law_refine.specs.Below.fkv_world.World.{Event, seat_at}
+use Rattle.law_refine.proofs.Below.law_local.OfSessions.SessionInputs.{run_so}
+use Rattle.law_refine.specs.Below.law_local.Sessions.Inputs.{AttemptsSo}
+use Rattle.law_refine.specs.Below.law_local.Sessions.Known.{is_attempting}
 use Rattle.law_refine.specs.Index.Finders.{Search, SessionWork, attempt_part, search_in, sitting_part}
 use Rattle.law_refine.specs.Heads.Searches.{IsHeadAnswered}
 use Rattle.law_refine.specs.Records.Frames.{IsAttempting}
-use Rattle.law_world.proofs.OfRuns.Nothing.{none_ever}
-use Rattle.law_world.proofs.OfSessions.OwnRun.{of_run, opened_so}
+use Rattle.law_refine.proofs.Below.law_world.OfRuns.Nothing.{none_ever}
+use Rattle.law_refine.proofs.Below.law_world.OfSessions.OwnRun.{of_run, opened_so}
 use Rattle.std.proofs.Common.{List, refl, sym, true, ℕ, ◌∙◌, ◌≡◌}
 use Rattle.std.specs.Prelude.{None, Option, Some, slice_get}
 

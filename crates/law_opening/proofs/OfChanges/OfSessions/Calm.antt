@@ -6,17 +6,17 @@ use Rattle.fkv_plane.specs.declared.asks.Ask.{Ask}
 use Rattle.fkv_plane.specs.declared.asks.Ask.TheVariants.{Put, Take, Done}
 use Rattle.fkv_plane.specs.Asked.{reply_to}
 use Rattle.fkv_plane.specs.Plane.{action_at}
-use Rattle.fkv_pending.specs.declared.pending_requests.PendingRequest.{PendingRequest}
-use Rattle.fkv_pending.specs.Attempting.{AttemptState}
-use Rattle.fkv_session.specs.declared.answers.Told.{Told}
-use Rattle.fkv_session.specs.declared.sessions.Sitting.{Sitting}
-use Rattle.fkv_session.specs.declared.sessions.Sitting.TheVariants.{Idle, Attempts, CatchesUp, Polls, Turns}
-use Rattle.fkv_session.specs.OwnTurns.{own_turn_ask}
-use Rattle.fkv_session.specs.Sessions.{SessionState, Seat, asks_after, is_busy, is_word_ask, own_turn_moved, session_ask, session_next, sitting_next, turn_ledto}
-use Rattle.law_world.specs.GuardSessions.Followed.{is_turning}
-use Rattle.law_local.specs.Sessions.Known.{KnowsRequests, is_attempting, is_polling}
-use Rattle.law_local.proofs.OfSessions.Known.{given_known, next_known}
-use Rattle.fkv_world.specs.Moves.{Near, session_asks, session_gets, session_replied, session_settled}
+use Rattle.law_refine.specs.Below.fkv_pending.PendingRequest.{PendingRequest}
+use Rattle.law_refine.specs.Below.fkv_pending.Attempting.{AttemptState}
+use Rattle.law_refine.specs.Below.fkv_session.Told.{Told}
+use Rattle.law_refine.specs.Below.fkv_session.Sitting.{Sitting}
+use Rattle.law_refine.specs.Below.fkv_session.Sitting.TheVariants.{Idle, Attempts, CatchesUp, Polls, Turns}
+use Rattle.law_refine.specs.Below.fkv_session.OwnTurns.{own_turn_ask}
+use Rattle.law_refine.specs.Below.fkv_session.Sessions.{SessionState, Seat, asks_after, is_busy, is_word_ask, own_turn_moved, session_ask, session_next, sitting_next, turn_ledto}
+use Rattle.law_refine.specs.Below.law_world.GuardSessions.Followed.{is_turning}
+use Rattle.law_refine.specs.Below.law_local.Sessions.Known.{KnowsRequests, is_attempting, is_polling}
+use Rattle.law_refine.proofs.Below.law_local.OfSessions.Known.{given_known, next_known}
+use Rattle.law_refine.specs.Below.fkv_world.Moves.{Near, session_asks, session_gets, session_replied, session_settled}
 
 -- it is idle, or makes a turn of its own
 abbrev pub is_calm : Sitting → Bool

@@ -3,12 +3,12 @@ use Rattle.std.proofs.Common.{◌≡◌, ℕ, ◌∙◌, refl, ap, sym, Bool, tr
 use Rattle.std.specs.Prelude.{Some, if◌then◌else◌, slice_get}
 use Rattle.fkv_epoch.proofs.Shown.{some_same}
 use Rattle.fkv_map.specs.declared.operations.Call.{Call}
-use Rattle.fkv_session.specs.Sessions.{SessionState, is_busy, session_begun}
-use Rattle.fkv_world.specs.Actors.{is_of_session, session_goes}
-use Rattle.fkv_world.specs.Moves.{session_moved}
-use Rattle.fkv_world.specs.Runs.{World, happens}
-use Rattle.fkv_world.specs.World.{Event, Calls, Moves, near, seat_at}
-use Rattle.fkv_world.proofs.Shown.{is_over, session_apart, session_written}
+use Rattle.law_refine.specs.Below.fkv_session.Sessions.{SessionState, is_busy, session_begun}
+use Rattle.law_refine.specs.Below.fkv_world.Actors.{is_of_session, session_goes}
+use Rattle.law_refine.specs.Below.fkv_world.Moves.{session_moved}
+use Rattle.law_refine.specs.Below.fkv_world.Runs.{World, happens}
+use Rattle.law_refine.specs.Below.fkv_world.World.{Event, Calls, Moves, near, seat_at}
+use Rattle.law_refine.proofs.Below.fkv_world.Shown.{is_over, session_apart, session_written}
 
 pub data SessionComes (w : World) (session : ℕ) (s after : SessionState) : Type 0 where
   Stays : after ≡ s → SessionComes w session s after

@@ -1,16 +1,16 @@
 -- No head that a session has seen lies above what is flushed.
 use Rattle.std.proofs.Common.{◌≡◌, ℕ, ◌≤◌, subst, arith, List}
 use Rattle.std.specs.Prelude.{Some, slice_get}
-use Rattle.fkv_flush.specs.Guarded.{seen_of}
-use Rattle.fkv_flush.specs.GuardLevels.{levels_of}
-use Rattle.fkv_flush.specs.GuardSeen.{LastSeen}
-use Rattle.fkv_flush.specs.GuardWorld.{GuardWorld}
-use Rattle.law_world.specs.GuardSessions.Likenesses.{last_seen}
-use Rattle.fkv_session.specs.Sessions.{SessionState}
-use Rattle.fkv_world.specs.Runs.{World, run}
-use Rattle.fkv_world.specs.World.{Event}
-use Rattle.law_world.specs.Guarded.Shows.{IsOpened, seen_by_guard}
-use Rattle.law_world.proofs.OfGuarded.Worlds.{life_shows}
+use Rattle.law_refine.specs.Below.fkv_flush.Guarded.{seen_of}
+use Rattle.law_refine.specs.Below.fkv_flush.GuardLevels.{levels_of}
+use Rattle.law_refine.specs.Below.fkv_flush.GuardSeen.{LastSeen}
+use Rattle.law_refine.specs.Below.fkv_flush.GuardWorld.{GuardWorld}
+use Rattle.law_refine.specs.Below.law_world.GuardSessions.Likenesses.{last_seen}
+use Rattle.law_refine.specs.Below.fkv_session.Sessions.{SessionState}
+use Rattle.law_refine.specs.Below.fkv_world.Runs.{World, run}
+use Rattle.law_refine.specs.Below.fkv_world.World.{Event}
+use Rattle.law_refine.specs.Below.law_world.Guarded.Shows.{IsOpened, seen_by_guard}
+use Rattle.law_refine.proofs.Below.law_world.OfGuarded.Worlds.{life_shows}
 use Rattle.law_refine.proofs.OfRecords.FrameOwners.{seen_so}
 use Rattle.law_refine.specs.Records.Frames.{IsAttempting}
 

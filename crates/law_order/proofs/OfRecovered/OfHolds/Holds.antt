@@ -1,14 +1,14 @@
 -- What the log and the slot of an image are to `law_paper`.
 use Rattle.std.proofs.Common.{ℕ, ◌<◌, ◌≤◌, arith, ap, List}
-use Rattle.fkv_opening.specs.declared.opened_store.Opened.{Opened}
+use Rattle.law_opening.specs.Below.fkv_opening.TheOpened.{Opened}
 use Rattle.fkv_record.specs.Manifest.{SlotSaid}
 use Rattle.fkv_record.specs.declared.triples.Triple.{Triple}
-use Rattle.fkv_scan.specs.Log as scan
-use Rattle.fkv_world.specs.World.{Event, Now}
+use Rattle.law_opening.specs.Below.fkv_scan.Log as scan
+use Rattle.law_commit.specs.Below.fkv_world.World.{Event, Now}
 use Rattle.law_log.specs.Chains.{Cell}
 use Rattle.law_log.specs.Ghosts.{Log}
 use Rattle.law_order.specs.Decided.Cut.{NamesEnd}
-use Rattle.law_paper.specs.Paper.Images.{ShowsCell, ShowsLog}
+use Rattle.law_commit.specs.Below.law_paper.Paper.Images.{ShowsCell, ShowsLog}
 use Rattle.law_order.specs.Recovered.Leaves.{NamesNew, log_named}
 
 -- ---- what an image shows from an address on it shows from a higher one

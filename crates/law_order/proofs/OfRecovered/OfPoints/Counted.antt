@@ -3,14 +3,14 @@ use Rattle.std.proofs.Common.{◌≡◌, ℕ, ◌+◌, ◌≤◌, List, [], ◌�
 use Rattle.std.specs.Prelude.{Option, Some, None, map, ◌==◌}
 use Rattle.fkv_words.specs.Fields.{bit_of}
 use Rattle.fkv_map.specs.declared.history.HistoryEntry.{HistoryEntry}
-use Rattle.fkv_pending.specs.declared.pending_requests.RequestName.{RequestName}
-use Rattle.fkv_session.specs.declared.answers.Finished.{Finished}
-use Rattle.fkv_session.specs.declared.answers.Finished.TheVariants as finished
-use Rattle.fkv_session.specs.declared.answers.Told.{Told}
-use Rattle.fkv_session.specs.declared.answers.Told.TheVariants as told
-use Rattle.fkv_session.specs.Accounts.{IsAnsweredOnce, done_before, is_update, names_finished, number_of, polled, serials_done}
-use Rattle.fkv_session.specs.Replies.{AreRepliesOfEffects, UpdateDone, done_by, done_by_poll, done_told, is_done, is_of, with_done, with_effect}
-use Rattle.fkv_session.specs.SessionRun.{Telling}
+use Rattle.law_commit.specs.Below.fkv_pending.RequestName.{RequestName}
+use Rattle.law_commit.specs.Below.fkv_session.Finished.{Finished}
+use Rattle.law_commit.specs.Below.fkv_session.Finished.TheVariants as finished
+use Rattle.law_commit.specs.Below.fkv_session.Told.{Told}
+use Rattle.law_commit.specs.Below.fkv_session.Told.TheVariants as told
+use Rattle.law_commit.specs.Below.fkv_session.Accounts.{IsAnsweredOnce, done_before, is_update, names_finished, number_of, polled, serials_done}
+use Rattle.law_commit.specs.Below.fkv_session.Replies.{AreRepliesOfEffects, UpdateDone, done_by, done_by_poll, done_told, is_done, is_of, with_done, with_effect}
+use Rattle.law_commit.specs.Below.fkv_session.SessionRun.{Telling}
 
 number_both : {A : Type 0} (such : A → Bool) (xs ys : List A) → number_of such (xs ++ ys) ≡ number_of such xs + number_of such ys
 number_both such [] ys = omega arith

@@ -7,19 +7,19 @@ use Rattle.fkv_map.specs.History.{is_update}
 use Rattle.fkv_map.specs.declared.history.HistoryEntry.{HistoryEntry}
 use Rattle.fkv_map.proofs.Shown.{count-push}
 use Rattle.fkv_plane.specs.Asked.{reply_to}
-use Rattle.fkv_session.specs.Accounts.{number_of}
-use Rattle.fkv_session.specs.Replies.{is_of}
-use Rattle.fkv_session.specs.Sessions.{Seat, SessionState, session_ask}
-use Rattle.fkv_world.specs.Opened.{IsOpenedWorld, effects_of}
-use Rattle.fkv_world.specs.Past.{Effect}
-use Rattle.fkv_world.specs.Runs.{World, happens, run}
-use Rattle.fkv_world.specs.World.{Event, seat_at}
+use Rattle.law_commit.specs.Below.fkv_session.Accounts.{number_of}
+use Rattle.law_commit.specs.Below.fkv_session.Replies.{is_of}
+use Rattle.law_commit.specs.Below.fkv_session.Sessions.{Seat, SessionState, session_ask}
+use Rattle.law_commit.specs.Below.fkv_world.Opened.{IsOpenedWorld, effects_of}
+use Rattle.law_commit.specs.Below.fkv_world.Past.{Effect}
+use Rattle.law_commit.specs.Below.fkv_world.Runs.{World, happens, run}
+use Rattle.law_commit.specs.Below.fkv_world.World.{Event, seat_at}
 use Rattle.law_commit.proofs.OfVersions.Accepted.{made_own}
 use Rattle.law_log.specs.Trace as log
 use Rattle.law_log.specs.Trace.{HasUpdate, IsIn, history_of}
-use Rattle.law_refine.specs.Calls.Calls.{effect_in_log, effects_in_log}
-use Rattle.law_refine.proofs.OfCalls.InHand.{was_opened}
-use Rattle.law_world.specs.Runs.Added.{IsEffectOf, IsHistoryAfter}
+use Rattle.law_commit.specs.Below.law_refine.Calls.Calls.{effect_in_log, effects_in_log}
+use Rattle.law_commit.proofs.Below.law_refine.OfCalls.InHand.{was_opened}
+use Rattle.law_commit.specs.Below.law_world.Runs.Added.{IsEffectOf, IsHistoryAfter}
 
 -- ---- each is one of a session that there is
 abbrev pub IsSeated : World → Effect → Type 0

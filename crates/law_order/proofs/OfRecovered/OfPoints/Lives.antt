@@ -6,20 +6,20 @@ use Rattle.std.proofs.lemmas.Bool.Decides.{nat_tests}
 use Rattle.std.proofs.lemmas.Option.{slice_get_within}
 use Rattle.fkv_base.specs.Limits.{last_serial}
 use Rattle.fkv_epoch.proofs.Shown.{none_some}
-use Rattle.fkv_keeper.specs.LastCommits.{points_written}
+use Rattle.law_commit.specs.Below.fkv_keeper.LastCommits.{points_written}
 use Rattle.fkv_map.specs.History.{is_kept, is_update, point_of}
 use Rattle.fkv_map.specs.declared.history.HistoryEntry.{HistoryEntry}
-use Rattle.fkv_session.specs.Accounts.{IsAnsweredOnce, names_of, number_of}
-use Rattle.fkv_session.specs.Replies.{AreRepliesOfEffects, is_of}
-use Rattle.fkv_session.specs.SessionRun.{in_hand, session_run}
-use Rattle.fkv_session.specs.Sessions.{SessionState, is_busy}
-use Rattle.fkv_session.specs.Versions.{AreAsTaken, versions_taken}
-use Rattle.fkv_world.specs.Opened.{HasBecome, effects_of, life_effects, life_told}
-use Rattle.fkv_world.specs.OwnEvents.{session_events}
-use Rattle.fkv_world.specs.Past as world
-use Rattle.fkv_world.specs.Runs.{World, happens, run}
-use Rattle.fkv_world.specs.World.{Event, seat_at}
-use Rattle.fkv_world.proofs.Shown.{session_runs}
+use Rattle.law_commit.specs.Below.fkv_session.Accounts.{IsAnsweredOnce, names_of, number_of}
+use Rattle.law_commit.specs.Below.fkv_session.Replies.{AreRepliesOfEffects, is_of}
+use Rattle.law_commit.specs.Below.fkv_session.SessionRun.{in_hand, session_run}
+use Rattle.law_commit.specs.Below.fkv_session.Sessions.{SessionState, is_busy}
+use Rattle.law_commit.specs.Below.fkv_session.Versions.{AreAsTaken, versions_taken}
+use Rattle.law_commit.specs.Below.fkv_world.Opened.{HasBecome, effects_of, life_effects, life_told}
+use Rattle.law_commit.specs.Below.fkv_world.OwnEvents.{session_events}
+use Rattle.law_commit.specs.Below.fkv_world.Past as world
+use Rattle.law_commit.specs.Below.fkv_world.Runs.{World, happens, run}
+use Rattle.law_commit.specs.Below.fkv_world.World.{Event, seat_at}
+use Rattle.law_commit.proofs.Below.fkv_world.Shown.{session_runs}
 use Rattle.law_commit.specs.Accepted.{point, serial_at, serial_of, versions_found}
 use Rattle.law_commit.specs.BegunCommits.{BegunCommit, life_begun}
 use Rattle.law_commit.specs.Points.{BegunHavePoints, OpensPointed, RisesByVersion, UpToGiven}
@@ -31,13 +31,13 @@ use Rattle.law_commit.proofs.OfVersions.Points.{count_low}
 use Rattle.law_commit.proofs.Shown.{life_counted}
 use Rattle.law_log.specs.Trace as log
 use Rattle.law_log.specs.Trace.{IsIn, history_of}
-use Rattle.law_paper.specs.Kept.{PointsSplit}
+use Rattle.law_commit.specs.Below.law_paper.Kept.{PointsSplit}
 use Rattle.law_order.proofs.OfRecovered.OfPoints.Effects.{IsSeated, NoneTwice, count_is, each_seated, most_one, none_so, of_life}
 use Rattle.law_order.proofs.OfRecovered.OfPoints.Once.{none_low, one_there}
 use Rattle.law_order.proofs.OfRecovered.OfPoints.Written.{written_past, written_there}
-use Rattle.law_refine.specs.Calls.Calls.{effects_of_life}
-use Rattle.law_world.proofs.OfSessions.OwnRun.{opened_so}
-use Rattle.law_world.specs.Runs.Added.{IsHistoryAfter}
+use Rattle.law_commit.specs.Below.law_refine.Calls.Calls.{effects_of_life}
+use Rattle.law_commit.proofs.Below.law_world.OfSessions.OwnRun.{opened_so}
+use Rattle.law_commit.specs.Below.law_world.Runs.Added.{IsHistoryAfter}
 
 -- ---- what is given, of each life
 abbrev pub AnswersOnce : Type 0

@@ -1,15 +1,15 @@
 -- The effects of a session, once a version is over: one of each serial that it has given from the opening on, up to its point of that version.
 use Rattle.std.proofs.Common.{◌≡◌, inl, inr, ℕ, ◌+◌, ◌<◌, ◌≤◌, List, arith, ap, subst}
-use Rattle.fkv_session.specs.Accounts.{IsAnsweredOnce, names_of, number_of}
-use Rattle.fkv_session.specs.Replies.{AreRepliesOfEffects, is_of}
-use Rattle.fkv_session.specs.SessionRun.{SessionEvent, in_hand, session_run}
-use Rattle.fkv_session.specs.Sessions.{IsOpened, Seat, SessionState, is_busy}
-use Rattle.fkv_session.specs.Versions.{AreAsTaken, IsVersion, TakenAt, versions_taken}
-use Rattle.fkv_world.specs.Opened.{HasBecome, effects_of, life_effects, life_told}
-use Rattle.fkv_world.specs.OwnEvents.{session_events}
-use Rattle.fkv_world.specs.Past.{Effect}
-use Rattle.fkv_world.specs.Runs.{World, run}
-use Rattle.fkv_world.specs.World.{Event, seat_at}
+use Rattle.law_commit.specs.Below.fkv_session.Accounts.{IsAnsweredOnce, names_of, number_of}
+use Rattle.law_commit.specs.Below.fkv_session.Replies.{AreRepliesOfEffects, is_of}
+use Rattle.law_commit.specs.Below.fkv_session.SessionRun.{SessionEvent, in_hand, session_run}
+use Rattle.law_commit.specs.Below.fkv_session.Sessions.{IsOpened, Seat, SessionState, is_busy}
+use Rattle.law_commit.specs.Below.fkv_session.Versions.{AreAsTaken, IsVersion, TakenAt, versions_taken}
+use Rattle.law_commit.specs.Below.fkv_world.Opened.{HasBecome, effects_of, life_effects, life_told}
+use Rattle.law_commit.specs.Below.fkv_world.OwnEvents.{session_events}
+use Rattle.law_commit.specs.Below.fkv_world.Past.{Effect}
+use Rattle.law_commit.specs.Below.fkv_world.Runs.{World, run}
+use Rattle.law_commit.specs.Below.fkv_world.World.{Event, seat_at}
 use Rattle.law_commit.specs.Accepted.{HasRisingVersion, NeverFall, count_upto, point, serial_at, serial_of, versions_accepted, versions_found, versions_of}
 use Rattle.law_commit.specs.Quiet.{HasNoneUpto, OpensQuiet}
 use Rattle.law_commit.specs.Versions.Effects.{HasEffectsOfItsVersions}
@@ -21,9 +21,9 @@ use Rattle.law_log.specs.Trace.{IsIn}
 use Rattle.law_order.proofs.OfRecovered.OfPoints.Counted.{one_least}
 use Rattle.law_order.proofs.OfRecovered.OfPoints.Effects.{none_so}
 use Rattle.law_order.proofs.OfRecovered.OfPoints.Waiting.{none_waits, taken_above, taken_upto}
-use Rattle.law_refine.specs.Events.Names.{AreNamedSo}
-use Rattle.law_refine.proofs.OfEvents.RequestNames.{life_named}
-use Rattle.law_world.proofs.OfSessions.OwnRun.{opened_so}
+use Rattle.law_commit.specs.Below.law_refine.Events.Names.{AreNamedSo}
+use Rattle.law_commit.proofs.Below.law_refine.OfEvents.RequestNames.{life_named}
+use Rattle.law_commit.proofs.Below.law_world.OfSessions.OwnRun.{opened_so}
 
 just_one : (count : ℕ) → 1 ≤ count → count ≤ 1 → count ≡ 1
 just_one count least most = omega (arith, least, most)

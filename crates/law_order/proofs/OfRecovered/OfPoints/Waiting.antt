@@ -3,19 +3,19 @@ use Rattle.std.proofs.Common.{◌≡◌, inl, inr, ℕ, ◌+◌, ◌<◌, ◌≤
 use Rattle.std.specs.Prelude.{◌==◌, cond, nat_le}
 use Rattle.std.proofs.lemmas.Bool.Decides.{nat_tests}
 use Rattle.fkv_map.specs.declared.operations.Op.{Op}
-use Rattle.fkv_ops.specs.Requests.{is_read}
-use Rattle.fkv_pending.specs.declared.pending_requests.PendingRequest.{PendingRequest}
-use Rattle.fkv_pending.specs.declared.pending_requests.RequestName.{RequestName}
-use Rattle.fkv_pending.specs.declared.pending_requests.RequestName.TheVariants.{Update, Read}
-use Rattle.fkv_session.specs.Accounts.{is_update, names_of, number_of}
-use Rattle.fkv_session.specs.Versions.{AreAsTaken, IsAsTaken, TakenAt, WasTakenAt}
+use Rattle.law_commit.specs.Below.fkv_ops.Requests.{is_read}
+use Rattle.law_commit.specs.Below.fkv_pending.PendingRequest.{PendingRequest}
+use Rattle.law_commit.specs.Below.fkv_pending.RequestName.{RequestName}
+use Rattle.law_commit.specs.Below.fkv_pending.RequestName.TheVariants.{Update, Read}
+use Rattle.law_commit.specs.Below.fkv_session.Accounts.{is_update, names_of, number_of}
+use Rattle.law_commit.specs.Below.fkv_session.Versions.{AreAsTaken, IsAsTaken, TakenAt, WasTakenAt}
 use Rattle.law_commit.specs.Accepted.{NeverFall, count_upto, versions_of}
 use Rattle.law_commit.specs.Quiet.{IsLater}
 use Rattle.law_commit.specs.Versions.Effects.{IsTakenAt}
 use Rattle.law_commit.specs.Versions.Requests.{AreUpdatesSo, IsUpdateSo}
 use Rattle.law_commit.proofs.OfVersions.Points.{FollowFrom, count_low, lengths, taken_low}
 use Rattle.law_commit.proofs.OfVersions.Requests.{AllTaken, Is}
-use Rattle.law_refine.specs.Events.Names.{AreNamedSo, is_read_name}
+use Rattle.law_commit.specs.Below.law_refine.Events.Names.{AreNamedSo, is_read_name}
 
 -- ---- the versions at which serials were taken
 -- none was taken up to the first one

@@ -5,7 +5,7 @@ use Rattle.std.proofs.Math.Nat.{min-eq_left}
 use Rattle.std.proofs.lemmas.List.FromFn.{get_or-map-range_with_len, length-map-range_with_len}
 use Rattle.fkv_base.specs.Limits.{last_serial}
 use Rattle.fkv_base.specs.declared.numbers.Serial.{Serial}
-use Rattle.fkv_keeper.specs.LastCommits.{point_written, points_written}
+use Rattle.law_commit.specs.Below.fkv_keeper.LastCommits.{point_written, points_written}
 use Rattle.fkv_map.specs.History.{point_of}
 use Rattle.law_commit.proofs.OfPoints.Taken.{point_past}
 use Rattle.law_commit.proofs.OfTold.Sealed.{same_point}

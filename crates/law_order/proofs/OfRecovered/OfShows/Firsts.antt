@@ -1,19 +1,19 @@
 -- The first address of a commit of a life isn't below the tail with which the life began.
 use Rattle.std.proofs.Common.{◌≡◌, ℕ, ◌<◌, ◌≤◌, arith, ap, List, []}
-use Rattle.fkv_core.specs.Openings.{IsOpeningWorld, beginning}
-use Rattle.fkv_keeper.specs.Keeping.{Finality}
-use Rattle.fkv_keeper.specs.declared.last_commits.Checkpoint.{Checkpoint}
-use Rattle.fkv_opening.specs.declared.opened_store.Opened.{Opened}
+use Rattle.law_opening.specs.Below.fkv_core.Openings.{IsOpeningWorld, beginning}
+use Rattle.law_commit.specs.Below.fkv_keeper.Keeping.{Finality}
+use Rattle.law_commit.specs.Below.fkv_keeper.Checkpoint.{Checkpoint}
+use Rattle.law_opening.specs.Below.fkv_opening.TheOpened.{Opened}
 use Rattle.fkv_plane.specs.declared.places.SharedWord.TheVariants as one
 use Rattle.fkv_plane.specs.Asked.{word_at}
 use Rattle.fkv_plane.specs.Places.{shared_place}
-use Rattle.fkv_world.specs.Runs.{World, run}
-use Rattle.fkv_world.specs.World.{Event, Now}
+use Rattle.law_commit.specs.Below.fkv_world.Runs.{World, run}
+use Rattle.law_commit.specs.Below.fkv_world.World.{Event, Now}
 use Rattle.law_commit.specs.BegunCommits.{BegunCommit}
 use Rattle.law_commit.specs.Decided.Ended.{HasEnded, Span, span_of, span_opened}
-use Rattle.law_world.specs.Guarded.Shows as guard
-use Rattle.law_refine.proofs.OfEvents.Fixed.{life_rises}
-use Rattle.law_refine.specs.Events.Reserved.{tail_at}
+use Rattle.law_commit.specs.Below.law_world.Guarded.Shows as guard
+use Rattle.law_commit.proofs.Below.law_refine.OfEvents.Fixed.{life_rises}
+use Rattle.law_commit.specs.Below.law_refine.Events.Reserved.{tail_at}
 
 pub opened_tail : (o : Opened) (n : Now) → IsOpeningWorld o n → tail_at n ≡ o.tail.0
 opened_tail o n begins = ap (λ (all : List ℕ). word_at all (shared_place one.Tail)) begins.its_words.whole

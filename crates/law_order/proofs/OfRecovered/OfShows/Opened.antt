@@ -2,16 +2,16 @@
 use Rattle.std.proofs.Common.{◌≡◌, inl, inr, ℕ, ◌<◌, ◌≤◌, ◌∙◌, refl, sym, subst}
 use Rattle.std.proofs.lemmas.Bool.{cases_lt}
 use Rattle.fkv_base.specs.declared.shapes.Shape.{Shape}
-use Rattle.fkv_chains.specs.Entries.{Counts}
-use Rattle.fkv_pairs.specs.Pairs.{CountsAtHome}
+use Rattle.law_opening.specs.Below.fkv_chains.Entries.{Counts}
+use Rattle.law_opening.specs.Below.fkv_pairs.Pairs.{CountsAtHome}
 use Rattle.fkv_record.specs.declared.records.Record.{Record}
-use Rattle.fkv_scan.specs.Log as scan
-use Rattle.fkv_scan.specs.Log.{record_home}
+use Rattle.law_opening.specs.Below.fkv_scan.Log as scan
+use Rattle.law_opening.specs.Below.fkv_scan.Log.{record_home}
 use Rattle.law_log.specs.Chains.{Cell, Logged, Published, Unborn}
 use Rattle.law_log.specs.Ghosts.{Log}
 use Rattle.law_opening.specs.Log.Records.{HasWhatCounts, cell_of}
-use Rattle.law_paper.specs.Paper.Values.{TellsCell}
-use Rattle.law_refine.specs.Events.GhostEvents.{home_in}
+use Rattle.law_commit.specs.Below.law_paper.Paper.Values.{TellsCell}
+use Rattle.law_commit.specs.Below.law_refine.Events.GhostEvents.{home_in}
 
 -- the home of a record is that of its key
 home_is : (bits : ℕ) (x : Record) → record_home bits x ≡ home_in bits x.key.0

@@ -1,13 +1,13 @@
 -- An image that shows the flushed part of a log shows the log up to the end of the commit that it names.
 use Rattle.std.proofs.Common.{◌≡◌, ℕ, ◌+◌, ◌<◌, ◌≤◌, arith, sym, ap, subst, List}
-use Rattle.fkv_core.specs.Openings.{IsOpeningWorld}
-use Rattle.fkv_keeper.specs.Keeping.{Finality}
-use Rattle.fkv_keeper.specs.LastCommits.{lost_written}
-use Rattle.fkv_opening.specs.declared.opened_store.Opened.{Opened}
+use Rattle.law_opening.specs.Below.fkv_core.Openings.{IsOpeningWorld}
+use Rattle.law_commit.specs.Below.fkv_keeper.Keeping.{Finality}
+use Rattle.law_commit.specs.Below.fkv_keeper.LastCommits.{lost_written}
+use Rattle.law_opening.specs.Below.fkv_opening.TheOpened.{Opened}
 use Rattle.fkv_record.specs.declared.lost_ranges.LostRange.{LostRange}
-use Rattle.fkv_scan.specs.Log as scan
-use Rattle.fkv_scan.specs.Records.{losses}
-use Rattle.fkv_world.specs.World.{Event, Now}
+use Rattle.law_opening.specs.Below.fkv_scan.Log as scan
+use Rattle.law_opening.specs.Below.fkv_scan.Records.{losses}
+use Rattle.law_commit.specs.Below.fkv_world.World.{Event, Now}
 use Rattle.law_commit.specs.BegunCommits.{BegunCommit, commit_opened}
 use Rattle.law_commit.specs.Decided.Below.{CellsBelow}
 use Rattle.law_commit.specs.Versions.Cells.{made_in}
@@ -17,9 +17,9 @@ use Rattle.law_order.specs.Images.Lost.{LosesNoneFrom}
 use Rattle.law_order.specs.Images.Records.{ShowsFlushed}
 use Rattle.law_log.specs.Ghosts.{Log}
 use Rattle.law_order.specs.Decided.Cut.{NamesEnd, log_beside}
-use Rattle.law_paper.specs.Paper.Images.{IsDecided, ShowsLog}
+use Rattle.law_commit.specs.Below.law_paper.Paper.Images.{IsDecided, ShowsLog}
 use Rattle.law_order.proofs.OfRecovered.OfShows.Opened.{of_homes}
-use Rattle.law_refine.specs.Events.GhostEvents.{home_in}
+use Rattle.law_commit.specs.Below.law_refine.Events.GhostEvents.{home_in}
 
 -- a log that is shown from an address on is shown from each later one on
 pub shows_later : (home : ℕ → ℕ) (from later : ℕ) (image : scan.Log) (g : Log) → from ≤ later → ShowsLog home from image g → ShowsLog home later image g

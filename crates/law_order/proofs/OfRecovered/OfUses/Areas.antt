@@ -3,15 +3,15 @@ use Rattle.std.proofs.Common.{◌≡◌, inl, inr, ℕ, ◌≤◌, ◌∙◌, ar
 use Rattle.fkv_base.specs.declared.commits.CommitKind.{CommitKind}
 use Rattle.fkv_base.specs.declared.commits.CommitKind.TheVariants.{Full}
 use Rattle.fkv_base.specs.declared.numbers.Version.{Version}
-use Rattle.fkv_core.specs.Openings.{IsOpeningWorld}
-use Rattle.fkv_keeper.specs.Keeping.{Finality}
-use Rattle.fkv_keeper.specs.declared.last_commits.Checkpoint.{Checkpoint}
-use Rattle.fkv_opening.specs.declared.opened_store.Opened.{Opened}
-use Rattle.fkv_world.specs.World.{Event, Now}
+use Rattle.law_opening.specs.Below.fkv_core.Openings.{IsOpeningWorld}
+use Rattle.law_commit.specs.Below.fkv_keeper.Keeping.{Finality}
+use Rattle.law_commit.specs.Below.fkv_keeper.Checkpoint.{Checkpoint}
+use Rattle.law_opening.specs.Below.fkv_opening.TheOpened.{Opened}
+use Rattle.law_commit.specs.Below.fkv_world.World.{Event, Now}
 use Rattle.law_commit.specs.BegunCommits.{BegunCommit, commit_opened, kind_opened, triples_opened}
 use Rattle.law_order.specs.Images.Fits.{AllFit}
 use Rattle.law_order.specs.Images.Named.{AreTriplesOf, IsMadeBy, begun_so_far}
-use Rattle.law_world.specs.Standing.Standing.{triples_in}
+use Rattle.law_commit.specs.Below.law_world.Standing.Standing.{triples_in}
 
 pub opened_older : (o : Opened) (n : Now) → IsOpeningWorld o n → n.keeper.last.checkpoint.number.0 ≤ o.number.0
 opened_older o n its = subst (λ (last : Finality). last.checkpoint.number.0 ≤ o.number.0) (sym its.its_keeper.newest) o.no_newer

@@ -3,16 +3,16 @@ use Rattle.std.proofs.Common.{◌≡◌, inl, inr, ℕ, ◌^◌, ◌<◌, ◌≤
 use Rattle.fkv_base.specs.declared.numbers.Addr.{Addr}
 use Rattle.fkv_base.specs.declared.numbers.Version.{Version}
 use Rattle.fkv_base.specs.declared.shapes.Shape.{Shape}
-use Rattle.fkv_core.specs.Openings.{IsOpeningWorld}
-use Rattle.fkv_keeper.specs.Keeping.{Finality}
-use Rattle.fkv_keeper.specs.declared.last_commits.Checkpoint.{Checkpoint}
-use Rattle.fkv_newest.specs.declared.newest_slots.Newest.{Newest}
-use Rattle.fkv_opening.specs.Faults.{HasCheckpoint, log_of}
-use Rattle.fkv_opening.specs.declared.opened_store.Opened.{Opened}
+use Rattle.law_opening.specs.Below.fkv_core.Openings.{IsOpeningWorld}
+use Rattle.law_commit.specs.Below.fkv_keeper.Keeping.{Finality}
+use Rattle.law_commit.specs.Below.fkv_keeper.Checkpoint.{Checkpoint}
+use Rattle.law_opening.specs.Below.fkv_newest.TheNewest.{Newest}
+use Rattle.law_opening.specs.Below.fkv_opening.Faults.{HasCheckpoint, log_of}
+use Rattle.law_opening.specs.Below.fkv_opening.TheOpened.{Opened}
 use Rattle.fkv_record.specs.Manifest.{SlotSaid}
 use Rattle.fkv_record.specs.declared.manifest_slots.ManifestSlot.{ManifestSlot}
 use Rattle.fkv_record.specs.declared.triples.Triple.{Triple}
-use Rattle.fkv_world.specs.World.{Event, Now}
+use Rattle.law_commit.specs.Below.fkv_world.World.{Event, Now}
 use Rattle.law_commit.specs.BegunCommits.{AreInTurn, BegunCommit}
 use Rattle.law_commit.specs.Decided.Ended.{Span}
 use Rattle.law_order.specs.Images.Fits.{NamesNone}
@@ -25,7 +25,7 @@ use Rattle.law_order.specs.Recovered.Leaves.{NamesNew}
 use Rattle.law_order.specs.Recovered.Parts.{UsesNew}
 use Rattle.law_order.proofs.OfImages.Areas.{area_read, said_area}
 use Rattle.law_order.proofs.OfRecovered.OfUses.Numbers.{ends_by}
-use Rattle.law_world.specs.Standing.Standing.{triples_in}
+use Rattle.law_commit.specs.Below.law_world.Standing.Standing.{triples_in}
 
 -- a newer commit ends no lower
 abbrev pub EndRises : List BegunCommit → Type 0

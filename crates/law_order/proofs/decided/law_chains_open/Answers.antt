@@ -1,6 +1,6 @@
 -- By what an opened store's life begins with.
-use Rattle.fkv_core.specs.Openings.{beginning}
-use Rattle.fkv_filling.specs.OpeningIndex.{opening_lists}
+use Rattle.law_opening.specs.Below.fkv_core.Openings.{beginning}
+use Rattle.law_opening.specs.Below.fkv_filling.OpeningIndex.{opening_lists}
 use Rattle.law_opening.specs.Log.OpeningLog.{opening_ghosts}
 use Rattle.law_order.proofs.OfRules.Decided.{opens_taken}
 use Rattle.law_order.proofs.decided.law_chains_open.Goals as goal

@@ -1,7 +1,7 @@
 -- By what an opened store's life begins with.
 use Rattle.std.proofs.Common.{arith, inl, inr}
-use Rattle.fkv_core.specs.Openings.{beginning}
-use Rattle.fkv_filling.specs.OpeningIndex.{opening_lists}
+use Rattle.law_opening.specs.Below.fkv_core.Openings.{beginning}
+use Rattle.law_opening.specs.Below.fkv_filling.OpeningIndex.{opening_lists}
 use Rattle.law_opening.specs.Log.OpeningLog.{opening_ghosts}
 use Rattle.law_order.proofs.OfDecided.Covers.{writes_cover}
 use Rattle.law_order.proofs.OfDecided.Cut.{cut_so, decided_so, old_so, opened_tail}

@@ -1,5 +1,5 @@
 -- By what an opened store's life begins with.
-use Rattle.fkv_core.specs.Openings.{beginning}
+use Rattle.law_opening.specs.Below.fkv_core.Openings.{beginning}
 use Rattle.law_opening.specs.Log.OpeningLog.{opening_ghosts}
 use Rattle.law_order.proofs.OfRules.Decided.{opens_decided}
 use Rattle.law_order.proofs.OfRules.Words.{opens_seen}

@@ -1,8 +1,8 @@
 -- By what stays of the opened log, and by the versions of what is new.
 use Rattle.std.proofs.Common.{arith, ap}
 use Rattle.fkv_base.specs.declared.numbers.Addr.{Addr}
-use Rattle.fkv_core.specs.Openings.{beginning}
-use Rattle.fkv_pairs.specs.Pairs.{log_of_store}
+use Rattle.law_opening.specs.Below.fkv_core.Openings.{beginning}
+use Rattle.law_opening.specs.Below.fkv_pairs.Pairs.{log_of_store}
 use Rattle.law_opening.specs.Log.OpeningLog.{opening_ghosts, opening_log}
 use Rattle.law_order.proofs.OfDecided.Cut.{opened_tail}
 use Rattle.law_order.proofs.OfDecided.Old.{is_later, keeps_counted, keeps_lost}

@@ -1,5 +1,5 @@
 -- By the words that an opened store tells: it opens at rest, and each session has seen that.
-use Rattle.fkv_core.specs.Openings.{beginning}
+use Rattle.law_opening.specs.Below.fkv_core.Openings.{beginning}
 use Rattle.law_order.proofs.in_turn.law_floor_opens.Goals as goal
 
 pub returns-clause-floor : goal.returns-clause-floor

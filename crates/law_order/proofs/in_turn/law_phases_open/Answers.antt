@@ -1,5 +1,5 @@
 -- By the words that an opened store tells, and the stages of its lives.
-use Rattle.fkv_core.specs.Openings.{beginning}
+use Rattle.law_opening.specs.Below.fkv_core.Openings.{beginning}
 use Rattle.law_order.proofs.OfRules.Words.{opens_seen}
 use Rattle.law_order.proofs.in_turn.law_phases_open.Goals as goal
 

@@ -1,5 +1,5 @@
 -- Of each life that keeps order.
-use Rattle.fkv_core.specs.Openings.{beginning}
+use Rattle.law_opening.specs.Below.fkv_core.Openings.{beginning}
 use Rattle.law_opening.specs.Log.OpeningLog.{opening_ghosts}
 use Rattle.law_order.proofs.OfOneHistory.History.{life_history}
 use Rattle.law_order.proofs.one_history.law_history_beside.Goals as goal

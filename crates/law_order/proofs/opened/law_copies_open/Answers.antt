@@ -1,6 +1,6 @@
 -- The laws, by what an opened store's life begins with.
-use Rattle.fkv_core.specs.Openings.{beginning}
-use Rattle.fkv_filling.specs.OpeningIndex.{opening_lists}
+use Rattle.law_opening.specs.Below.fkv_core.Openings.{beginning}
+use Rattle.law_opening.specs.Below.fkv_filling.OpeningIndex.{opening_lists}
 use Rattle.law_opening.specs.Log.OpeningLog.{opening_ghosts}
 use Rattle.law_order.proofs.OfCopies.{full_written}
 use Rattle.law_order.proofs.opened.law_copies_open.Goals as goal

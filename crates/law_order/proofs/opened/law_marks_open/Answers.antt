@@ -1,5 +1,5 @@
 -- The laws, by what the words of an opened store show.
-use Rattle.fkv_core.specs.Openings.{beginning}
+use Rattle.law_opening.specs.Below.fkv_core.Openings.{beginning}
 use Rattle.law_opening.proofs.OfChanges.OfMails.Life.{its_seat}
 use Rattle.law_order.proofs.opened.law_marks_open.Goals as goal
 

@@ -1,5 +1,5 @@
 -- The laws, by what an opened store's life begins with.
-use Rattle.fkv_core.specs.Openings.{beginning}
+use Rattle.law_opening.specs.Below.fkv_core.Openings.{beginning}
 use Rattle.law_order.proofs.opened.law_stages_open.Goals as goal
 
 pub returns-clause-paper : goal.returns-clause-paper

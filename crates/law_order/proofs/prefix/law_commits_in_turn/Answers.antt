@@ -1,5 +1,5 @@
 -- The law of the commits that have begun, of a store that opened at rest.
-use Rattle.fkv_core.specs.Openings.{beginning}
+use Rattle.law_opening.specs.Below.fkv_core.Openings.{beginning}
 use Rattle.law_order.proofs.prefix.law_commits_in_turn.Goals as goal
 
 pub returns : goal.returns

@@ -1,8 +1,8 @@
 -- By the law of what sessions were told as durable, of an opened store.
 use Rattle.std.proofs.Common.{arith, ap}
-use Rattle.fkv_core.specs.Openings.{beginning}
-use Rattle.fkv_keeper.specs.Keeping.{Finality}
-use Rattle.fkv_world.specs.Runs.{World}
+use Rattle.law_opening.specs.Below.fkv_core.Openings.{beginning}
+use Rattle.law_commit.specs.Below.fkv_keeper.Keeping.{Finality}
+use Rattle.law_commit.specs.Below.fkv_world.Runs.{World}
 use Rattle.law_order.proofs.prefix.law_durable_is_sealed.Goals as goal
 
 pub returns : goal.returns

@@ -1,5 +1,5 @@
 -- By the law of what sessions were told as durable, of an opened store.
-use Rattle.fkv_core.specs.Openings.{beginning}
+use Rattle.law_opening.specs.Below.fkv_core.Openings.{beginning}
 use Rattle.law_order.proofs.prefix.law_durable_never_falls.Goals as goal
 
 pub returns : goal.returns

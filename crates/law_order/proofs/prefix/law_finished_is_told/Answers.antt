@@ -1,9 +1,9 @@
 -- The law, by what the keeper of an opened store has as the newest finished commit.
 use Rattle.std.proofs.Common.{◌≡◌, ℕ, List, [], ◌∷◌, subst}
-use Rattle.fkv_core.specs.Openings.{beginning}
-use Rattle.fkv_keeper.specs.Keeping.{Finality}
-use Rattle.fkv_opening.specs.declared.opened_store.Opened.{Opened}
-use Rattle.fkv_world.specs.World.{Event, Now}
+use Rattle.law_opening.specs.Below.fkv_core.Openings.{beginning}
+use Rattle.law_commit.specs.Below.fkv_keeper.Keeping.{Finality}
+use Rattle.law_opening.specs.Below.fkv_opening.TheOpened.{Opened}
+use Rattle.law_commit.specs.Below.fkv_world.World.{Event, Now}
 use Rattle.law_commit.specs.FinishedCommits.{commits_finished, commits_told, told_of}
 use Rattle.law_order.specs.Prefix.Law.{past_so_far, trace_so_far}
 use Rattle.law_order.proofs.OfRules.Beginning.{world_opens}

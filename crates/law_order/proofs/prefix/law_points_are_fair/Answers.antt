@@ -1,8 +1,8 @@
 -- By the laws of the points that commits take.
 use Rattle.std.proofs.Common.{ℕ, ◌≤◌, List, [], ◌∷◌, sym, subst}
-use Rattle.fkv_core.specs.Openings.{beginning}
-use Rattle.fkv_world.specs.Runs.{World, run}
-use Rattle.fkv_world.specs.World.{Now}
+use Rattle.law_opening.specs.Below.fkv_core.Openings.{beginning}
+use Rattle.law_commit.specs.Below.fkv_world.Runs.{World, run}
+use Rattle.law_commit.specs.Below.fkv_world.World.{Now}
 use Rattle.law_commit.specs.Accepted.{serial_at}
 use Rattle.law_commit.specs.BegunCommits.{BegunCommit, life_begun}
 use Rattle.law_commit.specs.Points.{BeginsAsTaken, OpensPointed}

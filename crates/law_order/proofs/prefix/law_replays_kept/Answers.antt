@@ -5,9 +5,9 @@ use Rattle.fkv_map.specs.declared.history.HistoryEntry.{HistoryEntry}
 use Rattle.law_log.specs.Ghosts.{Ghosts}
 use Rattle.law_opening.specs.Log.Lives.{IsOrdered, ghosts_beside}
 use Rattle.law_opening.specs.Log.Maps.{opening_map}
-use Rattle.law_paper.specs.Kept.{KeepsPrefix}
-use Rattle.law_refine.specs.Events.GhostEvents.{home_in}
-use Rattle.law_refine.proofs.OfCalls.SameHistory.{same_history}
+use Rattle.law_commit.specs.Below.law_paper.Kept.{KeepsPrefix}
+use Rattle.law_commit.specs.Below.law_refine.Events.GhostEvents.{home_in}
+use Rattle.law_commit.proofs.Below.law_refine.OfCalls.SameHistory.{same_history}
 use Rattle.law_order.specs.Rules.Ordered.{effects_so_far}
 use Rattle.law_order.proofs.OfRules.Kept.{same_entries}
 use Rattle.law_order.proofs.prefix.law_replays_kept.Goals as goal

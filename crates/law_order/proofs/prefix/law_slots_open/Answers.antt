@@ -1,13 +1,13 @@
 -- By the entries of the index, which lead to where chains begin.
 use Rattle.std.proofs.Common.{◌∙◌, ap, sym}
 use Rattle.fkv_base.specs.declared.shapes.Shape.{Shape}
-use Rattle.fkv_core.specs.Openings.{beginning}
-use Rattle.fkv_filling.specs.OpeningIndex.{opening_lists}
+use Rattle.law_opening.specs.Below.fkv_core.Openings.{beginning}
+use Rattle.law_opening.specs.Below.fkv_filling.OpeningIndex.{opening_lists}
 use Rattle.fkv_plane.specs.declared.places.Places.{Places}
-use Rattle.fkv_world.specs.Runs.{World, run}
-use Rattle.fkv_world.proofs.Shown.{places_stay}
+use Rattle.law_commit.specs.Below.fkv_world.Runs.{World, run}
+use Rattle.law_commit.proofs.Below.fkv_world.Shown.{places_stay}
 use Rattle.law_opening.specs.Log.OpeningLog.{opening_ghosts}
-use Rattle.law_refine.specs.Index.LifeEntries.{lists_seen}
+use Rattle.law_commit.specs.Below.law_refine.Index.LifeEntries.{lists_seen}
 use Rattle.law_order.proofs.OfPrefix.Slots.{has_slots}
 use Rattle.law_order.specs.Decided.Cut.{log_beside}
 use Rattle.law_order.proofs.prefix.law_slots_open.Goals as goal

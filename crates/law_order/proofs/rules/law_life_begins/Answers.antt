@@ -4,8 +4,8 @@ use Rattle.fkv_base.specs.declared.shapes.Shape.{Shape}
 use Rattle.law_opening.proofs.OfChanges.OfDevice.Image.{in_image}
 use Rattle.law_opening.proofs.OfChanges.OfDevice.Mailboxes.{mailboxes_empty}
 use Rattle.law_log.specs.Enabled.{IsOpened}
-use Rattle.law_refine.proofs.OfMail.Openings.{opened_mailbox}
-use Rattle.law_refine.specs.Events.GhostEvents.{home_in}
+use Rattle.law_commit.proofs.Below.law_refine.OfMail.Openings.{opened_mailbox}
+use Rattle.law_commit.specs.Below.law_refine.Events.GhostEvents.{home_in}
 use Rattle.law_opening.specs.Log.Maps.{opening_map}
 use Rattle.law_opening.specs.Log.OpeningLog.{opening_ghosts}
 use Rattle.law_order.proofs.OfRules.Beginning.{world_opens}

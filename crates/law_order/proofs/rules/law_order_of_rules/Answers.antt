@@ -1,7 +1,7 @@
 -- The laws, from the log beside the life to the life itself.
 use Rattle.std.proofs.Common.{ℕ, subst, sym, List, [], ◌∷◌}
 use Rattle.fkv_base.specs.declared.shapes.Shape.{Shape}
-use Rattle.fkv_core.specs.Openings.{beginning}
+use Rattle.law_opening.specs.Below.fkv_core.Openings.{beginning}
 use Rattle.fkv_map.specs.History.{IsLegal}
 use Rattle.law_log.specs.Ghosts.{Ghosts}
 use Rattle.law_log.specs.Enabled.{IsOpened}
@@ -9,13 +9,13 @@ use Rattle.law_log.specs.Trace.{OrdersCalls, ReadsAreFresh, TraceLine}
 use Rattle.law_opening.specs.Log.Lives.{ghosts_beside}
 use Rattle.law_opening.specs.Log.Maps.{opening_map}
 use Rattle.law_opening.specs.Log.OpeningLog.{opening_ghosts}
-use Rattle.law_refine.proofs.OfCalls.SameHistory.{same_history}
-use Rattle.fkv_opening.specs.declared.opened_store.Opened.{Opened}
-use Rattle.fkv_world.specs.Runs.{run}
-use Rattle.fkv_world.specs.World.{Event, Now}
-use Rattle.law_world.specs.Guarded.Shows.{ArePermitted}
-use Rattle.law_refine.specs.Events.GhostEvents.{home_in}
-use Rattle.law_refine.proofs.OfRecords.Below.{published_permitted}
+use Rattle.law_commit.proofs.Below.law_refine.OfCalls.SameHistory.{same_history}
+use Rattle.law_opening.specs.Below.fkv_opening.TheOpened.{Opened}
+use Rattle.law_commit.specs.Below.fkv_world.Runs.{run}
+use Rattle.law_commit.specs.Below.fkv_world.World.{Event, Now}
+use Rattle.law_commit.specs.Below.law_world.Guarded.Shows.{ArePermitted}
+use Rattle.law_commit.specs.Below.law_refine.Events.GhostEvents.{home_in}
+use Rattle.law_commit.proofs.Below.law_refine.OfRecords.Below.{published_permitted}
 use Rattle.law_order.specs.Rules.Ordered.{effects_so_far, lines_so_far}
 use Rattle.law_order.proofs.OfRules.InTime.{reads_in_time}
 use Rattle.law_order.proofs.OfRules.Kept.{permitted_at, same_entries}

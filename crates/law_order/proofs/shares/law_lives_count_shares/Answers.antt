@@ -1,5 +1,5 @@
 -- By the latches of an opened store, of which none is held.
-use Rattle.fkv_core.specs.Openings.{beginning}
+use Rattle.law_opening.specs.Below.fkv_core.Openings.{beginning}
 use Rattle.law_order.proofs.shares.law_lives_count_shares.Goals as goal
 
 pub returns-clause-permitted : goal.returns-clause-permitted

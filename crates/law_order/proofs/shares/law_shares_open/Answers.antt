@@ -1,5 +1,5 @@
 -- By what an opened store's life begins with.
-use Rattle.fkv_core.specs.Openings.{beginning}
+use Rattle.law_opening.specs.Below.fkv_core.Openings.{beginning}
 use Rattle.law_order.proofs.shares.law_shares_open.Goals as goal
 
 pub returns-clause-meets : goal.returns-clause-meets

@@ -1,5 +1,5 @@
 -- By the log with which the life of an opened store begins.
-use Rattle.fkv_core.specs.Openings.{beginning}
+use Rattle.law_opening.specs.Below.fkv_core.Openings.{beginning}
 use Rattle.law_opening.specs.Log.OpeningLog.{opening_ghosts}
 use Rattle.law_order.proofs.versions.law_lives_bound_versions.Goals as goal
 

@@ -1,5 +1,5 @@
 -- By what the sessions of an opened store have seen.
-use Rattle.fkv_core.specs.Openings.{beginning}
+use Rattle.law_opening.specs.Below.fkv_core.Openings.{beginning}
 use Rattle.law_order.proofs.versions.law_lives_end_versions.Goals as goal
 
 pub returns-clause-ranks : goal.returns-clause-ranks

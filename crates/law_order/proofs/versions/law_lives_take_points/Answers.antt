@@ -1,5 +1,5 @@
 -- By the points of an opened store's newest commit, and by what its words show.
-use Rattle.fkv_core.specs.Openings.{beginning}
+use Rattle.law_opening.specs.Below.fkv_core.Openings.{beginning}
 use Rattle.law_order.proofs.versions.law_lives_take_points.Goals as goal
 
 pub returns-clause-shown : goal.returns-clause-shown

@@ -1,13 +1,13 @@
 -- What the laws of `opened` say.
 use Rattle.std.specs.Prelude.{ℕ, List}
-use Rattle.fkv_core.specs.Openings.{IsOpeningWorld}
-use Rattle.fkv_newest.specs.Manifest.{Suits}
-use Rattle.fkv_newest.specs.Newest.{HasShape, IsNewestOf}
-use Rattle.fkv_opening.specs.Opened.{IsStoreOf}
-use Rattle.fkv_opening.specs.declared.opened_store.Opened.{Opened}
+use Rattle.law_opening.specs.Below.fkv_core.Openings.{IsOpeningWorld}
+use Rattle.law_opening.specs.Below.fkv_newest.Manifest.{Suits}
+use Rattle.law_opening.specs.Below.fkv_newest.Newest.{HasShape, IsNewestOf}
+use Rattle.law_opening.specs.Below.fkv_opening.Opened.{IsStoreOf}
+use Rattle.law_opening.specs.Below.fkv_opening.TheOpened.{Opened}
 use Rattle.fkv_record.specs.declared.formats.Format.TheVariants.{Third}
 use Rattle.fkv_record.specs.declared.manifest_slots.ManifestSlot.{ManifestSlot}
-use Rattle.fkv_world.specs.World.{Event, Now}
+use Rattle.law_commit.specs.Below.fkv_world.World.{Event, Now}
 use Rattle.law_order.specs.Images.Left.{IsLeft}
 use Rattle.law_order.specs.Images.Opened.{HasSlot, named_in}
 use Rattle.law_opening.specs.Lives.Reaching.{ReachesFar}

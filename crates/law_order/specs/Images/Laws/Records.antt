@@ -1,12 +1,12 @@
 -- What the laws of `records` say.
 use Rattle.std.specs.Prelude.{◌≡◌, ◌<◌, ℕ, List}
-use Rattle.fkv_core.specs.Openings.{IsOpeningWorld}
+use Rattle.law_opening.specs.Below.fkv_core.Openings.{IsOpeningWorld}
 use Rattle.fkv_disk.specs.Bytes.{bytes_at}
-use Rattle.fkv_opening.specs.Opened.{IsStoreOf}
-use Rattle.fkv_opening.specs.declared.opened_store.Opened.{Opened}
+use Rattle.law_opening.specs.Below.fkv_opening.Opened.{IsStoreOf}
+use Rattle.law_opening.specs.Below.fkv_opening.TheOpened.{Opened}
 use Rattle.fkv_record.specs.Places.{record_place}
-use Rattle.fkv_scan.specs.Log as scan
-use Rattle.fkv_world.specs.World.{Event, Now}
+use Rattle.law_opening.specs.Below.fkv_scan.Log as scan
+use Rattle.law_commit.specs.Below.fkv_world.World.{Event, Now}
 use Rattle.law_opening.specs.Changes.Fits.{CallsFit}
 use Rattle.law_order.specs.Images.Left.{IsLeft}
 use Rattle.law_order.specs.Images.Records.{ShowsFlushed}

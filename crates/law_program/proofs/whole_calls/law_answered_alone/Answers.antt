@@ -1,4 +1,4 @@
-use Rattle.law_opening.specs.Log.Maps.{opening_map}
+use Rattle.law_order.specs.Below.law_opening.Log.Maps.{opening_map}
 use Rattle.law_order.specs.Rules.Ordered.{effects_so_far, lines_so_far}
 use Rattle.law_program.proofs.OfWholeCalls.Whole.{answered_alone}
 use Rattle.law_program.proofs.whole_calls.law_answered_alone.Goals as goal

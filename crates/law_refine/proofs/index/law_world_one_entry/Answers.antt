@@ -1,5 +1,5 @@
 -- The law, by what the run of the index shows of a life, each of whose steps is permitted.
-use Rattle.fkv_world.specs.Runs.{run}
+use Rattle.law_world.specs.Below.fkv_world.Runs.{run}
 use Rattle.law_refine.specs.Index.Shows.{seen_by_index}
 use Rattle.law_refine.proofs.OfIndex.Permitted.{are_permitted}
 use Rattle.law_refine.proofs.OfIndex.LifeFacts.{life_sound, index_shown, answers_shown, slots_shown, orders_shown, life_asks}

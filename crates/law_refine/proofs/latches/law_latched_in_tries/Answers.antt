@@ -1,5 +1,5 @@
 -- The law, by what stands between events.
-use Rattle.fkv_world.specs.Runs.{run}
+use Rattle.law_world.specs.Below.fkv_world.Runs.{run}
 use Rattle.law_refine.specs.Latches.Shows.{seen_by_latches}
 use Rattle.law_refine.proofs.OfLatches.InTries.{holds_beside_none, holds_in_tries}
 use Rattle.law_refine.proofs.OfLatches.Permitted.{life_holds}

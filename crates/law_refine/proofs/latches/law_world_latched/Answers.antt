@@ -2,7 +2,7 @@
 use Rattle.std.proofs.Common.{length}
 use Rattle.fkv_latch.specs.Latched.{opening}
 use Rattle.fkv_latch.proofs.Shown.{run_sound, opening_sound, sound_apart, sound_counted}
-use Rattle.fkv_world.specs.Runs.{run}
+use Rattle.law_world.specs.Below.fkv_world.Runs.{run}
 use Rattle.law_refine.specs.Latches.LatchEvents.{mapped}
 use Rattle.law_refine.specs.Latches.Shows.{seen_by_latches}
 use Rattle.law_refine.proofs.OfLatches.Apart.{holds_shows, holds_apart}

@@ -1,6 +1,6 @@
 -- The law: what is flushed is synced as it stands, and what stands shows the log.
-use Rattle.fkv_flush.specs.GuardLevels.{levels_of}
-use Rattle.fkv_world.specs.Runs.{run}
+use Rattle.law_world.specs.Below.fkv_flush.GuardLevels.{levels_of}
+use Rattle.law_world.specs.Below.fkv_world.Runs.{run}
 use Rattle.law_refine.specs.Events.GhostEvents.{life_ghosts}
 use Rattle.law_refine.proofs.OfRecords.Below.{published_permitted}
 use Rattle.law_refine.proofs.OfRecords.Frames.{device_shows_log}

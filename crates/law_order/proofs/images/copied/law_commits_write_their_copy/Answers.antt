@@ -1,24 +1,24 @@
 -- The law, by what is known of each commit as its writes begin.
 use Rattle.std.proofs.Common.{◌∙◌, inl, inr, sym, subst, ℕ, List, map}
 use Rattle.std.specs.List.{AllByRecursion}
-use Rattle.fkv_checkpoint.specs.Copied.{copied_after}
-use Rattle.fkv_checkpoint.specs.Fuzzy.{AreApart as AreHomesApart}
-use Rattle.fkv_checkpoint.specs.Triples.{CopiedEntry, copied_of}
-use Rattle.fkv_core.specs.Openings.{beginning}
-use Rattle.fkv_filling.specs.OpeningIndex.{opening_lists}
-use Rattle.fkv_world.specs.Opened.{IsOpenedWorld}
-use Rattle.fkv_world.specs.OwnEvents.{keeper_events}
-use Rattle.fkv_world.specs.Runs.{World}
-use Rattle.fkv_world.specs.World.{Event}
+use Rattle.law_commit.specs.Below.fkv_checkpoint.Copied.{copied_after}
+use Rattle.law_commit.specs.Below.fkv_checkpoint.Fuzzy.{AreApart as AreHomesApart}
+use Rattle.law_commit.specs.Below.fkv_checkpoint.Triples.{CopiedEntry, copied_of}
+use Rattle.law_opening.specs.Below.fkv_core.Openings.{beginning}
+use Rattle.law_opening.specs.Below.fkv_filling.OpeningIndex.{opening_lists}
+use Rattle.law_commit.specs.Below.fkv_world.Opened.{IsOpenedWorld}
+use Rattle.law_commit.specs.Below.fkv_world.OwnEvents.{keeper_events}
+use Rattle.law_commit.specs.Below.fkv_world.Runs.{World}
+use Rattle.law_commit.specs.Below.fkv_world.World.{Event}
 use Rattle.law_commit.specs.Copied.Covers.{HasStoodSince}
 use Rattle.law_commit.proofs.OfCopied.HomesApart.{one_of, triples_apart}
-use Rattle.law_world.specs.Guarded.OpenedStore.{IsOpenedStore}
+use Rattle.law_commit.specs.Below.law_world.Guarded.OpenedStore.{IsOpenedStore}
 use Rattle.law_order.proofs.OfImages.AtRest.{opens_at_rest, world_opens}
 use Rattle.law_order.proofs.OfImages.CopyWritten.{CopiesIfFull, all_copied}
 use Rattle.law_order.proofs.OfImages.CopyInIndex.{stood_in_index}
 use Rattle.law_order.proofs.OfImages.LifeNamed.{life_known}
 use Rattle.law_opening.specs.Lives.OpenedFrom.{IsOpenedFrom}
-use Rattle.law_world.specs.Keeper.Lives.{IsLifeTold, replies_copied}
+use Rattle.law_commit.specs.Below.law_world.Keeper.Lives.{IsLifeTold, replies_copied}
 use Rattle.law_order.proofs.images.copied.law_commits_write_their_copy.Goals as goal
 
 pub returns-clause-copied : goal.returns-clause-copied

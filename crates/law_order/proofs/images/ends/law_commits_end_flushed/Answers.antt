@@ -1,10 +1,10 @@
 -- The law: no commit is written before its log is flushed, and the flushed offset never falls.
 use Rattle.std.proofs.Common.{◌*◌, ◌≤◌, subst, [], ◌∷◌}
 use Rattle.fkv_base.specs.declared.shapes.Shape.{Shape}
-use Rattle.fkv_core.specs.Openings.{beginning}
-use Rattle.fkv_keeper.specs.Keeping.{KeeperState}
-use Rattle.fkv_world.specs.Runs.{World, run}
-use Rattle.law_world.specs.Guarded.OpenedStore.{IsOpenedStore}
+use Rattle.law_opening.specs.Below.fkv_core.Openings.{beginning}
+use Rattle.law_commit.specs.Below.fkv_keeper.Keeping.{KeeperState}
+use Rattle.law_commit.specs.Below.fkv_world.Runs.{World, run}
+use Rattle.law_commit.specs.Below.law_world.Guarded.OpenedStore.{IsOpenedStore}
 use Rattle.law_order.proofs.OfImages.EndsFlushed.{ends_higher, flushed_at, life_ends, on_device, written}
 use Rattle.law_order.proofs.images.ends.law_commits_end_flushed.Goals as goal
 

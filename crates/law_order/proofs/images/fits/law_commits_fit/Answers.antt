@@ -1,14 +1,14 @@
 -- The law, by what is known of each commit as its writes begin.
 use Rattle.std.proofs.Common.{◌≡◌, ◌⊎◌, inl, inr, ℕ, List, [], ◌∷◌}
-use Rattle.fkv_core.specs.Openings.{beginning}
-use Rattle.fkv_keeper.specs.LastCommits.{slot_place}
-use Rattle.fkv_manifest.specs.Newest.{slot_in}
-use Rattle.fkv_opening.specs.declared.opened_store.Opened.{Opened}
-use Rattle.fkv_world.specs.Opened.{IsOpenedWorld}
-use Rattle.fkv_world.specs.Runs.{World, run}
-use Rattle.fkv_world.specs.World.{Now}
+use Rattle.law_opening.specs.Below.fkv_core.Openings.{beginning}
+use Rattle.law_commit.specs.Below.fkv_keeper.LastCommits.{slot_place}
+use Rattle.law_commit.specs.Below.fkv_manifest.Newest.{slot_in}
+use Rattle.law_opening.specs.Below.fkv_opening.TheOpened.{Opened}
+use Rattle.law_commit.specs.Below.fkv_world.Opened.{IsOpenedWorld}
+use Rattle.law_commit.specs.Below.fkv_world.Runs.{World, run}
+use Rattle.law_commit.specs.Below.fkv_world.World.{Now}
 use Rattle.law_commit.specs.BegunCommits.{BegunCommit, commit_opened}
-use Rattle.law_world.specs.Guarded.OpenedStore.{IsOpenedStore}
+use Rattle.law_commit.specs.Below.law_world.Guarded.OpenedStore.{IsOpenedStore}
 use Rattle.law_order.specs.Images.Fits.{FitsLife}
 use Rattle.law_order.specs.Images.Left.{flushed_so_far}
 use Rattle.law_order.specs.Images.Named.{AreSlotOf, begun_so_far, slot_of}
@@ -18,7 +18,7 @@ use Rattle.law_order.proofs.OfImages.LifeFits.{life_fits, of_plain}
 use Rattle.law_order.proofs.OfImages.LifeNamed.{life_known, life_named}
 use Rattle.law_order.proofs.OfImages.SealedStands.{sealed_stands}
 use Rattle.law_opening.specs.Lives.OpenedFrom.{IsOpenedFrom}
-use Rattle.law_world.specs.Keeper.Lives.{IsLifeTold, life_writing}
+use Rattle.law_commit.specs.Below.law_world.Keeper.Lives.{IsLifeTold, life_writing}
 use Rattle.law_order.proofs.images.fits.law_commits_fit.Goals as goal
 
 slot_either : (o : Opened) (n : Now) (flushed : ℕ) (opened : List ℕ) (first c : BegunCommit) (bytes : List ℕ) → HasSlot n.shape opened first (FitsLife o n flushed) c bytes

@@ -4,22 +4,22 @@ use Rattle.std.specs.Prelude.{◌&&◌, ◌==◌, nat_lt, cond}
 use Rattle.std.proofs.lemmas.Bool.Decides.{nat_tests}
 use Rattle.std.proofs.lemmas.List.Elements.{All-head, All-tail, All-weaker}
 use Rattle.std.proofs.lemmas.List.Sums.{sum_by-cons}
-use Rattle.fkv_core.specs.Openings.{IsOpeningWorld}
-use Rattle.fkv_keeper.specs.LastCommits.{lost_written}
-use Rattle.fkv_opening.specs.Opened.{IsStoreOf}
-use Rattle.fkv_opening.specs.declared.opened_store.Opened.{Opened}
+use Rattle.law_opening.specs.Below.fkv_core.Openings.{IsOpeningWorld}
+use Rattle.law_commit.specs.Below.fkv_keeper.LastCommits.{lost_written}
+use Rattle.law_opening.specs.Below.fkv_opening.Opened.{IsStoreOf}
+use Rattle.law_opening.specs.Below.fkv_opening.TheOpened.{Opened}
 use Rattle.fkv_record.specs.declared.lost_ranges.LostRange.{LostRange}
 use Rattle.fkv_record.specs.declared.records.Record.{Record}
-use Rattle.fkv_pairs.specs.Pairs.{log_of_store}
-use Rattle.fkv_scan.specs.Records.{is_in, losses}
-use Rattle.fkv_world.specs.World.{Now}
+use Rattle.law_opening.specs.Below.fkv_pairs.Pairs.{log_of_store}
+use Rattle.law_opening.specs.Below.fkv_scan.Records.{is_in, losses}
+use Rattle.law_commit.specs.Below.fkv_world.World.{Now}
 use Rattle.law_commit.specs.BegunCommits.{BegunCommit}
 use Rattle.law_order.specs.Images.Fits.{NamesItsLost, NamesLost}
 use Rattle.law_order.specs.Images.Lost.{LosesAsOpened, LosesNoneFrom}
 use Rattle.law_order.proofs.OfImages.LifeFits.{lost_as_opened, opened_older}
 use Rattle.law_order.proofs.OfImages.LostOpened.{IsLostOpened, opened_lost}
 use Rattle.law_opening.specs.Log.OpeningLog.{opening_log}
-use Rattle.law_paper.specs.Paper.Old.{LosesTheRest}
+use Rattle.law_commit.specs.Below.law_paper.Paper.Old.{LosesTheRest}
 use Rattle.law_order.proofs.images.lost.law_commits_lose_the_rest.Goals as goal
 
 abbrev one_if : Bool → ℕ

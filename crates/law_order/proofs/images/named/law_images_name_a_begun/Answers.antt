@@ -1,13 +1,13 @@
 -- The law, by what stands of the newest finished commit and of the one that is written.
 use Rattle.std.proofs.Common.{inl, inr, List, ℕ}
-use Rattle.fkv_core.specs.Openings.{beginning}
-use Rattle.fkv_keeper.specs.LastCommits.{slot_place}
-use Rattle.fkv_manifest.specs.Newest.{slot_in}
-use Rattle.fkv_world.specs.OwnEvents.{keeper_events}
-use Rattle.fkv_world.specs.Opened.{IsOpenedWorld}
-use Rattle.fkv_world.specs.Runs.{World, run}
+use Rattle.law_opening.specs.Below.fkv_core.Openings.{beginning}
+use Rattle.law_commit.specs.Below.fkv_keeper.LastCommits.{slot_place}
+use Rattle.law_commit.specs.Below.fkv_manifest.Newest.{slot_in}
+use Rattle.law_commit.specs.Below.fkv_world.OwnEvents.{keeper_events}
+use Rattle.law_commit.specs.Below.fkv_world.Opened.{IsOpenedWorld}
+use Rattle.law_commit.specs.Below.fkv_world.Runs.{World, run}
 use Rattle.law_commit.specs.BegunCommits.{BegunCommit, commit_opened}
-use Rattle.law_world.specs.Guarded.OpenedStore.{IsOpenedStore}
+use Rattle.law_commit.specs.Below.law_world.Guarded.OpenedStore.{IsOpenedStore}
 use Rattle.law_order.proofs.OfImages.AtRest.{opens_at_rest, world_opens}
 use Rattle.law_order.proofs.OfImages.Begun.{HasSlot}
 use Rattle.law_order.proofs.OfImages.AreaFits.{FitsArea, all_good, begun_fits}
@@ -16,7 +16,7 @@ use Rattle.law_order.proofs.OfImages.SealedStands.{sealed_stands}
 use Rattle.law_order.specs.Images.Named.{AreSlotOf, begun_so_far}
 use Rattle.fkv_base.specs.declared.shapes.Shape.{Shape}
 use Rattle.law_opening.specs.Lives.OpenedFrom.{IsOpenedFrom}
-use Rattle.law_world.specs.Keeper.Lives.{IsLifeTold, life_writing}
+use Rattle.law_commit.specs.Below.law_world.Keeper.Lives.{IsLifeTold, life_writing}
 use Rattle.law_order.proofs.images.named.law_images_name_a_begun.Goals as goal
 
 slot_either : (shape : Shape) (opened : List ℕ) (first : BegunCommit) (Good : BegunCommit → Type 0) (c : BegunCommit) (bytes : List ℕ) → HasSlot shape opened first Good c bytes → AreSlotOf shape opened first c bytes

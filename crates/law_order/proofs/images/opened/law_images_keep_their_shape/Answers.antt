@@ -1,9 +1,9 @@
 -- The law: nothing is written below the slots.
 use Rattle.std.proofs.Common.{refl, sym, subst, arith, ◌∙◌}
-use Rattle.fkv_core.specs.Openings.{beginning}
-use Rattle.fkv_newest.specs.Newest.{HasShape}
-use Rattle.fkv_world.specs.Runs.{World, run}
-use Rattle.law_world.specs.Guarded.OpenedStore.{IsOpenedStore}
+use Rattle.law_opening.specs.Below.fkv_core.Openings.{beginning}
+use Rattle.law_opening.specs.Below.fkv_newest.Newest.{HasShape}
+use Rattle.law_commit.specs.Below.fkv_world.Runs.{World, run}
+use Rattle.law_commit.specs.Below.law_world.Guarded.OpenedStore.{IsOpenedStore}
 use Rattle.law_order.proofs.OfImages.Block.{slots_above}
 use Rattle.law_order.proofs.OfImages.Untouched.{left_below, life_above}
 use Rattle.law_order.proofs.OfImages.OpenedLong.{long_for}

@@ -2,21 +2,21 @@
 use Rattle.std.proofs.Common.{◌≡◌, inl, inr, ℕ, ◌+◌, ◌-◌, ◌*◌, ◌%◌, ◌<◌, ◌≤◌, ◌∙◌, arith, refl, sym, ap, subst, length}
 use Rattle.std.specs.Prelude.{Some}
 use Rattle.fkv_base.specs.declared.shapes.Shape.{Shape}
-use Rattle.fkv_core.specs.Openings.{beginning}
-use Rattle.fkv_creating.specs.Long.{IsLong}
-use Rattle.fkv_keeper.specs.Keeping.{Finality}
-use Rattle.fkv_keeper.specs.LastCommits.{area_number, slot_place}
-use Rattle.fkv_manifest.specs.Newest as manifest
-use Rattle.fkv_manifest.specs.Newest.{slot_in}
-use Rattle.fkv_newest.specs.Manifest.{Suits}
-use Rattle.fkv_newest.specs.Newest.{HasShape}
-use Rattle.fkv_newest.specs.declared.newest_slots.Newest.{Newest}
+use Rattle.law_opening.specs.Below.fkv_core.Openings.{beginning}
+use Rattle.law_opening.specs.Below.fkv_creating.Long.{IsLong}
+use Rattle.law_commit.specs.Below.fkv_keeper.Keeping.{Finality}
+use Rattle.law_commit.specs.Below.fkv_keeper.LastCommits.{area_number, slot_place}
+use Rattle.law_commit.specs.Below.fkv_manifest.Newest as manifest
+use Rattle.law_commit.specs.Below.fkv_manifest.Newest.{slot_in}
+use Rattle.law_opening.specs.Below.fkv_newest.Manifest.{Suits}
+use Rattle.law_opening.specs.Below.fkv_newest.Newest.{HasShape}
+use Rattle.law_opening.specs.Below.fkv_newest.TheNewest.{Newest}
 use Rattle.fkv_record.specs.Places.{area_place, record_place}
 use Rattle.fkv_record.specs.declared.formats.Format.TheVariants.{Third}
 use Rattle.fkv_record.specs.declared.manifest_slots.ManifestSlot.{ManifestSlot}
-use Rattle.fkv_world.specs.Runs.{World}
+use Rattle.law_commit.specs.Below.fkv_world.Runs.{World}
 use Rattle.law_commit.specs.BegunCommits.{BegunCommit}
-use Rattle.law_world.specs.Guarded.OpenedStore.{IsOpenedStore}
+use Rattle.law_commit.specs.Below.law_world.Guarded.OpenedStore.{IsOpenedStore}
 use Rattle.law_order.specs.Images.Fits.{FitsLife, NamesFit}
 use Rattle.law_order.specs.Images.Left.{flushed_so_far}
 use Rattle.law_order.specs.Images.Opened.{HasSlot, named_in, newest_in}
@@ -27,8 +27,8 @@ use Rattle.law_order.proofs.OfImages.LostOpened.{opened_lost}
 use Rattle.law_order.proofs.OfImages.OpenedLong.{long_for, longer}
 use Rattle.law_order.proofs.OfImages.SlotSaid.{slot_read, suits_so}
 use Rattle.law_opening.specs.Lives.OpenedFrom.{IsOpenedFrom}
-use Rattle.law_world.proofs.OfStanding.SlotPlaces.{place_by_parity}
-use Rattle.law_world.specs.Standing.Opening.{IsBehind}
+use Rattle.law_commit.proofs.Below.law_world.OfStanding.SlotPlaces.{place_by_parity}
+use Rattle.law_commit.specs.Below.law_world.Standing.Opening.{IsBehind}
 use Rattle.law_order.proofs.images.read.law_images_read_back.Goals as goal
 
 pub returns-clause-slot : goal.returns-clause-slot

@@ -1,15 +1,15 @@
 -- The law: nobody writes there, and what stood before is synced.
 use Rattle.std.proofs.Common.{◌≡◌, ℕ, ◌+◌, ◌≤◌, sym, subst, length}
 use Rattle.fkv_base.specs.declared.shapes.Shape.{Shape}
-use Rattle.fkv_core.specs.Openings.{beginning}
+use Rattle.law_opening.specs.Below.fkv_core.Openings.{beginning}
 use Rattle.fkv_disk.specs.Bytes.{bytes_at}
-use Rattle.fkv_flush.specs.GuardFlushed.{IsSynced, stands}
+use Rattle.law_commit.specs.Below.fkv_flush.GuardFlushed.{IsSynced, stands}
 use Rattle.fkv_plane.specs.declared.places.RecordWord.{RecordWord}
 use Rattle.fkv_record.specs.Places.{record_place}
-use Rattle.fkv_world.specs.Runs.{World, run}
-use Rattle.law_world.specs.Guarded.GuardEvents as guarded
-use Rattle.law_world.specs.Guarded.OpenedStore.{IsOpenedStore}
-use Rattle.law_world.specs.Guarded.Shows.{guard_opening}
+use Rattle.law_commit.specs.Below.fkv_world.Runs.{World, run}
+use Rattle.law_commit.specs.Below.law_world.Guarded.GuardEvents as guarded
+use Rattle.law_commit.specs.Below.law_world.Guarded.OpenedStore.{IsOpenedStore}
+use Rattle.law_commit.specs.Below.law_world.Guarded.Shows.{guard_opening}
 use Rattle.law_order.specs.Images.Left.{flushed_so_far}
 use Rattle.law_order.proofs.OfImages.OpenedLong.{holds_below}
 use Rattle.law_order.proofs.OfImages.Shows.{old_bytes}

@@ -2,17 +2,17 @@
 use Rattle.std.proofs.Common.{◌≡◌, ℕ, zero, suc, ◌+◌, ◌<◌, ◌≤◌, ◌∙◌, inl, inr, refl, sym, ap, subst, arith, length}
 use Rattle.std.proofs.lemmas.Bool.{cases_lt}
 use Rattle.fkv_base.specs.declared.shapes.Shape.{Shape}
-use Rattle.fkv_core.specs.Openings.{beginning}
+use Rattle.law_opening.specs.Below.fkv_core.Openings.{beginning}
 use Rattle.fkv_disk.specs.Bytes.{bytes_at}
-use Rattle.fkv_flush.specs.GuardFlushed.{IsSynced, stands}
-use Rattle.fkv_pairs.specs.Pairs.{log_of_store}
+use Rattle.law_commit.specs.Below.fkv_flush.GuardFlushed.{IsSynced, stands}
+use Rattle.law_opening.specs.Below.fkv_pairs.Pairs.{log_of_store}
 use Rattle.fkv_plane.specs.declared.places.RecordWord.{RecordWord}
 use Rattle.fkv_record.specs.Places.{record_place}
-use Rattle.fkv_scan.specs.Log as scan
-use Rattle.fkv_world.specs.Runs.{World, run}
-use Rattle.law_world.specs.Guarded.GuardEvents as guarded
-use Rattle.law_world.specs.Guarded.OpenedStore.{IsOpenedStore}
-use Rattle.law_world.specs.Guarded.Shows.{guard_opening}
+use Rattle.law_opening.specs.Below.fkv_scan.Log as scan
+use Rattle.law_commit.specs.Below.fkv_world.Runs.{World, run}
+use Rattle.law_commit.specs.Below.law_world.Guarded.GuardEvents as guarded
+use Rattle.law_commit.specs.Below.law_world.Guarded.OpenedStore.{IsOpenedStore}
+use Rattle.law_commit.specs.Below.law_world.Guarded.Shows.{guard_opening}
 use Rattle.law_order.specs.Images.Left.{flushed_so_far}
 use Rattle.law_order.proofs.OfImages.OpenedLong.{holds_below}
 use Rattle.law_order.specs.Images.Records.{ShowsGivenUp}
@@ -23,7 +23,7 @@ use Rattle.law_log.specs.Ghosts.{Ghosts}
 use Rattle.law_opening.specs.Log.Maps.{opening_map}
 use Rattle.law_opening.specs.Log.Lives.{ghosts_beside}
 use Rattle.law_opening.specs.Log.OpeningLog.{opening_ghosts}
-use Rattle.law_refine.specs.Events.GhostEvents.{home_in}
+use Rattle.law_commit.specs.Below.law_refine.Events.GhostEvents.{home_in}
 use Rattle.law_order.proofs.images.records.law_images_show_log.Goals as goal
 
 none_there : (logged : Logged) (cell : Cell) → logged ≡ Unborn → logged ≡ Published cell → ⊥

@@ -1,11 +1,11 @@
 -- By the newest slot as it is read back.
 use Rattle.std.proofs.Common.{◌∙◌, inl, inr, ap, arith, sym, subst, List}
 use Rattle.fkv_base.specs.declared.numbers.Serial.{Serial}
-use Rattle.fkv_keeper.specs.Keeping.{Finality}
-use Rattle.fkv_manifest.specs.Newest.{slot_in}
+use Rattle.law_commit.specs.Below.fkv_keeper.Keeping.{Finality}
+use Rattle.law_commit.specs.Below.fkv_manifest.Newest.{slot_in}
 use Rattle.fkv_map.specs.History.{point_of}
-use Rattle.fkv_newest.specs.declared.newest_slots.Newest.{Newest}
-use Rattle.fkv_opening.specs.Faults.{HasCheckpoint}
+use Rattle.law_opening.specs.Below.fkv_newest.TheNewest.{Newest}
+use Rattle.law_opening.specs.Below.fkv_opening.Faults.{HasCheckpoint}
 use Rattle.fkv_record.specs.Manifest.{SlotSaid}
 use Rattle.fkv_record.specs.Places.{open_number}
 use Rattle.fkv_record.specs.declared.manifest_slots.ManifestSlot.{ManifestSlot}
@@ -15,7 +15,7 @@ use Rattle.law_order.specs.Images.Read.{ReadsBack}
 use Rattle.law_log.specs.Ghosts.{Log}
 use Rattle.law_order.specs.Decided.Cut.{log_beside}
 use Rattle.law_order.specs.OneHistory.EachLife.{IsLife, Life}
-use Rattle.law_paper.specs.Paper.Named.{HoldsCommit}
+use Rattle.law_commit.specs.Below.law_paper.Paper.Named.{HoldsCommit}
 use Rattle.law_order.specs.Recovered.Leaves.{homes_of}
 use Rattle.law_order.proofs.OfRecovered.OfHolds.Opened.{shares_log}
 use Rattle.law_order.proofs.recovered.holds.law_images_hold.Goals as goal

@@ -4,8 +4,8 @@ use Rattle.fkv_base.specs.declared.numbers.Addr.{Addr}
 use Rattle.fkv_record.specs.declared.triples.Triple.{Triple}
 use Rattle.law_log.specs.Ghosts.{Log}
 use Rattle.law_order.specs.Decided.Cut.{log_beside}
-use Rattle.law_paper.specs.Paper.Images.{IsCut}
-use Rattle.law_paper.specs.Paper.Slots.{HasSlots}
+use Rattle.law_commit.specs.Below.law_paper.Paper.Images.{IsCut}
+use Rattle.law_commit.specs.Below.law_paper.Paper.Slots.{HasSlots}
 use Rattle.law_order.specs.Recovered.Leaves.{homes_of, log_named, log_then}
 use Rattle.law_order.proofs.OfRecovered.OfHolds.Holds.{names_end, shows_from, starts_some}
 use Rattle.law_order.proofs.recovered.holds.law_named_hold.Goals as goal

@@ -2,11 +2,11 @@
 use Rattle.std.proofs.Common.{◌≡◌, ℕ, ◌≤◌, ◌∙◌, ap, sym, subst, cond}
 use Rattle.std.specs.Prelude.{nat_lt}
 use Rattle.fkv_base.specs.declared.shapes.Shape.{Shape}
-use Rattle.fkv_core.specs.Openings.{beginning}
-use Rattle.fkv_keeper.specs.Keeping.{Finality}
+use Rattle.law_opening.specs.Below.fkv_core.Openings.{beginning}
+use Rattle.law_commit.specs.Below.fkv_keeper.Keeping.{Finality}
 use Rattle.fkv_map.specs.History.{point_of}
 use Rattle.fkv_map.proofs.Shown.{whole_by_count}
-use Rattle.fkv_world.specs.Runs.{World}
+use Rattle.law_commit.specs.Below.fkv_world.Runs.{World}
 use Rattle.law_commit.specs.Accepted.{serial_at}
 use Rattle.law_commit.specs.Points.{OpensPointed}
 use Rattle.law_order.specs.Prefix.Law.{history_so_far}

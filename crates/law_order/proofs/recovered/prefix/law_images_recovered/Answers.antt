@@ -6,14 +6,14 @@ use Rattle.fkv_base.specs.declared.numbers.Serial.{Serial}
 use Rattle.fkv_map.specs.History.{AreAtMost, IsWhole, is_update, point_of}
 use Rattle.fkv_map.specs.declared.history.HistoryEntry.{HistoryEntry}
 use Rattle.fkv_map.proofs.Shown.{kept_by_same_points}
-use Rattle.fkv_opening.specs.declared.opened_store.Opened.{Opened}
-use Rattle.fkv_world.specs.World.{Event, Now}
+use Rattle.law_opening.specs.Below.fkv_opening.TheOpened.{Opened}
+use Rattle.law_commit.specs.Below.fkv_world.World.{Event, Now}
 use Rattle.law_commit.specs.BegunCommits.{BegunCommit}
 use Rattle.law_commit.proofs.OfVersions.Requests.{same_version}
 use Rattle.law_log.specs.Trace.{Effect, IsIn}
 use Rattle.law_order.specs.Prefix.Law.{history_so_far}
 use Rattle.law_order.specs.Prefix.Stores.{IsOfCommitBeside}
-use Rattle.law_paper.specs.Kept.{PointsSplit}
+use Rattle.law_commit.specs.Below.law_paper.Kept.{PointsSplit}
 use Rattle.law_order.specs.Recovered.Holds.{HoldsBegun}
 use Rattle.law_order.specs.Recovered.Leaves.{Leaves}
 use Rattle.law_order.proofs.recovered.prefix.law_images_recovered.Goals as goal

@@ -1,9 +1,9 @@
 -- By what is flushed, by the commit's cut, and by what its slot loses.
 use Rattle.std.proofs.Common.{◌≡◌, ◌∙◌, inl, inr, ap}
-use Rattle.fkv_core.specs.Openings.{beginning}
-use Rattle.fkv_keeper.specs.LastCommits.{lost_written}
+use Rattle.law_opening.specs.Below.fkv_core.Openings.{beginning}
+use Rattle.law_commit.specs.Below.fkv_keeper.LastCommits.{lost_written}
 use Rattle.fkv_record.specs.Manifest.{SlotSaid}
-use Rattle.fkv_scan.specs.Log as scan
+use Rattle.law_opening.specs.Below.fkv_scan.Log as scan
 use Rattle.law_commit.specs.BegunCommits.{BegunCommit}
 use Rattle.law_commit.specs.Decided.Below.{OpensWhole}
 use Rattle.law_opening.specs.Log.OpeningLog.{opening_ghosts}

@@ -1,11 +1,11 @@
 -- By the rules that each life keeps.
-use Rattle.fkv_core.specs.Openings.{beginning}
+use Rattle.law_opening.specs.Below.fkv_core.Openings.{beginning}
 use Rattle.law_opening.specs.Log.Maps.{opening_map}
 use Rattle.law_opening.specs.Log.OpeningLog.{opening_ghosts}
 use Rattle.law_order.specs.OneHistory.EachLife.{IsLife, Life}
 use Rattle.law_order.specs.Recovered.Leaves.{homes_of}
 use Rattle.law_order.proofs.OfRecovered.OfShows.Order.{in_order}
-use Rattle.law_refine.specs.Events.GhostEvents.{mapped}
+use Rattle.law_commit.specs.Below.law_refine.Events.GhostEvents.{mapped}
 use Rattle.law_order.proofs.recovered.shows.law_log_in_order.Goals as goal
 
 pub returns : goal.returns

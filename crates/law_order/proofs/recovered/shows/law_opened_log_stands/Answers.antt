@@ -1,6 +1,6 @@
 -- By what counted as the store was opened, which stays in the log.
 use Rattle.std.proofs.Common.{◌≡◌, ◌≤◌, ◌∙◌, sym, subst, ℕ}
-use Rattle.fkv_scan.specs.Log as scan
+use Rattle.law_opening.specs.Below.fkv_scan.Log as scan
 use Rattle.law_opening.specs.Log.OpeningLog.{opening_log}
 use Rattle.law_order.specs.Decided.Cut.{log_beside}
 use Rattle.law_order.specs.Recovered.Leaves.{log_then}

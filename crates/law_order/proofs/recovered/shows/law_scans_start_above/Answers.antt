@@ -2,10 +2,10 @@
 use Rattle.std.proofs.Common.{◌≡◌, inl, inr, arith, ap, sym, ◌<◌}
 use Rattle.fkv_base.specs.declared.numbers.Addr.{Addr}
 use Rattle.fkv_base.specs.declared.numbers.Version.{Version}
-use Rattle.fkv_core.specs.Openings.{beginning}
-use Rattle.fkv_keeper.specs.declared.last_commits.Checkpoint.{Checkpoint}
+use Rattle.law_opening.specs.Below.fkv_core.Openings.{beginning}
+use Rattle.law_commit.specs.Below.fkv_keeper.Checkpoint.{Checkpoint}
 use Rattle.fkv_record.specs.Manifest.{SlotSaid}
-use Rattle.fkv_scan.specs.Log as scan
+use Rattle.law_opening.specs.Below.fkv_scan.Log as scan
 use Rattle.law_commit.specs.BegunCommits.{BegunCommit}
 use Rattle.law_order.specs.Recovered.Leaves.{log_named}
 use Rattle.law_order.proofs.OfRecovered.OfShows.Firsts.{first_above, newer_checkpoint, newer_span, opened_tail}

@@ -1,8 +1,8 @@
 -- The law, by what the slot says of the checkpoint.
 use Rattle.std.proofs.Common.{inl, inr, ◌≤◌, arith, ap}
 use Rattle.fkv_base.specs.declared.numbers.Addr.{Addr}
-use Rattle.fkv_newest.specs.declared.newest_slots.Newest.{Newest}
-use Rattle.fkv_opening.specs.Opened.{IsStoreOf}
+use Rattle.law_opening.specs.Below.fkv_newest.TheNewest.{Newest}
+use Rattle.law_opening.specs.Below.fkv_opening.Opened.{IsStoreOf}
 use Rattle.fkv_record.specs.Manifest.{SlotSaid}
 use Rattle.fkv_record.specs.declared.manifest_slots.ManifestSlot.{ManifestSlot}
 use Rattle.law_commit.specs.BegunCommits.{BegunCommit}

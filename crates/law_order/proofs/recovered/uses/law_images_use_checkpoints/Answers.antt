@@ -1,19 +1,19 @@
 -- The law, by whose checkpoint the commit uses.
 use Rattle.std.proofs.Common.{inl, inr, ◌≤◌, arith, ap}
-use Rattle.fkv_keeper.specs.Keeping.{Finality}
-use Rattle.fkv_keeper.specs.LastCommits.{lost_written}
-use Rattle.fkv_keeper.specs.declared.last_commits.Checkpoint.{Checkpoint}
-use Rattle.fkv_newest.specs.declared.newest_slots.Newest.{Newest}
-use Rattle.fkv_opening.specs.Faults.{HasCheckpoint}
-use Rattle.fkv_opening.specs.Opened.{IsStoreOf}
-use Rattle.fkv_pairs.specs.Pairs.{log_of_store}
+use Rattle.law_commit.specs.Below.fkv_keeper.Keeping.{Finality}
+use Rattle.law_commit.specs.Below.fkv_keeper.LastCommits.{lost_written}
+use Rattle.law_commit.specs.Below.fkv_keeper.Checkpoint.{Checkpoint}
+use Rattle.law_opening.specs.Below.fkv_newest.TheNewest.{Newest}
+use Rattle.law_opening.specs.Below.fkv_opening.Faults.{HasCheckpoint}
+use Rattle.law_opening.specs.Below.fkv_opening.Opened.{IsStoreOf}
+use Rattle.law_opening.specs.Below.fkv_pairs.Pairs.{log_of_store}
 use Rattle.fkv_record.specs.Manifest.{SlotSaid}
 use Rattle.fkv_record.specs.declared.manifest_slots.ManifestSlot.{ManifestSlot}
 use Rattle.law_commit.specs.BegunCommits.{BegunCommit}
 use Rattle.law_order.specs.Images.Fits.{FitsLife}
 use Rattle.law_order.specs.Images.Left.{flushed_so_far}
 use Rattle.law_order.specs.Decided.Cut.{log_beside}
-use Rattle.law_paper.specs.Paper.Old.{LosesTheRest}
+use Rattle.law_commit.specs.Below.law_paper.Paper.Old.{LosesTheRest}
 use Rattle.law_order.proofs.OfImages.Areas.{opened_triples, said_area}
 use Rattle.law_order.proofs.OfRecovered.OfUses.Areas.{opened_older, same_triples}
 use Rattle.law_order.proofs.OfRecovered.OfUses.New.{by_cover}

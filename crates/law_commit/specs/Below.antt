@@ -1,0 +1,16 @@
+-- What crates above name of the crates below.
+pub mod law_paper
+pub mod law_refine
+pub use Rattle.law_refine.specs.Below.fkv_checkpoint
+pub use Rattle.law_refine.specs.Below.fkv_commit
+pub use Rattle.law_refine.specs.Below.fkv_flush
+pub use Rattle.law_refine.specs.Below.fkv_keeper
+pub use Rattle.law_refine.specs.Below.fkv_log
+pub use Rattle.law_refine.specs.Below.fkv_maintain
+pub use Rattle.law_refine.specs.Below.fkv_manifest
+pub use Rattle.law_refine.specs.Below.fkv_ops
+pub use Rattle.law_refine.specs.Below.fkv_pending
+pub use Rattle.law_refine.specs.Below.fkv_session
+pub use Rattle.law_refine.specs.Below.fkv_world
+pub use Rattle.law_refine.specs.Below.law_local
+pub use Rattle.law_refine.specs.Below.law_world

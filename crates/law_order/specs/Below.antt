@@ -1,0 +1,20 @@
+-- What crates above name of the crates below.
+pub mod law_commit
+pub mod law_opening
+pub use Rattle.law_commit.specs.Below.fkv_commit
+pub use Rattle.law_commit.specs.Below.fkv_flush
+pub use Rattle.law_commit.specs.Below.fkv_keeper
+pub use Rattle.law_commit.specs.Below.fkv_log
+pub use Rattle.law_commit.specs.Below.fkv_maintain
+pub use Rattle.law_commit.specs.Below.fkv_ops
+pub use Rattle.law_commit.specs.Below.fkv_pending
+pub use Rattle.law_commit.specs.Below.fkv_session
+pub use Rattle.law_commit.specs.Below.fkv_world
+pub use Rattle.law_commit.specs.Below.law_refine
+pub use Rattle.law_commit.specs.Below.law_world
+pub use Rattle.law_opening.specs.Below.fkv_chains
+pub use Rattle.law_opening.specs.Below.fkv_core
+pub use Rattle.law_opening.specs.Below.fkv_creating
+pub use Rattle.law_opening.specs.Below.fkv_opening
+pub use Rattle.law_opening.specs.Below.fkv_pairs
+pub use Rattle.law_opening.specs.Below.fkv_scan

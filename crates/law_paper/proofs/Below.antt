@@ -1,0 +1,5 @@
+-- What crates above name of the crates below.
+pub mod fkv_chains
+pub mod fkv_newest
+pub mod fkv_room
+pub mod fkv_scan

@@ -1,0 +1,2 @@
+-- What crates above name of `fkv_room`.
+pub use Rattle.fkv_room.proofs.Shown

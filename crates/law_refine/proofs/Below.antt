@@ -1,0 +1,10 @@
+-- What crates above name of the crates below.
+pub mod law_local
+pub mod law_world
+pub use Rattle.law_world.proofs.Below.fkv_checkpoint
+pub use Rattle.law_world.proofs.Below.fkv_flush
+pub use Rattle.law_world.proofs.Below.fkv_keeper
+pub use Rattle.law_world.proofs.Below.fkv_ops
+pub use Rattle.law_world.proofs.Below.fkv_pending
+pub use Rattle.law_world.proofs.Below.fkv_session
+pub use Rattle.law_world.proofs.Below.fkv_world

@@ -1,0 +1,3 @@
+-- What crates above name of the crates below.
+pub use Rattle.law_order.specs.Below.fkv_world
+pub use Rattle.law_order.specs.Below.law_opening

@@ -1,0 +1,9 @@
+-- What crates above name of the crates below.
+pub mod fkv_checkpoint
+pub mod fkv_flush
+pub mod fkv_keeper
+pub mod fkv_maintain
+pub mod fkv_ops
+pub mod fkv_pending
+pub mod fkv_session
+pub mod fkv_world

@@ -1,0 +1,2 @@
+-- What crates above name of `fkv_ops`.
+pub use Rattle.fkv_ops.proofs.Shown

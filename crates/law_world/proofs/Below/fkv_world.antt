@@ -1,0 +1,2 @@
+-- What crates above name of `fkv_world`.
+pub use Rattle.fkv_world.proofs.Shown

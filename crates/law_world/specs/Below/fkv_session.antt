@@ -1,0 +1,24 @@
+-- What crates above name of `fkv_session`.
+pub use Rattle.fkv_session.specs.Accounts
+pub use Rattle.fkv_session.specs.Answers
+pub use Rattle.fkv_session.specs.AsksLeft
+pub use Rattle.fkv_session.specs.Asleep
+pub use Rattle.fkv_session.specs.CatchingUp
+pub use Rattle.fkv_session.specs.Cuts
+pub use Rattle.fkv_session.specs.InOrder
+pub use Rattle.fkv_session.specs.Kinds
+pub use Rattle.fkv_session.specs.OwnTurns
+pub use Rattle.fkv_session.specs.Replies
+pub use Rattle.fkv_session.specs.SessionRun
+pub use Rattle.fkv_session.specs.Sessions
+pub use Rattle.fkv_session.specs.Shares
+pub use Rattle.fkv_session.specs.Tickets
+pub use Rattle.fkv_session.specs.Versions
+pub use Rattle.fkv_session.specs.Words
+pub use Rattle.fkv_session.specs.declared.answers.Answer
+pub use Rattle.fkv_session.specs.declared.answers.Finished
+pub use Rattle.fkv_session.specs.declared.answers.Told
+pub use Rattle.fkv_session.specs.declared.catching_up.Catching
+pub use Rattle.fkv_session.specs.declared.own_turns.OwnTurning
+pub use Rattle.fkv_session.specs.declared.sessions.CatchCause
+pub use Rattle.fkv_session.specs.declared.sessions.Sitting
