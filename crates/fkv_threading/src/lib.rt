@@ -7,6 +7,7 @@ mod keeping;
 mod playing;
 mod programs;
 mod progress;
+mod promises;
 mod runs;
 mod sessions;
 mod sitting;

@@ -1,16 +1,20 @@
 //! A script on threads, from the line that makes its store to its report.
-ghost use Rattle.std.specs.Prelude.{◌≡◌, IfOk, OnOk, if◌then◌else◌};
+ghost use Rattle.std.specs.Prelude.{◌≡◌, ⊤, IfOk, OnOk, Ok, if◌then◌else◌};
 ghost use Rattle.std.specs.Io.KnownBytes.{Appends};
+ghost use Rattle.fkv_creating.specs.Created.{IsNewStore};
+ghost use Rattle.fkv_opening.specs.declared.opened_store.Opened.{Opened};
+ghost use Rattle.fkv_table.specs.Planes.{opening_of};
 ghost use Rattle.fkv_texts.specs.Refusals.{last_refusal};
 ghost use Rattle.fkv_thread_scripts.specs.Reports.{agrees, threads_report_text};
-ghost use Rattle.fkv_threading.specs.Written.{IsRunOnThreads, refused_status, reported_status, reported_text};
+ghost use Rattle.fkv_threading.specs.Told.{IsPlayed};
+ghost use Rattle.fkv_threading.specs.Written.{HoldsLeft, IsReportOfRun, IsReportOn, IsRunOnThreads, refused_status, reported_status, reported_text};
 
 use crate::gates::Gate;
 use crate::keepers::KeeperEnd;
 use crate::playing::{Played, play};
 use fkv_base::{Fault, Shape};
 use fkv_creating::create_opened;
-use fkv_disk::{Device, Fuse, MemDisk, PageSize, Pages, ReadAhead};
+use fkv_disk::{Device, FileDisk, Fuse, MemDisk, PageSize, Pages, ReadAhead};
 use fkv_files::{Lockable, Mirror, Trouble, make_alone, open_alone};
 use fkv_keeper::Finished;
 use fkv_lines::{Class, Line, Opening, Script, Sizes};
@@ -27,7 +31,7 @@ use std::thread::Threads;
 /// Runs a script for threads over a new store in memory, and writes its report: each session's lines on a thread of its own, and the keeper's on the
 /// caller's. The status: 0; 1 where something differs; 2 where the sizes are no shape's; 3 where a store or a turn was refused. An `Err`
 /// is memory, a thread or the output.
-#[tactic(auto, using(fkv_texts::proofs::Shown::appends_nothing))]
+#[tactic(auto, using(fkv_texts::proofs::Shown::appends_nothing, crate::proofs::Written::run_written))]
 pub fn run_threads<G: Gate + Sync, W: Write, R: Threads + Wait + Sync>(
     rt: &R,
     alloc: Global,
@@ -35,22 +39,19 @@ pub fn run_threads<G: Gate + Sync, W: Write, R: Threads + Wait + Sync>(
     output: &mut W,
     gate: &G,
 ) -> io::Result<u8>
-    ensures { IfOk result (IsRunOnThreads script.now.opening (Appends (W.contents output.old) (W.contents output.new))) }
+    ensures { IfOk result (IsRunOnThreads (IsReportOfRun (opening_of ⟦<Fuse<MemDisk> as Device>⟧.seen) ⟦<Fuse<MemDisk> as Device>⟧.honest ⟦<Fuse<MemDisk> as Device>⟧.seen ⟦<Fuse<MemDisk> as Device>⟧.may_leave ⟦<MemDisk as Device>⟧.honest ⟦<MemDisk as Device>⟧.seen (HoldsLeft ⟦<Fuse<MemDisk> as Device>⟧.may_leave ⟦<MemDisk as Device>⟧.seen)) script.now.opening (Appends (W.contents output.old) (W.contents output.new))) }
 {
     let sizes = match script.opening {
         Some(Opening::Shape(sizes)) => sizes,
         _ => return Ok(0),
     };
-    let reported = match shape_of(sizes) {
-        Ok(shape) => report_in_memory(rt, alloc, shape, &script.lines, gate),
-        Err(fault) => Err(fault),
-    };
+    let reported = report_in_memory(rt, alloc, sizes, &script.lines, gate);
     write_reported(alloc, output, reported)
 }
 
 /// The same over a new store in the file of this path, which is opened again for the report. Behind the status stands what is wrong with the
 /// file, if that is why it is 3.
-#[tactic(auto, using(fkv_texts::proofs::Shown::appends_nothing))]
+#[tactic(auto, using(fkv_texts::proofs::Shown::appends_nothing, crate::proofs::Written::run_written))]
 pub fn run_threads_in_file<G: Gate + Sync, W: Write, R: Threads + Wait + Sync, H: Files>(
     rt: &R,
     files: &H,
@@ -62,23 +63,22 @@ pub fn run_threads_in_file<G: Gate + Sync, W: Write, R: Threads + Wait + Sync, H
 ) -> io::Result<(u8, Option<Trouble>)>
 where
     H::File: Lockable + Send,
-    ensures { IfOk result (λ end. IsRunOnThreads script.now.opening (Appends (W.contents output.old) (W.contents output.new)) end.0) }
+    ensures { IfOk result (λ end. IsRunOnThreads (IsReportOfRun (opening_of ⟦<Mirror<FileDisk<H::File>> as Device>⟧.seen) ⟦<Mirror<FileDisk<H::File>> as Device>⟧.honest ⟦<Mirror<FileDisk<H::File>> as Device>⟧.seen ⟦<Mirror<FileDisk<H::File>> as Device>⟧.may_leave ⟦<ReadAhead<FileDisk<H::File>> as Device>⟧.honest ⟦<ReadAhead<FileDisk<H::File>> as Device>⟧.seen (λ _ _. ⊤)) script.now.opening (Appends (W.contents output.old) (W.contents output.new)) end.0) }
 {
     let sizes = match script.opening {
         Some(Opening::Shape(sizes)) => sizes,
         _ => return Ok((0, None)),
     };
-    let reported = match shape_of(sizes) {
-        Ok(shape) => report_in_file(rt, files, alloc, path, shape, &script.lines, gate),
-        Err(fault) => Err(Trouble::Fault(fault)),
-    };
+    let reported = report_in_file(rt, files, alloc, path, sizes, &script.lines, gate);
     let (reported, trouble) = told_apart(reported);
     let status = write_reported(alloc, output, reported)?;
     Ok((status, trouble))
 }
 
 /// What is written of a run, and what is wrong with the file where that is why there is no report.
-fn told_apart(reported: Result<Report, Trouble>) -> (Result<Report, Fault>, Option<Trouble>) {
+fn told_apart(reported: Result<Report, Trouble>) -> (Result<Report, Fault>, Option<Trouble>)
+    ensures { IfOk result.0 (λ report. reported ≡ Ok report) }
+{
     match reported {
         Ok(report) => (Ok(report), None),
         Err(Trouble::Fault(fault)) => (Err(fault), None),
@@ -127,14 +127,17 @@ fn refuse<W: Write>(alloc: Global, output: &mut W, fault: Fault) -> io::Result<u
     })
 }
 
-/// The report of these lines over a new store in memory of this shape, whose device is crashed as all have ended.
+/// The report of these lines over a new store in memory of these sizes, whose device is crashed as all have ended.
 fn report_in_memory<G: Gate + Sync, R: Threads + Wait + Sync>(
     rt: &R,
     alloc: Global,
-    shape: Shape,
+    sizes: Sizes,
     lines: &[Line],
     gate: &G,
-) -> Result<Report, Fault> {
+) -> Result<Report, Fault>
+    ensures { IfOk result (IsReportOfRun (opening_of ⟦<Fuse<MemDisk> as Device>⟧.seen) ⟦<Fuse<MemDisk> as Device>⟧.honest ⟦<Fuse<MemDisk> as Device>⟧.seen ⟦<Fuse<MemDisk> as Device>⟧.may_leave ⟦<MemDisk as Device>⟧.honest ⟦<MemDisk as Device>⟧.seen (HoldsLeft ⟦<Fuse<MemDisk> as Device>⟧.may_leave ⟦<MemDisk as Device>⟧.seen)) }
+{
+    let shape = shape_of(sizes)?;
     let device = Fuse::new(MemDisk::new(alloc));
     let Played { logs, keeper } = play_new(rt, alloc, device, shape, lines, gate)?;
     let KeeperEnd {
@@ -149,19 +152,21 @@ fn report_in_memory<G: Gate + Sync, R: Threads + Wait + Sync>(
 /// How many pages of 4 KiB are kept while the file is read: 1 MiB.
 const PAGES: usize = 256;
 
-/// The report of these lines over a new store in a file of this shape. The file is closed as all have ended, and opened again.
+/// The report of these lines over a new store in a file of these sizes. The file is closed as all have ended, and opened again.
 fn report_in_file<G: Gate + Sync, R: Threads + Wait + Sync, H: Files>(
     rt: &R,
     files: &H,
     alloc: Global,
     path: &str,
-    shape: Shape,
+    sizes: Sizes,
     lines: &[Line],
     gate: &G,
 ) -> Result<Report, Trouble>
 where
     H::File: Lockable + Send,
+    ensures { IfOk result (IsReportOfRun (opening_of ⟦<Mirror<FileDisk<H::File>> as Device>⟧.seen) ⟦<Mirror<FileDisk<H::File>> as Device>⟧.honest ⟦<Mirror<FileDisk<H::File>> as Device>⟧.seen ⟦<Mirror<FileDisk<H::File>> as Device>⟧.may_leave ⟦<ReadAhead<FileDisk<H::File>> as Device>⟧.honest ⟦<ReadAhead<FileDisk<H::File>> as Device>⟧.seen (λ _ _. ⊤)) }
 {
+    let shape = shape_of(sizes)?;
     let (file, length) = make_alone(files, path)?;
     let Some(length) = length else {
         return Err(Trouble::Irregular);
@@ -191,6 +196,7 @@ fn play_new<D: Device + Drop + Send, G: Gate + Sync, R: Threads + Wait + Sync>(
     gate: &G,
 ) -> Result<Played<D>, Fault>
     requires honest { D.honest device }
+    ensures { IfOk result (λ its. (opened : Opened) × (first : D) × IsNewStore shape opened × IsPlayed (opening_of D.seen) opened D.honest D.seen D.may_leave first its.logs.items its.keeper.device its.keeper.finished) }
 {
     let mut device = device;
     let opened = create_opened(alloc, &mut device, shape)?;
@@ -208,7 +214,9 @@ fn report_on<D: Device>(
     logs: &[Log],
     finished: &Option<Finished>,
     device: &mut D,
-) -> Result<Report, Fault> {
+) -> Result<Report, Fault>
+    ensures { IfOk result (IsReportOn D.honest D.seen finished.now device.old) }
+{
     let opened = recover(alloc, device)?;
     let pairs = content(alloc, &opened, device)?;
     report_of(alloc, lines, logs, finished, &opened, &pairs)

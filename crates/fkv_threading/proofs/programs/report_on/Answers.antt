@@ -1,0 +1,6 @@
+-- What is recovered is the store that an honest device holds.
+use Rattle.fkv_threading.proofs.Written.{report_on}
+use Rattle.fkv_threading.proofs.programs.report_on.Goals as goal
+
+pub returns : goal.returns
+returns g c = report_on g.D.Device.honest g.D.Device.seen c.args.finished.now c.args.device.now c.report_of.result c.in_ok-opened.opened c.in_ok-opened.ensures.ok c.report_of.ensures.number c.report_of.ensures.points
