@@ -1,3 +1,4 @@
+pub mod Calls
 pub mod Logs
 pub mod Reports
 pub mod Served

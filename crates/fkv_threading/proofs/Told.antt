@@ -1,11 +1,13 @@
 -- What one call more, or one turn, adds to what was told.
-use Rattle.std.proofs.Common.{◌≡◌, ℕ, refl, sym, ap, subst, ◌∙◌, List, [], ◌∷◌, ◌++◌, append_assoc, length, length-append, map, arith}
-use Rattle.std.specs.Prelude.{Option, Result, Ok, Err, IfOk}
-use Rattle.std.proofs.lemmas.List.{length-map}
+use Rattle.std.proofs.Common.{◌≡◌, ℕ, ◌+◌, ◌≤◌, refl, sym, ap, subst, ◌∙◌, Bool, true, false, not, List, [], ◌∷◌, ◌++◌, append_assoc, append-nil, length, length-append, map, take, drop, arith}
+use Rattle.std.specs.Prelude.{Option, Some, Result, Ok, Err, IfOk, ◌||◌, ◌&&◌, if◌then◌else◌, slice_get, get_or}
+use Rattle.std.proofs.lemmas.List.{drop_all, length-map, take-append-drop, take_more}
+use Rattle.std.proofs.lemmas.Option.{get_or_from_slice_get, slice_get_within}
 use Rattle.fkv_base.specs.declared.faults.Fault.{Fault}
 use Rattle.fkv_base.specs.declared.numbers.Serial.{Serial}
 use Rattle.fkv_keeper.specs.declared.answers.Finished.{Finished}
 use Rattle.fkv_keeper.specs.declared.answers.Turn.{Turn}
+use Rattle.fkv_lines.specs.declared.scripts.Line.{Line}
 use Rattle.fkv_map.specs.declared.operations.Call.{Call}
 use Rattle.fkv_map.specs.declared.operations.Op.{Op}
 use Rattle.fkv_opening.specs.declared.opened_store.Opened.{Opened}
@@ -16,36 +18,118 @@ use Rattle.fkv_table.specs.KeeperCalls.{HasKept}
 use Rattle.fkv_table.specs.Planes.{plane}
 use Rattle.fkv_table.specs.Starts.{EachAt}
 use Rattle.fkv_table.proofs.Starts.{one_more}
+use Rattle.fkv_thread_scripts.specs.Calls.{calls_of}
 use Rattle.fkv_thread_scripts.specs.Logs.{accepted_by, durable_by, told_by}
 use Rattle.fkv_thread_scripts.specs.declared.logs.Log.{Log}
 use Rattle.fkv_threads.specs.Begun.{IsOverStore}
 use Rattle.fkv_threads.specs.Runs.{run_of}
-use Rattle.fkv_threading.specs.Told.{AreTurns, IsPlayed, IsTold, Seat, TurnRun, WasFinished, WasTold, WerePlayed, finish_by}
+use Rattle.fkv_threading.specs.Told.{ArePlayed, AreTurns, IsLogOf, IsPlayed, IsTold, Part, TurnRun, WasFinished, WasTold, WerePlayed, finish_by, is_full, is_own, part_of, point_at}
 use Rattle.fkv_world.specs.Runs.{World}
-use Rattle.law_threads.specs.Calls.{HasRun}
+use Rattle.law_threads.specs.Calls.{CallRun, HasRun}
 use Rattle.law_threads.specs.Turns.{HasTurned}
+
+-- what a log has of one call more
+pub record IsNoted (log log' : Log) (call : Call) (answer : Answer) : Type 0 where
+  pub first : log'.first ≡ log.first
+  pub accepted : log'.accepted.items ≡ log.accepted.items ++ accepted_by call answer
+  pub told : log'.told.items ≡ log.told.items ++ told_by answer
+  pub durable : log'.durable ≡ durable_by log.durable answer
+
+noted_more : (point : Serial) (log log' : Log) (its : CallRun) (runs : List CallRun) → IsNoted log log' its.call its.answer → IsLogOf point log runs → IsLogOf point log' (its ∷ runs)
+noted_more point log log' its runs noted was = record {
+  first = noted.first ∙ was.first;
+  accepted = noted.accepted ∙ ap (λ (xs : List Op). xs ++ accepted_by its.call its.answer) was.accepted;
+  told = noted.told ∙ ap (λ (xs : List Serial). xs ++ told_by its.answer) was.told;
+  durable = noted.durable ∙ ap (λ (s : Serial). durable_by s its.answer) was.durable;
+}
+
+-- a session's part, by other names of the same
+same_part : {K : Type 0} (key key' : K) (number number' : ℕ) (point : Serial) (calls : List Call) → key' ≡ key → number' ≡ number
+    → (let part : Part K = record { key = key; number = number; point = point; calls = calls } in part ≡ record { key = key'; number = number'; point = point; calls = calls })
+same_part key key' number number' point calls key_is number_is = λ i. record { key = sym key_is i; number = sym number_is i; point = point; calls = calls }
+
+-- the calls answered so far, behind a try of the next one
+answered_on : (calls : List Call) (answered answered' : ℕ) (call : Call) (is_answered : Bool) → slice_get calls answered ≡ Some call → is_answered ≡ true → answered' ≡ (if is_answered then answered + 1 else answered)
+    → take answered' calls ≡ take answered calls ++ call ∷ []
+answered_on calls answered answered' call is_answered found yes next =
+    let more : answered' ≡ answered + 1 = next ∙ ap (λ (b : Bool). if b then answered + 1 else answered) yes in
+    ap (λ (n : ℕ). take n calls) more ∙ (take_more calls answered call (slice_get_within calls answered call found) ∙ ap (λ (c : Call). take answered calls ++ c ∷ []) (get_or_from_slice_get calls answered call call found))
+
+or_true : (b : Bool) → (b || true) ≡ true
+or_true true = refl
+or_true false = refl
 
 module _ {K : Type 0} (at : K → World) where
   -- before its first call a session was told nothing
-  pub told_nothing : (key : K) (number : ℕ) (point : Serial) (log : Log) (seen : List Happening) → seen ≡ [] → log.first ≡ point.0 → log.accepted.items ≡ [] → log.told.items ≡ [] → log.durable ≡ point → WasTold at key number point log seen
-  told_nothing key number point log seen none first accepted told durable = record { runs = []; called = none; noted = record { first = first; accepted = accepted; told = told; durable = durable } }
+  pub told_nothing : (part : Part K) (log : Log) (seen : List Happening) → seen ≡ [] → log.first ≡ part.point.0 → log.accepted.items ≡ [] → log.told.items ≡ [] → log.durable ≡ part.point → WasTold at part [] log seen
+  told_nothing part log seen none first accepted told durable = record { runs = []; called = none; played = refl; noted = record { first = first; accepted = accepted; told = told; durable = durable } }
 
-  -- a call whose answer is noted is one more
-  pub told_more : (key : K) (number number' : ℕ) (point : Serial) (log log' : Log) (call : Call) (answer : Answer) (before behind : List Happening) → number' ≡ number → HasRun at key (run_of number call answer before behind)
-      → log'.first ≡ log.first → log'.accepted.items ≡ log.accepted.items ++ accepted_by call answer → log'.told.items ≡ log.told.items ++ told_by answer → log'.durable ≡ durable_by log.durable answer
-      → WasTold at key number point log before → WasTold at key number' point log' behind
-  told_more key number number' point log log' call answer before behind same ran first accepted told durable was =
-      subst (λ (n : ℕ). WasTold at key n point log' behind) (sym same)
-      (record {
-        runs = run_of number call answer before behind ∷ was.runs;
+  -- a call whose answer is noted is one more: one of its own, or a try
+  told_more : (part : Part K) (answered : List Call) (log log' : Log) (call : Call) (answer : Answer) (before behind : List Happening) → HasRun at part.key (run_of part.number call answer before behind) → IsNoted log log' call answer
+      → (is_own call || is_full answer) ≡ true → WasTold at part answered log before → WasTold at part answered log' behind
+  told_more part answered log log' call answer before behind ran noted spare was =
+      let its : CallRun = run_of part.number call answer before behind in
+      record {
+        runs = its ∷ was.runs;
         called = (ran, refl, refl, was.called);
-        noted = record {
-          first = first ∙ was.noted.first;
-          accepted = accepted ∙ ap (λ (xs : List Op). xs ++ accepted_by call answer) was.noted.accepted;
-          told = told ∙ ap (λ (xs : List Serial). xs ++ told_by answer) was.noted.told;
-          durable = durable ∙ ap (λ (s : Serial). durable_by s answer) was.noted.durable;
-        };
-      })
+        played = inl (spare, was.played);
+        noted = noted_more part.point log log' its was.runs noted was.noted;
+      }
+
+  -- or one of its lines
+  told_answer : (part : Part K) (answered : List Call) (log log' : Log) (call : Call) (answer : Answer) (before behind : List Happening) → HasRun at part.key (run_of part.number call answer before behind) → IsNoted log log' call answer → is_full answer ≡ false
+      → WasTold at part answered log before → WasTold at part (answered ++ call ∷ []) log' behind
+  told_answer part answered log log' call answer before behind ran noted answers was =
+      let its : CallRun = run_of part.number call answer before behind in
+      record {
+        runs = its ∷ was.runs;
+        called = (ran, refl, refl, was.called);
+        played = inr (answered, refl, answers, was.played);
+        noted = noted_more part.point log log' its was.runs noted was.noted;
+      }
+
+  -- a call of its own, by the session behind it
+  pub told_own : (key key' : K) (number number' : ℕ) (point : Serial) (calls answered : List Call) (log log' : Log) (call : Call) (answer : Answer) (before behind : List Happening) → key' ≡ key → number' ≡ number
+      → HasRun at key (run_of number call answer before behind) → IsNoted log log' call answer → is_own call ≡ true
+      → WasTold at (record { key = key; number = number; point = point; calls = calls }) answered log before → WasTold at (record { key = key'; number = number'; point = point; calls = calls }) answered log' behind
+  told_own key key' number number' point calls answered log log' call answer before behind key_is number_is ran noted own was =
+      subst (λ (part : Part K). WasTold at part answered log' behind) (same_part key key' number number' point calls key_is number_is)
+      (told_more (record { key = key; number = number; point = point; calls = calls }) answered log log' call answer before behind ran noted (ap (λ (b : Bool). b || is_full answer) own) was)
+
+  either : (part : Part K) (calls : List Call) (answered answered' : ℕ) (log log' : Log) (call : Call) (answer : Answer) (full is_answered : Bool) (before behind : List Happening) → HasRun at part.key (run_of part.number call answer before behind)
+      → IsNoted log log' call answer → slice_get calls answered ≡ Some call → full ≡ is_full answer → is_answered ≡ not full → answered' ≡ (if is_answered then answered + 1 else answered)
+      → WasTold at part (take answered calls) log before → WasTold at part (take answered' calls) log' behind
+  either part calls answered answered' log log' call answer true is_answered before behind ran noted found full answers next was =
+      let same : take answered calls ≡ take answered' calls = ap (λ (n : ℕ). take n calls) (sym (next ∙ ap (λ (b : Bool). if b then answered + 1 else answered) answers)) in
+      let spare : (is_own call || is_full answer) ≡ true = ap (λ (b : Bool). is_own call || b) (sym full) ∙ or_true (is_own call) in
+      subst (λ (cs : List Call). WasTold at part cs log' behind) same (told_more part (take answered calls) log log' call answer before behind ran noted spare was)
+  either part calls answered answered' log log' call answer false is_answered before behind ran noted found full answers next was =
+      subst (λ (cs : List Call). WasTold at part cs log' behind) (sym (answered_on calls answered answered' call is_answered found answers next))
+      (told_answer part (take answered calls) log log' call answer before behind ran noted (sym full) was)
+
+  -- the next call of its lines, or a try of it, by the session behind it
+  pub told_next : (key key' : K) (number number' : ℕ) (point : Serial) (calls : List Call) (answered answered' : ℕ) (log log' : Log) (call : Call) (answer : Answer) (full is_answered : Bool) (before behind : List Happening) → key' ≡ key → number' ≡ number
+      → HasRun at key (run_of number call answer before behind) → IsNoted log log' call answer → slice_get calls answered ≡ Some call → full ≡ is_full answer → is_answered ≡ not full → answered' ≡ (if is_answered then answered + 1 else answered)
+      → WasTold at (record { key = key; number = number; point = point; calls = calls }) (take answered calls) log before
+      → WasTold at (record { key = key'; number = number'; point = point; calls = calls }) (take answered' calls) log' behind
+  told_next key key' number number' point calls answered answered' log log' call answer full is_answered before behind key_is number_is ran noted found is_it answers next was =
+      subst (λ (part : Part K). WasTold at part (take answered' calls) log' behind) (same_part key key' number number' point calls key_is number_is)
+      (either (record { key = key; number = number; point = point; calls = calls }) calls answered answered' log log' call answer full is_answered before behind ran noted found is_it answers next was)
+
+  -- a session that has ended: its answered calls are the first of its lines
+  pub told_all : (part : Part K) (answered : ℕ) (whole : Bool) (log : Log) (seen : List Happening) → (whole ≡ true → length part.calls ≤ answered) → WasTold at part (take answered part.calls) log seen → IsTold at part whole log
+  told_all part answered whole log seen all was = record {
+    seen = seen;
+    answered = take answered part.calls;
+    left = drop answered part.calls;
+    calls = sym (take-append-drop answered part.calls);
+    all = λ is. drop_all answered part.calls (all is);
+    told = was;
+  }
+
+  -- so it is if less is said of it
+  pub told_less : (part : Part K) (whole whole' : Bool) (log : Log) → (whole' ≡ true → whole ≡ true) → IsTold at part whole log → IsTold at part whole' log
+  told_less part whole whole' log less its = record { seen = its.seen; answered = its.answered; left = its.left; calls = its.calls; all = λ is. its.all (less is); told = its.told }
 
   seen_on : (less more most : List Happening) → IsSeenBy (plane at) less more → IsSeenBy (plane at) more most → IsSeenBy (plane at) less most
   seen_on less more most first second = (second.0 ++ first.0, second.1 ∙ (ap (λ (es : List Happening). second.0 ++ es) first.1 ∙ sym (append_assoc second.0 first.0 less)))
@@ -70,26 +154,21 @@ module _ {K : Type 0} (at : K → World) where
     last = next ∙ ap (λ (f : Option Finished). finish_by f answer) was.last;
   }
 
-  -- what a session was told at one table, by other names of the same
-  pub told_as : (key key' : K) (number number' : ℕ) (point point' : Serial) (log : Log) → key ≡ key' → number ≡ number' → point ≡ point' → IsTold at key number point log → IsTold at key' number' point' log
-  told_as key key' number number' point point' log key_is number_is point_is told =
-      subst (λ (k : K). IsTold at k number' point' log) key_is (subst (λ (n : ℕ). IsTold at key n point' log) number_is (subst (λ (p : Serial). IsTold at key number p log) point_is told))
-
   -- what threads leave at the table of a store that was opened
-  pub is_played : {X E D : Type 0} (logs : X → List Log) (device : X → D) (finished : X → Option Finished) (r : Result X E) (key : K) (opened : Opened) (honest : D → Type 0) (shows : D → List ℕ) (may_leave : D → List ℕ → Type 0) (first : D) (points : List Serial) (sessions : ℕ)
-      → IsOverStore at key opened (shows first) → sessions ≡ opened.shape.sessions → points ≡ opened.points.items → IfOk r (λ x. WerePlayed at key points sessions honest shows may_leave (logs x) (device x) (finished x))
-      → IfOk r (λ x. IsPlayed at opened honest shows may_leave first (logs x) (device x) (finished x))
-  is_played logs device finished (Ok x) key opened honest shows may_leave first points sessions over count same played =
-      (key, over, subst (λ (n : ℕ). WerePlayed at key opened.points.items n honest shows may_leave (logs x) (device x) (finished x)) count (subst (λ (ps : List Serial). WerePlayed at key ps sessions honest shows may_leave (logs x) (device x) (finished x)) same played))
-  is_played logs device finished (Err e) key opened honest shows may_leave first points sessions over count same played = tt
+  pub is_played : {X E D : Type 0} (whole : X → Bool) (logs : X → List Log) (device : X → D) (finished : X → Option Finished) (r : Result X E) (key : K) (opened : Opened) (lines : List Line) (honest : D → Type 0) (shows : D → List ℕ) (may_leave : D → List ℕ → Type 0) (first : D) (points : List Serial) (sessions : ℕ)
+      → IsOverStore at key opened (shows first) → sessions ≡ opened.shape.sessions → points ≡ opened.points.items → IfOk r (λ x. WerePlayed at key points lines sessions honest shows may_leave (whole x) (logs x) (device x) (finished x))
+      → IfOk r (λ x. IsPlayed at opened lines honest shows may_leave first (whole x) (logs x) (device x) (finished x))
+  is_played whole logs device finished (Ok x) key opened lines honest shows may_leave first points sessions over count same played = record {
+    key = key;
+    over = over;
+    played = subst (λ (n : ℕ). WerePlayed at key opened.points.items lines n honest shows may_leave (whole x) (logs x) (device x) (finished x)) count
+        (subst (λ (ps : List Serial). WerePlayed at key ps lines sessions honest shows may_leave (whole x) (logs x) (device x) (finished x)) same played);
+  }
+  is_played whole logs device finished (Err e) key opened lines honest shows may_leave first points sessions over count same played = tt
 
 -- what holds of each item at its place, and of one more behind them
 pub one_at : {X : Type 0} (holds : ℕ → X → Type 0) (xs all : List X) (more : X) → all ≡ xs ++ more ∷ [] → EachAt xs holds → holds (length xs) more → EachAt all holds
 one_at holds xs all more pushed each its = (one_more holds (λ x. x) xs all more (map (λ x. x) xs) pushed refl each (subst (λ (n : ℕ). holds n more) (sym (length-map xs (λ x. x))) its)).1
-
--- a seat of one key, by equal numbers and points
-pub same_seat : {K : Type 0} (key : K) (number number' : ℕ) (point point' : Serial) → number ≡ number' → point ≡ point' → (let seat : Seat K = record { key = key; number = number; point = point } in seat ≡ record { key = key; number = number'; point = point' })
-same_seat key number number' point point' number_is point_is = λ i. record { key = key; number = number_is i; point = point_is i }
 
 -- as many as there were taken, and one more of each
 pub counted : {X Y : Type 0} (xs all : List X) (more : X) (ys : List Y) (next : Y) → all ≡ xs ++ more ∷ [] → length xs ≡ length ys → length all ≡ length (ys ++ next ∷ [])

@@ -5,8 +5,10 @@ use Rattle.fkv_base.specs.declared.faults.Fault.TheVariants.{BadShape}
 use Rattle.fkv_base.specs.declared.shapes.Shape.{Shape}
 use Rattle.fkv_creating.specs.Created.{IsNewStore}
 use Rattle.fkv_keeper.specs.declared.answers.Finished.{Finished}
+use Rattle.fkv_lines.specs.declared.scripts.Line.{Line}
 use Rattle.fkv_lines.specs.declared.scripts.Opening.{Opening}
 use Rattle.fkv_lines.specs.declared.scripts.Opening.TheVariants as opening
+use Rattle.fkv_lines.specs.declared.scripts.Sizes.{Sizes}
 use Rattle.fkv_opening.specs.Opened.{IsStoreOf}
 use Rattle.fkv_opening.specs.declared.opened_store.Opened.{Opened}
 use Rattle.fkv_texts.specs.Refusals.{last_refusal}
@@ -16,6 +18,24 @@ use Rattle.fkv_thread_scripts.specs.declared.reports.Report.{Report}
 use Rattle.fkv_threading.specs.Told.{IsPlayed}
 use Rattle.fkv_world.specs.Runs.{World}
 
+-- ---- what is played
+-- the shape has the sizes of a script's first line
+pub record HasSizes (sizes : Sizes) (shape : Shape) : Type 0 where
+  pub bucket_bits : shape.bucket_bits ≡ sizes.bucket_bits
+  pub page : shape.page ≡ sizes.page
+  pub frames : shape.frames ≡ sizes.frames
+  pub mutable : shape.mutable ≡ sizes.mutable
+  pub sessions : shape.sessions ≡ sizes.sessions
+  pub overflow : shape.overflow ≡ sizes.overflow
+  pub disk_pages : shape.disk_pages ≡ sizes.disk_pages
+
+-- Threads have played lines over a new store of a shape, and each session has made all calls of its lines.
+pub record IsPlayedNew {K D : Type 0} (at : K → World) (shape : Shape) (lines : List Line) (honest : D → Type 0) (shows : D → List ℕ) (may_leave : D → List ℕ → Type 0) (logs : List Log) (device : D) (finished : Option Finished) : Type 0 where
+  pub opened : Opened
+  pub first : D
+  pub new : IsNewStore shape opened
+  pub played : IsPlayed at opened lines honest shows may_leave first true logs device finished
+
 -- ---- what a report says
 -- the store that a device holds is recovered: the report has its commit's number, and says whether that commit is the last that was told as finished
 pub record IsReportOn {D : Type 0} (honest : D → Type 0) (shows : D → List ℕ) (finished : Option Finished) (device : D) (report : Report) : Type 0 where
@@ -24,17 +44,15 @@ pub record IsReportOn {D : Type 0} (honest : D → Type 0) (shows : D → List �
   pub number : report.number ≡ recovered.number
   pub points : (report.points_agree ≡ true) ↔ IsLastFinished finished recovered.number recovered.points.items
 
--- A report is of a run of threads over a new store. What it compares are their logs, and the last commit that they were told as finished.
--- Behind them it is of a store that is recovered from a device of which this is so, beside their own.
-pub record IsReportOfRun {K D E : Type 0} (at : K → World) (honest : D → Type 0) (shows : D → List ℕ) (may_leave : D → List ℕ → Type 0) (trusted : E → Type 0) (reads_as : E → List ℕ) (LeftBy : D → E → Type 0) (report : Report) : Type 0 where
+-- A report is of lines that threads have played over a new store of these sizes. What it compares are their logs, and the last commit that they were told as
+-- finished. Behind them it is of a store that is recovered from a device of which this is so, beside their own.
+pub record IsReportOfRun {K D E : Type 0} (at : K → World) (honest : D → Type 0) (shows : D → List ℕ) (may_leave : D → List ℕ → Type 0) (trusted : E → Type 0) (reads_as : E → List ℕ) (LeftBy : D → E → Type 0) (lines : List Line) (sizes : Sizes) (report : Report) : Type 0 where
   pub shape : Shape
-  pub opened : Opened
-  pub new : IsNewStore shape opened
-  pub first : D
+  pub sized : HasSizes sizes shape
   pub logs : List Log
   pub device : D
   pub finished : Option Finished
-  pub played : IsPlayed at opened honest shows may_leave first logs device finished
+  pub played : IsPlayedNew at shape lines honest shows may_leave logs device finished
   pub after : E
   pub left : LeftBy device after
   pub says : IsReportOn trusted reads_as finished after report
@@ -58,8 +76,8 @@ abbrev pub reported_status : Result Report Fault → ℕ
 reported_status (Ok report) = if agrees report then 0 else 1
 reported_status (Err fault) = refused_status fault
 
--- A script without a line that makes a store writes nothing. Else a report is written, of which this is so, or a refusal, with its status.
-abbrev pub IsRunOnThreads : (Report → Type 0) → Option Opening → (List ℕ → Type 0) → ℕ → Type 0
-IsRunOnThreads Says (Some (opening.Shape sizes)) Wrote status = (reported : Result Report Fault) × IfOk reported Says × Wrote (reported_text reported) × (status ≡ reported_status reported)
+-- A script without a line that makes a store writes nothing. Else a report is written, of which this is so by the line's sizes, or a refusal, with its status.
+abbrev pub IsRunOnThreads : (Sizes → Report → Type 0) → Option Opening → (List ℕ → Type 0) → ℕ → Type 0
+IsRunOnThreads Says (Some (opening.Shape sizes)) Wrote status = (reported : Result Report Fault) × IfOk reported (Says sizes) × Wrote (reported_text reported) × (status ≡ reported_status reported)
 IsRunOnThreads Says (Some opening.Open) Wrote status = Wrote [] × (status ≡ 0)
 IsRunOnThreads Says None Wrote status = Wrote [] × (status ≡ 0)

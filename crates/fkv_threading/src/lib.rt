@@ -4,6 +4,7 @@
 mod gates;
 mod keepers;
 mod keeping;
+mod players;
 mod playing;
 mod programs;
 mod progress;

@@ -1,13 +1,10 @@
 //! A script on threads, from the line that makes its store to its report.
 ghost use Rattle.std.specs.Prelude.{◌≡◌, ⊤, IfOk, OnOk, Ok, if◌then◌else◌};
 ghost use Rattle.std.specs.Io.KnownBytes.{Appends};
-ghost use Rattle.fkv_creating.specs.Created.{IsNewStore};
-ghost use Rattle.fkv_opening.specs.declared.opened_store.Opened.{Opened};
 ghost use Rattle.fkv_table.specs.Planes.{opening_of};
 ghost use Rattle.fkv_texts.specs.Refusals.{last_refusal};
 ghost use Rattle.fkv_thread_scripts.specs.Reports.{agrees, threads_report_text};
-ghost use Rattle.fkv_threading.specs.Told.{IsPlayed};
-ghost use Rattle.fkv_threading.specs.Written.{HoldsLeft, IsReportOfRun, IsReportOn, IsRunOnThreads, refused_status, reported_status, reported_text};
+ghost use Rattle.fkv_threading.specs.Written.{HasSizes, HoldsLeft, IsPlayedNew, IsReportOfRun, IsReportOn, IsRunOnThreads, refused_status, reported_status, reported_text};
 
 use crate::gates::Gate;
 use crate::keepers::KeeperEnd;
@@ -39,7 +36,7 @@ pub fn run_threads<G: Gate + Sync, W: Write, R: Threads + Wait + Sync>(
     output: &mut W,
     gate: &G,
 ) -> io::Result<u8>
-    ensures { IfOk result (IsRunOnThreads (IsReportOfRun (opening_of ⟦<Fuse<MemDisk> as Device>⟧.seen) ⟦<Fuse<MemDisk> as Device>⟧.honest ⟦<Fuse<MemDisk> as Device>⟧.seen ⟦<Fuse<MemDisk> as Device>⟧.may_leave ⟦<MemDisk as Device>⟧.honest ⟦<MemDisk as Device>⟧.seen (HoldsLeft ⟦<Fuse<MemDisk> as Device>⟧.may_leave ⟦<MemDisk as Device>⟧.seen)) script.now.opening (Appends (W.contents output.old) (W.contents output.new))) }
+    ensures { IfOk result (IsRunOnThreads (IsReportOfRun (opening_of ⟦<Fuse<MemDisk> as Device>⟧.seen) ⟦<Fuse<MemDisk> as Device>⟧.honest ⟦<Fuse<MemDisk> as Device>⟧.seen ⟦<Fuse<MemDisk> as Device>⟧.may_leave ⟦<MemDisk as Device>⟧.honest ⟦<MemDisk as Device>⟧.seen (HoldsLeft ⟦<Fuse<MemDisk> as Device>⟧.may_leave ⟦<MemDisk as Device>⟧.seen) script.now.lines.items) script.now.opening (Appends (W.contents output.old) (W.contents output.new))) }
 {
     let sizes = match script.opening {
         Some(Opening::Shape(sizes)) => sizes,
@@ -63,7 +60,7 @@ pub fn run_threads_in_file<G: Gate + Sync, W: Write, R: Threads + Wait + Sync, H
 ) -> io::Result<(u8, Option<Trouble>)>
 where
     H::File: Lockable + Send,
-    ensures { IfOk result (λ end. IsRunOnThreads (IsReportOfRun (opening_of ⟦<Mirror<FileDisk<H::File>> as Device>⟧.seen) ⟦<Mirror<FileDisk<H::File>> as Device>⟧.honest ⟦<Mirror<FileDisk<H::File>> as Device>⟧.seen ⟦<Mirror<FileDisk<H::File>> as Device>⟧.may_leave ⟦<ReadAhead<FileDisk<H::File>> as Device>⟧.honest ⟦<ReadAhead<FileDisk<H::File>> as Device>⟧.seen (λ _ _. ⊤)) script.now.opening (Appends (W.contents output.old) (W.contents output.new)) end.0) }
+    ensures { IfOk result (λ end. IsRunOnThreads (IsReportOfRun (opening_of ⟦<Mirror<FileDisk<H::File>> as Device>⟧.seen) ⟦<Mirror<FileDisk<H::File>> as Device>⟧.honest ⟦<Mirror<FileDisk<H::File>> as Device>⟧.seen ⟦<Mirror<FileDisk<H::File>> as Device>⟧.may_leave ⟦<ReadAhead<FileDisk<H::File>> as Device>⟧.honest ⟦<ReadAhead<FileDisk<H::File>> as Device>⟧.seen (λ _ _. ⊤) script.now.lines.items) script.now.opening (Appends (W.contents output.old) (W.contents output.new)) end.0) }
 {
     let sizes = match script.opening {
         Some(Opening::Shape(sizes)) => sizes,
@@ -135,11 +132,11 @@ fn report_in_memory<G: Gate + Sync, R: Threads + Wait + Sync>(
     lines: &[Line],
     gate: &G,
 ) -> Result<Report, Fault>
-    ensures { IfOk result (IsReportOfRun (opening_of ⟦<Fuse<MemDisk> as Device>⟧.seen) ⟦<Fuse<MemDisk> as Device>⟧.honest ⟦<Fuse<MemDisk> as Device>⟧.seen ⟦<Fuse<MemDisk> as Device>⟧.may_leave ⟦<MemDisk as Device>⟧.honest ⟦<MemDisk as Device>⟧.seen (HoldsLeft ⟦<Fuse<MemDisk> as Device>⟧.may_leave ⟦<MemDisk as Device>⟧.seen)) }
+    ensures { IfOk result (IsReportOfRun (opening_of ⟦<Fuse<MemDisk> as Device>⟧.seen) ⟦<Fuse<MemDisk> as Device>⟧.honest ⟦<Fuse<MemDisk> as Device>⟧.seen ⟦<Fuse<MemDisk> as Device>⟧.may_leave ⟦<MemDisk as Device>⟧.honest ⟦<MemDisk as Device>⟧.seen (HoldsLeft ⟦<Fuse<MemDisk> as Device>⟧.may_leave ⟦<MemDisk as Device>⟧.seen) lines.now sizes) }
 {
     let shape = shape_of(sizes)?;
     let device = Fuse::new(MemDisk::new(alloc));
-    let Played { logs, keeper } = play_new(rt, alloc, device, shape, lines, gate)?;
+    let Played { logs, keeper, .. } = play_new(rt, alloc, device, shape, lines, gate)?;
     let KeeperEnd {
         device,
         finished,
@@ -164,7 +161,7 @@ fn report_in_file<G: Gate + Sync, R: Threads + Wait + Sync, H: Files>(
 ) -> Result<Report, Trouble>
 where
     H::File: Lockable + Send,
-    ensures { IfOk result (IsReportOfRun (opening_of ⟦<Mirror<FileDisk<H::File>> as Device>⟧.seen) ⟦<Mirror<FileDisk<H::File>> as Device>⟧.honest ⟦<Mirror<FileDisk<H::File>> as Device>⟧.seen ⟦<Mirror<FileDisk<H::File>> as Device>⟧.may_leave ⟦<ReadAhead<FileDisk<H::File>> as Device>⟧.honest ⟦<ReadAhead<FileDisk<H::File>> as Device>⟧.seen (λ _ _. ⊤)) }
+    ensures { IfOk result (IsReportOfRun (opening_of ⟦<Mirror<FileDisk<H::File>> as Device>⟧.seen) ⟦<Mirror<FileDisk<H::File>> as Device>⟧.honest ⟦<Mirror<FileDisk<H::File>> as Device>⟧.seen ⟦<Mirror<FileDisk<H::File>> as Device>⟧.may_leave ⟦<ReadAhead<FileDisk<H::File>> as Device>⟧.honest ⟦<ReadAhead<FileDisk<H::File>> as Device>⟧.seen (λ _ _. ⊤) lines.now sizes) }
 {
     let shape = shape_of(sizes)?;
     let (file, length) = make_alone(files, path)?;
@@ -172,7 +169,7 @@ where
         return Err(Trouble::Irregular);
     };
     let device = Mirror::new(alloc, file, length)?;
-    let Played { logs, keeper } = play_new(rt, alloc, device, shape, lines, gate)?;
+    let Played { logs, keeper, .. } = play_new(rt, alloc, device, shape, lines, gate)?;
     let KeeperEnd {
         device,
         finished,
@@ -186,7 +183,8 @@ where
     Ok(report)
 }
 
-/// Plays lines over a new store of this shape on a device. A refusal that ended the run is its answer.
+/// Plays lines over a new store of this shape on a device. A refusal that ended the run is its answer. Where that of no turn has stopped a session, memory
+/// was refused.
 fn play_new<D: Device + Drop + Send, G: Gate + Sync, R: Threads + Wait + Sync>(
     rt: &R,
     alloc: Global,
@@ -196,14 +194,15 @@ fn play_new<D: Device + Drop + Send, G: Gate + Sync, R: Threads + Wait + Sync>(
     gate: &G,
 ) -> Result<Played<D>, Fault>
     requires honest { D.honest device }
-    ensures { IfOk result (λ its. (opened : Opened) × (first : D) × IsNewStore shape opened × IsPlayed (opening_of D.seen) opened D.honest D.seen D.may_leave first its.logs.items its.keeper.device its.keeper.finished) }
+    ensures { IfOk result (λ its. IsPlayedNew (opening_of D.seen) shape lines.now D.honest D.seen D.may_leave its.logs.items its.keeper.device its.keeper.finished) }
 {
     let mut device = device;
     let opened = create_opened(alloc, &mut device, shape)?;
     let played = play(rt, alloc, opened, device, lines, gate)?;
     match played.keeper.fault {
         Some(fault) => Err(fault),
-        None => Ok(played),
+        None if played.is_whole => Ok(played),
+        None => Err(Fault::Memory),
     }
 }
 
@@ -223,7 +222,9 @@ fn report_on<D: Device>(
 }
 
 /// The shape of these sizes.
-fn shape_of(sizes: Sizes) -> Result<Shape, Fault> {
+fn shape_of(sizes: Sizes) -> Result<Shape, Fault>
+    ensures { IfOk result (HasSizes sizes) }
+{
     let Sizes {
         class,
         bucket_bits,

@@ -4,14 +4,12 @@ ghost use Rattle.fkv_table.specs.Planes.{opening_of};
 ghost use Rattle.fkv_threading.specs.Told.{IsTold};
 
 use crate::gates::Gate;
+use crate::players::{Player, SessionEnd};
 use crate::progress::Progress;
-use crate::sitting::Sitting;
 use fkv_base::Fault;
 use fkv_disk::Device;
-use fkv_lines::Line;
 use fkv_map::Call;
 use fkv_session::Answer;
-use fkv_thread_scripts::Log;
 use std::sync::Wait;
 use std::thread::yield_now;
 
@@ -21,70 +19,56 @@ pub(crate) fn play_session<D: Device, G: Gate, R: Wait>(
     rt: &R,
     progress: &Progress,
     gate: &G,
-    lines: &[Line],
     number: usize,
-    seat: Sitting<'_, D>,
-) -> Result<Log, Fault>
-    ensures { IfOk result (IsTold (opening_of D.seen) seat.entry.key seat.entry.number seat.entry.point) }
+    player: Player<'_, D>,
+) -> Result<SessionEnd, Fault>
+    ensures { IfOk result (λ its. IsTold (opening_of D.seen) player.entry its.is_whole its.log) }
 {
-    let played = play_lines(rt, progress, gate, lines, number, seat);
+    let played = play_calls(rt, progress, gate, number, player);
     if played.is_err() {
         progress.stop();
     }
     progress.end_session();
     match played {
-        Ok(seat) => Ok(seat.into_log()),
+        Ok(player) => Ok(player.end()),
         Err(fault) => Err(fault),
     }
 }
 
-fn play_lines<'t, D: Device, G: Gate, R: Wait>(
+fn play_calls<'t, D: Device, G: Gate, R: Wait>(
     rt: &R,
     progress: &Progress,
     gate: &G,
-    lines: &[Line],
     number: usize,
-    seat: Sitting<'t, D>,
-) -> Result<Sitting<'t, D>, Fault>
-    ensures { IfOk result (λ end. end ≡ seat.entry) }
+    player: Player<'t, D>,
+) -> Result<Player<'t, D>, Fault>
+    ensures { IfOk result (λ end. end ≡ player.entry) }
 {
-    let mut at = seat;
-    let mut count: u64 = 0;
-    for line in lines {
-        if let Some(call) = call_of(*line, number) {
-            count = count.saturating_add(1);
-            gate.before(number, count);
-            at = play_call(rt, progress, at, call)?;
-        }
+    let calls = player.count_left() as u64;
+    let mut at = player;
+    for before in 0..calls {
+        gate.before(number, before + 1);
+        at = play_call(rt, progress, at)?;
     }
     end(rt, progress, at)
 }
 
-/// The call of this line, if it is one of this session.
-fn call_of(line: Line, number: usize) -> Option<Call> {
-    match line {
-        Line::Call(session, call) if session == number as u64 => Some(call),
-        _ => None,
-    }
-}
-
-/// Makes a call. One that is refused since too many requests are pending is made again behind a refresh and a poll.
+/// Makes the next call. One that is refused since too many requests are pending is made again behind a refresh and a poll.
 fn play_call<'t, D: Device, R: Wait>(
     rt: &R,
     progress: &Progress,
-    seat: Sitting<'t, D>,
-    call: Call,
-) -> Result<Sitting<'t, D>, Fault>
-    ensures { IfOk result (λ end. end ≡ seat.entry) }
+    player: Player<'t, D>,
+) -> Result<Player<'t, D>, Fault>
+    ensures { IfOk result (λ end. end ≡ player.entry) }
 {
-    let mut at = seat;
+    let mut at = player;
     for _ in rt.forever() {
         if progress.is_stopped() {
             break;
         }
-        let (next, answer) = at.call(call)?;
+        let (next, is_answered) = at.call_next()?;
         at = next;
-        if !is_full(&answer) {
+        if is_answered {
             break;
         }
         let (next, _) = catch_up(at)?;
@@ -94,19 +78,12 @@ fn play_call<'t, D: Device, R: Wait>(
     Ok(at)
 }
 
-fn is_full(answer: &Answer) -> bool {
-    match answer {
-        Answer::Refused(Fault::PendingFull) => true,
-        _ => false,
-    }
-}
-
 /// A refresh and a poll, and how many requests are left.
-fn catch_up<'t, D: Device>(seat: Sitting<'t, D>) -> Result<(Sitting<'t, D>, usize), Fault>
-    ensures { IfOk result (λ its. its.0 ≡ seat.entry) }
+fn catch_up<'t, D: Device>(player: Player<'t, D>) -> Result<(Player<'t, D>, usize), Fault>
+    ensures { IfOk result (λ its. its.0 ≡ player.entry) }
 {
-    let (refreshed, _) = seat.call(Call::Refresh)?;
-    let (polled, answer) = refreshed.call(Call::Poll)?;
+    let (refreshed, _) = player.call_own(Call::Refresh)?;
+    let (polled, answer) = refreshed.call_own(Call::Poll)?;
     match answer {
         Answer::Polled(_, left) => Ok((polled, left)),
         _ => Ok((polled, 0)),
@@ -117,11 +94,11 @@ fn catch_up<'t, D: Device>(seat: Sitting<'t, D>) -> Result<(Sitting<'t, D>, usiz
 fn end<'t, D: Device, R: Wait>(
     rt: &R,
     progress: &Progress,
-    seat: Sitting<'t, D>,
-) -> Result<Sitting<'t, D>, Fault>
-    ensures { IfOk result (λ end. end ≡ seat.entry) }
+    player: Player<'t, D>,
+) -> Result<Player<'t, D>, Fault>
+    ensures { IfOk result (λ end. end ≡ player.entry) }
 {
-    let mut at = seat;
+    let mut at = player;
     for _ in rt.forever() {
         if progress.is_stopped() {
             return Ok(at);
@@ -134,6 +111,6 @@ fn end<'t, D: Device, R: Wait>(
         }
         yield_now();
     }
-    let (slept, _) = at.call(Call::Sleep)?;
+    let (slept, _) = at.call_own(Call::Sleep)?;
     Ok(slept)
 }
