@@ -2,7 +2,10 @@
 #![tactic(auto)]
 
 mod calls;
+mod claims;
+mod keys;
 mod logs;
+mod maps;
 mod reports;
 mod scripts;
 

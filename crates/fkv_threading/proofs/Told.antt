@@ -1,6 +1,7 @@
 -- What one call more, or one turn, adds to what was told.
 use Rattle.std.proofs.Common.{◌≡◌, ℕ, ◌+◌, ◌≤◌, refl, sym, ap, subst, ◌∙◌, Bool, true, false, not, List, [], ◌∷◌, ◌++◌, append_assoc, append-nil, length, length-append, map, take, drop, arith}
 use Rattle.std.specs.Prelude.{Option, Some, Result, Ok, Err, IfOk, ◌||◌, ◌&&◌, if◌then◌else◌, slice_get, get_or}
+use Rattle.std.proofs.lemmas.Bool.{and_parts}
 use Rattle.std.proofs.lemmas.List.{drop_all, length-map, take-append-drop, take_more}
 use Rattle.std.proofs.lemmas.Option.{get_or_from_slice_get, slice_get_within}
 use Rattle.fkv_base.specs.declared.faults.Fault.{Fault}
@@ -23,7 +24,7 @@ use Rattle.fkv_thread_scripts.specs.Logs.{accepted_by, durable_by, told_by}
 use Rattle.fkv_thread_scripts.specs.declared.logs.Log.{Log}
 use Rattle.fkv_threads.specs.Begun.{IsOverStore}
 use Rattle.fkv_threads.specs.Runs.{run_of}
-use Rattle.fkv_threading.specs.Told.{ArePlayed, AreTurns, IsLogOf, IsPlayed, IsTold, Part, TurnRun, WasFinished, WasTold, WerePlayed, finish_by, is_full, is_own, part_of, point_at}
+use Rattle.fkv_threading.specs.Told.{AreLogs, AreTurns, IsLogOf, IsPlayed, IsTold, Part, TurnRun, WasFinished, WasTold, WerePlayed, finish_by, is_full, is_own, part_at, part_of, point_at}
 use Rattle.fkv_world.specs.Runs.{World}
 use Rattle.law_threads.specs.Calls.{CallRun, HasRun}
 use Rattle.law_threads.specs.Turns.{HasTurned}
@@ -58,6 +59,23 @@ answered_on calls answered answered' call is_answered found yes next =
 or_true : (b : Bool) → (b || true) ≡ true
 or_true true = refl
 or_true false = refl
+
+-- what holds of each item at its place, and of one more behind them
+pub one_at : {X : Type 0} (holds : ℕ → X → Type 0) (xs all : List X) (more : X) → all ≡ xs ++ more ∷ [] → EachAt xs holds → holds (length xs) more → EachAt all holds
+one_at holds xs all more pushed each its = (one_more holds (λ x. x) xs all more (map (λ x. x) xs) pushed refl each (subst (λ (n : ℕ). holds n more) (sym (length-map xs (λ x. x))) its)).1
+
+-- the part of the session at the next number, by equal numbers, points and calls
+pub seated_at : {K : Type 0} (key : K) (places number its_number : ℕ) (points : List Serial) (point : Serial) (lines : List Line) (calls : List Call) → its_number ≡ places → number ≡ places → point ≡ point_at points number → calls ≡ calls_of number lines
+    → (let part : Part K = record { key = key; number = its_number; point = point; calls = calls } in part ≡ part_at key points lines places)
+seated_at key places number its_number points point lines calls its_is is point_is calls_are =
+    let same_point : point ≡ point_at points places = point_is ∙ ap (λ (n : ℕ). point_at points n) is in
+    let same_calls : calls ≡ calls_of places lines = calls_are ∙ ap (λ (n : ℕ). calls_of n lines) is in
+    λ i. record { key = key; number = its_is i; point = same_point i; calls = same_calls i }
+
+pub promised_at : {K : Type 0} (key : K) (places number : ℕ) (points : List Serial) (point : Serial) (lines : List Line) → number ≡ places → point ≡ point_at points number → part_of key number point lines ≡ part_at key points lines places
+promised_at key places number points point lines is point_is =
+    let same_point : point ≡ point_at points places = point_is ∙ ap (λ (n : ℕ). point_at points n) is in
+    λ i. part_of key (is i) (same_point i) lines
 
 module _ {K : Type 0} (at : K → World) where
   -- before its first call a session was told nothing
@@ -154,6 +172,15 @@ module _ {K : Type 0} (at : K → World) where
     last = next ∙ ap (λ (f : Option Finished). finish_by f answer) was.last;
   }
 
+  -- one log more, that of the session at the next number
+  pub logs_more : (key : K) (points : List Serial) (lines : List Line) (whole whole' its_whole : Bool) (logs all : List Log) (log : Log) (part : Part K) → all ≡ logs ++ log ∷ [] → whole' ≡ (whole && its_whole) → AreLogs at key points lines whole logs → part ≡ part_at key points lines (length logs)
+      → IsTold at part its_whole log → AreLogs at key points lines whole' all
+  logs_more key points lines whole whole' its_whole logs all log part pushed both each part_is its =
+      let first : (whole' ≡ true → whole ≡ true) = λ e. (and_parts whole its_whole (sym both ∙ e)).0 in
+      let this : (whole' ≡ true → its_whole ≡ true) = λ e. (and_parts whole its_whole (sym both ∙ e)).1 in
+      one_at (λ number l. IsTold at (part_at key points lines number) whole' l) logs all log pushed (λ i x found. told_less (part_at key points lines i) whole whole' x first (each i x found))
+          (told_less (part_at key points lines (length logs)) its_whole whole' log this (subst (λ (p : Part K). IsTold at p its_whole log) part_is its))
+
   -- what threads leave at the table of a store that was opened
   pub is_played : {X E D : Type 0} (whole : X → Bool) (logs : X → List Log) (device : X → D) (finished : X → Option Finished) (r : Result X E) (key : K) (opened : Opened) (lines : List Line) (honest : D → Type 0) (shows : D → List ℕ) (may_leave : D → List ℕ → Type 0) (first : D) (points : List Serial) (sessions : ℕ)
       → IsOverStore at key opened (shows first) → sessions ≡ opened.shape.sessions → points ≡ opened.points.items → IfOk r (λ x. WerePlayed at key points lines sessions honest shows may_leave (whole x) (logs x) (device x) (finished x))
@@ -165,10 +192,6 @@ module _ {K : Type 0} (at : K → World) where
         (subst (λ (ps : List Serial). WerePlayed at key ps lines sessions honest shows may_leave (whole x) (logs x) (device x) (finished x)) same played);
   }
   is_played whole logs device finished (Err e) key opened lines honest shows may_leave first points sessions over count same played = tt
-
--- what holds of each item at its place, and of one more behind them
-pub one_at : {X : Type 0} (holds : ℕ → X → Type 0) (xs all : List X) (more : X) → all ≡ xs ++ more ∷ [] → EachAt xs holds → holds (length xs) more → EachAt all holds
-one_at holds xs all more pushed each its = (one_more holds (λ x. x) xs all more (map (λ x. x) xs) pushed refl each (subst (λ (n : ℕ). holds n more) (sym (length-map xs (λ x. x))) its)).1
 
 -- as many as there were taken, and one more of each
 pub counted : {X Y : Type 0} (xs all : List X) (more : X) (ys : List Y) (next : Y) → all ≡ xs ++ more ∷ [] → length xs ≡ length ys → length all ≡ length (ys ++ next ∷ [])

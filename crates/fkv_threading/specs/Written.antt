@@ -2,6 +2,8 @@
 use Rattle.std.specs.Prelude.{◌≡◌, ◌↔◌, ℕ, List, [], Bool, true, if◌then◌else◌, Option, Some, None, Result, Ok, Err, IfOk}
 use Rattle.fkv_base.specs.declared.faults.Fault.{Fault}
 use Rattle.fkv_base.specs.declared.faults.Fault.TheVariants.{BadShape}
+use Rattle.fkv_base.specs.declared.numbers.Key.{Key}
+use Rattle.fkv_base.specs.declared.numbers.Value.{Value}
 use Rattle.fkv_base.specs.declared.shapes.Shape.{Shape}
 use Rattle.fkv_creating.specs.Created.{IsNewStore}
 use Rattle.fkv_keeper.specs.declared.answers.Finished.{Finished}
@@ -11,7 +13,9 @@ use Rattle.fkv_lines.specs.declared.scripts.Opening.TheVariants as opening
 use Rattle.fkv_lines.specs.declared.scripts.Sizes.{Sizes}
 use Rattle.fkv_opening.specs.Opened.{IsStoreOf}
 use Rattle.fkv_opening.specs.declared.opened_store.Opened.{Opened}
+use Rattle.fkv_pairs.specs.Pairs.{ArePairs, log_of_store}
 use Rattle.fkv_texts.specs.Refusals.{last_refusal}
+use Rattle.fkv_thread_scripts.specs.Keys.{IsKeysLine, map_of, told_map}
 use Rattle.fkv_thread_scripts.specs.Reports.{IsLastFinished, agrees, threads_report_text}
 use Rattle.fkv_thread_scripts.specs.declared.logs.Log.{Log}
 use Rattle.fkv_thread_scripts.specs.declared.reports.Report.{Report}
@@ -37,12 +41,20 @@ pub record IsPlayedNew {K D : Type 0} (at : K → World) (shape : Shape) (lines 
   pub played : IsPlayed at opened lines honest shows may_leave first true logs device finished
 
 -- ---- what a report says
--- the store that a device holds is recovered: the report has its commit's number, and says whether that commit is the last that was told as finished
-pub record IsReportOn {D : Type 0} (honest : D → Type 0) (shows : D → List ℕ) (finished : Option Finished) (device : D) (report : Report) : Type 0 where
+-- bytes hold a store, with these pairs
+pub record HoldsPairs (bytes : List ℕ) (opened : Opened) (pairs : List (Key × Value)) : Type 0 where
+  pub store : IsStoreOf bytes opened
+  pub are_pairs : ArePairs (log_of_store bytes opened store) pairs
+
+-- The store that a device holds is recovered: the report has its commit's number, says whether that commit is the last that was told as finished, and compares
+-- its pairs with what logs have been told of lines up to its points.
+pub record IsReportOn {D : Type 0} (honest : D → Type 0) (shows : D → List ℕ) (lines : List Line) (logs : List Log) (finished : Option Finished) (device : D) (report : Report) : Type 0 where
   pub recovered : Opened
-  pub store : honest device → IsStoreOf (shows device) recovered
+  pub pairs : List (Key × Value)
+  pub held : honest device → HoldsPairs (shows device) recovered pairs
   pub number : report.number ≡ recovered.number
   pub points : (report.points_agree ≡ true) ↔ IsLastFinished finished recovered.number recovered.points.items
+  pub keys : IsKeysLine lines (told_map recovered.points.items logs) (map_of pairs) report.keys
 
 -- A report is of lines that threads have played over a new store of these sizes. What it compares are their logs, and the last commit that they were told as
 -- finished. Behind them it is of a store that is recovered from a device of which this is so, beside their own.
@@ -55,7 +67,7 @@ pub record IsReportOfRun {K D E : Type 0} (at : K → World) (honest : D → Typ
   pub played : IsPlayedNew at shape lines honest shows may_leave logs device finished
   pub after : E
   pub left : LeftBy device after
-  pub says : IsReportOn trusted reads_as finished after report
+  pub says : IsReportOn trusted reads_as lines logs finished after report
 
 -- a device holds what a crash may leave of another one
 abbrev pub HoldsLeft : {D E : Type 0} → (D → List ℕ → Type 0) → (E → List ℕ) → D → E → Type 0

@@ -214,7 +214,7 @@ fn report_on<D: Device>(
     finished: &Option<Finished>,
     device: &mut D,
 ) -> Result<Report, Fault>
-    ensures { IfOk result (IsReportOn D.honest D.seen finished.now device.old) }
+    ensures { IfOk result (IsReportOn D.honest D.seen lines.now logs.now finished.now device.old) }
 {
     let opened = recover(alloc, device)?;
     let pairs = content(alloc, &opened, device)?;

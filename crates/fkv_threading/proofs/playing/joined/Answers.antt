@@ -1,11 +1,11 @@
 -- The thread at this number keeps its promise.
-use Rattle.std.proofs.Common.{◌≡◌, ◌∙◌, arith, sym, ap, subst, length, length-append, refl, rules, List, [], ◌∷◌, ◌++◌, ℕ, IfOk}
+use Rattle.std.proofs.Common.{◌≡◌, ◌∙◌, sym, ap, subst, length, refl, rules, ℕ, IfOk}
 use Rattle.std.proofs.lemmas.Iterator.Adapters.{YieldsList-from_vec}
 use Rattle.std.proofs.lemmas.Iterator.Consumers.{YieldsList-turn}
 use Rattle.std.proofs.lemmas.Option.{slice_get_read}
 use Rattle.fkv_table.specs.Planes.{opening_of}
-use Rattle.fkv_threading.specs.Told.{IsTold, point_at}
-use Rattle.fkv_threading.proofs.Told.{counted, one_at, told_as}
+use Rattle.fkv_threading.specs.Told.{IsTold, part_at, part_of}
+use Rattle.fkv_threading.proofs.Told.{counted, logs_more}
 use Rattle.fkv_threading.proofs.playing.joined.Goals as goal
 
 pub loop-handle-preserved : goal.loop-handle-preserved
@@ -15,11 +15,8 @@ loop-handle-preserved g c =
     let at = length c.loop-handle.yielded in
     let turn = YieldsList-turn (YieldsList-from_vec {s = c.into_iter-handle-iterator.result} items (search rules) (search rules)) c.loop-handle.yielded c.loop-handle.handle-iterator c.loop-handle.yielded_by c.next.result c.next.new.self c.in-Some.handle c.in-Some.is c.next.ensures.steps in
     let there = slice_get_read items (length items) at c.in-Some.handle refl turn.0 turn.1 in
-    let promised = c.requires at c.in-Some.handle there in
-    let told = subst (λ r. IfOk r (IsTold (opening_of g.D.Device.seen) c.in-Some.handle.promise.table.now.table.shared.key c.in-Some.handle.promise.number c.in-Some.handle.promise.point)) c.in_ok-log.was c.join-log.ensures in
-    let pushed = c.in_ok-push.ensures.items in
-    let number : at ≡ length c.loop-handle.logs.items = sym inv.0 in (
+    let promised = c.requires at c.in-Some.handle there ∙ ap (λ (n : ℕ). part_at c.args.table.now.table.shared.key c.args.points.now c.args.lines.now n) (sym inv.0) in
+    let pushed = c.in_ok-push.ensures.items in (
       counted _ _ _ _ _ pushed inv.0,
-      one_at _ c.loop-handle.logs.items c.push.new.self.items _ pushed inv.1
-          (told_as (opening_of g.D.Device.seen) _ c.args.table.now.table.shared.key _ _ _ _ _ promised.0 (promised.1 ∙ number) (promised.2 ∙ ap (λ (n : ℕ). point_at c.args.points.now n) number) told),
+      logs_more (opening_of g.D.Device.seen) c.args.table.now.table.shared.key c.args.points.now c.args.lines.now c.loop-handle.are_whole ? ? c.loop-handle.logs.items c.push.new.self.items _ pushed ? inv.1 promised ?,
     )

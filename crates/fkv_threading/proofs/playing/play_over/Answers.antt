@@ -6,5 +6,5 @@ use Rattle.fkv_threading.proofs.playing.play_over.Goals as goal
 
 pub returns : goal.returns
 returns g c = subst
-    (λ (n : ℕ). IfOk c.play_seats.result (λ its. WerePlayed (opening_of g.D.Device.seen) c.args.table.now.table.shared.key c.args.points.now n g.D.Device.honest g.D.Device.seen g.D.Device.may_leave its.logs.items its.keeper.device its.keeper.finished))
-    c.in_ok-seats.ensures.count c.play_seats.ensures
+    (λ (n : ℕ). IfOk c.play_seats.result (λ its. WerePlayed (opening_of g.D.Device.seen) c.args.table.now.table.shared.key c.args.points.now c.args.lines.now n g.D.Device.honest g.D.Device.seen g.D.Device.may_leave its.is_whole its.logs.items its.keeper.device its.keeper.finished))
+    c.in_ok-players.ensures.count c.play_seats.ensures

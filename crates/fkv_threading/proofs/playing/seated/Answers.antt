@@ -4,21 +4,27 @@ use Rattle.std.proofs.lemmas.Iterator.Adapters.{YieldsList-from_vec}
 use Rattle.std.proofs.lemmas.Iterator.Consumers.{YieldsList-turn}
 use Rattle.std.proofs.lemmas.Option.{slice_get_read}
 use Rattle.fkv_table.specs.Planes.{opening_of}
-use Rattle.fkv_threading.specs.Told.{point_at}
-use Rattle.fkv_threading.proofs.Told.{counted, one_at, same_seat, told_nothing}
+use Rattle.fkv_threading.specs.Told.{part_at}
+use Rattle.fkv_threading.proofs.Told.{counted, one_at, seated_at}
 use Rattle.fkv_threading.proofs.playing.seated.Goals as goal
 
-pub invariant_of-push : goal.invariant_of-push
-invariant_of-push g c =
+pub invariant_of-seat : goal.invariant_of-seat
+invariant_of-seat g c =
     let items = c.args.sessions.items in
     let at = length c.loop-session.yielded in
     let turn = YieldsList-turn (YieldsList-from_vec {s = c.into_iter-session-iterator.result} items (search rules) (search rules)) c.loop-session.yielded c.loop-session.session-iterator c.loop-session.yielded_by c.next.result
     c.next.new.self (c.in-Some.session, c.in-Some.pass) c.in-Some.is c.next.ensures.steps in
     let there = slice_get_read items (length items) at (c.in-Some.session, c.in-Some.pass) refl turn.0 turn.1 in
-    let begun = c.requires.ready at (c.in-Some.session, c.in-Some.pass) there in let log = c.new-log.ensures in (
-      begun.ready,
-      told_nothing (opening_of g.D.Device.seen) c.args.table.now.table.shared.key _ _ c.new-log.result _ begun.nothing_seen log.first log.accepted log.told log.durable,
-    )
+    (c.requires.ready at (c.in-Some.session, c.in-Some.pass) there).ready
+
+pub player_of-requires : goal.player_of-requires
+player_of-requires g c =
+    let items = c.args.sessions.items in
+    let at = length c.loop-session.yielded in
+    let turn = YieldsList-turn (YieldsList-from_vec {s = c.into_iter-session-iterator.result} items (search rules) (search rules)) c.loop-session.yielded c.loop-session.session-iterator c.loop-session.yielded_by c.next.result
+    c.next.new.self (c.in-Some.session, c.in-Some.pass) c.in-Some.is c.next.ensures.steps in
+    let there = slice_get_read items (length items) at (c.in-Some.session, c.in-Some.pass) refl turn.0 turn.1 in
+    (c.requires.ready at (c.in-Some.session, c.in-Some.pass) there).nothing_seen
 
 pub loop-session-preserved : goal.loop-session-preserved
 loop-session-preserved g c =
@@ -29,9 +35,8 @@ loop-session-preserved g c =
     c.next.new.self (c.in-Some.session, c.in-Some.pass) c.in-Some.is c.next.ensures.steps in
     let there = slice_get_read items (length items) at (c.in-Some.session, c.in-Some.pass) refl turn.0 turn.1 in
     let begun = c.requires.ready at (c.in-Some.session, c.in-Some.pass) there in
-    let pushed = c.in_ok-push.ensures.items in
-    let number = c.len-number.ensures in (
+    let pushed = c.in_ok-push.ensures.items in (
       counted _ _ _ _ _ pushed inv.0,
-      one_at _ c.loop-session.seats.items c.push.new.self.items _ pushed inv.1
-          (same_seat c.args.table.now.table.shared.key _ _ _ _ (begun.numbered ∙ sym inv.0) (c.point_of-point.ensures ∙ ap (λ (n : ℕ). point_at c.args.points.now n) number)),
+      one_at _ c.loop-session.players.items c.push.new.self.items _ pushed inv.1
+          (seated_at c.args.table.now.table.shared.key _ _ _ c.args.points.now _ c.args.lines.now _ (begun.numbered ∙ sym inv.0) c.len-number.ensures c.point_of.ensures c.in_ok-calls.ensures.calls),
     )

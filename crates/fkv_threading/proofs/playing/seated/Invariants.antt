@@ -4,4 +4,4 @@ use Rattle.fkv_threading.specs.Told.{AreSeated}
 use Rattle.fkv_threading.proofs.playing.seated.Given as goal
 
 abbrev pub invariant-loop-session : goal.invariant-loop-session
-invariant-loop-session g l = (length l.seats.items ≡ length l.yielded) × AreSeated l.table.table.shared.key l.points l.seats.items
+invariant-loop-session g l = (length l.players.items ≡ length l.yielded) × AreSeated l.table.table.shared.key l.points l.lines l.players.items

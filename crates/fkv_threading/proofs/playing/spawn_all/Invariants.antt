@@ -1,10 +1,10 @@
 -- Each thread so far promises what the session at its number is told.
 use Rattle.std.proofs.Common.{◌≡◌, length}
 use Rattle.fkv_table.specs.Starts.{EachAt}
-use Rattle.fkv_threading.specs.Told.{point_at}
+use Rattle.fkv_threading.specs.Told.{part_at, part_of}
 use Rattle.fkv_threading.proofs.playing.spawn_all.Given as goal
 
-abbrev pub invariant-loop-seat : goal.invariant-loop-seat
-invariant-loop-seat g l =
+abbrev pub invariant-loop-player : goal.invariant-loop-player
+invariant-loop-player g l =
     (length l.handles.items ≡ length l.yielded)
-    × EachAt l.handles.items (λ i h. (h.promise.table.now.table.shared.key ≡ l.table.table.shared.key) × (h.promise.number ≡ i) × (h.promise.point ≡ point_at l.points i))
+    × EachAt l.handles.items (λ i h. part_of h.promise.table.now.table.shared.key h.promise.number h.promise.point h.promise.lines.now ≡ part_at l.table.table.shared.key l.points l.lines i)

@@ -1,6 +1,9 @@
 -- What is recovered is the store that an honest device holds.
-use Rattle.fkv_threading.proofs.Written.{report_on}
+use Rattle.fkv_threading.proofs.Written.{held, report_on}
 use Rattle.fkv_threading.proofs.programs.report_on.Goals as goal
 
 pub returns : goal.returns
-returns g c = report_on g.D.Device.honest g.D.Device.seen c.args.finished.now c.args.device.now c.report_of.result c.in_ok-opened.opened c.in_ok-opened.ensures.ok c.report_of.ensures.number c.report_of.ensures.points
+returns g c =
+    report_on g.D.Device.honest g.D.Device.seen c.args.lines.now c.args.logs.now c.args.finished.now c.args.device.now c.report_of.result c.in_ok-opened.opened c.in_ok-pairs.pairs.items
+    (held g.D.Device.honest g.D.Device.seen c.args.device.now c.recover.new.d c.in_ok-opened.opened c.in_ok-pairs.pairs.items c.in_ok-opened.ensures.ok c.in_ok-opened.ensures.quiet.premise c.in_ok-opened.ensures.quiet.same_bytes c.in_ok-pairs.ensures.ok)
+    c.report_of.ensures.number c.report_of.ensures.points c.report_of.ensures.keys

@@ -3,4 +3,4 @@ use Rattle.std.proofs.Common.{◌≡◌}
 use Rattle.fkv_threading.proofs.sessions.play_call.Given as goal
 
 abbrev pub invariant-loop : goal.invariant-loop
-invariant-loop g l = l.at ≡ l.fn.seat
+invariant-loop g l = l.at ≡ l.fn.player
