@@ -1,5 +1,5 @@
 -- What one call more, or one turn, adds to what was told.
-use Rattle.std.proofs.Common.{◌≡◌, ℕ, ◌+◌, ◌≤◌, refl, sym, ap, subst, ◌∙◌, Bool, true, false, not, List, [], ◌∷◌, ◌++◌, append_assoc, append-nil, length, length-append, map, take, drop, arith}
+use Rattle.std.proofs.Common.{◌≡◌, inl, inr, ℕ, ◌+◌, ◌≤◌, refl, sym, ap, subst, ◌∙◌, Bool, true, false, not, List, [], ◌∷◌, ◌++◌, append_assoc, append-nil, length, length-append, map, take, drop, arith}
 use Rattle.std.specs.Prelude.{Option, Some, Result, Ok, Err, IfOk, ◌||◌, ◌&&◌, if◌then◌else◌, slice_get, get_or}
 use Rattle.std.proofs.lemmas.Bool.{and_parts}
 use Rattle.std.proofs.lemmas.List.{drop_all, length-map, take-append-drop, take_more}
@@ -24,18 +24,12 @@ use Rattle.fkv_thread_scripts.specs.Logs.{accepted_by, durable_by, told_by}
 use Rattle.fkv_thread_scripts.specs.declared.logs.Log.{Log}
 use Rattle.fkv_threads.specs.Begun.{IsOverStore}
 use Rattle.fkv_threads.specs.Runs.{run_of}
-use Rattle.fkv_threading.specs.Told.{AreLogs, AreTurns, IsLogOf, IsPlayed, IsTold, Part, TurnRun, WasFinished, WasTold, WerePlayed, finish_by, is_full, is_own, part_at, part_of, point_at}
+use Rattle.fkv_threading.specs.Told.{AreLogs, AreTurns, HasMade, IsLogOf, IsNoted, IsPlayed, IsTold, Part, Seat, TurnRun, WasFinished, WasTold, WerePlayed, finish_by, is_full, is_own, part_at, part_of, point_at}
 use Rattle.fkv_world.specs.Runs.{World}
 use Rattle.law_threads.specs.Calls.{CallRun, HasRun}
 use Rattle.law_threads.specs.Turns.{HasTurned}
 
--- what a log has of one call more
-pub record IsNoted (log log' : Log) (call : Call) (answer : Answer) : Type 0 where
-  pub first : log'.first ≡ log.first
-  pub accepted : log'.accepted.items ≡ log.accepted.items ++ accepted_by call answer
-  pub told : log'.told.items ≡ log.told.items ++ told_by answer
-  pub durable : log'.durable ≡ durable_by log.durable answer
-
+-- a log of one call more
 noted_more : (point : Serial) (log log' : Log) (its : CallRun) (runs : List CallRun) → IsNoted log log' its.call its.answer → IsLogOf point log runs → IsLogOf point log' (its ∷ runs)
 noted_more point log log' its runs noted was = record {
   first = noted.first ∙ was.first;
@@ -52,8 +46,8 @@ same_part key key' number number' point calls key_is number_is = λ i. record { 
 -- the calls answered so far, behind a try of the next one
 answered_on : (calls : List Call) (answered answered' : ℕ) (call : Call) (is_answered : Bool) → slice_get calls answered ≡ Some call → is_answered ≡ true → answered' ≡ (if is_answered then answered + 1 else answered)
     → take answered' calls ≡ take answered calls ++ call ∷ []
-answered_on calls answered answered' call is_answered found yes next =
-    let more : answered' ≡ answered + 1 = next ∙ ap (λ (b : Bool). if b then answered + 1 else answered) yes in
+answered_on calls answered answered' call is_answered found was_answered next =
+    let more : answered' ≡ answered + 1 = next ∙ ap (λ (b : Bool). if b then answered + 1 else answered) was_answered in
     ap (λ (n : ℕ). take n calls) more ∙ (take_more calls answered call (slice_get_within calls answered call found) ∙ ap (λ (c : Call). take answered calls ++ c ∷ []) (get_or_from_slice_get calls answered call call found))
 
 or_true : (b : Bool) → (b || true) ≡ true
@@ -107,12 +101,11 @@ module _ {K : Type 0} (at : K → World) where
       }
 
   -- a call of its own, by the session behind it
-  pub told_own : (key key' : K) (number number' : ℕ) (point : Serial) (calls answered : List Call) (log log' : Log) (call : Call) (answer : Answer) (before behind : List Happening) → key' ≡ key → number' ≡ number
-      → HasRun at key (run_of number call answer before behind) → IsNoted log log' call answer → is_own call ≡ true
-      → WasTold at (record { key = key; number = number; point = point; calls = calls }) answered log before → WasTold at (record { key = key'; number = number'; point = point; calls = calls }) answered log' behind
-  told_own key key' number number' point calls answered log log' call answer before behind key_is number_is ran noted own was =
-      subst (λ (part : Part K). WasTold at part answered log' behind) (same_part key key' number number' point calls key_is number_is)
-      (told_more (record { key = key; number = number; point = point; calls = calls }) answered log log' call answer before behind ran noted (ap (λ (b : Bool). b || is_full answer) own) was)
+  pub told_own : (seat seat' : Seat K) (point : Serial) (calls answered : List Call) (log log' : Log) (call : Call) (answer : Answer) → HasMade at seat seat' call answer log log' → is_own call ≡ true
+      → WasTold at (record { key = seat.key; number = seat.number; point = point; calls = calls }) answered log seat.seen → WasTold at (record { key = seat'.key; number = seat'.number; point = point; calls = calls }) answered log' seat'.seen
+  told_own seat seat' point calls answered log log' call answer made own was =
+      subst (λ (part : Part K). WasTold at part answered log' seat'.seen) (same_part seat.key seat'.key seat.number seat'.number point calls made.key made.number)
+      (told_more (record { key = seat.key; number = seat.number; point = point; calls = calls }) answered log log' call answer seat.seen seat'.seen made.ran made.noted (ap (λ (b : Bool). b || is_full answer) own) was)
 
   either : (part : Part K) (calls : List Call) (answered answered' : ℕ) (log log' : Log) (call : Call) (answer : Answer) (full is_answered : Bool) (before behind : List Happening) → HasRun at part.key (run_of part.number call answer before behind)
       → IsNoted log log' call answer → slice_get calls answered ≡ Some call → full ≡ is_full answer → is_answered ≡ not full → answered' ≡ (if is_answered then answered + 1 else answered)
@@ -126,13 +119,12 @@ module _ {K : Type 0} (at : K → World) where
       (told_answer part (take answered calls) log log' call answer before behind ran noted (sym full) was)
 
   -- the next call of its lines, or a try of it, by the session behind it
-  pub told_next : (key key' : K) (number number' : ℕ) (point : Serial) (calls : List Call) (answered answered' : ℕ) (log log' : Log) (call : Call) (answer : Answer) (full is_answered : Bool) (before behind : List Happening) → key' ≡ key → number' ≡ number
-      → HasRun at key (run_of number call answer before behind) → IsNoted log log' call answer → slice_get calls answered ≡ Some call → full ≡ is_full answer → is_answered ≡ not full → answered' ≡ (if is_answered then answered + 1 else answered)
-      → WasTold at (record { key = key; number = number; point = point; calls = calls }) (take answered calls) log before
-      → WasTold at (record { key = key'; number = number'; point = point; calls = calls }) (take answered' calls) log' behind
-  told_next key key' number number' point calls answered answered' log log' call answer full is_answered before behind key_is number_is ran noted found is_it answers next was =
-      subst (λ (part : Part K). WasTold at part (take answered' calls) log' behind) (same_part key key' number number' point calls key_is number_is)
-      (either (record { key = key; number = number; point = point; calls = calls }) calls answered answered' log log' call answer full is_answered before behind ran noted found is_it answers next was)
+  pub told_next : (seat seat' : Seat K) (point : Serial) (calls : List Call) (answered answered' : ℕ) (log log' : Log) (call : Call) (answer : Answer) (full is_answered : Bool) → HasMade at seat seat' call answer log log' → slice_get calls answered ≡ Some call → full ≡ is_full answer
+      → is_answered ≡ not full → answered' ≡ (if is_answered then answered + 1 else answered) → WasTold at (record { key = seat.key; number = seat.number; point = point; calls = calls }) (take answered calls) log seat.seen
+      → WasTold at (record { key = seat'.key; number = seat'.number; point = point; calls = calls }) (take answered' calls) log' seat'.seen
+  told_next seat seat' point calls answered answered' log log' call answer full is_answered made found is_it answers next was =
+      subst (λ (part : Part K). WasTold at part (take answered' calls) log' seat'.seen) (same_part seat.key seat'.key seat.number seat'.number point calls made.key made.number)
+      (either (record { key = seat.key; number = seat.number; point = point; calls = calls }) calls answered answered' log log' call answer full is_answered seat.seen seat'.seen made.ran made.noted found is_it answers next was)
 
   -- a session that has ended: its answered calls are the first of its lines
   pub told_all : (part : Part K) (answered : ℕ) (whole : Bool) (log : Log) (seen : List Happening) → (whole ≡ true → length part.calls ≤ answered) → WasTold at part (take answered part.calls) log seen → IsTold at part whole log

@@ -1,5 +1,5 @@
 -- What is written is the report of a run, or a refusal.
-use Rattle.std.proofs.Common.{◌≡◌, ◌↔◌, ◌∙◌, ℕ, List, true, Option, Some, None, Result, Ok, Err, IfOk, OnOk, subst}
+use Rattle.std.proofs.Common.{◌≡◌, ◌↔◌, ◌∙◌, ℕ, List, true, Option, Some, None, Result, Ok, Err, IfOk, OnOk, subst, sym}
 use Rattle.std.specs.Io.KnownBytes.{Appends, Keeps}
 use Rattle.fkv_base.specs.declared.faults.Fault.{Fault}
 use Rattle.fkv_base.specs.declared.numbers.Key.{Key}
@@ -7,7 +7,8 @@ use Rattle.fkv_base.specs.declared.numbers.Value.{Value}
 use Rattle.fkv_base.specs.declared.shapes.Shape.{Shape}
 use Rattle.fkv_keeper.specs.declared.answers.Finished.{Finished}
 use Rattle.fkv_lines.specs.declared.scripts.Line.{Line}
-use Rattle.fkv_lines.specs.declared.scripts.Opening.TheVariants as opening
+use Rattle.fkv_lines.specs.declared.scripts.Opening.{Opening}
+use Rattle.fkv_lines.specs.declared.scripts.Opening.TheVariants as openings
 use Rattle.fkv_lines.specs.declared.scripts.Sizes.{Sizes}
 use Rattle.fkv_opening.specs.Opened.{IsStoreOf}
 use Rattle.fkv_opening.specs.declared.opened_store.Opened.{Opened}
@@ -33,22 +34,28 @@ pub report_on : {D E : Type 0} (honest : D → Type 0) (shows : D → List ℕ) 
 report_on honest shows lines logs finished device (Ok report) recovered pairs holds number points keys = record { recovered = recovered; pairs = pairs; held = holds; number = number; points = points; keys = keys }
 report_on honest shows lines logs finished device (Err e) recovered pairs holds number points keys = tt
 
-pub report_of_run : {K D E F : Type 0} (at : K → World) (honest : D → Type 0) (shows : D → List ℕ) (may_leave : D → List ℕ → Type 0) (trusted : E → Type 0) (reads_as : E → List ℕ) (LeftBy : D → E → Type 0) (lines : List Line) (sizes : Sizes) (r : Result Report F) (shape : Shape) (logs : List Log) (device : D)
-    (finished : Option Finished) (after : E) → HasSizes sizes shape → IsPlayedNew at shape lines honest shows may_leave logs device finished → LeftBy device after → IfOk r (IsReportOn trusted reads_as lines logs finished after)
+pub report_of_run : {K D E F : Type 0} (at : K → World) (honest : D → Type 0) (shows : D → List ℕ) (may_leave : D → List ℕ → Type 0) (trusted : E → Type 0) (reads_as : E → List ℕ) (LeftBy : D → E → Type 0) (lines : List Line) (sizes : Sizes) (r : Result Report F) (shape : Shape) (logs logs' : List Log) (device : D)
+    (finished : Option Finished) (after : E) → logs' ≡ logs → HasSizes sizes shape → IsPlayedNew at shape lines honest shows may_leave logs device finished → LeftBy device after → IfOk r (IsReportOn trusted reads_as lines logs' finished after)
     → IfOk r (IsReportOfRun at honest shows may_leave trusted reads_as LeftBy lines sizes)
-report_of_run at honest shows may_leave trusted reads_as LeftBy lines sizes (Ok report) shape logs device finished after sized played left says =
-    record { shape = shape; sized = sized; logs = logs; device = device; finished = finished; played = played; after = after; left = left; says = says }
-report_of_run at honest shows may_leave trusted reads_as LeftBy lines sizes (Err e) shape logs device finished after sized played left says = tt
+report_of_run at honest shows may_leave trusted reads_as LeftBy lines sizes (Ok report) shape logs logs' device finished after same sized played left says =
+    record { shape = shape; sized = sized; logs = logs; device = device; finished = finished; played = played; after = after; left = left; says = subst (λ (ls : List Log). IsReportOn trusted reads_as lines ls finished after report) same says }
+report_of_run at honest shows may_leave trusted reads_as LeftBy lines sizes (Err e) shape logs logs' device finished after same sized played left says = tt
 
 -- what is said of a report is said of it where it is passed on
 pub passed_on : {X E F : Type 0} (Says : X → Type 0) (r : Result X E) (r' : Result X F) → IfOk r' (λ x. r ≡ Ok x) → IfOk r Says → IfOk r' Says
 passed_on Says r (Ok x) same says = subst (λ q. IfOk q Says) same says
 passed_on Says r (Err e) same says = tt
 
-pub run_written : {E : Type 0} (Says : Sizes → Report → Type 0) (sizes : Sizes) (Wrote : List ℕ → Type 0) (r : Result ℕ E) (reported : Result Report Fault) → IfOk reported (Says sizes) → OnOk r (Wrote (reported_text reported)) → IfOk r (λ status. status ≡ reported_status reported)
-    → IfOk r (IsRunOnThreads Says (Some (opening.Shape sizes)) Wrote)
-run_written Says sizes Wrote (Ok status) reported says wrote is = (reported, says, wrote, is)
-run_written Says sizes Wrote (Err e) reported says wrote is = tt
+pub run_written : (Says : List Line → Sizes → Report → Type 0) (lines lines' : List Line) (opening : Option Opening) (sizes : Sizes) (Wrote : List ℕ → Type 0) (status : ℕ) (reported : Result Report Fault) → opening ≡ Some (openings.Shape sizes) → lines' ≡ lines → IfOk reported (Says lines' sizes)
+    → Wrote (reported_text reported) → status ≡ reported_status reported → IsRunOnThreads (Says lines) opening Wrote status
+run_written Says lines lines' opening sizes Wrote status reported is same says wrote answers =
+    subst (λ (o : Option Opening). IsRunOnThreads (Says lines) o Wrote status) (sym is) (reported, subst (λ (ls : List Line). IfOk reported (Says ls sizes)) same says, wrote, answers)
+
+-- so it is of a result
+pub result_written : {E : Type 0} (Says : List Line → Sizes → Report → Type 0) (lines lines' : List Line) (opening : Option Opening) (sizes : Sizes) (Wrote : List ℕ → Type 0) (r : Result ℕ E) (reported : Result Report Fault) → opening ≡ Some (openings.Shape sizes) → lines' ≡ lines → IfOk reported (Says lines' sizes)
+    → OnOk r (Wrote (reported_text reported)) → IfOk r (λ status. status ≡ reported_status reported) → IfOk r (IsRunOnThreads (Says lines) opening Wrote)
+result_written Says lines lines' opening sizes Wrote (Ok status) reported is same says wrote answers = run_written Says lines lines' opening sizes Wrote status reported is same says wrote answers
+result_written Says lines lines' opening sizes Wrote (Err e) reported is same says wrote answers = tt
 
 -- what is written stays behind a flush
 appends_kept : (a b c : Option (List ℕ)) (told : List ℕ) → Appends a b told → Keeps b c → Appends a c told

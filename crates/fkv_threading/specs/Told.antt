@@ -21,6 +21,7 @@ use Rattle.fkv_thread_scripts.specs.Calls.{calls_of}
 use Rattle.fkv_thread_scripts.specs.Logs.{accepted_by, durable_by, told_by}
 use Rattle.fkv_thread_scripts.specs.declared.logs.Log.{Log}
 use Rattle.fkv_threads.specs.Begun.{IsOverStore}
+use Rattle.fkv_threads.specs.Runs.{run_of}
 use Rattle.fkv_world.specs.Runs.{World}
 use Rattle.law_threads.specs.Calls.{CallRun, HasRun}
 use Rattle.law_threads.specs.Turns.{HasTurned}
@@ -47,6 +48,13 @@ pub record IsLogOf (point : Serial) (log : Log) (runs : List CallRun) : Type 0 w
   pub accepted : log.accepted.items ≡ accepted_in runs
   pub told : log.told.items ≡ told_in runs
   pub durable : log.durable ≡ durable_in point runs
+
+-- what a log has of one call more
+pub record IsNoted (log log' : Log) (call : Call) (answer : Answer) : Type 0 where
+  pub first : log'.first ≡ log.first
+  pub accepted : log'.accepted.items ≡ log.accepted.items ++ accepted_by call answer
+  pub told : log'.told.items ≡ log.told.items ++ told_by answer
+  pub durable : log'.durable ≡ durable_by log.durable answer
 
 -- ---- which calls a session makes
 -- one that is none of its lines
@@ -123,6 +131,13 @@ module _ {K : Type 0} (at : K → World) where
   abbrev pub AreCalls : K → ℕ → List CallRun → List Happening → Type 0
   AreCalls key number [] seen = seen ≡ []
   AreCalls key number (its ∷ before) seen = HasRun at key its × (its.number ≡ number) × (its.behind ≡ seen) × AreCalls key number before its.before
+
+  -- A session has made one call more, and its answer is noted.
+  pub record HasMade (seat seat' : Seat K) (call : Call) (answer : Answer) (log log' : Log) : Type 0 where
+    pub key : seat'.key ≡ seat.key
+    pub number : seat'.number ≡ seat.number
+    pub ran : HasRun at seat.key (run_of seat.number call answer seat.seen seat'.seen)
+    pub noted : IsNoted log log' call answer
 
   -- A log has just what the session was told at the table, by all of its calls there. These calls of its lines are answered.
   pub record WasTold (part : Part K) (answered : List Call) (log : Log) (seen : List Happening) : Type 0 where

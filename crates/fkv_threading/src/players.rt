@@ -1,7 +1,7 @@
 //! A session that plays the calls of its lines.
-ghost use Rattle.std.specs.Prelude.{◌≡◌, true, IfOk};
+ghost use Rattle.std.specs.Prelude.{◌≡◌, ◌<◌, ◌≤◌, ◌+◌, true, if◌then◌else◌, length, slice_get, IfOk};
 ghost use Rattle.fkv_table.specs.Planes.{opening_of};
-ghost use Rattle.fkv_threading.specs.Told.{IsTold, is_full, is_own};
+ghost use Rattle.fkv_threading.specs.Told.{HasMade, IsTold, is_full, is_own};
 
 use crate::sitting::Sitting;
 use fkv_base::{Fault, Serial};
@@ -62,7 +62,7 @@ impl<'t, D: Device> Player<'t, D> {
             answered,
             mut log,
         } = self;
-        let Some(call) = calls.get(answered).copied() else {
+        let Some(call) = call_at(&calls, answered) else {
             let same = Player {
                 seat,
                 point,
@@ -72,10 +72,9 @@ impl<'t, D: Device> Player<'t, D> {
             };
             return Ok((same, true));
         };
-        let (seat, answer) = seat.call(call);
-        log.note(call, &answer)?;
+        let (seat, answer) = make(seat, &mut log, call)?;
         let is_answered = !is_full(&answer);
-        let answered = if is_answered { answered + 1 } else { answered };
+        let answered = count_behind(answered, is_answered);
         let next = Player {
             seat,
             point,
@@ -98,8 +97,7 @@ impl<'t, D: Device> Player<'t, D> {
             answered,
             mut log,
         } = self;
-        let (seat, answer) = seat.call(call);
-        log.note(call, &answer)?;
+        let (seat, answer) = make(seat, &mut log, call)?;
         let next = Player {
             seat,
             point,
@@ -122,9 +120,42 @@ impl<'t, D: Device> Player<'t, D> {
         } = self;
         SessionEnd {
             log,
-            is_whole: answered >= calls.len(),
+            is_whole: are_all(&calls, answered),
         }
     }
+}
+
+fn call_at(calls: &[Call], place: usize) -> Option<Call>
+    ensures { result ≡ slice_get calls.now place }
+{
+    calls.get(place).copied()
+}
+
+/// How many calls are answered behind a try of the next one.
+fn count_behind(answered: usize, is_answered: bool) -> usize
+    requires { answered < 9223372036854775808 }
+    ensures { result ≡ (if is_answered then answered + 1 else answered) }
+{
+    if is_answered { answered + 1 } else { answered }
+}
+
+fn are_all(calls: &[Call], answered: usize) -> bool
+    ensures { result ≡ true → length calls.now ≤ answered }
+{
+    answered >= calls.len()
+}
+
+/// Makes a call, and notes its answer.
+fn make<'t, D: Device>(
+    seat: Sitting<'t, D>,
+    log: &mut Log,
+    call: Call,
+) -> Result<(Sitting<'t, D>, Answer), Fault>
+    ensures { IfOk result (λ its. HasMade (opening_of D.seen) seat.entry its.0 call its.1 log.old log.new) }
+{
+    let (seat, answer) = seat.call(call);
+    log.note(call, &answer)?;
+    Ok((seat, answer))
 }
 
 fn is_full(answer: &Answer) -> bool

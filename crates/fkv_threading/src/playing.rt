@@ -1,5 +1,5 @@
 //! A store that threads share, from its opening until they have all ended.
-ghost use Rattle.std.specs.Prelude.{◌≡◌, IfOk, length};
+ghost use Rattle.std.specs.Prelude.{◌≡◌, [], IfOk, length};
 ghost use Rattle.fkv_disk.specs.Device.{LeavesOnly};
 ghost use Rattle.fkv_opening.specs.Opened.{IsStoreOf};
 ghost use Rattle.fkv_table.specs.Planes.{opening_of};
@@ -53,7 +53,7 @@ pub fn play<D: Device + Drop + Send, G: Gate + Sync, R: Threads + Wait + Sync>(
     requires leaves { LeavesOnly (D.seen device) (D.may_leave device) }
     ensures { IfOk result (λ its. IsPlayed (opening_of D.seen) opened lines.now D.honest D.seen D.may_leave device its.is_whole its.logs.items its.keeper.device its.keeper.finished) }
 {
-    let points = opened.points.as_slice().to_vec(alloc)?;
+    let points = copy_of(alloc, &opened.points)?;
     let OpenTable {
         table,
         sessions,
@@ -126,7 +126,7 @@ fn player_of<'t, D: Device>(
     calls: Vec<Call>,
 ) -> Player<'t, D>
     requires { seat.seen ≡ [] }
-    ensures { result ≡ record { key = seat.key; number = seat.number; point = point; calls = calls.items } }
+    ensures { result ≡ record { key = seat.entry.key; number = seat.entry.number; point = point; calls = calls.items } }
 {
     Player {
         seat,
@@ -256,10 +256,20 @@ fn joined<'t, D: Device, R: Threads>(
     let mut are_whole = true;
     for handle in handles {
         let SessionEnd { log, is_whole } = handle.join(rt)?;
-        are_whole = are_whole && is_whole;
+        are_whole &= is_whole;
         logs.push(log)?;
     }
     Ok((logs, are_whole))
+}
+
+fn copy_of(alloc: Global, points: &[Serial]) -> Result<Vec<Serial>, Fault>
+    ensures { IfOk result (λ copy. copy.items ≡ points.now) }
+{
+    let mut copy = Vec::new(alloc);
+    for point in points {
+        copy.push(*point)?;
+    }
+    Ok(copy)
 }
 
 /// The point of the session of this number.

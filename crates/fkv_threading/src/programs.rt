@@ -28,7 +28,7 @@ use std::thread::Threads;
 /// Runs a script for threads over a new store in memory, and writes its report: each session's lines on a thread of its own, and the keeper's on the
 /// caller's. The status: 0; 1 where something differs; 2 where the sizes are no shape's; 3 where a store or a turn was refused. An `Err`
 /// is memory, a thread or the output.
-#[tactic(auto, using(fkv_texts::proofs::Shown::appends_nothing, crate::proofs::Written::run_written))]
+#[tactic(auto, using(fkv_texts::proofs::Shown::appends_nothing))]
 pub fn run_threads<G: Gate + Sync, W: Write, R: Threads + Wait + Sync>(
     rt: &R,
     alloc: Global,
@@ -48,7 +48,7 @@ pub fn run_threads<G: Gate + Sync, W: Write, R: Threads + Wait + Sync>(
 
 /// The same over a new store in the file of this path, which is opened again for the report. Behind the status stands what is wrong with the
 /// file, if that is why it is 3.
-#[tactic(auto, using(fkv_texts::proofs::Shown::appends_nothing, crate::proofs::Written::run_written))]
+#[tactic(auto, using(fkv_texts::proofs::Shown::appends_nothing))]
 pub fn run_threads_in_file<G: Gate + Sync, W: Write, R: Threads + Wait + Sync, H: Files>(
     rt: &R,
     files: &H,

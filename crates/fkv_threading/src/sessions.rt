@@ -90,8 +90,24 @@ fn catch_up<'t, D: Device>(player: Player<'t, D>) -> Result<(Player<'t, D>, usiz
     }
 }
 
-/// Refreshes and polls until the keeper's lines are through and nothing is pending. Then the session sleeps.
+/// Catches up until the keeper's lines are through and nothing is pending. Then the session sleeps.
 fn end<'t, D: Device, R: Wait>(
+    rt: &R,
+    progress: &Progress,
+    player: Player<'t, D>,
+) -> Result<Player<'t, D>, Fault>
+    ensures { IfOk result (λ end. end ≡ player.entry) }
+{
+    let at = catch_up_whole(rt, progress, player)?;
+    if progress.is_stopped() {
+        return Ok(at);
+    }
+    let (slept, _) = at.call_own(Call::Sleep)?;
+    Ok(slept)
+}
+
+/// Refreshes and polls until the keeper's lines are through and nothing is pending, or it is stopped.
+fn catch_up_whole<'t, D: Device, R: Wait>(
     rt: &R,
     progress: &Progress,
     player: Player<'t, D>,
@@ -101,7 +117,7 @@ fn end<'t, D: Device, R: Wait>(
     let mut at = player;
     for _ in rt.forever() {
         if progress.is_stopped() {
-            return Ok(at);
+            break;
         }
         let is_through = progress.are_keeper_lines_through();
         let (next, left) = catch_up(at)?;
@@ -111,6 +127,5 @@ fn end<'t, D: Device, R: Wait>(
         }
         yield_now();
     }
-    let (slept, _) = at.call_own(Call::Sleep)?;
-    Ok(slept)
+    Ok(at)
 }

@@ -11,4 +11,5 @@ invariant_of-keeping g c = (search rules, search rules, search rules, record { t
 pub returns : goal.returns
 returns g c =
     let made = c.in_ok-table.ensures in
-    is_played (opening_of g.D.Device.seen) (λ its. its.is_whole) (λ its. its.logs.items) (λ its. its.keeper.device) (λ its. its.keeper.finished) c.play_over-played.result _ c.args.opened c.args.lines.now _ _ _ c.args.device _ _ made.over made.count ? c.play_over-played.ensures
+    let same : c.deref.result.now ≡ c.args.opened.points.items = search rules in
+    is_played (opening_of g.D.Device.seen) (λ its. its.is_whole) (λ its. its.logs.items) (λ its. its.keeper.device) (λ its. its.keeper.finished) c.play_over-played.result _ c.args.opened c.args.lines.now _ _ _ c.args.device _ _ made.over made.count same c.play_over-played.ensures

@@ -35,8 +35,9 @@ loop-session-preserved g c =
     c.next.new.self (c.in-Some.session, c.in-Some.pass) c.in-Some.is c.next.ensures.steps in
     let there = slice_get_read items (length items) at (c.in-Some.session, c.in-Some.pass) refl turn.0 turn.1 in
     let begun = c.requires.ready at (c.in-Some.session, c.in-Some.pass) there in
-    let pushed = c.in_ok-push.ensures.items in (
+    let pushed = c.in_ok-push.ensures.items in
+    let number : c.len-number.result ≡ length c.loop-session.players.items = omega (arith, c.len-number.ensures, c.loop-session.players.ok.0) in (
       counted _ _ _ _ _ pushed inv.0,
       one_at _ c.loop-session.players.items c.push.new.self.items _ pushed inv.1
-          (seated_at c.args.table.now.table.shared.key _ _ _ c.args.points.now _ c.args.lines.now _ (begun.numbered ∙ sym inv.0) c.len-number.ensures c.point_of.ensures c.in_ok-calls.ensures.calls),
+          (seated_at c.args.table.now.table.shared.key _ _ _ c.args.points.now _ c.args.lines.now _ (begun.numbered ∙ sym inv.0) number c.point_of.ensures c.in_ok-calls.ensures.calls),
     )

@@ -9,5 +9,5 @@ returns-in-None g c = record {
   opened = c.in_ok-opened.opened;
   first = c.create_opened.new.d;
   new = c.in_ok-opened.ensures.new;
-  played = subst (λ (b : Bool). IsPlayed (opening_of g.D.Device.seen) c.in_ok-opened.opened c.args.lines.now g.D.Device.honest g.D.Device.seen g.D.Device.may_leave c.create_opened.new.d b c.in_ok-played.played.logs.items c.in_ok-played.played.keeper.device c.in_ok-played.played.keeper.finished) ? c.in_ok-played.ensures;
+  played = subst (λ (b : Bool). IsPlayed (opening_of g.D.Device.seen) c.in_ok-opened.opened c.args.lines.now g.D.Device.honest g.D.Device.seen g.D.Device.may_leave c.create_opened.new.d b c.in_ok-played.played.logs.items c.in_ok-played.played.keeper.device c.in_ok-played.played.keeper.finished) c.if-played.true c.in_ok-played.ensures;
 }
