@@ -1,6 +1,6 @@
 -- What one call more, or one turn, adds to what was told.
-use Rattle.std.proofs.Common.{◌≡◌, inl, inr, ℕ, ◌+◌, ◌≤◌, refl, sym, ap, subst, ◌∙◌, Bool, true, false, not, List, [], ◌∷◌, ◌++◌, append_assoc, append-nil, length, length-append, map, take, drop, arith}
-use Rattle.std.specs.Prelude.{Option, Some, Result, Ok, Err, IfOk, ◌||◌, ◌&&◌, if◌then◌else◌, slice_get, get_or}
+use Rattle.std.proofs.Common.{◌≡◌, inl, inr, ℕ, ◌+◌, ◌≤◌, refl, sym, ap, subst, ◌∙◌, Bool, true, false, not, List, [], ◌∷◌, ◌++◌, append_assoc, length, length-append, map, take, drop, arith}
+use Rattle.std.specs.Prelude.{Option, Some, Result, Ok, Err, IfOk, ◌||◌, ◌&&◌, if◌then◌else◌, slice_get}
 use Rattle.std.proofs.lemmas.Bool.{and_parts}
 use Rattle.std.proofs.lemmas.List.{drop_all, length-map, take-append-drop, take_more}
 use Rattle.std.proofs.lemmas.Option.{get_or_from_slice_get, slice_get_within}
@@ -171,7 +171,7 @@ module _ {K : Type 0} (at : K → World) where
       let first : (whole' ≡ true → whole ≡ true) = λ e. (and_parts whole its_whole (sym both ∙ e)).0 in
       let this : (whole' ≡ true → its_whole ≡ true) = λ e. (and_parts whole its_whole (sym both ∙ e)).1 in
       one_at (λ number l. IsTold at (part_at key points lines number) whole' l) logs all log pushed (λ i x found. told_less (part_at key points lines i) whole whole' x first (each i x found))
-          (told_less (part_at key points lines (length logs)) its_whole whole' log this (subst (λ (p : Part K). IsTold at p its_whole log) part_is its))
+      (told_less (part_at key points lines (length logs)) its_whole whole' log this (subst (λ (p : Part K). IsTold at p its_whole log) part_is its))
 
   -- what threads leave at the table of a store that was opened
   pub is_played : {X E D : Type 0} (whole : X → Bool) (logs : X → List Log) (device : X → D) (finished : X → Option Finished) (r : Result X E) (key : K) (opened : Opened) (lines : List Line) (honest : D → Type 0) (shows : D → List ℕ) (may_leave : D → List ℕ → Type 0) (first : D) (points : List Serial) (sessions : ℕ)

@@ -25,7 +25,7 @@ pub held : {D : Type 0} (honest : D → Type 0) (shows : D → List ℕ) (device
     → (honest device' → (store : IsStoreOf (shows device') recovered) → ArePairs (log_of_store (shows device') recovered store) pairs) → honest device → HoldsPairs (shows device) recovered pairs
 held honest shows device device' recovered pairs store stays same are is =
     let told : (its : IsStoreOf (shows device) recovered) → ArePairs (log_of_store (shows device) recovered its) pairs =
-        subst (λ (image : List ℕ). (its : IsStoreOf image recovered) → ArePairs (log_of_store image recovered its) pairs) (same is) (are (stays.0 is)) in
+    subst (λ (image : List ℕ). (its : IsStoreOf image recovered) → ArePairs (log_of_store image recovered its) pairs) (same is) (are (stays.0 is)) in
     record { store = store is; are_pairs = told (store is) }
 
 pub report_on : {D E : Type 0} (honest : D → Type 0) (shows : D → List ℕ) (lines : List Line) (logs : List Log) (finished : Option Finished) (device : D) (r : Result Report E) (recovered : Opened) (pairs : List (Key × Value)) → (honest device → HoldsPairs (shows device) recovered pairs)
@@ -46,16 +46,17 @@ pub passed_on : {X E F : Type 0} (Says : X → Type 0) (r : Result X E) (r' : Re
 passed_on Says r (Ok x) same says = subst (λ q. IfOk q Says) same says
 passed_on Says r (Err e) same says = tt
 
-pub run_written : (Says : List Line → Sizes → Report → Type 0) (lines lines' : List Line) (opening : Option Opening) (sizes : Sizes) (Wrote : List ℕ → Type 0) (status : ℕ) (reported : Result Report Fault) → opening ≡ Some (openings.Shape sizes) → lines' ≡ lines → IfOk reported (Says lines' sizes)
-    → Wrote (reported_text reported) → status ≡ reported_status reported → IsRunOnThreads (Says lines) opening Wrote status
-run_written Says lines lines' opening sizes Wrote status reported is same says wrote answers =
-    subst (λ (o : Option Opening). IsRunOnThreads (Says lines) o Wrote status) (sym is) (reported, subst (λ (ls : List Line). IfOk reported (Says ls sizes)) same says, wrote, answers)
+pub run_written : {K D E : Type 0} (at : K → World) (honest : D → Type 0) (shows : D → List ℕ) (may_leave : D → List ℕ → Type 0) (trusted : E → Type 0) (reads_as : E → List ℕ) (LeftBy : D → E → Type 0) (lines lines' : List Line) (opening : Option Opening) (sizes : Sizes) (before behind : Option (List ℕ)) (status : ℕ) (reported : Result Report Fault)
+    → opening ≡ Some (openings.Shape sizes) → lines' ≡ lines → IfOk reported (IsReportOfRun at honest shows may_leave trusted reads_as LeftBy lines' sizes) → Appends before behind (reported_text reported) → status ≡ reported_status reported → IsRunOnThreads (IsReportOfRun at honest shows may_leave trusted reads_as LeftBy lines) opening (Appends before behind) status
+run_written at honest shows may_leave trusted reads_as LeftBy lines lines' opening sizes before behind status reported is same says wrote answers =
+    subst (λ (o : Option Opening). IsRunOnThreads (IsReportOfRun at honest shows may_leave trusted reads_as LeftBy lines) o (Appends before behind) status) (sym is)
+    (reported, subst (λ (ls : List Line). IfOk reported (IsReportOfRun at honest shows may_leave trusted reads_as LeftBy ls sizes)) same says, wrote, answers)
 
 -- so it is of a result
-pub result_written : {E : Type 0} (Says : List Line → Sizes → Report → Type 0) (lines lines' : List Line) (opening : Option Opening) (sizes : Sizes) (Wrote : List ℕ → Type 0) (r : Result ℕ E) (reported : Result Report Fault) → opening ≡ Some (openings.Shape sizes) → lines' ≡ lines → IfOk reported (Says lines' sizes)
-    → OnOk r (Wrote (reported_text reported)) → IfOk r (λ status. status ≡ reported_status reported) → IfOk r (IsRunOnThreads (Says lines) opening Wrote)
-result_written Says lines lines' opening sizes Wrote (Ok status) reported is same says wrote answers = run_written Says lines lines' opening sizes Wrote status reported is same says wrote answers
-result_written Says lines lines' opening sizes Wrote (Err e) reported is same says wrote answers = tt
+pub result_written : {K D E F : Type 0} (at : K → World) (honest : D → Type 0) (shows : D → List ℕ) (may_leave : D → List ℕ → Type 0) (trusted : E → Type 0) (reads_as : E → List ℕ) (LeftBy : D → E → Type 0) (lines lines' : List Line) (opening : Option Opening) (sizes : Sizes) (before behind : Option (List ℕ)) (r : Result ℕ F) (reported : Result Report Fault)
+    → opening ≡ Some (openings.Shape sizes) → lines' ≡ lines → IfOk reported (IsReportOfRun at honest shows may_leave trusted reads_as LeftBy lines' sizes) → OnOk r (Appends before behind (reported_text reported)) → IfOk r (λ status. status ≡ reported_status reported) → IfOk r (IsRunOnThreads (IsReportOfRun at honest shows may_leave trusted reads_as LeftBy lines) opening (Appends before behind))
+result_written at honest shows may_leave trusted reads_as LeftBy lines lines' opening sizes before behind (Ok status) reported is same says wrote answers = run_written at honest shows may_leave trusted reads_as LeftBy lines lines' opening sizes before behind status reported is same says wrote answers
+result_written at honest shows may_leave trusted reads_as LeftBy lines lines' opening sizes before behind (Err e) reported is same says wrote answers = tt
 
 -- what is written stays behind a flush
 appends_kept : (a b c : Option (List ℕ)) (told : List ℕ) → Appends a b told → Keeps b c → Appends a c told

@@ -1,5 +1,5 @@
 -- What a script on threads writes, and its status.
-use Rattle.std.specs.Prelude.{◌≡◌, ◌↔◌, ℕ, List, [], Bool, true, if◌then◌else◌, Option, Some, None, Result, Ok, Err, IfOk}
+use Rattle.std.specs.Prelude.{◌≡◌, ◌↔◌, ℕ, List, [], true, if◌then◌else◌, Option, Some, None, Result, Ok, Err, IfOk}
 use Rattle.fkv_base.specs.declared.faults.Fault.{Fault}
 use Rattle.fkv_base.specs.declared.faults.Fault.TheVariants.{BadShape}
 use Rattle.fkv_base.specs.declared.numbers.Key.{Key}

@@ -190,7 +190,9 @@ fn play_in<'s, 't: 's, E, D: Device + Drop + Send, G: Gate + Sync, R: Threads + 
     ensures { IfOk result (λ its. WerePlayed (opening_of D.seen) table.now.table.shared.key points.now lines.now (length players.entry.items) D.honest D.seen D.may_leave its.is_whole its.logs.items its.keeper.device its.keeper.finished) }
 {
     let count = players.len() as u64;
-    let handles = spawn_all(scope, rt, alloc, progress, gate, lines, table, points, players)?;
+    let handles = spawn_all(
+        scope, rt, alloc, progress, gate, lines, table, points, players,
+    )?;
     let keeper = play_keeper(rt, progress, lines, count, keeping);
     let (logs, is_whole) = joined(rt, alloc, table, points, lines, handles)?;
     Ok(Played {

@@ -1,10 +1,10 @@
 -- The thread at this number keeps its promise.
-use Rattle.std.proofs.Common.{◌≡◌, ◌∙◌, sym, ap, subst, length, refl, rules, ℕ, IfOk}
+use Rattle.std.proofs.Common.{◌∙◌, sym, ap, length, refl, rules, ℕ}
 use Rattle.std.proofs.lemmas.Iterator.Adapters.{YieldsList-from_vec}
 use Rattle.std.proofs.lemmas.Iterator.Consumers.{YieldsList-turn}
 use Rattle.std.proofs.lemmas.Option.{slice_get_read}
 use Rattle.fkv_table.specs.Planes.{opening_of}
-use Rattle.fkv_threading.specs.Told.{IsTold, part_at, part_of}
+use Rattle.fkv_threading.specs.Told.{part_at}
 use Rattle.fkv_threading.proofs.Told.{counted, logs_more}
 use Rattle.fkv_threading.proofs.playing.joined.Goals as goal
 

@@ -1,10 +1,8 @@
 -- Each session is ready with its pass, as the table's opening says of its place in the list, and was told nothing yet.
-use Rattle.std.proofs.Common.{◌≡◌, ◌∙◌, arith, sym, ap, length, length-append, refl, rules, List, [], ◌∷◌, ◌++◌, ℕ}
+use Rattle.std.proofs.Common.{◌≡◌, ◌∙◌, arith, sym, length, refl, rules}
 use Rattle.std.proofs.lemmas.Iterator.Adapters.{YieldsList-from_vec}
 use Rattle.std.proofs.lemmas.Iterator.Consumers.{YieldsList-turn}
 use Rattle.std.proofs.lemmas.Option.{slice_get_read}
-use Rattle.fkv_table.specs.Planes.{opening_of}
-use Rattle.fkv_threading.specs.Told.{part_at}
 use Rattle.fkv_threading.proofs.Told.{counted, one_at, seated_at}
 use Rattle.fkv_threading.proofs.playing.seated.Goals as goal
 
@@ -39,5 +37,5 @@ loop-session-preserved g c =
     let number : c.len-number.result ≡ length c.loop-session.players.items = omega (arith, c.len-number.ensures, c.loop-session.players.ok.0) in (
       counted _ _ _ _ _ pushed inv.0,
       one_at _ c.loop-session.players.items c.push.new.self.items _ pushed inv.1
-          (seated_at c.args.table.now.table.shared.key _ _ _ c.args.points.now _ c.args.lines.now _ (begun.numbered ∙ sym inv.0) number c.point_of.ensures c.in_ok-calls.ensures.calls),
+          (c.player_of.ensures ∙ seated_at c.args.table.now.table.shared.key _ _ _ c.args.points.now _ c.args.lines.now _ (begun.numbered ∙ sym inv.0) number c.point_of.ensures c.in_ok-calls.ensures.calls),
     )

@@ -1,5 +1,5 @@
 -- The thread of the session at this number promises what that session is told.
-use Rattle.std.proofs.Common.{◌≡◌, ◌∙◌, ap, arith, sym, subst, length, refl, rules, ℕ, IfOk}
+use Rattle.std.proofs.Common.{◌≡◌, ◌∙◌, ap, arith, sym, subst, length, refl, rules, IfOk}
 use Rattle.std.proofs.lemmas.Iterator.Adapters.{YieldsList-from_vec}
 use Rattle.std.proofs.lemmas.Iterator.Consumers.{YieldsList-turn}
 use Rattle.std.proofs.lemmas.Option.{slice_get_read}
@@ -17,7 +17,7 @@ spawn_with-spawned-requires-clause-keeps g c =
     let there = slice_get_read items (length items) at c.in-Some.player refl turn.0 turn.1 in
     let number : c.len-number.result ≡ at = omega (arith, inv.0, c.len-number.ensures, c.loop-player.handles.ok.0) in
     let seat = c.requires at c.in-Some.player there ∙ sym (promised_at c.args.table.now.table.shared.key at c.len-number.result c.args.points.now _ c.args.lines.now number c.point_of.ensures) in
-    λ r given. subst (λ part. IfOk r (λ end. IsTold (opening_of g.D.Device.seen) part end.is_whole end.log)) seat given
+    λ lifetimes outlives r given. subst (λ part. IfOk r (λ end. IsTold (opening_of g.D.Device.seen) part end.is_whole end.log)) seat given
 
 pub loop-player-preserved : goal.loop-player-preserved
 loop-player-preserved g c =
@@ -25,6 +25,6 @@ loop-player-preserved g c =
     let pushed = c.in_ok-push.ensures.items in
     let number : c.len-number.result ≡ length c.loop-player.handles.items = omega (arith, c.len-number.ensures, c.loop-player.handles.ok.0) in (
       counted _ _ _ _ _ pushed inv.0,
-      one_at _ c.loop-player.handles.items c.push.new.self.items _ pushed inv.1 
+      one_at _ c.loop-player.handles.items c.push.new.self.items _ pushed inv.1
           (ap (λ p. part_of p.table.now.table.shared.key p.number p.point p.lines.now) c.in-Ok.ensures.ok ∙ promised_at c.args.table.now.table.shared.key _ c.len-number.result c.args.points.now _ c.args.lines.now number c.point_of.ensures),
     )

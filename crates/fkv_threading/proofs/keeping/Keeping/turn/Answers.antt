@@ -1,5 +1,5 @@
 -- The turn is one more that the keeper has made.
-use Rattle.std.proofs.Common.{refl, rules}
+use Rattle.std.proofs.Common.{refl}
 use Rattle.fkv_table.specs.Planes.{opening_of}
 use Rattle.fkv_table.specs.declared.happenings.Happening.TheVariants.{Turns}
 use Rattle.fkv_threading.proofs.Told.{finished_more}
