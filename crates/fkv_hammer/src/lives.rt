@@ -66,7 +66,7 @@ fn live<R: Threads + Wait + Sync>(
     let lines = lines_of(alloc, draws)?;
     let whole = count_calls(rt, alloc, &disk, &lines)?;
     let calls = draws.below(whole.saturating_add(1));
-    let Played { logs, keeper } = played(rt, alloc, disk, calls, &lines)?;
+    let Played { logs, keeper, .. } = played(rt, alloc, disk, calls, &lines)?;
     if let Some(fault) = keeper.fault {
         if fault != Fault::Device {
             return Err(Wrong::Refused(fault));

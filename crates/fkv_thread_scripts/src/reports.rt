@@ -1,16 +1,17 @@
 //! What is told of a script that ran on threads, behind the crash that ends it.
 ghost use Rattle.std.specs.Prelude.{◌≡◌, ◌↔◌, true, IfOk, OnOk};
 ghost use Rattle.std.specs.Io.KnownBytes.{Appends};
+ghost use Rattle.fkv_thread_scripts.specs.Keys.{IsKeysLine, map_of, told_map};
 ghost use Rattle.fkv_thread_scripts.specs.Reports.{IsLastFinished, agrees, keys_text, points_text, threads_report_text};
 
+use crate::keys::keys_line;
 use crate::logs::Log;
-use fkv_base::{Fault, Key, Serial, Value, Version};
+use crate::maps::{map_of, told_map};
+use fkv_base::{Fault, Key, Value, Version};
 use fkv_keeper::Finished;
 use fkv_lines::Line;
-use fkv_map::{Call, Op};
 use fkv_opening::Opened;
 use std::alloc::Global;
-use std::collections::BTreeMap;
 use std::io::{self, Write};
 
 /// How the keys of a script compare with what is recovered.
@@ -49,30 +50,9 @@ impl Report {
     }
 }
 
-/// Who updates a key in a script, and what its sessions' updates up to their points give.
-#[derive(Clone, Copy)]
-struct Claim {
-    session: u64,
-    is_alone: bool,
-    only_adds: bool,
-    sum: u64,
-    value: Option<Value>,
-}
-
-impl Claim {
-    /// Whether one session alone updates the key, or sums whose order doesn't tell.
-    fn is_compared(&self) -> bool {
-        let Claim {
-            is_alone,
-            only_adds,
-            sum,
-            ..
-        } = self;
-        *is_alone || (*only_adds && *sum < Value::ABSENT)
-    }
-}
-
 /// The report of a script's lines over a store that was recovered, with these pairs in ascending order of their keys, by what sessions and keeper were told.
+/// A key is compared if one session alone updates it, or if they all add to it and the sum stays below 2^64 - 1. Then the store has for it what the
+/// updates make that sessions were told, up to their points. `Memory` where memory was refused.
 pub fn report_of(
     alloc: Global,
     lines: &[Line],
@@ -83,17 +63,14 @@ pub fn report_of(
 ) -> Result<Report, Fault>
     ensures number { IfOk result (λ report. report.number ≡ opened.now.number) }
     ensures points { IfOk result (λ report. (report.points_agree ≡ true) ↔ IsLastFinished finished.now opened.now.number opened.now.points.items) }
+    ensures keys { IfOk result (λ report. IsKeysLine lines.now (told_map opened.now.points.items logs.now) (map_of pairs.now) report.keys) }
 {
-    let mut claims = claims_of(alloc, lines)?;
-    for (number, log) in logs.iter().enumerate() {
-        if let Some(point) = opened.points.get(number) {
-            claim_told(&mut claims, log, *point);
-        }
-    }
+    let told = told_map(alloc, &opened.points, logs)?;
+    let stored = map_of(alloc, pairs)?;
     Ok(Report {
         number: opened.number,
         points_agree: is_last(finished, opened),
-        keys: compare(&claims, pairs),
+        keys: keys_line(alloc, lines, told, stored)?,
     })
 }
 
@@ -106,85 +83,6 @@ fn is_last(finished: &Option<Finished>, opened: &Opened) -> bool
             its.number == opened.number && its.points.as_slice() == opened.points.as_slice()
         }
         None => opened.number == Version(0) && opened.points.iter().all(|point| point.0 == 0),
-    }
-}
-
-/// Each key that a line updates, with who updates it.
-fn claims_of(alloc: Global, lines: &[Line]) -> Result<BTreeMap<Key, Claim>, Fault> {
-    let mut claims = BTreeMap::new(alloc);
-    for line in lines {
-        if let Line::Call(session, Call::Op(op)) = *line {
-            add_claim(&mut claims, session, op)?;
-        }
-    }
-    Ok(claims)
-}
-
-fn add_claim(claims: &mut BTreeMap<Key, Claim>, session: u64, op: Op) -> Result<(), Fault> {
-    let added = match op {
-        Op::Read(_) => return Ok(()),
-        Op::Add(_, n) => Some(n),
-        Op::Upsert(..) | Op::Delete(_) | Op::Max(..) => None,
-    };
-    let before = match claims.get(&op.key()) {
-        Some(before) => *before,
-        None => Claim {
-            session,
-            is_alone: true,
-            only_adds: true,
-            sum: 0,
-            value: None,
-        },
-    };
-    let next = Claim {
-        is_alone: before.is_alone && before.session == session,
-        only_adds: before.only_adds && added.is_some(),
-        sum: before.sum.saturating_add(added.unwrap_or(0)),
-        ..before
-    };
-    claims.insert(op.key(), next)?;
-    Ok(())
-}
-
-/// The updates of a session up to its point, in the order in which their results came.
-fn claim_told(claims: &mut BTreeMap<Key, Claim>, log: &Log, point: Serial) {
-    for serial in &log.told {
-        if serial.0 <= point.0 {
-            if let Some(op) = log.update(*serial) {
-                apply(claims, op);
-            }
-        }
-    }
-}
-
-fn apply(claims: &mut BTreeMap<Key, Claim>, op: Op) {
-    if let Some(its) = claims.get_mut(&op.key()) {
-        its.value = op.value_applied(its.value);
-    }
-}
-
-/// Compares each key with the pairs.
-fn compare(claims: &BTreeMap<Key, Claim>, pairs: &[(Key, Value)]) -> Keys {
-    let mut count: u64 = 0;
-    for (key, its) in claims {
-        if its.is_compared() {
-            if its.value != found(pairs, *key) {
-                return Keys::Differs(*key);
-            }
-            count = count.saturating_add(1);
-        }
-    }
-    Keys::Agree(count)
-}
-
-/// The value of a key.
-fn found(pairs: &[(Key, Value)], key: Key) -> Option<Value> {
-    match pairs.binary_search_by_key(&key, |pair| pair.0) {
-        Ok(place) => match pairs.get(place) {
-            Some(pair) => Some(pair.1),
-            None => None,
-        },
-        Err(_) => None,
     }
 }
 

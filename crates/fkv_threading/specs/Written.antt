@@ -1,13 +1,79 @@
 -- What a script on threads writes, and its status.
-use Rattle.std.specs.Prelude.{◌≡◌, ℕ, List, [], Bool, if◌then◌else◌, Option, Some, None, Result, Ok, Err}
+use Rattle.std.specs.Prelude.{◌≡◌, ◌↔◌, ℕ, List, [], true, if◌then◌else◌, Option, Some, None, Result, Ok, Err, IfOk}
 use Rattle.fkv_base.specs.declared.faults.Fault.{Fault}
 use Rattle.fkv_base.specs.declared.faults.Fault.TheVariants.{BadShape}
+use Rattle.fkv_base.specs.declared.numbers.Key.{Key}
+use Rattle.fkv_base.specs.declared.numbers.Value.{Value}
+use Rattle.fkv_base.specs.declared.shapes.Shape.{Shape}
+use Rattle.fkv_creating.specs.Created.{IsNewStore}
+use Rattle.fkv_keeper.specs.declared.answers.Finished.{Finished}
+use Rattle.fkv_lines.specs.declared.scripts.Line.{Line}
 use Rattle.fkv_lines.specs.declared.scripts.Opening.{Opening}
-use Rattle.fkv_lines.specs.declared.scripts.Opening.TheVariants.{Shape, Open}
+use Rattle.fkv_lines.specs.declared.scripts.Opening.TheVariants as opening
+use Rattle.fkv_lines.specs.declared.scripts.Sizes.{Sizes}
+use Rattle.fkv_opening.specs.Opened.{IsStoreOf}
+use Rattle.fkv_opening.specs.declared.opened_store.Opened.{Opened}
+use Rattle.fkv_pairs.specs.Pairs.{ArePairs, log_of_store}
 use Rattle.fkv_texts.specs.Refusals.{last_refusal}
-use Rattle.fkv_thread_scripts.specs.Reports.{agrees, threads_report_text}
+use Rattle.fkv_thread_scripts.specs.Keys.{IsKeysLine, map_of, told_map}
+use Rattle.fkv_thread_scripts.specs.Reports.{IsLastFinished, agrees, threads_report_text}
+use Rattle.fkv_thread_scripts.specs.declared.logs.Log.{Log}
 use Rattle.fkv_thread_scripts.specs.declared.reports.Report.{Report}
+use Rattle.fkv_threading.specs.Told.{IsPlayed}
+use Rattle.fkv_world.specs.Runs.{World}
 
+-- ---- what is played
+-- the shape has the sizes of a script's first line
+pub record HasSizes (sizes : Sizes) (shape : Shape) : Type 0 where
+  pub bucket_bits : shape.bucket_bits ≡ sizes.bucket_bits
+  pub page : shape.page ≡ sizes.page
+  pub frames : shape.frames ≡ sizes.frames
+  pub mutable : shape.mutable ≡ sizes.mutable
+  pub sessions : shape.sessions ≡ sizes.sessions
+  pub overflow : shape.overflow ≡ sizes.overflow
+  pub disk_pages : shape.disk_pages ≡ sizes.disk_pages
+
+-- Threads have played lines over a new store of a shape, and each session has made all calls of its lines.
+pub record IsPlayedNew {K D : Type 0} (at : K → World) (shape : Shape) (lines : List Line) (honest : D → Type 0) (shows : D → List ℕ) (may_leave : D → List ℕ → Type 0) (logs : List Log) (device : D) (finished : Option Finished) : Type 0 where
+  pub opened : Opened
+  pub first : D
+  pub new : IsNewStore shape opened
+  pub played : IsPlayed at opened lines honest shows may_leave first true logs device finished
+
+-- ---- what a report says
+-- bytes hold a store, with these pairs
+pub record HoldsPairs (bytes : List ℕ) (opened : Opened) (pairs : List (Key × Value)) : Type 0 where
+  pub store : IsStoreOf bytes opened
+  pub are_pairs : ArePairs (log_of_store bytes opened store) pairs
+
+-- The store that a device holds is recovered: the report has its commit's number, says whether that commit is the last that was told as finished, and compares
+-- its pairs with what logs have been told of lines up to its points.
+pub record IsReportOn {D : Type 0} (honest : D → Type 0) (shows : D → List ℕ) (lines : List Line) (logs : List Log) (finished : Option Finished) (device : D) (report : Report) : Type 0 where
+  pub recovered : Opened
+  pub pairs : List (Key × Value)
+  pub held : honest device → HoldsPairs (shows device) recovered pairs
+  pub number : report.number ≡ recovered.number
+  pub points : (report.points_agree ≡ true) ↔ IsLastFinished finished recovered.number recovered.points.items
+  pub keys : IsKeysLine lines (told_map recovered.points.items logs) (map_of pairs) report.keys
+
+-- A report is of lines that threads have played over a new store of these sizes. What it compares are their logs, and the last commit that they were told as
+-- finished. Behind them it is of a store that is recovered from a device of which this is so, beside their own.
+pub record IsReportOfRun {K D E : Type 0} (at : K → World) (honest : D → Type 0) (shows : D → List ℕ) (may_leave : D → List ℕ → Type 0) (trusted : E → Type 0) (reads_as : E → List ℕ) (LeftBy : D → E → Type 0) (lines : List Line) (sizes : Sizes) (report : Report) : Type 0 where
+  pub shape : Shape
+  pub sized : HasSizes sizes shape
+  pub logs : List Log
+  pub device : D
+  pub finished : Option Finished
+  pub played : IsPlayedNew at shape lines honest shows may_leave logs device finished
+  pub after : E
+  pub left : LeftBy device after
+  pub says : IsReportOn trusted reads_as lines logs finished after report
+
+-- a device holds what a crash may leave of another one
+abbrev pub HoldsLeft : {D E : Type 0} → (D → List ℕ → Type 0) → (E → List ℕ) → D → E → Type 0
+HoldsLeft may_leave shows device after = may_leave device (shows after)
+
+-- ---- what is written
 -- a report's lines, or the refusal that stands in their place
 abbrev pub reported_text : Result Report Fault → List ℕ
 reported_text (Ok report) = threads_report_text report
@@ -22,8 +88,8 @@ abbrev pub reported_status : Result Report Fault → ℕ
 reported_status (Ok report) = if agrees report then 0 else 1
 reported_status (Err fault) = refused_status fault
 
--- A script without a line that makes a store writes nothing. Else a report is written, or a refusal, with its status.
-abbrev pub IsRunOnThreads : Option Opening → (List ℕ → Type 0) → ℕ → Type 0
-IsRunOnThreads (Some (Shape sizes)) Wrote status = (reported : Result Report Fault) × Wrote (reported_text reported) × (status ≡ reported_status reported)
-IsRunOnThreads (Some Open) Wrote status = Wrote [] × (status ≡ 0)
-IsRunOnThreads None Wrote status = Wrote [] × (status ≡ 0)
+-- A script without a line that makes a store writes nothing. Else a report is written, of which this is so by the line's sizes, or a refusal, with its status.
+abbrev pub IsRunOnThreads : (Sizes → Report → Type 0) → Option Opening → (List ℕ → Type 0) → ℕ → Type 0
+IsRunOnThreads Says (Some (opening.Shape sizes)) Wrote status = (reported : Result Report Fault) × IfOk reported (Says sizes) × Wrote (reported_text reported) × (status ≡ reported_status reported)
+IsRunOnThreads Says (Some opening.Open) Wrote status = Wrote [] × (status ≡ 0)
+IsRunOnThreads Says None Wrote status = Wrote [] × (status ≡ 0)

@@ -1,9 +1,13 @@
 //! The keeper's thread.
-use crate::keeping::Keeping;
+ghost use Rattle.std.specs.Prelude.{◌≡◌};
+ghost use Rattle.fkv_table.specs.Planes.{opening_of};
+ghost use Rattle.fkv_threading.specs.Told.{IsKept};
+
+use crate::keeping::{Keeping, Turned};
 use crate::progress::Progress;
 use fkv_base::{CommitKind, Fault, Version};
 use fkv_disk::Device;
-use fkv_keeper::{Finished, Turn};
+use fkv_keeper::Finished;
 use fkv_lines::Line;
 use std::sync::Wait;
 use std::thread::yield_now;
@@ -20,10 +24,9 @@ pub struct KeeperEnd<D: Device + Drop> {
     pub fault: Option<Fault>,
 }
 
-/// What the keeper's thread was told.
+/// What the keeper's thread was told beside its last finished commit.
 #[derive(Drop)]
 struct Told {
-    finished: Option<Finished>,
     begun: Option<Version>,
     fault: Option<Fault>,
 }
@@ -35,25 +38,23 @@ pub(crate) fn play_keeper<D: Device + Drop, R: Wait>(
     lines: &[Line],
     sessions: u64,
     keeping: Keeping<'_, D>,
-) -> KeeperEnd<D> {
+) -> KeeperEnd<D>
+    ensures { IsKept (opening_of D.seen) keeping.entry D.honest D.seen D.may_leave result.device result.finished }
+{
     let mut told = Told {
-        finished: None,
         begun: None,
         fault: None,
     };
-    let keeping = play_lines(rt, progress, lines, keeping, &mut told);
+    let played = play_lines(rt, progress, lines, keeping, &mut told);
     progress.end_keeper_lines();
-    let keeping = turn_until_ended(rt, progress, sessions, keeping, &mut told);
+    let ended = turn_until_ended(rt, progress, sessions, played, &mut told);
     if told.fault.is_some() {
         progress.stop();
     }
-    let Told {
-        finished,
-        begun,
-        fault,
-    } = told;
+    let Told { begun, fault } = told;
+    let (device, finished) = ended.end();
     KeeperEnd {
-        device: keeping.end(),
+        device,
         finished,
         begun,
         fault,
@@ -66,8 +67,10 @@ fn play_lines<'t, D: Device + Drop, R: Wait>(
     lines: &[Line],
     keeping: Keeping<'t, D>,
     told: &mut Told,
-) -> Keeping<'t, D> {
-    let mut keeping = keeping;
+) -> Keeping<'t, D>
+    ensures { result ≡ keeping.entry }
+{
+    let mut at = keeping;
     let mut runs = false;
     for line in lines {
         if has_stopped(progress, told) {
@@ -75,18 +78,18 @@ fn play_lines<'t, D: Device + Drop, R: Wait>(
         }
         match *line {
             Line::Commit(kind) => {
-                let (next, begun) = begin(rt, progress, keeping, kind, told);
-                keeping = next;
+                let (next, begun) = begin(rt, progress, at, kind, told);
+                at = next;
                 runs = begun;
             }
             Line::Finish if runs => {
-                keeping = finish(rt, progress, keeping, told);
+                at = finish(rt, progress, at, told);
                 runs = false;
             }
             _ => {}
         }
     }
-    keeping
+    at
 }
 
 fn has_stopped(progress: &Progress, told: &Told) -> bool {
@@ -100,26 +103,29 @@ fn begin<'t, D: Device + Drop, R: Wait>(
     keeping: Keeping<'t, D>,
     kind: CommitKind,
     told: &mut Told,
-) -> (Keeping<'t, D>, bool) {
-    let mut keeping = keeping;
+) -> (Keeping<'t, D>, bool)
+    ensures { result.0 ≡ keeping.entry }
+{
+    let mut at = keeping;
     for _ in rt.forever() {
-        let (next, answer) = keeping.ask_commit(kind);
-        keeping = next;
+        let (next, answer) = at.ask_commit(kind);
+        at = next;
         match answer {
             Ok(number) => {
                 told.begun = Some(number);
-                return (keeping, true);
+                return (at, true);
             }
             Err(Fault::DrainFull) => {}
             Err(_) => break,
         }
-        keeping = make_turn(keeping, told);
+        let (next, _) = make_turn(at, told);
+        at = next;
         if has_stopped(progress, told) {
             break;
         }
         yield_now();
     }
-    (keeping, false)
+    (at, false)
 }
 
 /// Makes turns until the commit is finished.
@@ -128,17 +134,19 @@ fn finish<'t, D: Device + Drop, R: Wait>(
     progress: &Progress,
     keeping: Keeping<'t, D>,
     told: &mut Told,
-) -> Keeping<'t, D> {
-    let mut keeping = keeping;
+) -> Keeping<'t, D>
+    ensures { result ≡ keeping.entry }
+{
+    let mut at = keeping;
     for _ in rt.forever() {
-        let (next, answer) = keeping.turn();
-        keeping = next;
-        if note(answer, told) || has_stopped(progress, told) {
+        let (next, is_finished) = make_turn(at, told);
+        at = next;
+        if is_finished || has_stopped(progress, told) {
             break;
         }
         yield_now();
     }
-    keeping
+    at
 }
 
 fn turn_until_ended<'t, D: Device + Drop, R: Wait>(
@@ -147,41 +155,35 @@ fn turn_until_ended<'t, D: Device + Drop, R: Wait>(
     sessions: u64,
     keeping: Keeping<'t, D>,
     told: &mut Told,
-) -> Keeping<'t, D> {
-    let mut keeping = keeping;
+) -> Keeping<'t, D>
+    ensures { result ≡ keeping.entry }
+{
+    let mut at = keeping;
     for _ in rt.forever() {
         if has_stopped(progress, told) || progress.have_ended(sessions) {
             break;
         }
-        keeping = make_turn(keeping, told);
+        let (next, _) = make_turn(at, told);
+        at = next;
         yield_now();
     }
-    keeping
+    at
 }
 
-fn make_turn<'t, D: Device + Drop>(keeping: Keeping<'t, D>, told: &mut Told) -> Keeping<'t, D> {
-    let (keeping, answer) = keeping.turn();
-    note(answer, told);
-    keeping
-}
-
-/// Notes the answer to a turn. Whether a commit is finished. A turn that was refused memory has left its copy to a later one.
-fn note(answer: Result<Turn, Fault>, told: &mut Told) -> bool {
-    match answer {
-        Ok(turn) => {
-            let Turn { finished, .. } = turn;
-            match finished {
-                Some(its) => {
-                    told.finished = Some(its);
-                    true
-                }
-                None => false,
-            }
-        }
-        Err(Fault::Memory) => false,
-        Err(fault) => {
+/// Makes a turn. Whether a commit is finished.
+fn make_turn<'t, D: Device + Drop>(
+    keeping: Keeping<'t, D>,
+    told: &mut Told,
+) -> (Keeping<'t, D>, bool)
+    ensures { result.0 ≡ keeping.entry }
+{
+    let (next, turned) = keeping.turn();
+    match turned {
+        Turned::Finished => (next, true),
+        Turned::Open => (next, false),
+        Turned::Refused(fault) => {
             told.fault = Some(fault);
-            false
+            (next, false)
         }
     }
 }

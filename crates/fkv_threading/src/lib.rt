@@ -4,9 +4,11 @@
 mod gates;
 mod keepers;
 mod keeping;
+mod players;
 mod playing;
 mod programs;
 mod progress;
+mod promises;
 mod runs;
 mod sessions;
 mod sitting;

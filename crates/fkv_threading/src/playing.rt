@@ -1,37 +1,45 @@
 //! A store that threads share, from its opening until they have all ended.
+ghost use Rattle.std.specs.Prelude.{◌≡◌, [], IfOk, length};
 ghost use Rattle.fkv_disk.specs.Device.{LeavesOnly};
 ghost use Rattle.fkv_opening.specs.Opened.{IsStoreOf};
 ghost use Rattle.fkv_table.specs.Planes.{opening_of};
 ghost use Rattle.fkv_table.specs.Starts.{EachAt};
 ghost use Rattle.fkv_threads.specs.Begun.{HasBegun};
+ghost use Rattle.fkv_threading.specs.Told.{AreLogs, AreSeated, IsPlayed, IsTold, WerePlayed, part_at, part_of, point_at};
 
 use crate::gates::Gate;
 use crate::keepers::{KeeperEnd, play_keeper};
 use crate::keeping::Keeping;
+use crate::players::{Player, SessionEnd};
 use crate::progress::Progress;
+use crate::promises::SessionLog;
 use crate::sessions::play_session;
 use crate::sitting::Sitting;
 use fkv_base::{Fault, Serial};
 use fkv_disk::Device;
 use fkv_lines::Line;
+use fkv_map::Call;
 use fkv_opening::Opened;
 use fkv_table::{OpenTable, Pass, Session, Table};
-use fkv_thread_scripts::Log;
+use fkv_thread_scripts::{Log, calls_of};
 use fkv_threads::{close, open};
 use std::alloc::Global;
 use std::sync::Wait;
-use std::thread::{self, JoinHandle, Threads};
+use std::thread::{self, PromisedHandle, Scope, Threads};
 
 /// What the threads of a script leave.
 #[derive(Drop)]
 pub struct Played<D: Device + Drop> {
     /// What each session was told.
     pub logs: Vec<Log>,
+    /// Each session has made all calls of its lines: no refusal has stopped it.
+    pub is_whole: bool,
     pub keeper: KeeperEnd<D>,
 }
 
 /// Plays lines over a store that was opened from this device: each session's on a thread of its own, and the keeper's on the caller's. It returns
-/// when they have all ended. `Memory` where memory or a thread was refused; then the store is dropped, the device too.
+/// when they have all ended. Each log is what its session was told by its calls at the table, which are those of its lines. The keeper's last commit is
+/// what a turn told as finished. `Memory` where memory or a thread was refused; then the store is dropped, the device too.
 pub fn play<D: Device + Drop + Send, G: Gate + Sync, R: Threads + Wait + Sync>(
     rt: &R,
     alloc: Global,
@@ -43,11 +51,9 @@ pub fn play<D: Device + Drop + Send, G: Gate + Sync, R: Threads + Wait + Sync>(
     requires store { IsStoreOf (D.seen device) opened }
     requires honest { D.honest device }
     requires leaves { LeavesOnly (D.seen device) (D.may_leave device) }
+    ensures { IfOk result (λ its. IsPlayed (opening_of D.seen) opened lines.now D.honest D.seen D.may_leave device its.is_whole its.logs.items its.keeper.device its.keeper.finished) }
 {
-    let mut points = Vec::new(alloc);
-    for point in &opened.points {
-        points.push(*point)?;
-    }
+    let points = copy_of(alloc, &opened.points)?;
     let OpenTable {
         table,
         sessions,
@@ -60,13 +66,14 @@ pub fn play<D: Device + Drop + Send, G: Gate + Sync, R: Threads + Wait + Sync>(
         keeper,
         pass,
         device,
+        finished: None,
     };
     let played = play_over(rt, alloc, &table, sessions, keeping, &points, lines, gate);
     close(table);
     played
 }
 
-/// The same over a table.
+/// The same over a table, by sessions that go on from these points.
 fn play_over<'t, D: Device + Drop + Send, G: Gate + Sync, R: Threads + Wait + Sync>(
     rt: &R,
     alloc: Global,
@@ -74,75 +81,203 @@ fn play_over<'t, D: Device + Drop + Send, G: Gate + Sync, R: Threads + Wait + Sy
     sessions: Vec<(Session, Pass<D>)>,
     keeping: Keeping<'t, D>,
     points: &[Serial],
-    lines: &[Line],
+    lines: &'t [Line],
     gate: &G,
 ) -> Result<Played<D>, Fault>
     requires ready { EachAt sessions.items (λ i x. HasBegun (opening_of D.seen) table.now.table.shared.key table.now.table.shared.table_id i x.0.machine x.0.desk x.1.seat.table_id x.1.seat.me) }
+    requires keeper { keeping ≡ table.now.table.shared.key }
+    ensures { IfOk result (λ its. WerePlayed (opening_of D.seen) table.now.table.shared.key points.now lines.now (length sessions.items) D.honest D.seen D.may_leave its.is_whole its.logs.items its.keeper.device its.keeper.finished) }
 {
-    let seats = seated(alloc, table, sessions)?;
-    play_seats(rt, alloc, seats, keeping, points, lines, gate)
+    let players = seated(alloc, table, sessions, points, lines)?;
+    play_seats(rt, alloc, table, players, keeping, points, lines, gate)
 }
 
-/// Each session with its pass, at the table.
+/// Each session with its pass, at the table, and with the calls of its lines.
 fn seated<'t, D: Device>(
     alloc: Global,
     table: &'t Table<D>,
     sessions: Vec<(Session, Pass<D>)>,
-) -> Result<Vec<Sitting<'t, D>>, Fault>
+    points: &[Serial],
+    lines: &[Line],
+) -> Result<Vec<Player<'t, D>>, Fault>
     requires ready { EachAt sessions.items (λ i x. HasBegun (opening_of D.seen) table.now.table.shared.key table.now.table.shared.table_id i x.0.machine x.0.desk x.1.seat.table_id x.1.seat.me) }
+    ensures count { IfOk result (λ players. length players.items ≡ length sessions.items) }
+    ensures players { IfOk result (λ players. AreSeated table.now.table.shared.key points.now lines.now players.items) }
 {
-    let mut seats = Vec::new(alloc);
+    let mut players = Vec::new(alloc);
     for (session, pass) in sessions {
-        seats.push(Sitting {
+        let number = players.len();
+        let seat = Sitting {
             table,
             session,
             pass,
-        })?;
+        };
+        let calls = calls_of(alloc, lines, number as u64)?;
+        players.push(player_of(alloc, seat, point_of(points, number), calls))?;
     }
-    Ok(seats)
+    Ok(players)
 }
 
-/// Plays lines by these sessions and the keeper, from their points on.
+/// A session before its first call.
+fn player_of<'t, D: Device>(
+    alloc: Global,
+    seat: Sitting<'t, D>,
+    point: Serial,
+    calls: Vec<Call>,
+) -> Player<'t, D>
+    requires { seat.seen ≡ [] }
+    ensures { result ≡ record { key = seat.entry.key; number = seat.entry.number; point = point; calls = calls.items } }
+{
+    Player {
+        seat,
+        point,
+        calls,
+        answered: 0,
+        log: Log::new(alloc, point),
+    }
+}
+
+/// Plays lines by these sessions and the keeper, each session's on a thread of its own.
 fn play_seats<'t, D: Device + Drop + Send, G: Gate + Sync, R: Threads + Wait + Sync>(
     rt: &R,
     alloc: Global,
-    seats: Vec<Sitting<'t, D>>,
+    table: &'t Table<D>,
+    players: Vec<Player<'t, D>>,
     keeping: Keeping<'t, D>,
     points: &[Serial],
-    lines: &[Line],
+    lines: &'t [Line],
     gate: &G,
-) -> Result<Played<D>, Fault> {
-    let count = seats.len() as u64;
+) -> Result<Played<D>, Fault>
+    requires seats { AreSeated table.now.table.shared.key points.now lines.now players.items }
+    requires keeper { keeping ≡ table.now.table.shared.key }
+    ensures { IfOk result (λ its. WerePlayed (opening_of D.seen) table.now.table.shared.key points.now lines.now (length players.entry.items) D.honest D.seen D.may_leave its.is_whole its.logs.items its.keeper.device its.keeper.finished) }
+{
     let progress = Progress::new();
     let shared = &progress;
-    thread::scope(thread::scope_env(), rt, |scope| {
-        let mut handles: Vec<JoinHandle<Result<Log, Fault>>> = Vec::new(alloc);
-        for seat in seats {
-            let number = handles.len();
-            let point = point_of(points, number);
-            let spawned = scope.spawn(move || {
-                play_session(rt, alloc, shared, gate, lines, number, point, seat)
-            });
-            let Ok(handle) = spawned else {
+    thread::scope(
+        thread::scope_env(),
+        rt,
+        |scope| -> Result<Played<D>, Fault>
+            requires { AreSeated table.now.table.shared.key points.now lines.now players.items × (keeping ≡ table.now.table.shared.key) }
+            ensures { IfOk result (λ its. WerePlayed (opening_of D.seen) table.entry.now.table.shared.key points.entry.now lines.entry.now (length players.entry.items) D.honest D.seen D.may_leave its.is_whole its.logs.items its.keeper.device its.keeper.finished) }
+        {
+            let played = play_in(
+                scope, rt, alloc, shared, gate, lines, table, points, players, keeping,
+            );
+            if played.is_err() {
                 shared.stop();
-                return Err(Fault::Memory);
-            };
-            if handles.push(handle).is_err() {
-                shared.stop();
-                return Err(Fault::Memory);
             }
-        }
-        let keeper = play_keeper(rt, shared, lines, count, keeping);
-        let mut logs = Vec::new(alloc);
-        for handle in handles {
-            logs.push(handle.join(rt)?)?;
-        }
-        Ok(Played { logs, keeper })
+            played
+        },
+    )
+}
+
+/// The same with these threads' scope.
+fn play_in<'s, 't: 's, E, D: Device + Drop + Send, G: Gate + Sync, R: Threads + Wait + Sync>(
+    scope: &'s Scope<'s, E>,
+    rt: &'s R,
+    alloc: Global,
+    progress: &'s Progress,
+    gate: &'s G,
+    lines: &'t [Line],
+    table: &'t Table<D>,
+    points: &[Serial],
+    players: Vec<Player<'t, D>>,
+    keeping: Keeping<'t, D>,
+) -> Result<Played<D>, Fault>
+    requires seats { AreSeated table.now.table.shared.key points.now lines.now players.items }
+    requires keeper { keeping ≡ table.now.table.shared.key }
+    ensures { IfOk result (λ its. WerePlayed (opening_of D.seen) table.now.table.shared.key points.now lines.now (length players.entry.items) D.honest D.seen D.may_leave its.is_whole its.logs.items its.keeper.device its.keeper.finished) }
+{
+    let count = players.len() as u64;
+    let handles = spawn_all(
+        scope, rt, alloc, progress, gate, lines, table, points, players,
+    )?;
+    let keeper = play_keeper(rt, progress, lines, count, keeping);
+    let (logs, is_whole) = joined(rt, alloc, table, points, lines, handles)?;
+    Ok(Played {
+        logs,
+        is_whole,
+        keeper,
     })
 }
 
+/// Plays each session's lines on a thread of its own. `Memory` where a thread or memory was refused; then those that run already are to be stopped.
+fn spawn_all<'s, 't: 's, E, D: Device + Drop + Send, G: Gate + Sync, R: Threads + Wait + Sync>(
+    scope: &'s Scope<'s, E>,
+    rt: &'s R,
+    alloc: Global,
+    progress: &'s Progress,
+    gate: &'s G,
+    lines: &'t [Line],
+    table: &'t Table<D>,
+    points: &[Serial],
+    players: Vec<Player<'t, D>>,
+) -> Result<Vec<PromisedHandle<Result<SessionEnd, Fault>, SessionLog<'t, D>>>, Fault>
+    requires { AreSeated table.now.table.shared.key points.now lines.now players.items }
+    ensures count { IfOk result (λ handles. length handles.items ≡ length players.entry.items) }
+    ensures promised { IfOk result (λ handles. EachAt handles.items (λ i h. part_of h.promise.table.now.table.shared.key h.promise.number h.promise.point h.promise.lines.now ≡ part_at table.now.table.shared.key points.now lines.now i)) }
+{
+    let mut handles = Vec::new(alloc);
+    for player in players {
+        let number = handles.len();
+        let promise = SessionLog {
+            table,
+            lines,
+            number,
+            point: point_of(points, number),
+        };
+        let spawned = scope.spawn_with(
+            promise,
+            move || -> Result<SessionEnd, Fault>
+                ensures { IfOk result (λ end. IsTold (opening_of D.seen) player.entry end.is_whole end.log) }
+            { play_session(rt, progress, gate, number, player) },
+        );
+        let Ok(handle) = spawned else {
+            return Err(Fault::Memory);
+        };
+        handles.push(handle)?;
+    }
+    Ok(handles)
+}
+
+/// What each session was told, as its thread gives it back, and whether they have all made the calls of their lines.
+fn joined<'t, D: Device, R: Threads>(
+    rt: &R,
+    alloc: Global,
+    table: &'t Table<D>,
+    points: &[Serial],
+    lines: &[Line],
+    handles: Vec<PromisedHandle<Result<SessionEnd, Fault>, SessionLog<'t, D>>>,
+) -> Result<(Vec<Log>, bool), Fault>
+    requires { EachAt handles.items (λ i h. part_of h.promise.table.now.table.shared.key h.promise.number h.promise.point h.promise.lines.now ≡ part_at table.now.table.shared.key points.now lines.now i) }
+    ensures count { IfOk result (λ its. length its.0.items ≡ length handles.entry.items) }
+    ensures told { IfOk result (λ its. AreLogs (opening_of D.seen) table.now.table.shared.key points.now lines.now its.1 its.0.items) }
+{
+    let mut logs = Vec::new(alloc);
+    let mut are_whole = true;
+    for handle in handles {
+        let SessionEnd { log, is_whole } = handle.join(rt)?;
+        are_whole &= is_whole;
+        logs.push(log)?;
+    }
+    Ok((logs, are_whole))
+}
+
+fn copy_of(alloc: Global, points: &[Serial]) -> Result<Vec<Serial>, Fault>
+    ensures { IfOk result (λ copy. copy.items ≡ points.now) }
+{
+    let mut copy = Vec::new(alloc);
+    for point in points {
+        copy.push(*point)?;
+    }
+    Ok(copy)
+}
+
 /// The point of the session of this number.
-fn point_of(points: &[Serial], number: usize) -> Serial {
+fn point_of(points: &[Serial], number: usize) -> Serial
+    ensures { result ≡ point_at points.now number }
+{
     match points.get(number) {
         Some(point) => *point,
         None => Serial(0),

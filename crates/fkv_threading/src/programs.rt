@@ -1,16 +1,17 @@
 //! A script on threads, from the line that makes its store to its report.
-ghost use Rattle.std.specs.Prelude.{◌≡◌, IfOk, OnOk, if◌then◌else◌};
+ghost use Rattle.std.specs.Prelude.{◌≡◌, ⊤, IfOk, OnOk, Ok, if◌then◌else◌};
 ghost use Rattle.std.specs.Io.KnownBytes.{Appends};
+ghost use Rattle.fkv_table.specs.Planes.{opening_of};
 ghost use Rattle.fkv_texts.specs.Refusals.{last_refusal};
 ghost use Rattle.fkv_thread_scripts.specs.Reports.{agrees, threads_report_text};
-ghost use Rattle.fkv_threading.specs.Written.{IsRunOnThreads, refused_status, reported_status, reported_text};
+ghost use Rattle.fkv_threading.specs.Written.{HasSizes, HoldsLeft, IsPlayedNew, IsReportOfRun, IsReportOn, IsRunOnThreads, refused_status, reported_status, reported_text};
 
 use crate::gates::Gate;
 use crate::keepers::KeeperEnd;
 use crate::playing::{Played, play};
 use fkv_base::{Fault, Shape};
 use fkv_creating::create_opened;
-use fkv_disk::{Device, Fuse, MemDisk, PageSize, Pages, ReadAhead};
+use fkv_disk::{Device, FileDisk, Fuse, MemDisk, PageSize, Pages, ReadAhead};
 use fkv_files::{Lockable, Mirror, Trouble, make_alone, open_alone};
 use fkv_keeper::Finished;
 use fkv_lines::{Class, Line, Opening, Script, Sizes};
@@ -35,16 +36,13 @@ pub fn run_threads<G: Gate + Sync, W: Write, R: Threads + Wait + Sync>(
     output: &mut W,
     gate: &G,
 ) -> io::Result<u8>
-    ensures { IfOk result (IsRunOnThreads script.now.opening (Appends (W.contents output.old) (W.contents output.new))) }
+    ensures { IfOk result (IsRunOnThreads (IsReportOfRun (opening_of ⟦<Fuse<MemDisk> as Device>⟧.seen) ⟦<Fuse<MemDisk> as Device>⟧.honest ⟦<Fuse<MemDisk> as Device>⟧.seen ⟦<Fuse<MemDisk> as Device>⟧.may_leave ⟦<MemDisk as Device>⟧.honest ⟦<MemDisk as Device>⟧.seen (HoldsLeft ⟦<Fuse<MemDisk> as Device>⟧.may_leave ⟦<MemDisk as Device>⟧.seen) script.now.lines.items) script.now.opening (Appends (W.contents output.old) (W.contents output.new))) }
 {
     let sizes = match script.opening {
         Some(Opening::Shape(sizes)) => sizes,
         _ => return Ok(0),
     };
-    let reported = match shape_of(sizes) {
-        Ok(shape) => report_in_memory(rt, alloc, shape, &script.lines, gate),
-        Err(fault) => Err(fault),
-    };
+    let reported = report_in_memory(rt, alloc, sizes, &script.lines, gate);
     write_reported(alloc, output, reported)
 }
 
@@ -62,23 +60,22 @@ pub fn run_threads_in_file<G: Gate + Sync, W: Write, R: Threads + Wait + Sync, H
 ) -> io::Result<(u8, Option<Trouble>)>
 where
     H::File: Lockable + Send,
-    ensures { IfOk result (λ end. IsRunOnThreads script.now.opening (Appends (W.contents output.old) (W.contents output.new)) end.0) }
+    ensures { IfOk result (λ end. IsRunOnThreads (IsReportOfRun (opening_of ⟦<Mirror<FileDisk<H::File>> as Device>⟧.seen) ⟦<Mirror<FileDisk<H::File>> as Device>⟧.honest ⟦<Mirror<FileDisk<H::File>> as Device>⟧.seen ⟦<Mirror<FileDisk<H::File>> as Device>⟧.may_leave ⟦<ReadAhead<FileDisk<H::File>> as Device>⟧.honest ⟦<ReadAhead<FileDisk<H::File>> as Device>⟧.seen (λ _ _. ⊤) script.now.lines.items) script.now.opening (Appends (W.contents output.old) (W.contents output.new)) end.0) }
 {
     let sizes = match script.opening {
         Some(Opening::Shape(sizes)) => sizes,
         _ => return Ok((0, None)),
     };
-    let reported = match shape_of(sizes) {
-        Ok(shape) => report_in_file(rt, files, alloc, path, shape, &script.lines, gate),
-        Err(fault) => Err(Trouble::Fault(fault)),
-    };
+    let reported = report_in_file(rt, files, alloc, path, sizes, &script.lines, gate);
     let (reported, trouble) = told_apart(reported);
     let status = write_reported(alloc, output, reported)?;
     Ok((status, trouble))
 }
 
 /// What is written of a run, and what is wrong with the file where that is why there is no report.
-fn told_apart(reported: Result<Report, Trouble>) -> (Result<Report, Fault>, Option<Trouble>) {
+fn told_apart(reported: Result<Report, Trouble>) -> (Result<Report, Fault>, Option<Trouble>)
+    ensures { IfOk result.0 (λ report. reported ≡ Ok report) }
+{
     match reported {
         Ok(report) => (Ok(report), None),
         Err(Trouble::Fault(fault)) => (Err(fault), None),
@@ -127,16 +124,19 @@ fn refuse<W: Write>(alloc: Global, output: &mut W, fault: Fault) -> io::Result<u
     })
 }
 
-/// The report of these lines over a new store in memory of this shape, whose device is crashed as all have ended.
+/// The report of these lines over a new store in memory of these sizes, whose device is crashed as all have ended.
 fn report_in_memory<G: Gate + Sync, R: Threads + Wait + Sync>(
     rt: &R,
     alloc: Global,
-    shape: Shape,
+    sizes: Sizes,
     lines: &[Line],
     gate: &G,
-) -> Result<Report, Fault> {
+) -> Result<Report, Fault>
+    ensures { IfOk result (IsReportOfRun (opening_of ⟦<Fuse<MemDisk> as Device>⟧.seen) ⟦<Fuse<MemDisk> as Device>⟧.honest ⟦<Fuse<MemDisk> as Device>⟧.seen ⟦<Fuse<MemDisk> as Device>⟧.may_leave ⟦<MemDisk as Device>⟧.honest ⟦<MemDisk as Device>⟧.seen (HoldsLeft ⟦<Fuse<MemDisk> as Device>⟧.may_leave ⟦<MemDisk as Device>⟧.seen) lines.now sizes) }
+{
+    let shape = shape_of(sizes)?;
     let device = Fuse::new(MemDisk::new(alloc));
-    let Played { logs, keeper } = play_new(rt, alloc, device, shape, lines, gate)?;
+    let Played { logs, keeper, .. } = play_new(rt, alloc, device, shape, lines, gate)?;
     let KeeperEnd {
         device,
         finished,
@@ -149,25 +149,27 @@ fn report_in_memory<G: Gate + Sync, R: Threads + Wait + Sync>(
 /// How many pages of 4 KiB are kept while the file is read: 1 MiB.
 const PAGES: usize = 256;
 
-/// The report of these lines over a new store in a file of this shape. The file is closed as all have ended, and opened again.
+/// The report of these lines over a new store in a file of these sizes. The file is closed as all have ended, and opened again.
 fn report_in_file<G: Gate + Sync, R: Threads + Wait + Sync, H: Files>(
     rt: &R,
     files: &H,
     alloc: Global,
     path: &str,
-    shape: Shape,
+    sizes: Sizes,
     lines: &[Line],
     gate: &G,
 ) -> Result<Report, Trouble>
 where
     H::File: Lockable + Send,
+    ensures { IfOk result (IsReportOfRun (opening_of ⟦<Mirror<FileDisk<H::File>> as Device>⟧.seen) ⟦<Mirror<FileDisk<H::File>> as Device>⟧.honest ⟦<Mirror<FileDisk<H::File>> as Device>⟧.seen ⟦<Mirror<FileDisk<H::File>> as Device>⟧.may_leave ⟦<ReadAhead<FileDisk<H::File>> as Device>⟧.honest ⟦<ReadAhead<FileDisk<H::File>> as Device>⟧.seen (λ _ _. ⊤) lines.now sizes) }
 {
+    let shape = shape_of(sizes)?;
     let (file, length) = make_alone(files, path)?;
     let Some(length) = length else {
         return Err(Trouble::Irregular);
     };
     let device = Mirror::new(alloc, file, length)?;
-    let Played { logs, keeper } = play_new(rt, alloc, device, shape, lines, gate)?;
+    let Played { logs, keeper, .. } = play_new(rt, alloc, device, shape, lines, gate)?;
     let KeeperEnd {
         device,
         finished,
@@ -181,7 +183,8 @@ where
     Ok(report)
 }
 
-/// Plays lines over a new store of this shape on a device. A refusal that ended the run is its answer.
+/// Plays lines over a new store of this shape on a device. A refusal that ended the run is its answer. Where that of no turn has stopped a session, memory
+/// was refused.
 fn play_new<D: Device + Drop + Send, G: Gate + Sync, R: Threads + Wait + Sync>(
     rt: &R,
     alloc: Global,
@@ -191,13 +194,15 @@ fn play_new<D: Device + Drop + Send, G: Gate + Sync, R: Threads + Wait + Sync>(
     gate: &G,
 ) -> Result<Played<D>, Fault>
     requires honest { D.honest device }
+    ensures { IfOk result (λ its. IsPlayedNew (opening_of D.seen) shape lines.now D.honest D.seen D.may_leave its.logs.items its.keeper.device its.keeper.finished) }
 {
     let mut device = device;
     let opened = create_opened(alloc, &mut device, shape)?;
     let played = play(rt, alloc, opened, device, lines, gate)?;
     match played.keeper.fault {
         Some(fault) => Err(fault),
-        None => Ok(played),
+        None if played.is_whole => Ok(played),
+        None => Err(Fault::Memory),
     }
 }
 
@@ -208,14 +213,18 @@ fn report_on<D: Device>(
     logs: &[Log],
     finished: &Option<Finished>,
     device: &mut D,
-) -> Result<Report, Fault> {
+) -> Result<Report, Fault>
+    ensures { IfOk result (IsReportOn D.honest D.seen lines.now logs.now finished.now device.old) }
+{
     let opened = recover(alloc, device)?;
     let pairs = content(alloc, &opened, device)?;
     report_of(alloc, lines, logs, finished, &opened, &pairs)
 }
 
 /// The shape of these sizes.
-fn shape_of(sizes: Sizes) -> Result<Shape, Fault> {
+fn shape_of(sizes: Sizes) -> Result<Shape, Fault>
+    ensures { IfOk result (HasSizes sizes) }
+{
     let Sizes {
         class,
         bucket_bits,

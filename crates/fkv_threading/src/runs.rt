@@ -1,4 +1,8 @@
 //! Runs of the program whose words ask for threads.
+ghost use Rattle.std.specs.Prelude.{◌≡◌, IfOk, OnOk, codes};
+ghost use Rattle.std.specs.Io.KnownBytes.{Appends};
+ghost use Rattle.fkv_thread_scripts.specs.Reports.{ended};
+
 use crate::gates::Open;
 use crate::programs::{run_threads, run_threads_in_file};
 use fkv_base::{Fault, ScriptFault};
@@ -46,14 +50,24 @@ where
 }
 
 /// Refuses words that ask for threads and have a seed. The status: 2.
-pub fn refuse_seed<W: Write, E: Write>(output: &mut W, complaints: &mut E) -> io::Result<u8> {
-    output.write_all(b"options seed and threads\n")?;
-    output.flush()?;
+pub fn refuse_seed<W: Write, E: Write>(output: &mut W, complaints: &mut E) -> io::Result<u8>
+    ensures text { OnOk result (Appends (W.contents output.old) (W.contents output.new) (ended (codes "options seed and threads"))) }
+    ensures status { IfOk result (λ status. status ≡ 2) }
+{
+    write_options(output)?;
     complain(
         complaints,
         &"--seed and --threads don't go together; those that --threads goes with are --check, --torn B and --file PATH",
     );
     Ok(2)
+}
+
+/// The line of words that don't go together.
+fn write_options<W: Write>(output: &mut W) -> io::Result<()>
+    ensures { OnOk result (Appends (W.contents output.old) (W.contents output.new) (ended (codes "options seed and threads"))) }
+{
+    output.write_all("options seed and threads\n".as_bytes())?;
+    output.flush()
 }
 
 /// Runs the script of these bytes, or writes its first faulty line.

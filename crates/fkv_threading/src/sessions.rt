@@ -1,137 +1,131 @@
 //! A session's thread.
+ghost use Rattle.std.specs.Prelude.{◌≡◌, IfOk};
+ghost use Rattle.fkv_table.specs.Planes.{opening_of};
+ghost use Rattle.fkv_threading.specs.Told.{IsTold};
+
 use crate::gates::Gate;
+use crate::players::{Player, SessionEnd};
 use crate::progress::Progress;
-use crate::sitting::Sitting;
-use fkv_base::{Fault, Serial};
+use fkv_base::Fault;
 use fkv_disk::Device;
-use fkv_lines::Line;
 use fkv_map::Call;
 use fkv_session::Answer;
-use fkv_thread_scripts::Log;
-use std::alloc::Global;
 use std::sync::Wait;
 use std::thread::yield_now;
 
 /// Plays the lines of this session, goes on with refreshes and polls until the keeper's lines are through and nothing is pending, and lets it
-/// sleep. Gives what it was told.
+/// sleep. Gives what it was told by all of these calls. `Memory` where memory was refused.
 pub(crate) fn play_session<D: Device, G: Gate, R: Wait>(
     rt: &R,
-    alloc: Global,
     progress: &Progress,
     gate: &G,
-    lines: &[Line],
     number: usize,
-    point: Serial,
-    seat: Sitting<'_, D>,
-) -> Result<Log, Fault> {
-    let mut log = Log::new(alloc, point);
-    let played = play_lines(rt, progress, gate, lines, number, seat, &mut log);
+    player: Player<'_, D>,
+) -> Result<SessionEnd, Fault>
+    ensures { IfOk result (λ its. IsTold (opening_of D.seen) player.entry its.is_whole its.log) }
+{
+    let played = play_calls(rt, progress, gate, number, player);
     if played.is_err() {
         progress.stop();
     }
     progress.end_session();
     match played {
-        Ok(()) => Ok(log),
+        Ok(player) => Ok(player.end()),
         Err(fault) => Err(fault),
     }
 }
 
-fn play_lines<D: Device, G: Gate, R: Wait>(
+fn play_calls<'t, D: Device, G: Gate, R: Wait>(
     rt: &R,
     progress: &Progress,
     gate: &G,
-    lines: &[Line],
     number: usize,
-    seat: Sitting<'_, D>,
-    log: &mut Log,
-) -> Result<(), Fault> {
-    let mut seat = seat;
-    let mut count: u64 = 0;
-    for line in lines {
-        if let Some(call) = call_of(*line, number) {
-            count = count.saturating_add(1);
-            gate.before(number, count);
-            seat = play_call(rt, progress, seat, call, log)?;
-        }
+    player: Player<'t, D>,
+) -> Result<Player<'t, D>, Fault>
+    ensures { IfOk result (λ end. end ≡ player.entry) }
+{
+    let calls = player.count_left() as u64;
+    let mut at = player;
+    for before in 0..calls {
+        gate.before(number, before + 1);
+        at = play_call(rt, progress, at)?;
     }
-    end(rt, progress, seat, log)
+    end(rt, progress, at)
 }
 
-/// The call of this line, if it is one of this session.
-fn call_of(line: Line, number: usize) -> Option<Call> {
-    match line {
-        Line::Call(session, call) if session == number as u64 => Some(call),
-        _ => None,
-    }
-}
-
-/// Makes a call. One that is refused since too many requests are pending is made again behind a refresh and a poll.
+/// Makes the next call. One that is refused since too many requests are pending is made again behind a refresh and a poll.
 fn play_call<'t, D: Device, R: Wait>(
     rt: &R,
     progress: &Progress,
-    seat: Sitting<'t, D>,
-    call: Call,
-    log: &mut Log,
-) -> Result<Sitting<'t, D>, Fault> {
-    let mut seat = seat;
+    player: Player<'t, D>,
+) -> Result<Player<'t, D>, Fault>
+    ensures { IfOk result (λ end. end ≡ player.entry) }
+{
+    let mut at = player;
     for _ in rt.forever() {
         if progress.is_stopped() {
             break;
         }
-        let (next, answer) = seat.call(call);
-        seat = next;
-        if !is_full(&answer) {
-            log.note(call, &answer)?;
+        let (next, is_answered) = at.call_next()?;
+        at = next;
+        if is_answered {
             break;
         }
-        let (next, _) = catch_up(seat, log)?;
-        seat = next;
+        let (next, _) = catch_up(at)?;
+        at = next;
         yield_now();
     }
-    Ok(seat)
-}
-
-fn is_full(answer: &Answer) -> bool {
-    match answer {
-        Answer::Refused(Fault::PendingFull) => true,
-        _ => false,
-    }
+    Ok(at)
 }
 
 /// A refresh and a poll, and how many requests are left.
-fn catch_up<'t, D: Device>(
-    seat: Sitting<'t, D>,
-    log: &mut Log,
-) -> Result<(Sitting<'t, D>, usize), Fault> {
-    let (seat, _) = seat.call(Call::Refresh);
-    let (seat, answer) = seat.call(Call::Poll);
-    log.note(Call::Poll, &answer)?;
+fn catch_up<'t, D: Device>(player: Player<'t, D>) -> Result<(Player<'t, D>, usize), Fault>
+    ensures { IfOk result (λ its. its.0 ≡ player.entry) }
+{
+    let (refreshed, _) = player.call_own(Call::Refresh)?;
+    let (polled, answer) = refreshed.call_own(Call::Poll)?;
     match answer {
-        Answer::Polled(_, left) => Ok((seat, left)),
-        _ => Ok((seat, 0)),
+        Answer::Polled(_, left) => Ok((polled, left)),
+        _ => Ok((polled, 0)),
     }
 }
 
-/// Refreshes and polls until the keeper's lines are through and nothing is pending. Then the session sleeps.
-fn end<D: Device, R: Wait>(
+/// Catches up until the keeper's lines are through and nothing is pending. Then the session sleeps.
+fn end<'t, D: Device, R: Wait>(
     rt: &R,
     progress: &Progress,
-    seat: Sitting<'_, D>,
-    log: &mut Log,
-) -> Result<(), Fault> {
-    let mut seat = seat;
+    player: Player<'t, D>,
+) -> Result<Player<'t, D>, Fault>
+    ensures { IfOk result (λ end. end ≡ player.entry) }
+{
+    let at = catch_up_whole(rt, progress, player)?;
+    if progress.is_stopped() {
+        return Ok(at);
+    }
+    let (slept, _) = at.call_own(Call::Sleep)?;
+    Ok(slept)
+}
+
+/// Refreshes and polls until the keeper's lines are through and nothing is pending, or it is stopped.
+fn catch_up_whole<'t, D: Device, R: Wait>(
+    rt: &R,
+    progress: &Progress,
+    player: Player<'t, D>,
+) -> Result<Player<'t, D>, Fault>
+    ensures { IfOk result (λ end. end ≡ player.entry) }
+{
+    let mut at = player;
     for _ in rt.forever() {
         if progress.is_stopped() {
-            return Ok(());
+            break;
         }
         let is_through = progress.are_keeper_lines_through();
-        let (next, left) = catch_up(seat, log)?;
-        seat = next;
+        let (next, left) = catch_up(at)?;
+        at = next;
         if is_through && left == 0 {
             break;
         }
         yield_now();
     }
-    let (_, _) = seat.call(Call::Sleep);
-    Ok(())
+    Ok(at)
 }

@@ -1,4 +1,8 @@
 //! A session with its pass at a table.
+ghost use Rattle.std.specs.Prelude.{◌≡◌};
+ghost use Rattle.fkv_table.specs.Planes.{opening_of};
+ghost use Rattle.fkv_threads.specs.Runs.{IsRun, run_of};
+
 use fkv_disk::Device;
 use fkv_map::Call;
 use fkv_session::Answer;
@@ -6,7 +10,8 @@ use fkv_table::{Pass, Session, Table};
 use fkv_threads::run;
 use std::marker::Model;
 
-/// A session that is ready for its next call, with its pass, at the table. A contract sees it as the session's number.
+/// A session that is ready for its next call, with its pass, at the table. A contract sees it as the table's key, the session's number, and what its
+/// pass has seen.
 #[derive(Drop)]
 pub(crate) struct Sitting<'t, D: Device> {
     pub(crate) table: &'t Table<D>,
@@ -15,20 +20,26 @@ pub(crate) struct Sitting<'t, D: Device> {
 }
 
 impl<'t, D: Device> Model for Sitting<'t, D> {
-    ghost use Rattle.std.specs.Prelude.{ℕ};
+    ghost use Rattle.std.specs.declared.snapshot.Snapshot.{Snapshot};
+    ghost use Rattle.fkv_core.specs.Worlds.{WorldModel};
     ghost use Rattle.fkv_table.specs.Calls.{IsReady};
     ghost use Rattle.fkv_table.specs.Planes.{opening_of};
+    ghost use Rattle.fkv_threading.specs.Told.{Seat};
 
-    ghost Value = { ℕ };
+    ghost Value = { Seat (Snapshot (WorldModel D)) };
 
-    ghost view = { λ s. s.session.machine.seat.number };
+    ghost view = { λ s. record { key = s.table.now.table.shared.key; number = s.session.machine.seat.number; seen = s.pass.seat.me.0.seen } };
 
     ghost invariant = { λ s. IsReady (opening_of D.seen) s.table.now.table.shared.key s.table.now.table.shared.table_id s.pass.seat.table_id s.pass.seat.me s.session.machine s.session.desk };
 }
 
 impl<'t, D: Device> Sitting<'t, D> {
     /// Runs a call to its end.
-    pub(crate) fn call(self, call: Call) -> (Sitting<'t, D>, Answer) {
+    pub(crate) fn call(self, call: Call) -> (Sitting<'t, D>, Answer)
+        ensures key { result.0.key ≡ self.entry.key }
+        ensures number { result.0.number ≡ self.entry.number }
+        ensures called { IsRun (opening_of D.seen) self.entry.key (run_of self.entry.number call result.1 self.entry.seen result.0.seen) }
+    {
         let Sitting {
             table,
             mut session,

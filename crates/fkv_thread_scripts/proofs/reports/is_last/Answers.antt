@@ -4,7 +4,6 @@ use Rattle.std.proofs.lemmas.Slice.Eq.{slice_eq-Decides}
 use Rattle.std.specs.Bool.{Decides}
 use Rattle.std.specs.Cmp.{unsigned_Decides}
 use Rattle.fkv_base.specs.declared.numbers.Serial.{Serial}
-use Rattle.fkv_base.specs.declared.numbers.Version.{Version}
 use Rattle.fkv_thread_scripts.proofs.reports.is_last.Goals as goal
 
 same_serial : (a b : Serial) → Decides (nat_eq a.0 b.0) (a ≡ b)

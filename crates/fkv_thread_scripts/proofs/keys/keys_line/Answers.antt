@@ -1,0 +1,6 @@
+-- What is noted of each key says whether it is compared.
+use Rattle.fkv_thread_scripts.proofs.Compared.{line_of}
+use Rattle.fkv_thread_scripts.proofs.keys.keys_line.Goals as goal
+
+pub returns : goal.returns
+returns c = line_of c.compare.result c.in_ok-claims.claims c.args.lines.now c.args.told c.args.stored c.in_ok-claims.ensures c.compare.ensures.ordered c.compare.ensures.line

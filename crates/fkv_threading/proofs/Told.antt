@@ -1,0 +1,190 @@
+-- What one call more, or one turn, adds to what was told.
+use Rattle.std.proofs.Common.{◌≡◌, inl, inr, ℕ, ◌+◌, ◌≤◌, refl, sym, ap, subst, ◌∙◌, Bool, true, false, not, List, [], ◌∷◌, ◌++◌, append_assoc, length, length-append, map, take, drop, arith}
+use Rattle.std.specs.Prelude.{Option, Some, Result, Ok, Err, IfOk, ◌||◌, ◌&&◌, if◌then◌else◌, slice_get}
+use Rattle.std.proofs.lemmas.Bool.{and_parts}
+use Rattle.std.proofs.lemmas.List.{drop_all, length-map, take-append-drop, take_more}
+use Rattle.std.proofs.lemmas.Option.{get_or_from_slice_get, slice_get_within}
+use Rattle.fkv_base.specs.declared.faults.Fault.{Fault}
+use Rattle.fkv_base.specs.declared.numbers.Serial.{Serial}
+use Rattle.fkv_keeper.specs.declared.answers.Finished.{Finished}
+use Rattle.fkv_keeper.specs.declared.answers.Turn.{Turn}
+use Rattle.fkv_lines.specs.declared.scripts.Line.{Line}
+use Rattle.fkv_map.specs.declared.operations.Call.{Call}
+use Rattle.fkv_map.specs.declared.operations.Op.{Op}
+use Rattle.fkv_opening.specs.declared.opened_store.Opened.{Opened}
+use Rattle.fkv_seats.specs.Rule.{IsSeenBy}
+use Rattle.fkv_session.specs.declared.answers.Answer.{Answer}
+use Rattle.fkv_table.specs.declared.happenings.Happening.{Happening}
+use Rattle.fkv_table.specs.KeeperCalls.{HasKept}
+use Rattle.fkv_table.specs.Planes.{plane}
+use Rattle.fkv_table.specs.Starts.{EachAt}
+use Rattle.fkv_table.proofs.Starts.{one_more}
+use Rattle.fkv_thread_scripts.specs.Calls.{calls_of}
+use Rattle.fkv_thread_scripts.specs.Logs.{accepted_by, durable_by, told_by}
+use Rattle.fkv_thread_scripts.specs.declared.logs.Log.{Log}
+use Rattle.fkv_threads.specs.Begun.{IsOverStore}
+use Rattle.fkv_threads.specs.Runs.{run_of}
+use Rattle.fkv_threading.specs.Told.{AreLogs, AreTurns, HasMade, IsLogOf, IsNoted, IsPlayed, IsTold, Part, Seat, TurnRun, WasFinished, WasTold, WerePlayed, finish_by, is_full, is_own, part_at, part_of, point_at}
+use Rattle.fkv_world.specs.Runs.{World}
+use Rattle.law_threads.specs.Calls.{CallRun, HasRun}
+use Rattle.law_threads.specs.Turns.{HasTurned}
+
+-- a log of one call more
+noted_more : (point : Serial) (log log' : Log) (its : CallRun) (runs : List CallRun) → IsNoted log log' its.call its.answer → IsLogOf point log runs → IsLogOf point log' (its ∷ runs)
+noted_more point log log' its runs noted was = record {
+  first = noted.first ∙ was.first;
+  accepted = noted.accepted ∙ ap (λ (xs : List Op). xs ++ accepted_by its.call its.answer) was.accepted;
+  told = noted.told ∙ ap (λ (xs : List Serial). xs ++ told_by its.answer) was.told;
+  durable = noted.durable ∙ ap (λ (s : Serial). durable_by s its.answer) was.durable;
+}
+
+-- a session's part, by other names of the same
+same_part : {K : Type 0} (key key' : K) (number number' : ℕ) (point : Serial) (calls : List Call) → key' ≡ key → number' ≡ number
+    → (let part : Part K = record { key = key; number = number; point = point; calls = calls } in part ≡ record { key = key'; number = number'; point = point; calls = calls })
+same_part key key' number number' point calls key_is number_is = λ i. record { key = sym key_is i; number = sym number_is i; point = point; calls = calls }
+
+-- the calls answered so far, behind a try of the next one
+answered_on : (calls : List Call) (answered answered' : ℕ) (call : Call) (is_answered : Bool) → slice_get calls answered ≡ Some call → is_answered ≡ true → answered' ≡ (if is_answered then answered + 1 else answered)
+    → take answered' calls ≡ take answered calls ++ call ∷ []
+answered_on calls answered answered' call is_answered found was_answered next =
+    let more : answered' ≡ answered + 1 = next ∙ ap (λ (b : Bool). if b then answered + 1 else answered) was_answered in
+    ap (λ (n : ℕ). take n calls) more ∙ (take_more calls answered call (slice_get_within calls answered call found) ∙ ap (λ (c : Call). take answered calls ++ c ∷ []) (get_or_from_slice_get calls answered call call found))
+
+or_true : (b : Bool) → (b || true) ≡ true
+or_true true = refl
+or_true false = refl
+
+-- what holds of each item at its place, and of one more behind them
+pub one_at : {X : Type 0} (holds : ℕ → X → Type 0) (xs all : List X) (more : X) → all ≡ xs ++ more ∷ [] → EachAt xs holds → holds (length xs) more → EachAt all holds
+one_at holds xs all more pushed each its = (one_more holds (λ x. x) xs all more (map (λ x. x) xs) pushed refl each (subst (λ (n : ℕ). holds n more) (sym (length-map xs (λ x. x))) its)).1
+
+-- the part of the session at the next number, by equal numbers, points and calls
+pub seated_at : {K : Type 0} (key : K) (places number its_number : ℕ) (points : List Serial) (point : Serial) (lines : List Line) (calls : List Call) → its_number ≡ places → number ≡ places → point ≡ point_at points number → calls ≡ calls_of number lines
+    → (let part : Part K = record { key = key; number = its_number; point = point; calls = calls } in part ≡ part_at key points lines places)
+seated_at key places number its_number points point lines calls its_is is point_is calls_are =
+    let same_point : point ≡ point_at points places = point_is ∙ ap (λ (n : ℕ). point_at points n) is in
+    let same_calls : calls ≡ calls_of places lines = calls_are ∙ ap (λ (n : ℕ). calls_of n lines) is in
+    λ i. record { key = key; number = its_is i; point = same_point i; calls = same_calls i }
+
+pub promised_at : {K : Type 0} (key : K) (places number : ℕ) (points : List Serial) (point : Serial) (lines : List Line) → number ≡ places → point ≡ point_at points number → part_of key number point lines ≡ part_at key points lines places
+promised_at key places number points point lines is point_is =
+    let same_point : point ≡ point_at points places = point_is ∙ ap (λ (n : ℕ). point_at points n) is in
+    λ i. part_of key (is i) (same_point i) lines
+
+module _ {K : Type 0} (at : K → World) where
+  -- before its first call a session was told nothing
+  pub told_nothing : (part : Part K) (log : Log) (seen : List Happening) → seen ≡ [] → log.first ≡ part.point.0 → log.accepted.items ≡ [] → log.told.items ≡ [] → log.durable ≡ part.point → WasTold at part [] log seen
+  told_nothing part log seen none first accepted told durable = record { runs = []; called = none; played = refl; noted = record { first = first; accepted = accepted; told = told; durable = durable } }
+
+  -- a call whose answer is noted is one more: one of its own, or a try
+  told_more : (part : Part K) (answered : List Call) (log log' : Log) (call : Call) (answer : Answer) (before behind : List Happening) → HasRun at part.key (run_of part.number call answer before behind) → IsNoted log log' call answer
+      → (is_own call || is_full answer) ≡ true → WasTold at part answered log before → WasTold at part answered log' behind
+  told_more part answered log log' call answer before behind ran noted spare was =
+      let its : CallRun = run_of part.number call answer before behind in
+      record {
+        runs = its ∷ was.runs;
+        called = (ran, refl, refl, was.called);
+        played = inl (spare, was.played);
+        noted = noted_more part.point log log' its was.runs noted was.noted;
+      }
+
+  -- or one of its lines
+  told_answer : (part : Part K) (answered : List Call) (log log' : Log) (call : Call) (answer : Answer) (before behind : List Happening) → HasRun at part.key (run_of part.number call answer before behind) → IsNoted log log' call answer → is_full answer ≡ false
+      → WasTold at part answered log before → WasTold at part (answered ++ call ∷ []) log' behind
+  told_answer part answered log log' call answer before behind ran noted answers was =
+      let its : CallRun = run_of part.number call answer before behind in
+      record {
+        runs = its ∷ was.runs;
+        called = (ran, refl, refl, was.called);
+        played = inr (answered, refl, answers, was.played);
+        noted = noted_more part.point log log' its was.runs noted was.noted;
+      }
+
+  -- a call of its own, by the session behind it
+  pub told_own : (seat seat' : Seat K) (point : Serial) (calls answered : List Call) (log log' : Log) (call : Call) (answer : Answer) → HasMade at seat seat' call answer log log' → is_own call ≡ true
+      → WasTold at (record { key = seat.key; number = seat.number; point = point; calls = calls }) answered log seat.seen → WasTold at (record { key = seat'.key; number = seat'.number; point = point; calls = calls }) answered log' seat'.seen
+  told_own seat seat' point calls answered log log' call answer made own was =
+      subst (λ (part : Part K). WasTold at part answered log' seat'.seen) (same_part seat.key seat'.key seat.number seat'.number point calls made.key made.number)
+      (told_more (record { key = seat.key; number = seat.number; point = point; calls = calls }) answered log log' call answer seat.seen seat'.seen made.ran made.noted (ap (λ (b : Bool). b || is_full answer) own) was)
+
+  either : (part : Part K) (calls : List Call) (answered answered' : ℕ) (log log' : Log) (call : Call) (answer : Answer) (full is_answered : Bool) (before behind : List Happening) → HasRun at part.key (run_of part.number call answer before behind)
+      → IsNoted log log' call answer → slice_get calls answered ≡ Some call → full ≡ is_full answer → is_answered ≡ not full → answered' ≡ (if is_answered then answered + 1 else answered)
+      → WasTold at part (take answered calls) log before → WasTold at part (take answered' calls) log' behind
+  either part calls answered answered' log log' call answer true is_answered before behind ran noted found full answers next was =
+      let same : take answered calls ≡ take answered' calls = ap (λ (n : ℕ). take n calls) (sym (next ∙ ap (λ (b : Bool). if b then answered + 1 else answered) answers)) in
+      let spare : (is_own call || is_full answer) ≡ true = ap (λ (b : Bool). is_own call || b) (sym full) ∙ or_true (is_own call) in
+      subst (λ (cs : List Call). WasTold at part cs log' behind) same (told_more part (take answered calls) log log' call answer before behind ran noted spare was)
+  either part calls answered answered' log log' call answer false is_answered before behind ran noted found full answers next was =
+      subst (λ (cs : List Call). WasTold at part cs log' behind) (sym (answered_on calls answered answered' call is_answered found answers next))
+      (told_answer part (take answered calls) log log' call answer before behind ran noted (sym full) was)
+
+  -- the next call of its lines, or a try of it, by the session behind it
+  pub told_next : (seat seat' : Seat K) (point : Serial) (calls : List Call) (answered answered' : ℕ) (log log' : Log) (call : Call) (answer : Answer) (full is_answered : Bool) → HasMade at seat seat' call answer log log' → slice_get calls answered ≡ Some call → full ≡ is_full answer
+      → is_answered ≡ not full → answered' ≡ (if is_answered then answered + 1 else answered) → WasTold at (record { key = seat.key; number = seat.number; point = point; calls = calls }) (take answered calls) log seat.seen
+      → WasTold at (record { key = seat'.key; number = seat'.number; point = point; calls = calls }) (take answered' calls) log' seat'.seen
+  told_next seat seat' point calls answered answered' log log' call answer full is_answered made found is_it answers next was =
+      subst (λ (part : Part K). WasTold at part (take answered' calls) log' seat'.seen) (same_part seat.key seat'.key seat.number seat'.number point calls made.key made.number)
+      (either (record { key = seat.key; number = seat.number; point = point; calls = calls }) calls answered answered' log log' call answer full is_answered seat.seen seat'.seen made.ran made.noted found is_it answers next was)
+
+  -- a session that has ended: its answered calls are the first of its lines
+  pub told_all : (part : Part K) (answered : ℕ) (whole : Bool) (log : Log) (seen : List Happening) → (whole ≡ true → length part.calls ≤ answered) → WasTold at part (take answered part.calls) log seen → IsTold at part whole log
+  told_all part answered whole log seen all was = record {
+    seen = seen;
+    answered = take answered part.calls;
+    left = drop answered part.calls;
+    calls = sym (take-append-drop answered part.calls);
+    all = λ is. drop_all answered part.calls (all is);
+    told = was;
+  }
+
+  -- so it is if less is said of it
+  pub told_less : (part : Part K) (whole whole' : Bool) (log : Log) → (whole' ≡ true → whole ≡ true) → IsTold at part whole log → IsTold at part whole' log
+  told_less part whole whole' log less its = record { seen = its.seen; answered = its.answered; left = its.left; calls = its.calls; all = λ is. its.all (less is); told = its.told }
+
+  seen_on : (less more most : List Happening) → IsSeenBy (plane at) less more → IsSeenBy (plane at) more most → IsSeenBy (plane at) less most
+  seen_on less more most first second = (second.0 ++ first.0, second.1 ∙ (ap (λ (es : List Happening). second.0 ++ es) first.1 ∙ sym (append_assoc second.0 first.0 less)))
+
+  kept_seen : (start : Happening) (seen seen' : List Happening) → HasKept start seen seen' → IsSeenBy (plane at) seen seen'
+  kept_seen start seen seen' kept = (kept.steps ++ start ∷ kept.others, kept.so ∙ sym (append_assoc kept.steps (start ∷ kept.others) seen))
+
+  turns_on : (key : K) (turns : List TurnRun) (seen seen' : List Happening) → IsSeenBy (plane at) seen seen' → AreTurns at key turns seen → AreTurns at key turns seen'
+  turns_on key [] seen seen' later are = tt
+  turns_on key (its ∷ before) seen seen' later are = (are.0, seen_on its.behind seen seen' are.1 later, are.2)
+
+  -- the start of a commit tells none as finished
+  pub finished_on : (key : K) (start : Happening) (finished : Option Finished) (seen seen' : List Happening) → HasKept start seen seen' → WasFinished at key finished seen → WasFinished at key finished seen'
+  finished_on key start finished seen seen' kept was = record { turns = was.turns; turned = turns_on key was.turns seen seen' (kept_seen start seen seen' kept) was.turned; last = was.last }
+
+  -- a turn is one more
+  pub finished_more : (key : K) (start : Happening) (finished finished' : Option Finished) (answer : Result Turn Fault) (seen behind : List Happening) → HasTurned at key behind answer → HasKept start seen behind → finished' ≡ finish_by finished answer
+      → WasFinished at key finished seen → WasFinished at key finished' behind
+  finished_more key start finished finished' answer seen behind turned kept next was = record {
+    turns = record { behind = behind; answer = answer } ∷ was.turns;
+    turned = (turned, ([], refl), turns_on key was.turns seen behind (kept_seen start seen behind kept) was.turned);
+    last = next ∙ ap (λ (f : Option Finished). finish_by f answer) was.last;
+  }
+
+  -- one log more, that of the session at the next number
+  pub logs_more : (key : K) (points : List Serial) (lines : List Line) (whole whole' its_whole : Bool) (logs all : List Log) (log : Log) (part : Part K) → all ≡ logs ++ log ∷ [] → whole' ≡ (whole && its_whole) → AreLogs at key points lines whole logs → part ≡ part_at key points lines (length logs)
+      → IsTold at part its_whole log → AreLogs at key points lines whole' all
+  logs_more key points lines whole whole' its_whole logs all log part pushed both each part_is its =
+      let first : (whole' ≡ true → whole ≡ true) = λ e. (and_parts whole its_whole (sym both ∙ e)).0 in
+      let this : (whole' ≡ true → its_whole ≡ true) = λ e. (and_parts whole its_whole (sym both ∙ e)).1 in
+      one_at (λ number l. IsTold at (part_at key points lines number) whole' l) logs all log pushed (λ i x found. told_less (part_at key points lines i) whole whole' x first (each i x found))
+      (told_less (part_at key points lines (length logs)) its_whole whole' log this (subst (λ (p : Part K). IsTold at p its_whole log) part_is its))
+
+  -- what threads leave at the table of a store that was opened
+  pub is_played : {X E D : Type 0} (whole : X → Bool) (logs : X → List Log) (device : X → D) (finished : X → Option Finished) (r : Result X E) (key : K) (opened : Opened) (lines : List Line) (honest : D → Type 0) (shows : D → List ℕ) (may_leave : D → List ℕ → Type 0) (first : D) (points : List Serial) (sessions : ℕ)
+      → IsOverStore at key opened (shows first) → sessions ≡ opened.shape.sessions → points ≡ opened.points.items → IfOk r (λ x. WerePlayed at key points lines sessions honest shows may_leave (whole x) (logs x) (device x) (finished x))
+      → IfOk r (λ x. IsPlayed at opened lines honest shows may_leave first (whole x) (logs x) (device x) (finished x))
+  is_played whole logs device finished (Ok x) key opened lines honest shows may_leave first points sessions over count same played = record {
+    key = key;
+    over = over;
+    played = subst (λ (n : ℕ). WerePlayed at key opened.points.items lines n honest shows may_leave (whole x) (logs x) (device x) (finished x)) count
+        (subst (λ (ps : List Serial). WerePlayed at key ps lines sessions honest shows may_leave (whole x) (logs x) (device x) (finished x)) same played);
+  }
+  is_played whole logs device finished (Err e) key opened lines honest shows may_leave first points sessions over count same played = tt
+
+-- as many as there were taken, and one more of each
+pub counted : {X Y : Type 0} (xs all : List X) (more : X) (ys : List Y) (next : Y) → all ≡ xs ++ more ∷ [] → length xs ≡ length ys → length all ≡ length (ys ++ next ∷ [])
+counted xs all more ys next pushed same = omega (arith, same, ap length pushed, length-append xs (more ∷ []), length-append ys (next ∷ []))

@@ -1,0 +1,15 @@
+-- The start of a commit finishes none, and calls no device.
+use Rattle.std.proofs.Common.{rules}
+use Rattle.fkv_table.specs.Planes.{opening_of}
+use Rattle.fkv_table.specs.declared.happenings.Happening.TheVariants.{Commits}
+use Rattle.fkv_threading.proofs.Told.{finished_on}
+use Rattle.fkv_threading.proofs.keeping.Keeping.ask_commit.Goals as goal
+
+pub invariant_of-next : goal.invariant_of-next
+invariant_of-next g c =
+    let did = c.ask_commit-pass.ensures in (
+      did.ready,
+      c.self.invariant.1,
+      search rules,
+      finished_on (opening_of g.D.Device.seen) _ (Commits c.args.kind) _ _ _ did.kept c.self.invariant.3,
+    )

@@ -1,0 +1,192 @@
+-- What threads were told at a table: each session by its calls, and the keeper by its turns.
+use Rattle.std.specs.Prelude.{◌≡◌, ◌⊎◌, ⊤, ℕ, Bool, true, false, ◌||◌, List, [], ◌∷◌, ◌++◌, length, Option, Some, None, Result, Ok, Err, slice_index_or}
+use Rattle.fkv_base.specs.declared.faults.Fault.{Fault}
+use Rattle.fkv_base.specs.declared.faults.Fault.TheVariants.{PendingFull}
+use Rattle.fkv_base.specs.declared.numbers.Serial.{Serial}
+use Rattle.fkv_keeper.specs.declared.answers.Finished.{Finished}
+use Rattle.fkv_keeper.specs.declared.answers.Turn.{Turn}
+use Rattle.fkv_lines.specs.declared.scripts.Line.{Line}
+use Rattle.fkv_map.specs.declared.operations.Call.{Call}
+use Rattle.fkv_map.specs.declared.operations.Call.TheVariants.{Refresh, Poll, Sleep}
+use Rattle.fkv_map.specs.declared.operations.Op.{Op}
+use Rattle.fkv_opening.specs.declared.opened_store.Opened.{Opened}
+use Rattle.fkv_seats.specs.Rule.{IsSeenBy}
+use Rattle.fkv_session.specs.declared.answers.Answer.{Answer}
+use Rattle.fkv_session.specs.declared.answers.Answer.TheVariants.{Refused}
+use Rattle.fkv_table.specs.declared.happenings.Happening.{Happening}
+use Rattle.fkv_table.specs.Keeps.{IsAfterSeen}
+use Rattle.fkv_table.specs.Planes.{plane}
+use Rattle.fkv_table.specs.Starts.{EachAt}
+use Rattle.fkv_thread_scripts.specs.Calls.{calls_of}
+use Rattle.fkv_thread_scripts.specs.Logs.{accepted_by, durable_by, told_by}
+use Rattle.fkv_thread_scripts.specs.declared.logs.Log.{Log}
+use Rattle.fkv_threads.specs.Begun.{IsOverStore}
+use Rattle.fkv_threads.specs.Runs.{run_of}
+use Rattle.fkv_world.specs.Runs.{World}
+use Rattle.law_threads.specs.Calls.{CallRun, HasRun}
+use Rattle.law_threads.specs.Turns.{HasTurned}
+
+-- ---- what a session's answers say
+-- the updates that the answers of these calls accept, in order; the newest call stands first
+abbrev pub accepted_in : List CallRun → List Op
+accepted_in [] = []
+accepted_in (its ∷ before) = accepted_in before ++ accepted_by its.call its.answer
+
+-- the serials whose results they tell, in order
+abbrev pub told_in : List CallRun → List Serial
+told_in [] = []
+told_in (its ∷ before) = told_in before ++ told_by its.answer
+
+-- the last serial that they tell as durable; that from which the session goes on, if they tell none
+abbrev pub durable_in : Serial → List CallRun → Serial
+durable_in point [] = point
+durable_in point (its ∷ before) = durable_by (durable_in point before) its.answer
+
+-- a log has what the answers of these calls say, and nothing else
+pub record IsLogOf (point : Serial) (log : Log) (runs : List CallRun) : Type 0 where
+  pub first : log.first ≡ point.0
+  pub accepted : log.accepted.items ≡ accepted_in runs
+  pub told : log.told.items ≡ told_in runs
+  pub durable : log.durable ≡ durable_in point runs
+
+-- what a log has of one call more
+pub record IsNoted (log log' : Log) (call : Call) (answer : Answer) : Type 0 where
+  pub first : log'.first ≡ log.first
+  pub accepted : log'.accepted.items ≡ log.accepted.items ++ accepted_by call answer
+  pub told : log'.told.items ≡ log.told.items ++ told_by answer
+  pub durable : log'.durable ≡ durable_by log.durable answer
+
+-- ---- which calls a session makes
+-- one that is none of its lines
+abbrev pub is_own : Call → Bool
+is_own Refresh = true
+is_own Poll = true
+is_own Sleep = true
+is_own call = false
+
+-- the answer where too many requests are pending
+abbrev pub is_full : Answer → Bool
+is_full (Refused PendingFull) = true
+is_full answer = false
+
+-- These are the calls of its lines so far, in order, each answered once. Between them stand its own, and tries for which too many requests were pending.
+abbrev pub ArePlayed : List Call → List CallRun → Type 0
+ArePlayed calls [] = calls ≡ []
+ArePlayed calls (its ∷ before) =
+    (((is_own its.call || is_full its.answer) ≡ true) × ArePlayed calls before)
+    ⊎ ((earlier : List Call) × (calls ≡ earlier ++ its.call ∷ []) × (is_full its.answer ≡ false) × ArePlayed earlier before)
+
+-- a session at a table of this key, and what its pass has seen
+pub record Seat (K : Type 0) : Type 0 where
+  pub key : K
+  pub number : ℕ
+  pub seen : List Happening
+
+-- what a session has to do at a table: from which serial it goes on, and the calls of its lines
+pub record Part (K : Type 0) : Type 0 where
+  pub key : K
+  pub number : ℕ
+  pub point : Serial
+  pub calls : List Call
+
+-- the serial from which the session of a number goes on
+abbrev pub point_at : List Serial → ℕ → Serial
+point_at points number = slice_index_or points number (record { 0 = 0 })
+
+-- the part of the session of a number, which goes on from a serial, in a script
+abbrev pub part_of : {K : Type 0} → K → ℕ → Serial → List Line → Part K
+part_of key number point lines = record { key = key; number = number; point = point; calls = calls_of number lines }
+
+-- that which goes on from the store's point for it
+abbrev pub part_at : {K : Type 0} → K → List Serial → List Line → ℕ → Part K
+part_at key points lines number = part_of key number (point_at points number) lines
+
+-- each session of a table, by its number
+abbrev pub AreSeated : {K : Type 0} → K → List Serial → List Line → List (Part K) → Type 0
+AreSeated key points lines parts = EachAt parts (λ number part. part ≡ part_at key points lines number)
+
+-- ---- the keeper
+-- a turn's answer, and what the keeper's pass had seen behind it
+pub record TurnRun : Type 0 where
+  pub behind : List Happening
+  pub answer : Result Turn Fault
+
+-- the commit that a turn tells as finished, or the one before
+abbrev pub newer : Option Finished → Option Finished → Option Finished
+newer (Some its) before = Some its
+newer None before = before
+
+abbrev pub finish_by : Option Finished → Result Turn Fault → Option Finished
+finish_by before (Ok turn) = newer turn.finished before
+finish_by before (Err fault) = before
+
+-- the last commit that these turns tell as finished; the newest turn stands first
+abbrev pub last_finish : List TurnRun → Option Finished
+last_finish [] = None
+last_finish (its ∷ before) = finish_by (last_finish before) its.answer
+
+module _ {K : Type 0} (at : K → World) where
+  -- The calls that a session has made at a table, the newest first, where its pass has seen these events. Each call's list goes on from that of the one before,
+  -- and the first began with nothing seen.
+  abbrev pub AreCalls : K → ℕ → List CallRun → List Happening → Type 0
+  AreCalls key number [] seen = seen ≡ []
+  AreCalls key number (its ∷ before) seen = HasRun at key its × (its.number ≡ number) × (its.behind ≡ seen) × AreCalls key number before its.before
+
+  -- A session has made one call more, and its answer is noted.
+  pub record HasMade (seat seat' : Seat K) (call : Call) (answer : Answer) (log log' : Log) : Type 0 where
+    pub key : seat'.key ≡ seat.key
+    pub number : seat'.number ≡ seat.number
+    pub ran : HasRun at seat.key (run_of seat.number call answer seat.seen seat'.seen)
+    pub noted : IsNoted log log' call answer
+
+  -- A log has just what the session was told at the table, by all of its calls there. These calls of its lines are answered.
+  pub record WasTold (part : Part K) (answered : List Call) (log : Log) (seen : List Happening) : Type 0 where
+    pub runs : List CallRun
+    pub called : AreCalls part.key part.number runs seen
+    pub played : ArePlayed answered runs
+    pub noted : IsLogOf part.point log runs
+
+  -- So it is of a session that has ended. Its answered calls are the first of its lines, and all of them if it is said to be whole.
+  pub record IsTold (part : Part K) (whole : Bool) (log : Log) : Type 0 where
+    pub seen : List Happening
+    pub answered : List Call
+    pub left : List Call
+    pub calls : part.calls ≡ answered ++ left
+    pub all : whole ≡ true → left ≡ []
+    pub told : WasTold part answered log seen
+
+  -- The turns that the keeper has made at the table, the newest first, where its pass has seen these events.
+  abbrev pub AreTurns : K → List TurnRun → List Happening → Type 0
+  AreTurns key [] seen = ⊤
+  AreTurns key (its ∷ before) seen = HasTurned at key its.behind its.answer × IsSeenBy (plane at) its.behind seen × AreTurns key before its.behind
+
+  -- This is the last commit that a turn has told as finished.
+  pub record WasFinished (key : K) (finished : Option Finished) (seen : List Happening) : Type 0 where
+    pub turns : List TurnRun
+    pub turned : AreTurns key turns seen
+    pub last : finished ≡ last_finish turns
+
+  -- The keeper's device is honest and stands behind the calls that the list of events gives, and this is the last commit that a turn has told as finished.
+  pub record IsKept {D : Type 0} (key : K) (honest : D → Type 0) (shows : D → List ℕ) (may_leave : D → List ℕ → Type 0) (device : D) (finished : Option Finished) : Type 0 where
+    pub seen : List Happening
+    pub is_honest : honest device
+    pub behind : IsAfterSeen at key seen (shows device) (may_leave device)
+    pub told : WasFinished key finished seen
+
+  -- ---- a run
+  -- each log is what its session was told
+  abbrev pub AreLogs : K → List Serial → List Line → Bool → List Log → Type 0
+  AreLogs key points lines whole logs = EachAt logs (λ number log. IsTold (part_at key points lines number) whole log)
+
+  -- What threads leave that have played lines at a table: a log of each session, which is what it was told from its point on, and the keeper's device and
+  -- last commit.
+  pub record WerePlayed {D : Type 0} (key : K) (points : List Serial) (lines : List Line) (sessions : ℕ) (honest : D → Type 0) (shows : D → List ℕ) (may_leave : D → List ℕ → Type 0) (whole : Bool) (logs : List Log) (device : D) (finished : Option Finished) : Type 0 where
+    pub count : length logs ≡ sessions
+    pub each : AreLogs key points lines whole logs
+    pub kept : IsKept key honest shows may_leave device finished
+
+  -- So it is at the table of this store, which the device held as it was opened.
+  pub record IsPlayed {D : Type 0} (opened : Opened) (lines : List Line) (honest : D → Type 0) (shows : D → List ℕ) (may_leave : D → List ℕ → Type 0) (first : D) (whole : Bool) (logs : List Log) (device : D) (finished : Option Finished) : Type 0 where
+    pub key : K
+    pub over : IsOverStore at key opened (shows first)
+    pub played : WerePlayed key opened.points.items lines opened.shape.sessions honest shows may_leave whole logs device finished

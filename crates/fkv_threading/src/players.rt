@@ -1,0 +1,168 @@
+//! A session that plays the calls of its lines.
+ghost use Rattle.std.specs.Prelude.{◌≡◌, ◌<◌, ◌≤◌, ◌+◌, true, if◌then◌else◌, length, slice_get, IfOk};
+ghost use Rattle.fkv_table.specs.Planes.{opening_of};
+ghost use Rattle.fkv_threading.specs.Told.{HasMade, IsTold, is_full, is_own};
+
+use crate::sitting::Sitting;
+use fkv_base::{Fault, Serial};
+use fkv_disk::Device;
+use fkv_map::Call;
+use fkv_session::Answer;
+use fkv_thread_scripts::Log;
+use std::marker::Model;
+
+/// A session at a table, with the calls of its lines, how many of them are answered, and what it was told so far. A contract sees it as what stays the
+/// same: the table's key, the session's number, the point from which it goes on, and the calls of its lines.
+#[derive(Drop)]
+pub(crate) struct Player<'t, D: Device> {
+    pub(crate) seat: Sitting<'t, D>,
+    pub(crate) point: Serial,
+    pub(crate) calls: Vec<Call>,
+    pub(crate) answered: usize,
+    pub(crate) log: Log,
+}
+
+/// What a session leaves.
+#[derive(Drop)]
+pub(crate) struct SessionEnd {
+    pub(crate) log: Log,
+    /// Each call of its lines is answered.
+    pub(crate) is_whole: bool,
+}
+
+impl<'t, D: Device> Model for Player<'t, D> {
+    ghost use Rattle.std.specs.Prelude.{take};
+    ghost use Rattle.std.specs.declared.snapshot.Snapshot.{Snapshot};
+    ghost use Rattle.fkv_core.specs.Worlds.{WorldModel};
+    ghost use Rattle.fkv_table.specs.Planes.{opening_of};
+    ghost use Rattle.fkv_threading.specs.Told.{Part, WasTold};
+
+    ghost Value = { Part (Snapshot (WorldModel D)) };
+
+    ghost view = { λ s. record { key = s.seat.key; number = s.seat.number; point = s.point; calls = s.calls.items } };
+
+    ghost invariant = { λ s. WasTold (opening_of D.seen) (record { key = s.seat.key; number = s.seat.number; point = s.point; calls = s.calls.items }) (take s.answered s.calls.items) s.log s.seat.seen };
+}
+
+impl<'t, D: Device> Player<'t, D> {
+    /// How many calls its lines have that aren't answered yet.
+    pub(crate) fn count_left(&self) -> usize {
+        self.calls.len().saturating_sub(self.answered)
+    }
+
+    /// Makes the next call of its lines, and notes its answer. Whether it is answered, or none is left: else too many requests are pending, and it is to
+    /// be made again. `Memory` where memory was refused.
+    pub(crate) fn call_next(self) -> Result<(Player<'t, D>, bool), Fault>
+        ensures { IfOk result (λ its. its.0 ≡ self.entry) }
+    {
+        let Player {
+            seat,
+            point,
+            calls,
+            answered,
+            mut log,
+        } = self;
+        let Some(call) = call_at(&calls, answered) else {
+            let same = Player {
+                seat,
+                point,
+                calls,
+                answered,
+                log,
+            };
+            return Ok((same, true));
+        };
+        let (seat, answer) = make(seat, &mut log, call)?;
+        let is_answered = !is_full(&answer);
+        let answered = count_behind(answered, is_answered);
+        let next = Player {
+            seat,
+            point,
+            calls,
+            answered,
+            log,
+        };
+        Ok((next, is_answered))
+    }
+
+    /// Makes a call that is none of its lines, and notes its answer: a refresh, a poll, or that it sleeps. `Memory` where memory was refused.
+    pub(crate) fn call_own(self, call: Call) -> Result<(Player<'t, D>, Answer), Fault>
+        requires { is_own call ≡ true }
+        ensures { IfOk result (λ its. its.0 ≡ self.entry) }
+    {
+        let Player {
+            seat,
+            point,
+            calls,
+            answered,
+            mut log,
+        } = self;
+        let (seat, answer) = make(seat, &mut log, call)?;
+        let next = Player {
+            seat,
+            point,
+            calls,
+            answered,
+            log,
+        };
+        Ok((next, answer))
+    }
+
+    /// What it was told.
+    pub(crate) fn end(self) -> SessionEnd
+        ensures { IsTold (opening_of D.seen) self.entry result.is_whole result.log }
+    {
+        let Player {
+            calls,
+            answered,
+            log,
+            ..
+        } = self;
+        SessionEnd {
+            log,
+            is_whole: are_all(&calls, answered),
+        }
+    }
+}
+
+fn call_at(calls: &[Call], place: usize) -> Option<Call>
+    ensures { result ≡ slice_get calls.now place }
+{
+    calls.get(place).copied()
+}
+
+/// How many calls are answered behind a try of the next one.
+fn count_behind(answered: usize, is_answered: bool) -> usize
+    requires { answered < 9223372036854775808 }
+    ensures { result ≡ (if is_answered then answered + 1 else answered) }
+{
+    if is_answered { answered + 1 } else { answered }
+}
+
+fn are_all(calls: &[Call], answered: usize) -> bool
+    ensures { result ≡ true → length calls.now ≤ answered }
+{
+    answered >= calls.len()
+}
+
+/// Makes a call, and notes its answer.
+fn make<'t, D: Device>(
+    seat: Sitting<'t, D>,
+    log: &mut Log,
+    call: Call,
+) -> Result<(Sitting<'t, D>, Answer), Fault>
+    ensures { IfOk result (λ its. HasMade (opening_of D.seen) seat.entry its.0 call its.1 log.old log.new) }
+{
+    let (seat, answer) = seat.call(call);
+    log.note(call, &answer)?;
+    Ok((seat, answer))
+}
+
+fn is_full(answer: &Answer) -> bool
+    ensures { result ≡ is_full answer.now }
+{
+    match answer {
+        Answer::Refused(Fault::PendingFull) => true,
+        _ => false,
+    }
+}
