@@ -4,7 +4,7 @@ use Rattle.std.specs.Prelude.{Result}
 use Rattle.atomic_table.specs.Seated.{TableId}
 use Rattle.atomic_table.specs.Table.{Me}
 use Rattle.fkv_keeper.specs.Keeping.{KeeperModel}
-use Rattle.fkv_world.specs.Runs.{World}
+use Rattle.law_threads.specs.Below.fkv_world.Runs.{World}
 use Rattle.fkv_table.specs.Desks.{Slot, Knows}
 use Rattle.fkv_table.specs.Keeps.{IsKeeperAtWork, IsKeeperReady}
 use Rattle.fkv_table.specs.Turns.{IsTurnAsked}

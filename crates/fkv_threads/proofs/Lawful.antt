@@ -2,8 +2,8 @@
 use Rattle.std.proofs.Common.{◌≡◌, ℕ, List, subst}
 use Rattle.fkv_opening.specs.declared.opened_store.Opened.{Opened}
 use Rattle.fkv_session.specs.declared.answers.Answer.{Answer}
-use Rattle.fkv_world.specs.Runs.{World}
-use Rattle.fkv_world.specs.World.{Event, Now}
+use Rattle.law_threads.specs.Below.fkv_world.Runs.{World}
+use Rattle.law_threads.specs.Below.fkv_world.World.{Event, Now}
 use Rattle.fkv_seats.specs.Rule.{led}
 use Rattle.fkv_table.specs.Calls.{IsAnsweredLast}
 use Rattle.fkv_table.specs.declared.happenings.Happening.{Happening}

@@ -5,9 +5,9 @@ use Rattle.fkv_core.specs.Openings.{IsOpeningWorld, beginning}
 use Rattle.fkv_core.specs.Worlds.{WorldModel}
 use Rattle.fkv_disk.specs.Device.{IsAfter}
 use Rattle.fkv_opening.specs.declared.opened_store.Opened.{Opened}
-use Rattle.fkv_world.specs.Opened.{IsOpenedWorld}
-use Rattle.fkv_world.specs.Runs.{World}
-use Rattle.law_opening.specs.Lives.Laws.{GuardOpens}
+use Rattle.law_threads.specs.Below.fkv_world.Opened.{IsOpenedWorld}
+use Rattle.law_threads.specs.Below.fkv_world.Runs.{World}
+use Rattle.law_threads.specs.Below.law_opening.Lives.Laws.{GuardOpens}
 use Rattle.fkv_seats.specs.Rule.{led}
 use Rattle.fkv_table.specs.declared.happenings.Happening.{Happening}
 use Rattle.fkv_table.specs.Keeps.{IsAfterSeen}

@@ -3,7 +3,7 @@ use Rattle.std.proofs.Common.{◌≡◌, ℕ, zero, suc, refl, sym, ap, subst, �
 use Rattle.std.specs.Prelude.{Option, Some, option_to_list, slice_get}
 use Rattle.fkv_disk.specs.Calls.{Call}
 use Rattle.fkv_disk.specs.Device.{IsAfter}
-use Rattle.fkv_world.specs.Runs.{World}
+use Rattle.law_threads.specs.Below.fkv_world.Runs.{World}
 use Rattle.fkv_table.specs.declared.happenings.Happening.{Happening}
 use Rattle.fkv_table.specs.Keeps.{IsAfterSeen, LeavesDevice}
 

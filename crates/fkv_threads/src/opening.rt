@@ -6,7 +6,7 @@ use fkv_base::Fault;
 use fkv_disk::Device;
 use fkv_opening::Opened;
 use fkv_table::{OpenTable, Table};
-use law_opening::{law_device_opens, law_guard_opens};
+use law_threads::{law_device_opens, law_guard_opens};
 use std::alloc::Global;
 
 /// The table of a store that the device holds, and was opened from it. Each session is ready for its first call with its pass, and so is the keeper.
