@@ -1,0 +1,10 @@
+//! A picture.
+#![tactic(auto)]
+
+mod bars;
+mod columns;
+mod gauges;
+mod shares;
+mod stacks;
+mod strip_layouts;
+mod strips;
