@@ -117,7 +117,13 @@ fn json_of_store(alloc: Global, store: &StoreLook) -> Result<Value, AllocError> 
         push(&mut pages, json_of_page(alloc, page)?)?;
     }
     let pages = Value::Array(pages);
-    json!(in alloc; {"uses": uses, "lost_in_hand": lost, "pages": pages})
+    let buckets = json_of_numbers(alloc, &store.index.buckets)?;
+    json!(in alloc; {
+        "uses": uses,
+        "buckets_by_entries": buckets,
+        "lost_in_hand": lost,
+        "pages": pages
+    })
 }
 
 fn json_of_uses(alloc: Global, uses: &Uses) -> Result<Value, AllocError> {
@@ -131,6 +137,14 @@ fn json_of_uses(alloc: Global, uses: &Uses) -> Result<Value, AllocError> {
         "commits": commits,
         "sessions": sessions
     })
+}
+
+fn json_of_numbers(alloc: Global, numbers: &[u64]) -> Result<Value, AllocError> {
+    let mut list = Vec::new(alloc);
+    for number in numbers {
+        push(&mut list, Value::from(*number))?;
+    }
+    Ok(Value::Array(list))
 }
 
 fn json_of_capacity(alloc: Global, capacity: Capacity) -> Result<Value, AllocError> {

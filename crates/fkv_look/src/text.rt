@@ -118,7 +118,11 @@ fn write_damage<W: Write>(output: &mut W, damage: &DamageLook) -> io::Result<()>
 
 fn write_store<W: Write>(output: &mut W, store: &StoreLook) -> io::Result<()> {
     write_uses(output, &store.uses)?;
-    write!(output, "lost in hand")?;
+    write!(output, "buckets by entries")?;
+    for buckets in &store.index.buckets {
+        write!(output, " {buckets}")?;
+    }
+    write!(output, "\nlost in hand")?;
     for range in store.opened.lost.as_slice() {
         write!(output, " {}:{}", range.to.0, range.version.0)?;
     }

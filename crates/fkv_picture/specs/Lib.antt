@@ -3,6 +3,8 @@ pub mod Columns
 pub mod Each
 pub mod Gauges
 pub mod Shares
+pub mod SquareLayouts
+pub mod Squares
 pub mod Stacks
 pub mod StripLayouts
 pub mod Strips

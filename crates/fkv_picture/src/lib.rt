@@ -5,6 +5,8 @@ mod bars;
 mod columns;
 mod gauges;
 mod shares;
+mod square_layouts;
+mod squares;
 mod stacks;
 mod strip_layouts;
 mod strips;
