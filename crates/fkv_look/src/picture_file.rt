@@ -13,7 +13,11 @@ pub(crate) fn write_picture(
     path: &str,
     store: &StoreLook,
 ) -> Result<(), Trouble> {
-    let file = match OpenOptions::new().write(true).create_new(true).open(rt, path) {
+    let file = match OpenOptions::new()
+        .write(true)
+        .create_new(true)
+        .open(rt, path)
+    {
         Ok(file) => file,
         Err(error) => return Err(Trouble::Refused(error)),
     };

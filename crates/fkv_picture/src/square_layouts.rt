@@ -17,7 +17,18 @@ pub(crate) struct Layout {
     ghost few_buckets: { buckets_a_square ≤ 2 ^ 24 },
     ghost some_columns: { 1 ≤ columns },
     ghost small: { size ≤ 160 },
-    ghost visible: { 1 ≤ size },
+}
+
+/// 2 to so many.
+#[tactic(auto, using(crate::proofs::Powers::power_some, crate::proofs::Powers::power_few, crate::proofs::Powers::squares_few))]
+fn power(bits: u64) -> u64
+    requires { bits ≤ 24 }
+    ensures exact { result ≡ 2 ^ bits }
+    ensures some { 1 ≤ result }
+    ensures few { result ≤ 2 ^ 24 }
+    ensures few_squares { bits ≤ 10 → result ≤ 1024 }
+{
+    1 << bits
 }
 
 /// How the buckets of this shape are laid out: at most 1024 squares, four times as wide as high where they are many.
@@ -25,14 +36,14 @@ pub(crate) fn layout_of(shape: Shape) -> Layout
     ensures squares { result.squares ≡ 2 ^ square_bits shape.bucket_bits }
     ensures buckets { result.buckets_a_square ≡ 2 ^ (shape.bucket_bits - square_bits shape.bucket_bits) }
     ensures columns { result.columns ≡ 2 ^ columns_bits (square_bits shape.bucket_bits) }
-    ensures size { result.size ≡ size_of (square_bits shape.bucket_bits) }
+    ensures size { result.size ≡ size_of result.columns }
 {
     let bits = shape.bucket_bits.min(10);
-    let across = bits.min((bits + 3) / 2);
+    let columns = power(bits.min((bits + 3) / 2));
     Layout {
-        squares: 1 << bits,
-        buckets_a_square: 1 << (shape.bucket_bits - bits),
-        columns: 1 << across,
-        size: (640u64 >> across).min(160u64 >> (bits - across)),
+        squares: power(bits),
+        buckets_a_square: power(shape.bucket_bits - bits),
+        columns,
+        size: (640 / columns).min(160),
     }
 }

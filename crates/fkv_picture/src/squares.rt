@@ -60,7 +60,10 @@ impl fmt::Display for Square {
                 height: self.size,
             },
         };
-        writeln!(f, "<g><title>buckets from {first} to {end}: entries {entries}</title>{bar}</g>")
+        writeln!(
+            f,
+            "<g><title>buckets from {first} to {end}: entries {entries}</title>{bar}</g>"
+        )
     }
 }
 
@@ -104,7 +107,7 @@ impl Squares<'_> {
             slots: 7 * layout.buckets_a_square,
             x: 40 + number % layout.columns * layout.size,
             y: 446 + number / layout.columns * layout.size,
-            size: layout.size - 1,
+            size: layout.size.saturating_sub(1),
         }
     }
 }

@@ -85,7 +85,10 @@ impl fmt::Display for Title {
     fn fmt<W: fmt::Write>(&self, f: &mut fmt::Formatter<W>) -> fmt::Result {
         let (first, end) = (self.0.first, self.0.end);
         let (counts, more) = (Counts(self.0), MoreCounts(self.0));
-        write!(f, "<title>pages from {first} to {end}{counts}{more}</title>")
+        write!(
+            f,
+            "<title>pages from {first} to {end}{counts}{more}</title>"
+        )
     }
 }
 
