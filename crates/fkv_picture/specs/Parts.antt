@@ -15,10 +15,12 @@ head_text number checkpoint = still_text Opening ++ codes "<text class='head' x=
 unfoldable pub drawn_words : ℕ → ℕ → List ℕ
 drawn_words drawn a_bar = decimal drawn ++ codes " drawn, " ++ decimal a_bar ++ codes " to a bar"
 
+unfoldable pub in_use_words : ℕ → ℕ → List ℕ
+in_use_words pages all = decimal pages ++ codes " of " ++ decimal all ++ codes " pages in use"
+
 -- how much of the log is in use, and how much of it a bar stands for
 unfoldable pub log_caption : ℕ → ℕ → ℕ → ℕ → List ℕ
-log_caption used on_device drawn a_bar =
-    codes "<text class='part' x='40' y='142'>Log: " ++ decimal used ++ codes " of " ++ decimal on_device ++ codes " pages in use, " ++ drawn_words drawn a_bar ++ codes "</text>"
+log_caption used on_device drawn a_bar = codes "<text class='part' x='40' y='142'>Log: " ++ in_use_words used on_device ++ codes ", " ++ drawn_words drawn a_bar ++ codes "</text>"
 
 -- the log: its heading, its legend, where the scan begins, the bars, and where the log ends
 unfoldable pub log_text : ℕ → ℕ → ℕ → ℕ → List PageLook → ℕ → ℕ → ℕ → ℕ → List ℕ

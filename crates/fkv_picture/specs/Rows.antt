@@ -20,7 +20,7 @@ unfoldable pub row_text : ℕ → ℕ → ℕ → ℕ → List ℕ
 row_text entries buckets all y = label_text entries (y + 11) ++ bar_text (codes "used") 800 y (share buckets all 240) 12 ++ number_text buckets (808 + share buckets all 240) (y + 11) ++ 10 ∷ []
 
 -- how many buckets have so many entries; in the last row so many or more
-abbrev pub count_at : List ℕ → ℕ → ℕ
+unfoldable pub count_at : List ℕ → ℕ → ℕ
 count_at buckets entries = if nat_lt entries 15 then slice_index buckets entries else total (drop 15 buckets)
 
 abbrev pub row_text_at : List ℕ → ℕ → List ℕ

@@ -1,6 +1,6 @@
 //! The parts of a picture, each with its heading.
 ghost use Rattle.std.specs.Prelude.{Some};
-ghost use Rattle.fkv_picture.specs.Parts.{drawn_words, head_text, index_caption, index_text, log_caption, log_text};
+ghost use Rattle.fkv_picture.specs.Parts.{drawn_words, head_text, in_use_words, index_caption, index_text, log_caption, log_text};
 
 use crate::marks::{End, Start, mark_x};
 use crate::rows::Rows;
@@ -47,23 +47,38 @@ impl fmt::Display for Drawn {
     }
 }
 
+/// How much of the log is in use.
+#[derive(Clone, Copy)]
+struct InUse {
+    used: u64,
+    on_device: u64,
+}
+
+impl fmt::Display for InUse {
+    ghost output = { λ it. Some (in_use_words it.used it.on_device) };
+
+    fn fmt<W: fmt::Write>(&self, f: &mut fmt::Formatter<W>) -> fmt::Result {
+        let (used, on_device) = (self.used, self.on_device);
+        write!(f, "{used} of {on_device} pages in use")
+    }
+}
+
 /// How much of the log is in use, and how much of it a bar stands for.
 #[derive(Clone, Copy)]
 struct LogCaption {
-    used: u64,
-    on_device: u64,
+    in_use: InUse,
     drawn: Drawn,
 }
 
 impl fmt::Display for LogCaption {
-    ghost output = { λ it. Some (log_caption it.used it.on_device it.drawn.drawn it.drawn.pages_a_bar) };
+    ghost output = { λ it. Some (log_caption it.in_use.used it.in_use.on_device it.drawn.drawn it.drawn.pages_a_bar) };
 
     #[tactic(auto, unfolding(crate::specs::Parts::log_caption))]
     fn fmt<W: fmt::Write>(&self, f: &mut fmt::Formatter<W>) -> fmt::Result {
-        let (used, on_device, drawn) = (self.used, self.on_device, self.drawn);
+        let (in_use, drawn) = (self.in_use, self.drawn);
         write!(
             f,
-            "<text class='part' x='40' y='142'>Log: {used} of {on_device} pages in use, {drawn}</text>"
+            "<text class='part' x='40' y='142'>Log: {in_use}, {drawn}</text>"
         )
     }
 }
@@ -85,8 +100,10 @@ impl fmt::Display for LogPart<'_> {
     fn fmt<W: fmt::Write>(&self, f: &mut fmt::Formatter<W>) -> fmt::Result {
         let (bars, strip, pages) = (self.bars, self.bars.strip, self.bars.pages);
         let caption = LogCaption {
-            used: pages.pages.len() as u64,
-            on_device: self.on_device,
+            in_use: InUse {
+                used: pages.pages.len() as u64,
+                on_device: self.on_device,
+            },
             drawn: Drawn {
                 drawn: strip.drawn,
                 pages_a_bar: strip.pages_a_bar,

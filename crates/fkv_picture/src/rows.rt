@@ -1,5 +1,6 @@
 //! How many buckets have each number of entries, as bars one below the other.
 ghost use Rattle.std.specs.Prelude.{◌≡◌, ◌≤◌, ◌<◌, ◌+◌, ◌*◌, length, min, Some};
+ghost use Rattle.fkv_picture.specs.Shares.{total};
 ghost use Rattle.fkv_picture.specs.Rows.{count_at, label_text, number_text, row_text, rows_text, sign_of};
 
 use crate::bars::{Bar, Size};
@@ -95,6 +96,7 @@ pub(crate) struct Rows<'a>(pub(crate) &'a [u64]);
 
 impl Rows<'_> {
     /// How many buckets have so many entries; in the last row so many or more.
+    #[tactic(auto, unfolding(crate::specs::Rows::count_at))]
     fn count(&self, entries: usize) -> u64
         requires { entries < length self.now.0.now }
         ensures { result ≡ count_at self.now.0.now entries }
@@ -106,19 +108,19 @@ impl Rows<'_> {
         }
     }
 
-    /// The row of so many entries, of an index with so many buckets.
-    fn row(&self, entries: usize, all: u64) -> Row
+    /// The row of so many entries.
+    fn row(&self, entries: usize) -> Row
         requires there { entries < length self.now.0.now }
         requires few { entries < 16 }
         ensures entries { result.entries ≡ entries }
         ensures buckets { result.buckets ≡ count_at self.now.0.now entries }
-        ensures all { result.all ≡ all }
+        ensures all { result.all ≡ total self.now.0.now }
         ensures y { result.y ≡ 446 + 15 * entries }
     {
         Row {
             entries: entries as u64,
             buckets: self.count(entries),
-            all,
+            all: total(self.0),
             y: 446 + 15 * entries as u64,
         }
     }
@@ -129,10 +131,9 @@ impl fmt::Display for Rows<'_> {
 
     #[tactic(auto, unfolding(crate::specs::Rows::rows_text, crate::specs::Each::each_below))]
     fn fmt<W: fmt::Write>(&self, f: &mut fmt::Formatter<W>) -> fmt::Result {
-        let all = total(self.0);
         let many = self.0.len().min(16);
         for entries in 0..many {
-            write!(f, "{}", self.row(entries, all))?;
+            write!(f, "{}", self.row(entries))?;
         }
         Ok(())
     }
