@@ -1,5 +1,5 @@
 -- A page is not long.
-use Rattle.std.proofs.Common.{ℕ, ◌≤◌}
+use Rattle.std.proofs.Common.{◌≤◌}
 use Rattle.fkv_base.proofs.Shown.{ring_between}
 use Rattle.fkv_base.specs.Limits.{min_page, max_page}
 use Rattle.fkv_base.specs.declared.shapes.Shape.{Shape}
