@@ -69,6 +69,20 @@ def page_lines(log):
         yield f"page {page} from {first} to {end}{counts}"
 
 
+def entries_by_bucket(log):
+    """How many entries each bucket has."""
+    counts = [0] * 2 ** log.shape[0]
+    for bucket, _, _ in log.entries():
+        counts[bucket] += 1
+    return counts
+
+
+def buckets_by_entries(log):
+    """How many buckets have each number of entries, up to the most that one has."""
+    counts = entries_by_bucket(log)
+    return [counts.count(number) for number in range(max(counts) + 1)]
+
+
 def store_lines(log):
     """The lines of a whole store, with its pairs."""
     slot, shape = log.slot, log.shape
@@ -76,6 +90,7 @@ def store_lines(log):
     yield f"records {slot.tail - 1} of {shape[1] * shape[6] - 1}"
     yield f"commits {slot.number} of {LAST_VERSION - 1}"
     yield f"sessions {sum(point > 0 for point in slot.points)} of {shape[4]}"
+    yield f"buckets by entries{words(buckets_by_entries(log))}"
     yield f"lost in hand{words(colons(log.lost_in_hand()))}"
     yield from page_lines(log)
     yield f"pairs {len(log.pairs())}"
@@ -154,6 +169,7 @@ def slot_words(slot):
 def found_lines(found):
     for name in ("entries", "records", "commits", "sessions"):
         yield f"{name} {found['uses'][name]['used']} of {found['uses'][name]['most']}"
+    yield f"buckets by entries{words(found['buckets_by_entries'])}"
     yield f"lost in hand{words(colons(found['lost_in_hand']))}"
     for number, page in enumerate(found["pages"]):
         yield f"page {number}" + "".join(f" {name} {page[name]}" for name in ("from", "to", "valid", "invalid", "lost", "newer", "none"))

@@ -8,7 +8,7 @@ use std::io::{self, Cursor, ErrorKind, Write};
 pub(crate) enum Complaint<'a> {
     /// The words behind the program's name are refused.
     Words,
-    /// The file of this path holds no whole store, or can't be looked at.
+    /// The file of this path holds no whole store, or can't be looked at; or no picture can be written there.
     File { path: &'a str, trouble: Trouble },
     /// Memory was refused.
     MemoryRefused,
@@ -31,7 +31,9 @@ impl fmt::Display for Complaint<'_> {
     fn fmt<W: fmt::Write>(&self, f: &mut fmt::Formatter<W>) -> fmt::Result {
         match self {
             Complaint::Words => {
-                f.write_str("the words are to be FILE [--pairs] [--json], each once")
+                f.write_str(
+                    "the words are to be FILE [--pairs] [--json] [--picture NEW], each once",
+                )
             }
             Complaint::File { path, trouble } => {
                 let fault = FileTrouble {

@@ -1,9 +1,10 @@
-//! `fkv_look`: what a store's file holds, in lines or as JSON.
+//! `fkv_look`: what a store's file holds, in lines, as JSON or as a picture.
 #![tactic(auto)]
 
 mod complaints;
 mod json;
 mod options;
+mod picture_file;
 mod showing;
 mod store_file;
 mod text;

@@ -12,6 +12,8 @@ pub(crate) struct Options<'a> {
     pub(crate) pairs: bool,
     /// `--json`: one value of JSON is written, in place of lines.
     pub(crate) json: bool,
+    /// `--picture PATH`: a picture is written into this new file too.
+    pub(crate) picture: Option<&'a str>,
 }
 
 /// Reads the words after the program's name; `None` where they are refused.
@@ -37,6 +39,7 @@ fn parse<'a>(alloc: Global, words: &'a [&'a str]) -> Result<Option<Options<'a>>,
         file,
         pairs: matches.get_one::<bool>("pairs").unwrap_or(false),
         json: matches.get_one::<bool>("json").unwrap_or(false),
+        picture: matches.get_str("picture"),
     }))
 }
 
@@ -48,10 +51,12 @@ fn command_of<'a>(alloc: Global) -> Result<Command<'a>, AllocError> {
     let json = Arg::new(alloc, "json")
         .long("json")
         .action(ArgAction::SetTrue);
+    let picture = Arg::new(alloc, "picture").long("picture");
     Command::new(alloc, "fkv_look")
         .no_binary_name(true)
         .disable_help_flag(true)
         .arg(file)?
         .arg(pairs)?
-        .arg(json)
+        .arg(json)?
+        .arg(picture)
 }

@@ -4,6 +4,7 @@ ghost use Rattle.std.specs.Prelude.{◌<◌};
 use crate::complaints::{Complaint, complain};
 use crate::json::json_of;
 use crate::options::Options;
+use crate::picture_file::write_picture;
 use crate::store_file::open_shared;
 use crate::text::write_look;
 use fkv_base::{Fault, Key, Value};
@@ -16,6 +17,9 @@ use std::io::{self, ErrorKind, Write};
 
 /// A store that could not be opened has this status.
 const NO_STORE: u8 = 3;
+
+/// A picture that could not be written has this one.
+const NO_PICTURE: u8 = 4;
 
 /// At most so many pages of 4 KiB are kept while a file is read: 32 MiB.
 const MOST_PAGES: u64 = 8192;
@@ -50,19 +54,44 @@ pub(crate) fn show<W: Write>(
             return Ok(NO_STORE);
         }
     };
-    if options.json {
-        let text = json_of(rt.alloc(), &shown)?.to_string(rt.alloc())?;
-        writeln!(output, "{text}")?;
-    } else {
-        write_look(output, &shown)?;
-    }
-    output.flush()?;
-    match fault_of(&shown.look.found) {
-        Some(fault) => {
+    write_shown(rt, options, &shown, output)?;
+    match (fault_of(&shown.look.found), options.picture) {
+        (Some(fault), _) => {
             complain_of_file(rt, options.file, Trouble::Fault(fault));
             Ok(NO_STORE)
         }
-        None => Ok(0),
+        (None, Some(path)) => Ok(draw(rt, path, &shown.look.found)),
+        (None, None) => Ok(0),
+    }
+}
+
+/// Writes what is shown, as lines or as JSON.
+fn write_shown<W: Write>(
+    rt: &HostRuntime,
+    options: &Options<'_>,
+    shown: &Shown,
+    output: &mut W,
+) -> io::Result<()> {
+    if options.json {
+        let text = json_of(rt.alloc(), shown)?.to_string(rt.alloc())?;
+        writeln!(output, "{text}")?;
+    } else {
+        write_look(output, shown)?;
+    }
+    output.flush()
+}
+
+/// Writes the picture of a whole store into a new file. The status: 0, or 4 where the file could not be made or written.
+fn draw(rt: &HostRuntime, path: &str, found: &Found) -> u8 {
+    let Found::Store(store) = found else {
+        return 0;
+    };
+    match write_picture(rt, path, store) {
+        Ok(()) => 0,
+        Err(trouble) => {
+            complain_of_file(rt, path, trouble);
+            NO_PICTURE
+        }
     }
 }
 

@@ -4,7 +4,7 @@ use fkv_base::{Key, Shape, Value};
 use fkv_looking::{
     Capacity, CommitKind, CommitLook, DamageLook, Found, PageLook, SlotLook, StoreLook, Uses,
 };
-use fkv_record::Format;
+use fkv_record::{Format, LostRange};
 use std::io::{self, Write};
 
 /// Writes what is shown: a line for each thing.
@@ -31,18 +31,27 @@ pub(crate) fn write_look<W: Write>(output: &mut W, shown: &Shown) -> io::Result<
     Ok(())
 }
 
+/// Writes each number behind its word.
+fn write_numbers<W: Write>(output: &mut W, numbers: &[(&str, u64)]) -> io::Result<()> {
+    for (word, number) in numbers {
+        write!(output, "{word}{number}")?;
+    }
+    Ok(())
+}
+
 fn write_shape<W: Write>(output: &mut W, shape: Shape) -> io::Result<()> {
-    let class = if shape.is_small() { "shape" } else { "large" };
-    write!(
-        output,
-        "{class} {} {} {} {}",
-        shape.bucket_bits, shape.page, shape.frames, shape.mutable
-    )?;
-    writeln!(
-        output,
-        " {} {} {}",
-        shape.sessions, shape.overflow, shape.disk_pages
-    )
+    let class = if shape.is_small() { "shape " } else { "large " };
+    let sizes = [
+        (class, shape.bucket_bits),
+        (" ", shape.page),
+        (" ", shape.frames),
+        (" ", shape.mutable),
+        (" ", shape.sessions),
+        (" ", shape.overflow),
+        (" ", shape.disk_pages),
+    ];
+    write_numbers(output, &sizes)?;
+    writeln!(output)
 }
 
 fn write_slot<W: Write>(output: &mut W, index: u64, slot: &SlotLook) -> io::Result<()> {
@@ -60,27 +69,27 @@ fn write_slot<W: Write>(output: &mut W, index: u64, slot: &SlotLook) -> io::Resu
 
 fn write_commit<W: Write>(output: &mut W, commit: &CommitLook) -> io::Result<()> {
     let slot = &commit.slot;
-    let (kind, format) = (kind_name(commit.kind), format_number(commit.format));
-    write!(
-        output,
-        "commit {} {kind} format {format} end {}",
-        slot.number, slot.end.0
-    )?;
-    write!(
-        output,
-        " checkpoint {} from {}",
-        slot.checkpoint, slot.first.0
-    )?;
-    write!(
-        output,
-        " triples {} area {} points",
-        slot.triples, slot.area
-    )?;
+    write!(output, "commit {} {}", slot.number, kind_name(commit.kind))?;
+    let numbers = [
+        (" format ", format_number(commit.format)),
+        (" end ", slot.end.0),
+        (" checkpoint ", slot.checkpoint),
+        (" from ", slot.first.0),
+        (" triples ", slot.triples),
+        (" area ", slot.area),
+    ];
+    write_numbers(output, &numbers)?;
+    output.write_all(b" points")?;
     for point in slot.points.serials.as_slice() {
         write!(output, " {}", point.0)?;
     }
-    write!(output, " lost")?;
-    for range in slot.lost.ranges.as_slice() {
+    output.write_all(b" lost")?;
+    write_ranges(output, slot.lost.ranges.as_slice())
+}
+
+/// Writes lost ranges, to the end of the line.
+fn write_ranges<W: Write>(output: &mut W, ranges: &[LostRange]) -> io::Result<()> {
+    for range in ranges {
         write!(output, " {}:{}", range.to.0, range.version.0)?;
     }
     writeln!(output)
@@ -118,13 +127,23 @@ fn write_damage<W: Write>(output: &mut W, damage: &DamageLook) -> io::Result<()>
 
 fn write_store<W: Write>(output: &mut W, store: &StoreLook) -> io::Result<()> {
     write_uses(output, &store.uses)?;
-    write!(output, "lost in hand")?;
-    for range in store.opened.lost.as_slice() {
-        write!(output, " {}:{}", range.to.0, range.version.0)?;
+    write_buckets(output, &store.index.buckets)?;
+    output.write_all(b"lost in hand")?;
+    write_ranges(output, store.opened.lost.as_slice())?;
+    write_pages(output, &store.pages)
+}
+
+fn write_buckets<W: Write>(output: &mut W, buckets: &[u64]) -> io::Result<()> {
+    output.write_all(b"buckets by entries")?;
+    for many in buckets {
+        write!(output, " {many}")?;
     }
-    writeln!(output)?;
+    writeln!(output)
+}
+
+fn write_pages<W: Write>(output: &mut W, pages: &[PageLook]) -> io::Result<()> {
     let mut number = 0u64;
-    for page in &store.pages {
+    for page in pages {
         write_page(output, number, page)?;
         number = number.saturating_add(1);
     }
@@ -143,17 +162,18 @@ fn write_use<W: Write>(output: &mut W, name: &str, capacity: Capacity) -> io::Re
 }
 
 fn write_page<W: Write>(output: &mut W, number: u64, page: &PageLook) -> io::Result<()> {
-    write!(
-        output,
-        "page {number} from {} to {}",
-        page.first.0, page.end.0
-    )?;
-    write!(
-        output,
-        " valid {} invalid {} lost {}",
-        page.valid, page.invalid, page.lost
-    )?;
-    writeln!(output, " newer {} none {}", page.newer, page.no_record)
+    let numbers = [
+        ("page ", number),
+        (" from ", page.first.0),
+        (" to ", page.end.0),
+        (" valid ", page.valid),
+        (" invalid ", page.invalid),
+        (" lost ", page.lost),
+        (" newer ", page.newer),
+        (" none ", page.no_record),
+    ];
+    write_numbers(output, &numbers)?;
+    writeln!(output)
 }
 
 fn write_pairs<W: Write>(output: &mut W, pairs: &[(Key, Value)]) -> io::Result<()> {

@@ -1,3 +1,4 @@
 mod Hindered
 mod Listing
 mod Short
+mod Tallies

@@ -1,3 +1,4 @@
+pub mod Buckets
 pub mod Classes
 pub mod Damages
 pub mod Fronts

@@ -12,16 +12,18 @@ use Rattle.fkv_looking.specs.declared.looks.Look.{Look}
 use Rattle.fkv_looking.specs.declared.looks.Found.{Found}
 use Rattle.fkv_looking.specs.declared.looks.Found.TheVariants.{NoStore, Damaged, Store}
 use Rattle.fkv_looking.specs.declared.looks.StoreLook.{StoreLook}
+use Rattle.fkv_looking.specs.Buckets.{IsIndexLook}
 use Rattle.fkv_looking.specs.Damages.{ArePartBytes, area_in_force}
 use Rattle.fkv_looking.specs.Fronts.{in_force}
 use Rattle.fkv_looking.specs.Pages.{ArePages}
 use Rattle.fkv_looking.specs.Slots.{IsSlotLook}
 use Rattle.fkv_looking.specs.Uses.{AreUses}
 
--- the image holds this store, with these pages of its log and these uses of what it has
+-- the image holds this store, with these pages of its log, buckets this full and these uses of what it has
 pub record IsStoreLook (image : List ℕ) (look : StoreLook) : Type 0 where
   pub holds : IsStoreOf image look.opened
   pub pages : ArePages image look.opened look.pages.items
+  pub index : IsIndexLook look.opened look.index
   pub uses : AreUses look.opened look.uses
 
 -- recovery finds no store, this damage, or this store

@@ -4,6 +4,7 @@
 mod classes;
 mod damages;
 mod fronts;
+mod index_looks;
 mod looking;
 mod looks;
 mod page_looks;
@@ -14,6 +15,7 @@ mod uses;
 
 pub use classes::RecordClass;
 pub use damages::DamageLook;
+pub use index_looks::IndexLook;
 pub use looking::look;
 pub use looks::{Found, Look, StoreLook};
 pub use page_looks::PageLook;

@@ -9,6 +9,7 @@ ghost use Rattle.fkv_looking.specs.Recovered.{IsRecovered};
 
 use crate::damages::damage_look;
 use crate::fronts::{Front, read_front};
+use crate::index_looks::index_look;
 use crate::looks::{Found, Look, StoreLook};
 use crate::page_looks::page_looks;
 use crate::recovered::{Recovered, find_store};
@@ -26,10 +27,12 @@ fn store_look<D: Device>(alloc: Global, d: &mut D, opened: Opened) -> Result<Sto
     ensures reads { OnlyReads D.refuses D.expects d.old d.new }
 {
     let pages = page_looks(alloc, d, &opened)?;
+    let index = index_look(alloc, &opened)?;
     let uses = uses_of(&opened);
     Ok(StoreLook {
         opened,
         pages,
+        index,
         uses,
     })
 }

@@ -1,5 +1,6 @@
 //! What a device holds.
 use crate::damages::DamageLook;
+use crate::index_looks::IndexLook;
 use crate::page_looks::PageLook;
 use crate::slot_looks::SlotLook;
 use crate::uses::Uses;
@@ -37,6 +38,8 @@ pub struct StoreLook {
     pub opened: Opened,
     /// The pages of its log, up to the one in which the log ends.
     pub pages: Vec<PageLook>,
+    /// How full the buckets of its index are.
+    pub index: IndexLook,
     /// How much of each capacity is used.
     pub uses: Uses,
 }

@@ -1,0 +1,15 @@
+pub mod Bars
+pub mod Columns
+pub mod Each
+pub mod Gauges
+pub mod Marks
+pub mod Parts
+pub mod Pictures
+pub mod Rows
+pub mod Shares
+pub mod SquareLayouts
+pub mod Squares
+pub mod Stacks
+pub mod Stills
+pub mod StripLayouts
+pub mod Strips
