@@ -1,4 +1,5 @@
 pub mod Beats
+pub mod Below
 pub mod Finishes
 pub mod Groups
 pub mod InTurn

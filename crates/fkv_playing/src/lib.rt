@@ -19,3 +19,6 @@ pub use groups::Picks;
 pub use players::{Player, Waits};
 pub use queues::{Queue, queues_of};
 pub use seats::Seat;
+
+// Types of crates below that its calls take.
+pub use fkv_core::World;

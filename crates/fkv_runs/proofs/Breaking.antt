@@ -1,8 +1,8 @@
 -- Runs that break off.
 use Rattle.std.proofs.Common.{◌≡◌, ◌≤◌, ◌<◌, ◌+◌, ℕ, Bool, true, false, List, [], Option, Result, Ok, Err, OnErr, inl, inr, refl, length, get_or, take, subst, sym}
-use Rattle.fkv_core.specs.Worlds.{WorldModel}
-use Rattle.fkv_core.specs.declared.events.Event.{Event}
-use Rattle.fkv_core.specs.declared.events.Told.{Told}
+use Rattle.fkv_playing.specs.Below.fkv_core.Worlds.{WorldModel}
+use Rattle.fkv_playing.specs.Below.fkv_core.Event.{Event}
+use Rattle.fkv_playing.specs.Below.fkv_core.TheTold.{Told}
 use Rattle.fkv_map.specs.declared.history.HistoryEntry.{HistoryEntry}
 use Rattle.fkv_opening.specs.declared.opened_store.Opened.{Opened}
 use Rattle.fkv_playing.specs.InTurn.{InTurn, Writes}

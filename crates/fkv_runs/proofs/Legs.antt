@@ -1,9 +1,9 @@
 -- Legs of a run: what its parts write, and where they end it.
 use Rattle.std.proofs.Common.{◌≡◌, ℕ, ◌+◌, ◌<◌, ◌≤◌, Bool, true, false, List, [], ◌++◌, Option, Some, None, Result, Ok, Err, length, get_or, take, refl, sym, subst, ◌∙◌, append-nil}
 use Rattle.std.specs.Prelude.{◌&&◌, is_none, IfOk}
-use Rattle.fkv_core.specs.Worlds.{WorldModel}
-use Rattle.fkv_core.specs.declared.events.Event.{Event}
-use Rattle.fkv_core.specs.declared.events.Told.{Told}
+use Rattle.fkv_playing.specs.Below.fkv_core.Worlds.{WorldModel}
+use Rattle.fkv_playing.specs.Below.fkv_core.Event.{Event}
+use Rattle.fkv_playing.specs.Below.fkv_core.TheTold.{Told}
 use Rattle.fkv_playing.specs.Finishes.{IsFinish}
 use Rattle.fkv_playing.specs.Groups.{IsGroup}
 use Rattle.fkv_playing.specs.InTurn.{InTurn, Writes}

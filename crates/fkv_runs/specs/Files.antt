@@ -1,8 +1,8 @@
 -- A run over one life: of a store in a file, which its script doesn't crash.
 use Rattle.std.specs.Prelude.{◌≡◌, ℕ, Bool, false, List, [], take, Option}
-use Rattle.fkv_core.specs.Worlds.{WorldModel}
-use Rattle.fkv_core.specs.declared.events.Event.{Event}
-use Rattle.fkv_core.specs.declared.events.Told.{Told}
+use Rattle.fkv_playing.specs.Below.fkv_core.Worlds.{WorldModel}
+use Rattle.fkv_playing.specs.Below.fkv_core.Event.{Event}
+use Rattle.fkv_playing.specs.Below.fkv_core.TheTold.{Told}
 use Rattle.fkv_playing.specs.Finishes.{IsFinish}
 use Rattle.fkv_playing.specs.Groups.{IsGroup}
 use Rattle.fkv_playing.specs.InTurn.{InTurn}

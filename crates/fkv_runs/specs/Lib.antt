@@ -1,4 +1,5 @@
 pub mod Beginnings
+pub mod Below
 pub mod Crashes
 pub mod Files
 pub mod Openings

@@ -2,10 +2,10 @@
 use Rattle.std.specs.Prelude.{◌≡◌, ℕ, Bool, false, List, Option, replicate}
 use Rattle.fkv_base.specs.declared.numbers.Key.{Key}
 use Rattle.fkv_base.specs.declared.numbers.Value.{Value}
-use Rattle.fkv_core.specs.Openings.{IsOpeningWorld}
-use Rattle.fkv_core.specs.Worlds.{WorldModel}
-use Rattle.fkv_core.specs.declared.events.Event.{Event}
-use Rattle.fkv_core.specs.declared.events.Told.{Told}
+use Rattle.fkv_playing.specs.Below.fkv_core.Openings.{IsOpeningWorld}
+use Rattle.fkv_playing.specs.Below.fkv_core.Worlds.{WorldModel}
+use Rattle.fkv_playing.specs.Below.fkv_core.Event.{Event}
+use Rattle.fkv_playing.specs.Below.fkv_core.TheTold.{Told}
 use Rattle.fkv_disk.specs.Device.{LeavesOnly}
 use Rattle.fkv_map.specs.declared.history.HistoryEntry.{HistoryEntry}
 use Rattle.fkv_opening.specs.Opened.{IsStoreOf}

@@ -18,3 +18,6 @@ pub use pieces::{Piece, pieces_of};
 pub use runs::play_lives;
 pub use settings::Settings;
 pub use telling::write_text;
+
+// Types of crates below that its calls take.
+pub use fkv_playing::{Breaks, Picks};

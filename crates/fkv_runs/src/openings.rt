@@ -3,10 +3,9 @@ ghost use Rattle.std.specs.Prelude.{◌≡◌, IfOk, Ok};
 ghost use Rattle.fkv_runs.specs.Openings.{Begins};
 
 use fkv_base::Fault;
-use fkv_core::World;
 use fkv_map::HistoryEntry;
 use fkv_opening::Opened;
-use fkv_playing::{Breaks, Player};
+use fkv_playing::{Breaks, Player, World};
 use std::alloc::Global;
 use std::io;
 

@@ -1,5 +1,5 @@
 -- What the clauses of `src` say: they take all of it under one name.
-pub use Rattle.fkv_playing.specs.Players.{EngineStep, IsArmed}
+pub use Rattle.fkv_runs.specs.Below.fkv_playing.Players.{EngineStep, IsArmed}
 pub use Rattle.fkv_runs.specs.Openings.{Holds, medium_of}
 pub use Rattle.fkv_runs.specs.declared.settings.Settings.{Settings}
 pub use Rattle.law_program.specs.PlayedCalls.AllLives.{ArmsShown, ReportsOverLives}

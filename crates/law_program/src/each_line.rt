@@ -2,7 +2,7 @@
 ghost use Rattle.law_program.specs.Said as said;
 
 use crate::whole_calls::law_whole_calls;
-use fkv_playing::Breaks;
+use fkv_runs::Breaks;
 use law_order::{law_finished_is_told, law_order, law_waiting_reads};
 
 /// Over honest devices, as those in memory are, a life goes on by each line of a call and by each finish. The keeper's lines are among them. Behind each the

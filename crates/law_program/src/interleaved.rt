@@ -1,7 +1,7 @@
 //! Calls of several actors, interleaved.
 ghost use Rattle.law_program.specs.Said as said;
 
-use fkv_playing::Breaks;
+use fkv_runs::Breaks;
 
 /// Over honest devices a life goes on by each group of calls, interleaved as picks have it. It does so up to the end of the group, or to a crash that strikes in
 /// it; and so it does by each finish. Behind it the life shows the world and the device, as it does where no call is in hand. The numbers of the calls are below

@@ -2,8 +2,7 @@
 ghost use Rattle.law_program.specs.Said as said;
 
 use crate::played_calls::law_played_scripts;
-use fkv_playing::Breaks;
-use fkv_runs::Crashes;
+use fkv_runs::{Breaks, Crashes};
 use law_order::{law_log_opened, law_new_stores};
 
 /// The life of a new store begins quietly, whatever holds it: over bytes as `create` leaves them, and with no call in hand. So

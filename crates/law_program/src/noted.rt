@@ -2,7 +2,7 @@
 ghost use Rattle.law_program.specs.Said as said;
 
 use fkv_disk::Device;
-use fkv_playing::Breaks;
+use fkv_runs::Breaks;
 use law_answers::law_effects_told;
 use law_order::law_guard_opens;
 

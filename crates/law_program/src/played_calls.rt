@@ -2,8 +2,7 @@
 ghost use Rattle.law_program.specs.Said as said;
 
 use crate::whole_calls::law_whole_calls;
-use fkv_playing::Breaks;
-use fkv_runs::Crashes;
+use fkv_runs::{Breaks, Crashes};
 use law_order::{law_log_opened, law_order};
 
 /// In a life of an opened store, with commits too, in which no session has a call in hand, an operation that is played alone prints an answer that is the

@@ -11,19 +11,19 @@ use Rattle.fkv_disk.specs.Fuses.{fuse_device, fuse_state}
 use Rattle.fkv_disk.specs.Fuse.{FuseLeaves}
 use Rattle.fkv_disk.specs.declared.fuses.Fuse.{Fuse}
 use Rattle.fkv_disk.specs.declared.fuses.FuseState.{FuseState}
-use Rattle.fkv_playing.specs.Finishes.{most_rounds, round_of, rounds}
+use Rattle.fkv_runs.specs.Below.fkv_playing.Finishes.{most_rounds, round_of, rounds}
 use Rattle.fkv_map.specs.History.{content, kept}
 use Rattle.fkv_map.specs.declared.history.HistoryEntry.{HistoryEntry}
 use Rattle.law_order.specs.Below.fkv_opening.Opened.{IsStoreOf}
 use Rattle.law_order.specs.Below.fkv_opening.TheOpened.{Opened}
 use Rattle.law_order.specs.Below.fkv_pairs.Pairs.{log_of_store}
-use Rattle.fkv_playing.specs.Groups.{IsGroup}
-use Rattle.fkv_playing.specs.InTurn.{InTurn}
-use Rattle.fkv_playing.specs.Players.{IsArmed, PlayerState}
-use Rattle.fkv_playing.specs.Queues.{QueueState}
-use Rattle.fkv_playing.specs.Texts.{phase_shown}
-use Rattle.fkv_playing.specs.declared.calls.ActorCall.{ActorCall}
-use Rattle.fkv_playing.specs.declared.players.Waits.{Waits}
+use Rattle.fkv_runs.specs.Below.fkv_playing.Groups.{IsGroup}
+use Rattle.fkv_runs.specs.Below.fkv_playing.InTurn.{InTurn}
+use Rattle.fkv_runs.specs.Below.fkv_playing.Players.{IsArmed, PlayerState}
+use Rattle.fkv_runs.specs.Below.fkv_playing.Queues.{QueueState}
+use Rattle.fkv_runs.specs.Below.fkv_playing.Texts.{phase_shown}
+use Rattle.fkv_runs.specs.Below.fkv_playing.ActorCall.{ActorCall}
+use Rattle.fkv_runs.specs.Below.fkv_playing.Waits.{Waits}
 use Rattle.fkv_runs.specs.Crashes.{crash_text, kept_behind}
 use Rattle.fkv_runs.specs.Openings.{Medium}
 use Rattle.fkv_runs.specs.Runs.{IsCrashed, IsCrashedWhere, IsFinishStruck, IsGroupPlayed, IsLegOf, IsPiece, Prepares, RunState}

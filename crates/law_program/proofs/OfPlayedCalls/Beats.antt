@@ -9,18 +9,18 @@ use Rattle.law_order.specs.Below.fkv_core.TheTold.TheVariants as told
 use Rattle.law_order.specs.Below.fkv_keeper.Finished as keeper
 use Rattle.law_order.specs.Below.fkv_keeper.Turn as turns
 use Rattle.fkv_map.specs.declared.operations.Call.{Call}
-use Rattle.fkv_playing.specs.Beats.{IsBeat, heard, outcome_of, outcome_of_finished, outcome_of_told, outcome_of_turn, seats_behind}
-use Rattle.fkv_playing.specs.Groups.{is_struck_by}
-use Rattle.fkv_playing.specs.InTurn.{InTurn}
-use Rattle.fkv_playing.specs.Players.{PlayerState, is_struck}
-use Rattle.fkv_playing.specs.Seats.{SeatState}
-use Rattle.fkv_playing.specs.Texts.{text_heard, text_of}
-use Rattle.fkv_playing.specs.declared.calls.ActorCall.TheVariants.{Session}
-use Rattle.fkv_playing.specs.declared.calls.Outcome.{Outcome}
-use Rattle.fkv_playing.specs.declared.calls.Outcome.TheVariants.{GoesOn, Struck}
-use Rattle.fkv_playing.specs.declared.calls.Stage.{Stage}
-use Rattle.fkv_playing.specs.declared.calls.Stage.TheVariants as stage
-use Rattle.fkv_playing.specs.declared.calls.Telling.{Telling}
+use Rattle.fkv_runs.specs.Below.fkv_playing.Beats.{IsBeat, heard, outcome_of, outcome_of_finished, outcome_of_told, outcome_of_turn, seats_behind}
+use Rattle.fkv_runs.specs.Below.fkv_playing.Groups.{is_struck_by}
+use Rattle.fkv_runs.specs.Below.fkv_playing.InTurn.{InTurn}
+use Rattle.fkv_runs.specs.Below.fkv_playing.Players.{PlayerState, is_struck}
+use Rattle.fkv_runs.specs.Below.fkv_playing.Seats.{SeatState}
+use Rattle.fkv_runs.specs.Below.fkv_playing.Texts.{text_heard, text_of}
+use Rattle.fkv_runs.specs.Below.fkv_playing.ActorCall.TheVariants.{Session}
+use Rattle.fkv_runs.specs.Below.fkv_playing.Outcome.{Outcome}
+use Rattle.fkv_runs.specs.Below.fkv_playing.Outcome.TheVariants.{GoesOn, Struck}
+use Rattle.fkv_runs.specs.Below.fkv_playing.Stage.{Stage}
+use Rattle.fkv_runs.specs.Below.fkv_playing.Stage.TheVariants as stage
+use Rattle.fkv_runs.specs.Below.fkv_playing.Telling.{Telling}
 use Rattle.law_order.specs.Below.fkv_world.Runs.{World, run}
 use Rattle.law_order.specs.Below.fkv_world.World.{Event, Moves, Now}
 use Rattle.law_program.proofs.OfPlayedCalls.Steps.{GoesByRules, IsAnsweredNow, IsRuled, answered_now, led_on, stage_event}

@@ -5,16 +5,16 @@ use Rattle.std.proofs.lemmas.List.{append-nil}
 use Rattle.law_order.specs.Below.fkv_core.Worlds.{WorldModel}
 use Rattle.law_order.specs.Below.fkv_core.Event as events
 use Rattle.law_order.specs.Below.fkv_core.TheTold as tells
-use Rattle.fkv_playing.specs.Beats.{outcome_of}
-use Rattle.fkv_playing.specs.Groups.{GroupState, IsBeatOf, IsGroup, IsPick, is_struck_by, missing_session, queues_behind}
-use Rattle.fkv_playing.specs.InTurn.{InTurn}
-use Rattle.fkv_playing.specs.Players.{PlayerState, is_struck}
-use Rattle.fkv_playing.specs.Queues.{AreQueuesOf, NobodyHasSteps, QueueState}
-use Rattle.fkv_playing.specs.declared.calls.ActorCall.{ActorCall}
-use Rattle.fkv_playing.specs.declared.calls.Outcome.{Outcome}
-use Rattle.fkv_playing.specs.declared.calls.Stage.{Stage}
-use Rattle.fkv_playing.specs.declared.players.Waits.{Waits}
-use Rattle.fkv_playing.specs.declared.players.Waits.TheVariants.{Nothing}
+use Rattle.fkv_runs.specs.Below.fkv_playing.Beats.{outcome_of}
+use Rattle.fkv_runs.specs.Below.fkv_playing.Groups.{GroupState, IsBeatOf, IsGroup, IsPick, is_struck_by, missing_session, queues_behind}
+use Rattle.fkv_runs.specs.Below.fkv_playing.InTurn.{InTurn}
+use Rattle.fkv_runs.specs.Below.fkv_playing.Players.{PlayerState, is_struck}
+use Rattle.fkv_runs.specs.Below.fkv_playing.Queues.{AreQueuesOf, NobodyHasSteps, QueueState}
+use Rattle.fkv_runs.specs.Below.fkv_playing.ActorCall.{ActorCall}
+use Rattle.fkv_runs.specs.Below.fkv_playing.Outcome.{Outcome}
+use Rattle.fkv_runs.specs.Below.fkv_playing.Stage.{Stage}
+use Rattle.fkv_runs.specs.Below.fkv_playing.Waits.{Waits}
+use Rattle.fkv_runs.specs.Below.fkv_playing.Waits.TheVariants.{Nothing}
 use Rattle.fkv_runs.specs.Openings.{Medium}
 use Rattle.fkv_runs.specs.Runs.{IsCrashedWhere, IsGroupPlayed, RunState}
 use Rattle.fkv_runs.specs.declared.settings.Settings.{Settings}

@@ -17,7 +17,7 @@ use Rattle.fkv_map.specs.declared.history.HistoryEntry.{HistoryEntry}
 use Rattle.fkv_map.proofs.Shown.{entries-map_of, key_cmp}
 use Rattle.law_order.specs.Below.fkv_opening.TheOpened.{Opened}
 use Rattle.law_order.specs.Below.fkv_pairs.Pairs.{ArePairs}
-use Rattle.fkv_playing.specs.Players.{IsArmed, PlayerState}
+use Rattle.fkv_runs.specs.Below.fkv_playing.Players.{IsArmed, PlayerState}
 use Rattle.fkv_runs.specs.Crashes.{Agrees, kept_behind}
 use Rattle.fkv_runs.specs.Openings.{Begins}
 use Rattle.law_order.specs.Below.fkv_scan.Log.{Log}

@@ -6,7 +6,7 @@ use Rattle.law_order.specs.Below.fkv_core.Openings.{beginning}
 use Rattle.fkv_disk.specs.Calls.{MayLeave}
 use Rattle.law_order.specs.Below.fkv_opening.Faults.{IsFaultOf}
 use Rattle.law_order.specs.Below.fkv_opening.TheOpened.{Opened}
-use Rattle.fkv_playing.specs.Players.{PlayerState}
+use Rattle.fkv_runs.specs.Below.fkv_playing.Players.{PlayerState}
 use Rattle.fkv_runs.specs.Crashes.{IsCause, IsCrash, kept_behind}
 use Rattle.fkv_runs.specs.Openings.{Medium}
 use Rattle.fkv_texts.specs.Refusals.{last_refusal}

@@ -13,20 +13,20 @@ use Rattle.fkv_epoch.proofs.Shown.{none_some}
 use Rattle.fkv_map.specs.declared.operations.Call.{Call}
 use Rattle.fkv_map.specs.declared.operations.Call.TheVariants as call
 use Rattle.law_order.specs.Below.fkv_opening.TheOpened.{Opened}
-use Rattle.fkv_playing.specs.Beats.{IsBeat, seats_behind}
-use Rattle.fkv_playing.specs.Finishes.{AreRounds, IsFinishIn, IsPlayedAlone, behind_rounds, calls_of_seat, calls_of_seats, most_rounds, round_of, rounds}
-use Rattle.fkv_playing.specs.Groups.{is_struck_by, missing_session}
-use Rattle.fkv_playing.specs.InTurn.{InTurn}
-use Rattle.fkv_playing.specs.Players.{PlayerState}
-use Rattle.fkv_playing.specs.Seats.{SeatState}
-use Rattle.fkv_playing.specs.Texts.{phase_shown}
-use Rattle.fkv_playing.specs.declared.calls.ActorCall.{ActorCall}
-use Rattle.fkv_playing.specs.declared.calls.ActorCall.TheVariants.{Session, Commit, Turn}
-use Rattle.fkv_playing.specs.declared.calls.Outcome.{Outcome}
-use Rattle.fkv_playing.specs.declared.calls.Outcome.TheVariants.{Answered, Closed, GoesOn, Struck}
-use Rattle.fkv_playing.specs.declared.calls.Stage.TheVariants as stage
-use Rattle.fkv_playing.specs.declared.calls.Telling.{Telling}
-use Rattle.fkv_playing.specs.declared.calls.Telling.TheVariants.{Finished, Whole}
+use Rattle.fkv_runs.specs.Below.fkv_playing.Beats.{IsBeat, seats_behind}
+use Rattle.fkv_runs.specs.Below.fkv_playing.Finishes.{AreRounds, IsFinishIn, IsPlayedAlone, behind_rounds, calls_of_seat, calls_of_seats, most_rounds, round_of, rounds}
+use Rattle.fkv_runs.specs.Below.fkv_playing.Groups.{is_struck_by, missing_session}
+use Rattle.fkv_runs.specs.Below.fkv_playing.InTurn.{InTurn}
+use Rattle.fkv_runs.specs.Below.fkv_playing.Players.{PlayerState}
+use Rattle.fkv_runs.specs.Below.fkv_playing.Seats.{SeatState}
+use Rattle.fkv_runs.specs.Below.fkv_playing.Texts.{phase_shown}
+use Rattle.fkv_runs.specs.Below.fkv_playing.ActorCall.{ActorCall}
+use Rattle.fkv_runs.specs.Below.fkv_playing.ActorCall.TheVariants.{Session, Commit, Turn}
+use Rattle.fkv_runs.specs.Below.fkv_playing.Outcome.{Outcome}
+use Rattle.fkv_runs.specs.Below.fkv_playing.Outcome.TheVariants.{Answered, Closed, GoesOn, Struck}
+use Rattle.fkv_runs.specs.Below.fkv_playing.Stage.TheVariants as stage
+use Rattle.fkv_runs.specs.Below.fkv_playing.Telling.{Telling}
+use Rattle.fkv_runs.specs.Below.fkv_playing.Telling.TheVariants.{Finished, Whole}
 use Rattle.fkv_texts.specs.Keeper.{nothing_to_finish}
 use Rattle.fkv_texts.specs.Refusals.{session_refusal}
 use Rattle.law_order.specs.Below.fkv_world.Runs.{World, run}

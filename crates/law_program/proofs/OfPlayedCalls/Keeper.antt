@@ -8,8 +8,8 @@ use Rattle.law_order.specs.Below.fkv_keeper.Keeping.{Finality, keeper_ask}
 use Rattle.law_order.specs.Below.fkv_keeper.TheKeeping.{Keeping}
 use Rattle.law_order.specs.Below.fkv_keeper.TheKeeping.TheVariants.{Ended}
 use Rattle.law_order.specs.Below.fkv_opening.TheOpened.{Opened}
-use Rattle.fkv_playing.specs.declared.calls.ActorCall.{ActorCall}
-use Rattle.fkv_playing.specs.declared.calls.ActorCall.TheVariants.{Session, Commit, Turn}
+use Rattle.fkv_runs.specs.Below.fkv_playing.ActorCall.{ActorCall}
+use Rattle.fkv_runs.specs.Below.fkv_playing.ActorCall.TheVariants.{Session, Commit, Turn}
 use Rattle.law_order.specs.Below.fkv_world.Actors.{is_of_keeper, is_of_session}
 use Rattle.law_order.specs.Below.fkv_world.Past as world
 use Rattle.law_order.specs.Below.fkv_world.Past.{CommitAsked, KeeperAnswered, Past, TraceEvent, Traced, TurnAsked, calls_after, keeper_answered, life_past, traced}
@@ -27,7 +27,7 @@ use Rattle.law_program.proofs.OfPlayedCalls.Waiting.{other_told, stands_on}
 use Rattle.law_order.proofs.OfReads.Numbers.{other_waiting}
 use Rattle.law_order.proofs.Below.law_refine.OfCalls.Called.{is_other}
 use Rattle.law_order.specs.Below.law_refine.Events.Lines.{read_waiting}
-use Rattle.fkv_playing.specs.Seats.{SeatState}
+use Rattle.fkv_runs.specs.Below.fkv_playing.Seats.{SeatState}
 use Rattle.law_order.specs.Below.law_refine.Calls.Calls.{effects_in_log}
 use Rattle.law_order.specs.Below.law_refine.Results.Results.{NobodyCalls}
 

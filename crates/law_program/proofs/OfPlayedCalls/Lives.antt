@@ -13,8 +13,8 @@ use Rattle.fkv_disk.proofs.Shown.{is_opened}
 use Rattle.fkv_epoch.proofs.Shown.{none_some, some_same}
 use Rattle.law_order.specs.Below.fkv_opening.Opened.{IsStoreOf}
 use Rattle.law_order.specs.Below.fkv_opening.TheOpened.{Opened}
-use Rattle.fkv_playing.specs.Players.{PlayerState}
-use Rattle.fkv_playing.specs.Seats.{SeatState, first_seat}
+use Rattle.fkv_runs.specs.Below.fkv_playing.Players.{PlayerState}
+use Rattle.fkv_runs.specs.Below.fkv_playing.Seats.{SeatState, first_seat}
 use Rattle.fkv_runs.specs.Openings.{Holds}
 use Rattle.fkv_texts.specs.Polls.{key_of_ticket}
 use Rattle.law_order.specs.Below.fkv_world.Runs.{run}

@@ -13,16 +13,16 @@ use Rattle.law_order.specs.Below.fkv_core.TheTold as tells
 use Rattle.fkv_epoch.proofs.Shown.{none_some, some_same}
 use Rattle.fkv_map.specs.declared.history.HistoryEntry.{HistoryEntry}
 use Rattle.law_order.specs.Below.fkv_opening.TheOpened.{Opened}
-use Rattle.fkv_playing.specs.Beats.{IsBeat, effects_behind, event_of, listed, outcome_of}
-use Rattle.fkv_playing.specs.Players.{PlayerState, is_struck}
-use Rattle.fkv_playing.specs.Queues.{rank_of}
-use Rattle.fkv_playing.specs.declared.calls.ActorCall.{ActorCall}
-use Rattle.fkv_playing.specs.declared.calls.ActorCall.TheVariants.{Commit, Session, Turn}
-use Rattle.fkv_playing.specs.declared.calls.Outcome.{Outcome}
-use Rattle.fkv_playing.specs.declared.calls.Outcome.TheVariants.{GoesOn}
-use Rattle.fkv_playing.specs.declared.calls.Stage.{Stage}
-use Rattle.fkv_playing.specs.declared.calls.Stage.TheVariants as stage
-use Rattle.fkv_playing.specs.declared.calls.Telling.{Telling}
+use Rattle.fkv_runs.specs.Below.fkv_playing.Beats.{IsBeat, effects_behind, event_of, listed, outcome_of}
+use Rattle.fkv_runs.specs.Below.fkv_playing.Players.{PlayerState, is_struck}
+use Rattle.fkv_runs.specs.Below.fkv_playing.Queues.{rank_of}
+use Rattle.fkv_runs.specs.Below.fkv_playing.ActorCall.{ActorCall}
+use Rattle.fkv_runs.specs.Below.fkv_playing.ActorCall.TheVariants.{Commit, Session, Turn}
+use Rattle.fkv_runs.specs.Below.fkv_playing.Outcome.{Outcome}
+use Rattle.fkv_runs.specs.Below.fkv_playing.Outcome.TheVariants.{GoesOn}
+use Rattle.fkv_runs.specs.Below.fkv_playing.Stage.{Stage}
+use Rattle.fkv_runs.specs.Below.fkv_playing.Stage.TheVariants as stage
+use Rattle.fkv_runs.specs.Below.fkv_playing.Telling.{Telling}
 use Rattle.law_order.specs.Below.fkv_session.Replies.{with_effect}
 use Rattle.law_order.specs.Below.fkv_session.Sessions.{SessionState, is_busy}
 use Rattle.law_order.specs.Below.fkv_session.Answer.{Answer}

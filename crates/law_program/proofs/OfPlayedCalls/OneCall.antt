@@ -7,19 +7,19 @@ use Rattle.law_order.specs.Below.fkv_core.Worlds.{WorldModel}
 use Rattle.law_order.specs.Below.fkv_core.Event as events
 use Rattle.law_order.specs.Below.fkv_core.TheTold as tells
 use Rattle.fkv_epoch.proofs.Shown.{item_spared, item_written, none_some, same_or, some_same}
-use Rattle.fkv_playing.specs.Beats.{IsBeat, asked_of, seats_behind}
-use Rattle.fkv_playing.specs.Groups.{GroupState, IsBeatOf, IsPick, is_struck_by, missing_session}
-use Rattle.fkv_playing.specs.InTurn.{InTurn}
-use Rattle.fkv_playing.specs.Players.{PlayerState, is_struck}
-use Rattle.fkv_playing.specs.Queues.{AreQueuesOf, NobodyHasSteps, QueueState, given_up, held, held_by, is_of, next_step, queue_behind, rank_of, step_of}
-use Rattle.fkv_playing.specs.Seats.{SeatState}
-use Rattle.fkv_playing.specs.Texts.{text_heard}
-use Rattle.fkv_playing.specs.declared.calls.ActorCall.{ActorCall}
-use Rattle.fkv_playing.specs.declared.calls.Outcome.{Outcome}
-use Rattle.fkv_playing.specs.declared.calls.Outcome.TheVariants.{Answered, Closed, GoesOn, Struck}
-use Rattle.fkv_playing.specs.declared.calls.Stage.{Stage}
-use Rattle.fkv_playing.specs.declared.calls.Stage.TheVariants as stage
-use Rattle.fkv_playing.specs.declared.calls.Telling.TheVariants.{Whole}
+use Rattle.fkv_runs.specs.Below.fkv_playing.Beats.{IsBeat, asked_of, seats_behind}
+use Rattle.fkv_runs.specs.Below.fkv_playing.Groups.{GroupState, IsBeatOf, IsPick, is_struck_by, missing_session}
+use Rattle.fkv_runs.specs.Below.fkv_playing.InTurn.{InTurn}
+use Rattle.fkv_runs.specs.Below.fkv_playing.Players.{PlayerState, is_struck}
+use Rattle.fkv_runs.specs.Below.fkv_playing.Queues.{AreQueuesOf, NobodyHasSteps, QueueState, given_up, held, held_by, is_of, next_step, queue_behind, rank_of, step_of}
+use Rattle.fkv_runs.specs.Below.fkv_playing.Seats.{SeatState}
+use Rattle.fkv_runs.specs.Below.fkv_playing.Texts.{text_heard}
+use Rattle.fkv_runs.specs.Below.fkv_playing.ActorCall.{ActorCall}
+use Rattle.fkv_runs.specs.Below.fkv_playing.Outcome.{Outcome}
+use Rattle.fkv_runs.specs.Below.fkv_playing.Outcome.TheVariants.{Answered, Closed, GoesOn, Struck}
+use Rattle.fkv_runs.specs.Below.fkv_playing.Stage.{Stage}
+use Rattle.fkv_runs.specs.Below.fkv_playing.Stage.TheVariants as stage
+use Rattle.fkv_runs.specs.Below.fkv_playing.Telling.TheVariants.{Whole}
 use Rattle.fkv_texts.specs.Refusals.{session_refusal}
 use Rattle.law_program.proofs.OfPlayedCalls.Beats.{HasEnded, unheard, unheard_then}
 

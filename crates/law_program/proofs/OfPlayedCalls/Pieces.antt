@@ -4,8 +4,8 @@ use Rattle.std.specs.List.{flat_map}
 use Rattle.std.specs.Prelude.{Some, slice_get, ⊤}
 use Rattle.fkv_lines.specs.declared.scripts.Line.{Line}
 use Rattle.fkv_map.specs.declared.operations.Call.TheVariants as call
-use Rattle.fkv_playing.specs.declared.calls.ActorCall.{ActorCall}
-use Rattle.fkv_playing.specs.declared.calls.ActorCall.TheVariants.{Session, Commit, Turn}
+use Rattle.fkv_runs.specs.Below.fkv_playing.ActorCall.{ActorCall}
+use Rattle.fkv_runs.specs.Below.fkv_playing.ActorCall.TheVariants.{Session, Commit, Turn}
 use Rattle.fkv_runs.specs.Pieces.{IsAlone, line_of, lines_of}
 use Rattle.fkv_runs.specs.declared.pieces.Piece.{Piece}
 use Rattle.fkv_runs.specs.declared.pieces.Piece.TheVariants.{Group, Finish, Crash, CrashAt, FailAt}

@@ -12,8 +12,8 @@ use Rattle.fkv_map.specs.declared.operations.Op.TheVariants.{Read}
 use Rattle.fkv_map.specs.declared.operations.Reply.{Reply}
 use Rattle.fkv_map.proofs.Shown.{IsLegal-earlier, IsLegal-later}
 use Rattle.law_order.specs.Below.fkv_opening.TheOpened.{Opened}
-use Rattle.fkv_playing.specs.Players.{PlayerState}
-use Rattle.fkv_playing.specs.declared.calls.Telling.{Telling}
+use Rattle.fkv_runs.specs.Below.fkv_playing.Players.{PlayerState}
+use Rattle.fkv_runs.specs.Below.fkv_playing.Telling.{Telling}
 use Rattle.law_order.specs.Below.fkv_session.Answers.{IsAnswerTold}
 use Rattle.law_order.specs.Below.fkv_session.SessionRun.{telling}
 use Rattle.law_order.specs.Below.fkv_session.Sessions.{SessionState, is_busy}

@@ -14,7 +14,7 @@ use Rattle.fkv_map.specs.declared.operations.Op.TheVariants.{Read}
 use Rattle.fkv_map.specs.declared.operations.Reply.{Reply}
 use Rattle.law_order.specs.Below.fkv_opening.TheOpened.{Opened}
 use Rattle.law_order.specs.Below.fkv_pending.Ticket.{Ticket}
-use Rattle.fkv_playing.specs.Seats.{SeatState}
+use Rattle.fkv_runs.specs.Below.fkv_playing.Seats.{SeatState}
 use Rattle.law_order.specs.Below.fkv_session.Accounts.{AreAccountedFor, names_of}
 use Rattle.law_order.specs.Below.fkv_session.Answers.{IsAnswerTold}
 use Rattle.law_order.specs.Below.fkv_session.SessionRun.{in_hand, telling}

@@ -15,16 +15,16 @@ use Rattle.law_order.specs.OneHistory.EachLife.{InEachLife, IsLife, Life}
 use Rattle.law_order.specs.Below.fkv_opening.TheOpened.{Opened}
 use Rattle.law_order.specs.Rules.Ordered.{HasLegalHistory, OrdersItsCalls, ReadsFreshly}
 use Rattle.law_order.proofs.OfRules.Beginning.{world_opens}
-use Rattle.fkv_playing.specs.Groups.{IsGroup, missing_session}
-use Rattle.fkv_playing.specs.Players.{PlayerState}
-use Rattle.fkv_playing.specs.Queues.{AreQueuesOf, QueueState}
-use Rattle.fkv_playing.specs.Seats.{SeatState}
-use Rattle.fkv_playing.specs.Texts.{text_of}
-use Rattle.fkv_playing.specs.declared.calls.ActorCall.TheVariants.{Session}
-use Rattle.fkv_playing.specs.declared.calls.Outcome.TheVariants.{Answered}
-use Rattle.fkv_playing.specs.declared.calls.Stage.TheVariants as stage
-use Rattle.fkv_playing.specs.declared.calls.Telling.{Telling}
-use Rattle.fkv_playing.specs.declared.calls.Telling.TheVariants.{Whole}
+use Rattle.fkv_runs.specs.Below.fkv_playing.Groups.{IsGroup, missing_session}
+use Rattle.fkv_runs.specs.Below.fkv_playing.Players.{PlayerState}
+use Rattle.fkv_runs.specs.Below.fkv_playing.Queues.{AreQueuesOf, QueueState}
+use Rattle.fkv_runs.specs.Below.fkv_playing.Seats.{SeatState}
+use Rattle.fkv_runs.specs.Below.fkv_playing.Texts.{text_of}
+use Rattle.fkv_runs.specs.Below.fkv_playing.ActorCall.TheVariants.{Session}
+use Rattle.fkv_runs.specs.Below.fkv_playing.Outcome.TheVariants.{Answered}
+use Rattle.fkv_runs.specs.Below.fkv_playing.Stage.TheVariants as stage
+use Rattle.fkv_runs.specs.Below.fkv_playing.Telling.{Telling}
+use Rattle.fkv_runs.specs.Below.fkv_playing.Telling.TheVariants.{Whole}
 use Rattle.law_order.specs.Below.fkv_session.Sessions.{SessionState}
 use Rattle.law_order.specs.Below.fkv_session.Told.{Told}
 use Rattle.law_order.specs.Below.fkv_session.Told.TheVariants as tellings

@@ -3,23 +3,23 @@ use Rattle.std.proofs.Common.{◌≡◌, ◌∙◌, ◌⊎◌, ◌+◌, ◌-◌,
 use Rattle.std.specs.Prelude.{Option, Some, None, slice_get}
 use Rattle.std.proofs.lemmas.List.{append-nil}
 use Rattle.fkv_epoch.proofs.Shown.{none_some, some_same}
-use Rattle.fkv_playing.specs.Finishes.{most_rounds, round_of, rounds}
-use Rattle.fkv_playing.specs.Groups.{GroupState, IsGroup, is_struck_by}
-use Rattle.fkv_playing.specs.Players.{PlayerState}
-use Rattle.fkv_playing.specs.Queues.{AreQueuesOf, NobodyHasSteps, QueueState, given_up, next_step, step_of}
-use Rattle.fkv_playing.specs.declared.calls.ActorCall.{ActorCall}
-use Rattle.fkv_playing.specs.declared.calls.ActorCall.TheVariants.{Session, Commit, Turn}
-use Rattle.fkv_playing.specs.declared.calls.Outcome.{Outcome}
-use Rattle.fkv_playing.specs.declared.calls.Outcome.TheVariants.{Answered, Closed, GoesOn, Struck}
-use Rattle.fkv_playing.specs.declared.calls.Stage.TheVariants as stage
-use Rattle.fkv_playing.specs.declared.calls.Telling.TheVariants.{Finished, Whole}
+use Rattle.fkv_runs.specs.Below.fkv_playing.Finishes.{most_rounds, round_of, rounds}
+use Rattle.fkv_runs.specs.Below.fkv_playing.Groups.{GroupState, IsGroup, is_struck_by}
+use Rattle.fkv_runs.specs.Below.fkv_playing.Players.{PlayerState}
+use Rattle.fkv_runs.specs.Below.fkv_playing.Queues.{AreQueuesOf, NobodyHasSteps, QueueState, given_up, next_step, step_of}
+use Rattle.fkv_runs.specs.Below.fkv_playing.ActorCall.{ActorCall}
+use Rattle.fkv_runs.specs.Below.fkv_playing.ActorCall.TheVariants.{Session, Commit, Turn}
+use Rattle.fkv_runs.specs.Below.fkv_playing.Outcome.{Outcome}
+use Rattle.fkv_runs.specs.Below.fkv_playing.Outcome.TheVariants.{Answered, Closed, GoesOn, Struck}
+use Rattle.fkv_runs.specs.Below.fkv_playing.Stage.TheVariants as stage
+use Rattle.fkv_runs.specs.Below.fkv_playing.Telling.TheVariants.{Finished, Whole}
 use Rattle.fkv_runs.specs.Crashes.{IsRefusal}
 use Rattle.fkv_runs.specs.Openings.{Medium}
 use Rattle.fkv_runs.specs.Runs.{IsCrashed, IsCrashedWhere, IsFinishStruck, IsGroupPlayed, IsLegOf, IsPiece, Prepares, RunState, is_struck_at}
 use Rattle.fkv_runs.specs.declared.pieces.Piece.{Piece}
 use Rattle.fkv_runs.specs.declared.pieces.Piece.TheVariants.{Group, Finish, Crash, CrashAt, FailAt}
 use Rattle.fkv_runs.specs.declared.settings.Settings.{Settings}
-use Rattle.fkv_playing.specs.declared.players.Waits.{Waits}
+use Rattle.fkv_runs.specs.Below.fkv_playing.Waits.{Waits}
 use Rattle.law_order.specs.Below.fkv_world.World.{Event}
 use Rattle.law_order.specs.Tickets.Few.{calls_in}
 use Rattle.law_program.specs.PlayedCalls.EachLine.{EachLineGoesOn, IsFinishInLife, IsLineInLife, IsPlayedInLife, IsRefusedLine, ItsNumbersFit}

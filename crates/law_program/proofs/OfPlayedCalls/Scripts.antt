@@ -12,14 +12,14 @@ use Rattle.fkv_map.specs.declared.operations.Op.{Op}
 use Rattle.law_order.specs.Below.fkv_opening.Opened.{IsStoreOf}
 use Rattle.law_order.specs.Below.fkv_opening.TheOpened.{Opened}
 use Rattle.law_order.specs.Below.law_opening.Log.Maps.{opening_map}
-use Rattle.fkv_playing.specs.InTurn.{InTurn}
-use Rattle.fkv_playing.specs.Players.{PlayerState}
-use Rattle.fkv_playing.specs.Texts.{answer_told}
-use Rattle.fkv_playing.specs.declared.calls.ActorCall.{ActorCall}
-use Rattle.fkv_playing.specs.declared.calls.ActorCall.TheVariants.{Session}
-use Rattle.fkv_playing.specs.declared.calls.Telling.TheVariants.{Whole}
-use Rattle.fkv_playing.specs.declared.players.Waits.{Waits}
-use Rattle.fkv_playing.specs.declared.players.Waits.TheVariants.{Nothing}
+use Rattle.fkv_runs.specs.Below.fkv_playing.InTurn.{InTurn}
+use Rattle.fkv_runs.specs.Below.fkv_playing.Players.{PlayerState}
+use Rattle.fkv_runs.specs.Below.fkv_playing.Texts.{answer_told}
+use Rattle.fkv_runs.specs.Below.fkv_playing.ActorCall.{ActorCall}
+use Rattle.fkv_runs.specs.Below.fkv_playing.ActorCall.TheVariants.{Session}
+use Rattle.fkv_runs.specs.Below.fkv_playing.Telling.TheVariants.{Whole}
+use Rattle.fkv_runs.specs.Below.fkv_playing.Waits.{Waits}
+use Rattle.fkv_runs.specs.Below.fkv_playing.Waits.TheVariants.{Nothing}
 use Rattle.fkv_runs.specs.Files.{IsPieceOfLife}
 use Rattle.fkv_runs.specs.Openings.{Medium}
 use Rattle.fkv_runs.specs.Runs.{IsCrashedWhere, IsPiece, RunState, is_due}

@@ -8,11 +8,11 @@ use Rattle.law_order.specs.Below.fkv_core.TheTold as tells
 use Rattle.law_order.specs.Below.fkv_core.TheTold.TheVariants as told
 use Rattle.fkv_epoch.proofs.Shown.{none_some, some_same}
 use Rattle.fkv_map.specs.declared.operations.Call.{Call}
-use Rattle.fkv_playing.specs.Beats.{event_of}
-use Rattle.fkv_playing.specs.Players.{EngineStep}
-use Rattle.fkv_playing.specs.declared.calls.ActorCall.TheVariants.{Session}
-use Rattle.fkv_playing.specs.declared.calls.Stage.{Stage}
-use Rattle.fkv_playing.specs.declared.calls.Stage.TheVariants as stage
+use Rattle.fkv_runs.specs.Below.fkv_playing.Beats.{event_of}
+use Rattle.fkv_runs.specs.Below.fkv_playing.Players.{EngineStep}
+use Rattle.fkv_runs.specs.Below.fkv_playing.ActorCall.TheVariants.{Session}
+use Rattle.fkv_runs.specs.Below.fkv_playing.Stage.{Stage}
+use Rattle.fkv_runs.specs.Below.fkv_playing.Stage.TheVariants as stage
 use Rattle.law_order.specs.Below.fkv_session.Answers.{IsAnswerTold}
 use Rattle.law_order.specs.Below.fkv_session.Sessions.{SessionState}
 use Rattle.law_order.specs.Below.fkv_session.Answer.{Answer}

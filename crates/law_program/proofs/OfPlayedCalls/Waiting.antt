@@ -11,7 +11,7 @@ use Rattle.fkv_map.specs.declared.operations.Call.{Call}
 use Rattle.fkv_map.specs.declared.operations.Call.TheVariants as call
 use Rattle.fkv_map.specs.declared.operations.Op.TheVariants.{Read}
 use Rattle.law_order.specs.Below.fkv_pending.Ticket.{Ticket}
-use Rattle.fkv_playing.specs.Seats.{SeatState, read_of, seat_answered, seat_behind, seats_answered, waiting_behind}
+use Rattle.fkv_runs.specs.Below.fkv_playing.Seats.{SeatState, read_of, seat_answered, seat_behind, seats_answered, waiting_behind}
 use Rattle.law_order.specs.Below.fkv_session.Answers.{IsAnswerTold}
 use Rattle.law_order.specs.Below.fkv_session.SessionRun.{telling}
 use Rattle.law_order.specs.Below.fkv_session.Answer.{Answer}

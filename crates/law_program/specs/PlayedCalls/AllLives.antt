@@ -6,9 +6,9 @@ use Rattle.law_order.specs.Below.fkv_creating.Created.{IsCreated}
 use Rattle.fkv_map.specs.History.{content}
 use Rattle.law_order.specs.Below.fkv_opening.Opened.{IsStoreOf}
 use Rattle.law_order.specs.Below.fkv_opening.TheOpened.{Opened}
-use Rattle.fkv_playing.specs.InTurn.{InTurn}
-use Rattle.fkv_playing.specs.Players.{PlayerState}
-use Rattle.fkv_playing.specs.declared.players.Waits.{Waits}
+use Rattle.fkv_runs.specs.Below.fkv_playing.InTurn.{InTurn}
+use Rattle.fkv_runs.specs.Below.fkv_playing.Players.{PlayerState}
+use Rattle.fkv_runs.specs.Below.fkv_playing.Waits.{Waits}
 use Rattle.fkv_runs.specs.Openings.{Begins, Medium}
 use Rattle.fkv_runs.specs.Runs.{IsCrashed, IsPiece, RunState}
 use Rattle.fkv_runs.specs.declared.pieces.Piece.{Piece}

@@ -5,7 +5,7 @@ use Rattle.fkv_base.specs.declared.numbers.Key.{Key}
 use Rattle.fkv_base.specs.declared.numbers.Value.{Value}
 use Rattle.fkv_map.specs.History.{content}
 use Rattle.law_order.specs.Below.fkv_opening.TheOpened.{Opened}
-use Rattle.fkv_playing.specs.Players.{PlayerState}
+use Rattle.fkv_runs.specs.Below.fkv_playing.Players.{PlayerState}
 use Rattle.fkv_runs.specs.Crashes.{crash_text}
 use Rattle.fkv_runs.specs.Openings.{Medium}
 use Rattle.fkv_runs.specs.Runs.{IsCrashed, RunState}

@@ -9,18 +9,18 @@ use Rattle.fkv_disk.specs.Device.{IsAfter}
 use Rattle.fkv_map.specs.declared.operations.Call.TheVariants as call
 use Rattle.fkv_map.specs.declared.operations.Op.{Op}
 use Rattle.law_order.specs.Below.fkv_opening.TheOpened.{Opened}
-use Rattle.fkv_playing.specs.Beats.{asked_of}
-use Rattle.fkv_playing.specs.Finishes.{IsFinish, most_rounds, round_of, rounds}
-use Rattle.fkv_playing.specs.Groups.{IsGroup, is_struck_by}
-use Rattle.fkv_playing.specs.Players.{PlayerState}
-use Rattle.fkv_playing.specs.Queues.{AreQueuesOf, QueueState}
-use Rattle.fkv_playing.specs.Seats.{SeatState}
-use Rattle.fkv_playing.specs.Texts.{text_of}
-use Rattle.fkv_playing.specs.declared.calls.ActorCall.{ActorCall}
-use Rattle.fkv_playing.specs.declared.calls.ActorCall.TheVariants.{Session, Commit, Turn}
-use Rattle.fkv_playing.specs.declared.calls.Outcome.{Outcome}
-use Rattle.fkv_playing.specs.declared.calls.Telling.{Telling}
-use Rattle.fkv_playing.specs.declared.calls.Telling.TheVariants.{Finished, Whole}
+use Rattle.fkv_runs.specs.Below.fkv_playing.Beats.{asked_of}
+use Rattle.fkv_runs.specs.Below.fkv_playing.Finishes.{IsFinish, most_rounds, round_of, rounds}
+use Rattle.fkv_runs.specs.Below.fkv_playing.Groups.{IsGroup, is_struck_by}
+use Rattle.fkv_runs.specs.Below.fkv_playing.Players.{PlayerState}
+use Rattle.fkv_runs.specs.Below.fkv_playing.Queues.{AreQueuesOf, QueueState}
+use Rattle.fkv_runs.specs.Below.fkv_playing.Seats.{SeatState}
+use Rattle.fkv_runs.specs.Below.fkv_playing.Texts.{text_of}
+use Rattle.fkv_runs.specs.Below.fkv_playing.ActorCall.{ActorCall}
+use Rattle.fkv_runs.specs.Below.fkv_playing.ActorCall.TheVariants.{Session, Commit, Turn}
+use Rattle.fkv_runs.specs.Below.fkv_playing.Outcome.{Outcome}
+use Rattle.fkv_runs.specs.Below.fkv_playing.Telling.{Telling}
+use Rattle.fkv_runs.specs.Below.fkv_playing.Telling.TheVariants.{Finished, Whole}
 use Rattle.law_order.specs.Below.fkv_session.Answers.{IsAnswerTold}
 use Rattle.law_order.specs.Below.fkv_session.Answer.{Answer}
 use Rattle.law_order.specs.Below.fkv_session.Finished as finishes

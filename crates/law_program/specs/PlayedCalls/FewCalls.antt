@@ -1,10 +1,10 @@
 -- How many calls begin by the pieces of a script.
 use Rattle.std.specs.Prelude.{◌≡◌, ◌≤◌, ◌<◌, ◌+◌, ◌-◌, ◌*◌, ◌^◌, ℕ, List, [], ◌∷◌, length}
 use Rattle.fkv_base.specs.Limits.{max_sessions}
-use Rattle.fkv_playing.specs.Finishes.{most_rounds}
-use Rattle.fkv_playing.specs.Players.{PlayerState}
-use Rattle.fkv_playing.specs.Queues.{QueueState}
-use Rattle.fkv_playing.specs.declared.players.Waits.{Waits}
+use Rattle.fkv_runs.specs.Below.fkv_playing.Finishes.{most_rounds}
+use Rattle.fkv_runs.specs.Below.fkv_playing.Players.{PlayerState}
+use Rattle.fkv_runs.specs.Below.fkv_playing.Queues.{QueueState}
+use Rattle.fkv_runs.specs.Below.fkv_playing.Waits.{Waits}
 use Rattle.fkv_runs.specs.declared.pieces.Piece.{Piece}
 use Rattle.fkv_runs.specs.declared.pieces.Piece.TheVariants.{Group, Finish}
 use Rattle.law_order.specs.Below.fkv_world.World.{Event}

@@ -7,7 +7,7 @@ use Rattle.fkv_map.specs.History.{content}
 use Rattle.fkv_map.specs.Map.{reply_to}
 use Rattle.fkv_map.specs.declared.operations.Reply.{Reply}
 use Rattle.law_order.specs.Below.fkv_opening.TheOpened.{Opened}
-use Rattle.fkv_playing.specs.Seats.{SeatState}
+use Rattle.fkv_runs.specs.Below.fkv_playing.Seats.{SeatState}
 use Rattle.law_order.specs.Below.fkv_session.Answer.{Answer}
 use Rattle.law_order.specs.Below.fkv_session.Finished.TheVariants as finished
 use Rattle.fkv_texts.specs.Sessions.{finished_by}

@@ -7,12 +7,12 @@ use Rattle.law_order.specs.Below.fkv_core.TheTold as tells
 use Rattle.fkv_disk.specs.Device.{IsAfter}
 use Rattle.law_order.specs.Below.fkv_opening.Opened.{IsStoreOf}
 use Rattle.law_order.specs.Below.fkv_opening.TheOpened.{Opened}
-use Rattle.fkv_playing.specs.Finishes.{IsFinish, most_rounds, round_of, rounds}
-use Rattle.fkv_playing.specs.Groups.{IsGroup}
-use Rattle.fkv_playing.specs.Players.{PlayerState}
-use Rattle.fkv_playing.specs.Queues.{AreQueuesOf, QueueState}
-use Rattle.fkv_playing.specs.declared.calls.ActorCall.{ActorCall}
-use Rattle.fkv_playing.specs.declared.calls.Outcome.{Outcome}
+use Rattle.fkv_runs.specs.Below.fkv_playing.Finishes.{IsFinish, most_rounds, round_of, rounds}
+use Rattle.fkv_runs.specs.Below.fkv_playing.Groups.{IsGroup}
+use Rattle.fkv_runs.specs.Below.fkv_playing.Players.{PlayerState}
+use Rattle.fkv_runs.specs.Below.fkv_playing.Queues.{AreQueuesOf, QueueState}
+use Rattle.fkv_runs.specs.Below.fkv_playing.ActorCall.{ActorCall}
+use Rattle.fkv_runs.specs.Below.fkv_playing.Outcome.{Outcome}
 use Rattle.law_order.specs.Below.fkv_world.Runs.{run}
 use Rattle.law_order.specs.Below.fkv_world.World.{Event, Now}
 use Rattle.law_order.specs.Served.Fits.{CallsFit}

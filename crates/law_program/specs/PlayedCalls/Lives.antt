@@ -8,8 +8,8 @@ use Rattle.fkv_disk.specs.declared.fuses.Fuse.{Fuse}
 use Rattle.fkv_map.specs.declared.history.HistoryEntry.{HistoryEntry}
 use Rattle.law_order.specs.Below.fkv_opening.Opened.{IsStoreOf}
 use Rattle.law_order.specs.Below.fkv_opening.TheOpened.{Opened}
-use Rattle.fkv_playing.specs.Players.{IsArmed, PlayerState}
-use Rattle.fkv_playing.specs.declared.players.Waits.{Waits}
+use Rattle.fkv_runs.specs.Below.fkv_playing.Players.{IsArmed, PlayerState}
+use Rattle.fkv_runs.specs.Below.fkv_playing.Waits.{Waits}
 use Rattle.fkv_runs.specs.Crashes.{IsCrash, crash_text}
 use Rattle.fkv_runs.specs.Openings.{Begins}
 use Rattle.law_order.specs.Below.fkv_world.World.{Event, Now}

@@ -6,13 +6,13 @@ use Rattle.law_order.specs.Below.fkv_core.Event as events
 use Rattle.law_order.specs.Below.fkv_core.TheTold as tells
 use Rattle.fkv_map.specs.declared.history.HistoryEntry.{HistoryEntry}
 use Rattle.law_order.specs.Below.fkv_opening.TheOpened.{Opened}
-use Rattle.fkv_playing.specs.Finishes.{IsFinish, most_rounds, round_of, rounds}
-use Rattle.fkv_playing.specs.Groups.{IsGroup}
-use Rattle.fkv_playing.specs.Players.{PlayerState}
-use Rattle.fkv_playing.specs.Queues.{AreQueuesOf, QueueState, rank_of}
-use Rattle.fkv_playing.specs.declared.calls.ActorCall.{ActorCall}
-use Rattle.fkv_playing.specs.declared.calls.Outcome.{Outcome}
-use Rattle.fkv_playing.specs.declared.players.Waits.{Waits}
+use Rattle.fkv_runs.specs.Below.fkv_playing.Finishes.{IsFinish, most_rounds, round_of, rounds}
+use Rattle.fkv_runs.specs.Below.fkv_playing.Groups.{IsGroup}
+use Rattle.fkv_runs.specs.Below.fkv_playing.Players.{PlayerState}
+use Rattle.fkv_runs.specs.Below.fkv_playing.Queues.{AreQueuesOf, QueueState, rank_of}
+use Rattle.fkv_runs.specs.Below.fkv_playing.ActorCall.{ActorCall}
+use Rattle.fkv_runs.specs.Below.fkv_playing.Outcome.{Outcome}
+use Rattle.fkv_runs.specs.Below.fkv_playing.Waits.{Waits}
 use Rattle.law_order.specs.Below.fkv_world.World.{Event, Now}
 use Rattle.law_order.specs.OneHistory.EachLife.{Life}
 use Rattle.law_order.specs.Prefix.Law.{first_of, history_so_far, kept_of_all, map_of, points_of}

@@ -12,16 +12,16 @@ use Rattle.fkv_map.specs.declared.operations.Op.{Op}
 use Rattle.law_order.specs.Below.fkv_opening.Opened.{IsStoreOf}
 use Rattle.law_order.specs.Below.fkv_opening.TheOpened.{Opened}
 use Rattle.law_order.specs.Below.fkv_ops.Requests.{is_read}
-use Rattle.fkv_playing.specs.Finishes.{IsPlayedAlone}
-use Rattle.fkv_playing.specs.Groups.{IsGroup}
-use Rattle.fkv_playing.specs.Players.{PlayerState}
-use Rattle.fkv_playing.specs.Queues.{AreQueuesOf, QueueState}
-use Rattle.fkv_playing.specs.Seats.{SeatState}
-use Rattle.fkv_playing.specs.Texts.{text_of}
-use Rattle.fkv_playing.specs.declared.calls.ActorCall.TheVariants.{Session}
-use Rattle.fkv_playing.specs.declared.calls.Outcome.TheVariants.{Answered}
-use Rattle.fkv_playing.specs.declared.calls.Telling.{Telling}
-use Rattle.fkv_playing.specs.declared.calls.Telling.TheVariants.{Whole}
+use Rattle.fkv_runs.specs.Below.fkv_playing.Finishes.{IsPlayedAlone}
+use Rattle.fkv_runs.specs.Below.fkv_playing.Groups.{IsGroup}
+use Rattle.fkv_runs.specs.Below.fkv_playing.Players.{PlayerState}
+use Rattle.fkv_runs.specs.Below.fkv_playing.Queues.{AreQueuesOf, QueueState}
+use Rattle.fkv_runs.specs.Below.fkv_playing.Seats.{SeatState}
+use Rattle.fkv_runs.specs.Below.fkv_playing.Texts.{text_of}
+use Rattle.fkv_runs.specs.Below.fkv_playing.ActorCall.TheVariants.{Session}
+use Rattle.fkv_runs.specs.Below.fkv_playing.Outcome.TheVariants.{Answered}
+use Rattle.fkv_runs.specs.Below.fkv_playing.Telling.{Telling}
+use Rattle.fkv_runs.specs.Below.fkv_playing.Telling.TheVariants.{Whole}
 use Rattle.law_order.specs.Below.fkv_session.Answers.{IsAnswerTold}
 use Rattle.law_order.specs.Below.fkv_session.Answer.{Answer}
 use Rattle.law_order.specs.Below.fkv_session.Finished.{Finished}

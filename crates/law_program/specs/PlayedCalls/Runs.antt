@@ -1,11 +1,11 @@
 -- Runs of a store in memory whose calls aren't interleaved: piece by piece, in the life in hand, or behind a crash in the next one.
 use Rattle.std.specs.Prelude.{◌≡◌, ◌⊎◌, ⊤, ℕ, Bool, true, false, List, [], ◌∷◌, ◌++◌}
 use Rattle.law_order.specs.Below.fkv_opening.TheOpened.{Opened}
-use Rattle.fkv_playing.specs.InTurn.{InTurn}
-use Rattle.fkv_playing.specs.Players.{PlayerState}
-use Rattle.fkv_playing.specs.declared.calls.ActorCall.{ActorCall}
-use Rattle.fkv_playing.specs.declared.calls.Telling.TheVariants.{Whole}
-use Rattle.fkv_playing.specs.declared.players.Waits.{Waits}
+use Rattle.fkv_runs.specs.Below.fkv_playing.InTurn.{InTurn}
+use Rattle.fkv_runs.specs.Below.fkv_playing.Players.{PlayerState}
+use Rattle.fkv_runs.specs.Below.fkv_playing.ActorCall.{ActorCall}
+use Rattle.fkv_runs.specs.Below.fkv_playing.Telling.TheVariants.{Whole}
+use Rattle.fkv_runs.specs.Below.fkv_playing.Waits.{Waits}
 use Rattle.fkv_runs.specs.Crashes.{IsRefusal}
 use Rattle.fkv_runs.specs.Openings.{Medium}
 use Rattle.fkv_runs.specs.Runs.{IsCrashed, IsPiece, RunState}

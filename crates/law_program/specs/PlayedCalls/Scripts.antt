@@ -16,7 +16,7 @@ use Rattle.fkv_map.specs.declared.operations.Op.{Op}
 use Rattle.law_order.specs.Below.fkv_opening.Opened.{IsStoreOf}
 use Rattle.law_order.specs.Below.fkv_opening.TheOpened.{Opened}
 use Rattle.law_order.specs.Below.law_opening.Log.Maps.{opening_map}
-use Rattle.fkv_playing.specs.Players.{PlayerState}
+use Rattle.fkv_runs.specs.Below.fkv_playing.Players.{PlayerState}
 use Rattle.fkv_runs.specs.Files.{IsRunOfLife}
 use Rattle.fkv_runs.specs.Openings.{Begins, Medium}
 use Rattle.fkv_runs.specs.Pieces.{ArePieces}

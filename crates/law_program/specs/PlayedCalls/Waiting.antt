@@ -8,7 +8,7 @@ use Rattle.fkv_map.specs.declared.operations.Call.TheVariants as call
 use Rattle.fkv_map.specs.declared.operations.Op.TheVariants.{Read}
 use Rattle.law_order.specs.Below.fkv_opening.TheOpened.{Opened}
 use Rattle.law_order.specs.Below.fkv_pending.Ticket.{Ticket}
-use Rattle.fkv_playing.specs.Seats.{SeatState}
+use Rattle.fkv_runs.specs.Below.fkv_playing.Seats.{SeatState}
 use Rattle.law_order.specs.Below.fkv_session.Answer.{Answer}
 use Rattle.law_order.specs.Below.fkv_session.Finished.TheVariants as finished
 use Rattle.fkv_texts.specs.Polls.{key_of_ticket}
