@@ -81,7 +81,7 @@ def made_large(folder):
     updates = [f"{key % 2} up {key * 4096} {key + 7}" for key in range(40)]
     # a turn behind each quarter of a page, so that no update waits for room
     lines = [line for key, update in enumerate(updates) for line in (update, "k turn")[: 2 if key % 4 == 3 else 1]]
-    script = ["large 12 16 4 2 2 0 64", *lines, "0 del 0", "k commit", "k finish"]
+    script = ["large 12 16 4 2 2 8 64", *lines, "0 del 0", "k commit", "k finish"]
     need("a large store", played(pair.old, "\n".join(script) + "\n")[1][-1], "k finished 1 points 21 20")
     with open(pair.old, "rb") as file:
         image = file.read()

@@ -38,12 +38,24 @@ module _ {N : Type 0} (honest : N → Type 0) (seen : N → List ℕ) (may_leave
 
   module _ {O : Type 0} (old_honest : O → Type 0) (old_seen : O → List ℕ) where
     -- so a store is renewed from one device to another
-    pub renewed_so : (wanted : Option Shape) (old : O) (named : Option N) (store : Store) (shape : Shape) (saved : Saved) → shape ≡ unwrap_or wanted store.opened.shape → (old_honest old → IsHeld (old_seen old) store)
-        → HasRoomFor shape store.opened.points.items store.pairs.items → IsSomeAnd named (IsRenewalOf honest seen may_leave store shape) → saved ≡ saved_of store shape
+    pub renewed_so : (wanted : Option Shape) (old : O) (named : Option N) (store : Store) (shape : Shape) (saved : Saved) → (old_honest old → AreSomePairs store.pairs.items) → shape ≡ unwrap_or wanted store.opened.shape
+        → (old_honest old → IsHeld (old_seen old) store) → HasRoomFor shape store.opened.points.items store.pairs.items → IsSomeAnd named (IsRenewalOf honest seen may_leave store shape) → saved ≡ saved_of store shape
         → (new : N) × (named ≡ Some new) × Renews old_honest old_seen honest seen may_leave wanted old new saved
-    renewed_so wanted old None store shape saved sized held room renewed says = absurd renewed
-    renewed_so wanted old (Some new) store shape saved sized held room renewed says =
-        (new, refl, record { store = store; shape = shape; its_shape = sized; held = held; room = room; renewed = renewed; says = says })
+    renewed_so wanted old None store shape saved some sized held room renewed says = absurd renewed
+    renewed_so wanted old (Some new) store shape saved some sized held room renewed says = (
+      new,
+      refl,
+      record {
+        store = store;
+        shape = shape;
+        its_shape = sized;
+        room = room;
+        says = says;
+        held = held;
+        renewed = λ o n. renewed.reads n (some o);
+        synced = renewed.synced;
+      },
+    )
 
 -- why it isn't
 pub no_room : (wanted : Option Shape) (store : Store) (shape : Shape) (its : Refusal) → shape ≡ unwrap_or wanted store.opened.shape → IsHindrance shape store.opened.points.items store.pairs.items its → HasNoRoom wanted its

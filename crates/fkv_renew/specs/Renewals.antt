@@ -30,21 +30,22 @@ saved_of store shape = record {
   after = taken_of shape (length store.pairs.items + 1) 1;
 }
 
--- A device, if it is honest, reads as the renewal of this store to this shape, and a crash leaves just that.
+-- A device, if it is honest, reads as the renewal of this store to this shape, whose pairs are some store's; and a crash leaves just that.
 pub record IsRenewalOf {N : Type 0} (honest : N → Type 0) (seen : N → List ℕ) (may_leave : N → List ℕ → Type 0) (store : Store) (shape : Shape) (device : N) : Type 0 where
   pub reads : honest device → AreSomePairs store.pairs.items → IsRenewal shape store.opened.points.items store.pairs.items (seen device)
   pub synced : honest device → LeavesOnly (seen device) (may_leave device)
 
--- From one device to another a store is renewed, to the shape that is wanted or else to its own, which has room for it: the old device, if it is honest, holds this
--- store; the new one is its renewal; and this is saved.
+-- From one device to another a store is renewed, to the shape that is wanted or else to its own, which has room for it; and this is saved. If the old device is honest,
+-- it holds this store. If both are, the new one reads as its renewal, and a crash leaves just that.
 pub record Renews {O N : Type 0} (old_honest : O → Type 0) (old_seen : O → List ℕ) (honest : N → Type 0) (seen : N → List ℕ) (may_leave : N → List ℕ → Type 0) (wanted : Option Shape) (old : O) (new : N) (saved : Saved) : Type 0 where
   pub store : Store
   pub shape : Shape
   pub its_shape : shape ≡ unwrap_or wanted store.opened.shape
-  pub held : old_honest old → IsHeld (old_seen old) store
   pub room : HasRoomFor shape store.opened.points.items store.pairs.items
-  pub renewed : IsRenewalOf honest seen may_leave store shape new
   pub says : saved ≡ saved_of store shape
+  pub held : old_honest old → IsHeld (old_seen old) store
+  pub renewed : old_honest old → honest new → IsRenewal shape store.opened.points.items store.pairs.items (seen new)
+  pub synced : honest new → LeavesOnly (seen new) (may_leave new)
 
 -- ---- what is refused
 

@@ -13,7 +13,7 @@ use fkv_base::{Addr, Fault, Shape, Version};
 use fkv_disk::{Device, FileDisk};
 use fkv_files::{Lockable, Trouble, expect_none, open_alone};
 use fkv_lines::Sizes;
-use fkv_renewing::renew;
+use fkv_renewing::{law_pairs, renew};
 use std::alloc::{AllocError, Global};
 use std::io::Write;
 use std::rt::Files;
@@ -105,6 +105,7 @@ fn renew_store<D: Device + Drop, P: Place, E: Write>(
     ensures err { IfErr result (HasNoRoom wanted) }
     ensures unnamed { OnErr result (P.named place.new ≡ P.named place.old) }
 {
+    law_pairs();
     teller.step("1 of 2: reading the old store");
     // The device is kept to the end, and its file's lock with it.
     let (_device, store) = match read_store(alloc, device, length) {
