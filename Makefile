@@ -3,6 +3,7 @@
 # make test    the gate: whether generated pages are up to date, what crates name of each other, every proof from nothing, the
 #              must-fail edits, the tests and the program; then tools/openings, and what `make rows`, `make memory` and `make large` do
 # make fkv     proves the program, says at which crate it is, and leaves it at build/fkv
+# make face    proves the library for C, and leaves it at build/libfkv.a, with its header, build/fkv.h
 # make rows    runs the built program on whole scripts, and compares what it writes
 # make memory  runs stored scripts, a store's creation and its opening, a commit's copy and the options' words, with each request for memory refused in turn
 # make large   plays scripts of 2^20 keys over a large store, in a file and in memory, and compares with a plain map
@@ -23,7 +24,7 @@ SECONDS ?= 60
 # The crates whose wrong bodies `make audit` tries, as CRATES="fkv_log fkv_ops"; all where nothing is said.
 CRATES ?=
 
-.PHONY: run test fkv rows memory large bench hammer gate audit docs toolchain
+.PHONY: run test fkv face rows memory large bench hammer gate audit docs toolchain
 
 run: toolchain
 	@tools/script/run "$(SCRIPT)" $(WORDS)
@@ -46,6 +47,14 @@ test: toolchain
 
 fkv: toolchain
 	@tools/script/prove
+
+# The library of the toolchain that the store's memory comes from goes into the same file.
+face: toolchain
+	cd crates/fkv_face && rt lib > /dev/null
+	@mkdir -p build
+	@rm -f build/libfkv.a
+	printf 'create build/libfkv.a\naddlib crates/fkv_face/out/libfkv_face.a\naddlib %s/c/liblibc_c.a\nsave\nend\n' "$$(dirname "$$(dirname "$$(realpath "$$(command -v rt)")")")" | ar -M
+	@cp face/fkv.h build/fkv.h
 
 rows: fkv
 	tools/rows/run build/fkv
