@@ -1,0 +1,12 @@
+-- The image is refused as recovery refuses it.
+use Rattle.std.proofs.Common.{[]}
+use Rattle.fkv_posted.specs.Outcomes.{AreOutcomes}
+use Rattle.fkv_posted.specs.Posting.{with_told}
+use Rattle.fkv_handles.proofs.Refused.{refused_by}
+use Rattle.fkv_handles.proofs.opening.opened_from.Goals as goal
+
+pub returns-in-Err-clause-refused : goal.returns-in-Err-clause-refused
+returns-in-Err-clause-refused c =
+    let p = c.new-shown.result in
+    let err = rw c.new-shown.ensures.outcomes at c.in-Err.ensures.err in
+    rw (← c.new-shown.ensures.opened) (refused_by p.failures c.recover.new.d.failures (AreOutcomes p.log.opened (with_told p.failures p.told [])) p.log.opened c.in-Err.why (rw (c.new-shown.ensures.failures, c.new-shown.ensures.told) tt) err)

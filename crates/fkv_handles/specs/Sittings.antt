@@ -1,0 +1,27 @@
+-- The calls of a session that a handle holds.
+use Rattle.std.specs.Prelude.{◌≡◌, Option, None, Some}
+use Rattle.fkv_base.specs.declared.faults.Fault.TheVariants.{NoSession}
+use Rattle.fkv_map.specs.declared.operations.Call.{Call}
+use Rattle.fkv_session.specs.declared.answers.Answer.{Answer}
+use Rattle.fkv_session.specs.declared.answers.Answer.TheVariants.{Refused}
+use Rattle.fkv_world.specs.Runs.{World}
+use Rattle.fkv_handles.specs.declared.views.Sitting.{Sitting}
+use Rattle.fkv_threads.specs.Said as said
+
+module _ {K : Type 0} (at : K → World) where
+  -- The session has run this call at its table, and all that the thread law says of a call is so of it.
+  pub record IsCallOf (s : Sitting K) (call : Call) (answer : Answer) (s' : Sitting K) : Type 0 where
+    pub number : s'.number ≡ s.number
+    pub key : s'.key ≡ s.key
+    pub called : said.IsRun at s.key (said.run_of s.number call answer s.seen s'.seen)
+    pub in_lives : said.IsLawful at s.key (said.run_of s.number call answer s.seen s'.seen) said.IsWithin
+    pub durable : said.OfThisRun at s.key (said.run_of s.number call answer s.seen s'.seen) said.IsWithin said.TellsItsDurable
+    pub never_falls : said.OfThisRun at s.key (said.run_of s.number call answer s.seen s'.seen) said.IsWithin said.ItsDurableNeverFalls
+    pub recovered : said.OfThisRun at s.key (said.run_of s.number call answer s.seen s'.seen) said.IsWithin (said.RecoversItsDurable at)
+
+  -- A handle's call. One that was ended answers `NoSession`, and stays so.
+  abbrev pub IsCalled : Option (Sitting K) → Call → Answer → Option (Sitting K) → Type 0
+  IsCalled (Some s) call answer (Some s') = IsCallOf s call answer s'
+  IsCalled (Some s) call answer None = ⊥
+  IsCalled None call answer None = answer ≡ Refused NoSession
+  IsCalled None call answer (Some s') = ⊥

@@ -1,0 +1,21 @@
+//! The image of a new store.
+ghost use Rattle.std.specs.Prelude.{◌≡◌, [], IfOk, OnErr, Err};
+ghost use Rattle.fkv_base.specs.declared.faults.Fault.TheVariants.{Memory};
+ghost use Rattle.fkv_creating.specs.Created.{created_bytes};
+
+use fkv_base::{Fault, Shape};
+use fkv_creating::create;
+use fkv_disk::MemDisk;
+use std::alloc::Global;
+
+/// The bytes of a new store of this shape, 1,536 of them, for a file that the caller makes. `Memory` where memory was refused.
+pub fn image_of(alloc: Global, shape: Shape) -> Result<Vec<u8>, Fault>
+    ensures bytes { IfOk result (λ bytes. bytes.items ≡ created_bytes [] shape) }
+    ensures memory { OnErr result (result ≡ Err Memory) }
+{
+    let mut disk = MemDisk::new(alloc);
+    match create(&mut disk, shape) {
+        Ok(_) => Ok(disk.into_bytes()),
+        Err(_) => Err(Fault::Memory),
+    }
+}

@@ -1,0 +1,19 @@
+//! What a program holds of a store that it embeds: the store, its sessions and its keeper, each with its share of the table.
+#![tactic(auto)]
+
+mod images;
+mod keepers;
+mod keeping;
+mod opening;
+mod refusals;
+mod seated;
+mod sessions;
+mod stores;
+mod views;
+
+pub use images::image_of;
+pub use keepers::Keeper;
+pub use refusals::Refusal;
+pub use sessions::Session;
+pub use stores::{Recovered, Store};
+pub use views::{Sitting, Watch};

@@ -1,0 +1,57 @@
+//! A session with its pass at a table that handles share.
+ghost use Rattle.std.specs.Prelude.{◌≡◌};
+ghost use Rattle.fkv_handles.specs.Sittings.{IsCallOf};
+ghost use Rattle.fkv_table.specs.Planes.{opening_of};
+
+use fkv_base::Fault;
+use fkv_disk::Device;
+use fkv_map::Call;
+use fkv_posted::Posted;
+use fkv_session::Answer;
+use fkv_table::{Pass, Session, Table};
+use fkv_threads::run;
+use std::alloc::Global;
+use std::marker::Model;
+use std::sync::Arc;
+
+/// A session that is ready for its next call, with its pass, and its share of the table.
+#[derive(Drop)]
+pub struct Seated {
+    pub(crate) table: Arc<Table<Posted<'static>>, Global>,
+    pub(crate) session: Session,
+    /// It is out only while a call runs.
+    pub(crate) pass: Option<Pass<Posted<'static>>>,
+}
+
+impl Model for Seated {
+    ghost use Rattle.std.specs.Prelude.{◌≡◌, IfSome, is_some, true};
+    ghost use Rattle.std.specs.declared.snapshot.Snapshot.{Snapshot};
+    ghost use Rattle.fkv_core.specs.Worlds.{WorldModel};
+    ghost use Rattle.fkv_handles.specs.declared.views.Sitting.{Sitting};
+    ghost use Rattle.fkv_handles.specs.Passes.{seen_by};
+    ghost use Rattle.fkv_posted.specs.declared.posted.Posted.{Posted as Medium};
+    ghost use Rattle.fkv_table.specs.Calls.{IsReady};
+    ghost use Rattle.fkv_table.specs.Planes.{opening_of};
+
+    ghost Value = { Sitting (Snapshot (WorldModel Medium)) };
+
+    ghost view = { λ s. record { number = s.session.machine.seat.number; key = s.table.value.table.shared.key; seen = seen_by s.pass } };
+
+    ghost invariant = { λ s. (is_some s.pass ≡ true) × IfSome s.pass (λ p. IsReady (opening_of ⟦<Posted<'static> as Device>⟧.seen) s.table.value.table.shared.key s.table.value.table.shared.table_id p.seat.table_id p.seat.me s.session.machine s.session.desk) };
+}
+
+impl Seated {
+    /// Runs a call to its end, as `fkv_threads::run` does. It waits for no other thread.
+    pub fn call(&mut self, call: Call) -> Answer
+        ensures called { IsCallOf (opening_of ⟦<Posted<'static> as Device>⟧.seen) self.old call result self.new }
+    {
+        match self.pass.take() {
+            Some(pass) => {
+                let (pass, answer) = run(&mut self.session, &self.table, pass, call);
+                self.pass = Some(pass);
+                answer
+            }
+            None => Answer::Refused(Fault::NoSession),
+        }
+    }
+}

@@ -1,0 +1,69 @@
+//! A session's handle.
+ghost use Rattle.std.specs.Prelude.{◌≡◌, None};
+ghost use Rattle.fkv_handles.specs.Handles.{keys_of, sitting_of};
+ghost use Rattle.fkv_handles.specs.Laid.{laid_call, laid_op};
+ghost use Rattle.fkv_handles.specs.Sittings.{IsCalled};
+ghost use Rattle.fkv_table.specs.Planes.{opening_of};
+
+use crate::seated::Seated;
+use fkv_base::Fault;
+use fkv_disk::Device;
+use fkv_map::{Call, Op};
+use fkv_posted::Posted;
+use fkv_session::Answer;
+use fkv_spread::Keys;
+
+/// A session's handle, until it is ended. It may go into any thread.
+#[derive(Drop)]
+pub struct Session {
+    pub(crate) keys: Keys,
+    pub(crate) seated: Option<Seated>,
+}
+
+/// The operation on the key as it lies in the store.
+#[inline(always)]
+fn laid(keys: Keys, op: Op) -> Op
+    ensures { result ≡ laid_op keys op }
+{
+    match op {
+        Op::Upsert(key, value) => Op::Upsert(keys.laid(key), value),
+        Op::Delete(key) => Op::Delete(keys.laid(key)),
+        Op::Add(key, number) => Op::Add(keys.laid(key), number),
+        Op::Max(key, number) => Op::Max(keys.laid(key), number),
+        Op::Read(key) => Op::Read(keys.laid(key)),
+    }
+}
+
+/// The call on the key as it lies in the store.
+#[inline(always)]
+fn laid_in(keys: Keys, call: Call) -> Call
+    ensures { result ≡ laid_call keys call }
+{
+    match call {
+        Call::Op(op) => Call::Op(laid(keys, op)),
+        other => other,
+    }
+}
+
+impl Session {
+    /// Runs a call to its end, as `fkv_threads::run` does: it waits for no other thread, and a refusal is one of the answers. The key of an
+    /// operation is the caller's. `NoSession` once the handle is ended.
+    pub fn call(&mut self, call: Call) -> Answer
+        ensures called { IsCalled (opening_of ⟦<Posted<'static> as Device>⟧.seen) (sitting_of self.old) (laid_call (keys_of self.old) call) result (sitting_of self.new) }
+        ensures keys { keys_of self.new ≡ keys_of self.old }
+    {
+        let call = laid_in(self.keys, call);
+        match &mut self.seated {
+            Some(seated) => seated.call(call),
+            None => Answer::Refused(Fault::NoSession),
+        }
+    }
+
+    /// Ends the handle, and gives its share of the table up. A session that is awake holds each later commit up: it sleeps first.
+    pub fn end(&mut self)
+        ensures ended { sitting_of self.new ≡ None }
+        ensures keys { keys_of self.new ≡ keys_of self.old }
+    {
+        self.seated = None;
+    }
+}

@@ -1,0 +1,122 @@
+//! A store with the handles that nobody has taken yet.
+ghost use Rattle.std.specs.Prelude.{◌≡◌, [], IfOk, IfErr, OnOk, OnErr, Err, Ok, None, true, false};
+ghost use Rattle.fkv_handles.specs.Handles.{IsGiven, IsKeeperGiven, store_is_open, store_keeper, store_keys, store_sessions};
+ghost use Rattle.fkv_handles.specs.Opens.{IsOpenedFrom, IsOpeningRefused};
+ghost use Rattle.fkv_handles.specs.declared.refusals.Refusal.TheVariants.{HandleOut};
+ghost use Rattle.fkv_table.specs.Planes.{opening_of};
+
+use crate::keepers::Keeper;
+use crate::keeping::Keeping;
+use crate::opening::{handles_of, kept, opened_from, told_of};
+use crate::refusals::Refusal;
+use crate::seated::Seated;
+use crate::sessions::Session;
+use fkv_base::{Fault, Serial, Shape, Version};
+use fkv_disk::Device;
+use fkv_posted::Posted;
+use fkv_spread::Keys;
+use fkv_table::{OpenTable, Table};
+use std::alloc::Global;
+use std::sync::Arc;
+
+/// A store, with the handles that nobody has taken yet.
+#[derive(Drop)]
+pub struct Store {
+    pub(crate) keys: Keys,
+    /// None once the store is closed.
+    pub(crate) table: Option<Arc<Table<Posted<'static>>, Global>>,
+    pub(crate) sessions: Vec<Option<Seated>>,
+    pub(crate) keeper: Option<Keeping>,
+}
+
+/// What an image has told, as a store is opened from it.
+#[derive(Drop)]
+pub struct Recovered {
+    pub shape: Shape,
+    /// The number of its newest commit.
+    pub number: Version,
+    /// The point of each session.
+    pub points: Vec<Serial>,
+}
+
+impl Store {
+    /// Opens the store of this image, as `recover` does. The bytes are those of the file, all of them synced. They aren't needed behind the call.
+    /// `NotAStore`, `Damaged` or `Memory`.
+    pub fn open(alloc: Global, bytes: &[u8], keys: Keys) -> Result<(Store, Recovered), Fault>
+        ensures opened { IfOk result (λ r. IsOpenedFrom (opening_of ⟦<Posted<'static> as Device>⟧.seen) bytes.now keys r.0 r.1) }
+        ensures refused { IfErr result (IsOpeningRefused bytes.now) }
+    {
+        let (opened, medium) = opened_from(alloc, bytes)?;
+        let told = told_of(alloc, &opened)?;
+        let OpenTable {
+            table,
+            sessions,
+            keeper,
+            pass,
+            device,
+        } = fkv_threads::open(alloc, opened, medium)?;
+        let table = Arc::new(alloc, table)?;
+        let share = Arc::try_clone(&table)?;
+        let keeping = kept(share, keeper, pass, device);
+        let store = handles_of(alloc, table, sessions, keeping, keys)?;
+        Ok((store, told))
+    }
+
+    /// Takes a session's handle. `NoSession` where the shape has none of this number, `HandleTaken` where it was taken before.
+    pub fn take_session(&mut self, number: usize) -> Result<Session, Refusal>
+        ensures given { IsGiven (store_keys self.old) (store_sessions self.old) number result (store_sessions self.new) }
+        ensures keeper { store_keeper self.new ≡ store_keeper self.old }
+        ensures keys { store_keys self.new ≡ store_keys self.old }
+    {
+        match self.sessions.get_mut(number) {
+            None => Err(Refusal::Fault(Fault::NoSession)),
+            Some(place) => match place.take() {
+                None => Err(Refusal::HandleTaken),
+                Some(seated) => Ok(Session {
+                    keys: self.keys,
+                    seated: Some(seated),
+                }),
+            },
+        }
+    }
+
+    /// Takes the keeper's handle. `HandleTaken` where it was taken before.
+    pub fn take_keeper(&mut self) -> Result<Keeper, Refusal>
+        ensures given { IsKeeperGiven (store_keeper self.old) result (store_keeper self.new) }
+        ensures sessions { store_sessions self.new ≡ store_sessions self.old }
+        ensures keys { store_keys self.new ≡ store_keys self.old }
+    {
+        match self.keeper.take() {
+            None => Err(Refusal::HandleTaken),
+            Some(keeping) => Ok(Keeper {
+                keeping: Some(keeping),
+            }),
+        }
+    }
+
+    /// Closes the store, and frees its table. While a handle is out this is refused with `HandleOut`; then what wasn't taken can't be taken any
+    /// more. A store that is closed stays so.
+    pub fn close(&mut self) -> Result<(), Refusal>
+        ensures closed { OnOk result (store_is_open self.new ≡ false) }
+        ensures out { OnErr result (result ≡ Err HandleOut) }
+        ensures still_open { OnErr result (store_is_open self.new ≡ true) }
+        ensures again { store_is_open self.old ≡ false → result ≡ Ok tt }
+        ensures dropped { (store_sessions self.new ≡ []) × (store_keeper self.new ≡ None) }
+    {
+        self.sessions.clear();
+        self.keeper = None;
+        match self.table.take() {
+            None => Ok(()),
+            Some(table) => match Arc::try_unwrap(table) {
+                Ok(table) => {
+                    fkv_threads::close(table);
+                    Ok(())
+                }
+                Err(shared) => {
+                    self.table = Some(shared);
+                    Err(Refusal::HandleOut)
+                }
+            },
+        }
+    }
+}
