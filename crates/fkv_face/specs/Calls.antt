@@ -1,0 +1,65 @@
+-- What a session's exports tell.
+use Rattle.std.specs.Prelude.{◌≡◌, ℕ, ℤ}
+use Rattle.fkv_map.specs.declared.operations.Call.{Call}
+use Rattle.fkv_map.specs.declared.operations.Call.TheVariants as call
+use Rattle.fkv_map.specs.declared.operations.Op.{Op}
+use Rattle.fkv_map.specs.declared.operations.Op.TheVariants as op
+use Rattle.fkv_world.specs.Runs.{World}
+use Rattle.fkv_handles.specs.declared.sessions.Session.{Session}
+use Rattle.fkv_handles.specs.Handles.{Opening}
+use Rattle.fkv_face.specs.declared.sessions.Seen.{Seen}
+use Rattle.fkv_face.specs.declared.sessions.Update.{Update}
+use Rattle.fkv_face.specs.declared.told.Numbers.{Numbers}
+pub use Rattle.fkv_face.specs.Told.{IsToldIn, HasAnswered}
+
+abbrev pub upsert_of : ℕ → ℕ → Op
+upsert_of key value = op.Upsert (record { 0 = key }) (record { 0 = value })
+
+abbrev pub add_of : ℕ → ℕ → Op
+add_of key number = op.Add (record { 0 = key }) number
+
+abbrev pub max_of : ℕ → ℕ → Op
+max_of key number = op.Max (record { 0 = key }) number
+
+abbrev pub delete_of : ℕ → Op
+delete_of key = op.Delete (record { 0 = key })
+
+abbrev pub read_of : ℕ → Op
+read_of key = op.Read (record { 0 = key })
+
+abbrev pub refresh : Call
+refresh = call.Refresh
+
+abbrev pub sleep : Call
+sleep = call.Sleep
+
+abbrev pub wake : Call
+wake = call.Wake
+
+abbrev pub durable : Call
+durable = call.Durable
+
+abbrev pub poll : Call
+poll = call.Poll
+
+module _ (at : Opening → World) where
+  -- a call that tells nothing but its result
+  abbrev pub IsPlain : Session → Call → ℤ → Session → Type 0
+  IsPlain before its result after = (told : Numbers) × IsToldIn at before its told after × (result ≡ told.result)
+
+  -- one that tells a number
+  abbrev pub IsOneNumber : Session → Call → ℤ → ℕ → Session → Type 0
+  IsOneNumber before its result number after = (told : Numbers) × IsToldIn at before its told after × (result ≡ told.result) × (number ≡ told.first)
+
+  -- a read
+  abbrev pub IsRead : Session → ℕ → ℤ → ℕ → Session → Type 0
+  IsRead before key result value after = IsOneNumber before (call.Op (read_of key)) result value after
+
+  -- one that tells phase and version
+  abbrev pub IsSeen : Session → Call → ℤ → Seen → Session → Type 0
+  IsSeen before its result seen after = (told : Numbers) × IsToldIn at before its told after × (result ≡ told.result) × (seen ≡ record { phase = told.first; version = told.second })
+
+  -- an update
+  abbrev pub IsUpdated : Session → Op → ℤ → Update → Session → Type 0
+  IsUpdated before its result update after =
+      (told : Numbers) × IsToldIn at before (call.Op its) told after × (result ≡ told.result) × (update ≡ record { serial = told.first; value = told.second; reason = told.third })

@@ -1,0 +1,11 @@
+pub mod Calls
+pub mod Lending
+pub mod Names
+pub mod Numbers
+pub mod Outcomes
+pub mod Points
+pub mod Polls
+pub mod Sizes
+pub mod Stores
+pub mod Told
+pub mod Turns

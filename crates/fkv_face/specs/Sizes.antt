@@ -1,0 +1,37 @@
+-- Sizes of a store, and what its image has told.
+use Rattle.std.specs.Prelude.{◌≡◌, ℕ, Bool}
+use Rattle.fkv_base.specs.Limits.{is_shape}
+use Rattle.fkv_base.specs.declared.faults.Damage.{Damage}
+use Rattle.fkv_base.specs.declared.faults.Damage.TheVariants as damage
+use Rattle.fkv_base.specs.declared.faults.Fault.{Fault}
+use Rattle.fkv_base.specs.declared.faults.Fault.TheVariants.{Damaged}
+use Rattle.fkv_base.specs.declared.shapes.Shape.{Shape}
+use Rattle.fkv_face.specs.declared.sizes.Image.{Image}
+use Rattle.fkv_face.specs.declared.sizes.Sizes.{Sizes}
+pub use Rattle.fkv_face.specs.Points.{ArePoints}
+
+-- the shape has these sizes
+pub record HasSizes (sizes : Sizes) (shape : Shape) : Type 0 where
+  pub bucket_bits : shape.bucket_bits ≡ sizes.bucket_bits
+  pub page : shape.page ≡ sizes.page
+  pub frames : shape.frames ≡ sizes.frames
+  pub mutable : shape.mutable ≡ sizes.mutable_pages
+  pub sessions : shape.sessions ≡ sizes.sessions
+  pub overflow : shape.overflow ≡ sizes.overflow
+  pub disk_pages : shape.disk_pages ≡ sizes.disk_pages
+
+-- they are those of a shape, small or large
+abbrev pub are_sizes : Sizes → Bool
+are_sizes s = is_shape s.bucket_bits s.page s.frames s.mutable_pages s.sessions s.overflow s.disk_pages
+
+abbrev pub damage_number : Damage → ℕ
+damage_number damage.Manifest = 1
+damage_number damage.Triple = 2
+damage_number damage.Record = 3
+damage_number damage.Link = 4
+damage_number damage.Full = 5
+
+-- with the part that is damaged, where that is the fault
+abbrev pub damaged_by : Fault → Image → Image
+damaged_by (Damaged part place) image = record image { damage = damage_number part; place = place }
+damaged_by other image = image

@@ -1,0 +1,76 @@
+-- What the keeper's exports tell.
+use Rattle.std.specs.Prelude.{◌≡◌, ℕ, zero, suc, ℤ, pos, Bool, true, false, List, length, Option, Some, None, Result, Ok, Err}
+use Rattle.fkv_base.specs.declared.commits.CommitKind.{CommitKind}
+use Rattle.fkv_base.specs.declared.commits.CommitKind.TheVariants.{Full, Log}
+use Rattle.fkv_base.specs.declared.numbers.Version.{Version}
+use Rattle.fkv_base.specs.declared.faults.Fault.{Fault}
+use Rattle.fkv_disk.specs.Asks.{AskedCall, Reads, Writes, Syncs}
+use Rattle.fkv_keeper.specs.declared.answers.Finished.{Finished}
+use Rattle.fkv_keeper.specs.declared.answers.Turn.{Turn}
+use Rattle.fkv_posted.specs.declared.posted.Posted.{Posted}
+use Rattle.fkv_table.specs.declared.turns.TurnAsk.{TurnAsk}
+use Rattle.fkv_table.specs.declared.turns.TurnAsk.TheVariants.{Device, Over}
+use Rattle.fkv_world.specs.Runs.{World}
+use Rattle.fkv_handles.specs.declared.keepers.Keeper.{Keeper}
+use Rattle.fkv_handles.specs.Kept.{IsAskedBy, IsToldBy, IsTurnedBy}
+use Rattle.fkv_face.specs.declared.keepers.Turned.{Turned}
+use Rattle.fkv_face.specs.Numbers.{fault_told}
+use Rattle.fkv_face.specs.Points.{ArePoints}
+pub use Rattle.fkv_handles.specs.Handles.{IsToldHonestly, Opening, due_of, watch_of}
+pub use Rattle.fkv_face.specs.Outcomes.{outcome_of}
+
+-- Where the call lies that is posted. A write's bytes lie where the pointer says.
+abbrev pub IsPosted : Option AskedCall → ℤ → Turned → Turned → Type 0
+IsPosted (Some (Reads at count)) result t t' = (result ≡ pos 1) × (t' ≡ record t { place = at; length = count })
+IsPosted (Some (Writes at bytes)) result t t' = (result ≡ pos 2) × (t' ≡ record t { place = at; length = length bytes; bytes = t'.bytes })
+IsPosted (Some Syncs) result t t' = (result ≡ pos 3) × (t' ≡ t)
+IsPosted None result t t' = (result ≡ pos 0) × (t' ≡ t)
+
+abbrev pub drain_told : Bool → ℕ
+drain_told true = 1
+drain_told false = 0
+
+-- the commit that the turn has finished
+abbrev pub IsFinished : Option Finished → Turned → Turned → List ℕ → List ℕ → Type 0
+IsFinished (Some its) t t' points points' = (t' ≡ record t { finished = 1; number = its.number.0 }) × ArePoints its.points.items points points'
+IsFinished None t t' points points' = (t' ≡ record t { finished = 0 }) × (points' ≡ points)
+
+abbrev pub IsOver : Turn → ℤ → Turned → Turned → List ℕ → List ℕ → Type 0
+IsOver turn result t t' points points' = (result ≡ pos 0) × IsFinished turn.finished (record t { drain_full = drain_told turn.drain_full }) t' points points'
+
+-- what comes next of a turn
+abbrev pub IsNext : TurnAsk → Option AskedCall → ℤ → Turned → Turned → List ℕ → List ℕ → Type 0
+IsNext Device due result t t' points points' = IsPosted due result t t' × (points' ≡ points)
+IsNext (Over (Ok turn)) due result t t' points points' = IsOver turn result t t' points points'
+IsNext (Over (Err why)) due result t t' points points' = (result ≡ fault_told why) × (t' ≡ t) × (points' ≡ points)
+
+abbrev pub kind_of : ℕ → CommitKind
+kind_of zero = Full
+kind_of (suc n) = Log
+
+abbrev pub IsBegun : Result Version Fault → ℤ → ℕ → ℕ → Type 0
+IsBegun (Ok version) result number number' = (result ≡ pos 0) × (number' ≡ version.0)
+IsBegun (Err why) result number number' = (result ≡ fault_told why) × (number' ≡ number)
+
+module _ (at : Opening → World) where
+  -- The handle has made a turn's piece, and C is told what comes next.
+  pub record IsTurned (before : Keeper) (result : ℤ) (t t' : Turned) (points points' : List ℕ) (after : Keeper) : Type 0 where
+    pub next : TurnAsk
+    pub turned : IsTurnedBy at (watch_of before) next (watch_of after)
+    pub code : ℤ
+    pub is : result ≡ code
+    pub told : IsNext next (due_of (watch_of after)) code t t' points points'
+
+  -- So it has behind what it was told of the call that was posted.
+  pub record IsTold (moment : Posted → ℕ) (left_since : Posted → ℕ → List ℕ → Type 0) (failed : ℕ) (bytes : List ℕ) (before : Keeper) (result : ℤ) (t t' : Turned) (points points' : List ℕ) (after : Keeper) : Type 0 where
+    pub next : TurnAsk
+    pub turned : IsToldBy at moment left_since (outcome_of (due_of (watch_of before)) failed bytes) (watch_of before) next (watch_of after)
+    pub code : ℤ
+    pub is : result ≡ code
+    pub told : IsNext next (due_of (watch_of after)) code t t' points points'
+
+  -- A commit was asked for.
+  pub record HasAsked (log_only : ℕ) (before : Keeper) (result : ℤ) (number number' : ℕ) (after : Keeper) : Type 0 where
+    pub begun : Result Version Fault
+    pub asked : IsAskedBy at (kind_of log_only) (watch_of before) begun (watch_of after)
+    pub told : IsBegun begun result number number'

@@ -1,0 +1,139 @@
+//! A session's calls.
+ghost use Rattle.std.specs.Prelude.{◌≡◌};
+ghost use Rattle.fkv_face.specs.Calls as says;
+ghost use Rattle.fkv_table.specs.Planes.{opening_of};
+
+use crate::held_session::HeldSession;
+use crate::told::{Numbers, told_of};
+use fkv_base::{Key, Value};
+use fkv_disk::Device;
+use fkv_map::{Call, Op};
+use fkv_posted::Posted;
+
+/// What an update has told: its serial, the value that an add or a max left, and why it waits, if it does.
+#[repr(C)]
+pub struct Update {
+    pub serial: u64,
+    pub value: u64,
+    pub reason: u64,
+}
+
+/// The phase and the version that a session has seen.
+#[repr(C)]
+pub struct Seen {
+    pub phase: u64,
+    pub version: u64,
+}
+
+pub(crate) fn run(session: &mut HeldSession, call: Call) -> Numbers
+    ensures { says.IsToldIn (opening_of ⟦<Posted<'static> as Device>⟧.seen) session.old.value call result session.new.value }
+{
+    told_of(session.lent().call(call))
+}
+
+fn make_update(session: &mut HeldSession, op: Op, told: &mut Update) -> i32
+    ensures { says.IsUpdated (opening_of ⟦<Posted<'static> as Device>⟧.seen) session.old.value op result told.new session.new.value }
+{
+    let its = run(session, Call::Op(op));
+    told.serial = its.first;
+    told.value = its.second;
+    told.reason = its.third;
+    its.result
+}
+
+/// Asks for the value of a key. `FOUND`, with the value; `NONE`; or `PENDING`, with the ticket by which a poll answers. `Asleep`, `PendingFull`.
+#[unsafe(no_mangle)]
+pub extern "C" fn fkv_get(session: &mut HeldSession, key: u64, value: &mut u64) -> i32
+    ensures { says.IsRead (opening_of ⟦<Posted<'static> as Device>⟧.seen) session.old.value key result value.new session.new.value }
+{
+    let its = run(session, Call::Op(Op::Read(Key(key))));
+    *value = its.first;
+    its.result
+}
+
+/// Gives a key this value. `DONE`, or `PENDING` with the reason. `Asleep`, `ValueReserved`, `PendingFull`, `SerialsSpent`, `IndexFull`, `LogFull`.
+#[unsafe(no_mangle)]
+pub extern "C" fn fkv_upsert(
+    session: &mut HeldSession,
+    key: u64,
+    value: u64,
+    told: &mut Update,
+) -> i32
+    ensures { says.IsUpdated (opening_of ⟦<Posted<'static> as Device>⟧.seen) session.old.value (says.upsert_of key value) result told.new session.new.value }
+{
+    make_update(session, Op::Upsert(Key(key), Value(value)), told)
+}
+
+/// Adds to the value of a key, up to 2^64 - 2, and tells what it left. Answers and refusals are those of `fkv_upsert`.
+#[unsafe(no_mangle)]
+pub extern "C" fn fkv_add(
+    session: &mut HeldSession,
+    key: u64,
+    number: u64,
+    told: &mut Update,
+) -> i32
+    ensures { says.IsUpdated (opening_of ⟦<Posted<'static> as Device>⟧.seen) session.old.value (says.add_of key number) result told.new session.new.value }
+{
+    make_update(session, Op::Add(Key(key), number), told)
+}
+
+/// Raises the value of a key to this number, and tells what it left. Answers and refusals are those of `fkv_upsert`.
+#[unsafe(no_mangle)]
+pub extern "C" fn fkv_max(
+    session: &mut HeldSession,
+    key: u64,
+    number: u64,
+    told: &mut Update,
+) -> i32
+    ensures { says.IsUpdated (opening_of ⟦<Posted<'static> as Device>⟧.seen) session.old.value (says.max_of key number) result told.new session.new.value }
+{
+    make_update(session, Op::Max(Key(key), number), told)
+}
+
+/// Takes the value of a key away. Answers and refusals are those of `fkv_upsert`, but for `ValueReserved`.
+#[unsafe(no_mangle)]
+pub extern "C" fn fkv_delete(session: &mut HeldSession, key: u64, told: &mut Update) -> i32
+    ensures { says.IsUpdated (opening_of ⟦<Posted<'static> as Device>⟧.seen) session.old.value (says.delete_of key) result told.new session.new.value }
+{
+    make_update(session, Op::Delete(Key(key)), told)
+}
+
+/// Tells the phase and the version that the session has seen from now on. `Asleep`.
+#[unsafe(no_mangle)]
+pub extern "C" fn fkv_refresh(session: &mut HeldSession, seen: &mut Seen) -> i32
+    ensures { says.IsSeen (opening_of ⟦<Posted<'static> as Device>⟧.seen) session.old.value says.refresh result seen.new session.new.value }
+{
+    let its = run(session, Call::Refresh);
+    seen.phase = its.first;
+    seen.version = its.second;
+    its.result
+}
+
+/// The session sleeps: it holds nobody up. `Asleep`, `PendingLeft`.
+#[unsafe(no_mangle)]
+pub extern "C" fn fkv_sleep(session: &mut HeldSession) -> i32
+    ensures { says.IsPlain (opening_of ⟦<Posted<'static> as Device>⟧.seen) session.old.value says.sleep result session.new.value }
+{
+    run(session, Call::Sleep).result
+}
+
+/// The session is awake again, and has seen this phase and version. `Awake`.
+#[unsafe(no_mangle)]
+pub extern "C" fn fkv_wake(session: &mut HeldSession, seen: &mut Seen) -> i32
+    ensures { says.IsSeen (opening_of ⟦<Posted<'static> as Device>⟧.seen) session.old.value says.wake result seen.new session.new.value }
+{
+    let its = run(session, Call::Wake);
+    seen.phase = its.first;
+    seen.version = its.second;
+    its.result
+}
+
+/// The last serial of the session that a finished commit keeps: its updates up to there survive a crash from now on.
+#[unsafe(no_mangle)]
+pub extern "C" fn fkv_durable(session: &mut HeldSession, serial: &mut u64) -> i32
+    ensures { says.IsOneNumber (opening_of ⟦<Posted<'static> as Device>⟧.seen) session.old.value says.durable result serial.new session.new.value }
+{
+    let its = run(session, Call::Durable);
+    *serial = its.first;
+    its.result
+}
