@@ -1,7 +1,7 @@
 -- What is written stays; and what the first bytes of a reader were.
 use Rattle.std.proofs.Common.{◌≡◌, ℕ, List, [], ◌++◌, ◌∙◌, Option, Some, None, take, inr, sym, ap, subst, append-nil, IfSome, option_map, Result, Ok, Err, OnErr}
 use Rattle.std.specs.Io.KnownBytes.{Keeps}
-use Rattle.fkv_playing.specs.InTurn.{Writes}
+use Rattle.fkv_runs.specs.Below.fkv_playing.InTurn.{Writes}
 use Rattle.fkv_runs.specs.Beginnings.{BreaksOff}
 use Rattle.fkv_runs.proofs.Shown.{appends_kept}
 

@@ -8,15 +8,15 @@ use Rattle.fkv_base.specs.declared.numbers.Key.{Key}
 use Rattle.fkv_base.specs.declared.numbers.Serial.{Serial}
 use Rattle.fkv_base.specs.declared.numbers.Value.{Value}
 use Rattle.fkv_base.specs.declared.shapes.Shape.{Shape}
-use Rattle.fkv_core.specs.Worlds.{WorldModel}
-use Rattle.fkv_core.specs.declared.events.Event.{Event}
-use Rattle.fkv_core.specs.declared.events.Told.{Told}
+use Rattle.fkv_runs.specs.Below.fkv_core.Worlds.{WorldModel}
+use Rattle.fkv_runs.specs.Below.fkv_core.Event.{Event}
+use Rattle.fkv_runs.specs.Below.fkv_core.TheTold.{Told}
 use Rattle.fkv_creating.specs.Created.{IsCreated, IsNewStore}
 use Rattle.fkv_opening.specs.Opened.{IsStoreOf}
 use Rattle.fkv_opening.specs.declared.opened_store.Opened.{Opened}
 use Rattle.fkv_options.specs.declared.options.Options.{Options}
-use Rattle.fkv_playing.specs.InTurn.{Writes}
-use Rattle.fkv_playing.specs.Players.{PlayerState}
+use Rattle.fkv_runs.specs.Below.fkv_playing.InTurn.{Writes}
+use Rattle.fkv_runs.specs.Below.fkv_playing.Players.{PlayerState}
 use Rattle.fkv_runs.specs.Beginnings.{BreaksOff}
 use Rattle.fkv_runs.specs.Files.{IsPartOfLife, IsRunOfLife}
 use Rattle.fkv_runs.specs.Openings.{Begins, Medium}

@@ -6,9 +6,9 @@ use Rattle.fkv_base.specs.declared.faults.Fault.{Fault}
 use Rattle.fkv_base.specs.declared.faults.Fault.TheVariants.{Script}
 use Rattle.fkv_base.specs.declared.faults.ScriptFault.{ScriptFault}
 use Rattle.fkv_base.specs.declared.shapes.Shape.{Shape}
-use Rattle.fkv_core.specs.Worlds.{WorldModel}
-use Rattle.fkv_core.specs.declared.events.Event.{Event}
-use Rattle.fkv_core.specs.declared.events.Told.{Told}
+use Rattle.fkv_runs.specs.Below.fkv_core.Worlds.{WorldModel}
+use Rattle.fkv_runs.specs.Below.fkv_core.Event.{Event}
+use Rattle.fkv_runs.specs.Below.fkv_core.TheTold.{Told}
 use Rattle.fkv_lines.specs.Reading.{TellsFault}
 use Rattle.fkv_lines.specs.Script.{LineFault, ScriptText, script_of}
 use Rattle.fkv_lines.specs.declared.scripts.Line.{Line}
@@ -19,8 +19,8 @@ use Rattle.fkv_opening.specs.declared.opened_store.Opened.{Opened}
 use Rattle.fkv_options.specs.Options.{AreMatchesOf, TellsMatches}
 use Rattle.fkv_options.specs.declared.endings.RunFault.{RunFault}
 use Rattle.fkv_options.specs.declared.options.Options.{Options}
-use Rattle.fkv_playing.specs.InTurn.{Writes}
-use Rattle.fkv_playing.specs.Players.{PlayerState}
+use Rattle.fkv_runs.specs.Below.fkv_playing.InTurn.{Writes}
+use Rattle.fkv_runs.specs.Below.fkv_playing.Players.{PlayerState}
 use Rattle.fkv_runs.specs.Beginnings.{BreaksOff}
 use Rattle.fkv_runs.specs.Files.{IsRunOfLife}
 use Rattle.fkv_runs.specs.Openings.{Medium}

@@ -8,9 +8,9 @@ use Rattle.fkv_base.specs.declared.faults.Fault.{Fault}
 use Rattle.fkv_base.specs.declared.faults.Fault.TheVariants.{BadShape, Device}
 use Rattle.fkv_base.specs.declared.shapes.Shape.{Shape}
 use Rattle.fkv_creating.specs.Created.{IsCreated, IsNewStore}
-use Rattle.fkv_core.specs.Worlds.{WorldModel}
-use Rattle.fkv_core.specs.declared.events.Event.{Event}
-use Rattle.fkv_core.specs.declared.events.Told.{Told}
+use Rattle.fkv_runs.specs.Below.fkv_core.Worlds.{WorldModel}
+use Rattle.fkv_runs.specs.Below.fkv_core.Event.{Event}
+use Rattle.fkv_runs.specs.Below.fkv_core.TheTold.{Told}
 use Rattle.fkv_lines.specs.Script.{LineFault, ScriptText, script_of}
 use Rattle.fkv_lines.specs.declared.scripts.Class.{Class}
 use Rattle.fkv_lines.specs.declared.scripts.Class.TheVariants.{Small, Large}
@@ -25,7 +25,7 @@ use Rattle.fkv_opening.specs.declared.opened_store.Opened.{Opened}
 use Rattle.fkv_options.specs.CommandLine.{AreAccepted}
 use Rattle.fkv_options.specs.Options.{AreMatchesOf}
 use Rattle.fkv_options.specs.declared.options.Options.{Options}
-use Rattle.fkv_playing.specs.Players.{PlayerState}
+use Rattle.fkv_runs.specs.Below.fkv_playing.Players.{PlayerState}
 use Rattle.fkv_runs.specs.Files.{IsPartOfLife, IsRunOfLife}
 use Rattle.fkv_runs.specs.Openings.{Begins, Medium}
 use Rattle.fkv_runs.specs.Pieces.{ArePieces}

@@ -1,8 +1,8 @@
 //! Stores in a file.
 ghost use Rattle.std.specs.Prelude.{◌⊎◌, ◌<◌, IfOk, OnErr};
 ghost use Rattle.fkv_base.specs.declared.faults.Fault.TheVariants.{Device};
-ghost use Rattle.fkv_playing.specs.InTurn.{Writes};
-ghost use Rattle.fkv_playing.specs.Players.{EngineStep};
+ghost use Rattle.fkv_runs.specs.Below.fkv_playing.InTurn.{Writes};
+ghost use Rattle.fkv_runs.specs.Below.fkv_playing.Players.{EngineStep};
 ghost use Rattle.fkv_runs.specs.Beginnings.{BreaksOff};
 ghost use Rattle.fkv_cli.specs.Output.{IsRunInFile, IsRunInNewFile, Refuses};
 
@@ -14,8 +14,7 @@ use fkv_disk::{Device, FileDisk, PageSize, Pages, ReadAhead};
 use fkv_files::{Lockable, Trouble, make_alone, open_alone};
 use fkv_opening::{Opened, recover};
 use fkv_pairs::content;
-use fkv_playing::{Breaks, Picks};
-use fkv_runs::{Piece, play_life, write_text};
+use fkv_runs::{Breaks, Picks, Piece, play_life, write_text};
 use fkv_texts::{Opening, write_report};
 use std::alloc::Global;
 use std::io::{self, Write};

@@ -1,7 +1,7 @@
 //! Stores in memory.
 ghost use Rattle.std.specs.Prelude.{◌⊎◌, IfOk, OnErr};
 ghost use Rattle.fkv_base.specs.declared.faults.Fault.TheVariants.{Device};
-ghost use Rattle.fkv_playing.specs.InTurn.{Writes};
+ghost use Rattle.fkv_runs.specs.Below.fkv_playing.InTurn.{Writes};
 ghost use Rattle.fkv_runs.specs.Beginnings.{BreaksOff};
 ghost use Rattle.fkv_runs.specs.Openings.{RefusesNoCall, medium_of};
 ghost use Rattle.fkv_cli.specs.Output.{IsRunInMemory, Refuses};
@@ -11,8 +11,7 @@ use crate::scripts::refuse;
 use fkv_base::{Fault, Shape};
 use fkv_creating::{create_opened, law_new_stores};
 use fkv_options::Options;
-use fkv_playing::Picks;
-use fkv_runs::{Crashes, Piece, Settings, play_lives};
+use fkv_runs::{Crashes, Picks, Piece, Settings, play_lives};
 use std::alloc::Global;
 use std::io::{self, Write};
 

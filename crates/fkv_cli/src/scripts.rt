@@ -1,8 +1,8 @@
 //! A script without a faulty line.
 ghost use Rattle.std.specs.Prelude.{◌≡◌, IfErr, IfOk, OnErr, Some, is_some};
 ghost use Rattle.fkv_base.specs.declared.faults.Fault.TheVariants.{BadShape, Memory};
-ghost use Rattle.fkv_playing.specs.InTurn.{Writes};
-ghost use Rattle.fkv_playing.specs.Players.{EngineStep};
+ghost use Rattle.fkv_runs.specs.Below.fkv_playing.InTurn.{Writes};
+ghost use Rattle.fkv_runs.specs.Below.fkv_playing.Players.{EngineStep};
 ghost use Rattle.fkv_runs.specs.Beginnings.{BreaksOff};
 ghost use Rattle.fkv_runs.specs.Openings.{RefusesNoCall, medium_of};
 ghost use Rattle.fkv_cli.specs.Output.{AreSizes, HasSizes, IsRunOfOldStore, IsRunOfScript, IsRunOfStore, Refuses};
@@ -15,8 +15,7 @@ use fkv_disk::{Device, FileDisk};
 use fkv_files::Lockable;
 use fkv_lines::{Class, Opening, Script, Sizes};
 use fkv_options::Options;
-use fkv_playing::{Breaks, Picks};
-use fkv_runs::{Crashes, Piece, pieces_of, write_text};
+use fkv_runs::{Breaks, Crashes, Picks, Piece, pieces_of, write_text};
 use fkv_texts::write_refusal;
 use std::alloc::Global;
 use std::io::{self, Write};
