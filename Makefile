@@ -86,6 +86,7 @@ bench: fkv
 	cd crates/fkv_opening_tests && rt test > /dev/null
 	tools/bench/run build/fkv
 	tools/bench/threads build/fkv
+	tools/bench/straight
 	tools/bench/recovery
 
 bench-peers: face

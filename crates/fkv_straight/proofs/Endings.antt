@@ -3,6 +3,7 @@ use Rattle.std.proofs.Common.{◌≡◌, ℕ, ◌+◌, ◌<◌, refl, sym, ap, �
 use Rattle.fkv_base.specs.Limits.{last_serial}
 use Rattle.fkv_base.specs.declared.numbers.Serial.{Serial}
 use Rattle.fkv_map.specs.declared.operations.Reply.{Reply}
+use Rattle.std.specs.Prelude.{Option, Some, None, IfSome, IfNone}
 use Rattle.fkv_plane.specs.declared.asks.Ask.TheVariants.{Done}
 use Rattle.fkv_session.specs.declared.answers.Told.{Told}
 use Rattle.fkv_session.specs.declared.answers.Told.TheVariants as told
@@ -51,3 +52,12 @@ pub update_asks : (k : Seat) (m u : SessionState) (l : Lasting) (serial : Serial
 update_asks k m u l serial reply alike e done =
     ap (λ (s : Serial). Done (told.Done s reply)) (serial_is serial (l.serial + 1) (e ∙ ap (λ (n : ℕ). n + 1) (serial_lasts m ∙ ap (λ (x : Lasting). x.serial) alike)))
     ∙ sym (asks_none k u (told.Done (record { 0 = l.serial + 1 }) reply) done.ended)
+
+-- the same of a read that may have ended
+pub read_ended : (k : Seat) (m u : SessionState) (l : Lasting) (r : Option Told) → lasting m ≡ l → IfSome r (λ (its : Told). IsEnded l its u) → IfSome r (λ (its : Told). (Done its ≡ session_ask k u) × IsCaughtUp m u)
+read_ended k m u l (Some its) alike ended = (read_asks k u l its ended, read_caught_up m u l its alike ended)
+read_ended k m u l None alike ended = tt
+
+pub none_so : {A : Type 0} (P : Type 0) (r : Option A) → P → IfNone r P
+none_so P (Some x) h = tt
+none_so P None h = h

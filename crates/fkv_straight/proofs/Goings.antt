@@ -1,11 +1,13 @@
 -- The numbers that a call goes by, as those of its course.
 use Rattle.std.proofs.Common.{◌≡◌, ℕ, ◌<◌, ◌≤◌, refl, sym, ap, ◌∙◌, subst, arith, Bool, true, false}
-use Rattle.std.specs.Prelude.{◌&&◌, not, nat_le, Option, Some, None, IfSome}
+use Rattle.std.specs.Prelude.{◌==◌, ◌+◌, ◌&&◌, not, nat_le, nat_lt, Option, Some, None, IfSome}
 use Rattle.std.proofs.lemmas.Bool.Decides.{nat_tests}
 use Rattle.fkv_base.specs.Limits.{last_serial, last_version}
 use Rattle.fkv_base.specs.declared.numbers.Key.{Key}
 use Rattle.fkv_map.specs.declared.operations.Op.{Op}
+use Rattle.fkv_map.specs.declared.operations.Op.TheVariants.{Read}
 use Rattle.fkv_map.specs.Keys.{key_of}
+use Rattle.fkv_map.specs.Map.{is_reserved}
 use Rattle.fkv_plane.specs.declared.asks.Ask.{Ask}
 use Rattle.fkv_plane.specs.declared.places.Places.{Places}
 use Rattle.fkv_plane.specs.declared.places.RecordWord.{RecordWord}
@@ -17,10 +19,12 @@ use Rattle.fkv_ops.specs.declared.requests.Seen.{Seen}
 use Rattle.fkv_ops.specs.Requests.{is_read, is_blind}
 use Rattle.fkv_ops.specs.Trying.{is_prepare, is_moving_on}
 use Rattle.fkv_session.specs.declared.answers.Told.{Told}
-use Rattle.fkv_session.specs.Sessions.{Seat, SessionState, refusal_of, bits_of, version_within}
+use Rattle.fkv_session.specs.declared.answers.Told.TheVariants.{Slept}
+use Rattle.fkv_session.specs.declared.sessions.Sitting.TheVariants.{Idle}
+use Rattle.fkv_session.specs.Sessions.{Seat, SessionState, Sitter, refusal_of, bits_of, is_full, version_within}
 use Rattle.fkv_session.specs.Alike.{lasting}
 use Rattle.fkv_straight.specs.declared.going.Going.{Going}
-use Rattle.fkv_straight.specs.Course.{Course, course_of, home_in, head_in, refusal_in, Goes}
+use Rattle.fkv_straight.specs.Course.{Course, course_of, home_in, head_in, refusal_in, Goes, GoesBy}
 use Rattle.fkv_straight.specs.Memory.{is_in_memory}
 use Rattle.fkv_straight.specs.Met.{IsInMemory}
 use Rattle.fkv_straight.specs.Standing.{asked, leads}
@@ -102,3 +106,50 @@ goes_of k s op g places bits head read_only version some fits moving allowed ser
   unlatched = calm;
   spare_fits = subst (λ (p : Places). s.spare ≤ p.overflow) (sym places) spare;
 }
+
+-- ---- what each straight call goes by is what a call of this operation goes by
+spent_none : (b : Bool) (n : ℕ) → (b ≡ false → n < last_serial) → (not b && (n == last_serial)) ≡ false
+spent_none true n left = refl
+spent_none false n left = let h : n < last_serial = left refl in grind (arith, nat_tests, h)
+
+shares_none : (b prepares : Bool) → (b ≡ false → prepares ≡ false) → (prepares && not b) ≡ false
+shares_none true true calm = refl
+shares_none true false calm = refl
+shares_none false prepares calm = rw (calm refl) refl
+
+none_refused : (s : SessionState) (op : Op) → s.is_awake ≡ true → is_reserved op ≡ false → is_full s.requests ≡ false → (not (is_read op) && (s.serial == last_serial)) ≡ false → refusal_of s op ≡ None
+none_refused s op awake allowed room left = rw (awake, allowed, room, left) refl
+
+pub goes_for : (k : Seat) (s : SessionState) (op : Op) (g : Going) → GoesBy k s g → is_reserved op ≡ false → (is_read op ≡ false → s.serial < last_serial) → (is_read op ≡ false → is_prepare s.seen.phase ≡ false) → Goes (course_of k s op) k op g
+goes_for k s op g by allowed left calm =
+    goes_of k s op g by.places by.bits by.head by.read_only by.version by.some_version by.version_fits by.moves_on (none_refused s op by.awake allowed by.room (spent_none (is_read op) s.serial left)) left
+    (shares_none (is_read op) (is_prepare s.seen.phase) calm) by.spare_fits
+
+pub goes_for_read : (k : Seat) (s : SessionState) (op : Op) (key : Key) (g : Going) → op ≡ Read key → GoesBy k s g → Goes (course_of k s op) k op g
+goes_for_read k s op key g reads by =
+    subst (λ (o : Op). Goes (course_of k s o) k o g) (sym reads) (goes_for k s (Read key) g by refl (λ h. absurd (cc h)) (λ h. absurd (cc h)))
+
+-- the serial that the machine takes is none of what it goes by
+pub goes_by_still : (m n : Sitter) (g : Going) → n ≡ record m { state = record m.state { serial = m.state.serial + 1; step = Idle Slept } } → GoesBy m.seat m.state g → GoesBy n.seat n.state g
+goes_by_still m n g e by =
+    subst (λ (x : Sitter). GoesBy x.seat x.state g) (sym e) record {
+      places = by.places;
+      bits = by.bits;
+      head = by.head;
+      read_only = by.read_only;
+      version = by.version;
+      some_version = by.some_version;
+      version_fits = by.version_fits;
+      moves_on = by.moves_on;
+      prepares = by.prepares;
+      awake = by.awake;
+      room = by.room;
+      spare_fits = by.spare_fits;
+    }
+
+pub less_of : (serial shown : ℕ) → shown ≡ serial → nat_lt shown last_serial ≡ true → serial < last_serial
+less_of serial shown e h = subst (λ (n : ℕ). n < last_serial) e (grind (arith, nat_tests, h))
+
+pub some_on : {A : Type 0} (P Q : A → Type 0) (o : Option A) → ((x : A) → P x → Q x) → IfSome o P → IfSome o Q
+some_on P Q (Some x) on h = on x h
+some_on P Q None on h = tt

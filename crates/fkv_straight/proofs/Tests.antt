@@ -1,7 +1,9 @@
 -- Tests as a call makes them and as the table does.
-use Rattle.std.proofs.Common.{◌≡◌, ℕ, ◌-◌, refl, arith, Bool, true, false}
+use Rattle.std.proofs.Common.{◌≡◌, ℕ, ◌-◌, ◌/◌, ◌%◌, ◌^◌, ◌≤◌, refl, sym, ◌∙◌, arith, Bool, true, false}
 use Rattle.std.specs.Prelude.{◌==◌, ◌&&◌, ◌||◌, not, nat_lt}
 use Rattle.std.proofs.lemmas.Bool.Decides.{nat_tests}
+use Rattle.fkv_ops.specs.declared.header_words.HeaderSaid.TheVariants.{Says}
+use Rattle.fkv_ops.specs.HeaderWords.{header_said}
 use Rattle.fkv_straight.specs.Memory.{is_in_memory}
 
 pub same : (n : ℕ) → (n == n) ≡ true
@@ -30,3 +32,13 @@ here ring head addr = by (addr == 0) (nat_lt addr head) (nat_lt (addr - head) ri
     by true b d x y z h = absurd (cc h)
     by false true d x y z h = absurd (cc h)
     by false false false x y z h = absurd (cc h)
+
+-- a header whose word has no bit above those of its version
+pub said_plainly : (word previous version : ℕ) → ¬ (word / 2 ^ 48 ≡ 0) → word / 2 ^ 48 ≤ 8191 → previous ≡ word % 2 ^ 48 → version ≡ word / 2 ^ 48 → Says (record { 0 = previous }) (record { 0 = version }) ≡ header_said word
+unfolding header_said
+said_plainly word previous version some fits p v =
+    let whole : word / 2 ^ 48 % 2 ^ 13 ≡ word / 2 ^ 48 = omega (arith, fits) in
+    let has : (word / 2 ^ 48 % 2 ^ 13 == 0) ≡ false = (let h : ¬ (word / 2 ^ 48 % 2 ^ 13 ≡ 0) = (λ e. some (sym whole ∙ e)) in grind (arith, nat_tests, h)) in
+    let clear : (word / 2 ^ 61 % 2 == 0) ≡ true = (let h : word / 2 ^ 61 % 2 ≡ 0 = omega (arith, fits) in grind (arith, nat_tests, h)) in
+    let top : (word / 2 ^ 63 == 0) ≡ true = (let h : word / 2 ^ 63 ≡ 0 = omega (arith, fits) in grind (arith, nat_tests, h)) in
+    (λ i. Says (record { 0 = p i }) (record { 0 = (v ∙ sym whole) i })) ∙ sym (rw (has, clear, top) refl)

@@ -1,6 +1,6 @@
 -- What a call of an operation goes by, from its begin to its end.
-use Rattle.std.specs.Prelude.{◌≡◌, ℕ, ◌==◌, ◌&&◌, ◌<◌, ◌≤◌, not, if◌then◌else◌, Bool, false, Option, Some, None}
-use Rattle.fkv_base.specs.Limits.{last_serial}
+use Rattle.std.specs.Prelude.{◌≡◌, ℕ, ◌==◌, ◌&&◌, ◌<◌, ◌≤◌, not, if◌then◌else◌, Bool, true, false, Option, Some, None}
+use Rattle.fkv_base.specs.Limits.{last_serial, last_version}
 use Rattle.fkv_base.specs.declared.faults.Fault.{Fault}
 use Rattle.fkv_base.specs.declared.faults.Fault.TheVariants as fault
 use Rattle.fkv_map.specs.declared.operations.Op.{Op}
@@ -58,3 +58,19 @@ pub record Goes (c : Course) (k : Seat) (op : Op) (g : Going) : Type 0 where
   pub serial_left : is_read c.op ≡ false → c.lasts.serial < last_serial
   pub unlatched : shares c ≡ false
   pub spare_fits : c.lasts.spare ≤ c.seat.places.overflow
+
+-- The same but for the operation: what each straight call of a session goes by. The session is awake and has room for a request, and its version and its
+-- spare bucket are ones that there are.
+pub record GoesBy (k : Seat) (s : SessionState) (g : Going) : Type 0 where
+  pub places : k.places ≡ g.places
+  pub bits : bits_of k ≡ g.bits
+  pub head : s.seen.offsets.head.0 ≡ g.head
+  pub read_only : s.seen.offsets.read_only.0 ≡ g.read_only
+  pub version : s.seen.version.0 ≡ g.version
+  pub some_version : ¬ (g.version ≡ 0)
+  pub version_fits : g.version ≤ last_version
+  pub moves_on : is_moving_on s.seen.phase ≡ g.is_moving_on
+  pub prepares : is_prepare s.seen.phase ≡ g.is_preparing
+  pub awake : s.is_awake ≡ true
+  pub room : is_full s.requests ≡ false
+  pub spare_fits : s.spare ≤ g.places.overflow

@@ -85,14 +85,14 @@ fn fill<L: Line>(line: &mut L, going: &Going, op: Op, slot: Slot, old: Option<Va
     ensures kept { L.kept line.new ≤ 56 }
     ensures publishes { (c : Course) → Goes c (L.seat line.old) op going.now → IsReserved c slot.place slot.entry (as_number old) addr (L.stands line.old) → IsAtPublish c slot.place slot.entry (as_number old) addr (L.stands line.new) }
 {
-    let value_place = going.places.record(Addr(addr), RecordWord::Value);
+    let value_place = going.record(Addr(addr), RecordWord::Value);
     let made = op.value_applied(old);
     let value = word_of_value(made);
     let _ = line.store(value_place, value);
-    let key_place = going.places.record(Addr(addr), RecordWord::Key);
+    let key_place = going.record(Addr(addr), RecordWord::Key);
     let key = op.key();
     let _ = line.store(key_place, key.0);
-    let header_place = going.places.record(Addr(addr), RecordWord::Header);
+    let header_place = going.record(Addr(addr), RecordWord::Header);
     let previous = addr_of(slot.entry);
     let header = header_of(previous, going.version);
     let _ = line.store(header_place, header);

@@ -32,7 +32,7 @@ fn swap_value<L: Line>(line: &mut L, going: &Going, op: Op, its: Record) -> Repl
     ensures led { (start : L) (call : Op) → L.led start call line.old → L.led start call line.new }
     ensures done { (c : Course) → Goes c (L.seat line.old) op going.now → IsMet c its (L.stands line.old) → IsDone c.lasts result (L.stands line.new) }
 {
-    let place = going.places.record(Addr(its.addr), RecordWord::Value);
+    let place = going.record(Addr(its.addr), RecordWord::Value);
     let made = op.value_applied(None);
     let new = word_of_value(made);
     let _ = line.swap(place, new);
@@ -52,7 +52,7 @@ fn change_value<L: Line>(line: &mut L, going: &Going, op: Op, its: Record) -> Op
     ensures led { (start : L) (call : Op) → L.led start call line.old → L.led start call line.new }
     ensures done { (c : Course) → Goes c (L.seat line.old) op going.now → IsMet c its (L.stands line.old) → IfSome result (λ reply. IsDone c.lasts reply (L.stands line.new)) }
 {
-    let place = going.places.record(Addr(its.addr), RecordWord::Value);
+    let place = going.record(Addr(its.addr), RecordWord::Value);
     let old = line.load(place);
     let value = value_of_word(old);
     let made = op.value_applied(value);
@@ -91,7 +91,7 @@ fn update_record<L: Line>(line: &mut L, going: &Going, op: Op, its: Record) -> O
 
 /// What an update is told that its session may make at once.
 #[inline(always)]
-pub(crate) fn update<L: Line>(line: &mut L, going: &Going, op: Op) -> Option<Reply>
+pub fn update<L: Line>(line: &mut L, going: &Going, op: Op) -> Option<Reply>
     requires idle { is_busy (L.stands line.old).step ≡ false }
     requires goes { Goes (course_of (L.seat line.old) (L.stands line.old) op) (L.seat line.old) op going.now }
     requires updates { is_read op ≡ false }

@@ -35,7 +35,7 @@ fn copy<L: Line>(line: &mut L, going: &Going, op: Op, its: Record) -> Option<Rep
     if blind {
         append(line, going, op, slot, None)
     } else {
-        let place = going.places.record(Addr(its.addr), RecordWord::Value);
+        let place = going.record(Addr(its.addr), RecordWord::Value);
         let word = line.load(place);
         let old = value_of_word(word);
         append(line, going, op, slot, old)

@@ -1,16 +1,19 @@
 //! What a straight call goes by.
 ghost use Rattle.std.specs.Prelude.{◌≡◌, ◌^◌, ◌<◌};
+ghost use Rattle.fkv_plane.specs.Places.{frames_start};
 
-use crate::words::{is_moving_on, shares_latch};
-use fkv_base::Version;
+use crate::words::{is_moving_on, is_preparing};
+use fkv_base::{Addr, Serial, Version};
 use fkv_map::Op;
-use fkv_plane::Places;
+use fkv_plane::{Places, RecordWord};
 use fkv_session::Session;
 
-/// What a straight call goes by, as its session has seen it.
+/// What the straight calls of a session go by, as it has seen it.
 #[derive(Clone, Copy)]
 pub struct Going {
     pub places: Places,
+    /// Where the frames start.
+    pub frames: usize,
     /// The index has 2^bits buckets.
     pub bits: u64,
     pub head: u64,
@@ -19,32 +22,31 @@ pub struct Going {
     pub version: u64,
     /// Whether a commit's sessions go on to the next version: then a new record wants a latch.
     pub is_moving_on: bool,
+    /// Whether updates share the latch of their bucket.
+    pub is_preparing: bool,
     pub ghost buckets: { places.buckets ≡ 2 ^ bits },
     pub ghost version_fits: { version < 2 ^ 13 },
+    pub ghost starts: { frames ≡ frames_start places },
 }
 
 impl Going {
-    ghost use Rattle.std.specs.Prelude.{IfSome};
-    ghost use Rattle.fkv_straight.specs.Course.{course_of, Goes};
+    ghost use Rattle.std.specs.Prelude.{IfSome, true};
+    ghost use Rattle.fkv_plane.specs.Places.{record_place};
+    ghost use Rattle.fkv_straight.specs.Course.{course_of, Goes, GoesBy};
     ghost use Rattle.fkv_straight.specs.Memory.{is_in_memory};
 
-    /// What a call of this operation goes by, if it may go straight: the session doesn't refuse it, it shares no latch, and version and
-    /// spare bucket are ones that there are.
-    #[inline(always)]
-    pub fn of(machine: &Session, op: Op) -> Option<Going>
-        ensures { IfSome result (λ its. Goes (course_of machine.now.seat machine.now.state op) machine.now.seat op its) }
+    /// What the straight calls of the session go by, if it may make any: it is awake and has room for a request, and version and spare
+    /// bucket are ones that there are.
+    #[inline(never)]
+    pub fn look(machine: &Session) -> Option<Going>
+        ensures { IfSome result (λ its. GoesBy machine.now.seat machine.now.state its) }
     {
-        let refusal = machine.refusal_of(op);
-        if refusal.is_some() {
+        if !machine.is_awake() || machine.is_full() {
             return None;
         }
         let places = machine.places();
         let shape = machine.shape();
         let seen = machine.seen();
-        let shares = shares_latch(seen.phase, op);
-        if shares {
-            return None;
-        }
         let version = seen.version.0;
         if version == 0 || version > Version::LAST {
             return None;
@@ -54,14 +56,59 @@ impl Going {
             return None;
         }
         let moves_on = is_moving_on(seen.phase);
+        let prepares = is_preparing(seen.phase);
+        let frames = places.record(Addr(0), RecordWord::Header);
         Some(Going {
             places,
+            frames,
             bits: shape.bucket_bits,
             head: seen.offsets.head.0,
             read_only: seen.offsets.read_only.0,
             version,
             is_moving_on: moves_on,
+            is_preparing: prepares,
         })
+    }
+
+    /// What a call of this operation goes by, if it may go straight: the session doesn't refuse it, it shares no latch, and version and
+    /// spare bucket are ones that there are.
+    pub fn of(machine: &Session, op: Op) -> Option<Going>
+        ensures { IfSome result (λ its. Goes (course_of machine.now.seat machine.now.state op) machine.now.seat op its) }
+    {
+        let going = Going::look(machine);
+        let Some(its) = going else {
+            return None;
+        };
+        let lets = its.lets(machine, op);
+        if lets { Some(its) } else { None }
+    }
+
+    /// Whether a call of this operation may go straight by it: the session doesn't refuse it, and it shares no latch.
+    #[inline(always)]
+    pub(crate) fn lets(&self, machine: &Session, op: Op) -> bool
+        ensures { result ≡ true → GoesBy machine.now.seat machine.now.state self.now → Goes (course_of machine.now.seat machine.now.state op) machine.now.seat op self.now }
+    {
+        match op {
+            Op::Read(_) => true,
+            _ => {
+                let reserved = op.is_reserved();
+                let serial = machine.serial();
+                !self.is_preparing && !reserved && serial.0 < Serial::LAST
+            }
+        }
+    }
+
+    /// The place of a word of the record at this address.
+    #[inline(always)]
+    pub(crate) fn record(&self, addr: Addr, word: RecordWord) -> usize
+        ensures { result ≡ record_place self.now.places addr.0 word }
+    {
+        let number = match word {
+            RecordWord::Header => 0,
+            RecordWord::Key => 1,
+            RecordWord::Value => 2,
+        };
+        self.frames + 3 * (addr.0 as usize & self.places.ring_mask) + number
     }
 
     /// Whether the address of a chain lies within a ring from the head on.

@@ -11,9 +11,11 @@ mod handing;
 mod lines;
 mod reading;
 mod searching;
+mod sessions;
 mod words;
 
-pub use calls::run;
+pub use changing::update;
 pub use going::Going;
-pub use handing::catch_up;
 pub use lines::Line;
+pub use reading::read;
+pub use sessions::{StraightSession, Went};

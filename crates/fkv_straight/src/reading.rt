@@ -16,7 +16,7 @@ use fkv_session::Told;
 
 /// What a read is told whose key's record, or chain's end, is in memory.
 #[inline(always)]
-pub(crate) fn read<L: Line>(line: &mut L, going: &Going, op: Op) -> Option<Told>
+pub fn read<L: Line>(line: &mut L, going: &Going, op: Op) -> Option<Told>
     requires idle { is_busy (L.stands line.old).step ≡ false }
     requires goes { Goes (course_of (L.seat line.old) (L.stands line.old) op) (L.seat line.old) op going.now }
     requires reads { is_read op ≡ true }
@@ -30,7 +30,7 @@ pub(crate) fn read<L: Line>(line: &mut L, going: &Going, op: Op) -> Option<Told>
     };
     match its {
         Met::Found(record) => {
-            let place = going.places.record(Addr(record.addr), RecordWord::Value);
+            let place = going.record(Addr(record.addr), RecordWord::Value);
             let value = line.load(place);
             if value == Value::ABSENT {
                 Some(Told::Absent)

@@ -9,11 +9,11 @@ ghost use Rattle.fkv_straight.specs.Standing.{};
 
 use crate::going::Going;
 use crate::lines::Line;
-use crate::words::{addr_of, is_entry};
+use crate::words::{addr_of, header_said, is_entry};
 use fkv_base::Addr;
 use fkv_index::home_of;
 use fkv_map::Op;
-use fkv_ops::{HeaderSaid, header_said};
+use fkv_ops::HeaderSaid;
 use fkv_plane::RecordWord;
 
 /// The slot of a home: its place, and the word that was found there, 0 where it is empty.
@@ -117,12 +117,9 @@ fn walk<L: Line>(line: &mut L, going: &Going, op: Op, slot: Slot) -> Option<Met>
     let mut is_here = going.is_in_memory(addr);
     let mut met = 0;
     'records: while is_here {
-        if met >= RECORDS {
-            return None;
-        }
-        let header_place = going.places.record(Addr(addr), RecordWord::Header);
+        let header_place = going.record(Addr(addr), RecordWord::Header);
         let header = line.load(header_place);
-        let key_place = going.places.record(Addr(addr), RecordWord::Key);
+        let key_place = going.record(Addr(addr), RecordWord::Key);
         let found = line.load(key_place);
         let said = header_said(header);
         let HeaderSaid::Says(previous, version) = said else {
@@ -144,6 +141,9 @@ fn walk<L: Line>(line: &mut L, going: &Going, op: Op, slot: Slot) -> Option<Met>
         addr = previous.0;
         is_here = going.is_in_memory(addr);
         met += 1;
+        if met >= RECORDS {
+            return None;
+        }
     }
     if addr == 0 {
         return Some(Met::Nowhere(slot));

@@ -1,11 +1,13 @@
 //! What words, operations and phases say, as short as a straight call wants it.
-ghost use Rattle.std.specs.Prelude.{◌≡◌, ◌&&◌, not};
+ghost use Rattle.std.specs.Prelude.{◌≡◌};
 ghost use Rattle.fkv_index.specs.Slots.{entry_addr, is_entry};
-ghost use Rattle.fkv_ops.specs.Requests.{is_read, is_blind};
+ghost use Rattle.fkv_ops.specs.HeaderWords.{header_said};
+ghost use Rattle.fkv_ops.specs.Requests.{is_blind};
 ghost use Rattle.fkv_ops.specs.Trying.{is_prepare, is_moving_on};
 
-use fkv_base::Phase;
+use fkv_base::{Addr, Phase, Version};
 use fkv_map::Op;
+use fkv_ops::HeaderSaid;
 
 const ADDR_MASK: u64 = (1 << 48) - 1;
 
@@ -25,12 +27,25 @@ pub(crate) fn is_entry(word: u64) -> bool
     word & ADDR_MASK != 0 && word >> 48 < 1 << 15
 }
 
-/// Whether the operation shares the latch of its bucket.
+/// What a header says. A header that is valid has no bit above those of its version, so one test is enough for it.
 #[inline(always)]
-pub(crate) fn shares_latch(phase: Phase, op: Op) -> bool
-    ensures { result ≡ (is_prepare phase && not (is_read op)) }
+pub(crate) fn header_said(word: u64) -> HeaderSaid
+    ensures { result ≡ header_said word }
 {
-    matches!(phase, Phase::Prepare) && !matches!(op, Op::Read(_))
+    let version = word >> 48;
+    if version == 0 || version > Version::LAST {
+        return fkv_ops::header_said(word);
+    }
+    let previous = addr_of(word);
+    HeaderSaid::Says(Addr(previous), Version(version))
+}
+
+/// Whether updates share the latch of their bucket.
+#[inline(always)]
+pub(crate) fn is_preparing(phase: Phase) -> bool
+    ensures { result ≡ is_prepare phase }
+{
+    matches!(phase, Phase::Prepare)
 }
 
 /// Whether a commit's sessions go on to the next version.

@@ -18,6 +18,7 @@ use Rattle.fkv_world.specs.Actors.{slot_asked}
 use Rattle.fkv_world.specs.Runs.{World}
 use Rattle.fkv_seats.specs.Rule.{base, led}
 use Rattle.fkv_table.specs.Calls.{HasCalled, HasStepped, IsReady, IsToldLast}
+use Rattle.fkv_table.specs.declared.happenings.Happening.{Happening}
 use Rattle.fkv_table.specs.Desks.{Slot, Knows}
 use Rattle.fkv_table.specs.Lines.{HasLed, HasReplied, IsAlong, LineModel, line_of, sitter, stands}
 use Rattle.fkv_table.specs.Openings.{IsGuardedOpening}
@@ -52,6 +53,18 @@ module _ {K : Type 0} (at : K → World) (key : K) (table seat : TableId) (me : 
 
   pub alike_first : lasting m.state ≡ lasting (stands at start)
   alike_first = ready.rests.alike ∙ ap lasting (sym begins_at)
+
+  -- where no step was made it is ready as before
+  pub stays_ready : (m' : Sitter) → m' ≡ m → (seat' : TableId) → seat' ≡ table → (me' : Me Slot (Knows K)) → me' ≡ me → IsReady at key table seat' me' m' desk
+  stays_ready m' same seat' there me' here =
+      subst (λ (x : Me Slot (Knows K) × Sitter). IsReady at key table seat' x.0 x.1 desk) (λ i. (sym here i, sym same i)) record {
+        opened = ready.opened;
+        same_table = there;
+        rests = ready.rests;
+        at_desk = ready.at_desk;
+        empty = ready.empty;
+        its_desk = ready.its_desk;
+      }
 
   -- the call was made to its end
   pub record HasGone (op : Op) (seat' : TableId) (me' : Me Slot (Knows K)) (m' : Sitter) (told : Told) : Type 0 where
@@ -166,10 +179,14 @@ module _ {K : Type 0} (at : K → World) (key : K) (table seat : TableId) (me : 
               its_desk = ready.its_desk ∙ ap (λ (k : Seat). drain_slots + k.number) (sym (chair ∙ same_chair));
             }
 
-            pub called_to : HasStepped m2.seat.number me2.0.seen me3.0.seen → HasCalled m.seat.number (call.Op op) me.0.seen me3.0.seen
-            called_to steps =
-                called_on at m.seat.number (call.Op op) me.0.seen me2.0.seen me3.0.seen (subst (λ (v : Knows K). HasCalled m.seat.number (call.Op op) me.0.seen v.seen) (sym view) went.called)
+            -- it is the same call, from whatever had been seen before
+            pub called_from : (seen : List Happening) → HasCalled m.seat.number (call.Op op) seen me1.0.seen → HasStepped m2.seat.number me2.0.seen me3.0.seen → HasCalled m.seat.number (call.Op op) seen me3.0.seen
+            called_from seen called steps =
+                called_on at m.seat.number (call.Op op) seen me2.0.seen me3.0.seen (subst (λ (v : Knows K). HasCalled m.seat.number (call.Op op) seen v.seen) (sym view) called)
                 (subst (λ (k : Seat). HasStepped k.number me2.0.seen me3.0.seen) same_chair steps)
+
+            called_to : HasStepped m2.seat.number me2.0.seen me3.0.seen → HasCalled m.seat.number (call.Op op) me.0.seen me3.0.seen
+            called_to steps = called_from me.0.seen went.called steps
 
             pub number_on : m3.seat.number ≡ m.seat.number
             number_on = ap (λ (k : Seat). k.number) (chair ∙ same_chair)

@@ -11,7 +11,7 @@ use Rattle.fkv_straight.specs.Standing.{begins, replayed}
 use Rattle.fkv_world.specs.Runs.{World}
 use Rattle.fkv_seats.specs.Rule.{led}
 use Rattle.fkv_table.specs.declared.happenings.Happening.{Happening}
-use Rattle.fkv_table.specs.Calls.{HasCalled}
+use Rattle.fkv_table.specs.Calls.{HasCalled, IsReady}
 use Rattle.fkv_table.specs.Desks.{Slot, Knows, IsAtDesk}
 use Rattle.fkv_table.specs.Openings.{IsTableOf}
 use Rattle.fkv_table.specs.Planes.{plane}
@@ -81,3 +81,11 @@ module _ {K : Type 0} (at : K → World) where
     pub called : HasCalled start.machine.seat.number (call.Op op) start.me.0.seen now.me.0.seen
     pub step : HasReplied now.key now.me (sitter now)
     pub replayed : stands now ≡ replayed now.machine.seat (begins start.machine.seat (stands start) op) now.replies
+
+  -- A session was ready for the call of this operation, which has gone straight as far as the line has come. The machine stands as it stood then.
+  pub record IsBegun (key : K) (table : TableId) (m : Sitter) (op : Op) (now : LineModel K) : Type 0 where
+    pub me : Me Slot (Knows K)
+    pub seat : TableId
+    pub ready : IsReady at key table seat me m now.desk
+    pub led : HasLed (line_of key table me m now.desk []) op now
+    pub begins : begins m.seat (stands (line_of key table me m now.desk [])) op ≡ begins m.seat m.state op

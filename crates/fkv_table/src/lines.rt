@@ -1,5 +1,5 @@
 //! The way of a session to the words of its table, by which a call goes straight.
-ghost use Rattle.std.specs.Prelude.{◌≡◌, ◌<◌, ◌++◌, ◌∷◌, [], ℕ, Some, length};
+ghost use Rattle.std.specs.Prelude.{◌≡◌, ◌+◌, ◌<◌, ◌≤◌, ◌++◌, ◌∷◌, [], ℕ, Some, length, take};
 ghost use Rattle.std.specs.declared.snapshot.Snapshot.{Snapshot};
 ghost use Rattle.fkv_core.specs.Worlds.{WorldModel};
 ghost use Rattle.fkv_map.specs.declared.operations.Op.{Op};
@@ -13,13 +13,12 @@ use crate::happenings::{Happening, law_start_stands};
 use crate::performing::perform;
 use crate::plays::{First, Next, Turn};
 use crate::rule::{Place, Words};
-use arrayvec::ArrayVec;
 use fkv_disk::Device;
 use fkv_map::{Call, Op};
 use fkv_plane::Ask;
 use fkv_seats::Held;
-use fkv_session::{Session, Told};
-use fkv_straight::Line;
+use fkv_session::Told;
+use fkv_straight::{Line, StraightSession};
 use std::marker::Model;
 use std::snapshot::Snapshot;
 
@@ -32,13 +31,37 @@ pub(crate) struct SeatLine<'t, D: Device> {
     desk: usize,
     /// The session's number.
     number: usize,
-    replies: ArrayVec<u64, 64>,
+    /// The replies of the call in hand, so many of them, and what was there before. An array of the call's own would have to be cleared first.
+    replies: &'t mut Room,
+    kept: usize,
     /// The machine, as the line began.
-    machine: Snapshot<Session>,
+    machine: Snapshot<StraightSession>,
+}
+
+/// Room for the replies of a call.
+pub(crate) type Room = [u64; 64];
+
+/// Puts a reply behind those that are kept.
+#[inline(always)]
+fn keep(replies: &mut Room, kept: usize, reply: u64)
+    requires { (kept < 64) × (length replies.old ≡ 64) }
+    ensures items { take (kept + 1) replies.new ≡ take kept replies.old ++ reply ∷ [] }
+    ensures length { length replies.new ≡ 64 }
+{
+    replies[kept] = reply;
+}
+
+/// The replies that are kept.
+#[inline(always)]
+fn kept_in(replies: &Room, kept: usize) -> &[u64]
+    requires { (kept ≤ 64) × (length replies.now ≡ 64) }
+    ensures { result.now ≡ take kept replies.now }
+{
+    &replies[..kept]
 }
 
 impl<'t, D: Device> Model for SeatLine<'t, D> {
-    ghost use Rattle.std.specs.Prelude.{◌≡◌};
+    ghost use Rattle.std.specs.Prelude.{◌≡◌, ◌≤◌, length, take};
     ghost use Rattle.std.specs.declared.snapshot.Snapshot.{Snapshot};
     ghost use Rattle.fkv_core.specs.Worlds.{WorldModel};
     ghost use Rattle.fkv_table.specs.Lines.{IsAlong, LineModel, line_of};
@@ -46,9 +69,9 @@ impl<'t, D: Device> Model for SeatLine<'t, D> {
 
     ghost Value = { LineModel (Snapshot (WorldModel D)) };
 
-    ghost view = { λ l. line_of l.words.now.key l.words.now.table_id l.seat.me l.machine.value l.desk l.replies.items };
+    ghost view = { λ l. line_of l.words.now.key l.words.now.table_id l.seat.me l.machine.value l.desk (take l.kept l.replies.now) };
 
-    ghost invariant = { λ l. (l.seat.table_id ≡ l.words.now.table_id) × (l.number ≡ l.machine.value.seat.number) × IsAlong (opening_of D.seen) (line_of l.words.now.key l.words.now.table_id l.seat.me l.machine.value l.desk l.replies.items) };
+    ghost invariant = { λ l. (l.seat.table_id ≡ l.words.now.table_id) × (l.number ≡ l.machine.value.seat.number) × (l.kept ≤ 64) × (length l.replies.now ≡ 64) × IsAlong (opening_of D.seen) (line_of l.words.now.key l.words.now.table_id l.seat.me l.machine.value l.desk (take l.kept l.replies.now)) };
 }
 
 impl<'t, D: Device> SeatLine<'t, D> {
@@ -57,21 +80,22 @@ impl<'t, D: Device> SeatLine<'t, D> {
     pub(crate) fn new(
         words: &'t Words<D>,
         seat: Place<D>,
-        machine: &Session,
+        machine: &StraightSession,
         desk: usize,
+        replies: &'t mut Room,
     ) -> SeatLine<'t, D>
         requires ready { IsReady (opening_of D.seen) words.now.key words.now.table_id seat.table_id seat.me machine.now desk }
         ensures value { result ≡ record { key = words.now.key; table = words.now.table_id; me = seat.me; machine = machine.now; desk = desk; replies = [] } }
     {
         let own = machine.number();
-        let kept = ArrayVec::new();
         let from = Snapshot::of(machine);
         SeatLine {
             words,
             seat,
             desk,
             number: own,
-            replies: kept,
+            replies,
+            kept: 0,
             machine: from,
         }
     }
@@ -99,7 +123,8 @@ impl<'t, D: Device> SeatLine<'t, D> {
         ensures machine { self.new.machine ≡ self.old.machine }
     {
         let reply = perform::<D, Turn<Next>, Told>(self.words, &mut self.seat, ask);
-        self.replies.push(reply);
+        keep(self.replies, self.kept, reply);
+        self.kept += 1;
         reply
     }
 }
@@ -124,10 +149,10 @@ impl<'t, D: Device> Line for SeatLine<'t, D> {
         let _ = self
             .words
             .exchange(&mut self.seat, self.desk, Held::Desk(start));
-        self.replies.clear();
         let ask = Ask::Load(place);
         let reply = perform::<D, Turn<First>, Told>(self.words, &mut self.seat, &ask);
-        self.replies.push(reply);
+        keep(self.replies, 0, reply);
+        self.kept = 1;
         reply
     }
 
@@ -153,6 +178,6 @@ impl<'t, D: Device> Line for SeatLine<'t, D> {
 
     #[inline(always)]
     fn replies(&self) -> &[u64] {
-        self.replies.as_slice()
+        kept_in(self.replies, self.kept)
     }
 }

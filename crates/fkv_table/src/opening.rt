@@ -24,6 +24,7 @@ use fkv_disk::Device;
 use fkv_opening::Opened;
 use fkv_plane::{Places, PlainWords};
 use fkv_seats::Held;
+use fkv_straight::StraightSession;
 use std::alloc::Global;
 use std::snapshot::Snapshot;
 
@@ -185,7 +186,12 @@ fn seat_sessions<D: Device>(
     for machine in machines {
         let desk = DRAIN_SLOTS + seated.len();
         let seat = seat_next(words, rest);
-        seated.push((Session { machine, desk }, Pass { seat }))?;
+        let session = Session {
+            machine: StraightSession::new(machine),
+            desk,
+            replies: [0; 64],
+        };
+        seated.push((session, Pass { seat }))?;
     }
     Ok(seated)
 }

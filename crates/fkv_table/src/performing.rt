@@ -14,6 +14,7 @@ use fkv_disk::Device;
 use fkv_plane::Ask;
 
 /// Does what is asked of a word, and gives the word as it was.
+#[inline(always)]
 pub(crate) fn perform<D: Device, M: Play<Slot, Knows<D>>, A>(
     words: &Words<D>,
     seat: &mut Place<D>,

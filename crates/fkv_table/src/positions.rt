@@ -13,17 +13,17 @@ pub fn law_positions()
 {}
 
 /// The position of the word of a place.
+#[inline(always)]
 pub(crate) fn position(place: usize) -> usize
     requires { place < 2 ^ 62 }
     ensures { result ≡ position place }
 {
-    if place == 3 {
-        32
-    } else if place == 10 {
-        48
-    } else if place < 24 {
-        place
-    } else {
-        place + 40
+    if place >= 24 {
+        return place + 40;
+    }
+    match place {
+        3 => 32,
+        10 => 48,
+        other => other,
     }
 }

@@ -1,5 +1,5 @@
 //! A session's calls at the table.
-ghost use Rattle.std.specs.Prelude.{◌≡◌, ◌<◌, ℕ, Some, None, [], ◌∷◌, true, false};
+ghost use Rattle.std.specs.Prelude.{◌≡◌, ◌<◌, ℕ, List, Some, None, [], ◌∷◌, true, false};
 ghost use Rattle.fkv_map.specs.declared.operations.Call.TheVariants as call;
 ghost use Rattle.fkv_plane.specs.Asked.{asked_place};
 ghost use Rattle.fkv_plane.specs.declared.asks.Ask.TheVariants.{Done};
@@ -8,16 +8,17 @@ ghost use Rattle.fkv_session.specs.AsksLeft.{session_asks_left};
 ghost use Rattle.fkv_session.specs.declared.answers.Told.{Told};
 ghost use Rattle.fkv_session.specs.Sessions.{session_ask};
 ghost use Rattle.fkv_session.specs.SessionRun.{telling};
-ghost use Rattle.fkv_straight.specs.Course.{Goes, course_of};
 ghost use Rattle.fkv_table.specs.Calls.{HasCalled, HasStepped, IsAnsweredLast, IsReady, IsToldLast, WasIdle};
 ghost use Rattle.fkv_table.specs.Desks.{noted};
+ghost use Rattle.fkv_table.specs.declared.happenings.Happening.{Happening};
+ghost use Rattle.fkv_table.specs.Lines.{IsBegun};
 ghost use Rattle.fkv_table.specs.declared.happenings.Happening.TheVariants.{Calls};
 ghost use Rattle.fkv_table.specs.Openings.{IsTableOf};
 ghost use Rattle.fkv_table.specs.Planes.{plane, opening_of};
 ghost use Rattle.fkv_table.specs.Sits.{IsAsked, IsIdleEmpty, RepliedIn, Rests, Settled, StandsIn, Went};
 
 use crate::happenings::{Happening, law_start_stands};
-use crate::lines::SeatLine;
+use crate::lines::{Room, SeatLine};
 use crate::performing::perform;
 use crate::plays::{Adds, First, Next, Notes, Turn};
 use crate::rule::{Pass, Place, Table, Words};
@@ -26,21 +27,23 @@ use fkv_map::{Call, Op};
 use fkv_plane::Ask;
 use fkv_seats::Held;
 use fkv_session::{Answer, Told, answer_of, law_of_standing};
-use fkv_straight::Going;
+use fkv_straight::{StraightSession, Went as Way};
 
 /// A session of a store that threads share.
 #[derive(Drop)]
 pub struct Session {
-    pub(crate) machine: fkv_session::Session,
+    pub(crate) machine: StraightSession,
     /// The slot that is its seat's desk.
     pub(crate) desk: usize,
+    /// Where a straight call keeps its replies.
+    pub(crate) replies: Room,
 }
 
 /// Makes the ask of a word that the machine stands at, and goes on with the reply.
 fn ask_word<D: Device, O: Adds>(
     words: &Words<D>,
     seat: &mut Place<D>,
-    machine: &mut fkv_session::Session,
+    machine: &mut StraightSession,
     ask: &Ask<Told>,
 ) -> Ask<Told>
     requires table { (seat.old.table_id ≡ words.now.table_id) × IsTableOf (opening_of D.seen words.now.key) words.now.table_id }
@@ -57,10 +60,11 @@ fn ask_word<D: Device, O: Adds>(
 }
 
 /// Moves the action that goes with the reply, if one does.
+#[inline(never)]
 fn settle<D: Device>(
     words: &Words<D>,
     seat: &mut Place<D>,
-    machine: &mut fkv_session::Session,
+    machine: &mut StraightSession,
     next: Ask<Told>,
 ) -> Ask<Told>
     requires table { seat.old.table_id ≡ words.now.table_id }
@@ -87,7 +91,7 @@ fn settle<D: Device>(
 fn step<D: Device, O: Adds>(
     words: &Words<D>,
     seat: &mut Place<D>,
-    machine: &mut fkv_session::Session,
+    machine: &mut StraightSession,
     ask: &Ask<Told>,
 ) -> Ask<Told>
     requires table { (seat.old.table_id ≡ words.now.table_id) × IsTableOf (opening_of D.seen words.now.key) words.now.table_id }
@@ -108,10 +112,11 @@ fn step<D: Device, O: Adds>(
 }
 
 /// Steps on until the call is answered.
+#[inline(never)]
 fn steps_on<D: Device>(
     words: &Words<D>,
     seat: &mut Place<D>,
-    machine: &mut fkv_session::Session,
+    machine: &mut StraightSession,
     first: Ask<Told>,
 ) -> Told
     requires table { (seat.old.table_id ≡ words.now.table_id) × IsTableOf (opening_of D.seen words.now.key) words.now.table_id }
@@ -137,12 +142,7 @@ fn steps_on<D: Device>(
 }
 
 /// Adds the start that the desk tells: the call is over before its first ask.
-fn note<D: Device>(
-    words: &Words<D>,
-    seat: &mut Place<D>,
-    _machine: &fkv_session::Session,
-    _call: &Call,
-)
+fn note<D: Device>(words: &Words<D>, seat: &mut Place<D>, _machine: &StraightSession, _call: &Call)
     requires table { (seat.old.table_id ≡ words.now.table_id) × IsTableOf (opening_of D.seen words.now.key) words.now.table_id }
     requires seated { StandsIn (opening_of D.seen) words.now.key seat.old.me (noted seat.old.me.1) _machine.now }
     requires note { noted seat.old.me.1 ≡ Calls _machine.now.seat.number _call.now ∷ [] }
@@ -156,7 +156,7 @@ fn note<D: Device>(
 fn run_begun<D: Device>(
     words: &Words<D>,
     seat: &mut Place<D>,
-    machine: &mut fkv_session::Session,
+    machine: &mut StraightSession,
     call: &Call,
     first: Ask<Told>,
 ) -> Told
@@ -182,10 +182,11 @@ fn run_begun<D: Device>(
 }
 
 /// Runs a call by the machine: its start is noted on the desk, and its steps follow.
+#[inline(never)]
 fn run_by_machine<D: Device>(
     words: &Words<D>,
     mut pass: Pass<D>,
-    machine: &mut fkv_session::Session,
+    machine: &mut StraightSession,
     desk: usize,
     call: &Call,
 ) -> (Pass<D>, Told)
@@ -204,26 +205,21 @@ fn run_by_machine<D: Device>(
     (pass, told)
 }
 
-/// Runs an operation straight. Where it meets anything unusual the machine goes on.
-#[inline(always)]
-fn run_straight<D: Device>(
+/// Goes on by the machine with an operation that went straight as far as the line has come.
+#[inline(never)]
+fn go_on<D: Device>(
     words: &Words<D>,
-    pass: Pass<D>,
-    machine: &mut fkv_session::Session,
-    desk: usize,
-    going: &Going,
+    line: SeatLine<'_, D>,
+    machine: &mut StraightSession,
     op: Op,
 ) -> (Pass<D>, Told)
-    requires ready { IsReady (opening_of D.seen) words.now.key words.now.table_id pass.seat.table_id pass.seat.me machine.old desk }
-    requires goes { Goes (course_of machine.old.seat machine.old.state op) machine.old.seat op going.now }
-    ensures ready { IsReady (opening_of D.seen) words.now.key words.now.table_id result.0.seat.table_id result.0.seat.me machine.new desk }
+    requires begun { IsBegun (opening_of D.seen) words.now.key words.now.table_id machine.old op line }
+    ensures ready { IsReady (opening_of D.seen) words.now.key words.now.table_id result.0.seat.table_id result.0.seat.me machine.new line.entry.desk }
     ensures number { machine.new.seat.number ≡ machine.old.seat.number }
-    ensures called { HasCalled machine.old.seat.number (call.Op op) pass.seat.me.0.seen result.0.seat.me.0.seen }
+    ensures called { (seen : List Happening) → HasCalled machine.old.seat.number (call.Op op) seen line.entry.me.0.seen → HasCalled machine.old.seat.number (call.Op op) seen result.0.seat.me.0.seen }
     ensures told { IsToldLast (led (plane (opening_of D.seen)) (opening_of D.seen words.now.key) result.0.seat.me.0.seen) machine.new.seat.number (telling result.1 machine.new.state.finished) }
 {
-    let Pass { seat } = pass;
-    let mut line = SeatLine::new(words, seat, machine, desk);
-    let ask = fkv_straight::run(&mut line, machine, going, op);
+    let ask = machine.catch_up(&line, op);
     let mut seat = line.into_seat();
     if let Ask::Done(told) = ask {
         return (Pass { seat }, told);
@@ -233,13 +229,45 @@ fn run_straight<D: Device>(
     (Pass { seat }, told)
 }
 
-/// Runs a call: an operation straight where it may go so, and every other call by the machine.
+/// Runs an operation straight. Where it meets anything unusual the machine goes on, and where it may not go straight the machine runs it.
 #[inline(always)]
 fn run_told<D: Device>(
     words: &Words<D>,
     pass: Pass<D>,
-    machine: &mut fkv_session::Session,
+    machine: &mut StraightSession,
     desk: usize,
+    replies: &mut Room,
+    op: Op,
+) -> (Pass<D>, Told)
+    requires ready { IsReady (opening_of D.seen) words.now.key words.now.table_id pass.seat.table_id pass.seat.me machine.old desk }
+    ensures ready { IsReady (opening_of D.seen) words.now.key words.now.table_id result.0.seat.table_id result.0.seat.me machine.new desk }
+    ensures number { machine.new.seat.number ≡ machine.old.seat.number }
+    ensures called { HasCalled machine.old.seat.number (call.Op op) pass.seat.me.0.seen result.0.seat.me.0.seen }
+    ensures told { IsToldLast (led (plane (opening_of D.seen)) (opening_of D.seen words.now.key) result.0.seat.me.0.seen) machine.new.seat.number (telling result.1 machine.new.state.finished) }
+{
+    let Pass { seat } = pass;
+    let mut line = SeatLine::new(words, seat, machine, desk, replies);
+    let went = machine.go(&mut line, op);
+    match went {
+        Way::Ended(told) => {
+            let seat = line.into_seat();
+            (Pass { seat }, told)
+        }
+        Way::Stopped => go_on(words, line, machine, op),
+        Way::Stayed => {
+            let seat = line.into_seat();
+            run_by_machine(words, Pass { seat }, machine, desk, &Call::Op(op))
+        }
+    }
+}
+
+/// Runs a call: an operation straight where it may go so, and every other call by the machine.
+fn run_call<D: Device>(
+    words: &Words<D>,
+    pass: Pass<D>,
+    machine: &mut StraightSession,
+    desk: usize,
+    replies: &mut Room,
     call: Call,
 ) -> (Pass<D>, Told)
     requires ready { IsReady (opening_of D.seen) words.now.key words.now.table_id pass.seat.table_id pass.seat.me machine.old desk }
@@ -248,13 +276,10 @@ fn run_told<D: Device>(
     ensures called { HasCalled machine.old.seat.number call pass.seat.me.0.seen result.0.seat.me.0.seen }
     ensures told { IsToldLast (led (plane (opening_of D.seen)) (opening_of D.seen words.now.key) result.0.seat.me.0.seen) machine.new.seat.number (telling result.1 machine.new.state.finished) }
 {
-    if let Call::Op(op) = call {
-        let going = Going::of(machine, op);
-        if let Some(its) = going {
-            return run_straight(words, pass, machine, desk, &its, op);
-        }
+    match call {
+        Call::Op(op) => run_told(words, pass, machine, desk, replies, op),
+        _ => run_by_machine(words, pass, machine, desk, &call),
     }
-    run_by_machine(words, pass, machine, desk, &call)
 }
 
 impl Session {
@@ -272,8 +297,36 @@ impl Session {
         ensures answer { IsAnsweredLast (led (plane (opening_of D.seen)) (opening_of D.seen table.now.table.shared.key) result.0.seat.me.0.seen) self.new.machine.seat.number result.1 }
     {
         let words = &table.table.shared;
-        let (pass, told) = run_told(words, pass, &mut self.machine, self.desk, call);
+        let (pass, told) = run_call(
+            words,
+            pass,
+            &mut self.machine,
+            self.desk,
+            &mut self.replies,
+            call,
+        );
         let answer = answer_of(told, self.machine.finished());
         (pass, answer)
+    }
+
+    /// Runs an operation to its end, as `run` does, and gives what it was told. An `Answer` has room for the list of a poll, which is cleared and copied at
+    /// each call.
+    #[inline(always)]
+    pub fn run_op<D: Device>(&mut self, table: &Table<D>, pass: Pass<D>, op: Op) -> (Pass<D>, Told)
+        requires ready { IsReady (opening_of D.seen) table.now.table.shared.key table.now.table.shared.table_id pass.seat.table_id pass.seat.me self.old.machine self.old.desk }
+        ensures ready { IsReady (opening_of D.seen) table.now.table.shared.key table.now.table.shared.table_id result.0.seat.table_id result.0.seat.me self.new.machine self.new.desk }
+        ensures number { self.new.machine.seat.number ≡ self.old.machine.seat.number }
+        ensures called { HasCalled self.old.machine.seat.number (call.Op op) pass.seat.me.0.seen result.0.seat.me.0.seen }
+        ensures told { IsToldLast (led (plane (opening_of D.seen)) (opening_of D.seen table.now.table.shared.key) result.0.seat.me.0.seen) self.new.machine.seat.number (telling result.1 self.new.machine.state.finished) }
+    {
+        let words = &table.table.shared;
+        run_told(
+            words,
+            pass,
+            &mut self.machine,
+            self.desk,
+            &mut self.replies,
+            op,
+        )
     }
 }

@@ -1,11 +1,15 @@
 -- What the thread law says of a call that was run.
 use Rattle.std.proofs.Common.{◌≡◌, ℕ, List, subst}
 use Rattle.fkv_opening.specs.declared.opened_store.Opened.{Opened}
+use Rattle.fkv_session.specs.Answers.{IsAnswerTold}
 use Rattle.fkv_session.specs.declared.answers.Answer.{Answer}
+use Rattle.fkv_session.specs.declared.answers.Finished.{Finished}
+use Rattle.fkv_session.specs.declared.answers.Told.{Told}
+use Rattle.fkv_session.specs.SessionRun.{telling}
 use Rattle.law_threads.specs.Below.fkv_world.Runs.{World}
 use Rattle.law_threads.specs.Below.fkv_world.World.{Event, Now}
 use Rattle.fkv_seats.specs.Rule.{led}
-use Rattle.fkv_table.specs.Calls.{IsAnsweredLast}
+use Rattle.fkv_table.specs.Calls.{IsAnsweredLast, IsToldLast}
 use Rattle.fkv_table.specs.declared.happenings.Happening.{Happening}
 use Rattle.fkv_table.specs.Planes.{plane}
 use Rattle.law_threads.specs.Calls.{CallRun, HasRun, OfEachRun}
@@ -28,3 +32,9 @@ module _ {K : Type 0} (at : K → World) where
   -- an answer is told to the session of the same number
   pub answered_to : (key : K) (behind : List Happening) (number number' : ℕ) (answer : Answer) → number' ≡ number → IsAnsweredLast (led (plane at) (at key) behind) number' answer → IsAnsweredLast (led (plane at) (at key) behind) number answer
   answered_to key behind number number' answer same told = subst (λ (it : ℕ). IsAnsweredLast (led (plane at) (at key) behind) it answer) same told
+
+  -- what it was told is the session's newest answer, by each answer that says so
+  pub told_to : (key : K) (behind : List Happening) (number number' : ℕ) (told : Told) (finished : List Finished) (answer : Answer) → number' ≡ number → IsToldLast (led (plane at) (at key) behind) number' (telling told finished)
+      → IsAnswerTold told finished answer → IsAnsweredLast (led (plane at) (at key) behind) number answer
+  told_to key behind number number' told finished answer same last says =
+      record { its = told; finished = finished; last = subst (λ (it : ℕ). IsToldLast (led (plane at) (at key) behind) it (telling told finished)) same last; told = says }

@@ -4,8 +4,8 @@ ghost use Rattle.fkv_threads.specs.Said as said;
 
 use fkv_core::World;
 use fkv_disk::Device;
-use fkv_map::Call;
-use fkv_session::Answer;
+use fkv_map::{Call, Op};
+use fkv_session::{Answer, Told};
 use fkv_table::{Pass, Session, Table};
 use law_threads::law_threads;
 use std::snapshot::Snapshot;
@@ -32,4 +32,25 @@ pub fn run<D: Device>(
 {
     law_threads::<Snapshot<World<D>>>();
     session.run(table, pass, call)
+}
+
+/// Runs an operation, as `run` does, and gives what it was told, which has four words. An `Answer` has room for the list of a poll, which would be cleared
+/// and copied at each call. What `run` ensures of a call and its answer holds here of the operation and the answer that says what was told.
+pub fn run_op<D: Device>(
+    session: &mut Session,
+    table: &Table<D>,
+    pass: Pass<D>,
+    op: Op,
+) -> (Pass<D>, Told)
+    requires ready { said.IsReady (said.opening_of D.seen) table.now.table.shared.key table.now.table.shared.table_id pass.seat.table_id pass.seat.me session.old.machine session.old.desk }
+    ensures ready { said.IsReady (said.opening_of D.seen) table.now.table.shared.key table.now.table.shared.table_id result.0.seat.table_id result.0.seat.me session.new.machine session.new.desk }
+    ensures number { session.new.machine.seat.number ≡ session.old.machine.seat.number }
+    ensures called { said.OfToldRun (said.told_run session.old.machine.seat.number op result.1 session.new.machine.state.finished pass.seat.me.0.seen result.0.seat.me.0.seen) (λ its. said.IsRun (said.opening_of D.seen) table.now.table.shared.key its) }
+    ensures in_lives { said.OfToldRun (said.told_run session.old.machine.seat.number op result.1 session.new.machine.state.finished pass.seat.me.0.seen result.0.seat.me.0.seen) (λ its. said.IsLawful (said.opening_of D.seen) table.now.table.shared.key its said.IsWithin) }
+    ensures durable { said.OfToldRun (said.told_run session.old.machine.seat.number op result.1 session.new.machine.state.finished pass.seat.me.0.seen result.0.seat.me.0.seen) (λ its. said.OfThisRun (said.opening_of D.seen) table.now.table.shared.key its said.IsWithin said.TellsItsDurable) }
+    ensures never_falls { said.OfToldRun (said.told_run session.old.machine.seat.number op result.1 session.new.machine.state.finished pass.seat.me.0.seen result.0.seat.me.0.seen) (λ its. said.OfThisRun (said.opening_of D.seen) table.now.table.shared.key its said.IsWithin said.ItsDurableNeverFalls) }
+    ensures recovered { said.OfToldRun (said.told_run session.old.machine.seat.number op result.1 session.new.machine.state.finished pass.seat.me.0.seen result.0.seat.me.0.seen) (λ its. said.OfThisRun (said.opening_of D.seen) table.now.table.shared.key its said.IsWithin (said.RecoversItsDurable (said.opening_of D.seen))) }
+{
+    law_threads::<Snapshot<World<D>>>();
+    session.run_op(table, pass, op)
 }

@@ -9,7 +9,7 @@ mod opening;
 mod passes;
 mod pieces;
 
-pub use calls::run;
+pub use calls::{run, run_op};
 pub use keepers::{ask_commit, turn};
 pub use opening::open;
 pub use passes::{close, join};

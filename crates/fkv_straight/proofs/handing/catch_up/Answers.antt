@@ -1,6 +1,6 @@
 use Rattle.std.proofs.Common.{refl, sym, ap, ◌∙◌, get_or}
 use Rattle.fkv_session.specs.Sessions.{Seat, SessionState, session_ask}
-use Rattle.fkv_straight.specs.Standing.{begins, replayed}
+use Rattle.fkv_straight.specs.Standing.{replayed}
 use Rattle.fkv_straight.proofs.Replays.{begin_comes, step_comes, sitter_is, replay_next, replay_end}
 use Rattle.fkv_straight.proofs.handing.catch_up.Goals as goal
 

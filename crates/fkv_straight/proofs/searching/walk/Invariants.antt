@@ -1,4 +1,4 @@
-use Rattle.std.proofs.Common.{◌≡◌, ◌≤◌, ◌+◌, ◌-◌, ◌*◌}
+use Rattle.std.proofs.Common.{◌≡◌, ◌<◌, ◌≤◌, ◌+◌, ◌-◌, ◌*◌}
 use Rattle.fkv_index.specs.Slots.{entry_addr}
 use Rattle.fkv_straight.specs.Course.{Course, Goes}
 use Rattle.fkv_straight.specs.Memory.{is_in_memory}
@@ -11,7 +11,7 @@ abbrev pub invariant-records : goal.invariant-records
 invariant-records g l =
     let k = g.L.Line.seat l.fn.line in
     record {
-      few : l.met ≤ 8;
+      few : l.met < 8;
       seat : g.L.Line.seat l.line ≡ k;
       led : (start : g.row.L.Denot) (call : Op) → g.L.Line.led start call l.fn.line → g.L.Line.led start call l.line;
       kept : g.L.Line.kept l.line ≤ g.L.Line.kept l.fn.line + 2 * l.met;

@@ -27,6 +27,6 @@ loop-machine-preserved g c =
     record {
       table = seat.table ∙ inv.table;
       rest = seat.rest count inv.rest ∙ ap (λ (n : ℕ). (rest_view c.args.words.now.key n, [])) more;
-      machines = whole.0;
+      machines = whole.0 ∙ ap (λ (m : Sitter). yielded ++ m ∷ []) c.new.ensures;
       seats = whole.1;
     }

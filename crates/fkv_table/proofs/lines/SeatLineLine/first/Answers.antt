@@ -1,5 +1,6 @@
 -- The first step of a call adds the start that the desk tells.
-use Rattle.std.proofs.Common.{length, [], ◌∷◌, ◌++◌, ◌≡◌, refl, sym, ap, subst, ◌∙◌, false}
+use Rattle.std.proofs.Common.{length, [], ◌∷◌, ◌≡◌, arith, refl, sym, ap, subst, ◌∙◌, false}
+use Rattle.std.specs.Prelude.{take}
 use Rattle.atomic_table.specs.Table.{rest}
 use Rattle.fkv_map.specs.declared.operations.Call.TheVariants as call
 use Rattle.fkv_plane.specs.declared.asks.Ask.TheVariants.{Load}
@@ -17,16 +18,16 @@ use Rattle.fkv_table.proofs.lines.SeatLineLine.first.Goals as goal
 pub exchange-requires : goal.exchange-requires
 exchange-requires g c =
     let at = opening_of g.D.Device.seen in let s = c.self.inside in let op = c.args.op in let k = s.machine.value.seat in
-    let l = line_of s.words.now.key s.words.now.table_id s.seat.me s.machine.value s.desk s.replies.items in
-    let along = c.self.invariant.2 in
+    let l = line_of s.words.now.key s.words.now.table_id s.seat.me s.machine.value s.desk (take s.kept s.replies.now) in
+    let along = c.self.invariant.4 in
     let idle : is_busy (stands at l).step ≡ false = subst (λ z. is_busy (stands at z).step ≡ false) (sym c.self.view_is) c.requires.idle in
     (c.self.invariant.0, front at l along idle)
 
 pub perform-reply-requires : goal.perform-reply-requires
 perform-reply-requires g c =
     let at = opening_of g.D.Device.seen in let s = c.self.inside in let op = c.args.op in let k = s.machine.value.seat in
-    let l = line_of s.words.now.key s.words.now.table_id s.seat.me s.machine.value s.desk s.replies.items in
-    let along = c.self.invariant.2 in
+    let l = line_of s.words.now.key s.words.now.table_id s.seat.me s.machine.value s.desk (take s.kept s.replies.now) in
+    let along = c.self.invariant.4 in
     let idle : is_busy (stands at l).step ≡ false = subst (λ z. is_busy (stands at z).step ≡ false) (sym c.self.view_is) c.requires.idle in
     let me1 = c.exchange.new.seat.me in let fits = c.law_start_stands.ensures 0 in
     let e : me1 ≡ (l.me.0, (l.desk, Desk (Calls k.number (call.Op op))) ∷ rest l.me.1) = c.exchange.ensures.3 ∙ ap (λ n. (l.me.0, (l.desk, Desk (Calls n (call.Op op))) ∷ rest l.me.1)) c.self.invariant.1 in
@@ -42,31 +43,33 @@ perform-reply-requires g c =
 pub invariant_of-self : goal.invariant_of-self
 invariant_of-self g c =
     let at = opening_of g.D.Device.seen in let s = c.self.inside in let op = c.args.op in let k = s.machine.value.seat in
-    let l = line_of s.words.now.key s.words.now.table_id s.seat.me s.machine.value s.desk s.replies.items in
-    let along = c.self.invariant.2 in
+    let l = line_of s.words.now.key s.words.now.table_id s.seat.me s.machine.value s.desk (take s.kept s.replies.now) in
+    let along = c.self.invariant.4 in
     let idle : is_busy (stands at l).step ≡ false = subst (λ z. is_busy (stands at z).step ≡ false) (sym c.self.view_is) c.requires.idle in
     let me1 = c.exchange.new.seat.me in let fits = c.law_start_stands.ensures 0 in
     let e : me1 ≡ (l.me.0, (l.desk, Desk (Calls k.number (call.Op op))) ∷ rest l.me.1) = c.exchange.ensures.3 ∙ ap (λ n. (l.me.0, (l.desk, Desk (Calls n (call.Op op))) ∷ rest l.me.1)) c.self.invariant.1 in
     let asks : asked k (begins k (stands at l) op) ≡ Load c.args.place = subst (λ z. asked z.machine.seat (begins z.machine.seat (stands at z) op) ≡ Load c.args.place) (sym c.self.view_is) c.requires.asked in
-    let only : c.push.new.self.items ≡ c.perform-reply.result ∷ [] = c.push.ensures.items ∙ ap (λ xs. xs ++ c.perform-reply.result ∷ []) c.clear.ensures in (
+    let only : (take 1 c.keep.new.replies) ≡ c.perform-reply.result ∷ [] = c.keep.ensures.items in (
       c.perform-reply.ensures.seat.0 ∙ (c.exchange.ensures.0 ∙ c.self.invariant.0),
       c.self.invariant.1,
-      (first_line at l along idle op fits me1 e (Load c.args.place) asks (c.args.place, refl) l.table.slots c.perform-reply.result c.perform-reply.new.seat.me c.perform-reply.ensures.told c.push.new.self.items only).along,
+      omega arith,
+      c.keep.ensures.length,
+      (first_line at l along idle op fits me1 e (Load c.args.place) asks (c.args.place, refl) l.table.slots c.perform-reply.result c.perform-reply.new.seat.me c.perform-reply.ensures.told (take 1 c.keep.new.replies) only).along,
     )
 
 pub returns : goal.returns
 returns g c =
     let at = opening_of g.D.Device.seen in let s = c.self.inside in let op = c.args.op in let k = s.machine.value.seat in
-    let l = line_of s.words.now.key s.words.now.table_id s.seat.me s.machine.value s.desk s.replies.items in
-    let along = c.self.invariant.2 in
+    let l = line_of s.words.now.key s.words.now.table_id s.seat.me s.machine.value s.desk (take s.kept s.replies.now) in
+    let along = c.self.invariant.4 in
     let idle : is_busy (stands at l).step ≡ false = subst (λ z. is_busy (stands at z).step ≡ false) (sym c.self.view_is) c.requires.idle in
     let me1 = c.exchange.new.seat.me in let fits = c.law_start_stands.ensures 0 in
     let e : me1 ≡ (l.me.0, (l.desk, Desk (Calls k.number (call.Op op))) ∷ rest l.me.1) = c.exchange.ensures.3 ∙ ap (λ n. (l.me.0, (l.desk, Desk (Calls n (call.Op op))) ∷ rest l.me.1)) c.self.invariant.1 in
     let asks : asked k (begins k (stands at l) op) ≡ Load c.args.place = subst (λ z. asked z.machine.seat (begins z.machine.seat (stands at z) op) ≡ Load c.args.place) (sym c.self.view_is) c.requires.asked in
-    let only : c.push.new.self.items ≡ c.perform-reply.result ∷ [] = c.push.ensures.items ∙ ap (λ xs. xs ++ c.perform-reply.result ∷ []) c.clear.ensures in
-    let on = line_of l.key l.table c.perform-reply.new.seat.me l.machine l.desk c.push.new.self.items in
-    let step = first_line at l along idle op fits me1 e (Load c.args.place) asks (c.args.place, refl) l.table.slots c.perform-reply.result c.perform-reply.new.seat.me c.perform-reply.ensures.told c.push.new.self.items only in
-    let so = led_first at l along idle op fits me1 e (Load c.args.place) asks (c.args.place, refl) l.table.slots c.perform-reply.result c.perform-reply.new.seat.me c.perform-reply.ensures.told c.push.new.self.items only in
+    let only : (take 1 c.keep.new.replies) ≡ c.perform-reply.result ∷ [] = c.keep.ensures.items in
+    let on = line_of l.key l.table c.perform-reply.new.seat.me l.machine l.desk (take 1 c.keep.new.replies) in
+    let step = first_line at l along idle op fits me1 e (Load c.args.place) asks (c.args.place, refl) l.table.slots c.perform-reply.result c.perform-reply.new.seat.me c.perform-reply.ensures.told (take 1 c.keep.new.replies) only in
+    let so = led_first at l along idle op fits me1 e (Load c.args.place) asks (c.args.place, refl) l.table.slots c.perform-reply.result c.perform-reply.new.seat.me c.perform-reply.ensures.told (take 1 c.keep.new.replies) only in
     record {
       next = subst (λ z. stands at on ≡ leads z.machine.seat (begins z.machine.seat (stands at z) op) c.perform-reply.result) c.self.view_is step.next;
       led = subst (λ z. HasLed at z op on) c.self.view_is so;

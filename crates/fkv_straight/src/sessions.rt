@@ -1,0 +1,160 @@
+//! A session's machine, with what its straight calls go by.
+ghost use Rattle.std.specs.Prelude.{◌≡◌, ◌<◌, ◌≤◌, ℕ, false, true, length};
+ghost use Rattle.fkv_base.specs.Limits.{max_pending, max_sessions};
+ghost use Rattle.fkv_epoch.specs.Claiming.{takes_action};
+ghost use Rattle.fkv_plane.specs.declared.asks.Ask.TheVariants.{Done};
+ghost use Rattle.fkv_session.specs.declared.answers.Told.{Told};
+ghost use Rattle.fkv_session.specs.declared.sessions.Sitting.TheVariants.{Turns};
+ghost use Rattle.fkv_session.specs.Alike.{lasting};
+ghost use Rattle.fkv_session.specs.AsksLeft.{session_asks_left};
+ghost use Rattle.fkv_session.specs.Sessions.{is_busy, session_ask, session_begun, session_given, session_next};
+ghost use Rattle.fkv_straight.specs.Standing.{IsCaughtUp, begins};
+ghost use Rattle.fkv_straight.specs.declared.sessions.Went.TheVariants.{Ended, Stopped, Stayed};
+
+use crate::calls::go_by;
+use crate::going::Going;
+use crate::handing::catch_up;
+use crate::lines::Line;
+use fkv_map::{Call, Op};
+use fkv_plane::{Action, Ask};
+use fkv_session::{Finished, Session, Told};
+use std::marker::Model;
+
+/// What has come of a call that was to go straight.
+#[derive(Clone, Copy)]
+pub enum Went {
+    /// It has gone to its end, and is told this.
+    Ended(Told),
+    /// It has met something unusual: the machine has to catch up with the line.
+    Stopped,
+    /// It may not go straight, and has made no step.
+    Stayed,
+}
+
+/// A session's machine. What its straight calls go by is looked up at the first of them, and lasts until the machine makes a call. A contract
+/// sees it as the machine.
+#[derive(Drop)]
+pub struct StraightSession {
+    machine: Session,
+    /// None where it isn't looked up, and where no call may go straight.
+    going: Option<Going>,
+}
+
+impl Model for StraightSession {
+    ghost use Rattle.std.specs.Prelude.{IfSome};
+    ghost use Rattle.fkv_session.specs.Sessions.{Sitter};
+    ghost use Rattle.fkv_straight.specs.Course.{GoesBy};
+
+    ghost Value = { Sitter };
+
+    ghost view = { λ m. m.machine };
+
+    ghost invariant = { λ m. IfSome m.going (λ its. GoesBy m.machine.seat m.machine.state its) };
+}
+
+impl StraightSession {
+    /// The session of this machine.
+    pub fn new(machine: Session) -> StraightSession
+        ensures { result ≡ machine }
+    {
+        StraightSession {
+            machine,
+            going: None,
+        }
+    }
+
+    /// The session's number.
+    #[inline(always)]
+    pub fn number(&self) -> usize
+        ensures value { result ≡ self.now.seat.number }
+        ensures below { result < max_sessions }
+    {
+        self.machine.number()
+    }
+
+    /// What the last poll has finished, in the order of acceptance.
+    pub fn finished(&self) -> &[Finished]
+        ensures value { result.now ≡ self.now.state.finished }
+        ensures fits { length result.now ≤ max_pending }
+    {
+        self.machine.finished()
+    }
+
+    /// Begins a call by the machine, as `fkv_session::Session::begin` does.
+    pub fn begin(&mut self, call: Call) -> Ask<Told>
+        ensures next { self.new ≡ record self.old { state = session_begun self.old.seat self.old.state call } }
+        ensures ask { result ≡ session_ask self.old.seat self.new.state }
+    {
+        self.going = None;
+        self.machine.begin(call)
+    }
+
+    /// Goes on with the reply to the machine's ask, as `fkv_session::Session::go_on` does.
+    pub fn go_on(&mut self, reply: u64) -> Ask<Told>
+        ensures next { self.new ≡ record self.old { state = session_next self.old.seat self.old.state reply } }
+        ensures ask { result ≡ session_ask self.old.seat self.new.state }
+        ensures fewer { takes_action (session_ask self.old.seat self.old.state) ≡ false → 0 < session_asks_left self.old.seat self.old.state → session_asks_left self.old.seat self.new.state < session_asks_left self.old.seat self.old.state }
+    {
+        self.going = None;
+        self.machine.go_on(reply)
+    }
+
+    /// Gets the action of a drain slot that the machine claimed, as `fkv_session::Session::take` does.
+    pub fn take(&mut self, action: Action) -> Ask<Told>
+        ensures next { self.new ≡ record self.old { state = session_given self.old.seat self.old.state action } }
+        ensures ask { result ≡ session_ask self.old.seat self.new.state }
+        ensures fewer { (its : Told) → self.old.state.step ≡ Turns its → takes_action (session_ask self.old.seat self.old.state) ≡ true → session_asks_left self.old.seat self.new.state < session_asks_left self.old.seat self.old.state }
+    {
+        self.going = None;
+        self.machine.take(action)
+    }
+
+    /// Looks up what straight calls go by, where it isn't known.
+    #[inline(always)]
+    fn look(&mut self)
+        ensures { self.new ≡ self.old }
+    {
+        if self.going.is_none() {
+            self.going = Going::look(&self.machine);
+        }
+    }
+
+    /// Makes the steps of an operation, each the one that the machine's table asks for, up to its answer or to where anything unusual is met.
+    #[inline(always)]
+    pub fn go<L: Line>(&mut self, line: &mut L, op: Op) -> Went
+        requires idle { is_busy (L.stands line.old).step ≡ false }
+        requires seat { self.old.seat ≡ L.seat line.old }
+        requires alike { lasting self.old.state ≡ lasting (L.stands line.old) }
+        ensures seat { L.seat line.new ≡ L.seat line.old }
+        ensures machine { self.new.seat ≡ self.old.seat }
+        ensures ended { (told : Told) → result ≡ Ended told → L.led line.old op line.new × (Done told ≡ session_ask (L.seat line.old) (L.stands line.new)) × IsCaughtUp self.new.state (L.stands line.new) }
+        ensures stopped { result ≡ Stopped → L.led line.old op line.new × (self.new ≡ self.old) × (begins (L.seat line.old) (L.stands line.old) op ≡ begins self.old.seat self.old.state op) }
+        ensures stayed { result ≡ Stayed → (line.new ≡ line.old) × (self.new ≡ self.old) }
+    {
+        self.look();
+        let Some(going) = &self.going else {
+            return Went::Stayed;
+        };
+        let lets = going.lets(&self.machine, op);
+        if !lets {
+            return Went::Stayed;
+        }
+        let straight = go_by(line, &mut self.machine, going, op);
+        match straight {
+            Some(told) => Went::Ended(told),
+            None => Went::Stopped,
+        }
+    }
+
+    /// Begins the call anew by the machine and tells it the replies that have come, with no step on a word: then it stands where the line
+    /// stands. Gives what it asks there.
+    pub fn catch_up<L: Line>(&mut self, line: &L, op: Op) -> Ask<Told>
+        requires seat { self.old.seat ≡ L.seat line.now }
+        requires led { (start : L) × L.led start op line.now × (begins (L.seat start) (L.stands start) op ≡ begins self.old.seat self.old.state op) }
+        ensures caught_up { self.new ≡ record { seat = L.seat line.now; state = L.stands line.now } }
+        ensures ask { result ≡ session_ask self.new.seat self.new.state }
+    {
+        self.going = None;
+        catch_up(line, &mut self.machine, op)
+    }
+}
