@@ -91,7 +91,7 @@ fn update_record<L: Line>(line: &mut L, going: &Going, op: Op, its: Record) -> O
 
 /// What an update is told that its session may make at once.
 #[inline(always)]
-pub fn update<L: Line>(line: &mut L, going: &Going, op: Op) -> Option<Reply>
+pub(crate) fn update<L: Line>(line: &mut L, going: &Going, op: Op) -> Option<Reply>
     requires idle { is_busy (L.stands line.old).step ≡ false }
     requires goes { Goes (course_of (L.seat line.old) (L.stands line.old) op) (L.seat line.old) op going.now }
     requires updates { is_read op ≡ false }

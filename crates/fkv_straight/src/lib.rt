@@ -14,8 +14,6 @@ mod searching;
 mod sessions;
 mod words;
 
-pub use changing::update;
 pub use going::Going;
 pub use lines::Line;
-pub use reading::read;
 pub use sessions::{StraightSession, Went};

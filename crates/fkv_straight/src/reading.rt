@@ -16,7 +16,7 @@ use fkv_session::Told;
 
 /// What a read is told whose key's record, or chain's end, is in memory.
 #[inline(always)]
-pub fn read<L: Line>(line: &mut L, going: &Going, op: Op) -> Option<Told>
+pub(crate) fn read<L: Line>(line: &mut L, going: &Going, op: Op) -> Option<Told>
     requires idle { is_busy (L.stands line.old).step ≡ false }
     requires goes { Goes (course_of (L.seat line.old) (L.stands line.old) op) (L.seat line.old) op going.now }
     requires reads { is_read op ≡ true }

@@ -3,8 +3,8 @@ ghost use Rattle.std.specs.Prelude.{◌≡◌};
 ghost use Rattle.fkv_threads.specs.Said as said;
 
 use crate::{
-    ask_commit, asks_device, close, device_ask, device_step, drive, join, open, run, start_turn,
-    turn,
+    ask_commit, asks_device, close, device_ask, device_step, drive, join, open, run, run_op,
+    start_turn, turn,
 };
 use fkv_base::{CommitKind, Fault, Key, Shape, Value};
 use fkv_creating::create_opened;
@@ -28,12 +28,7 @@ fn call_and_meet<D: Device + Drop>(
     requires writer { said.IsReady (said.opening_of D.seen) table.table.shared.key table.table.shared.table_id two.seat.table_id two.seat.me writer.machine writer.desk }
     requires apart { ¬ (reader.machine.seat.number ≡ writer.machine.seat.number) }
 {
-    let (two, _) = run(
-        &mut writer,
-        &table,
-        two,
-        Call::Op(Op::Upsert(Key(7), Value(10))),
-    );
+    let (two, _) = run_op(&mut writer, &table, two, Op::Upsert(Key(7), Value(10)));
     let (one, _) = join(&table, one, two);
     let (_, read) = run(&mut reader, &table, one, Call::Op(Op::Read(Key(7))));
     close(table);
