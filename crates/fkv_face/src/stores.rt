@@ -131,10 +131,10 @@ pub extern "C" fn fkv_take_keeper(alloc: Global, store: &mut HeldStore, out: &mu
 
 /// Closes the store, and frees its table. `HANDLE_OUT` while a handle is out. The block of the handle is left to the caller, who frees it.
 #[unsafe(no_mangle)]
-pub extern "C" fn fkv_close(store: &mut HeldStore) -> i32
+pub extern "C" fn fkv_close(alloc: Global, store: &mut HeldStore) -> i32
     ensures { says.IsClosed store.old.value result store.new.value }
 {
-    match store.lent().close() {
+    match store.lent().close(alloc) {
         Ok(()) => 0,
         Err(why) => not_given(why),
     }

@@ -96,14 +96,14 @@ impl Store {
 
     /// Closes the store, and frees its table. While a handle is out this is refused with `HandleOut`; then what wasn't taken can't be taken any
     /// more. A store that is closed stays so.
-    pub fn close(&mut self) -> Result<(), Refusal>
+    pub fn close(&mut self, alloc: Global) -> Result<(), Refusal>
         ensures closed { OnOk result (store_is_open self.new ≡ false) }
         ensures out { OnErr result (result ≡ Err HandleOut) }
         ensures still_open { OnErr result (store_is_open self.new ≡ true) }
         ensures again { store_is_open self.old ≡ false → result ≡ Ok tt }
         ensures dropped { (store_sessions self.new ≡ []) × (store_keeper self.new ≡ None) }
     {
-        self.sessions.clear();
+        self.sessions = Vec::new(alloc);
         self.keeper = None;
         match self.table.take() {
             None => Ok(()),
