@@ -77,6 +77,7 @@ def threads():
     rows += [Row(f"threads, line {wanted}", whole(lines), f"script line {wanted}\n", 2, ("--threads",)) for lines, wanted in FAULTS]
     rows += [Row("threads, an empty script", "", "", words=("--threads",))]
     rows += [Row("threads, sizes of no shape", "shape 4 6 4 2 1 0 64\n", "refused 1 BadShape\n", 2, ("--threads",))]
+    rows += [Row("threads, sizes of a large store alone", "shape 11 16 4 2 2 0 64\n", "refused 1 BadShape\n", 2, ("--threads",))]
     rows += [Row(f"{name}, in a file", whole(lines), wanted, words=FILE) for name, lines, wanted in RUNS]
     rows += [Row("threads, a faulty line makes no file", whole([SMALL, "crash"]), "script line 2 Mode\n", 2, FILE, left=None)]
     rows += [Row("threads, sizes of no shape make no file", "shape 4 6 4 2 1 0 64\n", "refused 1 BadShape\n", 2, FILE, left=None)]
