@@ -2,7 +2,17 @@
 #![tactic(auto)]
 
 #[cfg(test)]
+mod bodies;
+#[cfg(test)]
+mod engines;
+#[cfg(test)]
 mod goings;
 mod plain_lines;
+#[cfg(test)]
+mod scripts;
+#[cfg(test)]
+mod twins;
+#[cfg(test)]
+mod wrongs;
 
 pub use plain_lines::PlainLine;
