@@ -9,7 +9,7 @@ import time
 KILLS = 20
 # At least so many kills have to strike while a commit runs; so many lives are played for that, at most.
 IN_COMMITS = KILLS // 2
-MOST_LIVES = 3 * KILLS
+MOST_LIVES = 10 * KILLS
 # A life that hasn't begun to add by then, or ends by itself, is a failure.
 SECONDS = 20
 WORKERS = 4
