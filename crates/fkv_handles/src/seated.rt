@@ -1,15 +1,15 @@
 //! A session with its pass at a table that handles share.
 ghost use Rattle.std.specs.Prelude.{◌≡◌};
-ghost use Rattle.fkv_handles.specs.Sittings.{IsCallOf};
+ghost use Rattle.fkv_handles.specs.Sittings.{IsCallOf, IsOpOf};
 ghost use Rattle.fkv_table.specs.Planes.{opening_of};
 
 use fkv_base::Fault;
 use fkv_disk::Device;
-use fkv_map::Call;
+use fkv_map::{Call, Op};
 use fkv_posted::Posted;
-use fkv_session::Answer;
+use fkv_session::{Answer, Told};
 use fkv_table::{Pass, Session, Table};
-use fkv_threads::run;
+use fkv_threads::{run, run_op};
 use std::alloc::Global;
 use std::marker::Model;
 use std::sync::Arc;
@@ -52,6 +52,21 @@ impl Seated {
                 answer
             }
             None => Answer::Refused(Fault::NoSession),
+        }
+    }
+
+    /// Runs an operation to its end, as `fkv_threads::run_op` does. It waits for no other thread.
+    #[inline(always)]
+    pub fn op(&mut self, op: Op) -> Told
+        ensures called { IsOpOf (opening_of ⟦<Posted<'static> as Device>⟧.seen) self.old op result self.new }
+    {
+        match self.pass.take() {
+            Some(pass) => {
+                let (pass, told) = run_op(&mut self.session, &self.table, pass, op);
+                self.pass = Some(pass);
+                told
+            }
+            None => Told::Refused(Fault::NoSession),
         }
     }
 }

@@ -2,7 +2,7 @@
 ghost use Rattle.std.specs.Prelude.{◌≡◌, None};
 ghost use Rattle.fkv_handles.specs.Handles.{keys_of, sitting_of};
 ghost use Rattle.fkv_handles.specs.Laid.{laid_call, laid_op};
-ghost use Rattle.fkv_handles.specs.Sittings.{IsCalled};
+ghost use Rattle.fkv_handles.specs.Sittings.{IsCalled, IsOpCalled};
 ghost use Rattle.fkv_table.specs.Planes.{opening_of};
 
 use crate::seated::Seated;
@@ -10,7 +10,7 @@ use fkv_base::Fault;
 use fkv_disk::Device;
 use fkv_map::{Call, Op};
 use fkv_posted::Posted;
-use fkv_session::Answer;
+use fkv_session::{Answer, Told};
 use fkv_spread::Keys;
 
 /// A session's handle, until it is ended. It may go into any thread.
@@ -56,6 +56,20 @@ impl Session {
         match &mut self.seated {
             Some(seated) => seated.call(call),
             None => Answer::Refused(Fault::NoSession),
+        }
+    }
+
+    /// Runs an operation to its end, as `call` does, and gives what it was told, which has four words. An `Answer` has room for the list of a poll, which
+    /// would be cleared and copied at each call. `NoSession` once the handle is ended.
+    #[inline(always)]
+    pub fn op(&mut self, op: Op) -> Told
+        ensures called { IsOpCalled (opening_of ⟦<Posted<'static> as Device>⟧.seen) (sitting_of self.old) (laid_op (keys_of self.old) op) result (sitting_of self.new) }
+        ensures keys { keys_of self.new ≡ keys_of self.old }
+    {
+        let op = laid(self.keys, op);
+        match &mut self.seated {
+            Some(seated) => seated.op(op),
+            None => Told::Refused(Fault::NoSession),
         }
     }
 
