@@ -8,6 +8,9 @@ returns c =
     let its = c.op.ensures.called in
     record {
       answer = answer_saying c.op.result its.0;
-      answered = record { called = its.1 (answer_saying c.op.result its.0) (says_so c.op.result its.0); keys = c.op.ensures.keys };
+      answered = record {
+        called = rw (← c.lent.ensures.value) (its.1 (answer_saying c.op.result its.0) (says_so c.op.result its.0));
+        keys = rw (← c.lent.ensures.value) c.op.ensures.keys;
+      };
       told = c.told_by.ensures its.0;
     }
