@@ -12,6 +12,11 @@ enum {
     USUAL_TURN_US = 500,
     /* While a commit runs: it waits for sessions, which refresh every few microseconds. */
     COMMIT_TURN_US = 50,
+    /*
+     * For so long its turns follow at once, up to its first write. Until then it waits four times for all sessions, and their updates
+     * go the long way, or wait too.
+     */
+    HASTE_US = 500,
     /* While no session is joined, which is told at once. */
     IDLE_TURN_US = 100000,
     /* Between two polls of a session that waits. */
@@ -22,10 +27,11 @@ enum {
 /* A run of the keeper's thread. Nobody else has it. */
 struct run {
     fkv_file *file;
-    struct timespec next; /* when the next commit by the clock is due */
-    uint32_t log_left;    /* so many log commits before the next full one */
-    uint64_t written;     /* bytes, since the commit in hand began */
-    bool has_called;      /* the last turn has called the file, so the next one may have something to do */
+    struct timespec next;  /* when the next commit by the clock is due */
+    struct timespec haste; /* up to then the commit in hand makes haste */
+    uint32_t log_left;     /* so many log commits before the next full one */
+    uint64_t written;      /* bytes, since the commit in hand began */
+    bool has_called;       /* the last turn has called the file, so the next one may have something to do */
 };
 
 /* ---- Time ----------------------------------------------------------------------------------------------------------------- */
@@ -64,6 +70,7 @@ static void note_begun(struct run *run) {
     file->was_joined = file->joined != 0;
     run->written = 0;
     run->next = behind(now(), (uint64_t)file->keeping.commit_ms * 1000);
+    run->haste = behind(now(), HASTE_US);
 }
 
 /* From now on there are no commits, or no turns either, and nobody waits for one. */
@@ -131,10 +138,15 @@ static uint32_t rest_us(const fkv_file *file) {
     return file->joined || usual > IDLE_TURN_US ? usual : IDLE_TURN_US;
 }
 
+/* Whether a commit is in hand that still waits for sessions, and hasn't done so for long. The file's lock is held. */
+static bool makes_haste(const struct run *run) {
+    return run->file->in_hand && run->written == 0 && is_before(now(), run->haste);
+}
+
 /* Waits for the next turn, or commit. The file's lock is held. */
 static void rest(const struct run *run) {
     fkv_file *file = run->file;
-    if (run->has_called || file->nudged || file->stops) return;
+    if (run->has_called || file->nudged || file->stops || makes_haste(run)) return;
     struct timespec until = behind(now(), rest_us(file));
     if (file->keeping.commit_ms > 0 && file->was_joined && is_before(run->next, until)) until = run->next;
     pthread_cond_timedwait(&file->work, &file->lock, &until);

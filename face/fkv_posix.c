@@ -328,11 +328,17 @@ uint64_t fkv_last_commit(fkv_file *file, uint64_t points[FKV_MOST_SESSIONS]) {
 
 /* ---- Sessions ------------------------------------------------------------------------------------------------------------- */
 
+/* Sessions whose numbers are so far apart share no cache line. */
+enum { APART = 3 };
+
 static uint32_t bit_of(const fkv_file *file, const fkv_session *session) {
     return UINT32_C(1) << (session - file->sessions);
 }
 
-/* The number of a session that is free, of this one or of any. */
+/*
+ * The number of a session that is free, of this one or of any. Each call of a session writes words of its own, and neighbours' lie on
+ * common cache lines. So of any, every third is given first.
+ */
 static int32_t free_session(const fkv_file *file, uint64_t number, uint64_t *found) {
     uint32_t taken = file->joined | file->abandoned;
     if (number != FKV_ANY_SESSION) {
@@ -340,10 +346,12 @@ static int32_t free_session(const fkv_file *file, uint64_t number, uint64_t *fou
         *found = number;
         return taken >> number & 1 ? -FKV_HANDLE_TAKEN : 0;
     }
-    for (uint64_t i = 0; i < file->shape.sessions; i++) {
-        if (taken >> i & 1) continue;
-        *found = i;
-        return 0;
+    for (uint64_t first = 0; first < APART; first++) {
+        for (uint64_t i = first; i < file->shape.sessions; i += APART) {
+            if (taken >> i & 1) continue;
+            *found = i;
+            return 0;
+        }
     }
     return -FKV_NO_SESSION;
 }

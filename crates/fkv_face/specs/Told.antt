@@ -1,8 +1,11 @@
 -- What C is told of a session's call.
-use Rattle.std.specs.Prelude.{◌≡◌, ℕ, ℤ, pos}
+use Rattle.std.specs.Prelude.{◌≡◌, ℕ, ℤ, List, pos}
 use Rattle.fkv_map.specs.declared.operations.Call.{Call}
 use Rattle.fkv_session.specs.declared.answers.Answer.{Answer}
 use Rattle.fkv_session.specs.declared.answers.Answer.TheVariants as answer
+use Rattle.fkv_session.specs.declared.answers.Finished.{Finished}
+use Rattle.fkv_session.specs.declared.answers.Told.{Told}
+use Rattle.fkv_session.specs.declared.answers.Told.TheVariants as told
 use Rattle.fkv_world.specs.Runs.{World}
 use Rattle.fkv_handles.specs.declared.sessions.Session.{Session}
 use Rattle.fkv_handles.specs.Handles.{Opening, keys_of, sitting_of}
@@ -26,6 +29,20 @@ numbers_of (answer.Polled finished left) = numbered (pos 0) left 0 0
 numbers_of answer.Slept = numbered (pos 0) 0 0 0
 numbers_of (answer.Durable serial) = numbered (pos 0) serial.0 0 0
 numbers_of (answer.Refused why) = numbered (fault_told why) 0 0 0
+
+-- the answer that says what was told, with what was finished
+abbrev pub answer_saying : Told → List Finished → Answer
+answer_saying (told.Done serial reply) finished = answer.Done serial reply
+answer_saying (told.Pending serial reason) finished = answer.Pending serial reason
+answer_saying (told.Found value) finished = answer.Found value
+answer_saying told.Absent finished = answer.Absent
+answer_saying (told.PendingRead ticket) finished = answer.PendingRead ticket
+answer_saying (told.Refreshed phase version) finished = answer.Refreshed phase version
+answer_saying (told.Woken phase version) finished = answer.Woken phase version
+answer_saying (told.Polled left) finished = answer.Polled (record { items = finished }) left
+answer_saying told.Slept finished = answer.Slept
+answer_saying (told.Durable serial) finished = answer.Durable serial
+answer_saying (told.Refused why) finished = answer.Refused why
 
 module _ (at : Opening → World) where
   -- The handle has run this call, with this answer.

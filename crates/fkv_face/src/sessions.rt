@@ -1,10 +1,11 @@
 //! A session's calls.
 ghost use Rattle.std.specs.Prelude.{◌≡◌};
 ghost use Rattle.fkv_face.specs.Calls as says;
+ghost use Rattle.fkv_map.specs.declared.operations.Call.TheVariants as call;
 ghost use Rattle.fkv_table.specs.Planes.{opening_of};
 
 use crate::held_session::HeldSession;
-use crate::told::{Numbers, told_of};
+use crate::told::{Numbers, told_by, told_of};
 use fkv_base::{Key, Value};
 use fkv_disk::Device;
 use fkv_map::{Call, Op};
@@ -31,10 +32,19 @@ pub(crate) fn run(session: &mut HeldSession, call: Call) -> Numbers
     told_of(session.lent().call(call))
 }
 
+/// An operation by what it was told: it is called so often that no `Answer` is made for it.
+#[inline(always)]
+fn run_op(session: &mut HeldSession, op: Op) -> Numbers
+    ensures { says.IsToldIn (opening_of ⟦<Posted<'static> as Device>⟧.seen) session.old.value (call.Op op) result session.new.value }
+{
+    told_by(session.lent().op(op))
+}
+
+#[inline(always)]
 fn make_update(session: &mut HeldSession, op: Op, told: &mut Update) -> i32
     ensures { says.IsUpdated (opening_of ⟦<Posted<'static> as Device>⟧.seen) session.old.value op result told.new session.new.value }
 {
-    let its = run(session, Call::Op(op));
+    let its = run_op(session, op);
     told.serial = its.first;
     told.value = its.second;
     told.reason = its.third;
@@ -46,7 +56,7 @@ fn make_update(session: &mut HeldSession, op: Op, told: &mut Update) -> i32
 pub extern "C" fn fkv_get(session: &mut HeldSession, key: u64, value: &mut u64) -> i32
     ensures { says.IsRead (opening_of ⟦<Posted<'static> as Device>⟧.seen) session.old.value key result value.new session.new.value }
 {
-    let its = run(session, Call::Op(Op::Read(Key(key))));
+    let its = run_op(session, Op::Read(Key(key)));
     *value = its.first;
     its.result
 }

@@ -1,13 +1,14 @@
 //! Answers as numbers.
-ghost use Rattle.std.specs.Prelude.{◌≡◌};
+ghost use Rattle.std.specs.Prelude.{◌≡◌, List};
 ghost use Rattle.fkv_face.specs.Numbers.{number_in, phase_number, reason_number};
-ghost use Rattle.fkv_face.specs.Told.{numbers_of};
+ghost use Rattle.fkv_face.specs.Told.{answer_saying, numbers_of};
+ghost use Rattle.fkv_session.specs.declared.answers.Finished.{Finished};
 
 use crate::answers::refused;
 use fkv_base::Phase;
 use fkv_map::Reply;
 use fkv_ops::Reason;
-use fkv_session::Answer;
+use fkv_session::{Answer, Told};
 
 /// An answer: its result, and up to three numbers that go with it.
 #[derive(Clone, Copy)]
@@ -28,6 +29,7 @@ pub(crate) const NONE: i32 = 2;
 pub(crate) const PENDING: i32 = 3;
 
 /// The value that goes with a reply, 0 where none does.
+#[inline(always)]
 pub(crate) fn number_in(reply: Reply) -> u64
     ensures { result ≡ number_in reply }
 {
@@ -39,6 +41,7 @@ pub(crate) fn number_in(reply: Reply) -> u64
     }
 }
 
+#[inline(always)]
 fn reason_number(reason: Reason) -> u64
     ensures { result ≡ reason_number reason }
 {
@@ -52,6 +55,7 @@ fn reason_number(reason: Reason) -> u64
     }
 }
 
+#[inline(always)]
 fn phase_number(phase: Phase) -> u64
     ensures { result ≡ phase_number phase }
 {
@@ -64,6 +68,7 @@ fn phase_number(phase: Phase) -> u64
     }
 }
 
+#[inline(always)]
 fn tells(its: i32, first: u64, second: u64, third: u64) -> Numbers
     ensures { result ≡ record { result = its; first = first; second = second; third = third } }
 {
@@ -91,5 +96,25 @@ pub(crate) fn told_of(answer: Answer) -> Numbers
         Answer::Slept => tells(DONE, 0, 0, 0),
         Answer::Durable(serial) => tells(DONE, serial.0, 0, 0),
         Answer::Refused(why) => tells(refused(why), 0, 0, 0),
+    }
+}
+
+/// The numbers of what an operation was told: those of the answer that says so, without the list that an `Answer` has room for.
+#[inline(always)]
+pub(crate) fn told_by(told: Told) -> Numbers
+    ensures { (finished : List Finished) → result ≡ numbers_of (answer_saying told finished) }
+{
+    match told {
+        Told::Done(serial, reply) => tells(DONE, serial.0, number_in(reply), 0),
+        Told::Pending(serial, reason) => tells(PENDING, serial.0, 0, reason_number(reason)),
+        Told::Found(value) => tells(FOUND, value.0, 0, 0),
+        Told::Absent => tells(NONE, 0, 0, 0),
+        Told::PendingRead(ticket) => tells(PENDING, ticket.0, 0, 0),
+        Told::Refreshed(phase, version) => tells(DONE, phase_number(phase), version.0, 0),
+        Told::Woken(phase, version) => tells(DONE, phase_number(phase), version.0, 0),
+        Told::Polled(left) => tells(DONE, left as u64, 0, 0),
+        Told::Slept => tells(DONE, 0, 0, 0),
+        Told::Durable(serial) => tells(DONE, serial.0, 0, 0),
+        Told::Refused(why) => tells(refused(why), 0, 0, 0),
     }
 }

@@ -1,8 +1,10 @@
 pub mod Handles
 pub mod Kept
 pub mod Laid
+pub mod Models
 pub mod Opens
 pub mod Passes
 pub mod Posted
+pub mod Said
 pub mod Sittings
 pub mod Watches

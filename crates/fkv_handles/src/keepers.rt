@@ -1,9 +1,6 @@
 //! The keeper's handle.
 ghost use Rattle.std.specs.Prelude.{◌≡◌, None};
-ghost use Rattle.fkv_handles.specs.Handles.{IsToldHonestly, due_of, watch_of};
-ghost use Rattle.fkv_handles.specs.Kept.{IsAskedBy, IsToldBy, IsTurnedBy};
-ghost use Rattle.fkv_disk.specs.Asks.{asked_call};
-ghost use Rattle.fkv_table.specs.Planes.{opening_of};
+ghost use Rattle.fkv_handles.specs.Said as said;
 
 use crate::keeping::Keeping;
 use fkv_base::{CommitKind, Fault, Version};
@@ -21,7 +18,7 @@ impl Keeper {
     /// Begins a turn, and carries it on up to its next call of the device or to its end. Where a call is posted that wasn't told yet nothing
     /// changes, and `Device` is answered again. It ends early as `fkv_threads::turn` does; `Broken` once the handle is ended.
     pub fn turn(&mut self) -> TurnAsk
-        ensures turned { IsTurnedBy (opening_of ⟦<Posted<'static> as Device>⟧.seen) (watch_of self.old) result (watch_of self.new) }
+        ensures turned { said.IsTurnedBy (said.opening_of ⟦<Posted<'static> as Device>⟧.seen) (said.watch_of self.old) result (said.watch_of self.new) }
     {
         match &mut self.keeping {
             Some(keeping) => keeping.turn(),
@@ -31,7 +28,7 @@ impl Keeper {
 
     /// The call of the device that is posted, in the middle of a turn.
     pub fn posted(&self) -> Option<DeviceAsk<'_>>
-        ensures { asked_call result ≡ due_of (watch_of self.now) }
+        ensures { said.asked_call result ≡ said.due_of (said.watch_of self.now) }
     {
         match &self.keeping {
             Some(keeping) => keeping.posted(),
@@ -42,8 +39,8 @@ impl Keeper {
     /// Tells how that call has gone, and carries the turn on. What is told of a read is what was last written there. Where no call is posted
     /// nothing is told, and this is `turn`.
     pub fn tell(&mut self, told: Told) -> TurnAsk
-        requires honest { IsToldHonestly told (watch_of self.old) }
-        ensures told { IsToldBy (opening_of ⟦<Posted<'static> as Device>⟧.seen) ⟦<Posted<'static> as Device>⟧.moment ⟦<Posted<'static> as Device>⟧.left_since told (watch_of self.old) result (watch_of self.new) }
+        requires honest { said.IsToldHonestly told (said.watch_of self.old) }
+        ensures told { said.IsToldBy (said.opening_of ⟦<Posted<'static> as Device>⟧.seen) ⟦<Posted<'static> as Device>⟧.moment ⟦<Posted<'static> as Device>⟧.left_since told (said.watch_of self.old) result (said.watch_of self.new) }
     {
         match &mut self.keeping {
             Some(keeping) => keeping.tell(told),
@@ -54,7 +51,7 @@ impl Keeper {
     /// Begins a commit of this kind, and tells its number; later turns carry it through. It is refused as `fkv_threads::ask_commit` refuses it,
     /// with `CommitRunning` in the middle of a turn too, and with `Broken` once the handle is ended.
     pub fn ask_commit(&mut self, kind: CommitKind) -> Result<Version, Fault>
-        ensures begun { IsAskedBy (opening_of ⟦<Posted<'static> as Device>⟧.seen) kind (watch_of self.old) result (watch_of self.new) }
+        ensures begun { said.IsAskedBy (said.opening_of ⟦<Posted<'static> as Device>⟧.seen) kind (said.watch_of self.old) result (said.watch_of self.new) }
     {
         match &mut self.keeping {
             Some(keeping) => keeping.ask_commit(kind),
@@ -64,7 +61,7 @@ impl Keeper {
 
     /// Ends the handle, and gives its share of the table up.
     pub fn end(&mut self)
-        ensures { watch_of self.new ≡ None }
+        ensures { said.watch_of self.new ≡ None }
     {
         self.keeping = None;
     }

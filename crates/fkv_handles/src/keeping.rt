@@ -1,8 +1,6 @@
 //! The keeper with its pass at a table that handles share. Its calls of the device are posted.
-ghost use Rattle.std.specs.Prelude.{◌≡◌, Some};
-ghost use Rattle.fkv_disk.specs.Asks.{asked_call};
-ghost use Rattle.fkv_handles.specs.Watches as watch;
-ghost use Rattle.fkv_table.specs.Planes.{opening_of};
+ghost use Rattle.std.specs.Prelude.{◌≡◌};
+ghost use Rattle.fkv_handles.specs.Said as said;
 
 use fkv_base::{CommitKind, Fault, Version};
 use fkv_disk::{Device, DeviceAsk};
@@ -27,27 +25,20 @@ pub struct Keeping {
 
 impl Model for Keeping {
     ghost use Rattle.std.specs.Prelude.{◌≡◌, IfSome, is_some, true};
-    ghost use Rattle.std.specs.declared.snapshot.Snapshot.{Snapshot};
-    ghost use Rattle.fkv_core.specs.Worlds.{WorldModel};
-    ghost use Rattle.fkv_handles.specs.declared.views.Watch.{Watch};
-    ghost use Rattle.fkv_handles.specs.Passes.{seen_by_keeper};
-    ghost use Rattle.fkv_handles.specs.Posted.{StandsSo};
-    ghost use Rattle.fkv_posted.specs.declared.posted.Posted.{Posted as Medium};
-    ghost use Rattle.fkv_table.specs.Keeps.{IsAfterSeen, IsKeeperAtWork};
-    ghost use Rattle.fkv_table.specs.Planes.{opening_of};
+    ghost use Rattle.fkv_handles.specs.Models as model;
 
-    ghost Value = { Watch (Snapshot (WorldModel Medium)) };
+    ghost Value = { model.Watch (model.Snapshot (model.WorldModel model.Medium)) };
 
-    ghost view = { λ s. record { key = s.table.value.table.shared.key; seen = seen_by_keeper s.pass; machine = s.keeper.machine; device = s.device; in_turn = s.in_turn } };
+    ghost view = { λ s. record { key = s.table.value.table.shared.key; seen = model.seen_by_keeper s.pass; machine = s.keeper.machine; device = s.device; in_turn = s.in_turn } };
 
-    ghost invariant = { λ s. (is_some s.pass ≡ true) × ⟦<Posted<'static> as Device>⟧.honest s.device × IfSome s.pass (λ p. IsKeeperAtWork (opening_of ⟦<Posted<'static> as Device>⟧.seen) s.table.value.table.shared.key s.table.value.table.shared.table_id p.seat.table_id p.seat.me s.keeper.machine × IsAfterSeen (opening_of ⟦<Posted<'static> as Device>⟧.seen) s.table.value.table.shared.key p.seat.me.0.seen (⟦<Posted<'static> as Device>⟧.seen s.device) (⟦<Posted<'static> as Device>⟧.may_leave s.device)) × StandsSo s.in_turn s.keeper.machine };
+    ghost invariant = { λ s. (is_some s.pass ≡ true) × ⟦<Posted<'static> as Device>⟧.honest s.device × IfSome s.pass (λ p. model.IsKeeperAtWork (model.opening_of ⟦<Posted<'static> as Device>⟧.seen) s.table.value.table.shared.key s.table.value.table.shared.table_id p.seat.table_id p.seat.me s.keeper.machine × model.IsAfterSeen (model.opening_of ⟦<Posted<'static> as Device>⟧.seen) s.table.value.table.shared.key p.seat.me.0.seen (⟦<Posted<'static> as Device>⟧.seen s.device) (⟦<Posted<'static> as Device>⟧.may_leave s.device)) × model.StandsSo s.in_turn s.keeper.machine };
 }
 
 impl Keeping {
     /// Carries the turn in hand on, up to its next call of the device or to its end, and begins one where none is in hand. Where a call is
     /// posted that wasn't told yet nothing changes.
     pub fn turn(&mut self) -> TurnAsk
-        ensures turned { watch.IsTurned (opening_of ⟦<Posted<'static> as Device>⟧.seen) self.old result self.new }
+        ensures turned { said.IsTurned (said.opening_of ⟦<Posted<'static> as Device>⟧.seen) self.old result self.new }
     {
         if self.in_turn {
             return TurnAsk::Device;
@@ -65,7 +56,7 @@ impl Keeping {
 
     /// The call of the device that is posted, in the middle of a turn.
     pub fn posted(&self) -> Option<DeviceAsk<'_>>
-        ensures { asked_call result ≡ watch.keeper_due self.now.machine }
+        ensures { said.asked_call result ≡ said.keeper_due self.now.machine }
     {
         device_ask(&self.keeper)
     }
@@ -73,8 +64,8 @@ impl Keeping {
     /// Tells how the call that is posted has gone, and carries the turn on as `turn` does. What is told of a read is what was last written
     /// there. Where no call is posted nothing is told, and this is `turn`.
     pub fn tell(&mut self, told: Told) -> TurnAsk
-        requires honest { watch.IsHonestlyTold told self.old }
-        ensures told { watch.IsTold (opening_of ⟦<Posted<'static> as Device>⟧.seen) ⟦<Posted<'static> as Device>⟧.moment ⟦<Posted<'static> as Device>⟧.left_since told self.old result self.new }
+        requires honest { said.IsHonestlyTold told self.old }
+        ensures told { said.IsTold (said.opening_of ⟦<Posted<'static> as Device>⟧.seen) ⟦<Posted<'static> as Device>⟧.moment ⟦<Posted<'static> as Device>⟧.left_since told self.old result self.new }
     {
         if !self.in_turn {
             return self.turn();
@@ -93,7 +84,7 @@ impl Keeping {
 
     /// Begins a commit, as `fkv_threads::ask_commit` does. In the middle of a turn it is refused with `CommitRunning`.
     pub fn ask_commit(&mut self, kind: CommitKind) -> Result<Version, Fault>
-        ensures begun { watch.IsAskedToCommit (opening_of ⟦<Posted<'static> as Device>⟧.seen) kind self.old result self.new }
+        ensures begun { said.IsAskedToCommit (said.opening_of ⟦<Posted<'static> as Device>⟧.seen) kind self.old result self.new }
     {
         if self.in_turn {
             return Err(Fault::CommitRunning);

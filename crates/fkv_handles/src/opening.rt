@@ -1,13 +1,6 @@
 //! The parts of a store's opening.
-ghost use Rattle.std.specs.Prelude.{◌≡◌, [], length, map, IfOk, IfErr, OnErr, Err, Some, true, false};
-ghost use Rattle.fkv_base.specs.declared.faults.Fault.TheVariants.{Memory};
-ghost use Rattle.fkv_disk.specs.Device.{LeavesOnly};
-ghost use Rattle.fkv_handles.specs.Handles.{store_is_open, store_keeper, store_keys, store_sessions};
-ghost use Rattle.fkv_handles.specs.Opens.{AreFirst, IsFirst, IsOpeningRefused, IsRecovered, sitting_at};
-ghost use Rattle.fkv_opening.specs.Opened.{IsStoreOf};
-ghost use Rattle.fkv_posted.specs.Shows.{posted_failures, posted_opened, posted_outcomes, posted_shown, posted_told};
-ghost use Rattle.fkv_table.specs.Planes.{opening_of};
-ghost use Rattle.fkv_threads.specs.Said as said;
+ghost use Rattle.std.specs.Prelude.{◌≡◌, length, map, IfOk, IfErr, OnErr, Err, Some, true};
+ghost use Rattle.fkv_handles.specs.Said as said;
 
 use crate::keeping::Keeping;
 use crate::seated::Seated;
@@ -30,9 +23,9 @@ fn seats(
     table: &Arc<Table<Medium>, Global>,
     sessions: Vec<(fkv_table::Session, Pass<Medium>)>,
 ) -> Result<Vec<Option<Seated>>, Fault>
-    requires ready { said.EachAt sessions.items (λ i x. said.HasBegun (opening_of ⟦<Posted<'static> as Device>⟧.seen) table.now.value.table.shared.key table.now.value.table.shared.table_id i x.0.machine x.0.desk x.1.seat.table_id x.1.seat.me) }
-    ensures same { IfOk result (λ seats. seats.items ≡ map (sitting_at table.now.value.table.shared.key) sessions.entry.items) }
-    ensures memory { OnErr result (result ≡ Err Memory) }
+    requires ready { said.EachAt sessions.items (λ i x. said.HasBegun (said.opening_of ⟦<Posted<'static> as Device>⟧.seen) table.now.value.table.shared.key table.now.value.table.shared.table_id i x.0.machine x.0.desk x.1.seat.table_id x.1.seat.me) }
+    ensures same { IfOk result (λ seats. seats.items ≡ map (said.sitting_at table.now.value.table.shared.key) sessions.entry.items) }
+    ensures memory { OnErr result (result ≡ Err said.Memory) }
 {
     let mut seats = Vec::new(alloc);
     for (session, pass) in sessions {
@@ -48,7 +41,7 @@ fn seats(
 
 fn copied(alloc: Global, points: &[Serial]) -> Result<Vec<Serial>, Fault>
     ensures same { IfOk result (λ copies. copies.items ≡ points.now) }
-    ensures memory { OnErr result (result ≡ Err Memory) }
+    ensures memory { OnErr result (result ≡ Err said.Memory) }
 {
     let mut copies = Vec::new(alloc);
     for point in points {
@@ -59,8 +52,8 @@ fn copied(alloc: Global, points: &[Serial]) -> Result<Vec<Serial>, Fault>
 
 /// What the image has told.
 pub(crate) fn told_of(alloc: Global, opened: &Opened) -> Result<Recovered, Fault>
-    ensures told { IfOk result (IsRecovered opened.now) }
-    ensures memory { OnErr result (result ≡ Err Memory) }
+    ensures told { IfOk result (said.IsRecovered opened.now) }
+    ensures memory { OnErr result (result ≡ Err said.Memory) }
 {
     let points = copied(alloc, &opened.points)?;
     Ok(Recovered {
@@ -72,11 +65,11 @@ pub(crate) fn told_of(alloc: Global, opened: &Opened) -> Result<Recovered, Fault
 
 /// The store of this image, and the medium that it lies on from now on.
 pub(crate) fn opened_from(alloc: Global, bytes: &[u8]) -> Result<(Opened, Medium), Fault>
-    ensures store { IfOk result (λ r. IsStoreOf bytes.now r.0) }
+    ensures store { IfOk result (λ r. said.IsStoreOf bytes.now r.0) }
     ensures seen { IfOk result (λ r. ⟦<Posted<'static> as Device>⟧.seen r.1 ≡ bytes.now) }
     ensures honest { IfOk result (λ r. ⟦<Posted<'static> as Device>⟧.honest r.1) }
-    ensures leaves { IfOk result (λ r. LeavesOnly (⟦<Posted<'static> as Device>⟧.seen r.1) (⟦<Posted<'static> as Device>⟧.may_leave r.1)) }
-    ensures refused { IfErr result (IsOpeningRefused bytes.now) }
+    ensures leaves { IfOk result (λ r. said.LeavesOnly (⟦<Posted<'static> as Device>⟧.seen r.1) (⟦<Posted<'static> as Device>⟧.may_leave r.1)) }
+    ensures refused { IfErr result (said.IsOpeningRefused bytes.now) }
 {
     let mut shown = Posted::new(bytes);
     match recover(alloc, &mut shown) {
@@ -92,10 +85,10 @@ pub(crate) fn kept(
     pass: KeeperPass<Medium>,
     device: Medium,
 ) -> Keeping
-    requires ready { said.IsKeeperReady (opening_of ⟦<Posted<'static> as Device>⟧.seen) table.value.table.shared.key table.value.table.shared.table_id pass.seat.table_id pass.seat.me keeper.machine }
+    requires ready { said.IsKeeperReady (said.opening_of ⟦<Posted<'static> as Device>⟧.seen) table.value.table.shared.key table.value.table.shared.table_id pass.seat.table_id pass.seat.me keeper.machine }
     requires honest { ⟦<Posted<'static> as Device>⟧.honest device }
-    requires after { said.IsAfterSeen (opening_of ⟦<Posted<'static> as Device>⟧.seen) table.value.table.shared.key pass.seat.me.0.seen (⟦<Posted<'static> as Device>⟧.seen device) (⟦<Posted<'static> as Device>⟧.may_leave device) }
-    ensures first { IsFirst table.entry.value.table.shared.key pass.entry.seat.me.0.seen keeper.machine device.entry result }
+    requires after { said.IsAfterSeen (said.opening_of ⟦<Posted<'static> as Device>⟧.seen) table.value.table.shared.key pass.seat.me.0.seen (⟦<Posted<'static> as Device>⟧.seen device) (⟦<Posted<'static> as Device>⟧.may_leave device) }
+    ensures first { said.IsFirst table.entry.value.table.shared.key pass.entry.seat.me.0.seen keeper.machine device.entry result }
 {
     Keeping {
         table,
@@ -114,13 +107,13 @@ pub(crate) fn handles_of(
     keeping: Keeping,
     keys: Keys,
 ) -> Result<Store, Fault>
-    requires sessions { said.EachAt sessions.items (λ i x. said.HasBegun (opening_of ⟦<Posted<'static> as Device>⟧.seen) table.value.table.shared.key table.value.table.shared.table_id i x.0.machine x.0.desk x.1.seat.table_id x.1.seat.me) }
-    ensures count { IfOk result (λ store. length (store_sessions store) ≡ length sessions.entry.items) }
-    ensures first { IfOk result (λ store. AreFirst table.entry.value.table.shared.key (store_sessions store)) }
-    ensures keeper { IfOk result (λ store. store_keeper store ≡ Some keeping) }
-    ensures keys { IfOk result (λ store. store_keys store ≡ keys) }
-    ensures is_open { IfOk result (λ store. store_is_open store ≡ true) }
-    ensures memory { OnErr result (result ≡ Err Memory) }
+    requires sessions { said.EachAt sessions.items (λ i x. said.HasBegun (said.opening_of ⟦<Posted<'static> as Device>⟧.seen) table.value.table.shared.key table.value.table.shared.table_id i x.0.machine x.0.desk x.1.seat.table_id x.1.seat.me) }
+    ensures count { IfOk result (λ store. length (said.store_sessions store) ≡ length sessions.entry.items) }
+    ensures first { IfOk result (λ store. said.AreFirst table.entry.value.table.shared.key (said.store_sessions store)) }
+    ensures keeper { IfOk result (λ store. said.store_keeper store ≡ Some keeping) }
+    ensures keys { IfOk result (λ store. said.store_keys store ≡ keys) }
+    ensures is_open { IfOk result (λ store. said.store_is_open store ≡ true) }
+    ensures memory { OnErr result (result ≡ Err said.Memory) }
 {
     let sessions = seats(alloc, &table, sessions)?;
     Ok(Store {

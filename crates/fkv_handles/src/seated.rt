@@ -1,15 +1,14 @@
 //! A session with its pass at a table that handles share.
 ghost use Rattle.std.specs.Prelude.{◌≡◌};
-ghost use Rattle.fkv_handles.specs.Sittings.{IsCallOf};
-ghost use Rattle.fkv_table.specs.Planes.{opening_of};
+ghost use Rattle.fkv_handles.specs.Said as said;
 
 use fkv_base::Fault;
 use fkv_disk::Device;
-use fkv_map::Call;
+use fkv_map::{Call, Op};
 use fkv_posted::Posted;
-use fkv_session::Answer;
+use fkv_session::{Answer, Told};
 use fkv_table::{Pass, Session, Table};
-use fkv_threads::run;
+use fkv_threads::{run, run_op};
 use std::alloc::Global;
 use std::marker::Model;
 use std::sync::Arc;
@@ -25,25 +24,19 @@ pub struct Seated {
 
 impl Model for Seated {
     ghost use Rattle.std.specs.Prelude.{◌≡◌, IfSome, is_some, true};
-    ghost use Rattle.std.specs.declared.snapshot.Snapshot.{Snapshot};
-    ghost use Rattle.fkv_core.specs.Worlds.{WorldModel};
-    ghost use Rattle.fkv_handles.specs.declared.views.Sitting.{Sitting};
-    ghost use Rattle.fkv_handles.specs.Passes.{seen_by};
-    ghost use Rattle.fkv_posted.specs.declared.posted.Posted.{Posted as Medium};
-    ghost use Rattle.fkv_table.specs.Calls.{IsReady};
-    ghost use Rattle.fkv_table.specs.Planes.{opening_of};
+    ghost use Rattle.fkv_handles.specs.Models as model;
 
-    ghost Value = { Sitting (Snapshot (WorldModel Medium)) };
+    ghost Value = { model.Sitting (model.Snapshot (model.WorldModel model.Medium)) };
 
-    ghost view = { λ s. record { number = s.session.machine.seat.number; key = s.table.value.table.shared.key; seen = seen_by s.pass } };
+    ghost view = { λ s. record { number = s.session.machine.seat.number; key = s.table.value.table.shared.key; seen = model.seen_by s.pass } };
 
-    ghost invariant = { λ s. (is_some s.pass ≡ true) × IfSome s.pass (λ p. IsReady (opening_of ⟦<Posted<'static> as Device>⟧.seen) s.table.value.table.shared.key s.table.value.table.shared.table_id p.seat.table_id p.seat.me s.session.machine s.session.desk) };
+    ghost invariant = { λ s. (is_some s.pass ≡ true) × IfSome s.pass (λ p. model.IsReady (model.opening_of ⟦<Posted<'static> as Device>⟧.seen) s.table.value.table.shared.key s.table.value.table.shared.table_id p.seat.table_id p.seat.me s.session.machine s.session.desk) };
 }
 
 impl Seated {
     /// Runs a call to its end, as `fkv_threads::run` does. It waits for no other thread.
     pub fn call(&mut self, call: Call) -> Answer
-        ensures called { IsCallOf (opening_of ⟦<Posted<'static> as Device>⟧.seen) self.old call result self.new }
+        ensures called { said.IsCallOf (said.opening_of ⟦<Posted<'static> as Device>⟧.seen) self.old call result self.new }
     {
         match self.pass.take() {
             Some(pass) => {
@@ -52,6 +45,21 @@ impl Seated {
                 answer
             }
             None => Answer::Refused(Fault::NoSession),
+        }
+    }
+
+    /// Runs an operation to its end, as `fkv_threads::run_op` does. It waits for no other thread.
+    #[inline(always)]
+    pub fn op(&mut self, op: Op) -> Told
+        ensures called { said.IsOpOf (said.opening_of ⟦<Posted<'static> as Device>⟧.seen) self.old op result self.new }
+    {
+        match self.pass.take() {
+            Some(pass) => {
+                let (pass, told) = run_op(&mut self.session, &self.table, pass, op);
+                self.pass = Some(pass);
+                told
+            }
+            None => Told::Refused(Fault::NoSession),
         }
     }
 }

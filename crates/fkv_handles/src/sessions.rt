@@ -1,16 +1,13 @@
 //! A session's handle.
 ghost use Rattle.std.specs.Prelude.{◌≡◌, None};
-ghost use Rattle.fkv_handles.specs.Handles.{keys_of, sitting_of};
-ghost use Rattle.fkv_handles.specs.Laid.{laid_call, laid_op};
-ghost use Rattle.fkv_handles.specs.Sittings.{IsCalled};
-ghost use Rattle.fkv_table.specs.Planes.{opening_of};
+ghost use Rattle.fkv_handles.specs.Said as said;
 
 use crate::seated::Seated;
 use fkv_base::Fault;
 use fkv_disk::Device;
 use fkv_map::{Call, Op};
 use fkv_posted::Posted;
-use fkv_session::Answer;
+use fkv_session::{Answer, Told};
 use fkv_spread::Keys;
 
 /// A session's handle, until it is ended. It may go into any thread.
@@ -23,7 +20,7 @@ pub struct Session {
 /// The operation on the key as it lies in the store.
 #[inline(always)]
 fn laid(keys: Keys, op: Op) -> Op
-    ensures { result ≡ laid_op keys op }
+    ensures { result ≡ said.laid_op keys op }
 {
     match op {
         Op::Upsert(key, value) => Op::Upsert(keys.laid(key), value),
@@ -37,7 +34,7 @@ fn laid(keys: Keys, op: Op) -> Op
 /// The call on the key as it lies in the store.
 #[inline(always)]
 fn laid_in(keys: Keys, call: Call) -> Call
-    ensures { result ≡ laid_call keys call }
+    ensures { result ≡ said.laid_call keys call }
 {
     match call {
         Call::Op(op) => Call::Op(laid(keys, op)),
@@ -49,8 +46,8 @@ impl Session {
     /// Runs a call to its end, as `fkv_threads::run` does: it waits for no other thread, and a refusal is one of the answers. The key of an
     /// operation is the caller's. `NoSession` once the handle is ended.
     pub fn call(&mut self, call: Call) -> Answer
-        ensures called { IsCalled (opening_of ⟦<Posted<'static> as Device>⟧.seen) (sitting_of self.old) (laid_call (keys_of self.old) call) result (sitting_of self.new) }
-        ensures keys { keys_of self.new ≡ keys_of self.old }
+        ensures called { said.IsCalled (said.opening_of ⟦<Posted<'static> as Device>⟧.seen) (said.sitting_of self.old) (said.laid_call (said.keys_of self.old) call) result (said.sitting_of self.new) }
+        ensures keys { said.keys_of self.new ≡ said.keys_of self.old }
     {
         let call = laid_in(self.keys, call);
         match &mut self.seated {
@@ -59,10 +56,24 @@ impl Session {
         }
     }
 
+    /// Runs an operation to its end, as `call` does, and gives what it was told, which has four words. An `Answer` has room for the list of a poll, which
+    /// would be cleared and copied at each call. `NoSession` once the handle is ended.
+    #[inline(always)]
+    pub fn op(&mut self, op: Op) -> Told
+        ensures called { said.IsOpCalled (said.opening_of ⟦<Posted<'static> as Device>⟧.seen) (said.sitting_of self.old) (said.laid_op (said.keys_of self.old) op) result (said.sitting_of self.new) }
+        ensures keys { said.keys_of self.new ≡ said.keys_of self.old }
+    {
+        let op = laid(self.keys, op);
+        match &mut self.seated {
+            Some(seated) => seated.op(op),
+            None => Told::Refused(Fault::NoSession),
+        }
+    }
+
     /// Ends the handle, and gives its share of the table up. A session that is awake holds each later commit up: it sleeps first.
     pub fn end(&mut self)
-        ensures ended { sitting_of self.new ≡ None }
-        ensures keys { keys_of self.new ≡ keys_of self.old }
+        ensures ended { said.sitting_of self.new ≡ None }
+        ensures keys { said.keys_of self.new ≡ said.keys_of self.old }
     {
         self.seated = None;
     }

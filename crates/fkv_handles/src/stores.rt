@@ -1,9 +1,6 @@
 //! A store with the handles that nobody has taken yet.
 ghost use Rattle.std.specs.Prelude.{◌≡◌, [], IfOk, IfErr, OnOk, OnErr, Err, Ok, None, true, false};
-ghost use Rattle.fkv_handles.specs.Handles.{IsGiven, IsKeeperGiven, store_is_open, store_keeper, store_keys, store_sessions};
-ghost use Rattle.fkv_handles.specs.Opens.{IsOpenedFrom, IsOpeningRefused};
-ghost use Rattle.fkv_handles.specs.declared.refusals.Refusal.TheVariants.{HandleOut};
-ghost use Rattle.fkv_table.specs.Planes.{opening_of};
+ghost use Rattle.fkv_handles.specs.Said as said;
 
 use crate::keepers::Keeper;
 use crate::keeping::Keeping;
@@ -43,8 +40,8 @@ impl Store {
     /// Opens the store of this image, as `recover` does. The bytes are those of the file, all of them synced. They aren't needed behind the call.
     /// `NotAStore`, `Damaged` or `Memory`.
     pub fn open(alloc: Global, bytes: &[u8], keys: Keys) -> Result<(Store, Recovered), Fault>
-        ensures opened { IfOk result (λ r. IsOpenedFrom (opening_of ⟦<Posted<'static> as Device>⟧.seen) bytes.now keys r.0 r.1) }
-        ensures refused { IfErr result (IsOpeningRefused bytes.now) }
+        ensures opened { IfOk result (λ r. said.IsOpenedFrom (said.opening_of ⟦<Posted<'static> as Device>⟧.seen) bytes.now keys r.0 r.1) }
+        ensures refused { IfErr result (said.IsOpeningRefused bytes.now) }
     {
         let (opened, medium) = opened_from(alloc, bytes)?;
         let told = told_of(alloc, &opened)?;
@@ -64,9 +61,9 @@ impl Store {
 
     /// Takes a session's handle. `NoSession` where the shape has none of this number, `HandleTaken` where it was taken before.
     pub fn take_session(&mut self, number: usize) -> Result<Session, Refusal>
-        ensures given { IsGiven (store_keys self.old) (store_sessions self.old) number result (store_sessions self.new) }
-        ensures keeper { store_keeper self.new ≡ store_keeper self.old }
-        ensures keys { store_keys self.new ≡ store_keys self.old }
+        ensures given { said.IsGiven (said.store_keys self.old) (said.store_sessions self.old) number result (said.store_sessions self.new) }
+        ensures keeper { said.store_keeper self.new ≡ said.store_keeper self.old }
+        ensures keys { said.store_keys self.new ≡ said.store_keys self.old }
     {
         match self.sessions.get_mut(number) {
             None => Err(Refusal::Fault(Fault::NoSession)),
@@ -82,9 +79,9 @@ impl Store {
 
     /// Takes the keeper's handle. `HandleTaken` where it was taken before.
     pub fn take_keeper(&mut self) -> Result<Keeper, Refusal>
-        ensures given { IsKeeperGiven (store_keeper self.old) result (store_keeper self.new) }
-        ensures sessions { store_sessions self.new ≡ store_sessions self.old }
-        ensures keys { store_keys self.new ≡ store_keys self.old }
+        ensures given { said.IsKeeperGiven (said.store_keeper self.old) result (said.store_keeper self.new) }
+        ensures sessions { said.store_sessions self.new ≡ said.store_sessions self.old }
+        ensures keys { said.store_keys self.new ≡ said.store_keys self.old }
     {
         match self.keeper.take() {
             None => Err(Refusal::HandleTaken),
@@ -97,11 +94,11 @@ impl Store {
     /// Closes the store, and frees its table. While a handle is out this is refused with `HandleOut`; then what wasn't taken can't be taken any
     /// more. A store that is closed stays so.
     pub fn close(&mut self, alloc: Global) -> Result<(), Refusal>
-        ensures closed { OnOk result (store_is_open self.new ≡ false) }
-        ensures out { OnErr result (result ≡ Err HandleOut) }
-        ensures still_open { OnErr result (store_is_open self.new ≡ true) }
-        ensures again { store_is_open self.old ≡ false → result ≡ Ok tt }
-        ensures dropped { (store_sessions self.new ≡ []) × (store_keeper self.new ≡ None) }
+        ensures closed { OnOk result (said.store_is_open self.new ≡ false) }
+        ensures out { OnErr result (result ≡ Err said.HandleOut) }
+        ensures still_open { OnErr result (said.store_is_open self.new ≡ true) }
+        ensures again { said.store_is_open self.old ≡ false → result ≡ Ok tt }
+        ensures dropped { (said.store_sessions self.new ≡ []) × (said.store_keeper self.new ≡ None) }
     {
         self.sessions = Vec::new(alloc);
         self.keeper = None;

@@ -12,21 +12,22 @@ int32_t must(int32_t result, const char *what) {
     return result;
 }
 
-// Room for all keys in place, and for what commits 50 ms apart append meanwhile: eight records of memory for each key, and 2^20 at
-// least. An entry of the index stands for a key, seven of them make a bucket: a bucket for each four keys.
+// Room for all keys in place, and for what commits 50 ms apart append meanwhile: eight records of memory for each key, and 2^20 for
+// each thread at least. An entry of the index stands for a key, seven of them make a bucket: a bucket for each four keys. Three
+// sessions for each thread, so that no two in use share a cache line.
 fkv_shape shape_for(const peers::Room &room) {
     unsigned bits = 0;
     while (uint64_t{4} << bits < room.keys) bits++;
-    const uint64_t records = std::max<uint64_t>(8 * room.keys, 1 << 20), frames = 128;
-    return {bits, records / frames, frames, frames * 3 / 4, room.sessions, uint64_t{1} << bits, 1 << 20};
+    const uint64_t records = std::max(8 * room.keys, uint64_t{room.sessions} << 20), frames = 128;
+    return {bits, records / frames, frames, frames * 3 / 4, 3 * room.sessions, uint64_t{1} << bits, 1 << 20};
 }
 
 struct Fkv {
     // A line of its own: the driver makes these one after another, and each thread writes its own.
     struct alignas(128) Session {
-        Session(fkv_file *file, unsigned number) : file(file), number(number) {}
+        explicit Session(fkv_file *file) : file(file) {}
 
-        void enter() { must(fkv_join(file, number, &handle), "join"); }
+        void enter() { must(fkv_join(file, FKV_ANY_SESSION, &handle), "join"); }
 
         void leave() {
             must(fkv_settle(file, handle, nullptr, nullptr), "settle");
@@ -34,13 +35,25 @@ struct Fkv {
             must(fkv_leave(file, handle), "leave");
         }
 
+        // Behind 64 calls: a refresh, but where the last one has seen no commit, one in four of them.
         void idle() {
-            fkv_seen seen;
+            if (seen.phase == FKV_REST && waiting == 0 && ++blocks % 4 != 0) return;
+            refresh();
+        }
+
+        // Before each call: until all sessions have gone over to a commit's next version updates take long, so there each eighth
+        // call has a refresh.
+        void go_over() {
+            if (seen.phase != FKV_REST && seen.phase != FKV_WAIT_FLUSH && ++calls % 8 == 0) [[unlikely]] refresh();
+        }
+
+        void refresh() {
             must(fkv_refresh(handle, &seen), "refresh");
             if (waiting != 0) poll();
         }
 
         bool get(uint64_t key, uint64_t &value) {
+            go_over();
             const int32_t result = fkv_get(handle, key, &value);
             if (result == FKV_FOUND || result == FKV_NONE) [[likely]] return result == FKV_FOUND;
             return get_later(result, key, value);
@@ -49,6 +62,7 @@ struct Fkv {
         void upsert(uint64_t key, uint64_t value) {
             fkv_update told;
             int32_t result;
+            go_over();
             while ((result = fkv_upsert(handle, key, value, &told)) != FKV_DONE) [[unlikely]]
                 if (is_taken(result, "upsert")) break;
         }
@@ -56,6 +70,7 @@ struct Fkv {
         void add(uint64_t key, uint64_t number) {
             fkv_update told;
             int32_t result;
+            go_over();
             while ((result = fkv_add(handle, key, number, &told)) != FKV_DONE) [[unlikely]]
                 if (is_taken(result, "add")) break;
         }
@@ -74,7 +89,7 @@ struct Fkv {
             }
             if (result != -FKV_PENDING_FULL) must(result, what);
             fkv_nudge(file);
-            idle();
+            refresh();
             return false;
         }
 
@@ -105,9 +120,11 @@ struct Fkv {
         }
 
         fkv_file *file;
-        unsigned number;
         fkv_session *handle = nullptr;
+        fkv_seen seen{};
         unsigned waiting = 0;  // requests that may be pending
+        unsigned blocks = 0;   // of 64 calls
+        unsigned calls = 0;    // while a commit waits for sessions
     };
 
     Fkv(const peers::Room &room, bool fresh) {
@@ -134,7 +151,7 @@ struct Fkv {
         if (!runs) keep(false);
     }
 
-    std::unique_ptr<Session> session(unsigned number) { return std::make_unique<Session>(file, number); }
+    std::unique_ptr<Session> session(unsigned) { return std::make_unique<Session>(file); }
 
     void commit(bool full) {
         if (full != is_full) {

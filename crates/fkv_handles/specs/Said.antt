@@ -1,0 +1,15 @@
+-- What the clauses of `src` say: they take all of it under one name.
+pub use Rattle.fkv_base.specs.declared.faults.Fault.TheVariants.{Memory}
+pub use Rattle.fkv_creating.specs.Created.{created_bytes}
+pub use Rattle.fkv_disk.specs.Asks.{asked_call}
+pub use Rattle.fkv_disk.specs.Device.{LeavesOnly}
+pub use Rattle.fkv_handles.specs.Handles.{IsGiven, IsKeeperGiven, IsToldHonestly, due_of, keys_of, sitting_of, store_is_open, store_keeper, store_keys, store_sessions, watch_of}
+pub use Rattle.fkv_handles.specs.Kept.{IsAskedBy, IsToldBy, IsTurnedBy}
+pub use Rattle.fkv_handles.specs.Laid.{laid_call, laid_op}
+pub use Rattle.fkv_handles.specs.Opens.{AreFirst, IsFirst, IsOpenedFrom, IsOpeningRefused, IsRecovered, sitting_at}
+pub use Rattle.fkv_handles.specs.Sittings.{IsCallOf, IsCalled, IsOpCalled, IsOpOf}
+pub use Rattle.fkv_handles.specs.Watches.{IsAskedToCommit, IsHonestlyTold, IsTold, IsTurned, keeper_due}
+pub use Rattle.fkv_handles.specs.declared.refusals.Refusal.TheVariants.{HandleOut}
+pub use Rattle.fkv_opening.specs.Opened.{IsStoreOf}
+pub use Rattle.fkv_table.specs.Planes.{opening_of}
+pub use Rattle.fkv_threads.specs.Said.{EachAt, HasBegun, IsAfterSeen, IsKeeperReady}
