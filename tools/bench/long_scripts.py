@@ -4,6 +4,8 @@ import itertools
 
 KEYS = 997
 EACH = 1000
+# Rows are of one session and of as many as a store can have, and of so many lines.
+SESSIONS, COUNTS = (1, 32), (16_384, 32_768, 65_536)
 # An index of 1,024 buckets, and memory for 4,096 records, four times the keys, or for 128 of them.
 LARGE, SMALL = "shape 10 64 64 32 {} 64 4096", "shape 10 16 8 4 {} 64 16384"
 

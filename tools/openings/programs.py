@@ -28,10 +28,10 @@ def answered(test, variables):
 
 
 def measured(test, variables):
-    """And with it the peak memory, in MiB."""
+    """And with it the peak memory, in MiB, and the seconds of processor time."""
     run = subprocess.Popen(command(test), env=variables, stdout=subprocess.PIPE, text=True)
     output = run.stdout.read()
     _, status, used = os.wait4(run.pid, 0)
     if status != 0:
         sys.exit(f"{test} ends with status {status}: {output[:200]}")
-    return answer_in(output), used.ru_maxrss / 1024
+    return answer_in(output), used.ru_maxrss / 1024, used.ru_utime + used.ru_stime
