@@ -249,7 +249,7 @@ int32_t fkv_sleep(fkv_session *session);
 /* The session comes back. 0; -FKV_AWAKE. */
 int32_t fkv_wake(fkv_session *session, fkv_seen *seen);
 
-/* The serial up to which this session's updates are in a finished commit: a crash from now on keeps them. 0; -FKV_ASLEEP. */
+/* The serial up to which this session's updates are in a commit that is whole in the file: a crash from now on keeps them. 0; -FKV_ASLEEP. */
 int32_t fkv_durable(fkv_session *session, uint64_t *serial);
 
 /* Puts the session to sleep and gives the handle up. 0; -FKV_PENDING_LEFT. Behind a 0, fkv_free_session. */

@@ -13,7 +13,8 @@ use std::snapshot::Snapshot;
 /// no error of its own: a refusal is one of the answers. A done update has taken effect by what the pass then has seen. A read gives its key's
 /// value after some beginning of the history that holds what the pass had seen. The calls stand in one legal history. A point that is told as durable is
 /// a sealed commit's. It is no less than what the session was told before, and each image that is left then or later recovers a point at or above it.
-/// This is so of the table of each opened store, in all lives, with commits too, if fewer than 2^64 - 1 calls begin in them.
+/// This is so of the table of each opened store, in all lives, with commits too, if fewer than 2^64 - 1 calls begin in them. What is said of
+/// images also asks that the life began with one that reaches far.
 pub fn run<D: Device>(
     session: &mut Session,
     table: &Table<D>,

@@ -12,7 +12,7 @@ use std::snapshot::Snapshot;
 /// `Broken`, `Device`, `EpochsSpent` or `Memory`. The device is the one that the store was opened from, behind the calls that the keeper's pass has seen.
 /// An image that a crash leaves in the middle of the turn is one that the life may leave at some moment of it. It holds a prefix of the life as it was
 /// then (`recovered`). A commit that the turn tells as finished is sealed, with its number and points. Each point was fair as the commit was in hand (`finished`).
-/// Both are so where fewer than 2^64 - 1 calls of sessions begin.
+/// Both are so if fewer than 2^64 - 1 calls of sessions begin. What is said of images also asks that the life began with one that reaches far.
 pub fn turn<D: Device>(
     keeper: &mut Keeper,
     table: &Table<D>,

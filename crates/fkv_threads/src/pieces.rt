@@ -51,7 +51,7 @@ pub fn device_ask(keeper: &Keeper) -> Option<DeviceAsk<'_>>
 
 /// Makes the one call of the device that `device_ask` tells. Where it fails the turn is over, with `Device`. The device is the one that the store was
 /// opened from, behind the calls that the keeper's pass has seen. An image that a crash leaves in the middle of the call is one that the life may leave
-/// at some moment of it. It holds a prefix of the life as it was then (`recovered`).
+/// at some moment of it. It holds a prefix of the life as it was then (`recovered`), if that began with an image that reaches far.
 pub fn device_step<D: Device>(
     keeper: &mut Keeper,
     table: &Table<D>,

@@ -10,8 +10,9 @@ use law_order::{
 };
 
 /// Sessions make their calls at one table, each in any thread. `Session::run` says how a call stands in the list of events. In all lives, with commits too, more
-/// is known by the order law (`in_lives`). Its one premise here is that fewer than 2^64 - 1 calls begin: the table's rule keeps their numbers below 2^64. A done update has taken effect by what the pass has seen, with its serial and reply, and so has one that a poll says
-/// is finished. A read gives its key's value after some beginning of the history that holds what the pass had seen at the call. So does one that a poll answers
+/// is known by the order law (`in_lives`). Its premise is that fewer than 2^64 - 1 calls begin: the table's rule keeps their numbers below 2^64. What is said of
+/// images also asks that the life began with one that reaches far. A done update has taken effect by what the pass has seen, with its serial and reply, and so has
+/// one that a poll says is finished. A read gives its key's value after some beginning of the history that holds what the pass had seen at the call. So does one that a poll answers
 /// (`polled`). The calls stand once in one legal history. It begins with the history of what the pass had seen before. By the law of prefixes a point that is
 /// told as durable is a sealed commit's (`durable`). It is no less than what the session was told before the call (`never_falls`). Each image that is left then
 /// or later recovers a point at or above it (`recovered`). Each image that a crash may leave in the middle of a turn holds a prefix of the life as it was at

@@ -288,7 +288,7 @@ impl Session {
         Ok(Seen::of_raw(&seen))
     }
 
-    /// The serial up to which its updates are in a finished commit: a crash from now on keeps them. `Asleep`.
+    /// The serial up to which its updates are in a commit that is whole in the file: a crash from now on keeps them. `Asleep`.
     pub fn durable(&mut self) -> Result<u64, Error> {
         let mut serial = 0;
         answer(unsafe { raw::fkv_durable(self.at, &mut serial) })?;
