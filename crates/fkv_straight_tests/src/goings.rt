@@ -1,12 +1,10 @@
-//! What may go straight, and a new line.
-use crate::plain_lines::PlainLine;
+//! What may go straight.
 use fkv_base::{Addr, Fault, Key, Phase, Serial, Shape, Value, Version};
 use fkv_log::SeenOffsets;
 use fkv_map::Op;
 use fkv_ops::Seen;
-use fkv_plane::{Places, PlainWords};
 use fkv_session::Session;
-use fkv_straight::{Going, Line};
+use fkv_straight::Going;
 use std::test::Fail;
 
 const UPSERT: Op = Op::Upsert(Key(3), Value(40));
@@ -34,8 +32,13 @@ fn session(phase: Phase) -> Result<Session, Fault> {
 fn a_call_at_rest_goes_straight(rt: HostRuntime) -> Result<(), Fail> {
     let session = session(Phase::Rest)?;
     let going = Going::of(&session, UPSERT);
-    assert!(rt; going.map(|its| (its.head, its.read_only, its.version)) == Some((1, 3, 1)));
-    assert!(rt; going.map(|its| its.is_moving_on) == Some(false));
+    let is_as_seen = match going {
+        Some(its) => {
+            its.head == 1 && its.read_only == 3 && its.version == 1 && !its.is_moving_on
+        }
+        None => false,
+    };
+    assert!(rt; is_as_seen);
     assert!(rt; Going::of(&session, READ).is_some());
     Ok(())
 }
@@ -45,14 +48,5 @@ fn an_update_in_prepare_is_the_machine_s(rt: HostRuntime) -> Result<(), Fail> {
     let session = session(Phase::Prepare)?;
     assert!(rt; Going::of(&session, UPSERT).is_none());
     assert!(rt; Going::of(&session, READ).is_some());
-    Ok(())
-}
-
-#[test]
-fn a_new_line_keeps_no_reply(rt: HostRuntime) -> Result<(), Fail> {
-    let words = PlainWords::new(rt.alloc(), Places::of(&shape()?).word_count())?;
-    let line = PlainLine::new(words, session(Phase::Rest)?);
-    assert!(rt; line.replies().is_empty());
-    assert!(rt; !line.has_strayed);
     Ok(())
 }

@@ -1,8 +1,23 @@
-//! A line over plain words, by which straight calls are tried outside of any thread: its machine runs beside them and says what may be asked.
+//! Tests of straight calls, over plain words: each does what the machine does.
 #![tactic(auto)]
 
 #[cfg(test)]
+mod actors;
+#[cfg(test)]
+mod bodies;
+#[cfg(test)]
 mod goings;
+#[cfg(test)]
+mod meetings;
+#[cfg(test)]
 mod plain_lines;
-
-pub use plain_lines::PlainLine;
+#[cfg(test)]
+mod scripts;
+#[cfg(test)]
+mod sides;
+#[cfg(test)]
+mod stores;
+#[cfg(test)]
+mod twins;
+#[cfg(test)]
+mod wrongs;

@@ -1,92 +1,115 @@
-//! A line over plain words.
-ghost use Rattle.std.specs.Prelude.{◌≡◌, ◌<◌, ◌+◌, ◌++◌, ◌∷◌, [], length};
-ghost use Rattle.fkv_session.specs.Sessions.{session_ask};
+//! A line over plain words, for one call of a session.
+ghost use Rattle.std.specs.Prelude.{◌≡◌, ◌<◌, ◌++◌, ◌∷◌, [], false, length};
+ghost use Rattle.fkv_session.specs.Alike.{lasting};
+ghost use Rattle.fkv_session.specs.Sessions.{is_busy};
 ghost use Rattle.fkv_straight.specs.Standing.{leads};
+ghost use Rattle.fkv_straight_tests.specs.Lines.{standing};
 
 use arrayvec::ArrayVec;
-use fkv_map::{Call, Op};
+use fkv_map::Op;
 use fkv_plane::{Ask, PlainWords};
-use fkv_session::{Session, Told};
-use fkv_straight::Line;
+use fkv_session::Told;
+use fkv_straight::{Line, StraightSession};
+use std::process::Abort;
+use std::snapshot::Snapshot;
 
-/// Plain words, and the machine that stands where the steps on them have led.
+/// Plain words, as one call of a session steps at them.
 #[derive(Drop)]
-pub struct PlainLine {
-    pub words: PlainWords,
-    pub machine: Session,
-    pub replies: ArrayVec<u64, 64>,
-    /// Some step wasn't the one that the machine asked for.
-    pub has_strayed: bool,
+pub(crate) struct PlainLine<'w, R: Abort> {
+    rt: &'w R,
+    words: &'w mut PlainWords,
+    /// The session's machine, as the line was made.
+    machine: Snapshot<StraightSession>,
+    op: Option<Op>,
+    replies: ArrayVec<u64, 64>,
 }
 
-impl PlainLine {
-    /// The line of this session, which has no call in hand.
-    pub fn new(words: PlainWords, machine: Session) -> PlainLine
-        ensures machine { result.machine ≡ machine }
-        ensures words { result.words ≡ words }
+impl<'w, R: Abort> PlainLine<'w, R> {
+    /// The line of this session for its next call.
+    #[tactic(auto, using(crate::proofs::Led::rests_idle, crate::proofs::Led::rests_alike))]
+    pub(crate) fn new(
+        rt: &'w R,
+        words: &'w mut PlainWords,
+        machine: &StraightSession,
+    ) -> PlainLine<'w, R>
+        ensures seat { result.machine.value.seat ≡ machine.now.seat }
+        ensures idle { is_busy (standing result.machine.value result.op result.replies.items).step ≡ false }
+        ensures alike { lasting machine.now.state ≡ lasting (standing result.machine.value result.op result.replies.items) }
     {
         PlainLine {
+            rt,
             words,
-            machine,
+            machine: Snapshot::of(machine),
+            op: None,
             replies: ArrayVec::new(),
-            has_strayed: false,
         }
     }
 
     /// Makes the step, and keeps its reply.
-    #[tactic(auto, using(crate::proofs::Led::next_is))]
     fn step(&mut self, ask: &Ask<Told>) -> u64
         requires room { length self.old.replies.items < 64 }
-        ensures machine { self.new.machine ≡ record self.old.machine { state = leads self.old.machine.seat self.old.machine.state result } }
         ensures replies { self.new.replies.items ≡ self.old.replies.items ++ result ∷ [] }
+        ensures machine { self.new.machine.value ≡ self.old.machine.value }
+        ensures op { self.new.op ≡ self.old.op }
     {
-        if self.machine.ask() != *ask {
-            self.has_strayed = true;
-        }
         let reply = self.words.perform(ask);
-        let _ = self.machine.go_on(reply);
         self.replies.push(reply);
         reply
     }
+
+    /// Makes the step of a call that has begun, and keeps its reply.
+    #[tactic(auto, using(crate::proofs::Led::stands_more))]
+    fn go_on(&mut self, ask: &Ask<Told>) -> u64
+        requires room { length self.old.replies.items < 64 }
+        ensures replies { self.new.replies.items ≡ self.old.replies.items ++ result ∷ [] }
+        ensures machine { self.new.machine.value ≡ self.old.machine.value }
+        ensures next { standing self.new.machine.value self.new.op self.new.replies.items ≡ leads self.old.machine.value.seat (standing self.old.machine.value self.old.op self.old.replies.items) result }
+    {
+        let Some(_) = self.op else {
+            self.rt.abort();
+        };
+        self.step(ask)
+    }
 }
 
-impl Line for PlainLine {
+impl<'w, R: Abort> Line for PlainLine<'w, R> {
     ghost use Rattle.std.specs.Prelude.{◌≡◌, length};
     ghost use Rattle.fkv_straight.specs.Standing.{begins, replayed};
+    ghost use Rattle.fkv_straight_tests.specs.Lines.{standing};
 
-    ghost seat = { λ l. l.machine.seat };
+    ghost seat = { λ l. l.machine.value.seat };
 
-    ghost stands = { λ l. l.machine.state };
+    ghost stands = { λ l. standing l.machine.value l.op l.replies.items };
 
-    ghost led = { λ l op m. m.machine.state ≡ replayed m.machine.seat (begins l.machine.seat l.machine.state op) m.replies.items };
+    ghost led = { λ l op m. standing m.machine.value m.op m.replies.items ≡ replayed m.machine.value.seat (begins l.machine.value.seat (standing l.machine.value l.op l.replies.items) op) m.replies.items };
 
     ghost kept = { λ l. length l.replies.items };
 
-    #[tactic(auto, using(crate::proofs::Led::begun_is, crate::proofs::Led::led_first))]
+    /// A line is for one call: it doesn't begin another.
+    #[tactic(auto, using(crate::proofs::Led::stands_first, crate::proofs::Led::led_first))]
     fn first(&mut self, op: Op, place: usize) -> u64 {
+        if let Some(_) = self.op {
+            self.rt.abort();
+        }
+        self.op = Some(op);
         self.replies.clear();
-        let _ = self.machine.begin(Call::Op(op));
         self.step(&Ask::Load(place))
     }
 
-    #[tactic(auto, using(crate::proofs::Led::led_more))]
     fn load(&mut self, place: usize) -> u64 {
-        self.step(&Ask::Load(place))
+        self.go_on(&Ask::Load(place))
     }
 
-    #[tactic(auto, using(crate::proofs::Led::led_more))]
     fn store(&mut self, place: usize, new: u64) -> u64 {
-        self.step(&Ask::Store(place, new))
+        self.go_on(&Ask::Store(place, new))
     }
 
-    #[tactic(auto, using(crate::proofs::Led::led_more))]
     fn swap(&mut self, place: usize, new: u64) -> u64 {
-        self.step(&Ask::Swap(place, new))
+        self.go_on(&Ask::Swap(place, new))
     }
 
-    #[tactic(auto, using(crate::proofs::Led::led_more))]
     fn cas(&mut self, place: usize, expected: u64, new: u64) -> u64 {
-        self.step(&Ask::Cas(place, expected, new))
+        self.go_on(&Ask::Cas(place, expected, new))
     }
 
     fn replies(&self) -> &[u64] {

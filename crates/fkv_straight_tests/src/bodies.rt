@@ -1,0 +1,152 @@
+//! Both bodies of a call, over 10^5 operations that are drawn.
+use crate::meetings::{Meeting, Meetings};
+use crate::scripts::{Draws, Keys};
+use crate::twins::{Ways, play};
+use crate::wrongs::Wrong;
+use fkv_base::{Fault, Shape};
+use fkv_plane::Places;
+use std::alloc::Global;
+use std::process::Abort;
+use std::test::Fail;
+
+/// So many operations over each store.
+const OPERATIONS: u64 = 12_500;
+
+const SESSIONS: u64 = 3;
+
+/// A store, by its bucket bits, page, frames, mutable pages, overflow buckets, and pages on the device; and how many homes and how many keys
+/// of each are drawn over it.
+#[derive(Clone, Copy)]
+struct Scene {
+    sizes: [u64; 6],
+    homes: u64,
+    keys: u64,
+}
+
+/// A roomy log; one bucket, with overflow buckets and with none; long chains; a log of which two pages lie in memory; more homes than slots;
+/// and large stores, of one bucket and of long chains.
+const SCENES: [Scene; 8] = [
+    Scene {
+        sizes: [3, 64, 8, 6, 8, 65_536],
+        homes: 40,
+        keys: 1,
+    },
+    Scene {
+        sizes: [0, 64, 8, 6, 8, 65_536],
+        homes: 45,
+        keys: 1,
+    },
+    Scene {
+        sizes: [0, 16, 4, 2, 0, 65_536],
+        homes: 9,
+        keys: 1,
+    },
+    Scene {
+        sizes: [1, 64, 8, 6, 2, 65_536],
+        homes: 2,
+        keys: 12,
+    },
+    Scene {
+        sizes: [1, 16, 2, 1, 2, 65_536],
+        homes: 20,
+        keys: 2,
+    },
+    Scene {
+        sizes: [2, 16, 8, 4, 4, 65_536],
+        homes: 60,
+        keys: 1,
+    },
+    Scene {
+        sizes: [0, 16, 4, 2, 1100, 65_600],
+        homes: 30,
+        keys: 2,
+    },
+    Scene {
+        sizes: [2, 32, 4, 3, 1100, 65_600],
+        homes: 4,
+        keys: 10,
+    },
+];
+
+/// The shape of these sizes, small or large.
+fn shape_of(sizes: [u64; 6]) -> Result<Shape, Fault> {
+    let [bits, page, frames, mutable, overflow, pages] = sizes;
+    match Shape::new(bits, page, frames, mutable, SESSIONS, overflow, pages) {
+        Ok(shape) => Ok(shape),
+        Err(_) => Shape::large(bits, page, frames, mutable, SESSIONS, overflow, pages),
+    }
+}
+
+/// Plays the scene from this seed.
+fn play_scene<R: Abort>(
+    rt: &R,
+    alloc: Global,
+    scene: Scene,
+    seed: u64,
+    ways: &mut Ways,
+) -> Result<(), Wrong> {
+    let shape = shape_of(scene.sizes)?;
+    let buckets = Places::of(&shape).buckets as u64;
+    let keys = Keys {
+        apart: buckets.wrapping_mul(TAGS),
+        homes: scene.homes,
+        keys: scene.keys,
+    };
+    let mut draws = Draws::new(seed, keys, SESSIONS);
+    play(rt, alloc, shape, &mut draws, OPERATIONS, ways)
+}
+
+/// So many homes have one bucket.
+const TAGS: u64 = 1 << 15;
+
+/// What operations meet that go straight to their end. In prepare these are reads.
+const STRAIGHT: [Meeting; 15] = [
+    Meeting::Read,
+    Meeting::Upsert,
+    Meeting::Delete,
+    Meeting::Add,
+    Meeting::Max,
+    Meeting::Rest,
+    Meeting::Prepare,
+    Meeting::InProgress,
+    Meeting::WaitPending,
+    Meeting::WaitFlush,
+    Meeting::FullBucket,
+    Meeting::OverflowBucket,
+    Meeting::LongChain,
+    Meeting::ReadOnly,
+    Meeting::OnDevice,
+];
+
+/// What the others meet of which the machine goes on.
+const HANDED_OVER: [Meeting; 4] = [
+    Meeting::FullBucket,
+    Meeting::LongChain,
+    Meeting::OnDevice,
+    Meeting::Waits,
+];
+
+/// Each of these was met more than a hundred times.
+fn has_met(meetings: &Meetings, wanted: &[Meeting]) -> bool {
+    for meeting in wanted {
+        if meetings.of(*meeting) <= 100 {
+            return false;
+        }
+    }
+    true
+}
+
+#[test]
+fn both_bodies_agree(rt: HostRuntime) -> Result<(), Fail> {
+    let mut ways = Ways::new();
+    for (seed, scene) in SCENES.iter().enumerate() {
+        if let Err(wrong) = play_scene(&rt, rt.alloc(), *scene, seed as u64, &mut ways) {
+            assert!(rt; false, "scene {seed}: {}", wrong.said());
+        }
+    }
+    assert!(rt; ways.all() == 100_000);
+    assert!(rt; has_met(&ways.straight, &STRAIGHT));
+    assert!(rt; has_met(&ways.handed_over, &HANDED_OVER));
+    assert!(rt; ways.by_machine.of(Meeting::Prepare) > 100);
+    Ok(())
+}

@@ -1,0 +1,192 @@
+//! What operations have met.
+use fkv_base::{Addr, Phase};
+use fkv_map::Op;
+use fkv_ops::Seen;
+use fkv_plane::{Ask, Places, RecordWord, SharedWord};
+use fkv_session::Told;
+
+/// What an operation may be, or meet.
+#[derive(Clone, Copy)]
+pub(crate) enum Meeting {
+    Read,
+    Upsert,
+    Delete,
+    Add,
+    Max,
+    Rest,
+    Prepare,
+    InProgress,
+    WaitPending,
+    WaitFlush,
+    /// A bucket whose seven slots have entries of other tags.
+    FullBucket,
+    OverflowBucket,
+    /// More than three records of a chain.
+    LongChain,
+    /// A record below the read-only offset.
+    ReadOnly,
+    /// A chain that lies on the device alone, to which an update appends.
+    OnDevice,
+    /// It waits for the device, for room, or for a latch.
+    Waits,
+}
+
+const MEETINGS: usize = 16;
+
+/// How many operations have met what.
+#[derive(Clone, Copy)]
+pub(crate) struct Meetings {
+    pub(crate) all: u64,
+    met: [u64; MEETINGS],
+}
+
+impl Meetings {
+    pub(crate) fn new() -> Meetings {
+        Meetings {
+            all: 0,
+            met: [0; MEETINGS],
+        }
+    }
+
+    /// So many operations have met it.
+    pub(crate) fn of(&self, meeting: Meeting) -> u64 {
+        match self.met.get(meeting as usize) {
+            Some(count) => *count,
+            None => 0,
+        }
+    }
+
+    fn count(&mut self, meeting: Meeting) {
+        if let Some(count) = self.met.get_mut(meeting as usize) {
+            *count = count.wrapping_add(1);
+        }
+    }
+
+    /// An operation of a session that has seen this meets what its trace has.
+    pub(crate) fn add(&mut self, op: Op, seen: Seen, trace: &Trace, told: Told) {
+        self.all = self.all.wrapping_add(1);
+        self.count(kind_of(op));
+        self.count(phase_of(seen.phase));
+        if matches!(told, Told::Pending(_, _) | Told::PendingRead(_)) {
+            self.count(Meeting::Waits);
+        }
+        self.add_trace(trace);
+    }
+
+    fn add_trace(&mut self, trace: &Trace) {
+        if trace.is_full {
+            self.count(Meeting::FullBucket);
+        }
+        if trace.overflows {
+            self.count(Meeting::OverflowBucket);
+        }
+        if trace.records > 3 {
+            self.count(Meeting::LongChain);
+        }
+        if trace.is_read_only {
+            self.count(Meeting::ReadOnly);
+        }
+        if trace.is_on_device {
+            self.count(Meeting::OnDevice);
+        }
+    }
+}
+
+fn kind_of(op: Op) -> Meeting {
+    match op {
+        Op::Read(_) => Meeting::Read,
+        Op::Upsert(_, _) => Meeting::Upsert,
+        Op::Delete(_) => Meeting::Delete,
+        Op::Add(_, _) => Meeting::Add,
+        Op::Max(_, _) => Meeting::Max,
+    }
+}
+
+fn phase_of(phase: Phase) -> Meeting {
+    match phase {
+        Phase::Rest => Meeting::Rest,
+        Phase::Prepare => Meeting::Prepare,
+        Phase::InProgress => Meeting::InProgress,
+        Phase::WaitPending => Meeting::WaitPending,
+        Phase::WaitFlush => Meeting::WaitFlush,
+    }
+}
+
+/// Where the parts of a store's words begin: the buckets, the overflow buckets, and the records in memory.
+#[derive(Clone, Copy)]
+pub(crate) struct Parts {
+    buckets: usize,
+    overflow: usize,
+    frames: usize,
+}
+
+impl Parts {
+    pub(crate) fn of(places: &Places) -> Parts {
+        let frames = places.record(Addr(0), RecordWord::Header);
+        let overflow = frames.saturating_sub(places.overflow.saturating_mul(8));
+        let buckets = overflow.saturating_sub(places.buckets.saturating_mul(8));
+        Parts {
+            buckets,
+            overflow,
+            frames,
+        }
+    }
+}
+
+/// What the asks of one call have met, by a session that has seen this head.
+#[derive(Clone, Copy)]
+pub(crate) struct Trace {
+    parts: Parts,
+    head: Addr,
+    is_full: bool,
+    overflows: bool,
+    records: u64,
+    is_read_only: bool,
+    is_on_device: bool,
+}
+
+impl Trace {
+    pub(crate) fn new(parts: Parts, head: Addr) -> Trace {
+        Trace {
+            parts,
+            head,
+            is_full: false,
+            overflows: false,
+            records: 0,
+            is_read_only: false,
+            is_on_device: false,
+        }
+    }
+
+    /// Notes what is asked.
+    pub(crate) fn note(&mut self, ask: &Ask<Told>) {
+        match ask {
+            Ask::Load(place) => self.note_load(*place),
+            Ask::Cas(place, old, _) => self.note_cas(*place, *old & ADDR_MASK),
+            _ => {}
+        }
+    }
+
+    fn note_cas(&mut self, place: usize, addr: u64) {
+        let is_slot = place >= self.parts.buckets && place < self.parts.frames;
+        if is_slot && addr != 0 && addr < self.head.0 {
+            self.is_on_device = true;
+        }
+    }
+
+    fn note_load(&mut self, place: usize) {
+        let parts = self.parts;
+        if place >= parts.frames {
+            if place.wrapping_sub(parts.frames) % 3 == 0 {
+                self.records = self.records.wrapping_add(1);
+            }
+        } else if place >= parts.buckets {
+            self.overflows = self.overflows || place >= parts.overflow;
+            self.is_full = self.is_full || place.wrapping_sub(parts.buckets) % 8 == 7;
+        } else if place == SharedWord::SafeReadOnly.place() {
+            self.is_read_only = true;
+        }
+    }
+}
+
+const ADDR_MASK: u64 = (1 << 48) - 1;

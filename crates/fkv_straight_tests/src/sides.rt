@@ -1,0 +1,120 @@
+//! One call, in a store whose operations go straight and in one where the machine makes them.
+use crate::actors::step;
+use crate::meetings::Trace;
+use crate::plain_lines::PlainLine;
+use crate::wrongs::Wrong;
+use fkv_map::{Call, Op};
+use fkv_plane::{Ask, PlainWords};
+use fkv_session::{Session, Told};
+use fkv_straight::{Line, StraightSession, Went};
+use std::process::Abort;
+
+/// How a call has begun.
+#[derive(Clone, Copy)]
+pub(crate) enum Way {
+    /// Straight, to its end.
+    Straight,
+    /// Straight, up to something unusual: the machine goes on.
+    HandedOver,
+    /// By the machine.
+    Machine,
+}
+
+/// How a call has begun, how many steps were made, and what is asked then or was told.
+#[derive(Drop)]
+pub(crate) struct Begun {
+    pub(crate) way: Way,
+    pub(crate) steps: usize,
+    pub(crate) ask: Ask<Told>,
+}
+
+/// Begins an operation straight, and makes its steps as far as it goes so.
+fn begin_straight<R: Abort>(
+    rt: &R,
+    words: &mut PlainWords,
+    session: &mut StraightSession,
+    op: Op,
+) -> Begun {
+    let mut line = PlainLine::new(rt, words, session);
+    let went = session.go(&mut line, op);
+    let steps = line.replies().len();
+    match went {
+        Went::Ended(told) => Begun {
+            way: Way::Straight,
+            steps,
+            ask: Ask::Done(told),
+        },
+        Went::Stopped => Begun {
+            way: Way::HandedOver,
+            steps,
+            ask: session.catch_up(&line, op),
+        },
+        Went::Stayed => Begun {
+            way: Way::Machine,
+            steps,
+            ask: session.begin(Call::Op(op)),
+        },
+    }
+}
+
+/// Begins a call where operations go straight.
+pub(crate) fn begin<R: Abort>(
+    rt: &R,
+    words: &mut PlainWords,
+    session: &mut StraightSession,
+    call: Call,
+) -> Begun {
+    match call {
+        Call::Op(op) => begin_straight(rt, words, session, op),
+        _ => Begun {
+            way: Way::Machine,
+            steps: 0,
+            ask: session.begin(call),
+        },
+    }
+}
+
+/// Begins a call by the machine, and makes so many of its steps.
+pub(crate) fn begin_by_machine(
+    words: &mut PlainWords,
+    machine: &mut Session,
+    call: Call,
+    steps: usize,
+    trace: &mut Trace,
+) -> Ask<Told> {
+    let mut ask = machine.begin(call);
+    for _ in 0..steps {
+        trace.note(&ask);
+        ask = step(words, machine, &ask);
+    }
+    ask
+}
+
+/// More asks than a call makes.
+const MOST_ASKS: u64 = 1 << 20;
+
+/// Both make their steps up to the call's end: each asks what the other asks. Gives what they were told.
+pub(crate) fn end(
+    words: &mut PlainWords,
+    session: &mut StraightSession,
+    asked: Ask<Told>,
+    others: &mut PlainWords,
+    machine: &mut Session,
+    ask: Ask<Told>,
+    trace: &mut Trace,
+) -> Result<Told, Wrong> {
+    let mut asked = asked;
+    let mut ask = ask;
+    for _ in 0..MOST_ASKS {
+        if asked != ask {
+            return Err(Wrong::Asks);
+        }
+        if let Ask::Done(told) = ask {
+            return Ok(told);
+        }
+        trace.note(&ask);
+        asked = step(words, session, &asked);
+        ask = step(others, machine, &ask);
+    }
+    Err(Wrong::Endless)
+}

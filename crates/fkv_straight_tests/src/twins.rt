@@ -1,0 +1,188 @@
+//! Two stores that are given the same events: the operations of one go straight, and the machine makes those of the other.
+use crate::meetings::{Meetings, Parts, Trace};
+use crate::scripts::{Draws, Event};
+use crate::sides::{Begun, Way, begin, begin_by_machine, end};
+use crate::stores::Store;
+use crate::wrongs::Wrong;
+use fkv_base::Shape;
+use fkv_map::Call;
+use fkv_ops::Seen;
+use fkv_plane::Places;
+use fkv_session::{Session, Told};
+use fkv_straight::StraightSession;
+use std::alloc::Global;
+use std::process::Abort;
+
+/// How operations went, and what they met.
+#[derive(Clone, Copy)]
+pub(crate) struct Ways {
+    /// Straight to their end.
+    pub(crate) straight: Meetings,
+    /// Straight up to something unusual, and on by the machine.
+    pub(crate) handed_over: Meetings,
+    /// By the machine from the start on.
+    pub(crate) by_machine: Meetings,
+}
+
+impl Ways {
+    pub(crate) fn new() -> Ways {
+        Ways {
+            straight: Meetings::new(),
+            handed_over: Meetings::new(),
+            by_machine: Meetings::new(),
+        }
+    }
+
+    /// Counts a call, where it is an operation.
+    fn add(&mut self, way: Way, call: Call, seen: Seen, trace: &Trace, told: Told) {
+        let Call::Op(op) = call else {
+            return;
+        };
+        match way {
+            Way::Straight => self.straight.add(op, seen, trace, told),
+            Way::HandedOver => self.handed_over.add(op, seen, trace, told),
+            Way::Machine => self.by_machine.add(op, seen, trace, told),
+        }
+    }
+
+    /// How many operations went.
+    pub(crate) fn all(&self) -> u64 {
+        let begun_straight = self.straight.all.wrapping_add(self.handed_over.all);
+        begun_straight.wrapping_add(self.by_machine.all)
+    }
+}
+
+/// Both stores, with their sessions.
+#[derive(Drop)]
+pub(crate) struct Twins {
+    straight: Store,
+    sessions: Vec<StraightSession>,
+    machine: Store,
+    machines: Vec<Session>,
+    parts: Parts,
+    /// How many words each store has.
+    words: usize,
+}
+
+impl Twins {
+    pub(crate) fn open(alloc: Global, shape: Shape) -> Result<Twins, Wrong> {
+        let (straight, opened) = Store::open(alloc, shape)?;
+        let (machine, machines) = Store::open(alloc, shape)?;
+        let places = Places::of(&shape);
+        Ok(Twins {
+            straight,
+            sessions: straight_sessions(alloc, opened)?,
+            machine,
+            machines,
+            parts: Parts::of(&places),
+            words: places.word_count(),
+        })
+    }
+
+    /// The session of this number makes a call in both.
+    fn call<R: Abort>(
+        &mut self,
+        rt: &R,
+        number: usize,
+        call: Call,
+        ways: &mut Ways,
+    ) -> Result<(), Wrong> {
+        let (Some(session), Some(machine)) = (
+            self.sessions.get_mut(number),
+            self.machines.get_mut(number),
+        ) else {
+            return Err(Wrong::NoSession);
+        };
+        let seen = machine.seen();
+        let mut trace = Trace::new(self.parts, seen.offsets.head);
+        let Begun { way, steps, ask } = begin(rt, &mut self.straight.words, session, call);
+        let reached = begin_by_machine(&mut self.machine.words, machine, call, steps, &mut trace);
+        let told = end(
+            &mut self.straight.words,
+            session,
+            ask,
+            &mut self.machine.words,
+            machine,
+            reached,
+            &mut trace,
+        )?;
+        if session.finished() != machine.finished() {
+            return Err(Wrong::Finished);
+        }
+        ways.add(way, call, seen, &trace, told);
+        Ok(())
+    }
+
+    /// Each word of both is the same, and both keepers are in a call or neither is.
+    fn compare(&self) -> Result<(), Wrong> {
+        for place in 0..self.words {
+            if self.straight.words.word(place) != self.machine.words.word(place) {
+                return Err(Wrong::Words);
+            }
+        }
+        if self.straight.is_busy() == self.machine.is_busy() {
+            Ok(())
+        } else {
+            Err(Wrong::Keepers)
+        }
+    }
+
+    /// Gives both this event, and compares them behind it.
+    fn play<R: Abort>(&mut self, rt: &R, event: Event, ways: &mut Ways) -> Result<(), Wrong> {
+        match event {
+            Event::Call(number, call) => self.call(rt, number, call, ways)?,
+            _ => {
+                keep(&mut self.straight, event);
+                keep(&mut self.machine, event);
+            }
+        }
+        self.compare()
+    }
+}
+
+/// The sessions, by calls that may go straight.
+fn straight_sessions(alloc: Global, opened: Vec<Session>) -> Result<Vec<StraightSession>, Wrong> {
+    let mut sessions = Vec::new(alloc);
+    for session in opened {
+        if sessions.push(StraightSession::new(session)).is_err() {
+            return Err(Wrong::NoMemory);
+        }
+    }
+    Ok(sessions)
+}
+
+/// What the keeper does in a store.
+fn keep(store: &mut Store, event: Event) {
+    match event {
+        Event::Turn(steps) => {
+            store.begin_turn();
+            store.move_keeper(steps);
+        }
+        Event::Move(steps) => store.move_keeper(steps),
+        Event::Commit(kind) => {
+            store.begin_commit(kind);
+            store.move_keeper(u64::MAX);
+        }
+        Event::Call(_, _) => {}
+    }
+}
+
+/// Plays events over two new stores of this shape, until so many operations went.
+pub(crate) fn play<R: Abort>(
+    rt: &R,
+    alloc: Global,
+    shape: Shape,
+    draws: &mut Draws,
+    operations: u64,
+    ways: &mut Ways,
+) -> Result<(), Wrong> {
+    let mut twins = Twins::open(alloc, shape)?;
+    let until = ways.all().wrapping_add(operations);
+    for _ in 0..u64::MAX {
+        if ways.all() >= until {
+            return Ok(());
+        }
+        twins.play(rt, draws.next(), ways)?;
+    }
+    Ok(())
+}
