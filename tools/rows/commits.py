@@ -42,7 +42,7 @@ STAND = """
                 | pair 2 22
 """
 NOBODY_STOPS = TWO_POINTS + STAND
-SLEEPER = f"""
+SLEEPER_COMMITTED = f"""
     {TWO}
     1 up 2 20 | 1 #1 done
     1 sleep   | 1 sleep
@@ -58,12 +58,13 @@ SLEEPER = f"""
     1 wake    | 1 wake in-progress 4
     1 up 2 21 | 1 #2 done
     1 sleep   | 1 sleep
-    k finish  | k finished 3 points 2 1
+    k finish  | k finished 3 points 2 1"""
+SLEEPER = f"""{SLEEPER_COMMITTED}
     crash     | crash commit 3 points 2 1 pairs 2
               | pair 1 11
               | pair 2 20
 """
-OWING = f"""
+OWING_COMMITTED = f"""
     {SMALL_TWO}
     {FOUR}
     k turn      | k turn rest 1
@@ -83,7 +84,8 @@ OWING = f"""
                 | 0 poll left 0
     1 poll      | 1 #1 = 111
                 | 1 poll left 0
-    k finish    | k finished 1 points 5 0
+    k finish    | k finished 1 points 5 0"""
+OWING = f"""{OWING_COMMITTED}
     crash       | crash commit 1 points 5 0 pairs 4
                 | pair 1 11
                 | pair 2 0

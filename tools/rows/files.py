@@ -26,7 +26,18 @@ def after_again(form):
     return Sample((replace(ONE.commits[1], form=form), SECOND_COMMIT), (*ONE.records, (SECOND + 1, 1, 11))).image()
 
 
+# words that name a file, and its name
+NAMED = [
+    (("--file", "image"), "image"),
+    (("--file=a b=c",), "a b=c"),
+    (("--file", "Bücher ä"), "Bücher ä"),
+    (("--file", "-"), "-"),
+    (("--file=--check",), "--check"),
+]
+
 LEFT = [
+    *(Row(f"a store in the file {name}", f"{SHAPE}\n", "", words=words, file=name, left=NEW_FRONT) for words, name in NAMED),
+    Row("a file without a name", f"{SHAPE}\n", "refused 14 Device\n", 3, ("--file", "")),
     told("a store is made in a file", COMMITTED, FILE, left=ONE.image()),
     told("and under a seed", UPDATED_FIRST, f"{FILE} --seed 5 --check --torn 165", left=ONE.image()),
     told("a store without a commit", SHAPE, FILE, left=NEW_FRONT),

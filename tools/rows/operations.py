@@ -81,6 +81,18 @@ OPERATIONS = [
         """,
     ),
     told("a number is printed as a number", f"# a comment\n\n{ONE}\n007 get 1 | 7 refused 19 NoSession\n  0  get   1 | 0 get 1 absent"),
+    told(
+        "zeros before a number, and the greatest session",
+        f"""
+        {ONE}
+        000 up 001 010              | 0 #1 done
+        007 get 1                   | 7 refused 19 NoSession
+        18446744073709551615 max 1 2 | 18446744073709551615 refused 19 NoSession
+        crash 0018446744073709551615
+        0 get 1                     | 0 get 1 = 10
+                                    | crash commit 0 points 0 pairs 0
+        """,
+    ),
     Row("spaces before a line, and more than one between words", f"{ONE}\n  0  get   1\n", "0 get 1 absent\n"),
 ]
 

@@ -163,9 +163,16 @@ WORDS = [
 
 ACCEPTED = [
     ("--",),
+    ("--check",),
     ("--check", "--"),
+    ("--seed", "5"),
+    ("--seed=18446744073709551615",),
     ("--seed", "18446744073709551615", "--check", "--torn", "255"),
+    ("--seed", "5", "--check", "--torn", "165", "--file", STORE),
+    (f"--file={STORE}", "--torn=165", "--check", "--seed=5"),
+    ("--torn", "1", "--seed=2", "--file", STORE, "--"),
     ("--torn=0", "--seed=0"),
+    ("--torn=-0",),
     ("--torn", "+7", "--seed", "007"),
 ]
 

@@ -21,6 +21,7 @@ class Row:
     left: object = UNREAD  # and what it holds after it
     ends: bool = False
     complaint: str = None  # what stands on standard error, where it is compared
+    file: str = STORE  # the name of the row's file
 
 
 def side_by_side(text):
@@ -60,7 +61,7 @@ def contents(path):
 def difference(program, row):
     """What the program answers otherwise than the row says; none where it answers so. It runs in a folder of its own."""
     with tempfile.TemporaryDirectory() as folder:
-        path = os.path.join(folder, STORE)
+        path = os.path.join(folder, row.file)
         if row.image is not None:
             with open(path, "wb") as file:
                 file.write(row.image)

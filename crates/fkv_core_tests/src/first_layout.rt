@@ -2,14 +2,17 @@
 //! alone, where no call can be made to fail.
 use crate::lines::Line;
 use crate::lines::Line::{Commit, Finish, LogCommit, Up};
-use crate::recovered::{ODD_SLOT, crash};
-use crate::stores::{Store, WIDE, new_store, store_of, whole};
+use crate::stores::{Store, WIDE, crash, new_store, store_of, whole};
 use fkv_base::{Fault, Serial, Version};
 use fkv_disk::MemDisk;
 use fkv_opening::recover;
 use std::alloc::Global;
+use std::ops::Range;
 use std::process::Abort;
 use std::test::Fail;
+
+/// Where the slot of commits of odd numbers lies in an image.
+const ODD_SLOT: Range<usize> = 1024..1536;
 
 fn play(store: &mut Store, lines: &[Line]) {
     for line in lines {

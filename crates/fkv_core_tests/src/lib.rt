@@ -1,6 +1,6 @@
-//! Tests of the engine's world: calls that are moved by hand beside each other, what happens behind a crash, and what is recovered then.
-//! Whole scripts and their answers are rows of the built program (tools/rows). They stand in a crate of their own, since a crate with
-//! tests is proved twice.
+//! Tests of the engine's world: calls that are moved by hand beside each other, and what happens behind a crash. Whole scripts and their
+//! answers, and what is recovered behind them, are rows of the built program (tools/rows). They stand in a crate of their own, since a
+//! crate with tests is proved twice.
 #![tactic(auto)]
 
 #[cfg(test)]
@@ -12,9 +12,7 @@ mod first_layout;
 #[cfg(test)]
 mod lines;
 #[cfg(test)]
-mod lives;
-#[cfg(test)]
-mod recovered;
+mod million;
 #[cfg(test)]
 mod stopped_calls;
 #[cfg(test)]

@@ -12,7 +12,6 @@ use fkv_words::{PhaseSaid, phase_said};
 #[derive(Clone, Copy)]
 pub(crate) enum Line {
     Up(usize, u64, u64),
-    Del(usize, u64),
     Add(usize, u64, u64),
     Get(usize, u64),
     Refresh(usize),
@@ -24,8 +23,6 @@ pub(crate) enum Line {
     Turn,
     /// Refreshes and polls of all sessions, and turns, up to the one that finishes the commit that runs.
     Finish,
-    /// The life ends.
-    Crash,
 }
 
 /// What a line is answered.
@@ -56,7 +53,6 @@ pub(crate) enum Says {
 pub(crate) fn beginning(line: Line) -> Event {
     match line {
         Line::Up(session, key, value) => operation(session, Op::Upsert(Key(key), Value(value))),
-        Line::Del(session, key) => operation(session, Op::Delete(Key(key))),
         Line::Add(session, key, number) => operation(session, Op::Add(Key(key), number)),
         Line::Get(session, key) => operation(session, Op::Read(Key(key))),
         Line::Refresh(session) => Event::Call(session, Call::Refresh),
@@ -66,7 +62,6 @@ pub(crate) fn beginning(line: Line) -> Event {
         Line::Commit => Event::Commit(CommitKind::Full),
         Line::LogCommit => Event::Commit(CommitKind::Log),
         Line::Turn | Line::Finish => Event::Turn,
-        Line::Crash => Event::Crash,
     }
 }
 

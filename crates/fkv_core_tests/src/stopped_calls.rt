@@ -1,8 +1,7 @@
 //! A session that is stopped behind each ask of a call, while another session and the keeper go through a commit. Then it goes on.
 use crate::lines::Line::{Add, Commit, Finish, Poll, Refresh, Sleep, Turn, Up, Wake};
 use crate::lines::{Line, actor, beginning};
-use crate::recovered::crash;
-use crate::stores::{NARROW_FOR_TWO, Sizes, Store, WIDE_FOR_TWO, begin, new_store, whole};
+use crate::stores::{NARROW_FOR_TWO, Sizes, Store, WIDE_FOR_TWO, begin, crash, new_store, whole};
 use fkv_base::{Fault, Key, Serial, Value};
 use fkv_disk::MemDisk;
 use fkv_opening::recover;

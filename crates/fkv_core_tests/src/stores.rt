@@ -28,7 +28,14 @@ pub(crate) type Store = World<Fuse<MemDisk>>;
 /// A new store, opened as recovery tells it.
 pub(crate) fn new_store(alloc: Global, sizes: Sizes) -> Result<Store, Fault> {
     let [bits, page, frames, mutable, sessions, overflow, pages] = sizes;
-    let shape = Shape::new(bits, page, frames, mutable, sessions, overflow, pages)?;
+    opened_store(
+        alloc,
+        Shape::new(bits, page, frames, mutable, sessions, overflow, pages)?,
+    )
+}
+
+/// A new store of this shape, opened as recovery tells it.
+pub(crate) fn opened_store(alloc: Global, shape: Shape) -> Result<Store, Fault> {
     let mut disk = MemDisk::new(alloc);
     let _ = create(&mut disk, shape)?;
     store_of(alloc, disk)
@@ -39,6 +46,12 @@ pub(crate) fn store_of(alloc: Global, image: MemDisk) -> Result<Store, Fault> {
     let mut disk = Fuse::new(image);
     let opened = recover(alloc, &mut disk)?;
     World::open(alloc, opened, disk)
+}
+
+/// The life ends, and leaves this image: each byte that isn't synced is torn.
+pub(crate) fn crash(mut store: Store, torn: u8) -> Result<MemDisk, Fault> {
+    let _ = store.step(Event::Crash);
+    store.end().crash(torn)
 }
 
 /// So many steps of one actor, or fewer where its call ends before.

@@ -1,4 +1,3 @@
-use crate::images::BLOCK;
 use fkv_base::{Addr, Fault, Shape, Version};
 use fkv_creating::{create, create_opened};
 use fkv_disk::{Device, MemDisk};
@@ -7,6 +6,9 @@ use fkv_opening::{Opened, recover};
 use std::alloc::Global;
 use std::process::Abort;
 use std::test::Fail;
+
+// A store of 16 buckets, pages of 16 records, four frames, two of them mutable, one session, no overflow bucket and 64 pages.
+const BLOCK: [u64; 8] = [3553990279542754118, 4, 16, 4, 2, 1, 0, 64];
 
 fn shape() -> Result<Shape, Fault> {
     Shape::new(4, 16, 4, 2, 1, 0, 64)

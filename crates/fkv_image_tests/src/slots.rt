@@ -1,7 +1,7 @@
 //! Bytes of slots in each format, written by hand.
 use crate::places::bytes_with;
 use arrayvec::ArrayVec;
-use fkv_base::{Addr, MAX_SESSIONS, Serial, Version};
+use fkv_base::{Addr, Serial, Version};
 use fkv_record::{
     Format, LostRange, LostRanges, ManifestSlot, Points, Slot, open_number, read_manifest_slot,
     read_slot, write_manifest_slot, write_newest_slot, write_slot,
@@ -40,40 +40,6 @@ fn a_slot_has_its_bytes(rt: HostRuntime) {
     let bytes = bytes_with(&rt, &SLOT);
     assert!(rt; write_slot(&slot) == bytes);
     assert!(rt; read_slot(&bytes) == Some(slot));
-}
-
-// A closed gate, byte 1, no session, too many sessions, a point of 2^48, a number after the points, the last byte.
-const NO_SLOT: [(usize, u64); 7] = [
-    (0, 0),
-    (0, 0x1a5),
-    (48, 0),
-    (48, MAX_SESSIONS + 1),
-    (56, Serial::LAST + 1),
-    (64, 1),
-    (504, 1 << 63),
-];
-
-fn is_refused(rt: &impl Abort, change: (usize, u64)) {
-    let mut numbers = [change; 9];
-    numbers[..8].copy_from_slice(&SLOT);
-    assert!(rt; read_slot(&bytes_with(rt, &numbers)).is_none());
-}
-
-// The last of 32 points is 7.
-fn most_points_are_read(rt: &impl Abort) {
-    let mut most = [(48, MAX_SESSIONS); 10];
-    most[..8].copy_from_slice(&SLOT);
-    most[9] = (304, 7);
-    let read = read_slot(&bytes_with(rt, &most));
-    assert!(rt; read.map(|slot| slot.points.serials.len()) == Some(32));
-}
-
-#[test]
-fn what_is_no_slot_is_refused(rt: HostRuntime) {
-    for change in NO_SLOT {
-        is_refused(&rt, change);
-    }
-    most_points_are_read(&rt);
 }
 
 /// The slot of a second commit that uses the first one's checkpoint, with a range of records that were lost between them.

@@ -2,7 +2,7 @@
 use Rattle.std.proofs.Common.{◌≡◌, inl, inr, ℕ, List, [], ◌++◌, Option, refl, sym, ap, subst, ◌∙◌, Result, Ok, Err, IfOk, OnErr, codes}
 use Rattle.std.specs.Io.KnownBytes.{Appends}
 use Rattle.fkv_lines.specs.declared.scripts.Sizes.{Sizes}
-use Rattle.fkv_playing.specs.InTurn.{Writes}
+use Rattle.fkv_runs.specs.Below.fkv_playing.InTurn.{Writes}
 use Rattle.fkv_runs.specs.Beginnings.{BreaksOff}
 use Rattle.fkv_runs.proofs.Shown.{text_breaks}
 use Rattle.fkv_texts.specs.Lines.{line_of}

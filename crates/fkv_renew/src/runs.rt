@@ -2,7 +2,7 @@
 ghost use Rattle.std.specs.Prelude.{◌≡◌, ℕ, IfOk, OnErr};
 ghost use Rattle.std.specs.Io.KnownBytes.{Appends};
 ghost use Rattle.clap.specs.Walk.{texts};
-ghost use Rattle.fkv_playing.specs.InTurn.{Writes};
+ghost use Rattle.fkv_runs.specs.Below.fkv_playing.InTurn.{Writes};
 ghost use Rattle.fkv_runs.specs.Beginnings.{BreaksOff};
 ghost use Rattle.fkv_renew.specs.Answers.{IsAnswer, IsUnreadAnswer};
 ghost use Rattle.fkv_renew.specs.Renewals.{IsSavedFrom};

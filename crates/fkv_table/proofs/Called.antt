@@ -12,10 +12,10 @@ use Rattle.fkv_session.specs.declared.answers.Told.{Told}
 use Rattle.fkv_session.specs.declared.sessions.Sitting.TheVariants.{Idle}
 use Rattle.fkv_session.specs.Sessions.{Seat, SessionState, Sitter, is_busy, session_ask, session_begun}
 use Rattle.fkv_session.specs.SessionRun.{telling}
-use Rattle.fkv_world.specs.Actors.{slot_asked}
-use Rattle.fkv_world.specs.Past.{Answered, Called, TraceEvent}
-use Rattle.fkv_world.specs.Runs.{World}
-use Rattle.fkv_world.specs.World.{Calls as Starts, Now, session_called}
+use Rattle.law_world.specs.Below.fkv_world.Actors.{slot_asked}
+use Rattle.law_world.specs.Below.fkv_world.Past.{Answered, Called, TraceEvent}
+use Rattle.law_world.specs.Below.fkv_world.Runs.{World}
+use Rattle.law_world.specs.Below.fkv_world.World.{Calls as Starts, Now, session_called}
 use Rattle.law_world.specs.Runs.Added.{begun_by, ended_by, told_at, told_by}
 use Rattle.law_world.proofs.OfRuns.Added.{trace_so}
 use Rattle.fkv_seats.specs.declared.held.Held.TheVariants.{Desk}

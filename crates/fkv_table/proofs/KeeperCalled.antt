@@ -19,11 +19,11 @@ use Rattle.fkv_keeper.specs.KeeperAsks.{keeper_asks_left, keeper_calls, keeper_r
 use Rattle.fkv_keeper.specs.KeeperRun.{is_in_hand}
 use Rattle.fkv_keeper.proofs.Shown.{keeper_left}
 use Rattle.fkv_keeper.specs.Keeping.{KeeperModel, KeeperState, keeper_ask, keeper_called}
-use Rattle.fkv_world.specs.Actors.{slot_asked}
-use Rattle.fkv_world.specs.Past.{Past, calls_after}
-use Rattle.fkv_world.specs.Runs.{World, happens, read_by_keeper, run}
-use Rattle.fkv_world.specs.World.{Now, life_goes}
-use Rattle.fkv_world.proofs.Shown.{added_calls, asks_while_done, calls_added, lived}
+use Rattle.law_world.specs.Below.fkv_world.Actors.{slot_asked}
+use Rattle.law_world.specs.Below.fkv_world.Past.{Past, calls_after}
+use Rattle.law_world.specs.Below.fkv_world.Runs.{World, happens, read_by_keeper, run}
+use Rattle.law_world.specs.Below.fkv_world.World.{Now, life_goes}
+use Rattle.law_world.proofs.Below.fkv_world.Shown.{added_calls, asks_while_done, calls_added, lived}
 use Rattle.law_world.proofs.OfGuarded.Ends.{life_keeper_ended}
 use Rattle.law_world.proofs.OfGuarded.Slots.{life_keeper_rests}
 use Rattle.fkv_seats.proofs.Keeps.{no_some}

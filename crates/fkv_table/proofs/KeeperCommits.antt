@@ -6,9 +6,9 @@ use Rattle.fkv_base.specs.declared.commits.CommitKind.{CommitKind}
 use Rattle.fkv_base.specs.declared.faults.Fault.{Fault}
 use Rattle.fkv_base.specs.declared.faults.Fault.TheVariants.{Broken, CommitRunning}
 use Rattle.fkv_base.specs.declared.shapes.Shape.{Shape}
-use Rattle.fkv_commit.specs.declared.starting.StartAnswer.{StartAnswer}
-use Rattle.fkv_commit.specs.declared.starting.StartAnswer.TheVariants as start
-use Rattle.fkv_commit.specs.Starting.{start_ask, start_begun, start_next}
+use Rattle.law_world.specs.Below.fkv_commit.StartAnswer.{StartAnswer}
+use Rattle.law_world.specs.Below.fkv_commit.StartAnswer.TheVariants as start
+use Rattle.law_world.specs.Below.fkv_commit.Starting.{start_ask, start_begun, start_next}
 use Rattle.fkv_plane.specs.Passing.{passed}
 use Rattle.fkv_plane.specs.declared.actions.Action.{Action}
 use Rattle.fkv_plane.specs.declared.asks.Ask.{Ask}
@@ -20,10 +20,10 @@ use Rattle.fkv_keeper.specs.declared.keepers.Keeping.{Keeping}
 use Rattle.fkv_keeper.specs.declared.keepers.Keeping.TheVariants.{Ended, Starts, Maintains, LoadsPhase, Enters, Copies, Seeks, Waits, Writes, Finishes}
 use Rattle.fkv_keeper.specs.Answers.{is_busy}
 use Rattle.fkv_keeper.specs.Keeping.{KeeperModel, KeeperState, commit_asked, ended, keeper_ask, keeping_ask, keeping_given, keeping_next, start_ledto}
-use Rattle.fkv_world.specs.Moves.{keeper_gets}
-use Rattle.fkv_world.specs.Runs.{World, happens, read_by_keeper}
-use Rattle.fkv_world.specs.World.{life_goes}
-use Rattle.fkv_world.proofs.Shown.{added_calls, calls_added, lived}
+use Rattle.law_world.specs.Below.fkv_world.Moves.{keeper_gets}
+use Rattle.law_world.specs.Below.fkv_world.Runs.{World, happens, read_by_keeper}
+use Rattle.law_world.specs.Below.fkv_world.World.{life_goes}
+use Rattle.law_world.proofs.Below.fkv_world.Shown.{added_calls, calls_added, lived}
 use Rattle.fkv_seats.specs.Rule.{led}
 use Rattle.fkv_table.specs.declared.happenings.Happening.{Happening}
 use Rattle.fkv_table.specs.declared.happenings.Happening.TheVariants.{Commits}

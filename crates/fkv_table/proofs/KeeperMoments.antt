@@ -2,7 +2,7 @@
 use Rattle.std.proofs.Common.{inl, inr, ⊎_elim, ℕ, refl, sym, ap, ◌∙◌, List, [], ◌∷◌, ◌++◌, append_assoc}
 use Rattle.fkv_disk.specs.Device.{AtEachMoment, Elapses}
 use Rattle.fkv_disk.proofs.Shown.{started, goes_on, goes_on_to}
-use Rattle.fkv_world.specs.Runs.{World}
+use Rattle.law_world.specs.Below.fkv_world.Runs.{World}
 use Rattle.fkv_seats.specs.Rule.{IsSeenBy}
 use Rattle.fkv_table.specs.declared.happenings.Happening.{Happening}
 use Rattle.fkv_table.specs.KeeperCalls.{HasGoneOn, HasKept}

@@ -12,11 +12,11 @@ use Rattle.fkv_keeper.specs.Keeping.{KeeperModel, KeeperState, commit_asked, kee
 use Rattle.fkv_keeper.specs.KeeperAsks.{keeper_calls}
 use Rattle.fkv_keeper.specs.KeeperRun.{is_in_hand}
 use Rattle.fkv_plane.specs.Asked.{reply_to}
-use Rattle.fkv_world.specs.Actors.{is_of_keeper, slot_of_step}
-use Rattle.fkv_world.specs.Past.{calls_after}
-use Rattle.fkv_world.specs.Runs.{World, happens, read_by_keeper}
-use Rattle.fkv_world.specs.World.{Event, Now, keeper_asked, life_goes}
-use Rattle.fkv_world.proofs.Shown.{added_calls, calls_added, keeper_apart, lived, places_stay, shape_stays}
+use Rattle.law_world.specs.Below.fkv_world.Actors.{is_of_keeper, slot_of_step}
+use Rattle.law_world.specs.Below.fkv_world.Past.{calls_after}
+use Rattle.law_world.specs.Below.fkv_world.Runs.{World, happens, read_by_keeper}
+use Rattle.law_world.specs.Below.fkv_world.World.{Event, Now, keeper_asked, life_goes}
+use Rattle.law_world.proofs.Below.fkv_world.Shown.{added_calls, calls_added, keeper_apart, lived, places_stay, shape_stays}
 use Rattle.law_world.proofs.OfKeeper.OwnCalls.{opened_stays}
 use Rattle.law_world.proofs.OfRuns.Added.{calls_stay}
 use Rattle.law_world.proofs.OfRuns.Starts.{commit_starts, device_called, turn_starts}

@@ -18,12 +18,12 @@ use Rattle.fkv_keeper.specs.declared.keepers.Keeping.{Keeping}
 use Rattle.fkv_keeper.specs.declared.keepers.Keeping.TheVariants.{LoadsPhase}
 use Rattle.fkv_keeper.specs.Keeping.{KeeperModel, KeeperState, keeper_ask, keeper_next, keeping_ask, keeping_next}
 use Rattle.fkv_keeper.proofs.Shown.{keeper_left}
-use Rattle.fkv_world.specs.Actors.{keeper_goes, slot_asked, slot_named}
-use Rattle.fkv_world.specs.Moves.{Near, keeper_asks, keeper_gets, keeper_replied, keeper_settled}
-use Rattle.fkv_world.specs.Past.{calls_after}
-use Rattle.fkv_world.specs.Runs.{World, read_by_keeper}
-use Rattle.fkv_world.specs.World.{Now, near, with_keeper}
-use Rattle.fkv_world.proofs.Shown.{keeper_own}
+use Rattle.law_world.specs.Below.fkv_world.Actors.{keeper_goes, slot_asked, slot_named}
+use Rattle.law_world.specs.Below.fkv_world.Moves.{Near, keeper_asks, keeper_gets, keeper_replied, keeper_settled}
+use Rattle.law_world.specs.Below.fkv_world.Past.{calls_after}
+use Rattle.law_world.specs.Below.fkv_world.Runs.{World, read_by_keeper}
+use Rattle.law_world.specs.Below.fkv_world.World.{Now, near, with_keeper}
+use Rattle.law_world.proofs.Below.fkv_world.Shown.{keeper_own}
 use Rattle.law_world.specs.Runs.Ends.{KeeperStandsAtNoSlot, asks_left_of_keeper}
 use Rattle.law_world.proofs.OfRuns.Ends.{keeper_down}
 use Rattle.law_world.proofs.OfGuarded.Ends.{life_keeper_stands}

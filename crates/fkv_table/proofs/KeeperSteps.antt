@@ -10,8 +10,8 @@ use Rattle.fkv_plane.specs.declared.places.Places.{Places}
 use Rattle.fkv_base.specs.declared.shapes.Shape.{Shape}
 use Rattle.fkv_keeper.specs.declared.answers.KeeperTold.{KeeperTold}
 use Rattle.fkv_keeper.specs.Keeping.{KeeperModel, KeeperState, keeper_ask, keeper_next}
-use Rattle.fkv_world.specs.Actors.{slot_asked, slot_of_step, slot_named}
-use Rattle.fkv_world.specs.Runs.{World, happens}
+use Rattle.law_world.specs.Below.fkv_world.Actors.{slot_asked, slot_of_step, slot_named}
+use Rattle.law_world.specs.Below.fkv_world.Runs.{World, happens}
 use Rattle.law_world.proofs.OfRuns.OneWord.{keeper_writes}
 use Rattle.law_world.proofs.OfGuarded.WordsWithin.{life_keeper_within}
 use Rattle.fkv_seats.specs.Rule.{Changes, Quiet, Ruled, Stepped, led}

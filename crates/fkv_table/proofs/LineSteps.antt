@@ -13,8 +13,8 @@ use Rattle.fkv_session.specs.declared.sessions.Sitting.{Sitting}
 use Rattle.fkv_session.specs.declared.sessions.Sitting.TheVariants.{Idle}
 use Rattle.fkv_session.specs.Sessions.{Seat, SessionState, Sitter, is_busy, session_ask, session_next, sitting_ask}
 use Rattle.fkv_straight.specs.Standing.{asked, begins, leads, replayed}
-use Rattle.fkv_world.specs.Actors.{slot_asked}
-use Rattle.fkv_world.specs.Runs.{World}
+use Rattle.law_world.specs.Below.fkv_world.Actors.{slot_asked}
+use Rattle.law_world.specs.Below.fkv_world.Runs.{World}
 use Rattle.fkv_seats.specs.declared.held.Held.TheVariants.{Desk}
 use Rattle.fkv_seats.specs.declared.views.Role.TheVariants.{Sits}
 use Rattle.fkv_seats.specs.Rule.{Carries, base, led}

@@ -13,10 +13,10 @@ use Rattle.fkv_epoch.proofs.Shown.{item_written}
 use Rattle.fkv_session.specs.Sessions.{Seat, SessionState, session_ask}
 use Rattle.fkv_session.specs.declared.answers.Told.{Told}
 use Rattle.fkv_keeper.specs.Keeping.{keeper_ask}
-use Rattle.fkv_world.specs.Actors.{NoneOfKeeper, NoneOfSession, is_of_keeper, is_of_session, slot_asked, slot_named}
-use Rattle.fkv_world.specs.Runs.{World, happens, run}
-use Rattle.fkv_world.specs.World.{Event, Now, seat_at, session_called}
-use Rattle.fkv_world.proofs.Shown.{session_apart, shape_stays, places_stay}
+use Rattle.law_world.specs.Below.fkv_world.Actors.{NoneOfKeeper, NoneOfSession, is_of_keeper, is_of_session, slot_asked, slot_named}
+use Rattle.law_world.specs.Below.fkv_world.Runs.{World, happens, run}
+use Rattle.law_world.specs.Below.fkv_world.World.{Event, Now, seat_at, session_called}
+use Rattle.law_world.proofs.Below.fkv_world.Shown.{session_apart, shape_stays, places_stay}
 use Rattle.law_world.specs.Runs.Crashes.{NoneIsCrash}
 use Rattle.law_world.proofs.OfRuns.Crashed.{goes_on}
 use Rattle.law_world.proofs.OfRuns.Nothing.{no_session}

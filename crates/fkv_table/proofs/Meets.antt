@@ -4,7 +4,7 @@ use Rattle.std.specs.Prelude.{Some}
 use Rattle.atomic_table.specs.Seated.{TableId}
 use Rattle.atomic_table.specs.Table.{Joins, Me, Splits, rest}
 use Rattle.fkv_base.specs.Limits.{drain_slots}
-use Rattle.fkv_world.specs.Runs.{World}
+use Rattle.law_world.specs.Below.fkv_world.Runs.{World}
 use Rattle.fkv_seats.specs.declared.views.Role.{Role}
 use Rattle.fkv_seats.specs.declared.views.Role.TheVariants.{Both, Sits}
 use Rattle.fkv_seats.specs.Rule.{AreApart, GoesOn, GotUp, HasMet, KeepsDesk, Ruled, SatDown, both_view, desk_of, left_view, longer, number_of, right_view, spent_view, with_desk}

@@ -8,11 +8,11 @@ use Rattle.fkv_plane.specs.Asked.{asked_place}
 use Rattle.fkv_plane.specs.Plane.{action_at, found_action}
 use Rattle.fkv_session.specs.declared.answers.Told.{Told}
 use Rattle.fkv_session.specs.Sessions.{Seat, SessionState, session_ask}
-use Rattle.fkv_world.specs.Actors.{session_goes}
-use Rattle.fkv_world.specs.Moves.{Near, session_settled, session_replied, session_asks}
-use Rattle.fkv_world.specs.Runs.{World}
-use Rattle.fkv_world.specs.World.{seat_at, near, with_session}
-use Rattle.fkv_world.proofs.Shown.{session_own}
+use Rattle.law_world.specs.Below.fkv_world.Actors.{session_goes}
+use Rattle.law_world.specs.Below.fkv_world.Moves.{Near, session_settled, session_replied, session_asks}
+use Rattle.law_world.specs.Below.fkv_world.Runs.{World}
+use Rattle.law_world.specs.Below.fkv_world.World.{seat_at, near, with_session}
+use Rattle.law_world.proofs.Below.fkv_world.Shown.{session_own}
 use Rattle.fkv_seats.specs.Rule.{action_in, flat, led}
 use Rattle.fkv_seats.proofs.Keeps.{no_some}
 use Rattle.fkv_table.specs.declared.happenings.Happening.{Happening}

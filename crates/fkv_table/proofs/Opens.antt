@@ -8,7 +8,7 @@ use Rattle.fkv_base.specs.Limits.{drain_slots}
 use Rattle.fkv_core.specs.Openings.{beginning}
 use Rattle.fkv_core.specs.Worlds.{WorldModel, state_of, states_of}
 use Rattle.fkv_session.specs.Sessions.{Sitter}
-use Rattle.fkv_world.specs.Opened.{IsOpenedWorld}
+use Rattle.law_world.specs.Below.fkv_world.Opened.{IsOpenedWorld}
 use Rattle.fkv_table.specs.Desks.{Slot}
 use Rattle.fkv_table.specs.Planes.{opening_of}
 use Rattle.fkv_table.specs.Positions.{gaps, laid}

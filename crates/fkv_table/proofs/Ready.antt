@@ -7,8 +7,8 @@ use Rattle.atomic_table.specs.Table.{Me, rest}
 use Rattle.fkv_base.specs.Limits.{drain_slots}
 use Rattle.fkv_map.specs.declared.operations.Call.TheVariants.{Refresh}
 use Rattle.fkv_session.specs.Sessions.{SessionState, Sitter}
-use Rattle.fkv_world.specs.Runs.{World, happens}
-use Rattle.fkv_world.proofs.Shown.{session_apart}
+use Rattle.law_world.specs.Below.fkv_world.Runs.{World, happens}
+use Rattle.law_world.proofs.Below.fkv_world.Shown.{session_apart}
 use Rattle.law_world.proofs.OfRuns.Nothing.{no_session}
 use Rattle.fkv_seats.specs.declared.views.Role.{Role}
 use Rattle.fkv_seats.specs.declared.views.Role.TheVariants.{Sits}

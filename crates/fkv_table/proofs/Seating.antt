@@ -4,7 +4,7 @@ use Rattle.std.specs.Prelude.{Some}
 use mathlib.Core.Option.{none}
 use Rattle.atomic_table.specs.Table.{Me, step, rest, Allows, carried_after}
 use Rattle.fkv_base.specs.Limits.{drain_slots}
-use Rattle.fkv_world.specs.Runs.{World}
+use Rattle.law_world.specs.Below.fkv_world.Runs.{World}
 use Rattle.fkv_seats.specs.Rule.{GotUp, Ruled, SatDown, desk_of}
 use Rattle.fkv_seats.proofs.Keeps.{same_some}
 use Rattle.fkv_seats.proofs.Desks.{sits_down, gets_up}

@@ -16,11 +16,11 @@ use Rattle.fkv_session.specs.declared.sessions.Sitting.TheVariants.{Idle}
 use Rattle.fkv_session.specs.Sessions.{Seat, SessionState, Sitter, is_busy, session_ask, sitting_ask}
 use Rattle.fkv_session.specs.SessionRun.{telling}
 use Rattle.fkv_session.proofs.Shown.{session_left}
-use Rattle.fkv_world.specs.Actors.{slot_asked, slot_named}
-use Rattle.fkv_world.specs.Moves.{Near, session_gets, session_settled}
-use Rattle.fkv_world.specs.Past.{Answered, TraceEvent}
-use Rattle.fkv_world.specs.Runs.{World, run}
-use Rattle.fkv_world.specs.World.{Moves as Steps, Now, seat_at, with_session}
+use Rattle.law_world.specs.Below.fkv_world.Actors.{slot_asked, slot_named}
+use Rattle.law_world.specs.Below.fkv_world.Moves.{Near, session_gets, session_settled}
+use Rattle.law_world.specs.Below.fkv_world.Past.{Answered, TraceEvent}
+use Rattle.law_world.specs.Below.fkv_world.Runs.{World, run}
+use Rattle.law_world.specs.Below.fkv_world.World.{Moves as Steps, Now, seat_at, with_session}
 use Rattle.law_world.specs.Runs.Added.{told_at, told_by, ended_by, begun_by}
 use Rattle.law_world.specs.Runs.Ends.{StandsAtNoSlot, asks_left_of, left_at}
 use Rattle.law_world.proofs.OfRuns.Added.{trace_so}

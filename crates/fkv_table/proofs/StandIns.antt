@@ -27,8 +27,8 @@ use Rattle.fkv_table.specs.Events.{may_stand}
 use Rattle.fkv_table.specs.Openings.{IsGuardedOpening}
 use Rattle.fkv_table.specs.Planes.{plane}
 use Rattle.fkv_table.specs.Sits.{IsAsked, IsIdleEmpty, IsSeated, RepliedIn, Rests, Settled, StandsIn, Went}
-use Rattle.fkv_world.specs.Moves.{session_gets}
-use Rattle.fkv_world.specs.Runs.{World}
+use Rattle.law_world.specs.Below.fkv_world.Moves.{session_gets}
+use Rattle.law_world.specs.Below.fkv_world.Runs.{World}
 use Rattle.fkv_table.proofs.Called.{seated_first, word_of}
 use Rattle.fkv_table.proofs.Settled.{IsStepped, asked_in_hand, ended_so, stepped_on}
 use Rattle.fkv_table.proofs.Steps.{replies}

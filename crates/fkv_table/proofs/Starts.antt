@@ -13,9 +13,9 @@ use Rattle.fkv_core.specs.Worlds.{AreSeated, state_of, states_of}
 use Rattle.fkv_keeper.specs.Keeping.{KeeperModel}
 use Rattle.fkv_keeper.specs.KeeperRun.{is_in_hand}
 use Rattle.fkv_session.specs.Sessions.{Seat, SessionState, Sitter}
-use Rattle.fkv_world.specs.Opened.{IsOpenedWorld}
-use Rattle.fkv_world.specs.Runs.{World}
-use Rattle.fkv_world.specs.World.{seat_at}
+use Rattle.law_world.specs.Below.fkv_world.Opened.{IsOpenedWorld}
+use Rattle.law_world.specs.Below.fkv_world.Runs.{World}
+use Rattle.law_world.specs.Below.fkv_world.World.{seat_at}
 use Rattle.fkv_seats.specs.declared.held.Held.TheVariants.{Drain}
 use Rattle.fkv_seats.specs.declared.views.Role.TheVariants.{Sits}
 use Rattle.fkv_seats.specs.Rule.{AreAllowed, HandFits, Ruled, SatDown, action_in, base, desk_of, first_view, led, left_view, right_view, with_desk}

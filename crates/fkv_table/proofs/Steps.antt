@@ -10,9 +10,9 @@ use Rattle.fkv_plane.specs.Asked.{asked, asked_place, reply_to, word_found}
 use Rattle.fkv_plane.specs.Places.{word_count}
 use Rattle.fkv_session.specs.declared.answers.Told.{Told}
 use Rattle.fkv_session.specs.Sessions.{Seat, SessionState, Sitter, session_ask, session_next}
-use Rattle.fkv_world.specs.Actors.{slot_asked, slot_of_step, slot_named, session_slot_named}
-use Rattle.fkv_world.specs.Runs.{World}
-use Rattle.fkv_world.specs.World.{seat_at}
+use Rattle.law_world.specs.Below.fkv_world.Actors.{slot_asked, slot_of_step, slot_named, session_slot_named}
+use Rattle.law_world.specs.Below.fkv_world.Runs.{World}
+use Rattle.law_world.specs.Below.fkv_world.World.{seat_at}
 use Rattle.fkv_seats.specs.declared.views.Role.{Role}
 use Rattle.fkv_seats.specs.declared.views.Role.TheVariants.{Sits}
 use Rattle.fkv_seats.specs.Rule.{AreAllowed, AreOwn, Changes, Quiet, Ruled, Stepped, led, number_of}

@@ -14,8 +14,8 @@ use Rattle.fkv_session.specs.declared.answers.Told.{Told}
 use Rattle.fkv_session.specs.Sessions.{Seat, SessionState, Sitter, is_busy, session_ask}
 use Rattle.fkv_session.specs.SessionRun.{telling}
 use Rattle.fkv_straight.specs.Standing.{IsCaughtUp}
-use Rattle.fkv_world.specs.Actors.{slot_asked}
-use Rattle.fkv_world.specs.Runs.{World}
+use Rattle.law_world.specs.Below.fkv_world.Actors.{slot_asked}
+use Rattle.law_world.specs.Below.fkv_world.Runs.{World}
 use Rattle.fkv_seats.specs.Rule.{base, led}
 use Rattle.fkv_table.specs.Calls.{HasCalled, HasStepped, IsReady, IsToldLast}
 use Rattle.fkv_table.specs.declared.happenings.Happening.{Happening}

@@ -10,8 +10,8 @@ use Rattle.fkv_session.specs.declared.answers.Told.{Told}
 use Rattle.fkv_session.specs.Answers.{IsAnswerTold}
 use Rattle.fkv_session.specs.SessionRun.{Telling, telling}
 use Rattle.fkv_session.specs.Sessions.{SessionState, Sitter, is_busy}
-use Rattle.fkv_world.specs.Past.{Traced, Answered}
-use Rattle.fkv_world.specs.Runs.{World}
+use Rattle.law_world.specs.Below.fkv_world.Past.{Traced, Answered}
+use Rattle.law_world.specs.Below.fkv_world.Runs.{World}
 use Rattle.fkv_seats.specs.declared.views.Role.TheVariants.{Sits}
 use Rattle.fkv_seats.specs.Rule.{led, speaks}
 use Rattle.fkv_table.specs.declared.happenings.Happening.{Happening}

@@ -2,7 +2,7 @@
 use Rattle.std.specs.Prelude.{◌≡◌, ℕ, true, List, [], ◌∷◌, Some}
 use Rattle.atomic_table.specs.Table.{Me, Step}
 use Rattle.fkv_plane.specs.declared.actions.Action.{Action}
-use Rattle.fkv_world.specs.Runs.{World}
+use Rattle.law_world.specs.Below.fkv_world.Runs.{World}
 use Rattle.fkv_seats.specs.declared.held.Held.{Held}
 use Rattle.fkv_seats.specs.declared.held.Held.TheVariants.{Drain, Desk}
 use Rattle.fkv_seats.specs.declared.views.View.{View}

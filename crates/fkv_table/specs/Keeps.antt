@@ -11,10 +11,10 @@ use Rattle.fkv_plane.specs.Asked.{reply_to}
 use Rattle.fkv_keeper.specs.declared.answers.KeeperTold.{KeeperTold}
 use Rattle.fkv_keeper.specs.Keeping.{KeeperModel, keeper_ask, keeper_next}
 use Rattle.fkv_keeper.specs.KeeperRun.{is_in_hand}
-use Rattle.fkv_world.specs.Actors.{slot_asked, slot_named}
-use Rattle.fkv_world.specs.Moves.{keeper_gets}
-use Rattle.fkv_world.specs.Past.{Past}
-use Rattle.fkv_world.specs.Runs.{World}
+use Rattle.law_world.specs.Below.fkv_world.Actors.{slot_asked, slot_named}
+use Rattle.law_world.specs.Below.fkv_world.Moves.{keeper_gets}
+use Rattle.law_world.specs.Below.fkv_world.Past.{Past}
+use Rattle.law_world.specs.Below.fkv_world.Runs.{World}
 use Rattle.fkv_seats.specs.declared.held.Held.TheVariants.{Drain}
 use Rattle.fkv_seats.specs.declared.views.Role.TheVariants.{Rest}
 use Rattle.fkv_seats.specs.Rule.{AreAllowed, Carries, HandFits, IsSeenBy, Quiet, Stepped, base, led, speaks}

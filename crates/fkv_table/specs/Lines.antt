@@ -8,7 +8,7 @@ use Rattle.fkv_map.specs.declared.operations.Op.{Op}
 use Rattle.fkv_plane.specs.Asked.{asked_place, reply_to}
 use Rattle.fkv_session.specs.Sessions.{SessionState, Sitter, session_ask, session_next}
 use Rattle.fkv_straight.specs.Standing.{begins, replayed}
-use Rattle.fkv_world.specs.Runs.{World}
+use Rattle.law_world.specs.Below.fkv_world.Runs.{World}
 use Rattle.fkv_seats.specs.Rule.{led}
 use Rattle.fkv_table.specs.declared.happenings.Happening.{Happening}
 use Rattle.fkv_table.specs.Calls.{HasCalled, IsReady}

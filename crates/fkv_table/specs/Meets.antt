@@ -3,7 +3,7 @@ use Rattle.std.specs.Prelude.{◌≡◌, ℕ}
 use Rattle.atomic_table.specs.Seated.{TableId}
 use Rattle.atomic_table.specs.Table.{Me}
 use Rattle.fkv_session.specs.Sessions.{Sitter}
-use Rattle.fkv_world.specs.Runs.{World}
+use Rattle.law_world.specs.Below.fkv_world.Runs.{World}
 use Rattle.fkv_seats.specs.Rule.{GoesOn, longer}
 use Rattle.fkv_table.specs.Calls.{IsReady}
 use Rattle.fkv_table.specs.Desks.{Slot, Knows}

@@ -2,8 +2,8 @@
 use Rattle.std.specs.Prelude.{◌≡◌, ◌+◌, ◌≤◌, ℕ, length}
 use Rattle.atomic_table.specs.Seated.{TableId}
 use Rattle.fkv_base.specs.Limits.{drain_slots}
-use Rattle.fkv_world.specs.Opened.{IsOpenedWorld}
-use Rattle.fkv_world.specs.Runs.{World}
+use Rattle.law_world.specs.Below.fkv_world.Opened.{IsOpenedWorld}
+use Rattle.law_world.specs.Below.fkv_world.Runs.{World}
 use Rattle.law_world.specs.Guarded.Shows.{IsOpened}
 use Rattle.fkv_table.specs.Positions.{gaps}
 

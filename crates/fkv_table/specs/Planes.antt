@@ -3,8 +3,8 @@ use Rattle.std.specs.Prelude.{ℕ, List}
 use Rattle.std.specs.declared.snapshot.Snapshot.{Snapshot}
 use Rattle.fkv_base.specs.Limits.{drain_slots}
 use Rattle.fkv_plane.specs.declared.actions.Action.{Action}
-use Rattle.fkv_world.specs.Actors.{slot_named}
-use Rattle.fkv_world.specs.Runs.{World, happens}
+use Rattle.law_world.specs.Below.fkv_world.Actors.{slot_named}
+use Rattle.law_world.specs.Below.fkv_world.Runs.{World, happens}
 use Rattle.fkv_core.specs.Openings.{beginning}
 use Rattle.fkv_core.specs.Worlds.{WorldModel}
 use Rattle.fkv_seats.specs.Rule.{Plane}

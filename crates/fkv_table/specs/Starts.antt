@@ -4,7 +4,7 @@ use Rattle.atomic_table.specs.Seated.{TableId}
 use Rattle.atomic_table.specs.Table.{Me}
 use Rattle.fkv_base.specs.Limits.{drain_slots}
 use Rattle.fkv_session.specs.Sessions.{Sitter}
-use Rattle.fkv_world.specs.Runs.{World}
+use Rattle.law_world.specs.Below.fkv_world.Runs.{World}
 use Rattle.fkv_seats.specs.declared.views.Role.TheVariants.{Rest, Sits}
 use Rattle.fkv_table.specs.Calls.{IsReady}
 use Rattle.fkv_table.specs.Desks.{Slot, Knows}

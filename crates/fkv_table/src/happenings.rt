@@ -1,7 +1,6 @@
 //! What seats add to the list of events.
 ghost use Rattle.std.specs.Prelude.{◌≡◌, ℕ, true};
-ghost use Rattle.fkv_table.specs.Events.{may_stand};
-ghost use Rattle.fkv_table.specs.declared.happenings.Happening.TheVariants.{Calls};
+ghost use Rattle.fkv_table.specs.Said as said;
 
 use fkv_base::CommitKind;
 use fkv_map::Call;
@@ -24,5 +23,5 @@ pub enum Happening {
 /// The numbers of a call are words of the machine, so its start may stand in a table's list.
 #[inline(always)]
 pub(crate) fn law_start_stands(_call: Call)
-    ensures { (number : ℕ) → may_stand (Calls number _call) ≡ true }
+    ensures { (number : ℕ) → said.may_stand (said.Calls number _call) ≡ true }
 {}

@@ -1,23 +1,6 @@
 //! The keeper's calls at the table.
 ghost use Rattle.std.specs.Prelude.{◌≡◌, ◌<◌, ◌≤◌, ◌↔◌, ℕ, Bool, Some, None, [], true, false, is_some, is_ok};
-ghost use Rattle.fkv_base.specs.declared.commits.CommitKind.TheVariants.{Full, Log};
-ghost use Rattle.fkv_checkpoint.specs.Copying.{IsRoomFor};
-ghost use Rattle.fkv_disk.specs.Device.{AtEachMoment};
-ghost use Rattle.fkv_keeper.specs.Answers.{is_busy};
-ghost use Rattle.fkv_keeper.specs.Keeping.{keeper_ask};
-ghost use Rattle.fkv_disk.specs.Asks.{kinds_by};
-ghost use Rattle.fkv_keeper.specs.KeeperAsks.{keeper_asks_left, keeper_due};
-ghost use Rattle.fkv_keeper.specs.KeeperRun.{is_in_hand};
-ghost use Rattle.fkv_keeper.specs.Running.{IsBeginTold, IsTurnTold};
-ghost use Rattle.fkv_keeper.specs.declared.answers.KeeperTold.TheVariants.{Device as AtDevice};
-ghost use Rattle.fkv_plane.specs.Asked.{asked_place};
-ghost use Rattle.fkv_plane.specs.declared.asks.Ask.TheVariants.{Done};
-ghost use Rattle.fkv_seats.specs.Rule.{HandFits, led};
-ghost use Rattle.fkv_table.specs.declared.happenings.Happening.TheVariants.{Commits, KeeperMoves, Turns};
-ghost use Rattle.fkv_table.specs.KeeperCalls.{HasGoneOn, HasKept, IsBeginning};
-ghost use Rattle.fkv_table.specs.Keeps.{IsAfterSeen, IsKeeping, IsKeeperReady, IsLeftWithin, IsNoted, KeeperIsAsked, KeeperReplied, KeeperSettled, LeavesDevice, Spares};
-ghost use Rattle.fkv_table.specs.Openings.{IsTableOf};
-ghost use Rattle.fkv_table.specs.Planes.{plane, opening_of};
+ghost use Rattle.fkv_table.specs.Said as said;
 
 use crate::performing::perform;
 use crate::rule::{Knows, Place, Slot, Table, Words};
@@ -44,38 +27,36 @@ pub struct KeeperPass<D: Device> {
 
 /// An event of the keeper's.
 pub(crate) trait OfKeeper {
-    ghost use Rattle.fkv_table.specs.declared.happenings.Happening.{Happening};
+    ghost use Rattle.fkv_table.specs.Said as said;
 
-    ghost its: { Happening };
+    ghost its: { said.Happening };
 }
 
 /// A turn begins.
 pub(crate) struct Turning;
 
 impl OfKeeper for Turning {
-    ghost use Rattle.fkv_table.specs.declared.happenings.Happening.TheVariants.{Turns};
+    ghost use Rattle.fkv_table.specs.Said as said;
 
-    ghost its = { Turns };
+    ghost its = { said.Turns };
 }
 
 /// A full commit begins.
 pub(crate) struct FullCommit;
 
 impl OfKeeper for FullCommit {
-    ghost use Rattle.fkv_base.specs.declared.commits.CommitKind.TheVariants.{Full};
-    ghost use Rattle.fkv_table.specs.declared.happenings.Happening.TheVariants.{Commits};
+    ghost use Rattle.fkv_table.specs.Said as said;
 
-    ghost its = { Commits Full };
+    ghost its = { said.Commits said.Full };
 }
 
 /// A log commit begins.
 pub(crate) struct LogCommit;
 
 impl OfKeeper for LogCommit {
-    ghost use Rattle.fkv_base.specs.declared.commits.CommitKind.TheVariants.{Log};
-    ghost use Rattle.fkv_table.specs.declared.happenings.Happening.TheVariants.{Commits};
+    ghost use Rattle.fkv_table.specs.Said as said;
 
-    ghost its = { Commits Log };
+    ghost its = { said.Commits said.Log };
 }
 
 /// A step of the keeper's, with memory for a copy. A call of the device that has succeeded is one too.
@@ -83,9 +64,9 @@ pub(crate) struct Granted;
 
 impl OfKeeper for Granted {
     ghost use Rattle.std.specs.Prelude.{true};
-    ghost use Rattle.fkv_table.specs.declared.happenings.Happening.TheVariants.{KeeperMoves};
+    ghost use Rattle.fkv_table.specs.Said as said;
 
-    ghost its = { KeeperMoves true true };
+    ghost its = { said.KeeperMoves true true };
 }
 
 /// A step of the keeper's, without it.
@@ -93,9 +74,9 @@ pub(crate) struct Ungranted;
 
 impl OfKeeper for Ungranted {
     ghost use Rattle.std.specs.Prelude.{false, true};
-    ghost use Rattle.fkv_table.specs.declared.happenings.Happening.TheVariants.{KeeperMoves};
+    ghost use Rattle.fkv_table.specs.Said as said;
 
-    ghost its = { KeeperMoves false true };
+    ghost its = { said.KeeperMoves false true };
 }
 
 /// A call of the device that has failed.
@@ -103,9 +84,9 @@ pub(crate) struct Failed;
 
 impl OfKeeper for Failed {
     ghost use Rattle.std.specs.Prelude.{false, true};
-    ghost use Rattle.fkv_table.specs.declared.happenings.Happening.TheVariants.{KeeperMoves};
+    ghost use Rattle.fkv_table.specs.Said as said;
 
-    ghost its = { KeeperMoves true false };
+    ghost its = { said.KeeperMoves true false };
 }
 
 /// What a step of the keeper tells.
@@ -114,20 +95,19 @@ pub(crate) struct Adding<E> {
 }
 
 impl<D: Device, E: OfKeeper> Play<Slot, Knows<D>> for Adding<E> {
-    ghost use Rattle.fkv_table.specs.Keeps.{adding};
-    ghost use Rattle.fkv_table.specs.Planes.{opening_of};
+    ghost use Rattle.fkv_table.specs.Said as said;
 
-    ghost then = { adding (opening_of D.seen) E.its };
+    ghost then = { said.adding (said.opening_of D.seen) E.its };
 }
 
 /// Adds an event of the keeper's that changes no word, by a load of the epoch's word.
 pub(crate) fn note<D: Device, E: OfKeeper>(words: &Words<D>, seat: &mut Place<D>)
-    requires table { (seat.old.table_id ≡ words.now.table_id) × IsTableOf (opening_of D.seen words.now.key) words.now.table_id }
+    requires table { (seat.old.table_id ≡ words.now.table_id) × said.IsTableOf (said.opening_of D.seen words.now.key) words.now.table_id }
     requires about { seat.old.me.0.about ≡ Some words.now.key }
-    requires spares { Spares (opening_of D.seen) words.now.key seat.old.me E.its }
-    requires hand { HandFits (plane (opening_of D.seen)) (opening_of D.seen words.now.key) seat.old.me.0.seen seat.old.me.0.hand seat.old.me.1 }
+    requires spares { said.Spares (said.opening_of D.seen) words.now.key seat.old.me E.its }
+    requires hand { said.HandFits (said.plane (said.opening_of D.seen)) (said.opening_of D.seen words.now.key) seat.old.me.0.seen seat.old.me.0.hand seat.old.me.1 }
     ensures seat { (seat.new.table_id ≡ seat.old.table_id) × (seat.new.id ≡ seat.old.id) }
-    ensures noted { IsNoted (opening_of D.seen) words.now.key seat.old.me E.its seat.new.me }
+    ensures noted { said.IsNoted (said.opening_of D.seen) words.now.key seat.old.me E.its seat.new.me }
 {
     let _ = words.load::<Adding<E>>(seat, 0);
 }
@@ -138,12 +118,12 @@ pub(crate) fn begin_turn<D: Device>(
     seat: &mut Place<D>,
     machine: &mut fkv_keeper::Keeper,
 )
-    requires table { (seat.old.table_id ≡ words.now.table_id) × IsTableOf (opening_of D.seen words.now.key) words.now.table_id }
-    requires keeping { IsKeeping (opening_of D.seen) words.now.key seat.old.me machine.old }
-    requires idle { is_in_hand machine.old.state.step ≡ false }
+    requires table { (seat.old.table_id ≡ words.now.table_id) × said.IsTableOf (said.opening_of D.seen words.now.key) words.now.table_id }
+    requires keeping { said.IsKeeping (said.opening_of D.seen) words.now.key seat.old.me machine.old }
+    requires idle { said.is_in_hand machine.old.state.step ≡ false }
     ensures seat { (seat.new.table_id ≡ seat.old.table_id) × (seat.new.id ≡ seat.old.id) }
-    ensures noted { IsNoted (opening_of D.seen) words.now.key seat.old.me Turns seat.new.me }
-    ensures keeping { IsKeeping (opening_of D.seen) words.now.key seat.new.me machine.new }
+    ensures noted { said.IsNoted (said.opening_of D.seen) words.now.key seat.old.me said.Turns seat.new.me }
+    ensures keeping { said.IsKeeping (said.opening_of D.seen) words.now.key seat.new.me machine.new }
 {
     machine.begin_turn();
     note::<D, Turning>(words, seat);
@@ -156,13 +136,13 @@ pub(crate) fn begin_commit<D: Device>(
     machine: &mut fkv_keeper::Keeper,
     kind: CommitKind,
 )
-    requires table { (seat.old.table_id ≡ words.now.table_id) × IsTableOf (opening_of D.seen words.now.key) words.now.table_id }
-    requires keeping { IsKeeping (opening_of D.seen) words.now.key seat.old.me machine.old }
-    requires idle { is_in_hand machine.old.state.step ≡ false }
+    requires table { (seat.old.table_id ≡ words.now.table_id) × said.IsTableOf (said.opening_of D.seen words.now.key) words.now.table_id }
+    requires keeping { said.IsKeeping (said.opening_of D.seen) words.now.key seat.old.me machine.old }
+    requires idle { said.is_in_hand machine.old.state.step ≡ false }
     ensures seat { (seat.new.table_id ≡ seat.old.table_id) × (seat.new.id ≡ seat.old.id) }
-    ensures noted { IsNoted (opening_of D.seen) words.now.key seat.old.me (Commits kind) seat.new.me }
-    ensures keeping { IsKeeping (opening_of D.seen) words.now.key seat.new.me machine.new }
-    ensures beginning { IsBeginning machine.new.state.step }
+    ensures noted { said.IsNoted (said.opening_of D.seen) words.now.key seat.old.me (said.Commits kind) seat.new.me }
+    ensures keeping { said.IsKeeping (said.opening_of D.seen) words.now.key seat.new.me machine.new }
+    ensures beginning { said.IsBeginning machine.new.state.step }
 {
     machine.begin_commit(kind);
     match kind {
@@ -179,15 +159,15 @@ fn ask_word<D: Device, E: OfKeeper>(
     ask: &Ask<KeeperTold>,
     room: Option<CopyRoom>,
 ) -> Ask<KeeperTold>
-    requires table { (seat.old.table_id ≡ words.now.table_id) × IsTableOf (opening_of D.seen words.now.key) words.now.table_id }
-    requires event { E.its ≡ KeeperMoves (is_some room) true }
-    requires room { IsRoomFor machine.old.places room }
-    requires keeping { IsKeeping (opening_of D.seen) words.now.key seat.old.me machine.old }
-    requires ask { ask.now ≡ keeper_ask machine.old.shape machine.old.places machine.old.state }
-    requires word { (place : ℕ) × (asked_place ask.now ≡ Some place) }
+    requires table { (seat.old.table_id ≡ words.now.table_id) × said.IsTableOf (said.opening_of D.seen words.now.key) words.now.table_id }
+    requires event { E.its ≡ said.KeeperMoves (is_some room) true }
+    requires room { said.IsRoomFor machine.old.places room }
+    requires keeping { said.IsKeeping (said.opening_of D.seen) words.now.key seat.old.me machine.old }
+    requires ask { ask.now ≡ said.keeper_ask machine.old.shape machine.old.places machine.old.state }
+    requires word { (place : ℕ) × (said.asked_place ask.now ≡ Some place) }
     ensures seat { (seat.new.table_id ≡ seat.old.table_id) × (seat.new.id ≡ seat.old.id) }
-    ensures replied { KeeperReplied (opening_of D.seen) words.now.key seat.old.me (is_some room) machine.old seat.new.me machine.new }
-    ensures ask { result ≡ keeper_ask machine.new.shape machine.new.places machine.new.state }
+    ensures replied { said.KeeperReplied (said.opening_of D.seen) words.now.key seat.old.me (is_some room) machine.old seat.new.me machine.new }
+    ensures ask { result ≡ said.keeper_ask machine.new.shape machine.new.places machine.new.state }
 {
     let reply = perform::<D, Adding<E>, KeeperTold>(words, seat, ask);
     machine.go_on_with(reply, room)
@@ -201,14 +181,14 @@ fn ask_by_room<D: Device>(
     ask: &Ask<KeeperTold>,
     room: Option<CopyRoom>,
 ) -> Ask<KeeperTold>
-    requires table { (seat.old.table_id ≡ words.now.table_id) × IsTableOf (opening_of D.seen words.now.key) words.now.table_id }
-    requires room { IsRoomFor machine.old.places room }
-    requires keeping { IsKeeping (opening_of D.seen) words.now.key seat.old.me machine.old }
-    requires ask { ask.now ≡ keeper_ask machine.old.shape machine.old.places machine.old.state }
-    requires word { (place : ℕ) × (asked_place ask.now ≡ Some place) }
+    requires table { (seat.old.table_id ≡ words.now.table_id) × said.IsTableOf (said.opening_of D.seen words.now.key) words.now.table_id }
+    requires room { said.IsRoomFor machine.old.places room }
+    requires keeping { said.IsKeeping (said.opening_of D.seen) words.now.key seat.old.me machine.old }
+    requires ask { ask.now ≡ said.keeper_ask machine.old.shape machine.old.places machine.old.state }
+    requires word { (place : ℕ) × (said.asked_place ask.now ≡ Some place) }
     ensures seat { (seat.new.table_id ≡ seat.old.table_id) × (seat.new.id ≡ seat.old.id) }
-    ensures replied { KeeperReplied (opening_of D.seen) words.now.key seat.old.me (is_some room) machine.old seat.new.me machine.new }
-    ensures ask { result ≡ keeper_ask machine.new.shape machine.new.places machine.new.state }
+    ensures replied { said.KeeperReplied (said.opening_of D.seen) words.now.key seat.old.me (is_some room) machine.old seat.new.me machine.new }
+    ensures ask { result ≡ said.keeper_ask machine.new.shape machine.new.places machine.new.state }
 {
     if room.is_some() {
         ask_word::<D, Granted>(words, seat, machine, ask, room)
@@ -225,11 +205,11 @@ fn settle<D: Device>(
     next: Ask<KeeperTold>,
 ) -> Ask<KeeperTold>
     requires table { seat.old.table_id ≡ words.now.table_id }
-    requires ask { next ≡ keeper_ask machine.old.shape machine.old.places machine.old.state }
-    requires hand { KeeperIsAsked (opening_of D.seen) next seat.old.me }
+    requires ask { next ≡ said.keeper_ask machine.old.shape machine.old.places machine.old.state }
+    requires hand { said.KeeperIsAsked (said.opening_of D.seen) next seat.old.me }
     ensures seat { (seat.new.table_id ≡ seat.old.table_id) × (seat.new.id ≡ seat.old.id) }
-    ensures settled { KeeperSettled (opening_of D.seen) next seat.old.me machine.old seat.new.me machine.new }
-    ensures ask { result ≡ keeper_ask machine.new.shape machine.new.places machine.new.state }
+    ensures settled { said.KeeperSettled (said.opening_of D.seen) next seat.old.me machine.old seat.new.me machine.new }
+    ensures ask { result ≡ said.keeper_ask machine.new.shape machine.new.places machine.new.state }
 {
     match next {
         Ask::Put(slot, action) => {
@@ -252,16 +232,16 @@ fn step<D: Device>(
     machine: &mut fkv_keeper::Keeper,
     ask: &Ask<KeeperTold>,
 )
-    requires table { (seat.old.table_id ≡ words.now.table_id) × IsTableOf (opening_of D.seen words.now.key) words.now.table_id }
-    requires keeping { IsKeeping (opening_of D.seen) words.now.key seat.old.me machine.old }
-    requires ask { ask.now ≡ keeper_ask machine.old.shape machine.old.places machine.old.state }
-    requires word { (place : ℕ) × (asked_place ask.now ≡ Some place) }
+    requires table { (seat.old.table_id ≡ words.now.table_id) × said.IsTableOf (said.opening_of D.seen words.now.key) words.now.table_id }
+    requires keeping { said.IsKeeping (said.opening_of D.seen) words.now.key seat.old.me machine.old }
+    requires ask { ask.now ≡ said.keeper_ask machine.old.shape machine.old.places machine.old.state }
+    requires word { (place : ℕ) × (said.asked_place ask.now ≡ Some place) }
     ensures seat { (seat.new.table_id ≡ seat.old.table_id) × (seat.new.id ≡ seat.old.id) }
-    ensures keeping { IsKeeping (opening_of D.seen) words.now.key seat.new.me machine.new }
-    ensures went { HasGoneOn seat.old.me.0.seen seat.new.me.0.seen }
-    ensures calls { (led (plane (opening_of D.seen)) (opening_of D.seen words.now.key) seat.new.me.0.seen).past.calls ≡ (led (plane (opening_of D.seen)) (opening_of D.seen words.now.key) seat.old.me.0.seen).past.calls }
-    ensures fewer { keeper_asks_left machine.new.shape machine.new.places machine.new.state < keeper_asks_left machine.old.shape machine.old.places machine.old.state }
-    ensures beginning { IsBeginning machine.old.state.step → IsBeginning machine.new.state.step }
+    ensures keeping { said.IsKeeping (said.opening_of D.seen) words.now.key seat.new.me machine.new }
+    ensures went { said.HasGoneOn seat.old.me.0.seen seat.new.me.0.seen }
+    ensures calls { (said.led (said.plane (said.opening_of D.seen)) (said.opening_of D.seen words.now.key) seat.new.me.0.seen).past.calls ≡ (said.led (said.plane (said.opening_of D.seen)) (said.opening_of D.seen words.now.key) seat.old.me.0.seen).past.calls }
+    ensures fewer { said.keeper_asks_left machine.new.shape machine.new.places machine.new.state < said.keeper_asks_left machine.old.shape machine.old.places machine.old.state }
+    ensures beginning { said.IsBeginning machine.old.state.step → said.IsBeginning machine.new.state.step }
 {
     let room = machine.room();
     let next = ask_by_room(words, seat, machine, ask, room);
@@ -275,19 +255,19 @@ pub(crate) fn call_device<D: Device>(
     machine: &mut fkv_keeper::Keeper,
     d: &mut D,
 )
-    requires table { (seat.old.table_id ≡ words.now.table_id) × IsTableOf (opening_of D.seen words.now.key) words.now.table_id }
-    requires keeping { IsKeeping (opening_of D.seen) words.now.key seat.old.me machine.old }
-    requires ask { keeper_ask machine.old.shape machine.old.places machine.old.state ≡ Done AtDevice }
+    requires table { (seat.old.table_id ≡ words.now.table_id) × said.IsTableOf (said.opening_of D.seen words.now.key) words.now.table_id }
+    requires keeping { said.IsKeeping (said.opening_of D.seen) words.now.key seat.old.me machine.old }
+    requires ask { said.keeper_ask machine.old.shape machine.old.places machine.old.state ≡ said.Done said.AtDevice }
     requires honest { D.honest d.old }
-    requires after { IsAfterSeen (opening_of D.seen) words.now.key seat.old.me.0.seen (D.seen d.old) (D.may_leave d.old) }
+    requires after { said.IsAfterSeen (said.opening_of D.seen) words.now.key seat.old.me.0.seen (D.seen d.old) (D.may_leave d.old) }
     ensures seat { (seat.new.table_id ≡ seat.old.table_id) × (seat.new.id ≡ seat.old.id) }
-    ensures keeping { IsKeeping (opening_of D.seen) words.now.key seat.new.me machine.new }
-    ensures went { HasGoneOn seat.old.me.0.seen seat.new.me.0.seen }
+    ensures keeping { said.IsKeeping (said.opening_of D.seen) words.now.key seat.new.me machine.new }
+    ensures went { said.HasGoneOn seat.old.me.0.seen seat.new.me.0.seen }
     ensures honest { D.honest d.new }
-    ensures after { IsAfterSeen (opening_of D.seen) words.now.key seat.new.me.0.seen (D.seen d.new) (D.may_leave d.new) }
-    ensures moments { AtEachMoment D.moment D.left_since d.old d.new (IsLeftWithin (opening_of D.seen) words.now.key seat.old.me.0.seen seat.new.me.0.seen) }
-    ensures due { D.expects d.new ≡ kinds_by (keeper_due machine.old) (D.expects d.old) }
-    ensures fewer { keeper_asks_left machine.new.shape machine.new.places machine.new.state < keeper_asks_left machine.old.shape machine.old.places machine.old.state }
+    ensures after { said.IsAfterSeen (said.opening_of D.seen) words.now.key seat.new.me.0.seen (D.seen d.new) (D.may_leave d.new) }
+    ensures moments { said.AtEachMoment D.moment D.left_since d.old d.new (said.IsLeftWithin (said.opening_of D.seen) words.now.key seat.old.me.0.seen seat.new.me.0.seen) }
+    ensures due { D.expects d.new ≡ said.kinds_by (said.keeper_due machine.old) (D.expects d.old) }
+    ensures fewer { said.keeper_asks_left machine.new.shape machine.new.places machine.new.state < said.keeper_asks_left machine.old.shape machine.old.places machine.old.state }
 {
     match machine.call_device(d) {
         Ok(_) => note::<D, Granted>(words, seat),
@@ -302,15 +282,15 @@ pub(crate) fn word_steps<D: Device>(
     seat: &mut Place<D>,
     machine: &mut fkv_keeper::Keeper,
 ) -> KeeperTold
-    requires table { (seat.old.table_id ≡ words.now.table_id) × IsTableOf (opening_of D.seen words.now.key) words.now.table_id }
-    requires keeping { IsKeeping (opening_of D.seen) words.now.key seat.old.me machine.old }
+    requires table { (seat.old.table_id ≡ words.now.table_id) × said.IsTableOf (said.opening_of D.seen words.now.key) words.now.table_id }
+    requires keeping { said.IsKeeping (said.opening_of D.seen) words.now.key seat.old.me machine.old }
     ensures seat { (seat.new.table_id ≡ seat.old.table_id) × (seat.new.id ≡ seat.old.id) }
-    ensures keeping { IsKeeping (opening_of D.seen) words.now.key seat.new.me machine.new }
-    ensures went { HasGoneOn seat.old.me.0.seen seat.new.me.0.seen }
-    ensures calls { (led (plane (opening_of D.seen)) (opening_of D.seen words.now.key) seat.new.me.0.seen).past.calls ≡ (led (plane (opening_of D.seen)) (opening_of D.seen words.now.key) seat.old.me.0.seen).past.calls }
-    ensures told { keeper_ask machine.new.shape machine.new.places machine.new.state ≡ Done result }
-    ensures left { keeper_asks_left machine.new.shape machine.new.places machine.new.state ≤ keeper_asks_left machine.old.shape machine.old.places machine.old.state }
-    ensures beginning { IsBeginning machine.old.state.step → IsBeginning machine.new.state.step }
+    ensures keeping { said.IsKeeping (said.opening_of D.seen) words.now.key seat.new.me machine.new }
+    ensures went { said.HasGoneOn seat.old.me.0.seen seat.new.me.0.seen }
+    ensures calls { (said.led (said.plane (said.opening_of D.seen)) (said.opening_of D.seen words.now.key) seat.new.me.0.seen).past.calls ≡ (said.led (said.plane (said.opening_of D.seen)) (said.opening_of D.seen words.now.key) seat.old.me.0.seen).past.calls }
+    ensures told { said.keeper_ask machine.new.shape machine.new.places machine.new.state ≡ said.Done result }
+    ensures left { said.keeper_asks_left machine.new.shape machine.new.places machine.new.state ≤ said.keeper_asks_left machine.old.shape machine.old.places machine.old.state }
+    ensures beginning { said.IsBeginning machine.old.state.step → said.IsBeginning machine.new.state.step }
 {
     'asks: loop {
         match machine.ask() {
@@ -329,11 +309,11 @@ impl Keeper {
         mut pass: KeeperPass<D>,
         kind: CommitKind,
     ) -> (KeeperPass<D>, Result<Version, Fault>)
-        requires ready { IsKeeperReady (opening_of D.seen) table.now.table.shared.key table.now.table.shared.table_id pass.seat.table_id pass.seat.me self.old.machine }
-        ensures ready { IsKeeperReady (opening_of D.seen) table.now.table.shared.key table.now.table.shared.table_id result.0.seat.table_id result.0.seat.me self.new.machine }
-        ensures kept { HasKept (Commits kind) pass.seat.me.0.seen result.0.seat.me.0.seen }
-        ensures device { LeavesDevice (opening_of D.seen) table.now.table.shared.key pass.seat.me.0.seen result.0.seat.me.0.seen }
-        ensures told { IsBeginTold (keeper_ask self.new.machine.shape self.new.machine.places self.new.machine.state) result.1 }
+        requires ready { said.IsKeeperReady (said.opening_of D.seen) table.now.table.shared.key table.now.table.shared.table_id pass.seat.table_id pass.seat.me self.old.machine }
+        ensures ready { said.IsKeeperReady (said.opening_of D.seen) table.now.table.shared.key table.now.table.shared.table_id result.0.seat.table_id result.0.seat.me self.new.machine }
+        ensures kept { said.HasKept (said.Commits kind) pass.seat.me.0.seen result.0.seat.me.0.seen }
+        ensures device { said.LeavesDevice (said.opening_of D.seen) table.now.table.shared.key pass.seat.me.0.seen result.0.seat.me.0.seen }
+        ensures told { said.IsBeginTold (said.keeper_ask self.new.machine.shape self.new.machine.places self.new.machine.state) result.1 }
     {
         let words = &table.table.shared;
         begin_commit(words, &mut pass.seat, &mut self.machine, kind);
@@ -346,10 +326,10 @@ impl Keeper {
 /// How a commit's beginning has ended, told again in the same way.
 #[tactic(auto, unfolding(fkv_keeper::specs::Keeping::keeping_next))]
 fn begin_told(machine: &mut fkv_keeper::Keeper) -> Result<Version, Fault>
-    requires over { is_busy (keeper_ask machine.old.shape machine.old.places machine.old.state) ≡ false }
-    requires idle { is_in_hand machine.old.state.step ≡ false }
+    requires over { said.is_busy (said.keeper_ask machine.old.shape machine.old.places machine.old.state) ≡ false }
+    requires idle { said.is_in_hand machine.old.state.step ≡ false }
     ensures same { machine.new ≡ machine.old }
-    ensures told { IsBeginTold (keeper_ask machine.old.shape machine.old.places machine.old.state) result }
+    ensures told { said.IsBeginTold (said.keeper_ask machine.old.shape machine.old.places machine.old.state) result }
 {
     match machine.drive(0) {
         KeeperAsk::Begun(result) => result,

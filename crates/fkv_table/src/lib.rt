@@ -25,3 +25,6 @@ pub use positions::law_positions;
 pub use rule::{Engine, Pass, Table};
 pub use sessions::Session;
 pub use turns::TurnAsk;
+
+// What crates above name of the engine: the world that a table was opened with.
+pub use fkv_core::World;

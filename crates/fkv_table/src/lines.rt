@@ -1,13 +1,6 @@
 //! The way of a session to the words of its table, by which a call goes straight.
 ghost use Rattle.std.specs.Prelude.{◌≡◌, ◌+◌, ◌<◌, ◌≤◌, ◌++◌, ◌∷◌, [], ℕ, Some, length, take};
-ghost use Rattle.std.specs.declared.snapshot.Snapshot.{Snapshot};
-ghost use Rattle.fkv_core.specs.Worlds.{WorldModel};
-ghost use Rattle.fkv_map.specs.declared.operations.Op.{Op};
-ghost use Rattle.fkv_plane.specs.Asked.{asked_place};
-ghost use Rattle.fkv_straight.specs.Standing.{asked, leads};
-ghost use Rattle.fkv_table.specs.Calls.{IsReady};
-ghost use Rattle.fkv_table.specs.Lines.{HasLed, IsAlong, LineModel, stands};
-ghost use Rattle.fkv_table.specs.Planes.{opening_of};
+ghost use Rattle.fkv_table.specs.Said as said;
 
 use crate::happenings::{Happening, law_start_stands};
 use crate::performing::perform;
@@ -62,16 +55,13 @@ fn kept_in(replies: &Room, kept: usize) -> &[u64]
 
 impl<'t, D: Device> Model for SeatLine<'t, D> {
     ghost use Rattle.std.specs.Prelude.{◌≡◌, ◌≤◌, length, take};
-    ghost use Rattle.std.specs.declared.snapshot.Snapshot.{Snapshot};
-    ghost use Rattle.fkv_core.specs.Worlds.{WorldModel};
-    ghost use Rattle.fkv_table.specs.Lines.{IsAlong, LineModel, line_of};
-    ghost use Rattle.fkv_table.specs.Planes.{opening_of};
+    ghost use Rattle.fkv_table.specs.Said as said;
 
-    ghost Value = { LineModel (Snapshot (WorldModel D)) };
+    ghost Value = { said.LineModel (said.Snapshot (said.WorldModel D)) };
 
-    ghost view = { λ l. line_of l.words.now.key l.words.now.table_id l.seat.me l.machine.value l.desk (take l.kept l.replies.now) };
+    ghost view = { λ l. said.line_of l.words.now.key l.words.now.table_id l.seat.me l.machine.value l.desk (take l.kept l.replies.now) };
 
-    ghost invariant = { λ l. (l.seat.table_id ≡ l.words.now.table_id) × (l.number ≡ l.machine.value.seat.number) × (l.kept ≤ 64) × (length l.replies.now ≡ 64) × IsAlong (opening_of D.seen) (line_of l.words.now.key l.words.now.table_id l.seat.me l.machine.value l.desk (take l.kept l.replies.now)) };
+    ghost invariant = { λ l. (l.seat.table_id ≡ l.words.now.table_id) × (l.number ≡ l.machine.value.seat.number) × (l.kept ≤ 64) × (length l.replies.now ≡ 64) × said.IsAlong (said.opening_of D.seen) (said.line_of l.words.now.key l.words.now.table_id l.seat.me l.machine.value l.desk (take l.kept l.replies.now)) };
 }
 
 impl<'t, D: Device> SeatLine<'t, D> {
@@ -84,7 +74,7 @@ impl<'t, D: Device> SeatLine<'t, D> {
         desk: usize,
         replies: &'t mut Room,
     ) -> SeatLine<'t, D>
-        requires ready { IsReady (opening_of D.seen) words.now.key words.now.table_id seat.table_id seat.me machine.now desk }
+        requires ready { said.IsReady (said.opening_of D.seen) words.now.key words.now.table_id seat.table_id seat.me machine.now desk }
         ensures value { result ≡ record { key = words.now.key; table = words.now.table_id; me = seat.me; machine = machine.now; desk = desk; replies = [] } }
     {
         let own = machine.number();
@@ -105,7 +95,7 @@ impl<'t, D: Device> SeatLine<'t, D> {
     pub(crate) fn into_seat(self) -> Place<D>
         ensures table { result.table_id ≡ self.entry.table }
         ensures me { result.me ≡ self.entry.me }
-        ensures along { IsAlong (opening_of D.seen) self.entry }
+        ensures along { said.IsAlong (said.opening_of D.seen) self.entry }
     {
         let SeatLine { seat, .. } = self;
         seat
@@ -114,11 +104,11 @@ impl<'t, D: Device> SeatLine<'t, D> {
     /// Makes a step of the call, and keeps its reply.
     #[inline(always)]
     fn step(&mut self, ask: &Ask<Told>) -> u64
-        requires asked { asked self.old.machine.seat (stands (opening_of D.seen) self.old) ≡ ask.now }
-        requires word { (place : ℕ) × (asked_place ask.now ≡ Some place) }
+        requires asked { said.asked self.old.machine.seat (said.stands (said.opening_of D.seen) self.old) ≡ ask.now }
+        requires word { (place : ℕ) × (said.asked_place ask.now ≡ Some place) }
         requires room { length self.old.replies < 64 }
-        ensures next { stands (opening_of D.seen) self.new ≡ leads self.old.machine.seat (stands (opening_of D.seen) self.old) result }
-        ensures led { (start : LineModel (Snapshot (WorldModel D))) (op : Op) → HasLed (opening_of D.seen) start op self.old → HasLed (opening_of D.seen) start op self.new }
+        ensures next { said.stands (said.opening_of D.seen) self.new ≡ said.leads self.old.machine.seat (said.stands (said.opening_of D.seen) self.old) result }
+        ensures led { (start : said.LineModel (said.Snapshot (said.WorldModel D))) (op : said.Op) → said.HasLed (said.opening_of D.seen) start op self.old → said.HasLed (said.opening_of D.seen) start op self.new }
         ensures replies { self.new.replies ≡ self.old.replies ++ result ∷ [] }
         ensures machine { self.new.machine ≡ self.old.machine }
     {
@@ -131,14 +121,13 @@ impl<'t, D: Device> SeatLine<'t, D> {
 
 impl<'t, D: Device> Line for SeatLine<'t, D> {
     ghost use Rattle.std.specs.Prelude.{length};
-    ghost use Rattle.fkv_table.specs.Lines.{HasLed, stands};
-    ghost use Rattle.fkv_table.specs.Planes.{opening_of};
+    ghost use Rattle.fkv_table.specs.Said as said;
 
     ghost seat = { λ l. l.machine.seat };
 
-    ghost stands = { stands (opening_of D.seen) };
+    ghost stands = { said.stands (said.opening_of D.seen) };
 
-    ghost led = { HasLed (opening_of D.seen) };
+    ghost led = { said.HasLed (said.opening_of D.seen) };
 
     ghost kept = { λ l. length l.replies };
 

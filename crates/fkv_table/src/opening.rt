@@ -1,17 +1,6 @@
 //! A store that was opened becomes a table that threads share.
 ghost use Rattle.std.specs.Prelude.{◌≡◌, ◌<◌, ◌≤◌, ◌+◌, ◌^◌, ℕ, [], length, map, replicate, IfOk, OnOk, OnErr, Err, None};
-ghost use Rattle.atomic_table.specs.Table.{opening};
-ghost use Rattle.fkv_base.specs.Limits.{drain_slots};
-ghost use Rattle.fkv_base.specs.declared.faults.Fault.TheVariants.{Memory};
-ghost use Rattle.fkv_core.specs.Openings.{IsOpeningWorld, beginning};
-ghost use Rattle.fkv_plane.specs.Asked.{word_found};
-ghost use Rattle.fkv_world.specs.Opened.{IsOpenedWorld};
-ghost use Rattle.fkv_seats.specs.declared.held.Held.TheVariants.{Drain};
-ghost use Rattle.fkv_seats.specs.Rule.{Ruled, first_view};
-ghost use Rattle.fkv_table.specs.Keeps.{IsFreshKeeper};
-ghost use Rattle.fkv_table.specs.Planes.{plane, opening_of};
-ghost use Rattle.fkv_table.specs.Positions.{laid, low_place, place_at};
-ghost use Rattle.fkv_table.specs.Starts.{EachAt, HasSeat, IsFresh, rest_view};
+ghost use Rattle.fkv_table.specs.Said as said;
 
 use crate::desks::sit_down;
 use crate::joining::Meeting;
@@ -47,14 +36,14 @@ impl<D: Device + Drop> Table<D> {
     /// The device comes back, since the keeper alone calls it. `Memory` where memory was refused; then all that was handed in is dropped,
     /// the device too.
     pub fn open(alloc: Global, opened: Opened, device: D) -> Result<OpenTable<D>, Fault>
-        ensures world { IfOk result (λ t. IsOpeningWorld opened (opening_of D.seen t.table.table.shared.key).now) }
-        ensures opened { IfOk result (λ t. IsOpenedWorld (opening_of D.seen t.table.table.shared.key)) }
-        ensures bytes { IfOk result (λ t. opening_of D.seen t.table.table.shared.key ≡ beginning (opening_of D.seen t.table.table.shared.key).now (D.seen device)) }
+        ensures world { IfOk result (λ t. said.IsOpeningWorld opened (said.opening_of D.seen t.table.table.shared.key).now) }
+        ensures opened { IfOk result (λ t. said.IsOpenedWorld (said.opening_of D.seen t.table.table.shared.key)) }
+        ensures bytes { IfOk result (λ t. said.opening_of D.seen t.table.table.shared.key ≡ said.beginning (said.opening_of D.seen t.table.table.shared.key).now (D.seen device)) }
         ensures count { IfOk result (λ t. length t.sessions.items ≡ opened.shape.sessions) }
-        ensures sessions { IfOk result (λ t. EachAt t.sessions.items (λ i x. IsFresh (opening_of D.seen) t.table.table.shared.key t.table.table.shared.table_id i x.0.machine x.0.desk x.1.seat.table_id x.1.seat.me)) }
-        ensures keeper { IfOk result (λ t. IsFreshKeeper (opening_of D.seen) t.table.table.shared.key t.table.table.shared.table_id t.keeper.machine t.pass.seat.table_id t.pass.seat.me) }
+        ensures sessions { IfOk result (λ t. said.EachAt t.sessions.items (λ i x. said.IsFresh (said.opening_of D.seen) t.table.table.shared.key t.table.table.shared.table_id i x.0.machine x.0.desk x.1.seat.table_id x.1.seat.me)) }
+        ensures keeper { IfOk result (λ t. said.IsFreshKeeper (said.opening_of D.seen) t.table.table.shared.key t.table.table.shared.table_id t.keeper.machine t.pass.seat.table_id t.pass.seat.me) }
         ensures device { IfOk result (λ t. t.device ≡ device) }
-        ensures err { OnErr result (result ≡ Err Memory) }
+        ensures err { OnErr result (result ≡ Err said.Memory) }
     {
         let count = Places::of(&opened.shape).word_count();
         let world = World::open(alloc, opened, device)?;
@@ -79,8 +68,8 @@ impl<D: Device + Drop> Table<D> {
 fn laid_words(alloc: Global, plane: &PlainWords, count: usize) -> Result<Vec<u64>, Fault>
     requires count { count ≡ length plane.now.words }
     requires few { count < 2 ^ 62 }
-    ensures words { IfOk result (λ words. words.items ≡ laid plane.now.words) }
-    ensures err { OnErr result (result ≡ Err Memory) }
+    ensures words { IfOk result (λ words. words.items ≡ said.laid plane.now.words) }
+    ensures err { OnErr result (result ≡ Err said.Memory) }
 {
     let mut words = Vec::new(alloc);
     for at in 0..count + GAPS {
@@ -91,7 +80,7 @@ fn laid_words(alloc: Global, plane: &PlainWords, count: usize) -> Result<Vec<u64
 
 /// The word at a position; 0 where it is a gap.
 fn word_laid(plane: &PlainWords, at: usize) -> u64
-    ensures { result ≡ word_found plane.now.words (place_at at) }
+    ensures { result ≡ said.word_found plane.now.words (said.place_at at) }
 {
     match place_at(at) {
         Some(place) => plane.word(place),
@@ -101,7 +90,7 @@ fn word_laid(plane: &PlainWords, at: usize) -> u64
 
 /// The place whose word lies at a position, if it is no gap.
 fn place_at(at: usize) -> Option<usize>
-    ensures { result ≡ place_at at }
+    ensures { result ≡ said.place_at at }
 {
     if at == 32 {
         Some(3)
@@ -118,7 +107,7 @@ fn place_at(at: usize) -> Option<usize>
 
 /// So of the first 24 positions.
 fn low_place(at: usize) -> Option<usize>
-    ensures { result ≡ low_place at }
+    ensures { result ≡ said.low_place at }
 {
     if at == 3 {
         None
@@ -132,8 +121,8 @@ fn low_place(at: usize) -> Option<usize>
 /// Slots with no action and no note.
 #[tactic(auto, using(std::proofs::lemmas::List::replicate_more))]
 fn empty_slots(alloc: Global, count: usize) -> Result<Vec<Slot>, Fault>
-    ensures slots { IfOk result (λ slots. slots.items ≡ replicate count (Drain None)) }
-    ensures err { OnErr result (result ≡ Err Memory) }
+    ensures slots { IfOk result (λ slots. slots.items ≡ replicate count (said.Drain None)) }
+    ensures err { OnErr result (result ≡ Err said.Memory) }
 {
     let mut slots = Vec::new(alloc);
     for _ in 0..count {
@@ -155,11 +144,11 @@ fn shared_table<D: Device>(
     ),
     Fault,
 >
-    requires { Ruled (plane (opening_of D.seen)) about.now (opening words.now slots.items (first_view (plane (opening_of D.seen)) about.now)) }
+    requires { said.Ruled (said.plane (said.opening_of D.seen)) about.now (said.opening words.now slots.items (said.first_view (said.plane (said.opening_of D.seen)) about.now)) }
     ensures counts { IfOk result (λ t. (t.0.shared.table_id.words ≡ length words.now) × (t.0.shared.table_id.slots ≡ length slots.items)) }
-    ensures seat { IfOk result (λ t. (t.1.table_id ≡ t.0.shared.table_id) × (t.1.me ≡ (rest_view about.now 0, []))) }
+    ensures seat { IfOk result (λ t. (t.1.table_id ≡ t.0.shared.table_id) × (t.1.me ≡ (said.rest_view about.now 0, []))) }
     ensures key { IfOk result (λ t. t.0.shared.key ≡ about.now) }
-    ensures err { OnErr result (result ≡ Err Memory) }
+    ensures err { OnErr result (result ≡ Err said.Memory) }
 {
     match atomic_table::Table::new(alloc, words, slots, about) {
         Ok(made) => Ok(made),
@@ -175,12 +164,12 @@ fn seat_sessions<D: Device>(
     machines: Vec<fkv_session::Session>,
 ) -> Result<Vec<(Session, Pass<D>)>, Fault>
     requires table { (rest.old.table_id ≡ words.now.table_id) × (0 < words.now.table_id.words) }
-    requires rest { rest.old.me ≡ (rest_view words.now.key 0, []) }
-    requires desks { drain_slots + length machines.items ≤ words.now.table_id.slots }
-    ensures rest { OnOk result ((rest.new.table_id ≡ words.now.table_id) × (rest.new.me ≡ (rest_view words.now.key (length machines.items), []))) }
+    requires rest { rest.old.me ≡ (said.rest_view words.now.key 0, []) }
+    requires desks { said.drain_slots + length machines.items ≤ words.now.table_id.slots }
+    ensures rest { OnOk result ((rest.new.table_id ≡ words.now.table_id) × (rest.new.me ≡ (said.rest_view words.now.key (length machines.items), []))) }
     ensures machines { IfOk result (λ seated. map (λ x. x.0.machine) seated.items ≡ machines.items) }
-    ensures seats { IfOk result (λ seated. EachAt seated.items (λ i x. HasSeat words.now.key words.now.table_id i x.1.seat.table_id x.1.seat.me × (x.0.desk ≡ drain_slots + i))) }
-    ensures err { OnErr result (result ≡ Err Memory) }
+    ensures seats { IfOk result (λ seated. said.EachAt seated.items (λ i x. said.HasSeat words.now.key words.now.table_id i x.1.seat.table_id x.1.seat.me × (x.0.desk ≡ said.drain_slots + i))) }
+    ensures err { OnErr result (result ≡ Err said.Memory) }
 {
     let mut seated = Vec::new(alloc);
     for machine in machines {
@@ -199,10 +188,10 @@ fn seat_sessions<D: Device>(
 /// The next session's seat is cut off, and sits down at its desk.
 fn seat_next<D: Device>(words: &Words<D>, rest: &mut Place<D>) -> Place<D>
     requires table { (rest.old.table_id ≡ words.now.table_id) × (0 < words.now.table_id.words) }
-    requires rest { (number : ℕ) × (rest.old.me ≡ (rest_view words.now.key number, [])) × (drain_slots + number < words.now.table_id.slots) }
-    ensures rest { (number : ℕ) → rest.old.me ≡ (rest_view words.now.key number, []) → rest.new.me ≡ (rest_view words.now.key (number + 1), []) }
+    requires rest { (number : ℕ) × (rest.old.me ≡ (said.rest_view words.now.key number, [])) × (said.drain_slots + number < words.now.table_id.slots) }
+    ensures rest { (number : ℕ) → rest.old.me ≡ (said.rest_view words.now.key number, []) → rest.new.me ≡ (said.rest_view words.now.key (number + 1), []) }
     ensures table { rest.new.table_id ≡ rest.old.table_id }
-    ensures seat { (number : ℕ) → rest.old.me ≡ (rest_view words.now.key number, []) → HasSeat words.now.key words.now.table_id number result.table_id result.me }
+    ensures seat { (number : ℕ) → rest.old.me ≡ (said.rest_view words.now.key number, []) → said.HasSeat words.now.key words.now.table_id number result.table_id result.me }
 {
     let mut seat = words.split_seat::<Meeting>(rest);
     sit_down(words, &mut seat);

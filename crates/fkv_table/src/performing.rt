@@ -1,11 +1,7 @@
 //! An ask of a word is one step of the table.
 ghost use Rattle.std.specs.Prelude.{◌≡◌, ◌<◌, ◌^◌, ℕ, Some};
-ghost use Rattle.atomic_table.specs.Table.{Allows};
-ghost use Rattle.fkv_plane.specs.Asked.{asked, asked_place};
-ghost use Rattle.fkv_seats.specs.Rule.{Ruled};
-ghost use Rattle.fkv_table.specs.Asks.{step_of};
-ghost use Rattle.fkv_table.specs.Planes.{plane, opening_of};
-ghost use Rattle.fkv_table.specs.Positions.{position};
+ghost use Rattle.fkv_plane.specs.Asked.{asked};
+ghost use Rattle.fkv_table.specs.Said as said;
 
 use crate::positions::position;
 use crate::rule::{Knows, Place, Slot, Words};
@@ -21,10 +17,10 @@ pub(crate) fn perform<D: Device, M: Play<Slot, Knows<D>>, A>(
     ask: &Ask<A>,
 ) -> u64
     requires table { seat.old.table_id ≡ words.now.table_id }
-    requires word { (place : ℕ) × (asked_place ask.now ≡ Some place) × (position place < words.now.table_id.words) × (place < 2 ^ 62) }
-    requires allows { (place : ℕ) → asked_place ask.now ≡ Some place → Allows (Ruled (plane (opening_of D.seen)) words.now.key) words.now.table_id.slots seat.old.id seat.old.me (position place) (asked ask.now) (M.then (step_of words.now.table_id.slots ask.now) seat.old.me) }
+    requires word { (place : ℕ) × (said.asked_place ask.now ≡ Some place) × (said.position place < words.now.table_id.words) × (place < 2 ^ 62) }
+    requires allows { (place : ℕ) → said.asked_place ask.now ≡ Some place → said.Allows (said.Ruled (said.plane (said.opening_of D.seen)) words.now.key) words.now.table_id.slots seat.old.id seat.old.me (said.position place) (asked ask.now) (M.then (said.step_of words.now.table_id.slots ask.now) seat.old.me) }
     ensures seat { (seat.new.table_id ≡ seat.old.table_id) × (seat.new.id ≡ seat.old.id) }
-    ensures told { M.then (step_of words.now.table_id.slots ask.now) seat.old.me result seat.new.me }
+    ensures told { M.then (said.step_of words.now.table_id.slots ask.now) seat.old.me result seat.new.me }
 {
     match ask {
         Ask::Load(place) => words.load::<M>(seat, position(*place)),

@@ -9,19 +9,18 @@ use std::marker::PhantomData;
 
 /// Which starts a step adds before its own event, by what the seat has in hand.
 pub(crate) trait Adds {
-    ghost use Rattle.fkv_table.specs.Desks.{Slot};
-    ghost use Rattle.fkv_table.specs.declared.happenings.Happening.{Happening};
+    ghost use Rattle.fkv_table.specs.Said as said;
 
-    ghost own: { List (ℕ × Slot) → List Happening };
+    ghost own: { List (ℕ × said.Slot) → List said.Happening };
 }
 
 /// The first step of a call, which adds the start that the desk tells.
 pub(crate) struct First;
 
 impl Adds for First {
-    ghost use Rattle.fkv_table.specs.Desks.{noted};
+    ghost use Rattle.fkv_table.specs.Said as said;
 
-    ghost own = { noted };
+    ghost own = { said.noted };
 }
 
 /// Each later one.
@@ -37,18 +36,16 @@ pub(crate) struct Turn<O> {
 }
 
 impl<D: Device, O: Adds> Play<Slot, Knows<D>> for Turn<O> {
-    ghost use Rattle.fkv_table.specs.Planes.{opening_of};
-    ghost use Rattle.fkv_table.specs.Desks.{turned};
+    ghost use Rattle.fkv_table.specs.Said as said;
 
-    ghost then = { turned (opening_of D.seen) O.own };
+    ghost then = { said.turned (said.opening_of D.seen) O.own };
 }
 
 /// A load that adds what the desk tells, and nothing else: a call that is over before its first ask.
 pub(crate) struct Notes;
 
 impl<D: Device> Play<Slot, Knows<D>> for Notes {
-    ghost use Rattle.fkv_table.specs.Planes.{opening_of};
-    ghost use Rattle.fkv_table.specs.Desks.{noting};
+    ghost use Rattle.fkv_table.specs.Said as said;
 
-    ghost then = { noting (opening_of D.seen) };
+    ghost then = { said.noting (said.opening_of D.seen) };
 }

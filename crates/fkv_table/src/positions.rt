@@ -1,22 +1,21 @@
 //! Where the words lie in the table.
 ghost use Rattle.std.specs.Prelude.{◌≡◌, ◌+◌, ◌<◌, ◌^◌, ℕ, List, length, slice_index_or, slice_set};
-ghost use Rattle.fkv_plane.specs.Asked.{word_at};
-ghost use Rattle.fkv_table.specs.Positions.{gaps, laid, position};
+ghost use Rattle.fkv_table.specs.Said as said;
 
 /// Each place has a position of its own, below the count of positions. There the table has the word of the place, and where this changes, no other
 /// position's word does.
 pub fn law_positions()
-    ensures apart { (place other : ℕ) → position place ≡ position other → place ≡ other }
-    ensures below { (place count : ℕ) → place < count → position place < count + gaps }
-    ensures found { (words : List ℕ) (place : ℕ) → place < length words → slice_index_or (laid words) (position place) 0 ≡ word_at words place }
-    ensures changed { (words : List ℕ) (place word : ℕ) → place < length words → laid (slice_set words place word) ≡ slice_set (laid words) (position place) word }
+    ensures apart { (place other : ℕ) → said.position place ≡ said.position other → place ≡ other }
+    ensures below { (place count : ℕ) → place < count → said.position place < count + said.gaps }
+    ensures found { (words : List ℕ) (place : ℕ) → place < length words → slice_index_or (said.laid words) (said.position place) 0 ≡ said.word_at words place }
+    ensures changed { (words : List ℕ) (place word : ℕ) → place < length words → said.laid (slice_set words place word) ≡ slice_set (said.laid words) (said.position place) word }
 {}
 
 /// The position of the word of a place.
 #[inline(always)]
 pub(crate) fn position(place: usize) -> usize
     requires { place < 2 ^ 62 }
-    ensures { result ≡ position place }
+    ensures { result ≡ said.position place }
 {
     if place >= 24 {
         return place + 40;

@@ -27,12 +27,11 @@ pub struct Engine<D> {
 }
 
 impl<D: Device> TableRule<Slot, Knows<D>, Opening<D>> for Engine<D> {
-    ghost use Rattle.fkv_seats.specs.Rule.{Ruled, first_view};
-    ghost use Rattle.fkv_table.specs.Planes.{plane, opening_of};
+    ghost use Rattle.fkv_table.specs.Said as said;
 
-    ghost holds = { Ruled (plane (opening_of D.seen)) };
+    ghost holds = { said.Ruled (said.plane (said.opening_of D.seen)) };
 
-    ghost first = { first_view (plane (opening_of D.seen)) };
+    ghost first = { said.first_view (said.plane (said.opening_of D.seen)) };
 }
 
 /// The shared words, with the drain slots and the desks. Threads share it by reference.

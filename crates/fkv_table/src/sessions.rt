@@ -1,21 +1,7 @@
 //! A session's calls at the table.
 ghost use Rattle.std.specs.Prelude.{◌≡◌, ◌<◌, ℕ, List, Some, None, [], ◌∷◌, true, false};
 ghost use Rattle.fkv_map.specs.declared.operations.Call.TheVariants as call;
-ghost use Rattle.fkv_plane.specs.Asked.{asked_place};
-ghost use Rattle.fkv_plane.specs.declared.asks.Ask.TheVariants.{Done};
-ghost use Rattle.fkv_seats.specs.Rule.{Stepped, base, led};
-ghost use Rattle.fkv_session.specs.AsksLeft.{session_asks_left};
-ghost use Rattle.fkv_session.specs.declared.answers.Told.{Told};
-ghost use Rattle.fkv_session.specs.Sessions.{session_ask};
-ghost use Rattle.fkv_session.specs.SessionRun.{telling};
-ghost use Rattle.fkv_table.specs.Calls.{HasCalled, HasStepped, IsAnsweredLast, IsReady, IsToldLast, WasIdle};
-ghost use Rattle.fkv_table.specs.Desks.{noted};
-ghost use Rattle.fkv_table.specs.declared.happenings.Happening.{Happening};
-ghost use Rattle.fkv_table.specs.Lines.{IsBegun};
-ghost use Rattle.fkv_table.specs.declared.happenings.Happening.TheVariants.{Calls};
-ghost use Rattle.fkv_table.specs.Openings.{IsTableOf};
-ghost use Rattle.fkv_table.specs.Planes.{plane, opening_of};
-ghost use Rattle.fkv_table.specs.Sits.{IsAsked, IsIdleEmpty, RepliedIn, Rests, Settled, StandsIn, Went};
+ghost use Rattle.fkv_table.specs.Said as said;
 
 use crate::happenings::{Happening, law_start_stands};
 use crate::lines::{Room, SeatLine};
@@ -46,13 +32,13 @@ fn ask_word<D: Device, O: Adds>(
     machine: &mut StraightSession,
     ask: &Ask<Told>,
 ) -> Ask<Told>
-    requires table { (seat.old.table_id ≡ words.now.table_id) × IsTableOf (opening_of D.seen words.now.key) words.now.table_id }
-    requires seated { StandsIn (opening_of D.seen) words.now.key seat.old.me (O.own seat.old.me.1) machine.old }
-    requires ask { ask.now ≡ session_ask machine.old.seat machine.old.state }
-    requires word { (place : ℕ) × (asked_place ask.now ≡ Some place) }
+    requires table { (seat.old.table_id ≡ words.now.table_id) × said.IsTableOf (said.opening_of D.seen words.now.key) words.now.table_id }
+    requires seated { said.StandsIn (said.opening_of D.seen) words.now.key seat.old.me (O.own seat.old.me.1) machine.old }
+    requires ask { ask.now ≡ said.session_ask machine.old.seat machine.old.state }
+    requires word { (place : ℕ) × (said.asked_place ask.now ≡ Some place) }
     ensures seat { (seat.new.table_id ≡ seat.old.table_id) × (seat.new.id ≡ seat.old.id) }
-    ensures next { RepliedIn (opening_of D.seen) words.now.key seat.old.me (O.own seat.old.me.1) machine.old seat.new.me machine.new }
-    ensures ask { result ≡ session_ask machine.new.seat machine.new.state }
+    ensures next { said.RepliedIn (said.opening_of D.seen) words.now.key seat.old.me (O.own seat.old.me.1) machine.old seat.new.me machine.new }
+    ensures ask { result ≡ said.session_ask machine.new.seat machine.new.state }
 {
     law_of_standing();
     let reply = perform::<D, Turn<O>, Told>(words, seat, ask);
@@ -68,11 +54,11 @@ fn settle<D: Device>(
     next: Ask<Told>,
 ) -> Ask<Told>
     requires table { seat.old.table_id ≡ words.now.table_id }
-    requires ask { next ≡ session_ask machine.old.seat machine.old.state }
-    requires hand { IsAsked (opening_of D.seen) next seat.old.me }
+    requires ask { next ≡ said.session_ask machine.old.seat machine.old.state }
+    requires hand { said.IsAsked (said.opening_of D.seen) next seat.old.me }
     ensures seat { (seat.new.table_id ≡ seat.old.table_id) × (seat.new.id ≡ seat.old.id) }
-    ensures settled { Settled (opening_of D.seen) next seat.old.me machine.old seat.new.me machine.new }
-    ensures ask { result ≡ session_ask machine.new.seat machine.new.state }
+    ensures settled { said.Settled (said.opening_of D.seen) next seat.old.me machine.old seat.new.me machine.new }
+    ensures ask { result ≡ said.session_ask machine.new.seat machine.new.state }
 {
     match next {
         Ask::Put(slot, action) => {
@@ -94,17 +80,17 @@ fn step<D: Device, O: Adds>(
     machine: &mut StraightSession,
     ask: &Ask<Told>,
 ) -> Ask<Told>
-    requires table { (seat.old.table_id ≡ words.now.table_id) × IsTableOf (opening_of D.seen words.now.key) words.now.table_id }
-    requires seated { StandsIn (opening_of D.seen) words.now.key seat.old.me (O.own seat.old.me.1) machine.old }
-    requires ask { ask.now ≡ session_ask machine.old.seat machine.old.state }
-    requires word { (place : ℕ) × (asked_place ask.now ≡ Some place) }
+    requires table { (seat.old.table_id ≡ words.now.table_id) × said.IsTableOf (said.opening_of D.seen words.now.key) words.now.table_id }
+    requires seated { said.StandsIn (said.opening_of D.seen) words.now.key seat.old.me (O.own seat.old.me.1) machine.old }
+    requires ask { ask.now ≡ said.session_ask machine.old.seat machine.old.state }
+    requires word { (place : ℕ) × (said.asked_place ask.now ≡ Some place) }
     ensures seat { (seat.new.table_id ≡ seat.old.table_id) × (seat.new.id ≡ seat.old.id) }
-    ensures went { Went (opening_of D.seen) seat.old.me (O.own seat.old.me.1) machine.old.seat.number seat.new.me }
-    ensures seated { StandsIn (opening_of D.seen) words.now.key seat.new.me [] machine.new × (machine.new.seat ≡ machine.old.seat) }
-    ensures idle { IsIdleEmpty (opening_of D.seen) machine.new seat.new.me }
-    ensures told { (its : Told) → session_ask machine.new.seat machine.new.state ≡ Done its → IsToldLast (led (plane (opening_of D.seen)) (opening_of D.seen words.now.key) seat.new.me.0.seen) machine.new.seat.number (telling its machine.new.state.finished) }
-    ensures fewer { session_asks_left machine.new.seat machine.new.state < session_asks_left machine.old.seat machine.old.state }
-    ensures ask { result ≡ session_ask machine.new.seat machine.new.state }
+    ensures went { said.Went (said.opening_of D.seen) seat.old.me (O.own seat.old.me.1) machine.old.seat.number seat.new.me }
+    ensures seated { said.StandsIn (said.opening_of D.seen) words.now.key seat.new.me [] machine.new × (machine.new.seat ≡ machine.old.seat) }
+    ensures idle { said.IsIdleEmpty (said.opening_of D.seen) machine.new seat.new.me }
+    ensures told { (its : said.Told) → said.session_ask machine.new.seat machine.new.state ≡ said.Done its → said.IsToldLast (said.led (said.plane (said.opening_of D.seen)) (said.opening_of D.seen words.now.key) seat.new.me.0.seen) machine.new.seat.number (said.telling its machine.new.state.finished) }
+    ensures fewer { said.session_asks_left machine.new.seat machine.new.state < said.session_asks_left machine.old.seat machine.old.state }
+    ensures ask { result ≡ said.session_ask machine.new.seat machine.new.state }
 {
     law_of_standing();
     let next = ask_word::<D, O>(words, seat, machine, ask);
@@ -119,17 +105,17 @@ fn steps_on<D: Device>(
     machine: &mut StraightSession,
     first: Ask<Told>,
 ) -> Told
-    requires table { (seat.old.table_id ≡ words.now.table_id) × IsTableOf (opening_of D.seen words.now.key) words.now.table_id }
-    requires seated { StandsIn (opening_of D.seen) words.now.key seat.old.me [] machine.old }
-    requires idle { IsIdleEmpty (opening_of D.seen) machine.old seat.old.me }
-    requires told { (its : Told) → session_ask machine.old.seat machine.old.state ≡ Done its → IsToldLast (led (plane (opening_of D.seen)) (opening_of D.seen words.now.key) seat.old.me.0.seen) machine.old.seat.number (telling its machine.old.state.finished) }
-    requires ask { first ≡ session_ask machine.old.seat machine.old.state }
+    requires table { (seat.old.table_id ≡ words.now.table_id) × said.IsTableOf (said.opening_of D.seen words.now.key) words.now.table_id }
+    requires seated { said.StandsIn (said.opening_of D.seen) words.now.key seat.old.me [] machine.old }
+    requires idle { said.IsIdleEmpty (said.opening_of D.seen) machine.old seat.old.me }
+    requires told { (its : said.Told) → said.session_ask machine.old.seat machine.old.state ≡ said.Done its → said.IsToldLast (said.led (said.plane (said.opening_of D.seen)) (said.opening_of D.seen words.now.key) seat.old.me.0.seen) machine.old.seat.number (said.telling its machine.old.state.finished) }
+    requires ask { first ≡ said.session_ask machine.old.seat machine.old.state }
     ensures seat { (seat.new.table_id ≡ seat.old.table_id) × (seat.new.id ≡ seat.old.id) }
-    ensures steps { HasStepped machine.old.seat.number seat.old.me.0.seen seat.new.me.0.seen }
-    ensures desk { (base (plane (opening_of D.seen)) seat.new.me.0.hand seat.new.me.1 ≡ base (plane (opening_of D.seen)) seat.old.me.0.hand seat.old.me.1) × (seat.new.me.0.desk ≡ seat.old.me.0.desk) }
-    ensures rests { Rests (opening_of D.seen) words.now.key seat.new.me machine.new × (machine.new.seat ≡ machine.old.seat) }
+    ensures steps { said.HasStepped machine.old.seat.number seat.old.me.0.seen seat.new.me.0.seen }
+    ensures desk { (said.base (said.plane (said.opening_of D.seen)) seat.new.me.0.hand seat.new.me.1 ≡ said.base (said.plane (said.opening_of D.seen)) seat.old.me.0.hand seat.old.me.1) × (seat.new.me.0.desk ≡ seat.old.me.0.desk) }
+    ensures rests { said.Rests (said.opening_of D.seen) words.now.key seat.new.me machine.new × (machine.new.seat ≡ machine.old.seat) }
     ensures idle { seat.new.me.0.hand ≡ None }
-    ensures told { IsToldLast (led (plane (opening_of D.seen)) (opening_of D.seen words.now.key) seat.new.me.0.seen) machine.new.seat.number (telling result machine.new.state.finished) }
+    ensures told { said.IsToldLast (said.led (said.plane (said.opening_of D.seen)) (said.opening_of D.seen words.now.key) seat.new.me.0.seen) machine.new.seat.number (said.telling result machine.new.state.finished) }
 {
     law_of_standing();
     let mut ask = first;
@@ -143,11 +129,11 @@ fn steps_on<D: Device>(
 
 /// Adds the start that the desk tells: the call is over before its first ask.
 fn note<D: Device>(words: &Words<D>, seat: &mut Place<D>, _machine: &StraightSession, _call: &Call)
-    requires table { (seat.old.table_id ≡ words.now.table_id) × IsTableOf (opening_of D.seen words.now.key) words.now.table_id }
-    requires seated { StandsIn (opening_of D.seen) words.now.key seat.old.me (noted seat.old.me.1) _machine.now }
-    requires note { noted seat.old.me.1 ≡ Calls _machine.now.seat.number _call.now ∷ [] }
+    requires table { (seat.old.table_id ≡ words.now.table_id) × said.IsTableOf (said.opening_of D.seen words.now.key) words.now.table_id }
+    requires seated { said.StandsIn (said.opening_of D.seen) words.now.key seat.old.me (said.noted seat.old.me.1) _machine.now }
+    requires note { said.noted seat.old.me.1 ≡ said.Calls _machine.now.seat.number _call.now ∷ [] }
     ensures seat { (seat.new.table_id ≡ seat.old.table_id) × (seat.new.id ≡ seat.old.id) }
-    ensures told { (word : ℕ) × Stepped (plane (opening_of D.seen)) (opening_of D.seen words.now.key) seat.old.me.0 seat.old.me.1 0 [] (Calls _machine.now.seat.number _call.now) word seat.new.me }
+    ensures told { (word : ℕ) × said.Stepped (said.plane (said.opening_of D.seen)) (said.opening_of D.seen words.now.key) seat.old.me.0 seat.old.me.1 0 [] (said.Calls _machine.now.seat.number _call.now) word seat.new.me }
 {
     let _word = words.load::<Notes>(seat, 0);
 }
@@ -160,17 +146,17 @@ fn run_begun<D: Device>(
     call: &Call,
     first: Ask<Told>,
 ) -> Told
-    requires table { (seat.old.table_id ≡ words.now.table_id) × IsTableOf (opening_of D.seen words.now.key) words.now.table_id }
-    requires seated { StandsIn (opening_of D.seen) words.now.key seat.old.me (noted seat.old.me.1) machine.old }
-    requires note { noted seat.old.me.1 ≡ Calls machine.old.seat.number call.now ∷ [] }
-    requires idle { WasIdle (opening_of D.seen) words.now.key seat.old.me.0.seen machine.old.seat.number }
-    requires ask { first ≡ session_ask machine.old.seat machine.old.state }
+    requires table { (seat.old.table_id ≡ words.now.table_id) × said.IsTableOf (said.opening_of D.seen words.now.key) words.now.table_id }
+    requires seated { said.StandsIn (said.opening_of D.seen) words.now.key seat.old.me (said.noted seat.old.me.1) machine.old }
+    requires note { said.noted seat.old.me.1 ≡ said.Calls machine.old.seat.number call.now ∷ [] }
+    requires idle { said.WasIdle (said.opening_of D.seen) words.now.key seat.old.me.0.seen machine.old.seat.number }
+    requires ask { first ≡ said.session_ask machine.old.seat machine.old.state }
     ensures seat { (seat.new.table_id ≡ seat.old.table_id) × (seat.new.id ≡ seat.old.id) }
-    ensures called { HasCalled machine.old.seat.number call.now seat.old.me.0.seen seat.new.me.0.seen }
-    ensures desk { (base (plane (opening_of D.seen)) seat.new.me.0.hand seat.new.me.1 ≡ base (plane (opening_of D.seen)) seat.old.me.0.hand seat.old.me.1) × (seat.new.me.0.desk ≡ seat.old.me.0.desk) }
-    ensures rests { Rests (opening_of D.seen) words.now.key seat.new.me machine.new × (machine.new.seat ≡ machine.old.seat) }
+    ensures called { said.HasCalled machine.old.seat.number call.now seat.old.me.0.seen seat.new.me.0.seen }
+    ensures desk { (said.base (said.plane (said.opening_of D.seen)) seat.new.me.0.hand seat.new.me.1 ≡ said.base (said.plane (said.opening_of D.seen)) seat.old.me.0.hand seat.old.me.1) × (seat.new.me.0.desk ≡ seat.old.me.0.desk) }
+    ensures rests { said.Rests (said.opening_of D.seen) words.now.key seat.new.me machine.new × (machine.new.seat ≡ machine.old.seat) }
     ensures empty { seat.new.me.0.hand ≡ None }
-    ensures told { IsToldLast (led (plane (opening_of D.seen)) (opening_of D.seen words.now.key) seat.new.me.0.seen) machine.new.seat.number (telling result machine.new.state.finished) }
+    ensures told { said.IsToldLast (said.led (said.plane (said.opening_of D.seen)) (said.opening_of D.seen words.now.key) seat.new.me.0.seen) machine.new.seat.number (said.telling result machine.new.state.finished) }
 {
     law_of_standing();
     if let Ask::Done(told) = first {
@@ -190,11 +176,11 @@ fn run_by_machine<D: Device>(
     desk: usize,
     call: &Call,
 ) -> (Pass<D>, Told)
-    requires ready { IsReady (opening_of D.seen) words.now.key words.now.table_id pass.seat.table_id pass.seat.me machine.old desk }
-    ensures ready { IsReady (opening_of D.seen) words.now.key words.now.table_id result.0.seat.table_id result.0.seat.me machine.new desk }
+    requires ready { said.IsReady (said.opening_of D.seen) words.now.key words.now.table_id pass.seat.table_id pass.seat.me machine.old desk }
+    ensures ready { said.IsReady (said.opening_of D.seen) words.now.key words.now.table_id result.0.seat.table_id result.0.seat.me machine.new desk }
     ensures number { machine.new.seat.number ≡ machine.old.seat.number }
-    ensures called { HasCalled machine.old.seat.number call.now pass.seat.me.0.seen result.0.seat.me.0.seen }
-    ensures told { IsToldLast (led (plane (opening_of D.seen)) (opening_of D.seen words.now.key) result.0.seat.me.0.seen) machine.new.seat.number (telling result.1 machine.new.state.finished) }
+    ensures called { said.HasCalled machine.old.seat.number call.now pass.seat.me.0.seen result.0.seat.me.0.seen }
+    ensures told { said.IsToldLast (said.led (said.plane (said.opening_of D.seen)) (said.opening_of D.seen words.now.key) result.0.seat.me.0.seen) machine.new.seat.number (said.telling result.1 machine.new.state.finished) }
 {
     law_of_standing();
     law_start_stands(*call);
@@ -213,11 +199,11 @@ fn go_on<D: Device>(
     machine: &mut StraightSession,
     op: Op,
 ) -> (Pass<D>, Told)
-    requires begun { IsBegun (opening_of D.seen) words.now.key words.now.table_id machine.old op line }
-    ensures ready { IsReady (opening_of D.seen) words.now.key words.now.table_id result.0.seat.table_id result.0.seat.me machine.new line.entry.desk }
+    requires begun { said.IsBegun (said.opening_of D.seen) words.now.key words.now.table_id machine.old op line }
+    ensures ready { said.IsReady (said.opening_of D.seen) words.now.key words.now.table_id result.0.seat.table_id result.0.seat.me machine.new line.entry.desk }
     ensures number { machine.new.seat.number ≡ machine.old.seat.number }
-    ensures called { (seen : List Happening) → HasCalled machine.old.seat.number (call.Op op) seen line.entry.me.0.seen → HasCalled machine.old.seat.number (call.Op op) seen result.0.seat.me.0.seen }
-    ensures told { IsToldLast (led (plane (opening_of D.seen)) (opening_of D.seen words.now.key) result.0.seat.me.0.seen) machine.new.seat.number (telling result.1 machine.new.state.finished) }
+    ensures called { (seen : List said.Happening) → said.HasCalled machine.old.seat.number (call.Op op) seen line.entry.me.0.seen → said.HasCalled machine.old.seat.number (call.Op op) seen result.0.seat.me.0.seen }
+    ensures told { said.IsToldLast (said.led (said.plane (said.opening_of D.seen)) (said.opening_of D.seen words.now.key) result.0.seat.me.0.seen) machine.new.seat.number (said.telling result.1 machine.new.state.finished) }
 {
     let ask = machine.catch_up(&line, op);
     let mut seat = line.into_seat();
@@ -239,11 +225,11 @@ fn run_told<D: Device>(
     replies: &mut Room,
     op: Op,
 ) -> (Pass<D>, Told)
-    requires ready { IsReady (opening_of D.seen) words.now.key words.now.table_id pass.seat.table_id pass.seat.me machine.old desk }
-    ensures ready { IsReady (opening_of D.seen) words.now.key words.now.table_id result.0.seat.table_id result.0.seat.me machine.new desk }
+    requires ready { said.IsReady (said.opening_of D.seen) words.now.key words.now.table_id pass.seat.table_id pass.seat.me machine.old desk }
+    ensures ready { said.IsReady (said.opening_of D.seen) words.now.key words.now.table_id result.0.seat.table_id result.0.seat.me machine.new desk }
     ensures number { machine.new.seat.number ≡ machine.old.seat.number }
-    ensures called { HasCalled machine.old.seat.number (call.Op op) pass.seat.me.0.seen result.0.seat.me.0.seen }
-    ensures told { IsToldLast (led (plane (opening_of D.seen)) (opening_of D.seen words.now.key) result.0.seat.me.0.seen) machine.new.seat.number (telling result.1 machine.new.state.finished) }
+    ensures called { said.HasCalled machine.old.seat.number (call.Op op) pass.seat.me.0.seen result.0.seat.me.0.seen }
+    ensures told { said.IsToldLast (said.led (said.plane (said.opening_of D.seen)) (said.opening_of D.seen words.now.key) result.0.seat.me.0.seen) machine.new.seat.number (said.telling result.1 machine.new.state.finished) }
 {
     let Pass { seat } = pass;
     let mut line = SeatLine::new(words, seat, machine, desk, replies);
@@ -270,11 +256,11 @@ fn run_call<D: Device>(
     replies: &mut Room,
     call: Call,
 ) -> (Pass<D>, Told)
-    requires ready { IsReady (opening_of D.seen) words.now.key words.now.table_id pass.seat.table_id pass.seat.me machine.old desk }
-    ensures ready { IsReady (opening_of D.seen) words.now.key words.now.table_id result.0.seat.table_id result.0.seat.me machine.new desk }
+    requires ready { said.IsReady (said.opening_of D.seen) words.now.key words.now.table_id pass.seat.table_id pass.seat.me machine.old desk }
+    ensures ready { said.IsReady (said.opening_of D.seen) words.now.key words.now.table_id result.0.seat.table_id result.0.seat.me machine.new desk }
     ensures number { machine.new.seat.number ≡ machine.old.seat.number }
-    ensures called { HasCalled machine.old.seat.number call pass.seat.me.0.seen result.0.seat.me.0.seen }
-    ensures told { IsToldLast (led (plane (opening_of D.seen)) (opening_of D.seen words.now.key) result.0.seat.me.0.seen) machine.new.seat.number (telling result.1 machine.new.state.finished) }
+    ensures called { said.HasCalled machine.old.seat.number call pass.seat.me.0.seen result.0.seat.me.0.seen }
+    ensures told { said.IsToldLast (said.led (said.plane (said.opening_of D.seen)) (said.opening_of D.seen words.now.key) result.0.seat.me.0.seen) machine.new.seat.number (said.telling result.1 machine.new.state.finished) }
 {
     match call {
         Call::Op(op) => run_told(words, pass, machine, desk, replies, op),
@@ -290,11 +276,11 @@ impl Session {
         pass: Pass<D>,
         call: Call,
     ) -> (Pass<D>, Answer)
-        requires ready { IsReady (opening_of D.seen) table.now.table.shared.key table.now.table.shared.table_id pass.seat.table_id pass.seat.me self.old.machine self.old.desk }
-        ensures ready { IsReady (opening_of D.seen) table.now.table.shared.key table.now.table.shared.table_id result.0.seat.table_id result.0.seat.me self.new.machine self.new.desk }
+        requires ready { said.IsReady (said.opening_of D.seen) table.now.table.shared.key table.now.table.shared.table_id pass.seat.table_id pass.seat.me self.old.machine self.old.desk }
+        ensures ready { said.IsReady (said.opening_of D.seen) table.now.table.shared.key table.now.table.shared.table_id result.0.seat.table_id result.0.seat.me self.new.machine self.new.desk }
         ensures number { self.new.machine.seat.number ≡ self.old.machine.seat.number }
-        ensures called { HasCalled self.old.machine.seat.number call pass.seat.me.0.seen result.0.seat.me.0.seen }
-        ensures answer { IsAnsweredLast (led (plane (opening_of D.seen)) (opening_of D.seen table.now.table.shared.key) result.0.seat.me.0.seen) self.new.machine.seat.number result.1 }
+        ensures called { said.HasCalled self.old.machine.seat.number call pass.seat.me.0.seen result.0.seat.me.0.seen }
+        ensures answer { said.IsAnsweredLast (said.led (said.plane (said.opening_of D.seen)) (said.opening_of D.seen table.now.table.shared.key) result.0.seat.me.0.seen) self.new.machine.seat.number result.1 }
     {
         let words = &table.table.shared;
         let (pass, told) = run_call(
@@ -313,11 +299,11 @@ impl Session {
     /// each call.
     #[inline(always)]
     pub fn run_op<D: Device>(&mut self, table: &Table<D>, pass: Pass<D>, op: Op) -> (Pass<D>, Told)
-        requires ready { IsReady (opening_of D.seen) table.now.table.shared.key table.now.table.shared.table_id pass.seat.table_id pass.seat.me self.old.machine self.old.desk }
-        ensures ready { IsReady (opening_of D.seen) table.now.table.shared.key table.now.table.shared.table_id result.0.seat.table_id result.0.seat.me self.new.machine self.new.desk }
+        requires ready { said.IsReady (said.opening_of D.seen) table.now.table.shared.key table.now.table.shared.table_id pass.seat.table_id pass.seat.me self.old.machine self.old.desk }
+        ensures ready { said.IsReady (said.opening_of D.seen) table.now.table.shared.key table.now.table.shared.table_id result.0.seat.table_id result.0.seat.me self.new.machine self.new.desk }
         ensures number { self.new.machine.seat.number ≡ self.old.machine.seat.number }
-        ensures called { HasCalled self.old.machine.seat.number (call.Op op) pass.seat.me.0.seen result.0.seat.me.0.seen }
-        ensures told { IsToldLast (led (plane (opening_of D.seen)) (opening_of D.seen table.now.table.shared.key) result.0.seat.me.0.seen) self.new.machine.seat.number (telling result.1 self.new.machine.state.finished) }
+        ensures called { said.HasCalled self.old.machine.seat.number (call.Op op) pass.seat.me.0.seen result.0.seat.me.0.seen }
+        ensures told { said.IsToldLast (said.led (said.plane (said.opening_of D.seen)) (said.opening_of D.seen table.now.table.shared.key) result.0.seat.me.0.seen) self.new.machine.seat.number (said.telling result.1 self.new.machine.state.finished) }
     {
         let words = &table.table.shared;
         run_told(

@@ -1,17 +1,6 @@
 //! A turn of the keeper, whole or in pieces.
 ghost use Rattle.std.specs.Prelude.{◌≡◌, ◌<◌, ◌≤◌, true, false};
-ghost use Rattle.fkv_disk.specs.Asks.{asked_call, kinds_by};
-ghost use Rattle.fkv_disk.specs.Device.{AtEachMoment};
-ghost use Rattle.fkv_keeper.specs.Answers.{is_busy};
-ghost use Rattle.fkv_keeper.specs.Keeping.{keeper_ask};
-ghost use Rattle.fkv_keeper.specs.KeeperAsks.{keeper_asks_left, keeper_due};
-ghost use Rattle.fkv_keeper.specs.KeeperRun.{is_in_hand};
-ghost use Rattle.fkv_keeper.specs.Running.{IsTurnTold};
-ghost use Rattle.fkv_table.specs.declared.happenings.Happening.TheVariants.{Turns};
-ghost use Rattle.fkv_table.specs.KeeperCalls.{HasGoneOn, HasKept};
-ghost use Rattle.fkv_table.specs.Keeps.{IsAfterSeen, IsKeeperAtWork, IsKeeperReady, IsLeftWithin, LeavesDevice};
-ghost use Rattle.fkv_table.specs.Planes.{opening_of};
-ghost use Rattle.fkv_table.specs.Turns.{IsTurnAsked, asks_device};
+ghost use Rattle.fkv_table.specs.Said as said;
 
 use crate::keepers::{Keeper, KeeperPass, begin_turn, call_device, word_steps};
 use crate::rule::Table;
@@ -32,22 +21,22 @@ pub enum TurnAsk {
 impl Keeper {
     /// Begins a turn. `drive` and `device_step` carry it on, by turns, until `drive` tells that it is over. The device isn't called.
     pub fn start_turn<D: Device>(&mut self, table: &Table<D>, pass: &mut KeeperPass<D>)
-        requires ready { IsKeeperReady (opening_of D.seen) table.now.table.shared.key table.now.table.shared.table_id pass.old.seat.table_id pass.old.seat.me self.old.machine }
-        ensures at_work { IsKeeperAtWork (opening_of D.seen) table.now.table.shared.key table.now.table.shared.table_id pass.new.seat.table_id pass.new.seat.me self.new.machine }
-        ensures kept { HasKept Turns pass.old.seat.me.0.seen pass.new.seat.me.0.seen }
-        ensures device { LeavesDevice (opening_of D.seen) table.now.table.shared.key pass.old.seat.me.0.seen pass.new.seat.me.0.seen }
+        requires ready { said.IsKeeperReady (said.opening_of D.seen) table.now.table.shared.key table.now.table.shared.table_id pass.old.seat.table_id pass.old.seat.me self.old.machine }
+        ensures at_work { said.IsKeeperAtWork (said.opening_of D.seen) table.now.table.shared.key table.now.table.shared.table_id pass.new.seat.table_id pass.new.seat.me self.new.machine }
+        ensures kept { said.HasKept said.Turns pass.old.seat.me.0.seen pass.new.seat.me.0.seen }
+        ensures device { said.LeavesDevice (said.opening_of D.seen) table.now.table.shared.key pass.old.seat.me.0.seen pass.new.seat.me.0.seen }
     {
         begin_turn(&table.table.shared, &mut pass.seat, &mut self.machine);
     }
 
     /// Makes the turn's steps of words up to the next call of the device, or to the turn's end, and tells which. The device isn't called.
     pub fn drive<D: Device>(&mut self, table: &Table<D>, pass: &mut KeeperPass<D>) -> TurnAsk
-        requires at_work { IsKeeperAtWork (opening_of D.seen) table.now.table.shared.key table.now.table.shared.table_id pass.old.seat.table_id pass.old.seat.me self.old.machine }
-        ensures at_work { IsKeeperAtWork (opening_of D.seen) table.now.table.shared.key table.now.table.shared.table_id pass.new.seat.table_id pass.new.seat.me self.new.machine }
-        ensures went { HasGoneOn pass.old.seat.me.0.seen pass.new.seat.me.0.seen }
-        ensures device { LeavesDevice (opening_of D.seen) table.now.table.shared.key pass.old.seat.me.0.seen pass.new.seat.me.0.seen }
-        ensures told { IsTurnAsked self.new.machine result }
-        ensures left { keeper_asks_left self.new.machine.shape self.new.machine.places self.new.machine.state ≤ keeper_asks_left self.old.machine.shape self.old.machine.places self.old.machine.state }
+        requires at_work { said.IsKeeperAtWork (said.opening_of D.seen) table.now.table.shared.key table.now.table.shared.table_id pass.old.seat.table_id pass.old.seat.me self.old.machine }
+        ensures at_work { said.IsKeeperAtWork (said.opening_of D.seen) table.now.table.shared.key table.now.table.shared.table_id pass.new.seat.table_id pass.new.seat.me self.new.machine }
+        ensures went { said.HasGoneOn pass.old.seat.me.0.seen pass.new.seat.me.0.seen }
+        ensures device { said.LeavesDevice (said.opening_of D.seen) table.now.table.shared.key pass.old.seat.me.0.seen pass.new.seat.me.0.seen }
+        ensures told { said.IsTurnAsked self.new.machine result }
+        ensures left { said.keeper_asks_left self.new.machine.shape self.new.machine.places self.new.machine.state ≤ said.keeper_asks_left self.old.machine.shape self.old.machine.places self.old.machine.state }
     {
         match word_steps(&table.table.shared, &mut pass.seat, &mut self.machine) {
             KeeperTold::Device => TurnAsk::Device,
@@ -57,7 +46,7 @@ impl Keeper {
 
     /// Whether the next piece is a call of the device.
     pub fn asks_device(&self) -> bool
-        ensures { result ≡ asks_device (keeper_ask self.now.machine.shape self.now.machine.places self.now.machine.state) }
+        ensures { result ≡ said.asks_device (said.keeper_ask self.now.machine.shape self.now.machine.places self.now.machine.state) }
     {
         match self.machine.ask() {
             Ask::Done(KeeperTold::Device) => true,
@@ -69,7 +58,7 @@ impl Keeper {
     /// The call of the device that the next piece makes, if it makes one. A caller that makes calls of the device himself makes this one, and
     /// then gives `device_step` a device that answers it with what came of that.
     pub fn device_ask(&self) -> Option<DeviceAsk<'_>>
-        ensures { asked_call result ≡ keeper_due self.now.machine }
+        ensures { said.asked_call result ≡ said.keeper_due self.now.machine }
     {
         self.machine.device_ask()
     }
@@ -77,17 +66,17 @@ impl Keeper {
     /// Makes the one call of the device that `device_ask` tells. Where it fails the turn is over, with `Device`. The device is the one that the
     /// store was opened from, and it is honest. What a crash leaves in the middle of the call is what the life's calls may leave, with it or without it.
     pub fn device_step<D: Device>(&mut self, table: &Table<D>, pass: &mut KeeperPass<D>, d: &mut D)
-        requires at_work { IsKeeperAtWork (opening_of D.seen) table.now.table.shared.key table.now.table.shared.table_id pass.old.seat.table_id pass.old.seat.me self.old.machine }
-        requires asked { asks_device (keeper_ask self.old.machine.shape self.old.machine.places self.old.machine.state) ≡ true }
+        requires at_work { said.IsKeeperAtWork (said.opening_of D.seen) table.now.table.shared.key table.now.table.shared.table_id pass.old.seat.table_id pass.old.seat.me self.old.machine }
+        requires asked { said.asks_device (said.keeper_ask self.old.machine.shape self.old.machine.places self.old.machine.state) ≡ true }
         requires honest { D.honest d.old }
-        requires after { IsAfterSeen (opening_of D.seen) table.now.table.shared.key pass.old.seat.me.0.seen (D.seen d.old) (D.may_leave d.old) }
-        ensures at_work { IsKeeperAtWork (opening_of D.seen) table.now.table.shared.key table.now.table.shared.table_id pass.new.seat.table_id pass.new.seat.me self.new.machine }
-        ensures went { HasGoneOn pass.old.seat.me.0.seen pass.new.seat.me.0.seen }
+        requires after { said.IsAfterSeen (said.opening_of D.seen) table.now.table.shared.key pass.old.seat.me.0.seen (D.seen d.old) (D.may_leave d.old) }
+        ensures at_work { said.IsKeeperAtWork (said.opening_of D.seen) table.now.table.shared.key table.now.table.shared.table_id pass.new.seat.table_id pass.new.seat.me self.new.machine }
+        ensures went { said.HasGoneOn pass.old.seat.me.0.seen pass.new.seat.me.0.seen }
         ensures honest { D.honest d.new }
-        ensures after { IsAfterSeen (opening_of D.seen) table.now.table.shared.key pass.new.seat.me.0.seen (D.seen d.new) (D.may_leave d.new) }
-        ensures moments { AtEachMoment D.moment D.left_since d.old d.new (IsLeftWithin (opening_of D.seen) table.now.table.shared.key pass.old.seat.me.0.seen pass.new.seat.me.0.seen) }
-        ensures due { D.expects d.new ≡ kinds_by (keeper_due self.old.machine) (D.expects d.old) }
-        ensures fewer { keeper_asks_left self.new.machine.shape self.new.machine.places self.new.machine.state < keeper_asks_left self.old.machine.shape self.old.machine.places self.old.machine.state }
+        ensures after { said.IsAfterSeen (said.opening_of D.seen) table.now.table.shared.key pass.new.seat.me.0.seen (D.seen d.new) (D.may_leave d.new) }
+        ensures moments { said.AtEachMoment D.moment D.left_since d.old d.new (said.IsLeftWithin (said.opening_of D.seen) table.now.table.shared.key pass.old.seat.me.0.seen pass.new.seat.me.0.seen) }
+        ensures due { D.expects d.new ≡ said.kinds_by (said.keeper_due self.old.machine) (D.expects d.old) }
+        ensures fewer { said.keeper_asks_left self.new.machine.shape self.new.machine.places self.new.machine.state < said.keeper_asks_left self.old.machine.shape self.old.machine.places self.old.machine.state }
     {
         call_device(&table.table.shared, &mut pass.seat, &mut self.machine, d);
     }
@@ -101,15 +90,15 @@ impl Keeper {
         mut pass: KeeperPass<D>,
         d: &mut D,
     ) -> (KeeperPass<D>, Result<Turn, Fault>)
-        requires ready { IsKeeperReady (opening_of D.seen) table.now.table.shared.key table.now.table.shared.table_id pass.seat.table_id pass.seat.me self.old.machine }
+        requires ready { said.IsKeeperReady (said.opening_of D.seen) table.now.table.shared.key table.now.table.shared.table_id pass.seat.table_id pass.seat.me self.old.machine }
         requires honest { D.honest d.old }
-        requires after { IsAfterSeen (opening_of D.seen) table.now.table.shared.key pass.seat.me.0.seen (D.seen d.old) (D.may_leave d.old) }
-        ensures ready { IsKeeperReady (opening_of D.seen) table.now.table.shared.key table.now.table.shared.table_id result.0.seat.table_id result.0.seat.me self.new.machine }
-        ensures kept { HasKept Turns pass.seat.me.0.seen result.0.seat.me.0.seen }
+        requires after { said.IsAfterSeen (said.opening_of D.seen) table.now.table.shared.key pass.seat.me.0.seen (D.seen d.old) (D.may_leave d.old) }
+        ensures ready { said.IsKeeperReady (said.opening_of D.seen) table.now.table.shared.key table.now.table.shared.table_id result.0.seat.table_id result.0.seat.me self.new.machine }
+        ensures kept { said.HasKept said.Turns pass.seat.me.0.seen result.0.seat.me.0.seen }
         ensures honest { D.honest d.new }
-        ensures after { IsAfterSeen (opening_of D.seen) table.now.table.shared.key result.0.seat.me.0.seen (D.seen d.new) (D.may_leave d.new) }
-        ensures moments { AtEachMoment D.moment D.left_since d.old d.new (IsLeftWithin (opening_of D.seen) table.now.table.shared.key pass.seat.me.0.seen result.0.seat.me.0.seen) }
-        ensures told { IsTurnTold self.new.machine.state.last (keeper_ask self.new.machine.shape self.new.machine.places self.new.machine.state) result.1 }
+        ensures after { said.IsAfterSeen (said.opening_of D.seen) table.now.table.shared.key result.0.seat.me.0.seen (D.seen d.new) (D.may_leave d.new) }
+        ensures moments { said.AtEachMoment D.moment D.left_since d.old d.new (said.IsLeftWithin (said.opening_of D.seen) table.now.table.shared.key pass.seat.me.0.seen result.0.seat.me.0.seen) }
+        ensures told { said.IsTurnTold self.new.machine.state.last (said.keeper_ask self.new.machine.shape self.new.machine.places self.new.machine.state) result.1 }
     {
         self.start_turn(table, &mut pass);
         'pieces: loop {
@@ -124,10 +113,10 @@ impl Keeper {
 /// How a turn has ended. At rest a reply changes nothing, and the last answer is told again.
 #[tactic(auto, unfolding(fkv_keeper::specs::Keeping::keeping_next))]
 fn turn_told(machine: &mut fkv_keeper::Keeper) -> Result<Turn, Fault>
-    requires over { is_busy (keeper_ask machine.old.shape machine.old.places machine.old.state) ≡ false }
-    requires idle { is_in_hand machine.old.state.step ≡ false }
+    requires over { said.is_busy (said.keeper_ask machine.old.shape machine.old.places machine.old.state) ≡ false }
+    requires idle { said.is_in_hand machine.old.state.step ≡ false }
     ensures same { machine.new ≡ machine.old }
-    ensures told { IsTurnTold machine.old.state.last (keeper_ask machine.old.shape machine.old.places machine.old.state) result }
+    ensures told { said.IsTurnTold machine.old.state.last (said.keeper_ask machine.old.shape machine.old.places machine.old.state) result }
 {
     match machine.drive(0) {
         KeeperAsk::Turned(result) => result,

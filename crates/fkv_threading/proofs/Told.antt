@@ -14,20 +14,20 @@ use Rattle.fkv_map.specs.declared.operations.Op.{Op}
 use Rattle.fkv_opening.specs.declared.opened_store.Opened.{Opened}
 use Rattle.fkv_seats.specs.Rule.{IsSeenBy}
 use Rattle.fkv_session.specs.declared.answers.Answer.{Answer}
-use Rattle.fkv_table.specs.declared.happenings.Happening.{Happening}
-use Rattle.fkv_table.specs.KeeperCalls.{HasKept}
-use Rattle.fkv_table.specs.Planes.{plane}
-use Rattle.fkv_table.specs.Starts.{EachAt}
-use Rattle.fkv_table.proofs.Starts.{one_more}
+use Rattle.fkv_threads.specs.Below.fkv_table.Happening.{Happening}
+use Rattle.fkv_threads.specs.Below.fkv_table.KeeperCalls.{HasKept}
+use Rattle.fkv_threads.specs.Below.fkv_table.Planes.{plane}
+use Rattle.fkv_threads.specs.Below.fkv_table.Starts.{EachAt}
+use Rattle.fkv_threads.proofs.Below.fkv_table.Starts.{one_more}
 use Rattle.fkv_thread_scripts.specs.Calls.{calls_of}
 use Rattle.fkv_thread_scripts.specs.Logs.{accepted_by, durable_by, told_by}
 use Rattle.fkv_thread_scripts.specs.declared.logs.Log.{Log}
 use Rattle.fkv_threads.specs.Begun.{IsOverStore}
 use Rattle.fkv_threads.specs.Runs.{run_of}
 use Rattle.fkv_threading.specs.Told.{AreLogs, AreTurns, HasMade, IsLogOf, IsNoted, IsPlayed, IsTold, Part, Seat, TurnRun, WasFinished, WasTold, WerePlayed, finish_by, is_full, is_own, part_at, part_of, point_at}
-use Rattle.fkv_world.specs.Runs.{World}
-use Rattle.law_threads.specs.Calls.{CallRun, HasRun}
-use Rattle.law_threads.specs.Turns.{HasTurned}
+use Rattle.fkv_threads.specs.Below.fkv_world.Runs.{World}
+use Rattle.fkv_threads.specs.Below.law_threads.Calls.{CallRun, HasRun}
+use Rattle.fkv_threads.specs.Below.law_threads.Turns.{HasTurned}
 
 -- a log of one call more
 noted_more : (point : Serial) (log log' : Log) (its : CallRun) (runs : List CallRun) → IsNoted log log' its.call its.answer → IsLogOf point log runs → IsLogOf point log' (its ∷ runs)

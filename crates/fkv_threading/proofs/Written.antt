@@ -18,7 +18,7 @@ use Rattle.fkv_thread_scripts.specs.Reports.{IsLastFinished}
 use Rattle.fkv_thread_scripts.specs.declared.logs.Log.{Log}
 use Rattle.fkv_thread_scripts.specs.declared.reports.Report.{Report}
 use Rattle.fkv_threading.specs.Written.{HasSizes, HoldsPairs, IsPlayedNew, IsReportOfRun, IsReportOn, IsRunOnThreads, reported_status, reported_text}
-use Rattle.fkv_world.specs.Runs.{World}
+use Rattle.fkv_threads.specs.Below.fkv_world.Runs.{World}
 
 -- a store that is recovered, and then its pairs, which are read from a device that stays as it was
 pub held : {D : Type 0} (honest : D → Type 0) (shows : D → List ℕ) (device device' : D) (recovered : Opened) (pairs : List (Key × Value)) → (honest device → IsStoreOf (shows device) recovered) → (honest device ↔ honest device') → (honest device → shows device' ≡ shows device)

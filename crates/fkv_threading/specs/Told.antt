@@ -13,18 +13,18 @@ use Rattle.fkv_opening.specs.declared.opened_store.Opened.{Opened}
 use Rattle.fkv_seats.specs.Rule.{IsSeenBy}
 use Rattle.fkv_session.specs.declared.answers.Answer.{Answer}
 use Rattle.fkv_session.specs.declared.answers.Answer.TheVariants.{Refused}
-use Rattle.fkv_table.specs.declared.happenings.Happening.{Happening}
-use Rattle.fkv_table.specs.Keeps.{IsAfterSeen}
-use Rattle.fkv_table.specs.Planes.{plane}
-use Rattle.fkv_table.specs.Starts.{EachAt}
+use Rattle.fkv_threads.specs.Below.fkv_table.Happening.{Happening}
+use Rattle.fkv_threads.specs.Below.fkv_table.Keeps.{IsAfterSeen}
+use Rattle.fkv_threads.specs.Below.fkv_table.Planes.{plane}
+use Rattle.fkv_threads.specs.Below.fkv_table.Starts.{EachAt}
 use Rattle.fkv_thread_scripts.specs.Calls.{calls_of}
 use Rattle.fkv_thread_scripts.specs.Logs.{accepted_by, durable_by, told_by}
 use Rattle.fkv_thread_scripts.specs.declared.logs.Log.{Log}
 use Rattle.fkv_threads.specs.Begun.{IsOverStore}
 use Rattle.fkv_threads.specs.Runs.{run_of}
-use Rattle.fkv_world.specs.Runs.{World}
-use Rattle.law_threads.specs.Calls.{CallRun, HasRun}
-use Rattle.law_threads.specs.Turns.{HasTurned}
+use Rattle.fkv_threads.specs.Below.fkv_world.Runs.{World}
+use Rattle.fkv_threads.specs.Below.law_threads.Calls.{CallRun, HasRun}
+use Rattle.fkv_threads.specs.Below.law_threads.Turns.{HasTurned}
 
 -- ---- what a session's answers say
 -- the updates that the answers of these calls accept, in order; the newest call stands first

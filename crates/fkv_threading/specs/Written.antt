@@ -20,7 +20,7 @@ use Rattle.fkv_thread_scripts.specs.Reports.{IsLastFinished, agrees, threads_rep
 use Rattle.fkv_thread_scripts.specs.declared.logs.Log.{Log}
 use Rattle.fkv_thread_scripts.specs.declared.reports.Report.{Report}
 use Rattle.fkv_threading.specs.Told.{IsPlayed}
-use Rattle.fkv_world.specs.Runs.{World}
+use Rattle.fkv_threads.specs.Below.fkv_world.Runs.{World}
 
 -- ---- what is played
 -- the shape has the sizes of a script's first line

@@ -1,7 +1,6 @@
 //! The keeper's thread.
 ghost use Rattle.std.specs.Prelude.{◌≡◌};
-ghost use Rattle.fkv_table.specs.Planes.{opening_of};
-ghost use Rattle.fkv_threading.specs.Told.{IsKept};
+ghost use Rattle.fkv_threading.specs.Said as said;
 
 use crate::keeping::{Keeping, Turned};
 use crate::progress::Progress;
@@ -39,7 +38,7 @@ pub(crate) fn play_keeper<D: Device + Drop, R: Wait>(
     sessions: u64,
     keeping: Keeping<'_, D>,
 ) -> KeeperEnd<D>
-    ensures { IsKept (opening_of D.seen) keeping.entry D.honest D.seen D.may_leave result.device result.finished }
+    ensures { said.IsKept (said.opening_of D.seen) keeping.entry D.honest D.seen D.may_leave result.device result.finished }
 {
     let mut told = Told {
         begun: None,

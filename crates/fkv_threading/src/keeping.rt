@@ -1,13 +1,11 @@
 //! The keeper with its pass and its device at a table.
 ghost use Rattle.std.specs.Prelude.{◌≡◌};
-ghost use Rattle.fkv_table.specs.Planes.{opening_of};
-ghost use Rattle.fkv_threading.specs.Told.{IsKept, finish_by};
+ghost use Rattle.fkv_threading.specs.Said as said;
 
 use fkv_base::{CommitKind, Fault, Version};
 use fkv_disk::Device;
 use fkv_keeper::{Finished, Turn};
-use fkv_table::{Keeper, KeeperPass, Table};
-use fkv_threads::{ask_commit, turn};
+use fkv_threads::{Keeper, KeeperPass, Table, ask_commit, turn};
 use std::marker::Model;
 
 /// A keeper that is ready for its next call, with its pass and the device that the store was opened from, at the table, and the last commit that a turn
@@ -32,17 +30,13 @@ pub(crate) enum Turned {
 }
 
 impl<'t, D: Device + Drop> Model for Keeping<'t, D> {
-    ghost use Rattle.std.specs.declared.snapshot.Snapshot.{Snapshot};
-    ghost use Rattle.fkv_core.specs.Worlds.{WorldModel};
-    ghost use Rattle.fkv_table.specs.Keeps.{IsAfterSeen, IsKeeperReady};
-    ghost use Rattle.fkv_table.specs.Planes.{opening_of};
-    ghost use Rattle.fkv_threading.specs.Told.{WasFinished};
+    ghost use Rattle.fkv_threading.specs.Said as said;
 
-    ghost Value = { Snapshot (WorldModel D) };
+    ghost Value = { said.Snapshot (said.WorldModel D) };
 
     ghost view = { λ s. s.table.now.table.shared.key };
 
-    ghost invariant = { λ s. IsKeeperReady (opening_of D.seen) s.table.now.table.shared.key s.table.now.table.shared.table_id s.pass.seat.table_id s.pass.seat.me s.keeper.machine × D.honest s.device × IsAfterSeen (opening_of D.seen) s.table.now.table.shared.key s.pass.seat.me.0.seen (D.seen s.device) (D.may_leave s.device) × WasFinished (opening_of D.seen) s.table.now.table.shared.key s.finished s.pass.seat.me.0.seen };
+    ghost invariant = { λ s. said.IsKeeperReady (said.opening_of D.seen) s.table.now.table.shared.key s.table.now.table.shared.table_id s.pass.seat.table_id s.pass.seat.me s.keeper.machine × D.honest s.device × said.IsAfterSeen (said.opening_of D.seen) s.table.now.table.shared.key s.pass.seat.me.0.seen (D.seen s.device) (D.may_leave s.device) × said.WasFinished (said.opening_of D.seen) s.table.now.table.shared.key s.finished s.pass.seat.me.0.seen };
 }
 
 impl<'t, D: Device + Drop> Keeping<'t, D> {
@@ -93,7 +87,7 @@ impl<'t, D: Device + Drop> Keeping<'t, D> {
 
     /// The device, behind the turns' calls, and the last commit that one of them told as finished.
     pub(crate) fn end(self) -> (D, Option<Finished>)
-        ensures { IsKept (opening_of D.seen) self.entry D.honest D.seen D.may_leave result.0 result.1 }
+        ensures { said.IsKept (said.opening_of D.seen) self.entry D.honest D.seen D.may_leave result.0 result.1 }
     {
         let Keeping {
             device,
@@ -106,7 +100,7 @@ impl<'t, D: Device + Drop> Keeping<'t, D> {
 
 /// The last commit that is told as finished behind a turn with this answer, and what that turn has come to.
 fn last_of(before: Option<Finished>, answer: Result<Turn, Fault>) -> (Option<Finished>, Turned)
-    ensures { result.0 ≡ finish_by before answer }
+    ensures { result.0 ≡ said.finish_by before answer }
 {
     match answer {
         Ok(turn) => {

@@ -1,7 +1,6 @@
 //! A session that plays the calls of its lines.
 ghost use Rattle.std.specs.Prelude.{◌≡◌, ◌<◌, ◌≤◌, ◌+◌, true, if◌then◌else◌, length, slice_get, IfOk};
-ghost use Rattle.fkv_table.specs.Planes.{opening_of};
-ghost use Rattle.fkv_threading.specs.Told.{HasMade, IsTold, is_full, is_own};
+ghost use Rattle.fkv_threading.specs.Said as said;
 
 use crate::sitting::Sitting;
 use fkv_base::{Fault, Serial};
@@ -32,16 +31,13 @@ pub(crate) struct SessionEnd {
 
 impl<'t, D: Device> Model for Player<'t, D> {
     ghost use Rattle.std.specs.Prelude.{take};
-    ghost use Rattle.std.specs.declared.snapshot.Snapshot.{Snapshot};
-    ghost use Rattle.fkv_core.specs.Worlds.{WorldModel};
-    ghost use Rattle.fkv_table.specs.Planes.{opening_of};
-    ghost use Rattle.fkv_threading.specs.Told.{Part, WasTold};
+    ghost use Rattle.fkv_threading.specs.Said as said;
 
-    ghost Value = { Part (Snapshot (WorldModel D)) };
+    ghost Value = { said.Part (said.Snapshot (said.WorldModel D)) };
 
     ghost view = { λ s. record { key = s.seat.key; number = s.seat.number; point = s.point; calls = s.calls.items } };
 
-    ghost invariant = { λ s. WasTold (opening_of D.seen) (record { key = s.seat.key; number = s.seat.number; point = s.point; calls = s.calls.items }) (take s.answered s.calls.items) s.log s.seat.seen };
+    ghost invariant = { λ s. said.WasTold (said.opening_of D.seen) (record { key = s.seat.key; number = s.seat.number; point = s.point; calls = s.calls.items }) (take s.answered s.calls.items) s.log s.seat.seen };
 }
 
 impl<'t, D: Device> Player<'t, D> {
@@ -87,7 +83,7 @@ impl<'t, D: Device> Player<'t, D> {
 
     /// Makes a call that is none of its lines, and notes its answer: a refresh, a poll, or that it sleeps. `Memory` where memory was refused.
     pub(crate) fn call_own(self, call: Call) -> Result<(Player<'t, D>, Answer), Fault>
-        requires { is_own call ≡ true }
+        requires { said.is_own call ≡ true }
         ensures { IfOk result (λ its. its.0 ≡ self.entry) }
     {
         let Player {
@@ -110,7 +106,7 @@ impl<'t, D: Device> Player<'t, D> {
 
     /// What it was told.
     pub(crate) fn end(self) -> SessionEnd
-        ensures { IsTold (opening_of D.seen) self.entry result.is_whole result.log }
+        ensures { said.IsTold (said.opening_of D.seen) self.entry result.is_whole result.log }
     {
         let Player {
             calls,
@@ -151,7 +147,7 @@ fn make<'t, D: Device>(
     log: &mut Log,
     call: Call,
 ) -> Result<(Sitting<'t, D>, Answer), Fault>
-    ensures { IfOk result (λ its. HasMade (opening_of D.seen) seat.entry its.0 call its.1 log.old log.new) }
+    ensures { IfOk result (λ its. said.HasMade (said.opening_of D.seen) seat.entry its.0 call its.1 log.old log.new) }
 {
     let (seat, answer) = seat.call(call);
     log.note(call, &answer)?;
@@ -159,7 +155,7 @@ fn make<'t, D: Device>(
 }
 
 fn is_full(answer: &Answer) -> bool
-    ensures { result ≡ is_full answer.now }
+    ensures { result ≡ said.is_full answer.now }
 {
     match answer {
         Answer::Refused(Fault::PendingFull) => true,

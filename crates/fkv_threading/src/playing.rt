@@ -1,11 +1,6 @@
 //! A store that threads share, from its opening until they have all ended.
 ghost use Rattle.std.specs.Prelude.{◌≡◌, [], IfOk, length};
-ghost use Rattle.fkv_disk.specs.Device.{LeavesOnly};
-ghost use Rattle.fkv_opening.specs.Opened.{IsStoreOf};
-ghost use Rattle.fkv_table.specs.Planes.{opening_of};
-ghost use Rattle.fkv_table.specs.Starts.{EachAt};
-ghost use Rattle.fkv_threads.specs.Begun.{HasBegun};
-ghost use Rattle.fkv_threading.specs.Told.{AreLogs, AreSeated, IsPlayed, IsTold, WerePlayed, part_at, part_of, point_at};
+ghost use Rattle.fkv_threading.specs.Said as said;
 
 use crate::gates::Gate;
 use crate::keepers::{KeeperEnd, play_keeper};
@@ -20,9 +15,8 @@ use fkv_disk::Device;
 use fkv_lines::Line;
 use fkv_map::Call;
 use fkv_opening::Opened;
-use fkv_table::{OpenTable, Pass, Session, Table};
 use fkv_thread_scripts::{Log, calls_of};
-use fkv_threads::{close, open};
+use fkv_threads::{OpenTable, Pass, Session, Table, close, open};
 use std::alloc::Global;
 use std::sync::Wait;
 use std::thread::{self, PromisedHandle, Scope, Threads};
@@ -48,10 +42,10 @@ pub fn play<D: Device + Drop + Send, G: Gate + Sync, R: Threads + Wait + Sync>(
     lines: &[Line],
     gate: &G,
 ) -> Result<Played<D>, Fault>
-    requires store { IsStoreOf (D.seen device) opened }
+    requires store { said.IsStoreOf (D.seen device) opened }
     requires honest { D.honest device }
-    requires leaves { LeavesOnly (D.seen device) (D.may_leave device) }
-    ensures { IfOk result (λ its. IsPlayed (opening_of D.seen) opened lines.now D.honest D.seen D.may_leave device its.is_whole its.logs.items its.keeper.device its.keeper.finished) }
+    requires leaves { said.LeavesOnly (D.seen device) (D.may_leave device) }
+    ensures { IfOk result (λ its. said.IsPlayed (said.opening_of D.seen) opened lines.now D.honest D.seen D.may_leave device its.is_whole its.logs.items its.keeper.device its.keeper.finished) }
 {
     let points = copy_of(alloc, &opened.points)?;
     let OpenTable {
@@ -84,9 +78,9 @@ fn play_over<'t, D: Device + Drop + Send, G: Gate + Sync, R: Threads + Wait + Sy
     lines: &'t [Line],
     gate: &G,
 ) -> Result<Played<D>, Fault>
-    requires ready { EachAt sessions.items (λ i x. HasBegun (opening_of D.seen) table.now.table.shared.key table.now.table.shared.table_id i x.0.machine x.0.desk x.1.seat.table_id x.1.seat.me) }
+    requires ready { said.EachAt sessions.items (λ i x. said.HasBegun (said.opening_of D.seen) table.now.table.shared.key table.now.table.shared.table_id i x.0.machine x.0.desk x.1.seat.table_id x.1.seat.me) }
     requires keeper { keeping ≡ table.now.table.shared.key }
-    ensures { IfOk result (λ its. WerePlayed (opening_of D.seen) table.now.table.shared.key points.now lines.now (length sessions.items) D.honest D.seen D.may_leave its.is_whole its.logs.items its.keeper.device its.keeper.finished) }
+    ensures { IfOk result (λ its. said.WerePlayed (said.opening_of D.seen) table.now.table.shared.key points.now lines.now (length sessions.items) D.honest D.seen D.may_leave its.is_whole its.logs.items its.keeper.device its.keeper.finished) }
 {
     let players = seated(alloc, table, sessions, points, lines)?;
     play_seats(rt, alloc, table, players, keeping, points, lines, gate)
@@ -100,9 +94,9 @@ fn seated<'t, D: Device>(
     points: &[Serial],
     lines: &[Line],
 ) -> Result<Vec<Player<'t, D>>, Fault>
-    requires ready { EachAt sessions.items (λ i x. HasBegun (opening_of D.seen) table.now.table.shared.key table.now.table.shared.table_id i x.0.machine x.0.desk x.1.seat.table_id x.1.seat.me) }
+    requires ready { said.EachAt sessions.items (λ i x. said.HasBegun (said.opening_of D.seen) table.now.table.shared.key table.now.table.shared.table_id i x.0.machine x.0.desk x.1.seat.table_id x.1.seat.me) }
     ensures count { IfOk result (λ players. length players.items ≡ length sessions.items) }
-    ensures players { IfOk result (λ players. AreSeated table.now.table.shared.key points.now lines.now players.items) }
+    ensures players { IfOk result (λ players. said.AreSeated table.now.table.shared.key points.now lines.now players.items) }
 {
     let mut players = Vec::new(alloc);
     for (session, pass) in sessions {
@@ -148,9 +142,9 @@ fn play_seats<'t, D: Device + Drop + Send, G: Gate + Sync, R: Threads + Wait + S
     lines: &'t [Line],
     gate: &G,
 ) -> Result<Played<D>, Fault>
-    requires seats { AreSeated table.now.table.shared.key points.now lines.now players.items }
+    requires seats { said.AreSeated table.now.table.shared.key points.now lines.now players.items }
     requires keeper { keeping ≡ table.now.table.shared.key }
-    ensures { IfOk result (λ its. WerePlayed (opening_of D.seen) table.now.table.shared.key points.now lines.now (length players.entry.items) D.honest D.seen D.may_leave its.is_whole its.logs.items its.keeper.device its.keeper.finished) }
+    ensures { IfOk result (λ its. said.WerePlayed (said.opening_of D.seen) table.now.table.shared.key points.now lines.now (length players.entry.items) D.honest D.seen D.may_leave its.is_whole its.logs.items its.keeper.device its.keeper.finished) }
 {
     let progress = Progress::new();
     let shared = &progress;
@@ -158,8 +152,8 @@ fn play_seats<'t, D: Device + Drop + Send, G: Gate + Sync, R: Threads + Wait + S
         thread::scope_env(),
         rt,
         |scope| -> Result<Played<D>, Fault>
-            requires { AreSeated table.now.table.shared.key points.now lines.now players.items × (keeping ≡ table.now.table.shared.key) }
-            ensures { IfOk result (λ its. WerePlayed (opening_of D.seen) table.entry.now.table.shared.key points.entry.now lines.entry.now (length players.entry.items) D.honest D.seen D.may_leave its.is_whole its.logs.items its.keeper.device its.keeper.finished) }
+            requires { said.AreSeated table.now.table.shared.key points.now lines.now players.items × (keeping ≡ table.now.table.shared.key) }
+            ensures { IfOk result (λ its. said.WerePlayed (said.opening_of D.seen) table.entry.now.table.shared.key points.entry.now lines.entry.now (length players.entry.items) D.honest D.seen D.may_leave its.is_whole its.logs.items its.keeper.device its.keeper.finished) }
         {
             let played = play_in(
                 scope, rt, alloc, shared, gate, lines, table, points, players, keeping,
@@ -185,9 +179,9 @@ fn play_in<'s, 't: 's, E, D: Device + Drop + Send, G: Gate + Sync, R: Threads + 
     players: Vec<Player<'t, D>>,
     keeping: Keeping<'t, D>,
 ) -> Result<Played<D>, Fault>
-    requires seats { AreSeated table.now.table.shared.key points.now lines.now players.items }
+    requires seats { said.AreSeated table.now.table.shared.key points.now lines.now players.items }
     requires keeper { keeping ≡ table.now.table.shared.key }
-    ensures { IfOk result (λ its. WerePlayed (opening_of D.seen) table.now.table.shared.key points.now lines.now (length players.entry.items) D.honest D.seen D.may_leave its.is_whole its.logs.items its.keeper.device its.keeper.finished) }
+    ensures { IfOk result (λ its. said.WerePlayed (said.opening_of D.seen) table.now.table.shared.key points.now lines.now (length players.entry.items) D.honest D.seen D.may_leave its.is_whole its.logs.items its.keeper.device its.keeper.finished) }
 {
     let count = players.len() as u64;
     let handles = spawn_all(
@@ -214,9 +208,9 @@ fn spawn_all<'s, 't: 's, E, D: Device + Drop + Send, G: Gate + Sync, R: Threads 
     points: &[Serial],
     players: Vec<Player<'t, D>>,
 ) -> Result<Vec<PromisedHandle<Result<SessionEnd, Fault>, SessionLog<'t, D>>>, Fault>
-    requires { AreSeated table.now.table.shared.key points.now lines.now players.items }
+    requires { said.AreSeated table.now.table.shared.key points.now lines.now players.items }
     ensures count { IfOk result (λ handles. length handles.items ≡ length players.entry.items) }
-    ensures promised { IfOk result (λ handles. EachAt handles.items (λ i h. part_of h.promise.table.now.table.shared.key h.promise.number h.promise.point h.promise.lines.now ≡ part_at table.now.table.shared.key points.now lines.now i)) }
+    ensures promised { IfOk result (λ handles. said.EachAt handles.items (λ i h. said.part_of h.promise.table.now.table.shared.key h.promise.number h.promise.point h.promise.lines.now ≡ said.part_at table.now.table.shared.key points.now lines.now i)) }
 {
     let mut handles = Vec::new(alloc);
     for player in players {
@@ -230,7 +224,7 @@ fn spawn_all<'s, 't: 's, E, D: Device + Drop + Send, G: Gate + Sync, R: Threads 
         let spawned = scope.spawn_with(
             promise,
             move || -> Result<SessionEnd, Fault>
-                ensures { IfOk result (λ end. IsTold (opening_of D.seen) player.entry end.is_whole end.log) }
+                ensures { IfOk result (λ end. said.IsTold (said.opening_of D.seen) player.entry end.is_whole end.log) }
             { play_session(rt, progress, gate, number, player) },
         );
         let Ok(handle) = spawned else {
@@ -250,9 +244,9 @@ fn joined<'t, D: Device, R: Threads>(
     lines: &[Line],
     handles: Vec<PromisedHandle<Result<SessionEnd, Fault>, SessionLog<'t, D>>>,
 ) -> Result<(Vec<Log>, bool), Fault>
-    requires { EachAt handles.items (λ i h. part_of h.promise.table.now.table.shared.key h.promise.number h.promise.point h.promise.lines.now ≡ part_at table.now.table.shared.key points.now lines.now i) }
+    requires { said.EachAt handles.items (λ i h. said.part_of h.promise.table.now.table.shared.key h.promise.number h.promise.point h.promise.lines.now ≡ said.part_at table.now.table.shared.key points.now lines.now i) }
     ensures count { IfOk result (λ its. length its.0.items ≡ length handles.entry.items) }
-    ensures told { IfOk result (λ its. AreLogs (opening_of D.seen) table.now.table.shared.key points.now lines.now its.1 its.0.items) }
+    ensures told { IfOk result (λ its. said.AreLogs (said.opening_of D.seen) table.now.table.shared.key points.now lines.now its.1 its.0.items) }
 {
     let mut logs = Vec::new(alloc);
     let mut are_whole = true;
@@ -276,7 +270,7 @@ fn copy_of(alloc: Global, points: &[Serial]) -> Result<Vec<Serial>, Fault>
 
 /// The point of the session of this number.
 fn point_of(points: &[Serial], number: usize) -> Serial
-    ensures { result ≡ point_at points.now number }
+    ensures { result ≡ said.point_at points.now number }
 {
     match points.get(number) {
         Some(point) => *point,

@@ -1,10 +1,6 @@
 //! A script on threads, from the line that makes its store to its report.
 ghost use Rattle.std.specs.Prelude.{◌≡◌, ⊤, IfOk, OnOk, Ok, if◌then◌else◌};
-ghost use Rattle.std.specs.Io.KnownBytes.{Appends};
-ghost use Rattle.fkv_table.specs.Planes.{opening_of};
-ghost use Rattle.fkv_texts.specs.Refusals.{last_refusal};
-ghost use Rattle.fkv_thread_scripts.specs.Reports.{agrees, threads_report_text};
-ghost use Rattle.fkv_threading.specs.Written.{HasSizes, HoldsLeft, IsPlayedNew, IsReportOfRun, IsReportOn, IsRunOnThreads, refused_status, reported_status, reported_text};
+ghost use Rattle.fkv_threading.specs.Said as said;
 
 use crate::gates::Gate;
 use crate::keepers::KeeperEnd;
@@ -36,7 +32,7 @@ pub fn run_threads<G: Gate + Sync, W: Write, R: Threads + Wait + Sync>(
     output: &mut W,
     gate: &G,
 ) -> io::Result<u8>
-    ensures { IfOk result (IsRunOnThreads (IsReportOfRun (opening_of ⟦<Fuse<MemDisk> as Device>⟧.seen) ⟦<Fuse<MemDisk> as Device>⟧.honest ⟦<Fuse<MemDisk> as Device>⟧.seen ⟦<Fuse<MemDisk> as Device>⟧.may_leave ⟦<MemDisk as Device>⟧.honest ⟦<MemDisk as Device>⟧.seen (HoldsLeft ⟦<Fuse<MemDisk> as Device>⟧.may_leave ⟦<MemDisk as Device>⟧.seen) script.now.lines.items) script.now.opening (Appends (W.contents output.old) (W.contents output.new))) }
+    ensures { IfOk result (said.IsRunOnThreads (said.IsReportOfRun (said.opening_of ⟦<Fuse<MemDisk> as Device>⟧.seen) ⟦<Fuse<MemDisk> as Device>⟧.honest ⟦<Fuse<MemDisk> as Device>⟧.seen ⟦<Fuse<MemDisk> as Device>⟧.may_leave ⟦<MemDisk as Device>⟧.honest ⟦<MemDisk as Device>⟧.seen (said.HoldsLeft ⟦<Fuse<MemDisk> as Device>⟧.may_leave ⟦<MemDisk as Device>⟧.seen) script.now.lines.items) script.now.opening (said.Appends (W.contents output.old) (W.contents output.new))) }
 {
     let sizes = match script.opening {
         Some(Opening::Shape(sizes)) => sizes,
@@ -60,7 +56,7 @@ pub fn run_threads_in_file<G: Gate + Sync, W: Write, R: Threads + Wait + Sync, H
 ) -> io::Result<(u8, Option<Trouble>)>
 where
     H::File: Lockable + Send,
-    ensures { IfOk result (λ end. IsRunOnThreads (IsReportOfRun (opening_of ⟦<Mirror<FileDisk<H::File>> as Device>⟧.seen) ⟦<Mirror<FileDisk<H::File>> as Device>⟧.honest ⟦<Mirror<FileDisk<H::File>> as Device>⟧.seen ⟦<Mirror<FileDisk<H::File>> as Device>⟧.may_leave ⟦<ReadAhead<FileDisk<H::File>> as Device>⟧.honest ⟦<ReadAhead<FileDisk<H::File>> as Device>⟧.seen (λ _ _. ⊤) script.now.lines.items) script.now.opening (Appends (W.contents output.old) (W.contents output.new)) end.0) }
+    ensures { IfOk result (λ end. said.IsRunOnThreads (said.IsReportOfRun (said.opening_of ⟦<Mirror<FileDisk<H::File>> as Device>⟧.seen) ⟦<Mirror<FileDisk<H::File>> as Device>⟧.honest ⟦<Mirror<FileDisk<H::File>> as Device>⟧.seen ⟦<Mirror<FileDisk<H::File>> as Device>⟧.may_leave ⟦<ReadAhead<FileDisk<H::File>> as Device>⟧.honest ⟦<ReadAhead<FileDisk<H::File>> as Device>⟧.seen (λ _ _. ⊤) script.now.lines.items) script.now.opening (said.Appends (W.contents output.old) (W.contents output.new)) end.0) }
 {
     let sizes = match script.opening {
         Some(Opening::Shape(sizes)) => sizes,
@@ -89,8 +85,8 @@ fn write_reported<W: Write>(
     output: &mut W,
     reported: Result<Report, Fault>,
 ) -> io::Result<u8>
-    ensures text { OnOk result (Appends (W.contents output.old) (W.contents output.new) (reported_text reported)) }
-    ensures status { IfOk result (λ status. status ≡ reported_status reported) }
+    ensures text { OnOk result (said.Appends (W.contents output.old) (W.contents output.new) (said.reported_text reported)) }
+    ensures status { IfOk result (λ status. status ≡ said.reported_status reported) }
 {
     match reported {
         Ok(report) => write_report(alloc, output, report),
@@ -101,8 +97,8 @@ fn write_reported<W: Write>(
 
 /// Writes a report, at once.
 fn write_report<W: Write>(alloc: Global, output: &mut W, report: Report) -> io::Result<u8>
-    ensures text { OnOk result (Appends (W.contents output.old) (W.contents output.new) (threads_report_text report)) }
-    ensures status { IfOk result (λ status. status ≡ (if agrees report then 0 else 1)) }
+    ensures text { OnOk result (said.Appends (W.contents output.old) (W.contents output.new) (said.threads_report_text report)) }
+    ensures status { IfOk result (λ status. status ≡ (if said.agrees report then 0 else 1)) }
 {
     let mut text = Vec::new(alloc);
     write_threads_report(&mut text, report)?;
@@ -112,8 +108,8 @@ fn write_report<W: Write>(alloc: Global, output: &mut W, report: Report) -> io::
 
 /// Writes a refusal, at once.
 fn refuse<W: Write>(alloc: Global, output: &mut W, fault: Fault) -> io::Result<u8>
-    ensures text { OnOk result (Appends (W.contents output.old) (W.contents output.new) (last_refusal fault)) }
-    ensures status { IfOk result (λ status. status ≡ refused_status fault) }
+    ensures text { OnOk result (said.Appends (W.contents output.old) (W.contents output.new) (said.last_refusal fault)) }
+    ensures status { IfOk result (λ status. status ≡ said.refused_status fault) }
 {
     let mut text = Vec::new(alloc);
     write_refusal(&mut text, fault)?;
@@ -132,7 +128,7 @@ fn report_in_memory<G: Gate + Sync, R: Threads + Wait + Sync>(
     lines: &[Line],
     gate: &G,
 ) -> Result<Report, Fault>
-    ensures { IfOk result (IsReportOfRun (opening_of ⟦<Fuse<MemDisk> as Device>⟧.seen) ⟦<Fuse<MemDisk> as Device>⟧.honest ⟦<Fuse<MemDisk> as Device>⟧.seen ⟦<Fuse<MemDisk> as Device>⟧.may_leave ⟦<MemDisk as Device>⟧.honest ⟦<MemDisk as Device>⟧.seen (HoldsLeft ⟦<Fuse<MemDisk> as Device>⟧.may_leave ⟦<MemDisk as Device>⟧.seen) lines.now sizes) }
+    ensures { IfOk result (said.IsReportOfRun (said.opening_of ⟦<Fuse<MemDisk> as Device>⟧.seen) ⟦<Fuse<MemDisk> as Device>⟧.honest ⟦<Fuse<MemDisk> as Device>⟧.seen ⟦<Fuse<MemDisk> as Device>⟧.may_leave ⟦<MemDisk as Device>⟧.honest ⟦<MemDisk as Device>⟧.seen (said.HoldsLeft ⟦<Fuse<MemDisk> as Device>⟧.may_leave ⟦<MemDisk as Device>⟧.seen) lines.now sizes) }
 {
     let shape = shape_of(sizes)?;
     let device = Fuse::new(MemDisk::new(alloc));
@@ -161,7 +157,7 @@ fn report_in_file<G: Gate + Sync, R: Threads + Wait + Sync, H: Files>(
 ) -> Result<Report, Trouble>
 where
     H::File: Lockable + Send,
-    ensures { IfOk result (IsReportOfRun (opening_of ⟦<Mirror<FileDisk<H::File>> as Device>⟧.seen) ⟦<Mirror<FileDisk<H::File>> as Device>⟧.honest ⟦<Mirror<FileDisk<H::File>> as Device>⟧.seen ⟦<Mirror<FileDisk<H::File>> as Device>⟧.may_leave ⟦<ReadAhead<FileDisk<H::File>> as Device>⟧.honest ⟦<ReadAhead<FileDisk<H::File>> as Device>⟧.seen (λ _ _. ⊤) lines.now sizes) }
+    ensures { IfOk result (said.IsReportOfRun (said.opening_of ⟦<Mirror<FileDisk<H::File>> as Device>⟧.seen) ⟦<Mirror<FileDisk<H::File>> as Device>⟧.honest ⟦<Mirror<FileDisk<H::File>> as Device>⟧.seen ⟦<Mirror<FileDisk<H::File>> as Device>⟧.may_leave ⟦<ReadAhead<FileDisk<H::File>> as Device>⟧.honest ⟦<ReadAhead<FileDisk<H::File>> as Device>⟧.seen (λ _ _. ⊤) lines.now sizes) }
 {
     let shape = shape_of(sizes)?;
     let (file, length) = make_alone(files, path)?;
@@ -194,7 +190,7 @@ fn play_new<D: Device + Drop + Send, G: Gate + Sync, R: Threads + Wait + Sync>(
     gate: &G,
 ) -> Result<Played<D>, Fault>
     requires honest { D.honest device }
-    ensures { IfOk result (λ its. IsPlayedNew (opening_of D.seen) shape lines.now D.honest D.seen D.may_leave its.logs.items its.keeper.device its.keeper.finished) }
+    ensures { IfOk result (λ its. said.IsPlayedNew (said.opening_of D.seen) shape lines.now D.honest D.seen D.may_leave its.logs.items its.keeper.device its.keeper.finished) }
 {
     let mut device = device;
     let opened = create_opened(alloc, &mut device, shape)?;
@@ -214,7 +210,7 @@ fn report_on<D: Device>(
     finished: &Option<Finished>,
     device: &mut D,
 ) -> Result<Report, Fault>
-    ensures { IfOk result (IsReportOn D.honest D.seen lines.now logs.now finished.now device.old) }
+    ensures { IfOk result (said.IsReportOn D.honest D.seen lines.now logs.now finished.now device.old) }
 {
     let opened = recover(alloc, device)?;
     let pairs = content(alloc, &opened, device)?;
@@ -223,7 +219,7 @@ fn report_on<D: Device>(
 
 /// The shape of these sizes.
 fn shape_of(sizes: Sizes) -> Result<Shape, Fault>
-    ensures { IfOk result (HasSizes sizes) }
+    ensures { IfOk result (said.HasSizes sizes) }
 {
     let Sizes {
         class,

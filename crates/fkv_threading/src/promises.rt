@@ -3,7 +3,7 @@ use crate::players::SessionEnd;
 use fkv_base::{Fault, Serial};
 use fkv_disk::Device;
 use fkv_lines::Line;
-use fkv_table::Table;
+use fkv_threads::Table;
 use std::thread::Promise;
 
 /// The thread of the session of this number, which goes on from this point at the table, and plays its calls of these lines: its log is what that session
@@ -18,8 +18,7 @@ pub(crate) struct SessionLog<'t, D: Device> {
 
 impl<'t, D: Device> Promise<Result<SessionEnd, Fault>> for SessionLog<'t, D> {
     ghost use Rattle.std.specs.Prelude.{IfOk};
-    ghost use Rattle.fkv_table.specs.Planes.{opening_of};
-    ghost use Rattle.fkv_threading.specs.Told.{IsTold, part_of};
+    ghost use Rattle.fkv_threading.specs.Said as said;
 
-    ghost kept_by = { λ its r. IfOk r (λ end. IsTold (opening_of D.seen) (part_of its.table.now.table.shared.key its.number its.point its.lines.now) end.is_whole end.log) };
+    ghost kept_by = { λ its r. IfOk r (λ end. said.IsTold (said.opening_of D.seen) (said.part_of its.table.now.table.shared.key its.number its.point its.lines.now) end.is_whole end.log) };
 }

@@ -1,7 +1,6 @@
 //! Runs of the program whose words ask for threads.
 ghost use Rattle.std.specs.Prelude.{◌≡◌, IfOk, OnOk, codes};
-ghost use Rattle.std.specs.Io.KnownBytes.{Appends};
-ghost use Rattle.fkv_thread_scripts.specs.Reports.{ended};
+ghost use Rattle.fkv_threading.specs.Said as said;
 
 use crate::gates::Open;
 use crate::programs::{run_threads, run_threads_in_file};
@@ -51,7 +50,7 @@ where
 
 /// Refuses words that ask for threads and have a seed. The status: 2.
 pub fn refuse_seed<W: Write, E: Write>(output: &mut W, complaints: &mut E) -> io::Result<u8>
-    ensures text { OnOk result (Appends (W.contents output.old) (W.contents output.new) (ended (codes "options seed and threads"))) }
+    ensures text { OnOk result (said.Appends (W.contents output.old) (W.contents output.new) (said.ended (codes "options seed and threads"))) }
     ensures status { IfOk result (λ status. status ≡ 2) }
 {
     write_options(output)?;
@@ -64,7 +63,7 @@ pub fn refuse_seed<W: Write, E: Write>(output: &mut W, complaints: &mut E) -> io
 
 /// The line of words that don't go together.
 fn write_options<W: Write>(output: &mut W) -> io::Result<()>
-    ensures { OnOk result (Appends (W.contents output.old) (W.contents output.new) (ended (codes "options seed and threads"))) }
+    ensures { OnOk result (said.Appends (W.contents output.old) (W.contents output.new) (said.ended (codes "options seed and threads"))) }
 {
     output.write_all("options seed and threads\n".as_bytes())?;
     output.flush()

@@ -1,7 +1,6 @@
 //! A session's thread.
 ghost use Rattle.std.specs.Prelude.{◌≡◌, IfOk};
-ghost use Rattle.fkv_table.specs.Planes.{opening_of};
-ghost use Rattle.fkv_threading.specs.Told.{IsTold};
+ghost use Rattle.fkv_threading.specs.Said as said;
 
 use crate::gates::Gate;
 use crate::players::{Player, SessionEnd};
@@ -22,7 +21,7 @@ pub(crate) fn play_session<D: Device, G: Gate, R: Wait>(
     number: usize,
     player: Player<'_, D>,
 ) -> Result<SessionEnd, Fault>
-    ensures { IfOk result (λ its. IsTold (opening_of D.seen) player.entry its.is_whole its.log) }
+    ensures { IfOk result (λ its. said.IsTold (said.opening_of D.seen) player.entry its.is_whole its.log) }
 {
     let played = play_calls(rt, progress, gate, number, player);
     if played.is_err() {

@@ -1,3 +1,4 @@
+pub mod Below
 mod Ended
 mod Lawful
 mod Opens

@@ -1,8 +1,8 @@
 -- The world of a table that was opened is one with which the guard begins, so its sessions and its keeper are ready.
 use Rattle.std.proofs.Common.{◌≡◌, ℕ, List, [], sym, ap, subst, arith, Result, Ok, Err, IfOk}
 use Rattle.std.specs.declared.snapshot.Snapshot.{Snapshot}
-use Rattle.fkv_core.specs.Openings.{IsOpeningWorld, beginning}
-use Rattle.fkv_core.specs.Worlds.{WorldModel}
+use Rattle.law_threads.specs.Below.fkv_core.Openings.{IsOpeningWorld, beginning}
+use Rattle.law_threads.specs.Below.fkv_core.Worlds.{WorldModel}
 use Rattle.fkv_disk.specs.Device.{IsAfter}
 use Rattle.fkv_opening.specs.declared.opened_store.Opened.{Opened}
 use Rattle.law_threads.specs.Below.fkv_world.Opened.{IsOpenedWorld}

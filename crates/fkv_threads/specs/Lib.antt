@@ -1,4 +1,5 @@
 pub mod Begun
+pub mod Below
 pub mod Pieces
 pub mod Runs
 pub mod Said

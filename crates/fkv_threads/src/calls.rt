@@ -2,11 +2,10 @@
 ghost use Rattle.std.specs.Prelude.{◌≡◌};
 ghost use Rattle.fkv_threads.specs.Said as said;
 
-use fkv_core::World;
 use fkv_disk::Device;
 use fkv_map::{Call, Op};
 use fkv_session::{Answer, Told};
-use fkv_table::{Pass, Session, Table};
+use fkv_table::{Pass, Session, Table, World};
 use law_threads::law_threads;
 use std::snapshot::Snapshot;
 

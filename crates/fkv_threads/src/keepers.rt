@@ -2,10 +2,9 @@
 ghost use Rattle.fkv_threads.specs.Said as said;
 
 use fkv_base::{CommitKind, Fault, Version};
-use fkv_core::World;
 use fkv_disk::Device;
 use fkv_keeper::Turn;
-use fkv_table::{Keeper, KeeperPass, Table};
+use fkv_table::{Keeper, KeeperPass, Table, World};
 use law_threads::law_threads;
 use std::snapshot::Snapshot;
 

@@ -14,3 +14,6 @@ pub use keepers::{ask_commit, turn};
 pub use opening::open;
 pub use passes::{close, join};
 pub use pieces::{asks_device, device_ask, device_step, drive, start_turn};
+
+// What crates above name of the table.
+pub use fkv_table::{Happening, Keeper, KeeperPass, OpenTable, Pass, Session, Table, TurnAsk};

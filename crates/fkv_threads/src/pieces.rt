@@ -3,9 +3,8 @@ ghost use Rattle.std.specs.Prelude.{◌≡◌, ◌<◌, ◌≤◌, true};
 ghost use Rattle.fkv_threads.specs.Pieces as piece;
 ghost use Rattle.fkv_threads.specs.Said as said;
 
-use fkv_core::World;
 use fkv_disk::{Device, DeviceAsk};
-use fkv_table::{Keeper, KeeperPass, Table, TurnAsk};
+use fkv_table::{Keeper, KeeperPass, Table, TurnAsk, World};
 use law_threads::law_threads;
 use std::snapshot::Snapshot;
 

@@ -1,6 +1,6 @@
 -- Each log so far is what the session at its number was told.
 use Rattle.std.proofs.Common.{◌≡◌, length}
-use Rattle.fkv_table.specs.Planes.{opening_of}
+use Rattle.fkv_threads.specs.Below.fkv_table.Planes.{opening_of}
 use Rattle.fkv_threading.specs.Told.{AreLogs}
 use Rattle.fkv_threading.proofs.playing.joined.Given as goal
 

@@ -1,6 +1,6 @@
 -- The sessions of the table that was opened go on from the store's points.
 use Rattle.std.proofs.Common.{rules, refl, [], ◌≡◌}
-use Rattle.fkv_table.specs.Planes.{opening_of}
+use Rattle.fkv_threads.specs.Below.fkv_table.Planes.{opening_of}
 use Rattle.fkv_threading.proofs.Told.{is_played}
 use Rattle.fkv_threading.proofs.playing.play.Goals as goal
 

@@ -1,6 +1,6 @@
 -- Each thread gives back what its session was told, and the keeper stays the one at this table.
 use Rattle.std.proofs.Common.{◌∙◌, subst}
-use Rattle.fkv_table.specs.Planes.{opening_of}
+use Rattle.fkv_threads.specs.Below.fkv_table.Planes.{opening_of}
 use Rattle.fkv_threading.specs.Told.{IsKept}
 use Rattle.fkv_threading.proofs.playing.play_in.Goals as goal
 

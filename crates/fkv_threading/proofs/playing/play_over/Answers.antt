@@ -1,6 +1,6 @@
 -- There is a seat for each session.
 use Rattle.std.proofs.Common.{ℕ, subst, IfOk}
-use Rattle.fkv_table.specs.Planes.{opening_of}
+use Rattle.fkv_threads.specs.Below.fkv_table.Planes.{opening_of}
 use Rattle.fkv_threading.specs.Told.{WerePlayed}
 use Rattle.fkv_threading.proofs.playing.play_over.Goals as goal
 

@@ -1,5 +1,5 @@
 -- Before its first call a session was told nothing.
-use Rattle.fkv_table.specs.Planes.{opening_of}
+use Rattle.fkv_threads.specs.Below.fkv_table.Planes.{opening_of}
 use Rattle.fkv_threading.proofs.Told.{told_nothing}
 use Rattle.fkv_threading.proofs.playing.player_of.Goals as goal
 

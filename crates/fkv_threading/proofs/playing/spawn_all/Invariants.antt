@@ -1,6 +1,6 @@
 -- Each thread so far promises what the session at its number is told.
 use Rattle.std.proofs.Common.{◌≡◌, length}
-use Rattle.fkv_table.specs.Starts.{EachAt}
+use Rattle.fkv_threads.specs.Below.fkv_table.Starts.{EachAt}
 use Rattle.fkv_threading.specs.Told.{part_at, part_of}
 use Rattle.fkv_threading.proofs.playing.spawn_all.Given as goal
 

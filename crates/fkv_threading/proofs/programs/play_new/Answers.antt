@@ -1,6 +1,6 @@
 -- A run without a fault of the keeper, in which no session was stopped.
 use Rattle.std.proofs.Common.{Bool, subst}
-use Rattle.fkv_table.specs.Planes.{opening_of}
+use Rattle.fkv_threads.specs.Below.fkv_table.Planes.{opening_of}
 use Rattle.fkv_threading.specs.Told.{IsPlayed}
 use Rattle.fkv_threading.proofs.programs.play_new.Goals as goal
 

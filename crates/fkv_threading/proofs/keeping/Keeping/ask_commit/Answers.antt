@@ -1,7 +1,7 @@
 -- The start of a commit finishes none, and calls no device.
 use Rattle.std.proofs.Common.{rules}
-use Rattle.fkv_table.specs.Planes.{opening_of}
-use Rattle.fkv_table.specs.declared.happenings.Happening.TheVariants.{Commits}
+use Rattle.fkv_threads.specs.Below.fkv_table.Planes.{opening_of}
+use Rattle.fkv_threads.specs.Below.fkv_table.Happening.TheVariants.{Commits}
 use Rattle.fkv_threading.proofs.Told.{finished_on}
 use Rattle.fkv_threading.proofs.keeping.Keeping.ask_commit.Goals as goal
 

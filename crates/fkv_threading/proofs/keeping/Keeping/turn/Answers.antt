@@ -1,7 +1,7 @@
 -- The turn is one more that the keeper has made.
 use Rattle.std.proofs.Common.{refl}
-use Rattle.fkv_table.specs.Planes.{opening_of}
-use Rattle.fkv_table.specs.declared.happenings.Happening.TheVariants.{Turns}
+use Rattle.fkv_threads.specs.Below.fkv_table.Planes.{opening_of}
+use Rattle.fkv_threads.specs.Below.fkv_table.Happening.TheVariants.{Turns}
 use Rattle.fkv_threading.proofs.Told.{finished_more}
 use Rattle.fkv_threading.proofs.keeping.Keeping.turn.Goals as goal
 

@@ -1,5 +1,5 @@
 -- The call is one more that the session has made of itself.
-use Rattle.fkv_table.specs.Planes.{opening_of}
+use Rattle.fkv_threads.specs.Below.fkv_table.Planes.{opening_of}
 use Rattle.fkv_threading.proofs.Told.{told_own}
 use Rattle.fkv_threading.proofs.players.Player.call_own.Goals as goal
 

@@ -1,7 +1,7 @@
 -- Its answered calls are the first of its lines.
 use Rattle.std.proofs.Common.{◌≡◌, ◌≤◌, true, List, length, subst}
 use Rattle.fkv_map.specs.declared.operations.Call.{Call}
-use Rattle.fkv_table.specs.Planes.{opening_of}
+use Rattle.fkv_threads.specs.Below.fkv_table.Planes.{opening_of}
 use Rattle.fkv_threading.specs.Told.{IsTold}
 use Rattle.fkv_threading.proofs.Told.{told_all}
 use Rattle.fkv_threading.proofs.players.Player.end.Goals as goal

@@ -1,0 +1,162 @@
+//! 2^20 keys of a large store in memory: commits of both kinds, crashes and recovery, compared pair by pair with the plain map. Over a file
+//! tools/large plays the same by the built program, whose scripts are too short for so many keys in memory.
+use crate::lines::Line;
+use crate::lines::Line::{Commit, Finish, LogCommit, Refresh, Turn, Up};
+use crate::stores::{Store, crash, opened_store, whole};
+use fkv_base::{Fault, Key, Shape, Value};
+use fkv_core::{Told, World};
+use fkv_disk::{Fuse, MemDisk};
+use fkv_map::{Op, PlainMap};
+use fkv_opening::recover;
+use fkv_pairs::content;
+use fkv_session::Answer;
+use std::alloc::Global;
+use std::process::Abort;
+use std::test::Fail;
+
+const KEYS: u64 = 1 << 20;
+
+/// A turn of the keeper comes behind so many updates, a quarter of a page.
+const EACH: u64 = 256;
+
+/// Updates of the keys from one up to another, each by half the sum of its key and a number.
+#[derive(Clone, Copy)]
+struct Updates {
+    from: u64,
+    to: u64,
+    more: u64,
+}
+
+/// Updates, and the commit behind them.
+type Kept = (Updates, Line);
+
+/// The first life: a full commit, one of the log, and updates that no commit keeps.
+const FIRST: [Kept; 2] = [
+    (
+        Updates {
+            from: 0,
+            to: 3 * KEYS / 4,
+            more: 7,
+        },
+        Commit,
+    ),
+    (
+        Updates {
+            from: KEYS / 2,
+            to: KEYS,
+            more: 11,
+        },
+        LogCommit,
+    ),
+];
+
+const LOST: Updates = Updates {
+    from: 0,
+    to: KEYS / 64,
+    more: 13,
+};
+
+/// The second one, over what is recovered.
+const SECOND: [Kept; 1] = [(
+    Updates {
+        from: 0,
+        to: KEYS / 64,
+        more: 17,
+    },
+    Commit,
+)];
+
+/// A new store of 2^18 buckets and 4,096 overflow buckets, with 65,536 records in memory and room for 2^22 on the device.
+fn large_store(alloc: Global) -> Result<Store, Fault> {
+    opened_store(alloc, Shape::large(18, 1024, 64, 32, 1, 4096, 4096)?)
+}
+
+/// Whether the update is done at once. Behind each 256th key the session sees how far the store has come, and the keeper makes a turn, twice.
+fn is_done(store: &mut Store, key: u64, value: u64) -> bool {
+    let told = whole(store, Up(0, key, value));
+    if key % EACH == 0 {
+        for line in [Refresh(0), Turn, Refresh(0), Turn] {
+            let _ = whole(store, line);
+        }
+    }
+    matches!(told, Some(Told::Session(_, Answer::Done(_, _))))
+}
+
+/// Makes the updates in the store and in the map. Whether each is done at once.
+fn update(store: &mut Store, map: &mut PlainMap, updates: Updates) -> Result<bool, Fault> {
+    let mut are_done = true;
+    for key in updates.from..updates.to {
+        let value = key.wrapping_add(updates.more) >> 1;
+        are_done = are_done && is_done(store, key, value);
+        map.apply(Op::Upsert(Key(key), Value(value)))?;
+    }
+    Ok(are_done)
+}
+
+/// Makes a commit. Whether it finishes.
+fn commit(store: &mut Store, kind: Line) -> bool {
+    let _ = whole(store, kind);
+    match whole(store, Finish) {
+        Some(Told::Turn(Ok(turn))) => turn.finished.is_some(),
+        _ => false,
+    }
+}
+
+/// Makes updates, and commits that keep them.
+fn live(
+    rt: &impl Abort,
+    store: &mut Store,
+    map: &mut PlainMap,
+    life: &[Kept],
+) -> Result<(), Fault> {
+    for (updates, kind) in life {
+        assert!(rt; update(store, map, *updates)?);
+        assert!(rt; commit(store, *kind));
+    }
+    Ok(())
+}
+
+/// The life ends. The store that opens then.
+fn recovered(rt: &impl Abort, alloc: Global, store: Store, map: &PlainMap) -> Result<Store, Fault> {
+    let mut device = Fuse::new(crash(store, 165)?);
+    let opened = recover(alloc, &mut device)?;
+    let pairs = content(alloc, &opened, &mut device)?;
+    compare(rt, pairs.as_slice(), map)?;
+    World::open(alloc, opened, device)
+}
+
+/// The pairs are those of the map.
+fn compare(rt: &impl Abort, pairs: &[(Key, Value)], map: &PlainMap) -> Result<(), Fault> {
+    let wanted = map.pairs()?;
+    assert!(rt; pairs == wanted.as_slice());
+    Ok(())
+}
+
+/// The first life, and the store that opens behind it.
+fn first_life(rt: &impl Abort, alloc: Global, map: &mut PlainMap) -> Result<Store, Fault> {
+    let mut store = large_store(alloc)?;
+    live(rt, &mut store, map, &FIRST)?;
+    let mut lost = PlainMap::new(alloc);
+    assert!(rt; update(&mut store, &mut lost, LOST)?);
+    recovered(rt, alloc, store, map)
+}
+
+/// The second life, and what opens behind it.
+fn second_life(
+    rt: &impl Abort,
+    alloc: Global,
+    mut store: Store,
+    map: &mut PlainMap,
+) -> Result<(), Fault> {
+    live(rt, &mut store, map, &SECOND)?;
+    recovered(rt, alloc, store, map)?;
+    Ok(())
+}
+
+#[test]
+fn a_million_keys_are_recovered(rt: HostRuntime) -> Result<(), Fail> {
+    let mut map = PlainMap::new(rt.alloc());
+    let store = first_life(&rt, rt.alloc(), &mut map)?;
+    second_life(&rt, rt.alloc(), store, &mut map)?;
+    Ok(())
+}

@@ -1,0 +1,2 @@
+-- What crates above name of `fkv_table`.
+pub use Rattle.fkv_table.proofs.Starts
