@@ -4,7 +4,7 @@ use Rattle.fkv_map.specs.declared.operations.Call.{Call}
 use Rattle.fkv_map.specs.declared.operations.Call.TheVariants as call
 use Rattle.fkv_map.specs.declared.operations.Op.{Op}
 use Rattle.fkv_map.specs.declared.operations.Op.TheVariants as op
-use Rattle.fkv_world.specs.Runs.{World}
+use Rattle.fkv_handles.specs.Below.fkv_world.Runs.{World}
 use Rattle.fkv_handles.specs.declared.sessions.Session.{Session}
 use Rattle.fkv_handles.specs.Handles.{Opening}
 use Rattle.fkv_face.specs.declared.sessions.Seen.{Seen}

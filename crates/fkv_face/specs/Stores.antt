@@ -10,7 +10,7 @@ use Rattle.fkv_handles.specs.declared.refusals.Refusal.{Refusal}
 use Rattle.fkv_handles.specs.declared.sessions.Session.{Session}
 use Rattle.fkv_handles.specs.declared.stores.Recovered.{Recovered}
 use Rattle.fkv_handles.specs.declared.stores.Store.{Store}
-use Rattle.fkv_world.specs.Runs.{World}
+use Rattle.fkv_handles.specs.Below.fkv_world.Runs.{World}
 use Rattle.fkv_face.specs.declared.sizes.Image.{Image}
 use Rattle.fkv_face.specs.declared.sizes.Sizes.{Sizes}
 use Rattle.fkv_face.specs.Numbers.{fault_told, refusal_told}

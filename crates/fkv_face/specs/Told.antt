@@ -6,7 +6,7 @@ use Rattle.fkv_session.specs.declared.answers.Answer.TheVariants as answer
 use Rattle.fkv_session.specs.declared.answers.Finished.{Finished}
 use Rattle.fkv_session.specs.declared.answers.Told.{Told}
 use Rattle.fkv_session.specs.declared.answers.Told.TheVariants as told
-use Rattle.fkv_world.specs.Runs.{World}
+use Rattle.fkv_handles.specs.Below.fkv_world.Runs.{World}
 use Rattle.fkv_handles.specs.declared.sessions.Session.{Session}
 use Rattle.fkv_handles.specs.Handles.{Opening, keys_of, sitting_of}
 use Rattle.fkv_handles.specs.Laid.{laid_call}

@@ -8,9 +8,9 @@ use Rattle.fkv_disk.specs.Asks.{AskedCall, Reads, Writes, Syncs}
 use Rattle.fkv_keeper.specs.declared.answers.Finished.{Finished}
 use Rattle.fkv_keeper.specs.declared.answers.Turn.{Turn}
 use Rattle.fkv_posted.specs.declared.posted.Posted.{Posted}
-use Rattle.fkv_table.specs.declared.turns.TurnAsk.{TurnAsk}
-use Rattle.fkv_table.specs.declared.turns.TurnAsk.TheVariants.{Device, Over}
-use Rattle.fkv_world.specs.Runs.{World}
+use Rattle.fkv_handles.specs.Below.fkv_table.TurnAsk.{TurnAsk}
+use Rattle.fkv_handles.specs.Below.fkv_table.TurnAsk.TheVariants.{Device, Over}
+use Rattle.fkv_handles.specs.Below.fkv_world.Runs.{World}
 use Rattle.fkv_handles.specs.declared.keepers.Keeper.{Keeper}
 use Rattle.fkv_handles.specs.Kept.{IsAskedBy, IsToldBy, IsTurnedBy}
 use Rattle.fkv_face.specs.declared.keepers.Turned.{Turned}

@@ -2,7 +2,7 @@
 ghost use Rattle.std.specs.Prelude.{◌≡◌, None};
 ghost use Rattle.fkv_disk.specs.Asks.{asked_call};
 ghost use Rattle.fkv_face.specs.Turns as says;
-ghost use Rattle.fkv_table.specs.Planes.{opening_of};
+ghost use Rattle.fkv_handles.specs.Below.fkv_table.Planes.{opening_of};
 
 use crate::answers::refused;
 use crate::held_keeper::HeldKeeper;
@@ -10,9 +10,9 @@ use crate::outcomes::outcome_of;
 use crate::points::tell_points;
 use fkv_base::CommitKind;
 use fkv_disk::{Device, DeviceAsk};
+use fkv_handles::TurnAsk;
 use fkv_keeper::Turn;
 use fkv_posted::Posted;
-use fkv_table::TurnAsk;
 use std::ptr::from_ref;
 
 /// What a turn has come to.

@@ -1,7 +1,7 @@
 //! Polls, and the end of a session's handle.
 ghost use Rattle.std.specs.Prelude.{◌≡◌, ◌≤◌, ◌++◌, length, map, drop};
 ghost use Rattle.fkv_face.specs.Polls as says;
-ghost use Rattle.fkv_table.specs.Planes.{opening_of};
+ghost use Rattle.fkv_handles.specs.Below.fkv_table.Planes.{opening_of};
 
 use crate::answers::ROOM_SMALL;
 use crate::held_session::HeldSession;

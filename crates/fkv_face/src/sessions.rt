@@ -2,7 +2,7 @@
 ghost use Rattle.std.specs.Prelude.{◌≡◌};
 ghost use Rattle.fkv_face.specs.Calls as says;
 ghost use Rattle.fkv_map.specs.declared.operations.Call.TheVariants as call;
-ghost use Rattle.fkv_table.specs.Planes.{opening_of};
+ghost use Rattle.fkv_handles.specs.Below.fkv_table.Planes.{opening_of};
 
 use crate::held_session::HeldSession;
 use crate::told::{Numbers, told_by, told_of};

@@ -1,7 +1,7 @@
 //! A store is made, opened, handed out and closed.
 ghost use Rattle.std.specs.Prelude.{◌≡◌};
 ghost use Rattle.fkv_face.specs.Stores as says;
-ghost use Rattle.fkv_table.specs.Planes.{opening_of};
+ghost use Rattle.fkv_handles.specs.Below.fkv_table.Planes.{opening_of};
 
 use crate::answers::{ROOM_SMALL, not_given, refused};
 use crate::held_store::HeldStore;

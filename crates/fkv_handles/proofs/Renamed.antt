@@ -3,8 +3,8 @@ use Rattle.std.proofs.Common.{◌≡◌, ℕ, Option, sym, subst}
 use Rattle.fkv_map.specs.declared.operations.Call.{Call}
 use Rattle.fkv_posted.specs.declared.posted.Posted.{Posted}
 use Rattle.fkv_session.specs.declared.answers.Answer.{Answer}
-use Rattle.fkv_table.specs.declared.rule.Pass.{Pass}
-use Rattle.fkv_world.specs.Runs.{World}
+use Rattle.fkv_threads.specs.Below.fkv_table.Pass.{Pass}
+use Rattle.fkv_threads.specs.Below.fkv_world.Runs.{World}
 use Rattle.fkv_handles.specs.declared.views.Sitting.{Sitting}
 use Rattle.fkv_handles.specs.Passes.{seen_by}
 use Rattle.fkv_handles.specs.Sittings.{IsCallOf}

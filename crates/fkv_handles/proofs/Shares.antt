@@ -4,20 +4,20 @@ use Rattle.std.proofs.lemmas.Option.{none-some}
 use Rattle.atomic_table.specs.Seated.{TableId}
 use Rattle.atomic_table.specs.Table.{Me}
 use Rattle.fkv_session.specs.Sessions.{Sitter}
-use Rattle.fkv_table.specs.Calls.{IsReady}
-use Rattle.fkv_table.specs.Desks.{Slot, Knows}
+use Rattle.fkv_threads.specs.Below.fkv_table.Calls.{IsReady}
+use Rattle.fkv_threads.specs.Below.fkv_table.Desks.{Slot, Knows}
 use Rattle.fkv_keeper.specs.Keeping.{KeeperModel}
-use Rattle.fkv_table.specs.Keeps.{IsAfterSeen, IsKeeperReady}
+use Rattle.fkv_threads.specs.Below.fkv_table.Keeps.{IsAfterSeen, IsKeeperReady}
 use Rattle.fkv_posted.specs.declared.posted.Posted.{Posted}
-use Rattle.fkv_table.specs.Starts.{EachAt}
-use Rattle.fkv_table.specs.declared.rule.Pass.{Pass}
-use Rattle.fkv_table.specs.declared.sessions.Session.{Session as TableSession}
+use Rattle.fkv_threads.specs.Below.fkv_table.Starts.{EachAt}
+use Rattle.fkv_threads.specs.Below.fkv_table.Pass.{Pass}
+use Rattle.fkv_threads.specs.Below.fkv_table.Session.{Session as TableSession}
 use Rattle.fkv_handles.specs.Handles.{Opening}
 use Rattle.fkv_handles.specs.Opens.{AreFirst, sitting_at}
 use Rattle.fkv_opening.specs.declared.opened_store.Opened.{Opened}
-use Rattle.fkv_table.specs.declared.happenings.Happening.{Happening}
+use Rattle.fkv_threads.specs.Below.fkv_table.Happening.{Happening}
 use Rattle.fkv_threads.specs.Begun.{HasBegun, IsOverStore}
-use Rattle.fkv_world.specs.Runs.{World}
+use Rattle.fkv_threads.specs.Below.fkv_world.Runs.{World}
 
 -- a session is ready there too
 pub ready_at : {K : Type 0} (at : K → World) (key key' : K) (table table' seat : TableId) (me : Me Slot (Knows K)) (m : Sitter) (desk : ℕ) → key' ≡ key → table' ≡ table → IsReady at key table seat me m desk → IsReady at key' table' seat me m desk

@@ -2,7 +2,7 @@
 use Rattle.std.specs.Prelude.{◌≡◌, ℕ, Bool, List, Option, None, Some, Result, Ok, Err, is_some, slice_get, slice_set}
 use Rattle.std.specs.declared.snapshot.Snapshot.{Snapshot}
 use Rattle.fkv_base.specs.declared.faults.Fault.TheVariants.{NoSession}
-use Rattle.fkv_core.specs.Worlds.{WorldModel}
+use Rattle.fkv_threads.specs.Below.fkv_core.Worlds.{WorldModel}
 use Rattle.fkv_disk.specs.Asks.{AskedCall}
 use Rattle.fkv_posted.specs.declared.outcomes.Told.{Told}
 use Rattle.fkv_posted.specs.declared.posted.Posted.{Posted}

@@ -6,9 +6,9 @@ use Rattle.fkv_base.specs.declared.faults.Fault.TheVariants.{Broken}
 use Rattle.fkv_base.specs.declared.numbers.Version.{Version}
 use Rattle.fkv_posted.specs.declared.outcomes.Told.{Told}
 use Rattle.fkv_posted.specs.declared.posted.Posted.{Posted}
-use Rattle.fkv_table.specs.declared.turns.TurnAsk.{TurnAsk}
-use Rattle.fkv_table.specs.declared.turns.TurnAsk.TheVariants.{Over}
-use Rattle.fkv_world.specs.Runs.{World}
+use Rattle.fkv_threads.specs.Below.fkv_table.TurnAsk.{TurnAsk}
+use Rattle.fkv_threads.specs.Below.fkv_table.TurnAsk.TheVariants.{Over}
+use Rattle.fkv_threads.specs.Below.fkv_world.Runs.{World}
 use Rattle.fkv_handles.specs.declared.views.Watch.{Watch}
 use Rattle.fkv_handles.specs.Watches.{IsAskedToCommit, IsTold, IsTurned}
 

@@ -1,3 +1,4 @@
+pub mod Below
 pub mod Handles
 pub mod Kept
 pub mod Laid

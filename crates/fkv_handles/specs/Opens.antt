@@ -8,10 +8,10 @@ use Rattle.fkv_opening.specs.Faults.{IsFaultOf}
 use Rattle.fkv_opening.specs.Opened.{IsStoreOf}
 use Rattle.fkv_posted.specs.declared.posted.Posted.{Posted}
 use Rattle.fkv_spread.specs.declared.keys.Keys.{Keys}
-use Rattle.fkv_table.specs.declared.happenings.Happening.{Happening}
-use Rattle.fkv_table.specs.declared.rule.Pass.{Pass}
-use Rattle.fkv_table.specs.declared.sessions.Session.{Session as TableSession}
-use Rattle.fkv_world.specs.Runs.{World}
+use Rattle.fkv_threads.specs.Below.fkv_table.Happening.{Happening}
+use Rattle.fkv_threads.specs.Below.fkv_table.Pass.{Pass}
+use Rattle.fkv_threads.specs.Below.fkv_table.Session.{Session as TableSession}
+use Rattle.fkv_threads.specs.Below.fkv_world.Runs.{World}
 use Rattle.fkv_handles.specs.declared.stores.Recovered.{Recovered}
 use Rattle.fkv_handles.specs.declared.stores.Store.{Store}
 use Rattle.fkv_handles.specs.declared.views.Sitting.{Sitting}

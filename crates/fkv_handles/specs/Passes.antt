@@ -1,9 +1,9 @@
 -- What a pass has seen.
 use Rattle.std.specs.Prelude.{List, [], Option, Some, None}
 use Rattle.fkv_posted.specs.declared.posted.Posted.{Posted}
-use Rattle.fkv_table.specs.declared.happenings.Happening.{Happening}
-use Rattle.fkv_table.specs.declared.rule.Pass.{Pass}
-use Rattle.fkv_table.specs.declared.keepers.KeeperPass.{KeeperPass}
+use Rattle.fkv_threads.specs.Below.fkv_table.Happening.{Happening}
+use Rattle.fkv_threads.specs.Below.fkv_table.Pass.{Pass}
+use Rattle.fkv_threads.specs.Below.fkv_table.KeeperPass.{KeeperPass}
 
 -- the events that a session's pass has seen, if it is there
 abbrev pub seen_by : Option (Pass Posted) → List Happening

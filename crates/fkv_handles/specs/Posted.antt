@@ -2,7 +2,7 @@
 use Rattle.std.specs.Prelude.{◌≡◌, Bool, true, false}
 use Rattle.fkv_keeper.specs.Keeping.{KeeperModel, keeper_ask}
 use Rattle.fkv_keeper.specs.KeeperRun.{is_in_hand}
-use Rattle.fkv_table.specs.Turns.{asks_device}
+use Rattle.fkv_threads.specs.Below.fkv_table.Turns.{asks_device}
 
 -- in the middle of a turn the keeper asks for the device, and else no call of it is in hand
 pub record StandsSo (in_turn : Bool) (k : KeeperModel) : Type 0 where

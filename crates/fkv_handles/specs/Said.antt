@@ -11,5 +11,5 @@ pub use Rattle.fkv_handles.specs.Sittings.{IsCallOf, IsCalled, IsOpCalled, IsOpO
 pub use Rattle.fkv_handles.specs.Watches.{IsAskedToCommit, IsHonestlyTold, IsTold, IsTurned, keeper_due}
 pub use Rattle.fkv_handles.specs.declared.refusals.Refusal.TheVariants.{HandleOut}
 pub use Rattle.fkv_opening.specs.Opened.{IsStoreOf}
-pub use Rattle.fkv_table.specs.Planes.{opening_of}
+pub use Rattle.fkv_threads.specs.Below.fkv_table.Planes.{opening_of}
 pub use Rattle.fkv_threads.specs.Said.{EachAt, HasBegun, IsAfterSeen, IsKeeperReady}

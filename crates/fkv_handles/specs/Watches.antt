@@ -9,10 +9,10 @@ use Rattle.fkv_posted.specs.declared.posted.Posted.{Posted}
 use Rattle.fkv_posted.specs.Outcomes.{AreOutcomes}
 use Rattle.fkv_posted.specs.Posting.{with_told}
 use Rattle.fkv_posted.specs.Shows.{posted_failures, posted_opened, posted_outcomes, posted_shown, posted_told}
-use Rattle.fkv_table.specs.declared.happenings.Happening.{Happening}
-use Rattle.fkv_table.specs.declared.turns.TurnAsk.{TurnAsk}
-use Rattle.fkv_table.specs.declared.turns.TurnAsk.TheVariants.{Device, Over}
-use Rattle.fkv_world.specs.Runs.{World}
+use Rattle.fkv_threads.specs.Below.fkv_table.Happening.{Happening}
+use Rattle.fkv_threads.specs.Below.fkv_table.TurnAsk.{TurnAsk}
+use Rattle.fkv_threads.specs.Below.fkv_table.TurnAsk.TheVariants.{Device, Over}
+use Rattle.fkv_threads.specs.Below.fkv_world.Runs.{World}
 use Rattle.fkv_handles.specs.declared.views.Watch.{Watch}
 use Rattle.fkv_threads.specs.Pieces as piece
 use Rattle.fkv_threads.specs.Said as said

@@ -6,7 +6,7 @@ use crate::keeping::Keeping;
 use fkv_base::{CommitKind, Fault, Version};
 use fkv_disk::{Device, DeviceAsk};
 use fkv_posted::{Posted, Told};
-use fkv_table::TurnAsk;
+use fkv_threads::TurnAsk;
 
 /// The keeper's handle, until it is ended. It may go into any thread.
 #[derive(Drop)]

@@ -5,8 +5,9 @@ ghost use Rattle.fkv_handles.specs.Said as said;
 use fkv_base::{CommitKind, Fault, Version};
 use fkv_disk::{Device, DeviceAsk};
 use fkv_posted::{Posted, Told};
-use fkv_table::{Keeper, KeeperPass, Table, TurnAsk};
-use fkv_threads::{ask_commit, device_ask, device_step, drive, start_turn};
+use fkv_threads::{
+    Keeper, KeeperPass, Table, TurnAsk, ask_commit, device_ask, device_step, drive, start_turn,
+};
 use std::alloc::Global;
 use std::marker::Model;
 use std::sync::Arc;

@@ -17,3 +17,6 @@ pub use refusals::Refusal;
 pub use sessions::Session;
 pub use stores::{Recovered, Store};
 pub use views::{Sitting, Watch};
+
+// What crates above name of the table.
+pub use fkv_threads::TurnAsk;

@@ -10,7 +10,7 @@ use fkv_disk::Device;
 use fkv_opening::{Opened, recover};
 use fkv_posted::Posted;
 use fkv_spread::Keys;
-use fkv_table::{KeeperPass, Pass, Table};
+use fkv_threads::{KeeperPass, Pass, Table};
 use std::alloc::Global;
 use std::sync::Arc;
 
@@ -21,7 +21,7 @@ type Medium = Posted<'static>;
 fn seats(
     alloc: Global,
     table: &Arc<Table<Medium>, Global>,
-    sessions: Vec<(fkv_table::Session, Pass<Medium>)>,
+    sessions: Vec<(fkv_threads::Session, Pass<Medium>)>,
 ) -> Result<Vec<Option<Seated>>, Fault>
     requires ready { said.EachAt sessions.items (λ i x. said.HasBegun (said.opening_of ⟦<Posted<'static> as Device>⟧.seen) table.now.value.table.shared.key table.now.value.table.shared.table_id i x.0.machine x.0.desk x.1.seat.table_id x.1.seat.me) }
     ensures same { IfOk result (λ seats. seats.items ≡ map (said.sitting_at table.now.value.table.shared.key) sessions.entry.items) }
@@ -81,7 +81,7 @@ pub(crate) fn opened_from(alloc: Global, bytes: &[u8]) -> Result<(Opened, Medium
 /// The keeper with a share of the table.
 pub(crate) fn kept(
     table: Arc<Table<Medium>, Global>,
-    keeper: fkv_table::Keeper,
+    keeper: fkv_threads::Keeper,
     pass: KeeperPass<Medium>,
     device: Medium,
 ) -> Keeping
@@ -103,7 +103,7 @@ pub(crate) fn kept(
 pub(crate) fn handles_of(
     alloc: Global,
     table: Arc<Table<Medium>, Global>,
-    sessions: Vec<(fkv_table::Session, Pass<Medium>)>,
+    sessions: Vec<(fkv_threads::Session, Pass<Medium>)>,
     keeping: Keeping,
     keys: Keys,
 ) -> Result<Store, Fault>

@@ -12,7 +12,7 @@ use fkv_base::{Fault, Serial, Shape, Version};
 use fkv_disk::Device;
 use fkv_posted::Posted;
 use fkv_spread::Keys;
-use fkv_table::{OpenTable, Table};
+use fkv_threads::{OpenTable, Table};
 use std::alloc::Global;
 use std::sync::Arc;
 

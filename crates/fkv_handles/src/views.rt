@@ -1,6 +1,6 @@
 //! What contracts see of a session and of the keeper that a handle holds. No value of these types is made.
 use fkv_posted::Posted;
-use fkv_table::Happening;
+use fkv_threads::Happening;
 use std::collections::LinkedList;
 
 /// A session between two calls: its number, how its store was opened, and the events up to the last one of its own, the newest first.

@@ -1,7 +1,7 @@
 -- The sessions of a table that was just opened have seen nothing.
 use Rattle.std.proofs.Common.{List, Option, sym, subst}
 use Rattle.fkv_posted.specs.contracts.posted.PostedDevice.TheImpl as medium
-use Rattle.fkv_table.specs.Planes.{opening_of}
+use Rattle.fkv_threads.specs.Below.fkv_table.Planes.{opening_of}
 use Rattle.fkv_handles.specs.declared.views.Sitting.{Sitting}
 use Rattle.fkv_handles.specs.Handles.{Opening}
 use Rattle.fkv_handles.specs.Opens.{AreFirst}

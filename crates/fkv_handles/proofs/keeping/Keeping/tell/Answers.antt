@@ -1,8 +1,8 @@
 -- The call that was posted is answered, and the turn goes on.
 use Rattle.std.proofs.Common.{◌≡◌, false, refl, sym, ap, ◌∙◌}
 use Rattle.std.proofs.lemmas.Bool.{false≢true}
-use Rattle.fkv_table.specs.declared.turns.TurnAsk.{TurnAsk}
-use Rattle.fkv_table.specs.declared.turns.TurnAsk.TheVariants.{Device, Over}
+use Rattle.fkv_threads.specs.Below.fkv_table.TurnAsk.{TurnAsk}
+use Rattle.fkv_threads.specs.Below.fkv_table.TurnAsk.TheVariants.{Device, Over}
 use Rattle.fkv_handles.specs.Passes.{seen_by_keeper}
 use Rattle.fkv_handles.specs.Watches.{is_posted}
 use Rattle.fkv_handles.proofs.keeping.Keeping.tell.Goals as goal

@@ -1,7 +1,7 @@
 -- The handles of a table that was just opened are ready, each with its share of it.
 use Rattle.std.proofs.Common.{◌∙◌}
 use Rattle.fkv_posted.specs.contracts.posted.PostedDevice.TheImpl as medium
-use Rattle.fkv_table.specs.Planes.{opening_of}
+use Rattle.fkv_threads.specs.Below.fkv_table.Planes.{opening_of}
 use Rattle.fkv_handles.proofs.Shares.{after_at, begun_at, over_at}
 use Rattle.fkv_handles.proofs.stores.Store.open.Goals as goal
 

@@ -1,0 +1,3 @@
+-- What crates above name of the crates below.
+pub use Rattle.fkv_threads.specs.Below.fkv_table
+pub use Rattle.fkv_threads.specs.Below.fkv_world
