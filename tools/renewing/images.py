@@ -30,6 +30,12 @@ def opened(number, points, pairs):
     return [f"open commit {number} points {' '.join(points)} pairs {len(pairs)}", *(f"pair {key} {value}" for key, value in pairs)]
 
 
+def spread(key):
+    """The word under which the library lays a key: one to one."""
+    word = (key ^ key >> 32) * 11400714819323198485 % 2**64
+    return word ^ word >> 32
+
+
 def saved(old, tail, number, new, pairs):
     """What is printed of a renewal from the one sizes to the others."""
     return (
@@ -40,18 +46,20 @@ def saved(old, tail, number, new, pairs):
     )
 
 
-def renews(folder, name, image, answer, words=()):
-    """A store of which this is told is renewed, by sizes that the words give or by its own."""
+def renews(folder, name, image, answer, words=(), is_spread=False):
+    """A store of which this is told is renewed, by sizes that the words give or by its own, with its keys as they are or spread."""
     pair = Pair(folder, image)
     number, tail, points, pairs = told(answer)
     need(f"{name}: the old store", played(pair.old, "open\n"), (0, opened(number, points, pairs)))
     old = sizes_of(image)
     new = list(map(int, words[1:])) or old
-    need(name, renew(pair.old, pair.new, *words), (0, saved(old, tail, number, new, pairs), ""))
+    flag = ["--spread"] if is_spread else []
+    need(name, renew(pair.old, pair.new, *words, *flag), (0, saved(old, tail, number, new, pairs), ""))
     need(f"{name}: the folder", pair.names(), ["new", "old"])
     pair.need_old(name)
     more = ["0"] * (new[4] - len(points))
-    need(f"{name}: the new store", played(pair.new, "open\n"), (0, opened(1, points[: new[4]] + more, pairs)))
+    laid = sorted((spread(key), value) for key, value in pairs) if is_spread else pairs
+    need(f"{name}: the new store", played(pair.new, "open\n"), (0, opened(1, points[: new[4]] + more, laid)))
 
 
 def refuses(folder, name, image):
@@ -103,8 +111,7 @@ def renewed(folder):
     changed = [*changed_images()][::EACH]
     for name, image in changed:
         agrees(folder, name, image)
-    others = to_other_sizes(folder)
-    return len(table) + len(changed) + others
+    return len(table) + len(changed) + to_other_sizes(folder) + with_spread_keys(folder)
 
 
 def to_other_sizes(folder):
@@ -122,3 +129,24 @@ def to_other_sizes(folder):
     for name, image, answer, words in cases:
         renews(folder, name, image, answer, tuple(words.split()))
     return len(cases)
+
+
+def with_spread_keys(folder):
+    """Stores whose keys are spread, by their own sizes and by others, and one whose keys are spread twice."""
+    answers = {name: answer for name, _, answer in TABLE}
+    large, told_large = made_large(folder)
+    cases = [
+        ("spread keys", TWO_HOMES.image(), answers["two homes"], "--shape 4 16 4 2 2 4 64"),
+        ("spread keys of a large store", large, told_large, ""),
+        ("spread keys of a small store", large, told_large, "--shape 6 8 2 1 2 16 5"),
+    ]
+    for name, image, answer, words in cases:
+        renews(folder, name, image, answer, tuple(words.split()), is_spread=True)
+    pair = Pair(folder, TWO_HOMES.image())
+    between = f"{pair.new}.once"
+    need("keys spread once", renew(pair.old, between, *cases[0][3].split(), "--spread")[0], 0)
+    need("keys spread twice", renew(between, pair.new, "--spread")[0], 0)
+    _, _, points, pairs = told(answers["two homes"])
+    twice = sorted((spread(spread(key)), value) for key, value in pairs)
+    need("a store whose keys are spread twice", played(pair.new, "open\n"), (0, opened(1, points, twice)))
+    return len(cases) + 1

@@ -25,7 +25,8 @@ WORDS = [
     "--shape 4 16 4 2 1 18446744073709551616 64",
     "--shape 4 16 4 2 1 0 64 --large 12 16 4 2 1 0 64",
     "--shape 4 16 4 2 1 0 64 --shape 4 16 4 2 1 0 64",
-    "--spread",
+    "--spread yes",
+    "--spread --spread",
     "--help",
 ]
 DEVICE = "refused 14 Device\n"

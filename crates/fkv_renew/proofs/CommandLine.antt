@@ -6,6 +6,7 @@ use Rattle.clap.specs.Faults.{is_simple_and_free}
 use Rattle.clap.specs.Simple.{app_of, app_of_fields, is_simple, new_app, new_rule, on_top}
 use Rattle.clap.specs.Walk.{Rule, Text, rule_of}
 use Rattle.clap.proofs.OnLiterals.{clap_on_literals}
+use Rattle.clap.specs.declared.builder.action.ArgAction.TheVariants.{SetTrue}
 use Rattle.clap.specs.declared.builder.arg.Arg.{Arg}
 use Rattle.clap.specs.declared.builder.command.Command.{Command}
 use Rattle.clap.specs.declared.builder.command.Command.TheOpen.{Command-F}
@@ -13,7 +14,7 @@ use Rattle.clap.specs.declared.builder.command.Command.TheViews.{out-Command}
 use Rattle.clap.specs.declared.builder.range.ValueRange.{ValueRange}
 use Rattle.clap.specs.declared.builder.value_parser.ValueParser.{ValueParser}
 use Rattle.clap.specs.declared.builder.value_parser.ValueParser.TheVariants as vp
-use Rattle.fkv_renew.specs.Asked.{command_line, sizes_rule, without_name_or_help, word_rule}
+use Rattle.fkv_renew.specs.Asked.{command_line, sizes_rule, spread_rule, without_name_or_help, word_rule}
 
 -- a word that has to be there, from its builders
 pub word_rule_is : (name : Text) (new needed : Arg) → rule_of new ≡ new_rule name → needed ≡ record new { required = true } → rule_of needed ≡ word_rule name
@@ -34,6 +35,13 @@ sizes_rule_is name new named ranged parsed long given plain long_is text range_i
     let with_name = ap rule_of long_is ∙ ap₂ (λ (r : Rule) (t : Text). record r { long = Some t }) plain text in
     let with_range = ap rule_of range_is ∙ ap₂ (λ (r : Rule) (o : Option ValueRange). record r { range = o }) with_name (some_is ranged.num_vals seven range) in
     ap rule_of parser_is ∙ ap₂ (λ (r : Rule) (p : Option ValueParser). record r { parser = p }) with_range (parser ∙ ap Some numbers)
+
+-- a flag
+pub spread_rule_is : (new named flag : Arg) (long : Bor Text) → rule_of new ≡ new_rule (codes "spread") → named ≡ record new { long = Some long } → long.now ≡ codes "spread" → flag ≡ record named { action = Some SetTrue }
+    → rule_of flag ≡ spread_rule
+spread_rule_is new named flag long plain long_is text acts =
+    let with_name = ap rule_of long_is ∙ ap₂ (λ (r : Rule) (t : Text). record r { long = Some t }) plain text in
+    ap rule_of acts ∙ ap (λ (r : Rule). record r { action = Some SetTrue }) with_name
 
 -- the command before its arguments
 pub settings_are : (new unnamed helpless : Command) → app_of new ≡ new_app (codes "fkv_renew")

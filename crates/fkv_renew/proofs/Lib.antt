@@ -1,5 +1,6 @@
 mod Answering
 mod CommandLine
+mod Flags
 mod Refusing
 mod Renewing
 mod Spelling

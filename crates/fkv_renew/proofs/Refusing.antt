@@ -1,17 +1,19 @@
 -- What the words ask for, and words that ask for nothing.
-use Rattle.std.proofs.Common.{◌≡◌, ◌∙◌, inl, inr, List, [], true, IfSome, Option, Some, None, Err, refl, sym, ap, subst, codes, option_map}
+use Rattle.std.proofs.Common.{◌≡◌, ◌∙◌, inl, inr, List, [], true, IfSome, Option, Some, None, Err, false, refl, sym, ap, subst, codes, option_map}
+use Rattle.std.specs.Option.{option_map_or}
+use Rattle.std.specs.Str.{bytes_eq}
 use Rattle.clap.specs.Faults.{fault_of, is_simple_and_free}
 use Rattle.clap.specs.Kinds.{HasKind, IsAmong, Kinds}
-use Rattle.clap.specs.Matches.{first_value, found_of, matched_of, raw_values}
+use Rattle.clap.specs.Matches.{first_value, found_of, matched_of, one_text, raw_values}
 use Rattle.clap.specs.Simple.{App, HasMatchesOf, is_simple, matches_of}
 use Rattle.clap.specs.Values.{kind_of}
-use Rattle.clap.specs.Walk.{Text, all_of, first_of, rows_of}
-use Rattle.clap.proofs.WalkLemmas.{first_value-rows, raw_values-rows}
+use Rattle.clap.specs.Walk.{Text, all_of, first_of, one_of, rows_of}
+use Rattle.clap.proofs.WalkLemmas.{first_value-rows, one_text-rows, raw_values-rows}
 use Rattle.clap.specs.declared.error.Error.{Error}
 use Rattle.clap.specs.declared.error.kind.ErrorKind.TheVariants as kind
 use Rattle.clap.specs.declared.parser.matches.ArgMatches.{ArgMatches}
 use Rattle.fkv_lines.specs.declared.scripts.Sizes.{Sizes}
-use Rattle.fkv_renew.specs.Asked.{AreAskedSizes, AreRefusedWords, AskFor, TellsAsked, command_line, matches}
+use Rattle.fkv_renew.specs.Asked.{AreAskedSizes, AreRefusedWords, AskFor, TellsAsked, command_line, keys_by, matches}
 use Rattle.fkv_renew.specs.declared.words.Asked.{Asked}
 use Rattle.fkv_renew.specs.declared.words.WordFault.{WordFault}
 use Rattle.fkv_renew.specs.declared.words.WordFault.TheVariants.{Memory}
@@ -45,13 +47,14 @@ module _ (words : List Text) (app : App) (m : ArgMatches) (is : app ≡ command_
   -- they ask for what is read of them
   pub asks_so : (asked : Asked) (small large : Option (List Text)) → (is_simple_and_free app ≡ true → fault_of app words ≡ []) → Some asked.old.now ≡ first_value (found_of m) (codes "OLD")
       → Some asked.new.now ≡ first_value (found_of m) (codes "NEW") → small ≡ option_map raw_values (matched_of (found_of m) (codes "shape")) → large ≡ option_map raw_values (matched_of (found_of m) (codes "large"))
-      → AreAskedSizes small large asked.sizes → AskFor words asked
-  asks_so asked small large free old new small_is large_is sizes = record {
+      → AreAskedSizes small large asked.sizes → asked.keys ≡ keys_by (option_map_or (λ text. bytes_eq text (codes "true")) (one_text (found_of m) (codes "spread")) false) → AskFor words asked
+  asks_so asked small large free old new small_is large_is sizes keys = record {
     accepted = ap (λ (a : App). fault_of a words) (sym is) ∙ free (ap is_simple_and_free is ∙ simple_and_free);
     old = sym (old ∙ first (codes "OLD"));
     new = sym (new ∙ first (codes "NEW"));
     sizes = subst (λ (its : Option (List Text)). AreAskedSizes its (all_of (codes "large") (matches words)) asked.sizes) (small_is ∙ all (codes "shape"))
         (subst (λ (its : Option (List Text)). AreAskedSizes small its asked.sizes) (large_is ∙ all (codes "large")) sizes);
+    keys = keys ∙ ap (λ (o : Option Text). keys_by (option_map_or (λ text. bytes_eq text (codes "true")) o false)) (one_text-rows (found_of m) (codes "spread") ∙ ap (one_of (codes "spread")) rows);
   }
 
   -- the sizes behind them are none

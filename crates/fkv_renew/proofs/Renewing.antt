@@ -1,5 +1,5 @@
 -- Renewals, from device to device.
-use Rattle.std.proofs.Common.{◌≡◌, ◌∙◌, ◌↔◌, ℕ, List, Option, Some, None, IsSomeAnd, refl, sym, subst, unwrap_or}
+use Rattle.std.proofs.Common.{◌≡◌, ◌∙◌, ◌↔◌, ℕ, List, Option, Some, None, IsSomeAnd, refl, sym, ap, subst, unwrap_or}
 use Rattle.fkv_base.specs.declared.numbers.Key.{Key}
 use Rattle.fkv_base.specs.declared.numbers.Value.{Value}
 use Rattle.fkv_base.specs.declared.shapes.Shape.{Shape}
@@ -9,8 +9,9 @@ use Rattle.fkv_opening.specs.declared.opened_store.Opened.{Opened}
 use Rattle.fkv_pairs.specs.Pairs.{ArePairs, log_of_store}
 use Rattle.fkv_renewing.specs.Renewed.{AreSomePairs, IsRenewal}
 use Rattle.fkv_renewing.specs.Room.{HasRoomFor}
+use Rattle.fkv_spread.specs.declared.keys.Keys.{Keys}
 use Rattle.fkv_renew.specs.Renewals.{HasNoRoom, IsHindrance, IsRenewalOf, Renews, saved_of}
-use Rattle.fkv_renew.specs.Stores.{IsHeld}
+use Rattle.fkv_renew.specs.Stores.{IsHeld, IsLaid}
 use Rattle.fkv_renew.specs.declared.renewals.Refusal.{Refusal}
 use Rattle.fkv_renew.specs.declared.renewals.Refusal.TheVariants as refusal
 use Rattle.fkv_renew.specs.declared.saved.Saved.{Saved}
@@ -23,6 +24,10 @@ held_by image read still opened pairs is same held are =
     let here = subst (λ (x : List ℕ). IsStoreOf x opened) is held in
     let all = subst (λ (x : List ℕ). (store : IsStoreOf x opened) → ArePairs (log_of_store x opened store) pairs) (same ∙ is) are in
     (here, all here)
+
+-- the store whose keys are laid has the old one's shape
+sized_by : (wanted : Option Shape) (store laid : Store) (shape : Shape) → laid.opened ≡ store.opened → shape ≡ unwrap_or wanted laid.opened.shape → shape ≡ unwrap_or wanted store.opened.shape
+sized_by wanted store laid shape same sized = sized ∙ ap (λ (opened : Opened). unwrap_or wanted opened.shape) same
 
 module _ {N : Type 0} (honest : N → Type 0) (seen : N → List ℕ) (may_leave : N → List ℕ → Type 0) where
   -- what a renewal wrote has a name
@@ -38,27 +43,31 @@ module _ {N : Type 0} (honest : N → Type 0) (seen : N → List ℕ) (may_leave
 
   module _ {O : Type 0} (old_honest : O → Type 0) (old_seen : O → List ℕ) where
     -- so a store is renewed from one device to another
-    pub renewed_so : (wanted : Option Shape) (old : O) (named : Option N) (store : Store) (shape : Shape) (saved : Saved) → (old_honest old → AreSomePairs store.pairs.items) → shape ≡ unwrap_or wanted store.opened.shape
-        → (old_honest old → IsHeld (old_seen old) store) → HasRoomFor shape store.opened.points.items store.pairs.items → IsSomeAnd named (IsRenewalOf honest seen may_leave store shape) → saved ≡ saved_of store shape
-        → (new : N) × (named ≡ Some new) × Renews old_honest old_seen honest seen may_leave wanted old new saved
-    renewed_so wanted old None store shape saved some sized held room renewed says = absurd renewed
-    renewed_so wanted old (Some new) store shape saved some sized held room renewed says = (
+    pub renewed_so : (wanted : Option Shape) (keys : Keys) (old : O) (named : Option N) (store laid : Store) (shape : Shape) (saved : Saved) → (old_honest old → AreSomePairs store.pairs.items) → IsLaid keys store laid
+        → shape ≡ unwrap_or wanted laid.opened.shape → (old_honest old → IsHeld (old_seen old) store) → HasRoomFor shape laid.opened.points.items laid.pairs.items
+        → IsSomeAnd named (IsRenewalOf honest seen may_leave laid shape) → saved ≡ saved_of laid shape → (new : N) × (named ≡ Some new) × Renews old_honest old_seen honest seen may_leave wanted keys old new saved
+    renewed_so wanted keys old None store laid shape saved some is sized held room renewed says = absurd renewed
+    renewed_so wanted keys old (Some new) store laid shape saved some is sized held room renewed says = (
       new,
       refl,
       record {
         store = store;
+        laid = laid;
         shape = shape;
-        its_shape = sized;
+        its_shape = sized_by wanted store laid shape is.opened sized;
+        is_laid = is;
         room = room;
         says = says;
         held = held;
-        renewed = λ o n. renewed.reads n (some o);
+        renewed = λ o n. renewed.reads n (is.pairs.some (some o));
         synced = renewed.synced;
       },
     )
 
 -- why it isn't
-pub no_room : (wanted : Option Shape) (store : Store) (shape : Shape) (its : Refusal) → shape ≡ unwrap_or wanted store.opened.shape → IsHindrance shape store.opened.points.items store.pairs.items its → HasNoRoom wanted its
-no_room wanted store shape (refusal.Unfit fault) sized why = record { store = store; shape = shape; its_shape = sized; why = why }
-no_room wanted store shape (refusal.Sizes sizes) sized why = absurd why
-no_room wanted store shape its sized why = tt
+pub no_room : (wanted : Option Shape) (keys : Keys) (store laid : Store) (shape : Shape) (its : Refusal) → IsLaid keys store laid → shape ≡ unwrap_or wanted laid.opened.shape
+    → IsHindrance shape laid.opened.points.items laid.pairs.items its → HasNoRoom wanted keys its
+no_room wanted keys store laid shape (refusal.Unfit fault) is sized why =
+    record { store = store; laid = laid; shape = shape; its_shape = sized_by wanted store laid shape is.opened sized; is_laid = is; why = why }
+no_room wanted keys store laid shape (refusal.Sizes sizes) is sized why = absurd why
+no_room wanted keys store laid shape its is sized why = tt

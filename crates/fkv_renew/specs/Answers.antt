@@ -5,6 +5,7 @@ use Rattle.fkv_base.specs.declared.faults.Fault.TheVariants.{BadShape, Device}
 use Rattle.fkv_files.specs.declared.troubles.Trouble.{Trouble}
 use Rattle.fkv_files.specs.declared.troubles.Trouble.TheVariants as trouble
 use Rattle.fkv_lines.specs.declared.scripts.Sizes.{Sizes}
+use Rattle.fkv_spread.specs.declared.keys.Keys.{Keys}
 use Rattle.fkv_texts.specs.Lines.{line_of}
 use Rattle.fkv_texts.specs.Refusals.{last_refusal}
 use Rattle.clap.specs.Walk.{Text}
@@ -32,15 +33,15 @@ status_of_refusal (refusal.Sizes sizes) = 2
 status_of_refusal other = 3
 
 -- The answer to what is asked for: what is saved, with status 0; or the refusal.
-abbrev pub IsAnswerTo : (Saved → Type 0) → Option Sizes → ℕ → List ℕ → Type 0
-IsAnswerTo Saves sizes status text =
+abbrev pub IsAnswerTo : (Saved → Type 0) → Option Sizes → Keys → ℕ → List ℕ → Type 0
+IsAnswerTo Saves sizes keys status text =
     ((saved : Saved) × Saves saved × (status ≡ 0) × (text ≡ saved_text saved))
-    ⊎ ((its : Refusal) × IsRefusal sizes its × (status ≡ status_of_refusal its) × (text ≡ last_refusal (fault_of_refusal its)))
+    ⊎ ((its : Refusal) × IsRefusal sizes keys its × (status ≡ status_of_refusal its) × (text ≡ last_refusal (fault_of_refusal its)))
 
 -- The answer to the words: words that are refused give the line `options`, with status 2.
-abbrev pub IsAnswer : (Option Sizes → Saved → Type 0) → List Text → ℕ → List ℕ → Type 0
+abbrev pub IsAnswer : (Option Sizes → Keys → Saved → Type 0) → List Text → ℕ → List ℕ → Type 0
 IsAnswer Saves words status text =
-    ((asked : Asked) × AskFor words asked × IsAnswerTo (Saves asked.sizes) asked.sizes status text)
+    ((asked : Asked) × AskFor words asked × IsAnswerTo (Saves asked.sizes asked.keys) asked.sizes asked.keys status text)
     ⊎ (AreRefusedWords words × (status ≡ 2) × (text ≡ line_of (codes "options")))
 
 -- words of which one is no text are refused so too

@@ -1,13 +1,18 @@
 -- What the words after the program's name ask for.
-use Rattle.std.specs.Prelude.{◌≡◌, ◌<◌, ◌^◌, ℕ, true, List, [], codes, length, Option, Some, None, IsSomeAnd, slice_get, Result, Ok, Err}
+use Rattle.std.specs.Prelude.{◌≡◌, ◌<◌, ◌^◌, ℕ, Bool, true, false, List, [], codes, length, Option, Some, None, IsSomeAnd, slice_get, Result, Ok, Err}
+use Rattle.std.specs.Option.{option_map_or}
+use Rattle.std.specs.Str.{bytes_eq}
 use Rattle.std.specs.Str.Parse.{IsNumeral, digits_value, without_leading_plus}
 use Rattle.clap.specs.Faults.{fault_of}
 use Rattle.clap.specs.Simple.{App, Shape as CommandShape, matches_of, new_app, new_rule, on_top, with_rule}
-use Rattle.clap.specs.Walk.{Row, Rule, Text, all_of, first_of}
+use Rattle.clap.specs.Walk.{Row, Rule, Text, all_of, first_of, one_of}
+use Rattle.clap.specs.declared.builder.action.ArgAction.TheVariants.{SetTrue}
 use Rattle.clap.specs.declared.builder.value_parser.ValueParser.TheVariants as vp
 use Rattle.fkv_lines.specs.declared.scripts.Class.{Class}
 use Rattle.fkv_lines.specs.declared.scripts.Class.TheVariants.{Small, Large}
 use Rattle.fkv_lines.specs.declared.scripts.Sizes.{Sizes}
+use Rattle.fkv_spread.specs.declared.keys.Keys.{Keys}
+use Rattle.fkv_spread.specs.declared.keys.Keys.TheVariants.{AsTheyAre, Spread}
 use Rattle.fkv_renew.specs.declared.words.Asked.{Asked}
 use Rattle.fkv_renew.specs.declared.words.WordFault.{WordFault}
 use Rattle.fkv_renew.specs.declared.words.WordFault.TheVariants.{Memory}
@@ -30,11 +35,16 @@ sizes_rule name = record (new_rule name) {
 abbrev pub without_name_or_help : CommandShape → CommandShape
 without_name_or_help s = record s { no_binary_name = true; disable_help_flag = true }
 
--- `OLD NEW [--shape ..] [--large ..]`
+-- `--spread`
+abbrev pub spread_rule : Rule
+spread_rule = record (new_rule (codes "spread")) { long = Some (codes "spread"); action = Some SetTrue }
+
+-- `OLD NEW [--shape ..] [--large ..] [--spread]`
 abbrev pub command_line : App
 command_line =
     let bare = on_top without_name_or_help (new_app (codes "fkv_renew")) in
-    with_rule (with_rule (with_rule (with_rule bare (word_rule (codes "OLD"))) (word_rule (codes "NEW"))) (sizes_rule (codes "shape"))) (sizes_rule (codes "large"))
+    let files = with_rule (with_rule bare (word_rule (codes "OLD"))) (word_rule (codes "NEW")) in
+    with_rule (with_rule (with_rule files (sizes_rule (codes "shape"))) (sizes_rule (codes "large"))) spread_rule
 
 -- clap's matches of the words
 abbrev pub matches : List Text → List Row
@@ -68,6 +78,17 @@ AreAskedSizes (Some words) None sizes = IsSomeAnd sizes (AreSizesOf Small words)
 AreAskedSizes None (Some words) sizes = IsSomeAnd sizes (AreSizesOf Large words)
 AreAskedSizes (Some small) (Some large) sizes = ⊥
 
+-- ---- keys
+
+-- whether clap's matches of the words hold `true` for the flag
+abbrev pub spread_in : List Text → Bool
+spread_in words = option_map_or (λ text. bytes_eq text (codes "true")) (one_of (codes "spread") (matches words)) false
+
+-- keys are spread where the flag is there, and otherwise lie as they are
+abbrev pub keys_by : Bool → Keys
+keys_by true = Spread
+keys_by false = AsTheyAre
+
 -- ---- answers
 
 -- The words ask for this: clap accepts them, and what they ask for is its matches of them.
@@ -76,6 +97,7 @@ pub record AskFor (words : List Text) (asked : Asked) : Type 0 where
   pub old : first_of (codes "OLD") (matches words) ≡ Some asked.old.now
   pub new : first_of (codes "NEW") (matches words) ≡ Some asked.new.now
   pub sizes : AreAskedSizes (all_of (codes "shape") (matches words)) (all_of (codes "large") (matches words)) asked.sizes
+  pub keys : asked.keys ≡ keys_by (spread_in words)
 
 -- they ask for nothing that the program does
 abbrev pub AreRefusedWords : List Text → Type 0

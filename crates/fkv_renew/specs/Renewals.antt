@@ -12,9 +12,10 @@ use Rattle.fkv_lines.specs.declared.scripts.Sizes.{Sizes}
 use Rattle.fkv_renewing.specs.Refused.{IsUnfit}
 use Rattle.fkv_renewing.specs.Renewed.{AreSomePairs, IsRenewal}
 use Rattle.fkv_renewing.specs.Room.{HasRoomFor}
+use Rattle.fkv_spread.specs.declared.keys.Keys.{Keys}
 use Rattle.fkv_renew.specs.Saved.{taken_of}
 use Rattle.fkv_renew.specs.Sizes.{AreSizes, HasSizes}
-use Rattle.fkv_renew.specs.Stores.{IsHeld}
+use Rattle.fkv_renew.specs.Stores.{IsHeld, IsLaid}
 use Rattle.fkv_renew.specs.declared.renewals.Refusal.{Refusal}
 use Rattle.fkv_renew.specs.declared.renewals.Refusal.TheVariants.{First, Memory, Sizes as SizesRefused, Unfit}
 use Rattle.fkv_renew.specs.declared.saved.Saved.{Saved}
@@ -36,15 +37,17 @@ pub record IsRenewalOf {N : Type 0} (honest : N → Type 0) (seen : N → List �
   pub synced : honest device → LeavesOnly (seen device) (may_leave device)
 
 -- From one device to another a store is renewed, to the shape that is wanted or else to its own, which has room for it; and this is saved. If the old device is honest,
--- it holds this store. If both are, the new one reads as its renewal, and a crash leaves just that.
-pub record Renews {O N : Type 0} (old_honest : O → Type 0) (old_seen : O → List ℕ) (honest : N → Type 0) (seen : N → List ℕ) (may_leave : N → List ℕ → Type 0) (wanted : Option Shape) (old : O) (new : N) (saved : Saved) : Type 0 where
+-- it holds this store. If both are, the new one reads as the renewal of its points and of just its pairs, each with its key as it comes to lie; and a crash leaves just that.
+pub record Renews {O N : Type 0} (old_honest : O → Type 0) (old_seen : O → List ℕ) (honest : N → Type 0) (seen : N → List ℕ) (may_leave : N → List ℕ → Type 0) (wanted : Option Shape) (keys : Keys) (old : O) (new : N) (saved : Saved) : Type 0 where
   pub store : Store
+  pub laid : Store
   pub shape : Shape
   pub its_shape : shape ≡ unwrap_or wanted store.opened.shape
-  pub room : HasRoomFor shape store.opened.points.items store.pairs.items
-  pub says : saved ≡ saved_of store shape
+  pub is_laid : IsLaid keys store laid
+  pub room : HasRoomFor shape laid.opened.points.items laid.pairs.items
+  pub says : saved ≡ saved_of laid shape
   pub held : old_honest old → IsHeld (old_seen old) store
-  pub renewed : old_honest old → honest new → IsRenewal shape store.opened.points.items store.pairs.items (seen new)
+  pub renewed : old_honest old → honest new → IsRenewal shape laid.opened.points.items laid.pairs.items (seen new)
   pub synced : honest new → LeavesOnly (seen new) (may_leave new)
 
 -- ---- what is refused
@@ -61,18 +64,20 @@ refusal_by MemoryRefused = Memory
 refusal_by DeviceFailed = First (trouble.Fault DeviceFailed)
 refusal_by other = Unfit other
 
--- A store was opened and its pairs were read, and this is why it wasn't renewed to the shape that is wanted.
-pub record IsHindered (wanted : Option Shape) (its : Refusal) : Type 0 where
+-- A store was opened and its pairs were read, and this is why it wasn't renewed to the shape that is wanted, its keys laid so.
+pub record IsHindered (wanted : Option Shape) (keys : Keys) (its : Refusal) : Type 0 where
   pub store : Store
+  pub laid : Store
   pub shape : Shape
   pub its_shape : shape ≡ unwrap_or wanted store.opened.shape
-  pub why : IsHindrance shape store.opened.points.items store.pairs.items its
+  pub is_laid : IsLaid keys store laid
+  pub why : IsHindrance shape laid.opened.points.items laid.pairs.items its
 
 -- why no store is renewed: it had no room, or something else
-abbrev pub HasNoRoom : Option Shape → Refusal → Type 0
-HasNoRoom wanted (Unfit fault) = IsHindered wanted (Unfit fault)
-HasNoRoom wanted (SizesRefused sizes) = ⊥
-HasNoRoom wanted other = Unit {0}
+abbrev pub HasNoRoom : Option Shape → Keys → Refusal → Type 0
+HasNoRoom wanted keys (Unfit fault) = IsHindered wanted keys (Unfit fault)
+HasNoRoom wanted keys (SizesRefused sizes) = ⊥
+HasNoRoom wanted keys other = Unit {0}
 
 -- ---- by the sizes that are asked for
 
@@ -81,15 +86,15 @@ abbrev pub IsWanted : Option Sizes → Option Shape → Type 0
 IsWanted None wanted = wanted ≡ None
 IsWanted (Some sizes) wanted = IsSomeAnd wanted (HasSizes sizes)
 
--- two devices are the files of a renewal that saved this
-pub record IsSavedFrom {D : Type 0} (honest : D → Type 0) (seen : D → List ℕ) (may_leave : D → List ℕ → Type 0) (sizes : Option Sizes) (saved : Saved) : Type 0 where
+-- two devices are the files of a renewal that saved this, with these sizes, the keys laid so
+pub record IsSavedFrom {D : Type 0} (honest : D → Type 0) (seen : D → List ℕ) (may_leave : D → List ℕ → Type 0) (sizes : Option Sizes) (keys : Keys) (saved : Saved) : Type 0 where
   pub wanted : Option Shape
   pub sized : IsWanted sizes wanted
   pub old : D
   pub new : D
-  pub renews : Renews honest seen honest seen may_leave wanted old new saved
+  pub renews : Renews honest seen honest seen may_leave wanted keys old new saved
 
 -- why a renewal is refused: no store has the sizes that are asked for, or the new one has no room, or something else
-abbrev pub IsRefusal : Option Sizes → Refusal → Type 0
-IsRefusal sizes (SizesRefused refused) = (sizes ≡ Some refused) × (AreSizes refused → ⊥)
-IsRefusal sizes other = (wanted : Option Shape) × IsWanted sizes wanted × HasNoRoom wanted other
+abbrev pub IsRefusal : Option Sizes → Keys → Refusal → Type 0
+IsRefusal sizes keys (SizesRefused refused) = (sizes ≡ Some refused) × (AreSizes refused → ⊥)
+IsRefusal sizes keys other = (wanted : Option Shape) × IsWanted sizes wanted × HasNoRoom wanted keys other

@@ -81,7 +81,7 @@ fn answer_asked<H: Files, E: Write>(
 ) -> io::Result<Answer>
 where
     H::File: Lockable,
-    ensures { IfOk result (λ answer. IsAnswerTo (IsSavedFrom ⟦<FileDisk<H::File> as Device>⟧.honest ⟦<FileDisk<H::File> as Device>⟧.seen ⟦<FileDisk<H::File> as Device>⟧.may_leave asked.entry.sizes) asked.entry.sizes answer.status answer.text.items) }
+    ensures { IfOk result (λ answer. IsAnswerTo (IsSavedFrom ⟦<FileDisk<H::File> as Device>⟧.honest ⟦<FileDisk<H::File> as Device>⟧.seen ⟦<FileDisk<H::File> as Device>⟧.may_leave asked.entry.sizes asked.entry.keys) asked.entry.sizes asked.entry.keys answer.status answer.text.items) }
 {
     match renew_file(rt, alloc, asked, teller) {
         Ok(saved) => {

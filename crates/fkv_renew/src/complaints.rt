@@ -23,7 +23,7 @@ impl fmt::Display for Complaint<'_> {
     fn fmt<W: fmt::Write>(&self, f: &mut fmt::Formatter<W>) -> fmt::Result {
         match self {
             Complaint::Words => f.write_str(
-                "the words are to be OLD and NEW, two files, and at most one of --shape and --large with seven numbers",
+                "the words are to be OLD and NEW, two files, at most one of --shape and --large with seven numbers, and --spread or not",
             ),
             Complaint::Renewal { asked, refusal } => write_refusal(f, *asked, *refusal),
             Complaint::MemoryRefused => f.write_str("memory was refused"),

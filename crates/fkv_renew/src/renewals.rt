@@ -1,6 +1,7 @@
 //! A renewal, from file to file.
 ghost use Rattle.std.specs.Prelude.{◌≡◌, ◌+◌, ◌*◌, ◌≤◌, IfOk, IfErr, IsSomeAnd, OnErr, OnOk, Some, length};
 ghost use Rattle.fkv_renewing.specs.Room.{HasRoomFor};
+ghost use Rattle.fkv_spread.specs.declared.keys.Keys.{Keys as TheKeys};
 ghost use Rattle.fkv_renew.specs.Renewals.{HasNoRoom, IsHindrance, IsRefusal, IsRenewalOf, IsSavedFrom, IsWanted, Renews, refusal_by, saved_of};
 
 use crate::places::{NewFile, Place};
@@ -14,6 +15,7 @@ use fkv_disk::{Device, FileDisk};
 use fkv_files::{Lockable, Trouble, expect_none, open_alone};
 use fkv_lines::Sizes;
 use fkv_renewing::{law_pairs, renew};
+use fkv_spread::Keys;
 use std::alloc::{AllocError, Global};
 use std::io::Write;
 use std::rt::Files;
@@ -48,8 +50,9 @@ impl From<AllocError> for Refusal {
 /// What a file's name ends with until it is whole.
 const ENDING: &str = ".renewing";
 
-/// Renews the store in one file into another, which isn't there before. That one has another name until it is whole, and isn't there
-/// where the renewal is refused. The store's file is locked meanwhile, and never written.
+/// Renews the store in one file into another, which isn't there before: just its pairs, their keys laid as is asked for, and its points.
+/// That one has another name until it is whole, and isn't there where the renewal is refused. The store's file is locked meanwhile, and
+/// never written.
 pub(crate) fn renew_file<H: Files, E: Write>(
     rt: &H,
     alloc: Global,
@@ -58,8 +61,8 @@ pub(crate) fn renew_file<H: Files, E: Write>(
 ) -> Result<Saved, Refusal>
 where
     H::File: Lockable,
-    ensures ok { IfOk result (IsSavedFrom ⟦<FileDisk<H::File> as Device>⟧.honest ⟦<FileDisk<H::File> as Device>⟧.seen ⟦<FileDisk<H::File> as Device>⟧.may_leave asked.entry.sizes) }
-    ensures err { IfErr result (IsRefusal asked.entry.sizes) }
+    ensures ok { IfOk result (IsSavedFrom ⟦<FileDisk<H::File> as Device>⟧.honest ⟦<FileDisk<H::File> as Device>⟧.seen ⟦<FileDisk<H::File> as Device>⟧.may_leave asked.entry.sizes asked.entry.keys) }
+    ensures err { IfErr result (IsRefusal asked.entry.sizes asked.entry.keys) }
 {
     let wanted = match wanted_of(asked.sizes) {
         Ok(wanted) => wanted,
@@ -75,13 +78,15 @@ where
         Err(trouble) => return Err(Refusal::Old(trouble)),
     };
     let mut place = NewFile::new(rt, first.as_str(), asked.new, asked.old);
-    renew_store(alloc, device, length, wanted, &mut place, teller)
+    renew_store(
+        alloc, device, length, wanted, asked.keys, &mut place, teller,
+    )
 }
 
 /// The shape of the sizes that are asked for, where some are.
 fn wanted_of(sizes: Option<Sizes>) -> Result<Option<Shape>, Refusal>
     ensures ok { IfOk result (IsWanted sizes) }
-    ensures err { IfErr result (IsRefusal sizes) }
+    ensures err { IfErr result (λ its. (keys : TheKeys) → IsRefusal sizes keys its) }
 {
     let Some(sizes) = sizes else {
         return Ok(None);
@@ -92,17 +97,18 @@ fn wanted_of(sizes: Option<Sizes>) -> Result<Option<Shape>, Refusal>
     }
 }
 
-/// Renews the store on a device of so many bytes, to a place where nothing has its name.
+/// Renews the store on a device of so many bytes, its keys laid so, to a place where nothing has its name.
 fn renew_store<D: Device + Drop, P: Place, E: Write>(
     alloc: Global,
     device: D,
     length: Option<u64>,
     wanted: Option<Shape>,
+    keys: Keys,
     place: &mut P,
     teller: &mut Teller<E>,
 ) -> Result<Saved, Refusal>
-    ensures ok { IfOk result (λ saved. (new : P.Device) × (P.named place.new ≡ Some new) × Renews D.honest D.seen P.Device.honest P.Device.seen P.Device.may_leave wanted device new saved) }
-    ensures err { IfErr result (HasNoRoom wanted) }
+    ensures ok { IfOk result (λ saved. (new : P.Device) × (P.named place.new ≡ Some new) × Renews D.honest D.seen P.Device.honest P.Device.seen P.Device.may_leave wanted keys device new saved) }
+    ensures err { IfErr result (HasNoRoom wanted keys) }
     ensures unnamed { OnErr result (P.named place.new ≡ P.named place.old) }
 {
     law_pairs();
@@ -113,6 +119,7 @@ fn renew_store<D: Device + Drop, P: Place, E: Write>(
         Err(Fault::Memory) => return Err(Refusal::Memory),
         Err(fault) => return Err(Refusal::Old(Trouble::Fault(fault))),
     };
+    let store = store.laid(keys);
     let shape = wanted.unwrap_or(store.opened.shape);
     teller.step("2 of 2: writing the new one");
     match write_store(alloc, &store, shape, place) {

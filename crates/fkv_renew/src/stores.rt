@@ -1,12 +1,14 @@
 //! A store that is renewed.
 ghost use Rattle.std.specs.Prelude.{◌≡◌, IfOk};
-ghost use Rattle.fkv_renew.specs.Stores.{IsHeld};
+ghost use Rattle.fkv_renew.specs.Stores.{IsHeld, IsLaid};
 
 use fkv_base::{Fault, Key, Value};
 use fkv_disk::{Device, PageSize, Pages, ReadAhead};
 use fkv_files::pages_to_keep;
 use fkv_opening::{Opened, recover};
 use fkv_pairs::content;
+use fkv_renewing::lay;
+use fkv_spread::Keys;
 use std::alloc::Global;
 
 /// A store as its image defines it, with its pairs.
@@ -14,6 +16,17 @@ use std::alloc::Global;
 pub(crate) struct Store {
     pub(crate) opened: Opened,
     pub(crate) pairs: Vec<(Key, Value)>,
+}
+
+impl Store {
+    /// The store with its keys laid so.
+    pub(crate) fn laid(self, keys: Keys) -> Store
+        ensures { IsLaid keys self result }
+    {
+        let Store { opened, mut pairs } = self;
+        lay(keys, &mut pairs);
+        Store { opened, pairs }
+    }
 }
 
 /// The store that a device of so many bytes holds. The device is read page by page, and never written.

@@ -3,12 +3,13 @@ ghost use Rattle.std.specs.Prelude.{◌≡◌, ◌≢◌, IfOk, IfErr, Option, o
 ghost use Rattle.clap.specs.Simple.{app_of};
 ghost use Rattle.clap.specs.Walk.{texts};
 ghost use Rattle.fkv_lines.specs.declared.scripts.Sizes.{Sizes as TheSizes};
-ghost use Rattle.fkv_renew.specs.Asked.{AreAskedSizes, TellsAsked, command_line};
+ghost use Rattle.fkv_renew.specs.Asked.{AreAskedSizes, TellsAsked, command_line, keys_by};
 
 use crate::sizes::read_sizes;
 use clap::error::ErrorKind;
-use clap::{Arg, Command, value_parser};
+use clap::{Arg, ArgAction, Command, value_parser};
 use fkv_lines::{Class, Sizes};
+use fkv_spread::Keys;
 use std::alloc::{AllocError, Global};
 
 /// What the words ask for.
@@ -20,6 +21,8 @@ pub(crate) struct Asked<'a> {
     pub(crate) new: &'a str,
     /// The sizes of the new store, where some are given.
     pub(crate) sizes: Option<Sizes>,
+    /// How the old store's keys come to lie in the new one.
+    pub(crate) keys: Keys,
 }
 
 /// Why nothing is asked for.
@@ -41,8 +44,8 @@ impl From<AllocError> for WordFault {
     }
 }
 
-/// What the words after the program's name ask for: OLD and NEW, two files, and `--shape` or `--large` with seven numbers below 2^64,
-/// where one of them is there.
+/// What the words after the program's name ask for: OLD and NEW, two files; `--shape` or `--large` with seven numbers below 2^64, where
+/// one of them is there; and `--spread`, where it is there.
 pub(crate) fn asked_of<'a>(alloc: Global, words: &'a [&'a str]) -> Result<Asked<'a>, WordFault>
     ensures { TellsAsked (texts words.now) result }
 {
@@ -57,8 +60,14 @@ pub(crate) fn asked_of<'a>(alloc: Global, words: &'a [&'a str]) -> Result<Asked<
     let Some(new) = matches.get_str("NEW") else {
         return Err(WordFault::Refused);
     };
+    let keys = keys_of(matches.get_one::<bool>("spread").unwrap_or(false));
     match sizes_of(matches.get_strs("shape"), matches.get_strs("large")) {
-        Ok(sizes) => Ok(Asked { old, new, sizes }),
+        Ok(sizes) => Ok(Asked {
+            old,
+            new,
+            sizes,
+            keys,
+        }),
         Err(fault) => Err(fault),
     }
 }
@@ -71,6 +80,17 @@ fn refused_as(kind: ErrorKind) -> WordFault
     match kind {
         ErrorKind::OutOfMemory => WordFault::Memory,
         _ => WordFault::Refused,
+    }
+}
+
+/// How keys come to lie, with `--spread` or without it.
+fn keys_of(spread: bool) -> Keys
+    ensures { result ≡ keys_by spread }
+{
+    if spread {
+        Keys::Spread
+    } else {
+        Keys::AsTheyAre
     }
 }
 
@@ -110,11 +130,15 @@ fn command_of<'a>(alloc: Global) -> Result<Command<'a>, AllocError>
         .long("large")
         .num_args(SIZES)
         .value_parser(value_parser!(u64));
+    let spread = Arg::new(alloc, "spread")
+        .long("spread")
+        .action(ArgAction::SetTrue);
     Command::new(alloc, "fkv_renew")
         .no_binary_name(true)
         .disable_help_flag(true)
         .arg(old)?
         .arg(new)?
         .arg(shape)?
-        .arg(large)
+        .arg(large)?
+        .arg(spread)
 }

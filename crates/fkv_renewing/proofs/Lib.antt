@@ -1,11 +1,14 @@
+mod Apart
 mod Calls
 mod Chained
 mod Counts
 mod Growing
+mod Held
 mod Holding
 mod Laying
 mod Listed
 mod Logged
+mod Lying
 mod Moving
 mod Newly
 mod Outcome

@@ -1,4 +1,6 @@
+pub mod Bytes
 pub mod Images
+pub mod Laid
 pub mod Logs
 pub mod Moments
 pub mod Records

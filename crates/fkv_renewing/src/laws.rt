@@ -9,9 +9,11 @@ ghost use Rattle.fkv_newest.specs.declared.newest_slots.Newest.{Newest};
 ghost use Rattle.fkv_newest.specs.Newest.{IsNewestOf};
 ghost use Rattle.fkv_record.specs.declared.records.Record.{Record};
 ghost use Rattle.fkv_scan.specs.Log.{Log};
+ghost use Rattle.fkv_spread.specs.declared.keys.Keys.TheVariants.{AsTheyAre};
 ghost use Rattle.fkv_opening.specs.Faults.{IsSound};
 ghost use Rattle.fkv_pairs.specs.Pairs.{ArePairs};
 ghost use Rattle.fkv_renewing.specs.Images.{AreStored, IsRenewed};
+ghost use Rattle.fkv_renewing.specs.Laid.{AreLaid};
 ghost use Rattle.fkv_renewing.specs.Logs.{IsRenewedLog};
 ghost use Rattle.fkv_renewing.specs.Records.{AreRecords};
 ghost use Rattle.fkv_renewing.specs.Renewed.{AreSomePairs, IsRenewal};
@@ -42,4 +44,9 @@ pub fn law_renewals()
 pub fn law_pairs()
     ensures some { (log : Log) (pairs : List (Key × Value)) → ArePairs log pairs → AreSomePairs pairs }
     ensures one { (log : Log) (pairs found : List (Key × Value)) → ArePairs log pairs → ArePairs log found → pairs ≡ found }
+{}
+
+/// A store's pairs whose keys lie as they are lie as they were.
+pub fn law_laid()
+    ensures { (pairs laid : List (Key × Value)) → AreSomePairs pairs → AreLaid AsTheyAre pairs laid → laid ≡ pairs }
 {}

@@ -3,11 +3,15 @@
 
 mod chaining;
 mod counting;
+mod images;
+mod laid;
 mod laws;
 mod renewing;
 mod slots;
 mod spelling;
 mod writing;
 
-pub use laws::{law_pairs, law_renewals, law_renewed_log};
+pub use images::renewed_image;
+pub use laid::lay;
+pub use laws::{law_laid, law_pairs, law_renewals, law_renewed_log};
 pub use renewing::renew;
