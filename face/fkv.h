@@ -76,6 +76,13 @@ typedef struct {
     uint64_t damaged_at; /* and which: a slot's, triple's or bucket's number, or a record's address */
 } fkv_opened;
 
+/* What a renewal has told. */
+typedef struct {
+    uint64_t size;       /* bytes of the new store's file, behind a 0 and behind -FKV_ROOM_SMALL */
+    uint64_t damage;     /* behind -FKV_DAMAGED: the part of the old store, as of fkv_opened */
+    uint64_t damaged_at; /* and which */
+} fkv_renewed;
+
 /* What an update has told. */
 typedef struct {
     uint64_t serial; /* the session's updates count from 1, in all of the store's life; a commit keeps them up to one of these */
@@ -130,6 +137,9 @@ enum { FKV_REST = 0, FKV_PREPARE = 1, FKV_IN_PROGRESS = 2, FKV_WAIT_PENDING = 3,
 
 /* How keys are placed, the same at each opening of a store. See fkv_open. */
 enum { FKV_SPREAD = 0, FKV_SPREAD_ALREADY = 1 };
+
+/* How a renewal places the old store's keys. See fkv_renew. */
+enum { FKV_AS_THEY_LIE = 0, FKV_SPREAD_NOW = 1 };
 
 /* Faults. A refusal is minus one of them; fkv_name_of tells its name. */
 enum {
@@ -208,6 +218,26 @@ int32_t fkv_close(fkv_store *store);
  * malloc and free are those that the library is linked with.
  */
 static inline void fkv_free_store(fkv_store store) { free(store.at); }
+
+/*
+ * Writes the file of a new store that is a renewal of an old one: the old one's points, and just its keys with their values, as commit 1
+ * with one record for each key. So a store that has no room or no commits left lives on. Serials that are spent stay spent. `bytes`
+ * are all `size` bytes of the old store's file, synced, and no store need be open. Nothing is kept behind the call. fkv_renew of the
+ * repository is a program that does so from file to file.
+ *
+ * `*shape` has the new store's sizes. A shape whose sizes are all 0 stands for the old store's own.
+ *
+ * `keys` says how keys come to lie. With FKV_AS_THEY_LIE the new store is opened as the old one. FKV_SPREAD_NOW is for an old store of
+ * FKV_SPREAD_ALREADY: each key is spread, and the new store is opened with FKV_SPREAD from then on. Nothing tells whether keys lie
+ * spread already, and such keys would be spread twice.
+ *
+ * `told->size` is how many bytes the new file has. If `room` is less, nothing is written, and the call may be made again with so much.
+ * `into` isn't NULL, though `room` may be 0. The caller puts the bytes into a file, syncs it and its folder.
+ * 0; -FKV_ROOM_SMALL; -FKV_BAD_SHAPE, -FKV_NOT_A_STORE, -FKV_DAMAGED (`*told` says where), -FKV_MEMORY. The new shape is too small:
+ * -FKV_INDEX_FULL, -FKV_LOG_FULL, -FKV_NO_SESSION (a session beyond its own has a point).
+ */
+int32_t fkv_renew(const uint8_t *bytes, size_t size, const fkv_shape *shape, uint32_t keys, fkv_renewed *told, uint8_t *into,
+                  size_t room);
 
 /* ---- A session ------------------------------------------------------------------------------------------------------------ */
 

@@ -1,4 +1,4 @@
-/* The calls of fkv.h over a device in memory: each once, what they refuse, and a crash at each call of a commit. */
+/* The calls of fkv.h over a device in memory: each once, what they refuse, a crash at each call of a commit, and renewals. */
 #include "device.h"
 
 enum { SESSIONS = 2, KEYS = 100, MOST_TURNS = 1000 };
@@ -201,6 +201,76 @@ static void reopening(uint32_t keys) {
     close_all(&it);
 }
 
+/* These bytes are a store as a renewal leaves it: with the points, and the value of each key. */
+static void is_renewed(const uint8_t *bytes, size_t size, uint32_t keys, const uint64_t *points) {
+    memset(&device, 0, sizeof device);
+    memcpy(device.now, bytes, size);
+    memcpy(device.synced, bytes, size);
+    device.size = device.synced_size = size;
+    struct opened it = open_bytes(device.now, size, keys);
+    WANTS("the number of a renewed store", it.told.number, 1);
+    for (int i = 0; i < SESSIONS; i++) WANTS("a point of it", it.points[i], points[i]);
+    for (uint64_t key = 0; key < KEYS; key++) WANTS("a value of it", value_of(&it, key << 20), key);
+    WANTS("the serial of an add", add(&it, 0, 7, 1), points[0] + 1);
+    close_all(&it);
+}
+
+/* A store whose keys lie as they are is renewed with them, and with spread ones. */
+static void renewing(void) {
+    enum { SIZE = FKV_IMAGE_SIZE + 224 * (16 + 16) + 24 * (KEYS + 1) };
+    static uint8_t old[DEVICE_SIZE], image[SIZE];
+    const fkv_shape own = {0}, other = {6, 4, 8, 2, 3, 16, 64};
+    uint64_t points[FKV_MOST_SESSIONS];
+    fkv_renewed told = {0};
+    begin_device(&device, &SHAPE);
+    struct opened it = open_bytes(device.now, device.size, FKV_SPREAD_ALREADY);
+    for (uint64_t key = 0; key < KEYS; key++) add(&it, (int)(key % SESSIONS), key << 20, key);
+    WANTS("a commit", commit(&it, 0, points), 0);
+    WANTS("a second commit", commit(&it, 0, points), 0);
+    close_all(&it);
+    size_t size = device.synced_size;
+    memcpy(old, device.synced, size);
+    WANTS("a renewal without room", fkv_renew(old, size, &own, FKV_AS_THEY_LIE, &told, image, 0), -FKV_ROOM_SMALL);
+    WANTS("the room that it wants", told.size, SIZE);
+    WANTS("one with too little", fkv_renew(old, size, &own, FKV_AS_THEY_LIE, &told, image, SIZE - 1), -FKV_ROOM_SMALL);
+    for (size_t i = 0; i < SIZE; i++) WANTS("a byte of its room", image[i], 0);
+    WANTS("a renewal", fkv_renew(old, size, &own, FKV_AS_THEY_LIE, &told, image, SIZE), 0);
+    WANTS("its bytes", told.size, SIZE);
+    is_renewed(image, SIZE, FKV_SPREAD_ALREADY, points);
+    WANTS("a renewal that spreads keys", fkv_renew(old, size, &SHAPE, FKV_SPREAD_NOW, &told, image, SIZE), 0);
+    is_renewed(image, SIZE, FKV_SPREAD, points);
+    static uint8_t wide[2 * DEVICE_SIZE];
+    WANTS("one to other sizes", fkv_renew(old, size, &other, FKV_SPREAD_NOW, &told, wide, sizeof wide), 0);
+    WANTS("its bytes", told.size, FKV_IMAGE_SIZE + 224 * (64 + 16) + 24 * (KEYS + 1));
+}
+
+/* Why a store isn't renewed. */
+static void renewing_refused(void) {
+    const struct { fkv_shape shape; int32_t result; } shapes[] = {
+        {{4, 5, 4, 2, SESSIONS, 16, 64}, -FKV_BAD_SHAPE}, {{0, 0, 0, 0, 0, 0, 64}, -FKV_BAD_SHAPE}, {{4, 16, 4, 2, 1, 16, 64}, -FKV_NO_SESSION},
+        {{4, 4, 4, 2, SESSIONS, 16, 1}, -FKV_LOG_FULL}, {{0, 16, 4, 2, SESSIONS, 0, 64}, -FKV_INDEX_FULL},
+    };
+    static uint8_t old[DEVICE_SIZE], image[DEVICE_SIZE];
+    const fkv_shape own = {0};
+    uint64_t points[FKV_MOST_SESSIONS];
+    fkv_renewed told = {0};
+    begin_device(&device, &SHAPE);
+    struct opened it = open_bytes(device.now, device.size, FKV_SPREAD);
+    for (uint64_t key = 0; key < KEYS; key++) add(&it, (int)(key % SESSIONS), key, key);
+    WANTS("a commit", commit(&it, 0, points), 0);
+    close_all(&it);
+    size_t size = device.synced_size;
+    memcpy(old, device.synced, size);
+    for (size_t i = 0; i < sizeof shapes / sizeof *shapes; i++) {
+        WANTS("a renewal to such sizes", fkv_renew(old, size, &shapes[i].shape, FKV_AS_THEY_LIE, &told, image, sizeof image), shapes[i].result);
+    }
+    WANTS("one of no store", fkv_renew((const uint8_t *)"no store", 8, &own, FKV_AS_THEY_LIE, &told, image, sizeof image), -FKV_NOT_A_STORE);
+    for (size_t i = 0; i < 2; i++) old[512 * (i + 1) + 9] ^= 1;
+    WANTS("one of a damaged store", fkv_renew(old, size, &own, FKV_AS_THEY_LIE, &told, image, sizeof image), -FKV_DAMAGED);
+    WANTS("the part that is damaged", told.damage, 1);
+    for (size_t i = 0; i < sizeof image; i++) WANTS("a byte of the room", image[i], 0);
+}
+
 /* The sum of all values is that of the points, in what a crash leaves. The number of the commit. */
 static uint64_t sum_agrees(const uint8_t *bytes, size_t size) {
     static uint8_t image[DEVICE_SIZE];
@@ -272,6 +342,8 @@ int main(void) {
     refusals();
     reopening(FKV_SPREAD);
     reopening(FKV_SPREAD_ALREADY);
+    renewing();
+    renewing_refused();
     crashes();
     spreading();
     return 0;

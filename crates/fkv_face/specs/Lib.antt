@@ -5,6 +5,7 @@ pub mod Numbers
 pub mod Outcomes
 pub mod Points
 pub mod Polls
+pub mod Renewals
 pub mod Sizes
 pub mod Stores
 pub mod Told

@@ -10,6 +10,7 @@ mod names;
 mod outcomes;
 mod points;
 mod polls;
+mod renewals;
 mod sessions;
 mod sizes;
 mod spreading;

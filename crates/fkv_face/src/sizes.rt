@@ -29,7 +29,7 @@ pub struct Image {
     pub place: u64,
 }
 
-fn damage_number(part: Damage) -> u64
+pub(crate) fn damage_number(part: Damage) -> u64
     ensures { result ≡ says.damage_number part }
 {
     match part {

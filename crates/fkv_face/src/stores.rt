@@ -27,7 +27,7 @@ fn keys_told(keys: u32) -> Keys
 }
 
 /// Writes the bytes to the front of the room.
-fn put(bytes: &[u8], into: &mut [u8]) -> i32
+pub(crate) fn put(bytes: &[u8], into: &mut [u8]) -> i32
     ensures { says.IsPut bytes.now result into.old into.new }
 {
     if into.len() < bytes.len() {

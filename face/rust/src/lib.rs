@@ -21,10 +21,12 @@
 mod errors;
 mod keeper;
 mod raw;
+mod renewal;
 mod session;
 mod store;
 
 pub use errors::{Damage, Error};
 pub use keeper::{Keeper, Keeping, Ticket};
+pub use renewal::{RenewedKeys, renew};
 pub use session::{Finished, Phase, Read, ReadTicket, Reason, Seen, Session, Update};
 pub use store::{Commit, How, Progress, Shape, Store, Work, spread, spread_back};

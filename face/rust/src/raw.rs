@@ -23,6 +23,14 @@ pub struct Opened {
 
 #[repr(C)]
 #[derive(Default)]
+pub struct Renewed {
+    pub size: u64,
+    pub damage: u64,
+    pub damaged_at: u64,
+}
+
+#[repr(C)]
+#[derive(Default)]
 pub struct Update {
     pub serial: u64,
     pub value: u64,
@@ -90,12 +98,23 @@ pub const MOST_SESSIONS: usize = 32;
 pub const MOST_PENDING: usize = 64;
 pub const ANY_SESSION: u64 = u64::MAX;
 
+pub const ROOM_SMALL: i32 = 24;
+
 pub const FOUND: i32 = 1;
 pub const NONE: i32 = 2;
 pub const PENDING: i32 = 3;
 
 unsafe extern "C" {
     pub fn fkv_name_of(result: i32) -> *const c_char;
+    pub fn fkv_renew(
+        bytes: *const u8,
+        size: usize,
+        shape: *const Shape,
+        keys: u32,
+        told: *mut Renewed,
+        into: *mut u8,
+        room: usize,
+    ) -> i32;
     pub fn fkv_get(session: *mut Session, key: u64, value: *mut u64) -> i32;
     pub fn fkv_upsert(session: *mut Session, key: u64, value: u64, told: *mut Update) -> i32;
     pub fn fkv_add(session: *mut Session, key: u64, number: u64, told: *mut Update) -> i32;

@@ -29,7 +29,7 @@ pub struct Shape {
 }
 
 impl Shape {
-    fn to_raw(self) -> raw::Shape {
+    pub(crate) fn to_raw(self) -> raw::Shape {
         let Shape {
             bucket_bits,
             page,

@@ -1,6 +1,7 @@
 //! The crate over real files: each call once, and what it refuses.
 use fkv::{
-    Error, Finished, How, Keeping, Phase, Read, Shape, Store, Update, Work, spread, spread_back,
+    Error, Finished, How, Keeping, Phase, Read, RenewedKeys, Shape, Store, Update, Work, renew, spread,
+    spread_back,
 };
 use std::io::ErrorKind;
 use std::path::PathBuf;
@@ -245,4 +246,37 @@ fn errors_have_the_names_of_the_header() {
     );
     assert_eq!(Error::Unknown(-99).to_string(), "Unknown -99");
     assert_eq!(Error::PendingFull.to_string(), "PendingFull");
+}
+
+#[test]
+fn a_renewed_store_has_the_values_and_the_points() {
+    let path = Path::new("renewed");
+    Store::make(&path.0, &SHAPE).unwrap();
+    let store = Store::open_with(&path.0, How::default().keys_are_spread()).unwrap();
+    let keeper = store.start(Keeping::default()).unwrap();
+    let mut session = store.join(1).unwrap();
+    for key in 0..100 {
+        session.upsert(key << 20, key).unwrap();
+    }
+    session.commit().unwrap();
+    drop((session, keeper, store));
+    let old = fs::read(&path.0).unwrap();
+    let few = Shape {
+        sessions: 1,
+        ..SHAPE
+    };
+    let refused = renew(&old, Some(&few), RenewedKeys::AsTheyLie);
+    assert!(matches!(refused, Err(Error::NoSession)));
+    let new = renew(&old, None, RenewedKeys::SpreadNow).unwrap();
+    fs::write(&path.0, new).unwrap();
+    let store = Store::open(&path.0).unwrap();
+    assert_eq!(store.shape(), SHAPE);
+    assert_eq!(store.last_commit().number, 1);
+    assert_eq!(store.last_commit().points, [0, 100, 0]);
+    let _keeper = store.start(Keeping::default()).unwrap();
+    let mut session = store.join(1).unwrap();
+    for key in 0..100 {
+        assert_eq!(session.read(key << 20).unwrap(), Some(key));
+    }
+    assert_eq!(session.upsert(7, 1).unwrap().serial(), 101);
 }

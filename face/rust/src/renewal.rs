@@ -1,0 +1,62 @@
+//! A new store's bytes, of an old one's.
+use crate::errors::Error;
+use crate::raw;
+use crate::store::Shape;
+
+/// How a renewal places the old store's keys.
+#[derive(Clone, Copy, Debug, PartialEq, Eq)]
+pub enum RenewedKeys {
+    /// As they lie: the new store is opened as the old one.
+    AsTheyLie,
+    /// Each is spread: for an old store that is opened with [`How::keys_are_spread`](crate::How::keys_are_spread). The new one is opened
+    /// without it. Nothing tells whether keys lie spread already, and such keys would be spread twice.
+    SpreadNow,
+}
+
+/// The bytes of a new store that is a renewal of an old one: its points, and just its keys with their values, as commit 1. So a store that
+/// has no room or no commits left lives on. `bytes` are all bytes of the old store's file. `shape` is the new one's, or `None` for the old
+/// one's own. The caller writes the new file, and syncs it and its folder.
+///
+/// `BadShape`, `NotAStore`, `Damaged`, `Memory`; where the shape is too small `IndexFull`, `LogFull`, `NoSession`.
+pub fn renew(bytes: &[u8], shape: Option<&Shape>, keys: RenewedKeys) -> Result<Vec<u8>, Error> {
+    let shape = shape.map_or(raw::Shape::default(), |its| its.to_raw());
+    let mut told = raw::Renewed::default();
+    let mut room = Vec::new();
+    // The first call tells how many bytes there are.
+    let mut result = renew_into(bytes, &shape, keys, &mut told, &mut room);
+    if result == -raw::ROOM_SMALL {
+        room.resize(told.size as usize, 0);
+        result = renew_into(bytes, &shape, keys, &mut told, &mut room);
+    }
+    if result < 0 {
+        let opened = raw::Opened {
+            damage: told.damage,
+            damaged_at: told.damaged_at,
+            ..raw::Opened::default()
+        };
+        return Err(Error::of(result, &opened));
+    }
+    Ok(room)
+}
+
+fn renew_into(
+    bytes: &[u8],
+    shape: &raw::Shape,
+    keys: RenewedKeys,
+    told: &mut raw::Renewed,
+    room: &mut [u8],
+) -> i32 {
+    let keys = u32::from(keys == RenewedKeys::SpreadNow);
+    // The pointers are of slices, which are never null.
+    unsafe {
+        raw::fkv_renew(
+            bytes.as_ptr(),
+            bytes.len(),
+            shape,
+            keys,
+            told,
+            room.as_mut_ptr(),
+            room.len(),
+        )
+    }
+}
