@@ -210,8 +210,9 @@ static void is_renewed(const uint8_t *bytes, size_t size, uint32_t keys, const u
     struct opened it = open_bytes(device.now, size, keys);
     WANTS("the number of a renewed store", it.told.number, 1);
     for (int i = 0; i < SESSIONS; i++) WANTS("a point of it", it.points[i], points[i]);
-    for (uint64_t key = 0; key < KEYS; key++) WANTS("a value of it", value_of(&it, key << 20), key);
+    for (uint64_t key = 0; key < KEYS; key++) WANTS("a value of it", value_of(&it, key), key);
     WANTS("the serial of an add", add(&it, 0, 7, 1), points[0] + 1);
+    settle(&it);
     close_all(&it);
 }
 
@@ -224,7 +225,7 @@ static void renewing(void) {
     fkv_renewed told = {0};
     begin_device(&device, &SHAPE);
     struct opened it = open_bytes(device.now, device.size, FKV_SPREAD_ALREADY);
-    for (uint64_t key = 0; key < KEYS; key++) add(&it, (int)(key % SESSIONS), key << 20, key);
+    for (uint64_t key = 0; key < KEYS; key++) add(&it, (int)(key % SESSIONS), key, key);
     WANTS("a commit", commit(&it, 0, points), 0);
     WANTS("a second commit", commit(&it, 0, points), 0);
     close_all(&it);
@@ -265,7 +266,7 @@ static void renewing_refused(void) {
         WANTS("a renewal to such sizes", fkv_renew(old, size, &shapes[i].shape, FKV_AS_THEY_LIE, &told, image, sizeof image), shapes[i].result);
     }
     WANTS("one of no store", fkv_renew((const uint8_t *)"no store", 8, &own, FKV_AS_THEY_LIE, &told, image, sizeof image), -FKV_NOT_A_STORE);
-    for (size_t i = 0; i < 2; i++) old[512 * (i + 1) + 9] ^= 1;
+    for (size_t i = 0; i < 2; i++) old[512 * (i + 1) + 1] ^= 1;
     WANTS("one of a damaged store", fkv_renew(old, size, &own, FKV_AS_THEY_LIE, &told, image, sizeof image), -FKV_DAMAGED);
     WANTS("the part that is damaged", told.damage, 1);
     for (size_t i = 0; i < sizeof image; i++) WANTS("a byte of the room", image[i], 0);
