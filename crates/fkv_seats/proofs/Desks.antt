@@ -12,7 +12,7 @@ use Rattle.fkv_seats.specs.declared.views.Role.{Role}
 use Rattle.fkv_seats.specs.declared.views.Role.TheVariants.{Rest, Sits, Both, Spent}
 use Rattle.fkv_seats.specs.declared.views.View.{View}
 use Rattle.fkv_seats.specs.declared.held.Held.{Held}
-use Rattle.fkv_seats.specs.Rule.{speaks, Plane, Fits, IsOut, IsDeskOut, desk_of, Ruled, with_desk, SatDown, GotUp}
+use Rattle.fkv_seats.specs.Rule.{speaks, Plane, Fits, IsOut, IsDeskOut, desk_of, desk_slot, Ruled, with_desk, SatDown, GotUp}
 use Rattle.fkv_seats.proofs.Keeps.{same_some, no_some, same_or, at_here, within_some}
 use Rattle.fkv_seats.proofs.Seats.{both_first}
 
@@ -22,6 +22,14 @@ at_desk (Rest from) number e = let same : from ≡ number = same_some from numbe
 at_desk (Sits own) number e = let same : own ≡ number = same_some own number e in grind (arith, nat_tests, same)
 at_desk (Both a b) number e = both_first a b (Some number) (let same : a ≡ number = same_some a number e in grind (arith, nat_tests, same))
 at_desk Spent number e = no_some number e
+
+-- No two numbers have one desk.
+same_desk : (slots a b : ℕ) → desk_slot slots a ≡ desk_slot slots b → a ≡ b
+same_desk slots a b same = omega (arith, same)
+
+-- between two desks lie two other slots at least
+pub desks_apart : (slots number other : ℕ) → number < other → desk_slot slots number + 2 < desk_slot slots other
+desks_apart slots number other less = omega (arith, less)
 
 module _ {W E A K : Type 0} (p : Plane W E A K) where
   abbrev H : Type 0
@@ -75,47 +83,47 @@ module _ {W E A K : Type 0} (p : Plane W E A K) where
         record { id = o.id; view = o.view; seated = set_else s.views id o.id new ne ∙ o.seated; whose = o.whose; desk = o.desk }
 
     -- the desk's slot goes out, or comes home, and nothing else changes
-    kept : (i : ℕ) (h : maybe.Option H) → (h ≡ none → sits ≡ true) → Ruled p key record { words = set s.words i (get_or s.words i 0); homes = set s.homes (p.slots + number) h; views = seats }
+    kept : (i : ℕ) (h : maybe.Option H) → (h ≡ none → sits ≡ true) → Ruled p key record { words = set s.words i (get_or s.words i 0); homes = set s.homes (desk_slot p.slots number) h; views = seats }
     kept i h out_sits = record {
       events = r.events;
       allowed = r.allowed;
       words = set-get_or s.words i 0 ∙ r.words;
-      deep = subst (λ m. p.slots ≤ m) (sym (length-set s.homes (p.slots + number) h)) r.deep;
+      deep = subst (λ m. p.slots ≤ m) (sym (length-set s.homes (desk_slot p.slots number) h)) r.deep;
       homes = λ k x l g. ⊎_elim
-          (λ (t : (k ≡ p.slots + number) × (h ≡ some x)). absurd (let same = t.0 in omega (arith, l, same)))
-          (λ (t : (k ≢ p.slots + number) × (get_elem? s.homes k ≡ some (some x))). r.homes k x l t.1)
-          (at_set s.homes (p.slots + number) k h (some x) g);
+          (λ (t : (k ≡ desk_slot p.slots number) × (h ≡ some x)). absurd (let same = t.0 in omega (arith, l, same)))
+          (λ (t : (k ≢ desk_slot p.slots number) × (get_elem? s.homes k ≡ some (some x))). r.homes k x l t.1)
+          (at_set s.homes (desk_slot p.slots number) k h (some x) g);
       each = each_so;
       apart = apart_so;
       out = λ k l g. ⊎_elim
-          (λ (t : (k ≡ p.slots + number) × (h ≡ none)). absurd (let same = t.0 in omega (arith, l, same)))
-          (λ (t : (k ≢ p.slots + number) × (get_elem? s.homes k ≡ some none)). let o = r.out k l t.1 in out_so k o (same_or o.id id))
-          (at_set s.homes (p.slots + number) k h none g);
+          (λ (t : (k ≡ desk_slot p.slots number) × (h ≡ none)). absurd (let same = t.0 in omega (arith, l, same)))
+          (λ (t : (k ≢ desk_slot p.slots number) × (get_elem? s.homes k ≡ some none)). let o = r.out k l t.1 in out_so k o (same_or o.id id))
+          (at_set s.homes (desk_slot p.slots number) k h none g);
       desks = λ other g. ⊎_elim
-          (λ (t : (p.slots + other ≡ p.slots + number) × (h ≡ none)).
-          let same : other ≡ number = let e = t.0 in omega (arith, e) in
+          (λ (t : (desk_slot p.slots other ≡ desk_slot p.slots number) × (h ≡ none)).
+          let same : other ≡ number = same_desk p.slots other number t.0 in
           record { id = id; view = new; seated = at_here s.views id new v at; whose = whose ∙ ap (λ (n : ℕ). Some n) (sym same); desk = out_sits t.1 })
-          (λ (t : (p.slots + other ≢ p.slots + number) × (get_elem? s.homes (p.slots + other) ≡ some none)). other_desk other (λ same. t.0 (ap (λ (n : ℕ). p.slots + n) same)) (r.desks other t.1))
-          (at_set s.homes (p.slots + number) (p.slots + other) h none g);
+          (λ (t : (desk_slot p.slots other ≢ desk_slot p.slots number) × (get_elem? s.homes (desk_slot p.slots other) ≡ some none)). other_desk other (λ same. t.0 (ap (λ (n : ℕ). desk_slot p.slots n) same)) (r.desks other t.1))
+          (at_set s.homes (desk_slot p.slots number) (desk_slot p.slots other) h none g);
     }
 
   -- A seat that isn't at its desk finds that at home, and sits down at it in a step that changes nothing else.
-  pub sits_down : (key : K) (slots id number i : ℕ) (v : Vw) (c : List (ℕ × H)) → desk_of v.role ≡ Some number → v.desk ≡ false → p.slots + number < slots
+  pub sits_down : (key : K) (slots id number i : ℕ) (v : Vw) (c : List (ℕ × H)) → desk_of v.role ≡ Some number → v.desk ≡ false → desk_slot p.slots number < slots
       → Allows (Ruled p key) slots id (v, c) i (λ n. n) (λ n m. SatDown p number v c m)
-  sits_down key slots id number i v c whose no_desk few s r deep at bound = by_home (get_elem? s.homes (p.slots + number)) refl
+  sits_down key slots id number i v c whose no_desk few s r deep at bound = by_home (get_elem? s.homes (desk_slot p.slots number)) refl
     where
       Goal : Type 0
       Goal = (w : Vw) × (a : Act H) × Valid s.homes c a × Ruled p key (stepped s i (get_or s.words i 0) id c w a) × SatDown p number v c (w, carried_after c a)
 
-      by_home : (h : maybe.Option (maybe.Option H)) → get_elem? s.homes (p.slots + number) ≡ h → Goal
-      by_home none g = absurd (within_some s.homes (p.slots + number) (subst (λ n. p.slots + number < n) (sym deep) few) g)
+      by_home : (h : maybe.Option (maybe.Option H)) → get_elem? s.homes (desk_slot p.slots number) ≡ h → Goal
+      by_home none g = absurd (within_some s.homes (desk_slot p.slots number) (subst (λ n. desk_slot p.slots number < n) (sym deep) few) g)
       by_home (some none) g =
           let o = r.desks number g in
           let same = r.apart o.id id o.view v (Some number) o.seated at (at_desk o.view.role number o.whose) (at_desk v.role number whose) in
           absurd (true≢false (sym o.desk ∙ (ap (λ (u : Vw). u.desk) (some-injective _ _ (sym o.seated ∙ (ap (get_elem? s.views) same ∙ at))) ∙ no_desk)))
       by_home (some (some x)) g = (
         with_desk p v true,
-        takes (p.slots + number) x,
+        takes (desk_slot p.slots number) x,
         g,
         kept key s r id number v at whose true i none (λ same. refl),
         record { view = refl; note = x; desk = refl; met = (r.each id v at).met },
@@ -123,6 +131,6 @@ module _ {W E A K : Type 0} (p : Plane W E A K) where
 
   -- A seat whose desk's slot is the newest in its hand gets up, and that slot goes home, in a step that changes nothing else.
   pub gets_up : (key : K) (slots id number i : ℕ) (v : Vw) (c : List (ℕ × H)) (note : H) → desk_of v.role ≡ Some number
-      → Allows (Ruled p key) slots id (v, (p.slots + number, note) ∷ c) i (λ n. n) (λ n m. GotUp p v c m)
+      → Allows (Ruled p key) slots id (v, (desk_slot p.slots number, note) ∷ c) i (λ n. n) (λ n m. GotUp p v c m)
   gets_up key slots id number i v c note whose s r deep at bound =
       (with_desk p v false, gives, tt, kept key s r id number v at whose false i (some note) (λ same. absurd (some-ne-none note same)), refl)

@@ -1,5 +1,5 @@
 -- A step keeps the rule.
-use Rattle.std.proofs.Common.{◌≡◌, ◌≢◌, ◌⊎◌, ℕ, ◌+◌, ◌<◌, ◌≤◌, refl, sym, ap, subst, ◌∙◌, inl, inr, ⊎_elim, Bool, true, false, true≢false, List, [], ◌∷◌, ◌++◌, length, set, get_or, append_assoc, length-set, zero, suc, arith}
+use Rattle.std.proofs.Common.{◌≡◌, ◌≢◌, ◌⊎◌, ℕ, ◌<◌, ◌≤◌, refl, sym, ap, subst, ◌∙◌, inl, inr, ⊎_elim, Bool, true, false, true≢false, List, [], ◌∷◌, ◌++◌, length, set, get_or, append_assoc, length-set, zero, suc, arith}
 use Rattle.std.specs.Prelude.{Option, Some, None}
 use mathlib.Core.Option.{none, some, some-injective, some-ne-none}
 use mathlib.Core.Option as maybe
@@ -12,7 +12,7 @@ use Rattle.fkv_seats.specs.declared.views.Role.{Role}
 use Rattle.fkv_seats.specs.declared.views.View.{View}
 use Rattle.fkv_seats.specs.declared.held.Held.{Held}
 use Rattle.fkv_seats.specs.declared.held.Held.TheVariants.{Drain}
-use Rattle.fkv_seats.specs.Rule.{speaks, Plane, action_in, Changes, led, Quiet, AreAllowed, AreOwn, NoneOf, Fits, IsOut, IsDeskOut, desk_of, Ruled, SlotFacts, AreStarts, base, HandFits, Carries, Stepped}
+use Rattle.fkv_seats.specs.Rule.{speaks, Plane, action_in, Changes, led, Quiet, AreAllowed, AreOwn, NoneOf, Fits, IsOut, IsDeskOut, desk_of, desk_slot, Ruled, SlotFacts, AreStarts, base, HandFits, Carries, Stepped}
 
 pub same_or : (i j : ℕ) → (i ≡ j) ⊎ (i ≢ j)
 same_or i j = dite (ℕ_discrete i j) inl inr
@@ -268,19 +268,19 @@ module _ {W E A K : Type 0} (p : Plane W E A K) where
         r.apart j k a.0 b.0 actor a.1 b.1 (ap (λ (role : Role). speaks role actor) a.2 ∙ su) (ap (λ (role : Role). speaks role actor) b.2 ∙ sx)
 
     -- no desk is among the slots of actions
-    brought_desk : (hand : Option ℕ) (number : ℕ) → v.hand ≡ hand → get_elem? (brought w v.seen s.homes hand) (p.slots + number) ≡ some none → get_elem? s.homes (p.slots + number) ≡ some none
+    brought_desk : (hand : Option ℕ) (number : ℕ) → v.hand ≡ hand → get_elem? (brought w v.seen s.homes hand) (desk_slot p.slots number) ≡ some none → get_elem? s.homes (desk_slot p.slots number) ≡ some none
     brought_desk None number h g = g
     brought_desk (Some k) number h g = ⊎_elim
-        (λ (t : (p.slots + number ≡ k) × (some (Drain (action_in (p.actions (led p w v.seen)) k)) ≡ none)). absurd (some-ne-none _ t.1))
-        (λ (t : (p.slots + number ≢ k) × (get_elem? s.homes (p.slots + number) ≡ some none)). t.1)
-        (at_set s.homes k (p.slots + number) (some (Drain (action_in (p.actions (led p w v.seen)) k))) none g)
+        (λ (t : (desk_slot p.slots number ≡ k) × (some (Drain (action_in (p.actions (led p w v.seen)) k)) ≡ none)). absurd (some-ne-none _ t.1))
+        (λ (t : (desk_slot p.slots number ≢ k) × (get_elem? s.homes (desk_slot p.slots number) ≡ some none)). t.1)
+        (at_set s.homes k (desk_slot p.slots number) (some (Drain (action_in (p.actions (led p w v.seen)) k))) none g)
 
-    taken_desk : (found : Option ℕ) (number : ℕ) → p.names (led p w before) e ≡ found → get_elem? (taken found (brought w v.seen s.homes v.hand)) (p.slots + number) ≡ some none → get_elem? (brought w v.seen s.homes v.hand) (p.slots + number) ≡ some none
+    taken_desk : (found : Option ℕ) (number : ℕ) → p.names (led p w before) e ≡ found → get_elem? (taken found (brought w v.seen s.homes v.hand)) (desk_slot p.slots number) ≡ some none → get_elem? (brought w v.seen s.homes v.hand) (desk_slot p.slots number) ≡ some none
     taken_desk None number is g = g
     taken_desk (Some k) number is g = ⊎_elim
-        (λ (t : (p.slots + number ≡ k) × (none ≡ none)). absurd (let few = facts.within before e k is in let same = t.0 in omega (arith, few, same)))
-        (λ (t : (p.slots + number ≢ k) × (get_elem? (brought w v.seen s.homes v.hand) (p.slots + number) ≡ some none)). t.1)
-        (at_set (brought w v.seen s.homes v.hand) k (p.slots + number) none none g)
+        (λ (t : (desk_slot p.slots number ≡ k) × (none ≡ none)). absurd (let few = facts.within before e k is in let same = t.0 in omega (arith, few, same)))
+        (λ (t : (desk_slot p.slots number ≢ k) × (get_elem? (brought w v.seen s.homes v.hand) (desk_slot p.slots number) ≡ some none)). t.1)
+        (at_set (brought w v.seen s.homes v.hand) k (desk_slot p.slots number) none none g)
 
     desk_stays : (found : Option ℕ) (number : ℕ) (o : IsDeskOut p s.views number) → (o.id ≡ id) ⊎ (o.id ≢ id) → IsDeskOut p (set s.views id (new found)) number
     desk_stays found number o (inl same) =
@@ -288,7 +288,7 @@ module _ {W E A K : Type 0} (p : Plane W E A K) where
         record { id = id; view = new found; seated = at_here s.views id (new found) v at; whose = ap (λ (x : Vw). desk_of x.role) (sym mine) ∙ o.whose; desk = ap (λ (x : Vw). x.desk) (sym mine) ∙ o.desk }
     desk_stays found number o (inr other) = record { id = o.id; view = o.view; seated = set_else s.views id o.id (new found) other ∙ o.seated; whose = o.whose; desk = o.desk }
 
-    desks_on : (found : Option ℕ) (number : ℕ) → p.names (led p w before) e ≡ found → get_elem? (taken found (brought w v.seen s.homes v.hand)) (p.slots + number) ≡ some none → IsDeskOut p (set s.views id (new found)) number
+    desks_on : (found : Option ℕ) (number : ℕ) → p.names (led p w before) e ≡ found → get_elem? (taken found (brought w v.seen s.homes v.hand)) (desk_slot p.slots number) ≡ some none → IsDeskOut p (set s.views id (new found)) number
     desks_on found number is g = let o = r.desks number (brought_desk v.hand number refl (taken_desk found number is g)) in desk_stays found number o (same_or o.id id)
 
     goes_on : (found : Option ℕ) (words : List ℕ) → p.names (led p w before) e ≡ found → words ≡ p.words (led p w (e ∷ before))

@@ -11,7 +11,7 @@ use Rattle.fkv_seats.specs.declared.views.Role.TheVariants.{Rest, Sits, Both, Sp
 use Rattle.fkv_seats.specs.declared.views.View.{View}
 use Rattle.fkv_seats.specs.declared.held.Held.{Held}
 use Rattle.fkv_seats.specs.declared.held.Held.TheVariants.{Drain}
-use Rattle.fkv_seats.specs.Rule.{speaks, Plane, action_in, led, Quiet, Fits, IsOut, IsDeskOut, desk_of, KeepsDesk, Ruled, AreAllowed, first_view, left_role, right_role, left_view, right_view, number_of, longer, behind, both_view, spent_view, AreApart, IsSeenBy, GoesOn, HasMet}
+use Rattle.fkv_seats.specs.Rule.{speaks, Plane, action_in, led, Quiet, Fits, IsOut, IsDeskOut, desk_of, desk_slot, KeepsDesk, Ruled, AreAllowed, first_view, left_role, right_role, left_view, right_view, number_of, longer, behind, both_view, spent_view, AreApart, IsSeenBy, GoesOn, HasMet}
 use Rattle.fkv_seats.proofs.Keeps.{truth, no_some, at_here, same_or, allowed_first}
 
 -- one that stands in a list with one more is there already, or is that one
@@ -409,7 +409,7 @@ module _ {W E A K : Type 0} (p : Plane W E A K) where
     each = λ j u g. subst (Fits p (p.opening key) []) (alone (first_view p key) u j g).1 record { later = []; whole = refl; quiet = tt; hand = λ k h. no_some k h; met = tt };
     apart = λ j k u x actor g h su sx. (alone (first_view p key) u j g).0 ∙ sym (alone (first_view p key) x k h).0;
     out = λ k l g. never_none xs k g;
-    desks = λ number g. never_none xs (p.slots + number) g;
+    desks = λ number g. never_none xs (desk_slot p.slots number) g;
   }
 
   -- two seats of one state have seen beginnings of one list

@@ -7,7 +7,7 @@ use Rattle.fkv_seats.specs.declared.views.Role.TheVariants.{Sits}
 use Rattle.fkv_seats.specs.declared.views.View.{View}
 use Rattle.fkv_seats.specs.declared.held.Held.{Held}
 use Rattle.fkv_seats.specs.declared.held.Held.TheVariants.{Drain}
-use Rattle.fkv_seats.specs.Rule.{Plane, Ruled, SlotFacts, AreAllowed, AreOwn, AreStarts, AreApart, KeepsDesk, HandFits, Changes, Stepped, SatDown, GotUp, IsSeenBy, GoesOn, HasMet, action_in, behind, desk_of, longer, first_view, left_view, right_view, both_view, spent_view}
+use Rattle.fkv_seats.specs.Rule.{Plane, Ruled, SlotFacts, AreAllowed, AreOwn, AreStarts, AreApart, KeepsDesk, HandFits, Changes, Stepped, SatDown, GotUp, IsSeenBy, GoesOn, HasMet, action_in, behind, desk_of, desk_slot, longer, first_view, left_view, right_view, both_view, spent_view}
 
 module _ {W E A K : Type 0} (p : Plane W E A K) where
   -- A table whose words are the opening world's, and whose slots hold its actions, meets the rule.
@@ -39,13 +39,17 @@ module _ {W E A K : Type 0} (p : Plane W E A K) where
 
   -- A seat that isn't at its desk finds that at home, and may sit down at it in a step that changes nothing else.
   abbrev pub SitsByRule : Type 0
-  SitsByRule = (key : K) (slots id number i : ℕ) (v : View E K) (c : List (ℕ × Held A E)) → desk_of v.role ≡ Some number → v.desk ≡ false → p.slots + number < slots
+  SitsByRule = (key : K) (slots id number i : ℕ) (v : View E K) (c : List (ℕ × Held A E)) → desk_of v.role ≡ Some number → v.desk ≡ false → desk_slot p.slots number < slots
       → Allows (Ruled p key) slots id (v, c) i (λ n. n) (λ n m. SatDown p number v c m)
 
   -- A seat whose desk's slot is the newest that it has in hand may get up in a step that changes nothing else, and that slot goes home.
   abbrev pub GetsUpByRule : Type 0
   GetsUpByRule = (key : K) (slots id number i : ℕ) (v : View E K) (c : List (ℕ × Held A E)) (note : Held A E) → desk_of v.role ≡ Some number
-      → Allows (Ruled p key) slots id (v, (p.slots + number, note) ∷ c) i (λ n. n) (λ n m. GotUp p v c m)
+      → Allows (Ruled p key) slots id (v, (desk_slot p.slots number, note) ∷ c) i (λ n. n) (λ n m. GotUp p v c m)
+
+  -- Between the desks of two numbers lie two other slots at least.
+  abbrev pub DesksApart : Type 0
+  DesksApart = (number other : ℕ) → number < other → desk_slot p.slots number + 2 < desk_slot p.slots other
 
   -- Of any two views in one state, what the one has seen is a beginning of what the other has.
   abbrev pub SeesInOrder : Type 0

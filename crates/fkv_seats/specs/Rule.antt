@@ -1,5 +1,5 @@
 -- The rule of a table whose words are those of a run over one list of events, and what each seat knows of that list.
-use Rattle.std.specs.Prelude.{◌≡◌, ◌+◌, ◌<◌, ◌≤◌, ◌==◌, if◌then◌else◌, ◌||◌, nat_le, ⊤, ℕ, Bool, true, false, List, [], ◌∷◌, ◌++◌, length, Option, Some, None, slice_get, slice_set, slice_index_or}
+use Rattle.std.specs.Prelude.{◌≡◌, ◌+◌, ◌*◌, ◌<◌, ◌≤◌, ◌==◌, if◌then◌else◌, ◌||◌, nat_le, ⊤, ℕ, Bool, true, false, List, [], ◌∷◌, ◌++◌, length, Option, Some, None, slice_get, slice_set, slice_index_or}
 use mathlib.Core.Option.{none, some}
 use lib.ListN.{get_elem?}
 use Rattle.atomic_table.specs.Table.{State, Me, rest}
@@ -47,6 +47,15 @@ desk_of (Rest from) = Some from
 desk_of (Sits own) = Some own
 desk_of (Both first second) = Some first
 desk_of Spent = None
+
+-- So many slots are from one desk to the next. Each call of a session writes its desk, so two desks in one line of the cache would slow each other down. Slots of
+-- 32 bytes or more that lie three apart share no line of 64 bytes, wherever the first one begins.
+abbrev pub desk_stride : ℕ
+desk_stride = 3
+
+-- the slot that is a number's desk, behind the slots of actions
+abbrev pub desk_slot : ℕ → ℕ → ℕ
+desk_slot slots number = slots + desk_stride * number
 
 -- what is left of a seat when the new one is cut off sits at its desk
 abbrev pub KeepsDesk : Role → Type 0
@@ -155,7 +164,7 @@ module _ {W E A K : Type 0} (p : Plane W E A K) where
     pub apart : (id other : ℕ) (v u : View E K) (actor : Option ℕ) → get_elem? s.views id ≡ some v → get_elem? s.views other ≡ some u
         → speaks v.role actor ≡ true → speaks u.role actor ≡ true → id ≡ other
     pub out : (k : ℕ) → k < p.slots → get_elem? s.homes k ≡ some none → IsOut s.views k
-    pub desks : (number : ℕ) → get_elem? s.homes (p.slots + number) ≡ some none → IsDeskOut s.views number
+    pub desks : (number : ℕ) → get_elem? s.homes (desk_slot p.slots number) ≡ some none → IsDeskOut s.views number
 
   -- What holds of the world's slots: an event names one of the slots that there are; it changes no other; and one whose action an actor
   -- has moved is named by nobody else before that actor's next event.
@@ -228,7 +237,7 @@ module _ {W E A K : Type 0} (p : Plane W E A K) where
   pub record SatDown (number : ℕ) (v : View E K) (c : List (ℕ × Held A E)) (m : Me (Held A E) (View E K)) : Type 0 where
     pub view : m.0 ≡ with_desk v true
     pub note : Held A E
-    pub desk : m.1 ≡ (p.slots + number, note) ∷ c
+    pub desk : m.1 ≡ (desk_slot p.slots number, note) ∷ c
     pub met : HasMet v.met v.seen
 
   -- what getting up tells: the desk's slot, which was the newest in hand, has gone home

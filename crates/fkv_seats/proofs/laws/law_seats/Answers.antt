@@ -1,7 +1,7 @@
 -- The law, by what each thing that a seat may do keeps.
 use Rattle.fkv_seats.proofs.Keeps.{allows}
 use Rattle.fkv_seats.proofs.Seats.{splits, joins, both_go_on, opens}
-use Rattle.fkv_seats.proofs.Desks.{sits_down, gets_up}
+use Rattle.fkv_seats.proofs.Desks.{desks_apart, sits_down, gets_up}
 use Rattle.fkv_seats.proofs.laws.law_seats.Goals as goal
 
 pub returns-clause-opens : goal.returns-clause-opens
@@ -24,3 +24,6 @@ returns-clause-sits g c = λ plane. sits_down plane
 
 pub returns-clause-gets_up : goal.returns-clause-gets_up
 returns-clause-gets_up g c = λ plane. gets_up plane
+
+pub returns-clause-desks : goal.returns-clause-desks
+returns-clause-desks g c = λ plane. desks_apart plane.slots
