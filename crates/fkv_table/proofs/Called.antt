@@ -1,5 +1,5 @@
 -- A call: its start is on the desk, its steps follow, and so on to its answer.
-use Rattle.std.proofs.Common.{◌≡◌, ◌≢◌, ◌+◌, ℕ, refl, sym, ap, subst, ◌∙◌, inl, inr, append_assoc, true, false, List, [], ◌∷◌, ◌++◌, length}
+use Rattle.std.proofs.Common.{◌≡◌, ◌≢◌, ℕ, refl, sym, ap, subst, ◌∙◌, inl, inr, append_assoc, true, false, List, [], ◌∷◌, ◌++◌, length}
 use Rattle.std.specs.Prelude.{Option, Some, None, slice_get}
 use Rattle.atomic_table.specs.Seated.{TableId}
 use Rattle.atomic_table.specs.Table.{Me, Step, rest, Allows}
@@ -21,7 +21,7 @@ use Rattle.law_world.proofs.OfRuns.Added.{trace_so}
 use Rattle.fkv_seats.specs.declared.held.Held.TheVariants.{Desk}
 use Rattle.fkv_seats.specs.declared.views.Role.{Role}
 use Rattle.fkv_seats.specs.declared.views.Role.TheVariants.{Sits}
-use Rattle.fkv_seats.specs.Rule.{AreAllowed, AreOwn, AreStarts, Carries, Changes, HandFits, Quiet, Ruled, Stepped, base, led}
+use Rattle.fkv_seats.specs.Rule.{AreAllowed, AreOwn, AreStarts, Carries, Changes, HandFits, Quiet, Ruled, Stepped, base, desk_slot, led}
 use Rattle.fkv_seats.proofs.Keeps.{allowed_both, no_some, allows}
 use Rattle.fkv_table.specs.declared.happenings.Happening.{Happening}
 use Rattle.fkv_table.specs.declared.happenings.Happening.TheVariants.{Calls, Moves}
@@ -222,5 +222,5 @@ module _ {K : Type 0} (at : K → World) where
         rests = rests;
         at_desk = record { note = Desk start; alone = alone ∙ now; sits = flag ∙ (ap (λ (x : Me Slot (Knows K)). x.0.desk) at_desk ∙ ready.at_desk.sits) };
         empty = empty;
-        its_desk = ready.its_desk ∙ ap (λ (k : Seat). drain_slots + k.number) (sym seat_is);
+        its_desk = ready.its_desk ∙ ap (λ (k : Seat). desk_slot drain_slots k.number) (sym seat_is);
       }

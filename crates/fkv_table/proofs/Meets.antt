@@ -1,5 +1,5 @@
 -- Two passes that meet.
-use Rattle.std.proofs.Common.{◌≡◌, ℕ, ◌+◌, refl, sym, ap, subst, ◌∙◌, true, false, List, [], ◌∷◌}
+use Rattle.std.proofs.Common.{◌≡◌, ℕ, refl, sym, ap, subst, ◌∙◌, true, false, List, [], ◌∷◌}
 use Rattle.std.specs.Prelude.{Some}
 use Rattle.atomic_table.specs.Seated.{TableId}
 use Rattle.atomic_table.specs.Table.{Joins, Me, Splits, rest}
@@ -7,7 +7,7 @@ use Rattle.fkv_base.specs.Limits.{drain_slots}
 use Rattle.law_world.specs.Below.fkv_world.Runs.{World}
 use Rattle.fkv_seats.specs.declared.views.Role.{Role}
 use Rattle.fkv_seats.specs.declared.views.Role.TheVariants.{Both, Sits}
-use Rattle.fkv_seats.specs.Rule.{AreApart, GoesOn, GotUp, HasMet, KeepsDesk, Ruled, SatDown, both_view, desk_of, left_view, longer, number_of, right_view, spent_view, with_desk}
+use Rattle.fkv_seats.specs.Rule.{AreApart, GoesOn, GotUp, HasMet, KeepsDesk, Ruled, SatDown, both_view, desk_of, desk_slot, left_view, longer, number_of, right_view, spent_view, with_desk}
 use Rattle.fkv_seats.proofs.Seats.{both_go_on, joins, splits}
 use Rattle.fkv_table.specs.declared.happenings.Happening.{Happening}
 use Rattle.fkv_table.specs.Desks.{Slot, Knows}
@@ -109,7 +109,7 @@ module _ {K : Type 0} (at : K → World) (key : K) (table seat seat' : TableId) 
     pub second_stays : (seat_back : TableId) → seat_back ≡ seat' → StaysReady at key table seat' seat_back second back
     second_stays seat_back same = λ m desk r.
         let number_is : b ≡ m.seat.number = ap number_of (sym two.second_ready.rests.seated.role ∙ r.rests.seated.role) in
-        let desk_is : drain_slots + b ≡ desk = ap (λ (n : ℕ). drain_slots + n) number_is ∙ sym r.its_desk in
+        let desk_is : desk_slot drain_slots b ≡ desk = ap (λ (n : ℕ). desk_slot drain_slots n) number_is ∙ sym r.its_desk in
         ready_on at key table seat' second m desk r seat_back back sat.note same
         (ap (λ (v : Knows K). v.about) back_is ∙ two.first_ready.rests.seated.about)
         (ap (λ (v : Knows K). v.role) back_is ∙ other_role)

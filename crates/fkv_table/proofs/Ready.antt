@@ -1,5 +1,5 @@
 -- What a session that is ready has in hand, and when it stays so.
-use Rattle.std.proofs.Common.{◌≡◌, ◌≢◌, ◌⊎◌, ℕ, ◌+◌, ◌<◌, refl, sym, ap, subst, ◌∙◌, inl, inr, true, false, List, [], ◌∷◌, arith}
+use Rattle.std.proofs.Common.{◌≡◌, ◌≢◌, ◌⊎◌, ℕ, ◌<◌, refl, sym, ap, subst, ◌∙◌, inl, inr, true, false, List, [], ◌∷◌, arith}
 use Rattle.std.specs.Prelude.{Option, Some, None, slice_get, ◌==◌}
 use Rattle.std.proofs.lemmas.Bool.Decides.{nat_tests}
 use Rattle.atomic_table.specs.Seated.{TableId}
@@ -12,7 +12,7 @@ use Rattle.law_world.proofs.Below.fkv_world.Shown.{session_apart}
 use Rattle.law_world.proofs.OfRuns.Nothing.{no_session}
 use Rattle.fkv_seats.specs.declared.views.Role.{Role}
 use Rattle.fkv_seats.specs.declared.views.Role.TheVariants.{Sits}
-use Rattle.fkv_seats.specs.Rule.{AreAllowed, GoesOn, HandFits, Quiet, base, desk_of, led}
+use Rattle.fkv_seats.specs.Rule.{AreAllowed, GoesOn, HandFits, Quiet, base, desk_of, desk_slot, led}
 use Rattle.fkv_seats.proofs.Keeps.{allowed_both, same_or}
 use Rattle.fkv_table.specs.declared.happenings.Happening.{Happening}
 use Rattle.fkv_table.specs.declared.happenings.Happening.TheVariants.{Calls, Moves, Commits, Turns, KeeperMoves}
@@ -71,7 +71,7 @@ module _ {K : Type 0} (at : K → World) where
     pub in_hand : HasDeskInHand me
     in_hand = (m.seat.number, r.at_desk.note, its_desk_is, held ∙ λ i. (r.its_desk i, r.at_desk.note) ∷ sym (ap rest held) i)
 
-    pub below : drain_slots + m.seat.number < table.slots
+    pub below : desk_slot drain_slots m.seat.number < table.slots
     below =
         let first = was_there (at key) me.0.seen m.seat.number r.rests.seated.first r.rests.seated.was in
         let few = r.opened.opening.guarded.seats m.seat.number first.0 first.1 in

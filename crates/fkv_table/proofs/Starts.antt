@@ -18,7 +18,7 @@ use Rattle.law_world.specs.Below.fkv_world.Runs.{World}
 use Rattle.law_world.specs.Below.fkv_world.World.{seat_at}
 use Rattle.fkv_seats.specs.declared.held.Held.TheVariants.{Drain}
 use Rattle.fkv_seats.specs.declared.views.Role.TheVariants.{Sits}
-use Rattle.fkv_seats.specs.Rule.{AreAllowed, HandFits, Ruled, SatDown, action_in, base, desk_of, first_view, led, left_view, right_view, with_desk}
+use Rattle.fkv_seats.specs.Rule.{AreAllowed, HandFits, Ruled, SatDown, action_in, base, desk_of, desk_slot, first_view, led, left_view, right_view, with_desk}
 use Rattle.fkv_seats.proofs.Seats.{opens, splits}
 use Rattle.fkv_table.specs.declared.happenings.Happening.{Happening}
 use Rattle.fkv_table.specs.Desks.{Slot, Knows}
@@ -83,7 +83,7 @@ module _ {K : Type 0} (at : K → World) (key : K) where
     pub seat_so : (table seat : TableId) (back : Me Slot (Knows K)) → seat ≡ table → SatDown (plane at) number right.0 right.1 back → HasSeat key table number seat back
     seat_so table seat back same sat =
         let view : back.0 ≡ seat_view key number = sat.view ∙ ap (λ (x : Me Slot (Knows K)). with_desk (plane at) x.0 true) right_so in
-        let held : back.1 ≡ (drain_slots + number, sat.note) ∷ [] = sat.desk ∙ ap (λ (x : Me Slot (Knows K)). (drain_slots + number, sat.note) ∷ x.1) right_so in
+        let held : back.1 ≡ (desk_slot drain_slots number, sat.note) ∷ [] = sat.desk ∙ ap (λ (x : Me Slot (Knows K)). (desk_slot drain_slots number, sat.note) ∷ x.1) right_so in
         record { same_table = same; note = sat.note; its = λ i. (view i, held i) }
 
   -- what is left of the rest
@@ -91,14 +91,14 @@ module _ {K : Type 0} (at : K → World) (key : K) where
   rest_so number rest rest' is cut = cut ∙ λ i. (left_view (plane at) (is i).0, (is i).1)
 
   -- a session with its seat
-  pub fresh_so : (table seat : TableId) (number : ℕ) (m : Sitter) (desk : ℕ) (me : Me Slot (Knows K)) → HasSeat key table number seat me → desk ≡ drain_slots + number
+  pub fresh_so : (table seat : TableId) (number : ℕ) (m : Sitter) (desk : ℕ) (me : Me Slot (Knows K)) → HasSeat key table number seat me → desk ≡ desk_slot drain_slots number
       → m.seat ≡ seat_at (at key).now number → slice_get (at key).now.sessions number ≡ Some m.state → IsOpenedWorld (at key)
-      → table.words ≡ length (at key).now.words + gaps → table.slots ≡ drain_slots + ((at key).now.places.sessions + 1) → IsFresh at key table number m desk seat me
+      → table.words ≡ length (at key).now.words + gaps → table.slots ≡ desk_slot drain_slots ((at key).now.places.sessions + 1) → IsFresh at key table number m desk seat me
   unfolding led
   fresh_so table seat number m desk me has desk_is chair there opened words slots =
       let number_is : m.seat.number ≡ number = ap (λ (k : Seat). k.number) chair in
       let view : me.0 ≡ seat_view key number = ap (λ (x : Me Slot (Knows K)). x.0) has.its in
-      let held : me.1 ≡ (drain_slots + number, has.note) ∷ [] = ap (λ (x : Me Slot (Knows K)). x.1) has.its in
+      let held : me.1 ≡ (desk_slot drain_slots number, has.note) ∷ [] = ap (λ (x : Me Slot (Knows K)). x.1) has.its in
       let empty : me.0.hand ≡ None = ap (λ (v : Knows K). v.hand) view in
       let nothing : me.0.seen ≡ [] = ap (λ (v : Knows K). v.seen) view in
       record {
@@ -127,7 +127,7 @@ module _ {K : Type 0} (at : K → World) (key : K) where
             sits = ap (λ (v : Knows K). v.desk) view;
           };
           empty = empty;
-          its_desk = desk_is ∙ ap (λ (n : ℕ). drain_slots + n) (sym number_is);
+          its_desk = desk_is ∙ ap (λ (n : ℕ). desk_slot drain_slots n) (sym number_is);
         };
         numbered = number_is;
         nothing_seen = nothing;
@@ -136,7 +136,7 @@ module _ {K : Type 0} (at : K → World) (key : K) where
   -- the keeper, with what is left of the rest
   pub fresh_keeper : (table seat : TableId) (k : KeeperModel) (from : ℕ) (me : Me Slot (Knows K)) → me ≡ (rest_view key from, []) → seat ≡ table
       → k ≡ record { shape = (at key).now.shape; places = (at key).now.places; state = (at key).now.keeper } → IsOpenedWorld (at key)
-      → table.words ≡ length (at key).now.words + gaps → table.slots ≡ drain_slots + ((at key).now.places.sessions + 1) → IsFreshKeeper at key table k seat me
+      → table.words ≡ length (at key).now.words + gaps → table.slots ≡ desk_slot drain_slots ((at key).now.places.sessions + 1) → IsFreshKeeper at key table k seat me
   unfolding led
   fresh_keeper table seat k from me me_is same its opened words slots =
       let view : me.0 ≡ rest_view key from = ap (λ (x : Me Slot (Knows K)). x.0) me_is in
@@ -165,8 +165,8 @@ module _ {K : Type 0} (at : K → World) (key : K) where
 
   -- each session of the list
   pub each_fresh : {X : Type 0} (machine_of : X → Sitter) (desk_of : X → ℕ) (seat_of : X → TableId) (me_of : X → Me Slot (Knows K)) (table : TableId) (xs : List X) (sitters : List Sitter) → map machine_of xs ≡ sitters
-      → EachAt xs (λ i x. HasSeat key table i (seat_of x) (me_of x) × (desk_of x ≡ drain_slots + i)) → states_of sitters ≡ (at key).now.sessions → AreSeated (at key).now.shape (at key).now.places sitters
-      → IsOpenedWorld (at key) → table.words ≡ length (at key).now.words + gaps → table.slots ≡ drain_slots + ((at key).now.places.sessions + 1)
+      → EachAt xs (λ i x. HasSeat key table i (seat_of x) (me_of x) × (desk_of x ≡ desk_slot drain_slots i)) → states_of sitters ≡ (at key).now.sessions → AreSeated (at key).now.shape (at key).now.places sitters
+      → IsOpenedWorld (at key) → table.words ≡ length (at key).now.words + gaps → table.slots ≡ desk_slot drain_slots ((at key).now.places.sessions + 1)
       → EachAt xs (λ i x. IsFresh at key table i (machine_of x) (desk_of x) (seat_of x) (me_of x))
   each_fresh machine_of desk_of seat_of me_of table xs sitters shown each states seated opened words slots i x got =
       let its = each i x got in

@@ -1,5 +1,5 @@
 -- A call that went straight, as far as it did: how its session and its seat stand.
-use Rattle.std.proofs.Common.{◌≡◌, ◌≢◌, ◌+◌, ℕ, refl, sym, ap, subst, ◌∙◌, inl, true, false, List, [], ◌∷◌}
+use Rattle.std.proofs.Common.{◌≡◌, ◌≢◌, ℕ, refl, sym, ap, subst, ◌∙◌, inl, true, false, List, [], ◌∷◌}
 use Rattle.std.specs.Prelude.{Bool, None, Some}
 use Rattle.atomic_table.specs.Seated.{TableId}
 use Rattle.atomic_table.specs.Table.{Me}
@@ -16,7 +16,7 @@ use Rattle.fkv_session.specs.SessionRun.{telling}
 use Rattle.fkv_straight.specs.Standing.{IsCaughtUp}
 use Rattle.law_world.specs.Below.fkv_world.Actors.{slot_asked}
 use Rattle.law_world.specs.Below.fkv_world.Runs.{World}
-use Rattle.fkv_seats.specs.Rule.{base, led}
+use Rattle.fkv_seats.specs.Rule.{base, desk_slot, led}
 use Rattle.fkv_table.specs.Calls.{HasCalled, HasStepped, IsReady, IsToldLast}
 use Rattle.fkv_table.specs.declared.happenings.Happening.{Happening}
 use Rattle.fkv_table.specs.Desks.{Slot, Knows}
@@ -116,7 +116,7 @@ module _ {K : Type 0} (at : K → World) (key : K) (table seat : TableId) (me : 
           rests = rests_over;
           at_desk = along_line.at_desk;
           empty = over.idle told (its_ask ∙ done);
-          its_desk = ready.its_desk ∙ ap (λ (k : Seat). drain_slots + k.number) (sym same_seat);
+          its_desk = ready.its_desk ∙ ap (λ (k : Seat). desk_slot drain_slots k.number) (sym same_seat);
         }
 
         pub told_over : IsToldLast (led (plane at) (at key) me1.0.seen) m1.seat.number (telling told m1.state.finished)
@@ -176,7 +176,7 @@ module _ {K : Type 0} (at : K → World) (key : K) (table seat : TableId) (me : 
               rests = rests;
               at_desk = record { note = along_line.at_desk.note; alone = alone ∙ desk_on; sits = flag ∙ (ap (λ (v : Knows K). v.desk) view ∙ along_line.at_desk.sits) };
               empty = empty;
-              its_desk = ready.its_desk ∙ ap (λ (k : Seat). drain_slots + k.number) (sym (chair ∙ same_chair));
+              its_desk = ready.its_desk ∙ ap (λ (k : Seat). desk_slot drain_slots k.number) (sym (chair ∙ same_chair));
             }
 
             -- it is the same call, from whatever had been seen before

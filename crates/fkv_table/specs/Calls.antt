@@ -1,5 +1,5 @@
 -- A call of a session in the list of events, and its answer.
-use Rattle.std.specs.Prelude.{◌≡◌, ◌⊎◌, ◌+◌, ⊤, ℕ, false, List, [], ◌∷◌, ◌++◌, length, Some, None, slice_get}
+use Rattle.std.specs.Prelude.{◌≡◌, ◌⊎◌, ⊤, ℕ, false, List, [], ◌∷◌, ◌++◌, length, Some, None, slice_get}
 use Rattle.atomic_table.specs.Seated.{TableId}
 use Rattle.atomic_table.specs.Table.{Me}
 use Rattle.fkv_base.specs.Limits.{drain_slots}
@@ -13,7 +13,7 @@ use Rattle.fkv_session.specs.Sessions.{SessionState, Sitter, is_busy}
 use Rattle.law_world.specs.Below.fkv_world.Past.{Traced, Answered}
 use Rattle.law_world.specs.Below.fkv_world.Runs.{World}
 use Rattle.fkv_seats.specs.declared.views.Role.TheVariants.{Sits}
-use Rattle.fkv_seats.specs.Rule.{led, speaks}
+use Rattle.fkv_seats.specs.Rule.{desk_slot, led, speaks}
 use Rattle.fkv_table.specs.declared.happenings.Happening.{Happening}
 use Rattle.fkv_table.specs.declared.happenings.Happening.TheVariants.{Calls, Moves}
 use Rattle.fkv_table.specs.Desks.{Slot, Knows, IsAtDesk}
@@ -69,4 +69,4 @@ module _ {K : Type 0} (at : K → World) where
     pub rests : Rests at key me m
     pub at_desk : IsAtDesk at desk me
     pub empty : me.0.hand ≡ None
-    pub its_desk : desk ≡ drain_slots + m.seat.number
+    pub its_desk : desk ≡ desk_slot drain_slots m.seat.number

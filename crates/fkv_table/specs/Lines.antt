@@ -1,5 +1,5 @@
 -- The way of a session to the words of its table, by which a call goes straight.
-use Rattle.std.specs.Prelude.{◌≡◌, ◌⊎◌, ◌+◌, ℕ, List, [], ◌∷◌, Option, Some, None, slice_get}
+use Rattle.std.specs.Prelude.{◌≡◌, ◌⊎◌, ℕ, List, [], ◌∷◌, Option, Some, None, slice_get}
 use Rattle.atomic_table.specs.Seated.{TableId}
 use Rattle.atomic_table.specs.Table.{Me}
 use Rattle.fkv_base.specs.Limits.{drain_slots}
@@ -9,7 +9,7 @@ use Rattle.fkv_plane.specs.Asked.{asked_place, reply_to}
 use Rattle.fkv_session.specs.Sessions.{SessionState, Sitter, session_ask, session_next}
 use Rattle.fkv_straight.specs.Standing.{begins, replayed}
 use Rattle.law_world.specs.Below.fkv_world.Runs.{World}
-use Rattle.fkv_seats.specs.Rule.{led}
+use Rattle.fkv_seats.specs.Rule.{desk_slot, led}
 use Rattle.fkv_table.specs.declared.happenings.Happening.{Happening}
 use Rattle.fkv_table.specs.Calls.{HasCalled, IsReady}
 use Rattle.fkv_table.specs.Desks.{Slot, Knows, IsAtDesk}
@@ -72,7 +72,7 @@ module _ {K : Type 0} (at : K → World) where
   pub record IsAlong (l : LineModel K) : Type 0 where
     pub opened : IsTableOf (at l.key) l.table
     pub at_desk : IsAtDesk at l.desk l.me
-    pub its_desk : l.desk ≡ drain_slots + l.machine.seat.number
+    pub its_desk : l.desk ≡ desk_slot drain_slots l.machine.seat.number
     pub come : HasCome l.key l.me (sitter l)
 
   -- Since the line stood as the first, the call of the operation has begun and has come to the last: by these steps in the list of events, and by these replies.

@@ -1,11 +1,12 @@
 -- How seats begin as a table is opened.
-use Rattle.std.specs.Prelude.{◌≡◌, ◌+◌, ℕ, true, false, List, [], ◌∷◌, Some, None, slice_get}
+use Rattle.std.specs.Prelude.{◌≡◌, ℕ, true, false, List, [], ◌∷◌, Some, None, slice_get}
 use Rattle.atomic_table.specs.Seated.{TableId}
 use Rattle.atomic_table.specs.Table.{Me}
 use Rattle.fkv_base.specs.Limits.{drain_slots}
 use Rattle.fkv_session.specs.Sessions.{Sitter}
 use Rattle.law_world.specs.Below.fkv_world.Runs.{World}
 use Rattle.fkv_seats.specs.declared.views.Role.TheVariants.{Rest, Sits}
+use Rattle.fkv_seats.specs.Rule.{desk_slot}
 use Rattle.fkv_table.specs.Calls.{IsReady}
 use Rattle.fkv_table.specs.Desks.{Slot, Knows}
 use Rattle.fkv_table.specs.Openings.{IsGuardedOpening}
@@ -25,7 +26,7 @@ seat_view key number = record { about = Some key; role = Sits number; seen = [];
 pub record HasSeat {K : Type 0} (key : K) (table : TableId) (number : ℕ) (seat : TableId) (me : Me Slot (Knows K)) : Type 0 where
   pub same_table : seat ≡ table
   pub note : Slot
-  pub its : me ≡ (seat_view key number, (drain_slots + number, note) ∷ [])
+  pub its : me ≡ (seat_view key number, (desk_slot drain_slots number, note) ∷ [])
 
 module _ {K : Type 0} (at : K → World) where
   -- A session of a table that was just opened, with its pass. As soon as the guard begins with the table's world they are ready.

@@ -1,10 +1,15 @@
-//! A seat sits down at its desk, and gets up from it. Each is a load of the epoch's word, and no event.
-ghost use Rattle.std.specs.Prelude.{◌≡◌, ◌<◌, ℕ, Some};
+//! The desks. A seat sits down at its desk, and gets up from it: each is a load of the epoch's word, and no event.
+ghost use Rattle.std.specs.Prelude.{◌≡◌, ◌<◌, ◌^◌, ℕ, Some};
 ghost use Rattle.fkv_table.specs.Said as said;
 
 use crate::rule::{Knows, Place, Slot, Words};
 use atomic_table::Play;
+use fkv_base::DRAIN_SLOTS;
 use fkv_disk::Device;
+
+/// Slots from one desk to the next. A slot has 56 bytes, so no two desks touch one line of 64. If neighbours' desks shared a line,
+/// their calls would slow each other down. The slots between them hold nothing.
+const DESK_STRIDE: usize = 3;
 
 /// What a load tells by which a seat sits down.
 struct SitsDown;
@@ -22,6 +27,14 @@ impl<D: Device> Play<Slot, Knows<D>> for GetsUp {
     ghost use Rattle.fkv_table.specs.Said as said;
 
     ghost then = { said.rising (said.opening_of D.seen) };
+}
+
+/// The slot that is the desk of the session of this number. Behind the sessions' desks is the keeper's.
+pub(crate) fn desk_slot(number: usize) -> usize
+    requires { number < 2 ^ 32 }
+    ensures { result ≡ said.desk_slot said.drain_slots number }
+{
+    DRAIN_SLOTS + DESK_STRIDE * number
 }
 
 /// The seat takes its desk.

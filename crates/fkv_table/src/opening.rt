@@ -2,12 +2,12 @@
 ghost use Rattle.std.specs.Prelude.{◌≡◌, ◌<◌, ◌≤◌, ◌+◌, ◌^◌, ℕ, [], length, map, replicate, IfOk, OnOk, OnErr, Err, None};
 ghost use Rattle.fkv_table.specs.Said as said;
 
-use crate::desks::sit_down;
+use crate::desks::{desk_slot, sit_down};
 use crate::joining::Meeting;
 use crate::keepers::{Keeper, KeeperPass};
 use crate::rule::{Engine, Knows, Opening, Pass, Place, Slot, Table, Words};
 use crate::sessions::Session;
-use fkv_base::{DRAIN_SLOTS, Fault};
+use fkv_base::Fault;
 use fkv_core::World;
 use fkv_disk::Device;
 use fkv_opening::Opened;
@@ -50,7 +50,7 @@ impl<D: Device + Drop> Table<D> {
         let about = Snapshot::of(&world);
         let (plane, machines, machine, device) = world.into_parts();
         let words = laid_words(alloc, &plane, count)?;
-        let slots = empty_slots(alloc, DRAIN_SLOTS + machines.len() + 1)?;
+        let slots = empty_slots(alloc, desk_slot(machines.len() + 1))?;
         let (table, mut rest) = shared_table(alloc, &words, slots, &about)?;
         let sessions = seat_sessions(alloc, &table.shared, &mut rest, machines)?;
         Ok(OpenTable {
@@ -165,15 +165,16 @@ fn seat_sessions<D: Device>(
 ) -> Result<Vec<(Session, Pass<D>)>, Fault>
     requires table { (rest.old.table_id ≡ words.now.table_id) × (0 < words.now.table_id.words) }
     requires rest { rest.old.me ≡ (said.rest_view words.now.key 0, []) }
-    requires desks { said.drain_slots + length machines.items ≤ words.now.table_id.slots }
+    requires few { length machines.items < 2 ^ 32 }
+    requires desks { said.desk_slot said.drain_slots (length machines.items) ≤ words.now.table_id.slots }
     ensures rest { OnOk result ((rest.new.table_id ≡ words.now.table_id) × (rest.new.me ≡ (said.rest_view words.now.key (length machines.items), []))) }
     ensures machines { IfOk result (λ seated. map (λ x. x.0.machine) seated.items ≡ machines.items) }
-    ensures seats { IfOk result (λ seated. said.EachAt seated.items (λ i x. said.HasSeat words.now.key words.now.table_id i x.1.seat.table_id x.1.seat.me × (x.0.desk ≡ said.drain_slots + i))) }
+    ensures seats { IfOk result (λ seated. said.EachAt seated.items (λ i x. said.HasSeat words.now.key words.now.table_id i x.1.seat.table_id x.1.seat.me × (x.0.desk ≡ said.desk_slot said.drain_slots i))) }
     ensures err { OnErr result (result ≡ Err said.Memory) }
 {
     let mut seated = Vec::new(alloc);
     for machine in machines {
-        let desk = DRAIN_SLOTS + seated.len();
+        let desk = desk_slot(seated.len());
         let seat = seat_next(words, rest);
         let session = Session {
             machine: StraightSession::new(machine),
@@ -188,7 +189,7 @@ fn seat_sessions<D: Device>(
 /// The next session's seat is cut off, and sits down at its desk.
 fn seat_next<D: Device>(words: &Words<D>, rest: &mut Place<D>) -> Place<D>
     requires table { (rest.old.table_id ≡ words.now.table_id) × (0 < words.now.table_id.words) }
-    requires rest { (number : ℕ) × (rest.old.me ≡ (said.rest_view words.now.key number, [])) × (said.drain_slots + number < words.now.table_id.slots) }
+    requires rest { (number : ℕ) × (rest.old.me ≡ (said.rest_view words.now.key number, [])) × (said.desk_slot said.drain_slots number < words.now.table_id.slots) }
     ensures rest { (number : ℕ) → rest.old.me ≡ (said.rest_view words.now.key number, []) → rest.new.me ≡ (said.rest_view words.now.key (number + 1), []) }
     ensures table { rest.new.table_id ≡ rest.old.table_id }
     ensures seat { (number : ℕ) → rest.old.me ≡ (said.rest_view words.now.key number, []) → said.HasSeat words.now.key words.now.table_id number result.table_id result.me }

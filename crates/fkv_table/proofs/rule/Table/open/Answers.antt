@@ -8,7 +8,7 @@ use Rattle.fkv_table.specs.Desks.{Slot}
 use Rattle.fkv_table.specs.Planes.{plane, opening_of}
 use Rattle.fkv_table.specs.Positions.{laid}
 use Rattle.fkv_table.proofs.LaidWords.{words_counted}
-use Rattle.fkv_table.proofs.Opens.{laid_count, opened_at, slots_at, words_at}
+use Rattle.fkv_table.proofs.Opens.{few_sitters, laid_count, opened_at, slots_at, slots_count, words_at}
 use Rattle.fkv_table.proofs.Starts.{each_fresh, fresh_keeper, opens_so}
 use Rattle.fkv_table.proofs.rule.Table.open.Goals as goal
 
@@ -19,6 +19,11 @@ laid_words-requires-clause-count g c =
     c.word_count-count.ensures
     ∙ (words_counted c.args.opened c.of.result c.in_ok-world.world.now.words world.its_words of.sessions of.buckets of.overflow of.ring
     ∙ ap (λ (x : Plane). length x.words) (sym c.into_parts-plane.ensures.words))
+
+pub desk_slot-requires : goal.desk_slot-requires
+desk_slot-requires g c =
+    let few = few_sitters c.args.opened c.in_ok-world.world.now c.into_parts-plane.result.1.items c.in_ok-world.ensures.world c.into_parts-plane.ensures.sessions in
+    omega (arith, few)
 
 pub shared_table-requires : goal.shared_table-requires
 shared_table-requires g c =
@@ -34,6 +39,14 @@ pub seat_sessions-requires-clause-table : goal.seat_sessions-requires-clause-tab
 seat_sessions-requires-clause-table g c =
     let count = laid_count _ c.deref.result.now (c.deref.ensures.value ∙ c.in_ok-words.ensures.words) in
     (c.in_ok-table.ensures.seat.0, omega (arith, count, c.in_ok-table.ensures.counts.0))
+
+pub seat_sessions-requires-clause-few : goal.seat_sessions-requires-clause-few
+seat_sessions-requires-clause-few g c =
+    let few = few_sitters c.args.opened c.in_ok-world.world.now c.into_parts-plane.result.1.items c.in_ok-world.ensures.world c.into_parts-plane.ensures.sessions in
+    omega (arith, few)
+
+pub seat_sessions-requires-clause-desks : goal.seat_sessions-requires-clause-desks
+seat_sessions-requires-clause-desks g c = let count = slots_count _ _ _ c.in_ok-slots.ensures.slots in omega (arith, count, c.in_ok-table.ensures.counts.1)
 
 pub returns-clause-sessions : goal.returns-clause-sessions
 returns-clause-sessions g c =
