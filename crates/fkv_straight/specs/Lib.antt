@@ -1,4 +1,5 @@
 pub mod Course
+pub mod Fetching
 pub mod Memory
 pub mod Met
 pub mod Standing

@@ -6,6 +6,7 @@ mod appending;
 mod calls;
 mod changing;
 mod copying;
+mod fetching;
 mod going;
 mod handing;
 mod lines;
@@ -14,6 +15,7 @@ mod searching;
 mod sessions;
 mod words;
 
+pub use fetching::Start;
 pub use going::Going;
 pub use lines::Line;
 pub use sessions::{StraightSession, Went};

@@ -1,5 +1,5 @@
 //! A session's machine, with what its straight calls go by.
-ghost use Rattle.std.specs.Prelude.{◌≡◌, ◌<◌, ◌≤◌, ℕ, false, true, length};
+ghost use Rattle.std.specs.Prelude.{◌≡◌, ◌<◌, ◌≤◌, ℕ, IfSome, false, true, length};
 ghost use Rattle.fkv_base.specs.Limits.{max_pending, max_sessions};
 ghost use Rattle.fkv_epoch.specs.Claiming.{takes_action};
 ghost use Rattle.fkv_plane.specs.declared.asks.Ask.TheVariants.{Done};
@@ -8,6 +8,7 @@ ghost use Rattle.fkv_session.specs.declared.sessions.Sitting.TheVariants.{Turns}
 ghost use Rattle.fkv_session.specs.Alike.{lasting};
 ghost use Rattle.fkv_session.specs.AsksLeft.{session_asks_left};
 ghost use Rattle.fkv_session.specs.Sessions.{is_busy, session_ask, session_begun, session_given, session_next};
+ghost use Rattle.fkv_straight.specs.Course.{GoesBy};
 ghost use Rattle.fkv_straight.specs.Standing.{IsCaughtUp, begins};
 ghost use Rattle.fkv_straight.specs.declared.sessions.Went.TheVariants.{Ended, Stopped, Stayed};
 
@@ -107,6 +108,14 @@ impl StraightSession {
     {
         self.going = None;
         self.machine.take(action)
+    }
+
+    /// What its straight calls go by. Nothing before the first of them, and behind a call that the machine has made.
+    #[inline(always)]
+    pub fn goes_by(&self) -> Option<&Going>
+        ensures { IfSome result (λ its. GoesBy self.now.seat self.now.state its.now) }
+    {
+        self.going.as_ref()
     }
 
     /// Looks up what straight calls go by, where it isn't known.
