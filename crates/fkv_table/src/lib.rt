@@ -1,9 +1,11 @@
 //! The threaded store: the engine's words lie in a table that threads share, and each session makes its calls there by a pass of its own.
+//! Before many calls `Session::fetch_bucket` and `Session::fetch_record` load the cache lines that these will read.
 #![tactic(auto)]
 
 mod closing;
 mod crossing;
 mod desks;
+mod fetching;
 mod happenings;
 mod joining;
 mod keepers;
