@@ -12,6 +12,7 @@ pub use Rattle.fkv_table.specs.Planes.{opening_of}
 pub use Rattle.fkv_table.specs.Starts.{EachAt}
 pub use Rattle.fkv_table.specs.declared.happenings.Happening.TheVariants.{Commits, Turns}
 pub use Rattle.fkv_threads.specs.Begun.{HasBegun, IsOverStore, KeeperHasBegun}
+pub use Rattle.fkv_threads.specs.Many.{HaveRun}
 pub use Rattle.fkv_threads.specs.Runs.{IsLawful, IsRun, OfThisRun, OfToldRun, run_of, told_run}
 pub use Rattle.law_threads.specs.Durable.{ItsDurableNeverFalls, RecoversItsDurable, TellsItsDurable}
 pub use Rattle.law_threads.specs.Images.{RecoversWithin}

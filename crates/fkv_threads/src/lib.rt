@@ -3,6 +3,7 @@
 
 mod calls;
 mod keepers;
+mod many;
 #[cfg(test)]
 mod one_thread;
 mod opening;
@@ -11,6 +12,7 @@ mod pieces;
 
 pub use calls::{run, run_op};
 pub use keepers::{ask_commit, turn};
+pub use many::run_ops;
 pub use opening::open;
 pub use passes::{close, join};
 pub use pieces::{asks_device, device_ask, device_step, drive, start_turn};

@@ -4,19 +4,20 @@ ghost use Rattle.fkv_threads.specs.Said as said;
 
 use crate::{
     ask_commit, asks_device, close, device_ask, device_step, drive, join, open, run, run_op,
-    start_turn, turn,
+    run_ops, start_turn, turn,
 };
 use fkv_base::{CommitKind, Fault, Key, Shape, Value};
 use fkv_creating::create_opened;
 use fkv_disk::{Device, MemDisk};
-use fkv_map::{Call, Op};
+use fkv_map::{Call, Op, Reply};
 use fkv_opening::Opened;
-use fkv_session::Answer;
+use fkv_session::{Answer, Told};
 use fkv_table::{Keeper, KeeperPass, OpenTable, Pass, Session, Table, TurnAsk};
 use std::alloc::Global;
 use std::test::Fail;
 
-/// Session 1 gives a key its value. Then the passes meet, and session 0 reads it.
+/// Session 1 gives a key its value, and adds to it eighteen times, by one call. Then the passes meet, and session 0 reads it. `Slept` where the last add
+/// wasn't told the whole sum.
 fn call_and_meet<D: Device + Drop>(
     table: Table<D>,
     mut reader: Session,
@@ -29,10 +30,16 @@ fn call_and_meet<D: Device + Drop>(
     requires apart { ¬ (reader.machine.seat.number ≡ writer.machine.seat.number) }
 {
     let (two, _) = run_op(&mut writer, &table, two, Op::Upsert(Key(7), Value(10)));
+    let adds = [Op::Add(Key(7), 1); 18];
+    let mut told = [Told::Absent; 18];
+    let two = run_ops(&mut writer, &table, two, &adds, &mut told);
     let (one, _) = join(&table, one, two);
     let (_, read) = run(&mut reader, &table, one, Call::Op(Op::Read(Key(7))));
     close(table);
-    read
+    match told[17] {
+        Told::Done(_, Reply::Number(Value(28))) => read,
+        _ => Answer::Slept,
+    }
 }
 
 /// The keeper begins a turn, and makes it up to behind its first call of the device. Whether it tells that call just where it makes one.
@@ -114,6 +121,6 @@ fn a_session_reads_what_another_wrote(rt: HostRuntime) -> Result<(), Fail> {
         Ok(Answer::Found(value)) => value.0,
         _ => 0,
     };
-    assert_eq!(rt; found, 10);
+    assert_eq!(rt; found, 28);
     Ok(())
 }

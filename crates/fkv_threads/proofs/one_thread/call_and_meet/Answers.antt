@@ -6,12 +6,12 @@ pub join-one-requires : goal.join-one-requires
 join-one-requires g c = record {
   ready = record {
     first = c.args.reader.machine;
-    second = c.run_op-two.new.session.machine;
+    second = c.run_ops-two.new.session.machine;
     desk = c.args.reader.desk;
-    desk' = c.run_op-two.new.session.desk;
+    desk' = c.run_ops-two.new.session.desk;
     first_ready = c.requires.reader;
-    second_ready = c.run_op-two.ensures.ready;
-    apart = λ same. c.requires.apart (same ∙ c.run_op-two.ensures.number);
+    second_ready = c.run_ops-two.ensures.ready;
+    apart = λ same. c.requires.apart (same ∙ (c.run_ops-two.ensures.number ∙ c.run_op-two.ensures.number));
   };
 }
 
