@@ -3,3 +3,4 @@ mod OfKept
 mod OfPaper
 mod OfPhases
 pub mod Below
+pub mod Reached

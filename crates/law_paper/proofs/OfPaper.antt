@@ -1,3 +1,4 @@
+mod Alike
 mod Counting
 mod Down
 mod Here
@@ -6,7 +7,5 @@ pub mod Old
 pub mod Opened
 mod Reach
 pub mod Room
-mod Shared
-mod SharedChains
 pub mod Sound
 mod Values

@@ -22,7 +22,7 @@ use Rattle.law_paper.specs.Paper.Old.{StandsOnOld}
 use Rattle.law_paper.specs.Paper.Values.{ShowsUpto, CountsAsLog, TellsCell}
 use Rattle.law_paper.proofs.OfPaper.Down.{versions_fall}
 use Rattle.law_paper.proofs.OfPaper.Here.{Showing, IsHere, dropped_scanned, one, here, as_shown, in_own, of_chain, its_home, since_here, next_in, below_in, leads_nearest, leads_first, leads_in}
-use Rattle.law_paper.proofs.OfPaper.Reach.{one_was, start_some, falls_in, was_low, was_some, its_bits, same_triple, triple_there, stood, stands_now, valid_was, valid_now, again}
+use Rattle.law_paper.proofs.OfPaper.Reach.{one_was, start_some, falls_in, was_low, was_some, its_bits, same_triple, triple_there, stood, stands_now, valid_was, valid_now, again, goes_was}
 use Rattle.law_paper.proofs.OfPaper.Sound.{triple_once}
 use Rattle.law_paper.proofs.OfPaper.Values.{shows_upto}
 
@@ -161,12 +161,6 @@ module _ (home : ℕ → ℕ) (was image : scan.Log) (g : Log) (spells : SpellsA
       subst (λ (m : ℕ). ((b : ℕ) × IsGreatest (IsKept was h) was.start m b) ⊎ HasNone (IsKept was h) was.start m) at
       (greatest_or_none (IsKept was h) was.start (a - was.start) (λ b on less. tell_was h b on (omega (arith, less, at, low))))
 
-  goes_was : (h a q : ℕ) → a ≤ was.tail → GoesOn image h a q → GoesOn was h a q
-  goes_was h a q low (by_triple t under) = by_triple (same_triple spells paper.opened paper.goes_on h q t) (let s = paper.goes_on.start in omega (arith, under, s))
-  goes_was h a q low (by_none none is) = by_none (λ t it. none t (triple_there spells paper.opened paper.goes_on h t it)) is
-  goes_was h a q low (by_record c y least within valid leads under) =
-      by_record c y (let s = paper.goes_on.start in omega (arith, least, s)) within (valid_was spells paper.opened paper.goes_on h c y (let s = paper.goes_on.start in start_some spells paper.opened c (omega (arith, least, s))) (omega (arith, within, low)) valid) leads (let s = paper.goes_on.start in omega (arith, under, s))
-
   -- a record that was scanned as the store was opened
   module _ (a : ℕ) (from : was.start ≤ a) (low : a < was.tail) where
     abbrev scanned_was : IsScanned was a
@@ -267,7 +261,7 @@ module _ (home : ℕ → ℕ) (was image : scan.Log) (g : Log) (spells : SpellsA
       below_y : y.header.previous.0 < image.start → (q : ℕ) → GoesOn image (record_home image.shape.bucket_bits y) a q → y.header.previous.0 ≡ q
       below_y under q goes =
           let s = paper.goes_on.start in
-          links.below (omega (arith, under, s)) q (goes_was hy a q (omega (arith, low)) (subst (λ (n : ℕ). GoesOn image n a q) (its_bits spells paper.opened paper.goes_on y) goes))
+          links.below (omega (arith, under, s)) q (goes_was spells paper.opened paper.goes_on hy a q (omega (arith, low)) (subst (λ (n : ℕ). GoesOn image n a q) (its_bits spells paper.opened paper.goes_on y) goes))
 
       pub linked_y : IsScanLinked image a y
       linked_y = record {

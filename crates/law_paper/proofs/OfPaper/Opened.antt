@@ -1,5 +1,5 @@
 -- While the opening's commit is in force, an image that recovery answers as the opened one holds that commit's store alone.
-use Rattle.std.proofs.Common.{⊎_elim, ℕ, ◌<◌, ◌≤◌, List, refl, sym, ap, ◌∙◌, arith}
+use Rattle.std.proofs.Common.{⊎_elim, ℕ, ◌<◌, List, ap, ◌∙◌, arith}
 use Rattle.std.specs.Prelude.{Option}
 use Rattle.std.proofs.lemmas.Bool.{cases_lt}
 use Rattle.std.proofs.lemmas.Option.{slice_get_within}
@@ -16,60 +16,14 @@ use Rattle.law_log.specs.Ghosts.{Log}
 use Rattle.fkv_record.specs.declared.records.Record.{Record}
 use Rattle.fkv_record.specs.declared.triples.Triple.{Triple}
 use Rattle.fkv_scan.specs.Checkpoint.{AreTriples, checkpoint_in}
-use Rattle.fkv_scan.specs.Log as scan
 use Rattle.law_paper.specs.Paper.Named.{HoldsCommit}
-use Rattle.law_paper.specs.Paper.Old.{GoesOnFrom, WasSound}
+use Rattle.law_paper.specs.Paper.Old.{WasSound}
 use Rattle.law_paper.specs.Paper.Opened.{StandsAsOpened, with_numbers}
 use Rattle.law_paper.specs.Paper.Values.{CountsAsLog}
 use Rattle.fkv_opening.proofs.Shown.{Apart}
+use Rattle.law_paper.proofs.OfPaper.Alike.{counts_now, counts_was, sound_now}
 use Rattle.law_paper.proofs.OfPaper.Named.{holds_with}
-use Rattle.law_paper.proofs.OfPaper.Shared.{scan_on}
-use Rattle.law_paper.proofs.OfPaper.SharedChains.{chains_on, room_on}
-use Rattle.law_paper.proofs.OfPaper.Reach.{again, valid_now, was_low, was_some}
-
--- ---- two images that share a log
-module _ (n : Newest) (xs : List Triple) where
-  abbrev log : List ℕ → scan.Log
-  log bytes = log_of bytes n xs
-
-  was_sound : (bytes : List ℕ) → HasCheckpoint bytes n xs → IsSound (log bytes) → WasSound (log bytes)
-  was_sound bytes has sound = record {
-    scan = sound.scan;
-    chains = sound.chains;
-    apart = has.apart;
-    below = λ i x is. (let stored = has.stored in let at = stored.each i x is in at.in_log);
-    some_start = (let newest = has.newest in newest.manifest.suits.log.some);
-    upwards = (let newest = has.newest in newest.manifest.suits.log.upwards);
-  }
-
-  goes_on : (bytes other : List ℕ) → ShareLog n bytes other → GoesOnFrom (log bytes) (log other)
-  goes_on bytes other share = record {
-    start = refl;
-    bits = refl;
-    triples = refl;
-    longer = omega arith;
-    newer = omega arith;
-    bytes = λ a x some low. (let same = share.records a some low in (λ stands. stands ∙ same, λ stands. stands ∙ sym same));
-  }
-
-  module _ (spellings : Apart) (bytes other : List ℕ) (share : ShareLog n bytes other) (has : HasCheckpoint bytes n xs) (sound : IsSound (log bytes)) where
-    abbrev was : WasSound (log bytes)
-    was = was_sound bytes has sound
-
-    -- what counts in the one counts in the other
-    pub counts_on : (h a : ℕ) (x : Record) → Counts (log bytes) h a x → Counts (log other) h a x
-    counts_on h a x counts =
-        let spells = spellings.records in
-        let on = goes_on bytes other share in
-        record {
-          reached = again spells was on a counts.reached;
-          valid = valid_now spells was on h a x (was_some spells was a counts.reached) (was_low spells was a counts.reached) counts.valid;
-          old_enough = counts.old_enough;
-          not_lost = counts.not_lost;
-        }
-
-    pub counts_below : (h a : ℕ) (x : Record) → Counts (log bytes) h a x → a < n.slot.end.0
-    counts_below h a x counts = was_low spellings.records was a counts.reached
+use Rattle.law_paper.proofs.OfPaper.Reach.{was_low}
 
 -- ---- an image in which the opening's commit is in force
 module _ (spellings : Apart) (bytes image : List ℕ) (o : Opened) (store : IsStoreOf bytes o) (numbers : Option ℕ × Option ℕ) (kept : HasCheckpoint image (with_numbers store.newest numbers) store.triples) (shared : ShareLog store.newest bytes image) where
@@ -82,25 +36,25 @@ module _ (spellings : Apart) (bytes image : List ℕ) (o : Opened) (store : IsSt
   abbrev was_checkpoint : HasCheckpoint bytes n xs
   was_checkpoint = store.checkpoint
 
-  its_was : WasSound (log_of bytes n xs)
-  its_was = was_sound n xs bytes was_checkpoint store.sound
-
-  upwards : n.slot.first.0 ≤ n.slot.end.0
-  upwards = (let newest = (let has = was_checkpoint in has.newest) in newest.manifest.suits.log.upwards)
+  was : WasSound (log_of bytes n xs)
+  was =
+      let newest = (let has = was_checkpoint in has.newest) in
+      let stored = (let has = was_checkpoint in has.stored) in
+      record {
+        scan = store.sound.scan;
+        chains = store.sound.chains;
+        apart = was_checkpoint.apart;
+        below = λ i x is. (let at = stored.each i x is in at.in_log);
+        some_start = newest.manifest.suits.log.some;
+        upwards = newest.manifest.suits.log.upwards;
+      }
 
   sound_kept : IsSound (log_of image n xs)
-  sound_kept = record {
-    scan = scan_on n.shape n.slot xs its_was.some_start its_was.below bytes image shared.records store.sound.scan;
-    chains = chains_on spellings.records n.shape n.slot xs its_was.some_start upwards its_was.below bytes store.sound.scan image shared.records store.sound.chains;
-    room = room_on spellings.records n.shape n.slot xs its_was.some_start upwards its_was.below bytes image shared.records store.sound.scan store.sound.chains store.sound.room;
-  }
-
-  share_back : ShareLog (with_numbers n numbers) image bytes
-  share_back = record { triples = λ i low. sym (shared.triples i low); records = λ a some low. sym (shared.records a some low) }
+  sound_kept = sound_now n xs spellings.records bytes image shared was store.sound.room
 
   module _ (home : ℕ → ℕ) (g : Log) (paper : StandsAsOpened home (log_of bytes n xs) g) where
     back : (h a : ℕ) (x : Record) → Counts (log_of image n xs) h a x → Counts (log_of bytes n xs) h a x
-    back = counts_on (with_numbers n numbers) xs spellings image bytes share_back kept sound_kept
+    back = counts_was n xs spellings.records bytes image shared was
 
     counts_as_opened : CountsAsLog home (log_of image n xs) g
     counts_as_opened = record {
@@ -113,10 +67,10 @@ module _ (spellings : Apart) (bytes image : List ℕ) (o : Opened) (store : IsSt
           (λ high. absurd (let late = paper.later a its.cell its.its high in let is = ap version_at its.its in omega (arith, late, is, old)))
           (cases_lt a n.slot.end.0) in
           let counts = (paper.before.counted h a low).0 has in
-          (counts.0, counts_on n xs spellings bytes image shared was_checkpoint store.sound h a counts.0 counts.1);
+          (counts.0, counts_now n xs spellings.records bytes image shared was h a counts.0 counts.1);
       stands = λ h a x counts.
           let counted = back h a x counts in
-          let low = counts_below n xs spellings bytes image shared was_checkpoint store.sound h a x counted in
+          let low = was_low spellings.records was a counted.reached in
           let has = (paper.before.counted h a low).1 (x, counted) in
           let its = paper.orderly.chains.in_chain h a has in
           (has, (let version = paper.before.one_version a its.cell low its.its in let is = ap version_at its.its in omega (arith, version, is)));

@@ -9,8 +9,10 @@ use Rattle.fkv_record.specs.declared.triples.Triple.{Triple}
 use Rattle.fkv_scan.specs.Log as scan
 use Rattle.fkv_scan.specs.Log.{HasTriple, record_home}
 use Rattle.fkv_scan.specs.Records.{Stands, IsValid}
+use Rattle.fkv_scan.specs.Scan.{GoesOn, by_triple, by_none, by_record}
 use Rattle.fkv_words.specs.Fields.{SpellsApart}
 use Rattle.law_paper.specs.Paper.Old.{GoesOnFrom, WasSound}
+use Rattle.law_paper.proofs.Reached.{leads_down, reached_low}
 
 module _ {was : scan.Log} (spells : SpellsApart record_bytes) (sound : WasSound was) where
   pub one_was : (a : ℕ) (x y : Record) → Stands was a x → Stands was a y → x ≡ y
@@ -21,22 +23,10 @@ module _ {was : scan.Log} (spells : SpellsApart record_bytes) (sound : WasSound 
 
   -- what is reached lies below the end, and leads below itself
   pub falls_in : (a : ℕ) (x : Record) → a < was.tail → Reached was a → Stands was a x → x.header.previous.0 < a
-  falls_in a x within reached stands = ⊎_elim
-      (λ low.
-      let this = sound.chains a reached low in
-      subst (λ (y : Record). y.header.previous.0 < a) (one_was a this.held x this.old.stands stands) this.old.falls)
-      (λ from.
-      let this = sound.scan.records a from within in
-      subst (λ (y : Record). y.header.previous.0 < a) (one_was a this.held x this.fits.stands stands) this.fits.falls)
-      (cases_lt a was.start)
+  falls_in = leads_down spells sound.scan sound.chains sound.below
 
   pub was_low : (a : ℕ) → Reached was a → a < was.tail
-  was_low a (in_scan _ x from within stands valid) = within
-  was_low a (led_to h _ t) = (let low = sound.below t.place t.triple t.stands in let at = t.address in omega (arith, low, at))
-  was_low b (linked a _ x reached stands is some) =
-      let low = was_low a reached in
-      let falls = falls_in a x low reached stands in
-      omega (arith, low, falls, is)
+  was_low = reached_low spells sound.scan sound.chains sound.below
 
   -- and it isn't address 0
   pub was_some : (a : ℕ) → Reached was a → 0 < a
@@ -70,3 +60,12 @@ module _ {was : scan.Log} (spells : SpellsApart record_bytes) (sound : WasSound 
         in_scan a x (let s = goes_on.start in omega (arith, from, s)) (let l = goes_on.longer in omega (arith, within, l)) (stands_now a x (start_some a from) within stands) valid
     again a (led_to h _ t) = led_to h a (triple_there h a t)
     again b (linked a _ x reached stands is some) = linked a b x (again a reached) (stands_now a x (was_some a reached) (was_low a reached) stands) is some
+
+    -- where a chain goes on below the start it went on
+    pub goes_was : (h a q : ℕ) → a ≤ was.tail → GoesOn image h a q → GoesOn was h a q
+    goes_was h a q low (by_triple t under) = by_triple (same_triple h q t) (let s = goes_on.start in omega (arith, under, s))
+    goes_was h a q low (by_none none is) = by_none (λ t it. none t (triple_there h t it)) is
+    goes_was h a q low (by_record c y least within valid leads under) =
+        let s = goes_on.start in
+        let on : was.start ≤ c = omega (arith, least, s) in
+        by_record c y on within (valid_was h c y (start_some c on) (omega (arith, within, low)) valid) leads (omega (arith, under, s))
