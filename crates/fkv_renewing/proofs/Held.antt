@@ -1,7 +1,7 @@
 -- The store that bytes hold, and its renewal.
-use Rattle.std.proofs.Common.{◌≡◌, ◌∙◌, ℕ, List, [], Option, None, inl, inr, refl, sym, ap, subst, unwrap_or}
+use Rattle.std.proofs.Common.{◌≡◌, ◌∙◌, ℕ, List, [], Option, None, inl, inr, refl, sym, subst, unwrap_or}
 use Rattle.fkv_base.specs.declared.faults.Fault.{Fault}
-use Rattle.fkv_base.specs.declared.faults.Fault.TheVariants.{BadShape, ValueReserved, PendingFull, IndexFull, LogFull, VersionsSpent, SerialsSpent, EpochsSpent, DrainFull, CommitRunning, PendingLeft, Asleep, Broken, Device, NotAStore, Damaged, Script, Memory, NoSession, Awake, LostFull}
+use Rattle.fkv_base.specs.declared.faults.Fault.TheVariants.{IndexFull, LogFull, Device, NotAStore, Damaged, Memory, NoSession}
 use Rattle.fkv_base.specs.declared.numbers.Key.{Key}
 use Rattle.fkv_base.specs.declared.numbers.Serial.{Serial}
 use Rattle.fkv_base.specs.declared.numbers.Value.{Value}
@@ -16,7 +16,7 @@ use Rattle.fkv_posted.specs.Outcomes.{AreOutcomes, calls_in}
 use Rattle.fkv_posted.specs.Posting.{with_told}
 use Rattle.fkv_posted.specs.declared.posted.Posted.{Posted}
 use Rattle.fkv_spread.specs.declared.keys.Keys.{Keys}
-use Rattle.fkv_renewing.specs.Bytes.{HasNoRoomFrom, IsHeldIn, IsRefusedFrom, IsRenewedFrom, IsUnopened, in_memory}
+use Rattle.fkv_renewing.specs.Bytes.{IsHeldIn, IsRefusedFrom, IsRenewedFrom, IsUnopened, in_memory}
 use Rattle.fkv_renewing.specs.Laid.{AreLaid}
 use Rattle.fkv_renewing.specs.Refused.{IsUnfit, IsRefused as IsRenewingRefused}
 use Rattle.fkv_renewing.specs.Renewed.{AreSomePairs, IsRenewal}
@@ -37,47 +37,13 @@ refused_by before now premise bytes NotAStore honest so = inr (so honest)
 refused_by before now premise bytes (Damaged part place) honest so = inr (so honest)
 refused_by before now premise bytes Device honest so = inl refl
 refused_by before now premise bytes Memory honest so = inl refl
-refused_by before now premise bytes BadShape honest so = absurd so
-refused_by before now premise bytes ValueReserved honest so = absurd so
-refused_by before now premise bytes PendingFull honest so = absurd so
-refused_by before now premise bytes IndexFull honest so = absurd so
-refused_by before now premise bytes LogFull honest so = absurd so
-refused_by before now premise bytes VersionsSpent honest so = absurd so
-refused_by before now premise bytes SerialsSpent honest so = absurd so
-refused_by before now premise bytes EpochsSpent honest so = absurd so
-refused_by before now premise bytes DrainFull honest so = absurd so
-refused_by before now premise bytes CommitRunning honest so = absurd so
-refused_by before now premise bytes PendingLeft honest so = absurd so
-refused_by before now premise bytes Asleep honest so = absurd so
-refused_by before now premise bytes Broken honest so = absurd so
-refused_by before now premise bytes (Script line kind) honest so = absurd so
-refused_by before now premise bytes NoSession honest so = absurd so
-refused_by before now premise bytes Awake honest so = absurd so
-refused_by before now premise bytes LostFull honest so = absurd so
+refused_by before now premise bytes other honest so = absurd so
 
 -- and so where it or memory fails
 pub hindered : (before now : ℕ) (bytes : List ℕ) (why : Fault) → IsHindrance before now why → IsUnopened bytes (in_memory why)
 hindered before now bytes Device so = inl refl
 hindered before now bytes Memory so = inl refl
-hindered before now bytes NotAStore so = absurd so
-hindered before now bytes (Damaged part place) so = absurd so
-hindered before now bytes BadShape so = absurd so
-hindered before now bytes ValueReserved so = absurd so
-hindered before now bytes PendingFull so = absurd so
-hindered before now bytes IndexFull so = absurd so
-hindered before now bytes LogFull so = absurd so
-hindered before now bytes VersionsSpent so = absurd so
-hindered before now bytes SerialsSpent so = absurd so
-hindered before now bytes EpochsSpent so = absurd so
-hindered before now bytes DrainFull so = absurd so
-hindered before now bytes CommitRunning so = absurd so
-hindered before now bytes PendingLeft so = absurd so
-hindered before now bytes Asleep so = absurd so
-hindered before now bytes Broken so = absurd so
-hindered before now bytes (Script line kind) so = absurd so
-hindered before now bytes NoSession so = absurd so
-hindered before now bytes Awake so = absurd so
-hindered before now bytes LostFull so = absurd so
+hindered before now bytes other so = absurd so
 
 -- a device in memory fails for want of memory alone
 unfit_in_memory : (shape : Shape) (points : List Serial) (pairs : List (Key × Value)) (before now : ℕ) (why : Fault) → IsRenewingRefused shape points pairs before now why → IsUnfit shape points pairs (in_memory why)
@@ -86,22 +52,7 @@ unfit_in_memory shape points pairs before now Memory so = tt
 unfit_in_memory shape points pairs before now IndexFull so = so
 unfit_in_memory shape points pairs before now LogFull so = so
 unfit_in_memory shape points pairs before now NoSession so = so
-unfit_in_memory shape points pairs before now NotAStore so = absurd so
-unfit_in_memory shape points pairs before now (Damaged part place) so = absurd so
-unfit_in_memory shape points pairs before now BadShape so = absurd so
-unfit_in_memory shape points pairs before now ValueReserved so = absurd so
-unfit_in_memory shape points pairs before now PendingFull so = absurd so
-unfit_in_memory shape points pairs before now VersionsSpent so = absurd so
-unfit_in_memory shape points pairs before now SerialsSpent so = absurd so
-unfit_in_memory shape points pairs before now EpochsSpent so = absurd so
-unfit_in_memory shape points pairs before now DrainFull so = absurd so
-unfit_in_memory shape points pairs before now CommitRunning so = absurd so
-unfit_in_memory shape points pairs before now PendingLeft so = absurd so
-unfit_in_memory shape points pairs before now Asleep so = absurd so
-unfit_in_memory shape points pairs before now Broken so = absurd so
-unfit_in_memory shape points pairs before now (Script line kind) so = absurd so
-unfit_in_memory shape points pairs before now Awake so = absurd so
-unfit_in_memory shape points pairs before now LostFull so = absurd so
+unfit_in_memory shape points pairs before now other so = absurd so
 
 module _ (bytes : List ℕ) (wanted : Option Shape) (keys : Keys) (opened : Opened) (pairs laid passed : List (Key × Value)) (shape : Shape) (held : IsHeldIn bytes opened pairs) (are : AreLaid keys pairs laid)
     (sized : shape ≡ unwrap_or wanted opened.shape) (same : passed ≡ laid) where
