@@ -328,7 +328,7 @@ uint64_t fkv_last_commit(fkv_file *file, uint64_t points[FKV_MOST_SESSIONS]) {
 
 /* ---- Sessions ------------------------------------------------------------------------------------------------------------- */
 
-/* Sessions whose numbers are so far apart share no cache line. */
+/* Of any sessions, the first to be given have numbers so far apart. */
 enum { APART = 3 };
 
 static uint32_t bit_of(const fkv_file *file, const fkv_session *session) {
@@ -336,8 +336,8 @@ static uint32_t bit_of(const fkv_file *file, const fkv_session *session) {
 }
 
 /*
- * The number of a session that is free, of this one or of any. Each call of a session writes words of its own, and neighbours' lie on
- * common cache lines. So of any, every third is given first.
+ * The number of a session that is free, of this one or of any. Of any, every third is given first. Each call of a session notes itself
+ * on the session's desk. The desks lie apart, so that no two share a cache line, whatever their numbers.
  */
 static int32_t free_session(const fkv_file *file, uint64_t number, uint64_t *found) {
     uint32_t taken = file->joined | file->abandoned;

@@ -85,8 +85,8 @@ uint64_t fkv_last_commit(fkv_file *file, uint64_t points[FKV_MOST_SESSIONS]);
 /* ---- Sessions ------------------------------------------------------------------------------------------------------------- */
 
 /*
- * In place of a session's number: any that nobody has. Every third one is given first, since neighbours share cache lines: a shape
- * with three sessions for each thread is the quickest.
+ * In place of a session's number: any that nobody has. Every third one is given first. Whichever they are, no two sessions note
+ * their calls on one cache line.
  */
 #define FKV_ANY_SESSION UINT64_MAX
 
