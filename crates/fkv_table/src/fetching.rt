@@ -12,7 +12,7 @@ use fkv_disk::Device;
 /// The slots of a bucket. Behind them stands one word more, the link.
 const SLOTS: usize = 7;
 
-/// The word at a place, as it is just now. 0 where the table has none there, as the table of a smaller store.
+/// The word at a place, as it is just now, for its cache line. 0 where the table has none there: it may be that of a smaller store.
 #[inline(always)]
 fn glance<D: Device>(table: &Table<D>, place: usize) -> u64
     requires { place < 2 ^ 62 }
@@ -26,8 +26,8 @@ fn glance<D: Device>(table: &Table<D>, place: usize) -> u64
 }
 
 impl Session {
-    /// Loads the cache lines of the key's bucket, for a call of the key that soon follows. It changes nothing. So is it if the session doesn't know yet
-    /// where its straight calls find a bucket: then nothing is loaded.
+    /// Loads the cache lines of the key's bucket, for a call of the key that soon follows. It changes nothing. Before the
+    /// session's first operation, and behind a call that its machine has made, the place isn't known, and nothing is loaded.
     #[inline(always)]
     pub fn fetch_bucket<D: Device>(&self, table: &Table<D>, key: Key) {
         let Some(going) = self.machine.goes_by() else {
@@ -38,8 +38,8 @@ impl Session {
         let _ = glance(table, bucket + SLOTS);
     }
 
-    /// Loads the cache lines of the first record to which the key's entry leads, if that is in memory. It changes nothing. It reads the bucket, so the
-    /// bucket's own lines are to be loaded some time before.
+    /// Loads the cache lines of the record to which the key's entry leads, if that is in memory. It changes nothing, and seeks no entry in overflow
+    /// buckets. It reads the bucket, so call `fetch_bucket` some time before.
     #[inline(always)]
     pub fn fetch_record<D: Device>(&self, table: &Table<D>, key: Key) {
         let Some(going) = self.machine.goes_by() else {

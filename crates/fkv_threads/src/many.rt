@@ -30,8 +30,8 @@ fn fetch<D: Device>(session: &Session, table: &Table<D>, ops: &[Op], from: usize
 }
 
 /// Runs the operations one after another, in their order, each as `run_op` does, and writes what each was told at its place. It waits for no other
-/// thread. Cache lines are loaded for sixteen operations at a time before they run. So many keys take less time than by as many calls of `run_op`, if
-/// memory is slow.
+/// thread. The cache lines of sixteen operations are loaded before the first of these runs. So many keys of a large store take less time than by as many
+/// calls of `run_op`.
 pub fn run_ops<D: Device>(
     session: &mut Session,
     table: &Table<D>,
