@@ -12,14 +12,16 @@ use fkv_table::{Pass, Session, Table};
 const TOGETHER: usize = 16;
 
 /// Loads cache lines of the operations from this one on, if it is the first of those that wait together: those of all their buckets, and then
-/// those of all records. It is no step of the session.
+/// those of all records. A session that doesn't know yet where buckets lie finds out by its first operation. So behind that the rest of the first ones
+/// have their turn again. It is no step of the session.
 fn fetch<D: Device>(session: &Session, table: &Table<D>, ops: &[Op], from: usize)
     requires { from ≤ length ops.now }
 {
-    if from % TOGETHER != 0 {
+    let behind = from % TOGETHER;
+    if behind != 0 && from != 1 {
         return;
     }
-    let count = TOGETHER.min(ops.len() - from);
+    let count = (TOGETHER - behind).min(ops.len() - from);
     let next = &ops[from..from + count];
     for op in next {
         session.fetch_bucket(table, op.key());
