@@ -90,6 +90,20 @@ typedef struct {
     uint64_t reason; /* why an update is pending: FKV_FUZZY .. */
 } fkv_update;
 
+/* One read of many: what fkv_get answers and tells. */
+typedef struct {
+    uint64_t value; /* what the read has found, or its ticket */
+    int32_t result; /* FKV_FOUND, FKV_NONE, FKV_PENDING or a refusal */
+} fkv_each_read;
+
+/* One update of many: what fkv_upsert or fkv_add answers and tells. */
+typedef struct {
+    uint64_t serial; /* as of fkv_update, and so are the next two */
+    uint64_t value;
+    uint64_t reason;
+    int32_t result;  /* FKV_DONE, FKV_PENDING or a refusal */
+} fkv_each_update;
+
 /* A request that was pending and is finished. */
 typedef struct {
     uint64_t kind;  /* FKV_UPDATED, FKV_READ_FOUND or FKV_READ_NONE */
@@ -260,6 +274,24 @@ int32_t fkv_upsert(fkv_session *session, uint64_t key, uint64_t value, fkv_updat
 int32_t fkv_add(fkv_session *session, uint64_t key, uint64_t number, fkv_update *told);
 int32_t fkv_max(fkv_session *session, uint64_t key, uint64_t number, fkv_update *told);
 int32_t fkv_delete(fkv_session *session, uint64_t key, fkv_update *told);
+
+/*
+ * The same calls of `count` keys: one behind the other, in the order of `keys`, and the answer to each stands at its place in `told`.
+ * They do what so many single calls do. A key may come twice. A refusal of one doesn't end the others: see each `result`.
+ *
+ * They are for stores whose index and records don't fit the processor's caches. Before each 16 calls the cache lines are fetched that
+ * these will read, so their misses are waited for at once. With 2^20 keys that is 1.2 to 2.5 times as fast as single calls. In a store
+ * that fits the caches it gains nothing. The session doesn't refresh meanwhile: refresh and poll between calls of 64 keys or so.
+ *
+ * `told` has `room` places, and those behind `count` stay as they are. `values` and `numbers` are as many as the keys. No pointer is
+ * NULL, though a length may be 0.
+ * 0; -FKV_ROOM_SMALL where `room` is below `count`, or there are other than as many values or numbers as keys. Then nothing is done.
+ */
+int32_t fkv_get_many(fkv_session *session, const uint64_t *keys, size_t count, fkv_each_read *told, size_t room);
+int32_t fkv_upsert_many(fkv_session *session, const uint64_t *keys, size_t count, const uint64_t *values, size_t values_count,
+                        fkv_each_update *told, size_t room);
+int32_t fkv_add_many(fkv_session *session, const uint64_t *keys, size_t count, const uint64_t *numbers, size_t numbers_count,
+                     fkv_each_update *told, size_t room);
 
 /*
  * Lets the session see how far the store has come, and take up a commit. Nothing of the store moves on past a session that is awake

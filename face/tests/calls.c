@@ -1,4 +1,4 @@
-/* The calls of fkv.h over a device in memory: each once, what they refuse, a crash at each call of a commit, and renewals. */
+/* The calls of fkv.h over a device in memory: each once, of many keys, what they refuse, a crash at each call of a commit, and renewals. */
 #include "device.h"
 
 enum { SESSIONS = 2, KEYS = 100, MOST_TURNS = 1000 };
@@ -151,6 +151,122 @@ static void updates(void) {
     close_all(&it);
 }
 
+/* Keys that differ in high bits alone; or such keys as a hash makes of them. */
+static uint64_t key_of(uint32_t keys, uint64_t number) {
+    return keys == FKV_SPREAD ? number << 20 : fkv_spread(number << 20);
+}
+
+enum { MANY = 150, REFUSED_AT = 20 };
+
+/* An answer of many is that of the single call, unless that was refused: then nothing else is told. */
+static void is_update(const fkv_each_update *its, int32_t result, const fkv_update *single) {
+    WANTS("an update's answer", its->result, result);
+    if (result < 0) return;
+    WANTS("its serial", its->serial, single->serial);
+    WANTS("its value", its->value, single->value);
+    WANTS("its reason", its->reason, single->reason);
+}
+
+/* Updates of many keys, and the single ones at a twin of the store. How many were done. */
+static int update_both(fkv_session *session, fkv_session *twin, bool is_add, const uint64_t *keys, const uint64_t *numbers) {
+    fkv_each_update told[MANY + 1];
+    fkv_update single;
+    int count = 0;
+    told[MANY].serial = 77;
+    if (is_add) WANTS("adds to many keys", fkv_add_many(session, keys, MANY, numbers, MANY, told, MANY + 1), 0);
+    else WANTS("upserts of many keys", fkv_upsert_many(session, keys, MANY, numbers, MANY, told, MANY + 1), 0);
+    for (int i = 0; i < MANY; i++) {
+        int32_t result = (is_add ? fkv_add : fkv_upsert)(twin, keys[i], numbers[i], &single);
+        is_update(&told[i], result, &single);
+        count += result == FKV_DONE;
+    }
+    WANTS("the place behind the last one", told[MANY].serial, 77);
+    return count;
+}
+
+/* Reads of many keys, and the single ones at a twin of the store. How many were found. */
+static int read_both(fkv_session *session, fkv_session *twin, const uint64_t *keys) {
+    fkv_each_read told[MANY + 1];
+    uint64_t value;
+    int count = 0;
+    told[MANY].value = 77;
+    WANTS("reads of many keys", fkv_get_many(session, keys, MANY, told, MANY + 1), 0);
+    for (int i = 0; i < MANY; i++) {
+        int32_t result = fkv_get(twin, keys[i], &value);
+        WANTS("a read's answer", told[i].result, result);
+        if (result == FKV_FOUND || result == FKV_PENDING) WANTS("its value", told[i].value, value);
+        count += result == FKV_FOUND;
+    }
+    WANTS("the place behind the last one", told[MANY].value, 77);
+    return count;
+}
+
+/* What calls of many keys refuse as a whole: nothing is done, and nothing told. */
+static void many_refused(fkv_session *session, const uint64_t *keys) {
+    fkv_each_update told[2] = {{7, 7, 7, 7}, {7, 7, 7, 7}};
+    fkv_each_read read = {7, 7};
+    WANTS("reads without room", fkv_get_many(session, keys, 2, &read, 1), -FKV_ROOM_SMALL);
+    WANTS("upserts without room", fkv_upsert_many(session, keys, 2, keys, 2, told, 1), -FKV_ROOM_SMALL);
+    WANTS("adds without room", fkv_add_many(session, keys, 2, keys, 2, told, 0), -FKV_ROOM_SMALL);
+    WANTS("upserts of fewer values", fkv_upsert_many(session, keys, 2, keys, 1, told, 2), -FKV_ROOM_SMALL);
+    WANTS("adds of more numbers", fkv_add_many(session, keys, 1, keys, 2, told, 2), -FKV_ROOM_SMALL);
+    WANTS("what is told of it", told[0].result, 7);
+    WANTS("what is told of a read", read.result, 7);
+    WANTS("reads of no key", fkv_get_many(session, keys, 0, &read, 0), 0);
+    WANTS("upserts of no key", fkv_upsert_many(session, keys, 0, keys, 0, told, 0), 0);
+}
+
+/* The twin's file while the store's own is in hand, and the other way round. */
+static struct device other;
+
+static void change_device(void) {
+    static struct device left;
+    left = device;
+    device = other;
+    other = left;
+}
+
+static void settle_both(struct opened *it, struct opened *twin) {
+    settle(it);
+    change_device();
+    settle(twin);
+    change_device();
+}
+
+/* So many keys, some of them twice. */
+static void draw_keys(uint32_t keys_lie, uint64_t count, uint64_t *keys) {
+    for (uint64_t i = 0; i < MANY; i++) keys[i] = key_of(keys_lie, i % count);
+}
+
+/*
+ * Calls of many keys answer as the single ones do, one behind the other, and one value is refused. Then the keeper is behind, so the
+ * last updates wait, and in the end too many do.
+ */
+static void many(uint32_t keys_lie) {
+    uint64_t keys[MANY], numbers[MANY];
+    fkv_each_read read;
+    begin_device(&device, &SHAPE);
+    other = device;
+    struct opened it = open_bytes(device.now, device.size, keys_lie), twin = open_bytes(device.now, device.size, keys_lie);
+    fkv_session *session = &it.sessions[0], *single = &twin.sessions[0];
+    for (uint64_t i = 0; i < MANY; i++) numbers[i] = i == REFUSED_AT ? FKV_ABSENT : i;
+    draw_keys(keys_lie, 30, keys);
+    many_refused(session, keys);
+    WANTS("how many upserts are done", update_both(session, single, false, keys, numbers), MANY - 1);
+    WANTS("how many adds are done", update_both(session, single, true, keys, numbers), MANY - 1);
+    WANTS("how many values are found", read_both(session, single, keys), MANY);
+    draw_keys(keys_lie, 140, keys);
+    WANTS("whether some upserts are too many", update_both(session, single, false, keys, numbers) < MANY - 64, true);
+    settle_both(&it, &twin);
+    WANTS("whether some values are found", read_both(session, single, keys) > 0, true);
+    settle_both(&it, &twin);
+    WANTS("sleeping", fkv_sleep(session), 0);
+    WANTS("reads asleep", fkv_get_many(session, keys, 1, &read, 1), 0);
+    WANTS("the answer of one", read.result, -FKV_ASLEEP);
+    close_all(&it);
+    close_all(&twin);
+}
+
 /* What openings and handles refuse. */
 static void refusals(void) {
     fkv_shape bad = SHAPE, shape;
@@ -171,11 +287,6 @@ static void refusals(void) {
     WANTS("a poll into a small room", fkv_poll(&it.sessions[0], finished, 1, &count), -FKV_ROOM_SMALL);
     WANTS("closing while handles are out", fkv_close(&it.store), -FKV_HANDLE_OUT);
     close_all(&it);
-}
-
-/* Keys that differ in high bits alone; or such keys as a hash makes of them. */
-static uint64_t key_of(uint32_t keys, uint64_t number) {
-    return keys == FKV_SPREAD ? number << 20 : fkv_spread(number << 20);
 }
 
 /* A commit keeps what was done, and an opening finds it, if it places keys in the same way. */
@@ -341,6 +452,8 @@ static void spreading(void) {
 int main(void) {
     updates();
     refusals();
+    many(FKV_SPREAD);
+    many(FKV_SPREAD_ALREADY);
     reopening(FKV_SPREAD);
     reopening(FKV_SPREAD_ALREADY);
     renewing();

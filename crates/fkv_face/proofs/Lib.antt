@@ -1,3 +1,4 @@
 pub mod Fronts
+pub mod InOrder
 pub mod Results
 pub mod Sayings

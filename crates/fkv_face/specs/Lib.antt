@@ -1,5 +1,6 @@
 pub mod Calls
 pub mod Lending
+pub mod Many
 pub mod Names
 pub mod Numbers
 pub mod Outcomes

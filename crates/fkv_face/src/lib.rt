@@ -6,6 +6,7 @@ mod held_keeper;
 mod held_session;
 mod held_store;
 mod keepers;
+mod many;
 mod names;
 mod outcomes;
 mod points;

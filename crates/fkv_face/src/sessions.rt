@@ -34,7 +34,7 @@ pub(crate) fn run(session: &mut HeldSession, call: Call) -> Numbers
 
 /// An operation by what it was told: it is called so often that no `Answer` is made for it.
 #[inline(always)]
-fn run_op(session: &mut HeldSession, op: Op) -> Numbers
+pub(crate) fn run_op(session: &mut HeldSession, op: Op) -> Numbers
     ensures { says.IsToldIn (opening_of ⟦<Posted<'static> as Device>⟧.seen) session.old.value (call.Op op) result session.new.value }
 {
     told_by(session.lent().op(op))

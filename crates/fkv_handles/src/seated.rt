@@ -2,7 +2,7 @@
 ghost use Rattle.std.specs.Prelude.{◌≡◌};
 ghost use Rattle.fkv_handles.specs.Said as said;
 
-use fkv_base::Fault;
+use fkv_base::{Fault, Key};
 use fkv_disk::Device;
 use fkv_map::{Call, Op};
 use fkv_posted::Posted;
@@ -60,5 +60,17 @@ impl Seated {
             }
             None => Told::Refused(Fault::NoSession),
         }
+    }
+
+    /// Fetches the cache line of the key's bucket, for an operation that comes soon. Nothing changes.
+    #[inline(always)]
+    pub fn fetch_bucket(&self, key: Key) {
+        self.session.fetch_bucket(&self.table, key);
+    }
+
+    /// Fetches the cache line of the key's newest record, which its bucket names. Nothing changes.
+    #[inline(always)]
+    pub fn fetch_record(&self, key: Key) {
+        self.session.fetch_record(&self.table, key);
     }
 }

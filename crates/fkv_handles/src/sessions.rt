@@ -3,7 +3,7 @@ ghost use Rattle.std.specs.Prelude.{◌≡◌, None};
 ghost use Rattle.fkv_handles.specs.Said as said;
 
 use crate::seated::Seated;
-use fkv_base::Fault;
+use fkv_base::{Fault, Key};
 use fkv_disk::Device;
 use fkv_map::{Call, Op};
 use fkv_posted::Posted;
@@ -67,6 +67,23 @@ impl Session {
         match &mut self.seated {
             Some(seated) => seated.op(op),
             None => Told::Refused(Fault::NoSession),
+        }
+    }
+
+    /// Fetches the cache line of the key's bucket into the processor's cache, for an operation that comes soon. It is worth it where the index doesn't fit
+    /// there, for several keys in a row: they are waited for at once. Nothing changes. The key is the caller's.
+    #[inline(always)]
+    pub fn fetch_bucket(&self, key: Key) {
+        if let Some(seated) = &self.seated {
+            seated.fetch_bucket(self.keys.laid(key));
+        }
+    }
+
+    /// Fetches the cache line of the key's newest record, as `fetch_bucket` does that of its bucket, which comes first.
+    #[inline(always)]
+    pub fn fetch_record(&self, key: Key) {
+        if let Some(seated) = &self.seated {
+            seated.fetch_record(self.keys.laid(key));
         }
     }
 

@@ -39,6 +39,22 @@ pub struct Update {
 
 #[repr(C)]
 #[derive(Clone, Copy, Default)]
+pub struct EachRead {
+    pub value: u64,
+    pub result: i32,
+}
+
+#[repr(C)]
+#[derive(Clone, Copy, Default)]
+pub struct EachUpdate {
+    pub serial: u64,
+    pub value: u64,
+    pub reason: u64,
+    pub result: i32,
+}
+
+#[repr(C)]
+#[derive(Clone, Copy, Default)]
 pub struct Finished {
     pub kind: u64,
     pub name: u64,
@@ -70,6 +86,17 @@ pub struct Session {
 pub struct File {
     _private: [u8; 0],
 }
+
+/// The call that updates many keys.
+pub type UpdateMany = unsafe extern "C" fn(
+    *mut Session,
+    *const u64,
+    usize,
+    *const u64,
+    usize,
+    *mut EachUpdate,
+    usize,
+) -> i32;
 
 pub type TellProgress = extern "C" fn(*mut c_void, *const Progress);
 pub type TellCommitted = extern "C" fn(*mut c_void, u64, *const u64, usize);
@@ -120,6 +147,31 @@ unsafe extern "C" {
     pub fn fkv_add(session: *mut Session, key: u64, number: u64, told: *mut Update) -> i32;
     pub fn fkv_max(session: *mut Session, key: u64, number: u64, told: *mut Update) -> i32;
     pub fn fkv_delete(session: *mut Session, key: u64, told: *mut Update) -> i32;
+    pub fn fkv_get_many(
+        session: *mut Session,
+        keys: *const u64,
+        count: usize,
+        told: *mut EachRead,
+        room: usize,
+    ) -> i32;
+    pub fn fkv_upsert_many(
+        session: *mut Session,
+        keys: *const u64,
+        count: usize,
+        values: *const u64,
+        values_count: usize,
+        told: *mut EachUpdate,
+        room: usize,
+    ) -> i32;
+    pub fn fkv_add_many(
+        session: *mut Session,
+        keys: *const u64,
+        count: usize,
+        numbers: *const u64,
+        numbers_count: usize,
+        told: *mut EachUpdate,
+        room: usize,
+    ) -> i32;
     pub fn fkv_refresh(session: *mut Session, seen: *mut Seen) -> i32;
     pub fn fkv_poll(
         session: *mut Session,

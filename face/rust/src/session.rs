@@ -6,6 +6,9 @@ use std::ffi::c_void;
 use std::ptr;
 use std::sync::Arc;
 
+/// So many keys go to the library in one call, so that their answers have room on the stack.
+const AT_ONCE: usize = 64;
+
 /// What a read has come to.
 #[derive(Clone, Copy, Debug, PartialEq, Eq)]
 pub enum Read {
@@ -15,6 +18,16 @@ pub enum Read {
     Absent,
     /// The record lies in the file alone: a later poll tells of this ticket.
     Pending(ReadTicket),
+}
+
+impl Read {
+    fn of(result: i32, value: u64) -> Result<Read, Error> {
+        Ok(match answer(result)? {
+            raw::FOUND => Read::Found(value),
+            raw::NONE => Read::Absent,
+            _ => Read::Pending(ReadTicket(value)),
+        })
+    }
 }
 
 /// The name of a read that is pending.
@@ -41,6 +54,16 @@ pub enum Update {
 }
 
 impl Update {
+    fn of(result: i32, serial: u64, value: u64, reason: u64) -> Result<Update, Error> {
+        Ok(match answer(result)? {
+            raw::PENDING => Update::Pending {
+                serial,
+                reason: Reason::of(reason),
+            },
+            _ => Update::Done { serial, value },
+        })
+    }
+
     /// Its serial: the session's updates count from 1, in all of the store's life.
     pub fn serial(self) -> u64 {
         match self {
@@ -188,12 +211,27 @@ impl Session {
     /// Reads a key. `Asleep`, `PendingFull`.
     pub fn get(&mut self, key: u64) -> Result<Read, Error> {
         let mut value = 0;
-        let told = answer(unsafe { raw::fkv_get(self.at, key, &mut value) })?;
-        Ok(match told {
-            raw::FOUND => Read::Found(value),
-            raw::NONE => Read::Absent,
-            _ => Read::Pending(ReadTicket(value)),
-        })
+        let told = unsafe { raw::fkv_get(self.at, key, &mut value) };
+        Read::of(told, value)
+    }
+
+    /// Reads many keys: one behind the other, as [`Session::get`] does, with the answer or the refusal of each.
+    ///
+    /// This is for a store whose index and records don't fit the processor's caches. With 2^20 keys it is about one and a half times as
+    /// fast as single calls. The session doesn't refresh meanwhile: refresh it between calls of 64 keys or so.
+    pub fn get_many(&mut self, keys: &[u64]) -> Vec<Result<Read, Error>> {
+        let mut answers = Vec::with_capacity(keys.len());
+        for keys in keys.chunks(AT_ONCE) {
+            let (mut told, count) = ([raw::EachRead::default(); AT_ONCE], keys.len());
+            // There is room enough, so each read has its answer.
+            unsafe { raw::fkv_get_many(self.at, keys.as_ptr(), count, told.as_mut_ptr(), AT_ONCE) };
+            answers.extend(
+                told[..count]
+                    .iter()
+                    .map(|its| Read::of(its.result, its.value)),
+            );
+        }
+        answers
     }
 
     /// Reads a key, and waits where it lies in the file alone. Then the session settles, and what else was pending isn't told. Refused as
@@ -213,17 +251,40 @@ impl Session {
         call: impl FnOnce(*mut raw::Session, *mut raw::Update) -> i32,
     ) -> Result<Update, Error> {
         let mut its = raw::Update::default();
-        let told = answer(call(self.at, &mut its))?;
-        Ok(match told {
-            raw::PENDING => Update::Pending {
-                serial: its.serial,
-                reason: Reason::of(its.reason),
-            },
-            _ => Update::Done {
-                serial: its.serial,
-                value: its.value,
-            },
-        })
+        let told = call(self.at, &mut its);
+        Update::of(told, its.serial, its.value, its.reason)
+    }
+
+    fn update_many(
+        &mut self,
+        call: raw::UpdateMany,
+        pairs: &[(u64, u64)],
+    ) -> Vec<Result<Update, Error>> {
+        let mut answers = Vec::with_capacity(pairs.len());
+        for pairs in pairs.chunks(AT_ONCE) {
+            let (mut keys, mut numbers) = ([0; AT_ONCE], [0; AT_ONCE]);
+            for (at, &pair) in pairs.iter().enumerate() {
+                (keys[at], numbers[at]) = pair;
+            }
+            let (mut told, count) = ([raw::EachUpdate::default(); AT_ONCE], pairs.len());
+            let (keys, numbers) = (keys.as_ptr(), numbers.as_ptr());
+            // There is room enough, and as many numbers as keys, so each update has its answer.
+            unsafe {
+                call(
+                    self.at,
+                    keys,
+                    count,
+                    numbers,
+                    count,
+                    told.as_mut_ptr(),
+                    AT_ONCE,
+                )
+            };
+            let of =
+                |its: &raw::EachUpdate| Update::of(its.result, its.serial, its.value, its.reason);
+            answers.extend(told[..count].iter().map(of));
+        }
+        answers
     }
 
     /// Gives the key this value, 0 to 2^64 - 2. `Asleep`, `ValueReserved`, `PendingFull`, `SerialsSpent`, `IndexFull`, `LogFull`, as all
@@ -235,6 +296,18 @@ impl Session {
     /// Adds to the key's value, up to 2^64 - 2. A key without a value gets the number.
     pub fn add(&mut self, key: u64, number: u64) -> Result<Update, Error> {
         self.update(|at, told| unsafe { raw::fkv_add(at, key, number, told) })
+    }
+
+    /// Gives many keys their values: one behind the other, as [`Session::upsert`] does, with the answer or the refusal of each. See
+    /// [`Session::get_many`].
+    pub fn upsert_many(&mut self, pairs: &[(u64, u64)]) -> Vec<Result<Update, Error>> {
+        self.update_many(raw::fkv_upsert_many, pairs)
+    }
+
+    /// Adds to the values of many keys: one behind the other, as [`Session::add`] does, with the answer or the refusal of each. See
+    /// [`Session::get_many`].
+    pub fn add_many(&mut self, pairs: &[(u64, u64)]) -> Vec<Result<Update, Error>> {
+        self.update_many(raw::fkv_add_many, pairs)
     }
 
     /// Raises the key's value to the number. A key without a value gets it.

@@ -1,7 +1,7 @@
 //! The crate over real files: each call once, and what it refuses.
 use fkv::{
-    Error, Finished, How, Keeping, Phase, Read, RenewedKeys, Shape, Store, Update, Work, renew, spread,
-    spread_back,
+    Error, Finished, How, Keeping, Phase, Read, RenewedKeys, Shape, Store, Update, Work, renew,
+    spread, spread_back,
 };
 use std::io::ErrorKind;
 use std::path::PathBuf;
@@ -108,6 +108,64 @@ fn calls_answer_as_a_map() {
     assert!(matches!(session.get(7), Err(Error::Asleep)));
     session.wake().unwrap();
     assert!(matches!(session.commit(), Err(Error::Broken)));
+}
+
+/// The answers of calls, with the numbers of their errors.
+fn numbered<T: Copy>(answers: impl IntoIterator<Item = Result<T, Error>>) -> Vec<Result<T, i32>> {
+    let numbered = |answer: Result<T, Error>| answer.map_err(|why| why.number());
+    answers.into_iter().map(numbered).collect()
+}
+
+#[test]
+fn calls_of_many_keys_answer_as_single_ones() {
+    let (path, twin_path) = (Path::new("many"), Path::new("many-twin"));
+    let (store, twin) = (path.store(), twin_path.store());
+    let (mut session, mut other) = (store.join_any().unwrap(), twin.join_any().unwrap());
+    // One value is refused, and some keys come twice.
+    let pair = |at: u64| (at % 60 << 20, if at == 40 { u64::MAX } else { at });
+    let pairs: Vec<(u64, u64)> = (0..80).map(pair).collect();
+    let keys: Vec<u64> = pairs.iter().map(|its| its.0).collect();
+    let told = numbered(session.upsert_many(&pairs));
+    assert_eq!(
+        told[39],
+        Ok(Update::Done {
+            serial: 40,
+            value: 0
+        })
+    );
+    assert_eq!(told[40], Err(Error::ValueReserved.number()));
+    assert_eq!(
+        told[41],
+        Ok(Update::Done {
+            serial: 41,
+            value: 0
+        })
+    );
+    let single = pairs.iter().map(|&(key, value)| other.upsert(key, value));
+    assert_eq!(told, numbered(single));
+    let told = numbered(session.add_many(&pairs));
+    assert_eq!(
+        told[39],
+        Ok(Update::Done {
+            serial: 119,
+            value: 78
+        })
+    );
+    let single = pairs.iter().map(|&(key, number)| other.add(key, number));
+    assert_eq!(told, numbered(single));
+    let told = numbered(session.get_many(&keys));
+    assert_eq!(told[39], Ok(Read::Found(78)));
+    assert_eq!(told, numbered(keys.iter().map(|&key| other.get(key))));
+    // No keeper runs: the last ones wait, and then too many do.
+    let pairs: Vec<(u64, u64)> = (0..250).map(|key| (key, key)).collect();
+    let told = numbered(session.upsert_many(&pairs));
+    assert_eq!(told[249], Err(Error::PendingFull.number()));
+    let single = pairs.iter().map(|&(key, value)| other.upsert(key, value));
+    assert_eq!(told, numbered(single));
+    assert!(session.get_many(&[]).is_empty() && session.add_many(&[]).is_empty());
+    let _keepers = [&store, &twin].map(|store| store.start(Keeping::default()).unwrap());
+    session.settle(|_| {}).unwrap();
+    other.settle(|_| {}).unwrap();
 }
 
 #[test]

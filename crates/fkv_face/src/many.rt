@@ -1,0 +1,190 @@
+//! Calls of many keys: the calls one behind the other. What they read of memory is fetched ahead, which changes nothing.
+ghost use Rattle.std.specs.Prelude.{◌≡◌, ◌≤◌, length};
+ghost use Rattle.fkv_face.specs.Many as says;
+ghost use Rattle.fkv_handles.specs.Below.fkv_table.Planes.{opening_of};
+
+use crate::answers::ROOM_SMALL;
+use crate::held_session::HeldSession;
+use crate::sessions::run_op;
+use fkv_base::{Key, Value};
+use fkv_disk::Device;
+use fkv_handles::Session;
+use fkv_map::Op;
+use fkv_posted::Posted;
+
+/// One read of many: what `fkv_get` answers and tells.
+#[repr(C)]
+#[derive(Clone, Copy)]
+pub struct EachRead {
+    pub value: u64,
+    pub result: i32,
+}
+
+/// One update of many: what `fkv_upsert` or `fkv_add` answers and tells.
+#[repr(C)]
+#[derive(Clone, Copy)]
+pub struct EachUpdate {
+    pub serial: u64,
+    pub value: u64,
+    pub reason: u64,
+    pub result: i32,
+}
+
+/// What an update does with a key and a number.
+#[derive(Clone, Copy)]
+enum Kind {
+    Upsert,
+    Add,
+}
+
+/// So many keys are fetched at once: about as many misses as a processor's core waits for at the same time.
+const AHEAD: usize = 16;
+
+/// Fetches the cache lines of the keys' buckets, and then those of their records, which the buckets name.
+#[inline(always)]
+fn fetch_each(session: &Session, keys: &[u64]) {
+    for key in keys {
+        session.fetch_bucket(Key(*key));
+    }
+    for key in keys {
+        session.fetch_record(Key(*key));
+    }
+}
+
+/// Fetches for the next keys, where those are done for which it was done before.
+#[inline(always)]
+fn fetch_ahead(session: &mut HeldSession, keys: &[u64], done: usize)
+    requires { done ≤ length keys.now }
+    ensures same { session.new.value ≡ session.old.value }
+{
+    if done % AHEAD == 0 {
+        let rest = &keys[done..];
+        let count = rest.len().min(AHEAD);
+        fetch_each(session.lent(), &rest[..count]);
+    }
+}
+
+#[inline(always)]
+fn read_one(session: &mut HeldSession, key: u64) -> EachRead
+    ensures { says.IsEachRead (opening_of ⟦<Posted<'static> as Device>⟧.seen) session.old.value key result session.new.value }
+{
+    let its = run_op(session, Op::Read(Key(key)));
+    EachRead {
+        value: its.first,
+        result: its.result,
+    }
+}
+
+/// Reads each key, in order.
+fn read_each(session: &mut HeldSession, keys: &[u64], told: &mut [EachRead])
+    requires { length keys.now ≤ length told.old }
+    ensures { says.AreCalled (says.IsEachRead (opening_of ⟦<Posted<'static> as Device>⟧.seen)) session.old.value keys.now told.old told.new session.new.value }
+{
+    for i in 0..keys.len() {
+        fetch_ahead(session, keys, i);
+        told[i] = read_one(session, keys[i]);
+    }
+}
+
+/// Reads many keys, in order: each as `fkv_get` does, and its answer is told at its place. A refusal of one doesn't end the others. 0; `ROOM_SMALL`
+/// where there are fewer places than keys, and then nothing is done.
+#[unsafe(no_mangle)]
+pub extern "C" fn fkv_get_many(
+    session: &mut HeldSession,
+    keys: &[u64],
+    told: &mut [EachRead],
+) -> i32
+    ensures { says.AreRead (opening_of ⟦<Posted<'static> as Device>⟧.seen) session.old.value keys.now result told.old told.new session.new.value }
+{
+    if told.len() < keys.len() {
+        return ROOM_SMALL;
+    }
+    read_each(session, keys, told);
+    0
+}
+
+#[inline(always)]
+fn op_of(kind: Kind, key: u64, number: u64) -> Op
+    ensures { result ≡ says.making kind key number }
+{
+    match kind {
+        Kind::Upsert => Op::Upsert(Key(key), Value(number)),
+        Kind::Add => Op::Add(Key(key), number),
+    }
+}
+
+#[inline(always)]
+fn update_one(session: &mut HeldSession, kind: Kind, key: u64, number: u64) -> EachUpdate
+    ensures { says.IsEachUpdate (opening_of ⟦<Posted<'static> as Device>⟧.seen) (says.making kind) session.old.value (key, number) result session.new.value }
+{
+    let its = run_op(session, op_of(kind, key, number));
+    EachUpdate {
+        serial: its.first,
+        value: its.second,
+        reason: its.third,
+        result: its.result,
+    }
+}
+
+/// Updates each key by its number, in order.
+#[inline(always)]
+fn update_each(
+    session: &mut HeldSession,
+    kind: Kind,
+    keys: &[u64],
+    numbers: &[u64],
+    told: &mut [EachUpdate],
+)
+    requires numbers { length numbers.now ≡ length keys.now }
+    requires room { length keys.now ≤ length told.old }
+    ensures { says.AreCalled (says.IsEachUpdate (opening_of ⟦<Posted<'static> as Device>⟧.seen) (says.making kind)) session.old.value (says.zip keys.now numbers.now) told.old told.new session.new.value }
+{
+    for i in 0..keys.len() {
+        fetch_ahead(session, keys, i);
+        told[i] = update_one(session, kind, keys[i], numbers[i]);
+    }
+}
+
+#[inline(always)]
+fn update_many(
+    session: &mut HeldSession,
+    kind: Kind,
+    keys: &[u64],
+    numbers: &[u64],
+    told: &mut [EachUpdate],
+) -> i32
+    ensures { says.AreUpdated (opening_of ⟦<Posted<'static> as Device>⟧.seen) (says.making kind) session.old.value keys.now numbers.now result told.old told.new session.new.value }
+{
+    if numbers.len() != keys.len() || told.len() < keys.len() {
+        return ROOM_SMALL;
+    }
+    update_each(session, kind, keys, numbers, told);
+    0
+}
+
+/// Gives many keys their values, in order: each as `fkv_upsert` does, and its answer is told at its place. A refusal of one doesn't end the others.
+/// 0; `ROOM_SMALL` where there are other than as many values as keys, or fewer places, and then nothing is done.
+#[unsafe(no_mangle)]
+pub extern "C" fn fkv_upsert_many(
+    session: &mut HeldSession,
+    keys: &[u64],
+    values: &[u64],
+    told: &mut [EachUpdate],
+) -> i32
+    ensures { says.AreUpdated (opening_of ⟦<Posted<'static> as Device>⟧.seen) says.upsert_of session.old.value keys.now values.now result told.old told.new session.new.value }
+{
+    update_many(session, Kind::Upsert, keys, values, told)
+}
+
+/// Adds to the values of many keys, in order, as `fkv_add` does. It answers and refuses as `fkv_upsert_many`.
+#[unsafe(no_mangle)]
+pub extern "C" fn fkv_add_many(
+    session: &mut HeldSession,
+    keys: &[u64],
+    numbers: &[u64],
+    told: &mut [EachUpdate],
+) -> i32
+    ensures { says.AreUpdated (opening_of ⟦<Posted<'static> as Device>⟧.seen) says.add_of session.old.value keys.now numbers.now result told.old told.new session.new.value }
+{
+    update_many(session, Kind::Add, keys, numbers, told)
+}
