@@ -13,7 +13,7 @@ use Rattle.fkv_pairs.specs.Pairs.{absent_word}
 use Rattle.fkv_spread.specs.Spreading.{key_told, lies_under}
 use Rattle.fkv_spread.specs.declared.keys.Keys.{Keys}
 use Rattle.fkv_spread.specs.declared.keys.Keys.TheVariants.{AsTheyAre}
-use Rattle.fkv_renewing.specs.Laid.{AreLaid, laid_pair}
+use Rattle.fkv_renewing.specs.Laid.{AreLaid, laid_pair, told_pair}
 use Rattle.fkv_renewing.specs.Renewed.{AreSomePairs}
 use Rattle.fkv_renewing.proofs.Apart.{AreApart, apart_ascending, apart_mapped, apart_moved, ascending_apart}
 use Rattle.fkv_renewing.proofs.Listed.{same_ascending}
@@ -64,9 +64,25 @@ none = (record { 0 = 0 }, record { 0 = 0 })
 abbrev pub IsToldBack : Keys → Key × Value → Type 0
 IsToldBack keys pair = key_told keys (lies_under keys pair.0.0) ≡ pair.0.0
 
+abbrev under : Key × Value → ℕ → Key × Value
+under pair n = (record { 0 = n }, pair.1)
+
+-- so the pair is
+same_pair : (keys : Keys) (pair : Key × Value) → IsToldBack keys pair → told_pair keys (laid_pair keys pair) ≡ pair
+same_pair keys pair back = ap (under pair) back
+
 module _ (keys : Keys) (pairs mid laid : List (Key × Value)) (back : All (IsToldBack keys) pairs) (each : mid ≡ map (laid_pair keys) pairs) (ordered : IsPermutation mid laid) (up : IsNonDecreasingBy (λ pair. pair.0.0) laid) where
   moved : IsPermutation (map (laid_pair keys) pairs) laid
   moved = subst (λ (xs : List (Key × Value)). IsPermutation xs laid) each ordered
+
+  -- each pair is told back
+  all_back : map (told_pair keys) (map (laid_pair keys) pairs) ≡ pairs
+  all_back = map-map (told_pair keys) (laid_pair keys) pairs ∙ map_fixed (λ pair. told_pair keys (laid_pair keys pair)) pairs (λ i d inside. same_pair keys (get_or pairs i d) (back i d inside))
+
+  told : IsPermutation (map (told_pair keys) laid) pairs
+  told =
+      let turned = IsPermutation-map (told_pair keys) _ laid moved in
+      IsPermutation-sym pairs (map (told_pair keys) laid) (subst (λ (xs : List (Key × Value)). IsPermutation xs (map (told_pair keys) laid)) all_back turned)
 
   -- their numbers, before and after
   numbers : map number (map (laid_pair keys) pairs) ≡ map (lies_under keys) (map number pairs)
@@ -78,6 +94,7 @@ module _ (keys : Keys) (pairs mid laid : List (Key × Value)) (back : All (IsTol
   pub laid_so : AreLaid keys pairs laid
   laid_so = record {
     moved = moved;
+    told = told;
     some = λ were.
         let apart : AreApart (map (lies_under keys) (map number pairs)) = apart_mapped (lies_under keys) (key_told keys) (map number pairs) undone (apart_ascending (map number pairs) were.ascending) in
         let laid_apart = apart_moved _ (map number laid) (IsPermutation-map number _ laid moved) (subst AreApart (sym numbers) apart) in
@@ -92,9 +109,13 @@ module _ (keys : Keys) (pairs mid laid : List (Key × Value)) (back : All (IsTol
 fixed : (pairs : List (Key × Value)) → map (laid_pair AsTheyAre) pairs ≡ pairs
 fixed pairs = map_fixed (laid_pair AsTheyAre) pairs (λ k d inside. refl)
 
+told_fixed : (pairs : List (Key × Value)) → map (told_pair AsTheyAre) pairs ≡ pairs
+told_fixed pairs = map_fixed (told_pair AsTheyAre) pairs (λ k d inside. refl)
+
 pub as_they_were : (pairs : List (Key × Value)) → AreLaid AsTheyAre pairs pairs
 as_they_were pairs = record {
   moved = subst (λ (xs : List (Key × Value)). IsPermutation xs pairs) (sym (fixed pairs)) (IsPermutation-refl pairs);
+  told = subst (λ (xs : List (Key × Value)). IsPermutation xs pairs) (sym (told_fixed pairs)) (IsPermutation-refl pairs);
   some = λ were. were;
 }
 

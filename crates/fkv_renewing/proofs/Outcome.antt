@@ -1,5 +1,5 @@
 -- What the image of a renewal is, and one whose gates are closed.
-use Rattle.std.proofs.Common.{◌≡◌, ◌≢◌, ◌≤◌, inl, inr, ℕ, false, List, Option, Some, None, refl, sym, ◌∙◌, ap, subst, arith}
+use Rattle.std.proofs.Common.{◌≡◌, ◌≢◌, ◌≤◌, inl, inr, ℕ, Bool, false, List, Option, Some, None, refl, sym, ◌∙◌, ap, subst, arith}
 use Rattle.std.specs.Prelude.{◌==◌, if◌then◌else◌, replicate, Result, Ok, Err, IsErr}
 use Rattle.std.specs.Result.{IsErrAnd}
 use Rattle.std.specs.List.{flat_map}
@@ -9,11 +9,11 @@ use Rattle.fkv_base.specs.declared.numbers.Serial.{Serial}
 use Rattle.fkv_base.specs.declared.numbers.Value.{Value}
 use Rattle.fkv_base.specs.declared.shapes.Shape.{Shape}
 use Rattle.fkv_disk.specs.Bytes.{byte_at, written}
-use Rattle.fkv_disk.specs.Device.{AtEachMoment}
+use Rattle.fkv_disk.specs.Device.{AtEachMoment, after}
 use Rattle.fkv_disk.proofs.Shown.{byte_at-bytes_at}
 use Rattle.fkv_manifest.specs.Newest.{slot_in, newer, newest}
 use Rattle.fkv_creating.specs.Long.{IsLong}
-use Rattle.fkv_creating.specs.Moments.{IsTornInFront}
+use Rattle.fkv_creating.specs.Moments.{IsClearedFront, IsTornInFront}
 use Rattle.fkv_newest.specs.declared.newest_slots.Newest.{Newest}
 use Rattle.fkv_newest.specs.Newest.{IsStore, slot_place}
 use Rattle.fkv_opening.proofs.Shown.{Apart}
@@ -78,11 +78,14 @@ module _ (apart : Apart) (shape : Shape) (points its_points : List Serial) (pair
   none_or_renewal image (inr is) = inr (subst (λ (bytes : List ℕ). IsRenewal shape points pairs bytes) (sym is) renewal)
 
   -- after the front is cleared, and filled
-  pub clears_first : {D : Type 0} (may_leave : D → List ℕ → Type 0) (moment : D → ℕ) (left_since : D → ℕ → List ℕ → Type 0) (first cleared new : D) → AtEachMoment moment left_since first cleared (IsTornInFront (may_leave first))
-      → (1536 ≤ place → IsCleared old → AtEachMoment moment left_since cleared new (IsShutOrFilled old block place log slot)) → ClearsFirst may_leave moment left_since shape points pairs first new
-  clears_first may_leave moment left_since first cleared new front rest = record {
+  pub clears_first : {D : Type 0} (seen : D → List ℕ) (may_leave : D → List ℕ → Type 0) (moment : D → ℕ) (left_since : D → ℕ → List ℕ → Type 0) (refuses : D → ℕ → Bool) (first cleared new : D) → refuses cleared ≡ after 2 (refuses first)
+      → IsClearedFront seen may_leave first cleared → AtEachMoment moment left_since first cleared (IsTornInFront (may_leave first))
+      → (1536 ≤ place → IsCleared old → AtEachMoment moment left_since cleared new (IsShutOrFilled old block place log slot)) → ClearsFirst seen may_leave moment left_since refuses shape points pairs first new
+  clears_first seen may_leave moment left_since refuses first cleared new calls front so_far rest = record {
     cleared = cleared;
-    until_then = front;
+    calls = calls;
+    front = front;
+    until_then = so_far;
     from_then = weaker none_or_renewal (rest (subst (λ (at : ℕ). 1536 ≤ at) (sym its_place) (behind_front shape)) clear);
   }
 

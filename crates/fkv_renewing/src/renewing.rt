@@ -64,8 +64,9 @@ fn prepare(
 /// log has one record for each pair, behind a checkpoint without triples. Serials that are spent stay spent, since the points stay.
 ///
 /// It makes ten calls: zeros over the first 1,536 bytes, the block, the log, slot 1 behind its gate, and the gate, with a sync after each.
-/// Once the zeros are synced a crash, or a refusal, leaves an image that is no store's, or the whole one. After `Ok` the device reads as
-/// the whole one, and a crash leaves just that. Recovery finds no fault in it, and the store that it holds has these pairs and points.
+/// Once the zeros are synced a crash, or a refusal, leaves an image that is no store's, or the whole one. Where they are not, no call was
+/// made, or one of the first two was refused and was the last. After `Ok` the device reads as the whole one, and a crash leaves just that.
+/// Recovery finds no fault in it, and the store that it holds has these pairs and points.
 ///
 /// Where the shape has no room it is refused, with nothing written. `NoSession` says that a session beyond the shape's has taken a serial,
 /// `LogFull` that the log has no place for each pair, and `IndexFull` that the index has no slot for each home. Where memory is refused
@@ -84,7 +85,7 @@ pub fn renew<D: Device>(
     ensures err { IfErr result (IsRefused shape opened.now.points.items pairs.now (D.failed d.old) (D.failed d.new)) }
     ensures unwritten { IfErr result (λ e. (e ≡ DeviceFailed → ⊥) → d.new ≡ d.old) }
     ensures counted { OnOk result (MakesCalls 10 (D.refuses d.old) (D.refuses d.new) result) }
-    ensures moments { D.honest d.old → AreSomePairs pairs.now → RenewsInOrder D.may_leave D.moment D.left_since shape opened.now.points.items pairs.now d.old d.new result }
+    ensures moments { D.honest d.old → AreSomePairs pairs.now → RenewsInOrder D.seen D.may_leave D.moment D.left_since D.refuses shape opened.now.points.items pairs.now d.old d.new result }
 {
     law_formats_apart();
     law_spellings_apart();

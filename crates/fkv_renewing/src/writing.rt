@@ -1,6 +1,6 @@
 //! Writing a renewed store.
-ghost use Rattle.std.specs.Prelude.{◌≡◌, ◌≤◌, ◌↔◌, length, replicate, OnOk};
-ghost use Rattle.fkv_creating.specs.Moments.{IsTornInFront, IsTornOver};
+ghost use Rattle.std.specs.Prelude.{◌≡◌, ◌≤◌, ◌↔◌, length, replicate, OnErr, OnOk};
+ghost use Rattle.fkv_creating.specs.Moments.{IsStoppedAt, IsTornInFront, IsTornOver};
 ghost use Rattle.fkv_disk.specs.Bytes.{written};
 ghost use Rattle.fkv_disk.specs.Device.{LeavesOnly, AtEachMoment, HasCause, MakesCalls};
 ghost use Rattle.fkv_renewing.specs.Images.{filled, IsCleared, IsShutOrFilled};
@@ -18,6 +18,7 @@ fn write_synced<D: Device>(d: &mut D, at: u64, bytes: &[u8]) -> Result<(), Fault
     ensures honest { D.honest d.old ↔ D.honest d.new }
     ensures cause { HasCause (D.failed d.old) (D.failed d.new) result }
     ensures counted { OnOk result (MakesCalls 2 (D.refuses d.old) (D.refuses d.new) result) }
+    ensures stopped { D.honest d.old → OnErr result (IsStoppedAt D.seen D.refuses at bytes.now d.old d.new) }
 {
     d.write(at, bytes)?;
     d.sync()?;
@@ -32,6 +33,7 @@ pub(crate) fn clear<D: Device>(d: &mut D) -> Result<(), Fault>
     ensures honest { D.honest d.old ↔ D.honest d.new }
     ensures cause { HasCause (D.failed d.old) (D.failed d.new) result }
     ensures counted { OnOk result (MakesCalls 2 (D.refuses d.old) (D.refuses d.new) result) }
+    ensures stopped { D.honest d.old → OnErr result (IsStoppedAt D.seen D.refuses 0 (replicate 1536 0) d.old d.new) }
 {
     write_synced(d, SHAPE_PLACE, &[0; 1536])
 }
