@@ -1,7 +1,9 @@
-"""The program over a store's file: one process alone has it open, what is no store is left as it is, and the folder of a new file is
-synced before anything is written. A lock or a sync that fails, and a path of something else than a file, end the run with its reason."""
+"""The program over a store's file: one process alone has it open, and none while another looks at it. What is no store is left as it is, and
+the folder of a new file is synced before anything is written. A lock or a sync that fails, and a path of something else than a file, end the
+run with its reason."""
 import os
 import re
+import signal
 import socket
 import subprocess
 import sys
@@ -10,6 +12,7 @@ import tempfile
 from programs import TOP
 
 PROGRAM = os.environ.get("FKV") or os.path.join(TOP, "crates/fkv/out/fkv")
+LOOKER = os.environ.get("FKV_LOOK") or os.path.join(TOP, "crates/fkv_look/out/fkv_look")
 SHAPE = "shape 4 16 4 2 1 0 64\n"
 # more answers than a pipe holds, so that the program waits for its reader, with its store open
 LONG = SHAPE + "0 get 1\n" * 20_000
@@ -50,23 +53,76 @@ def started(path):
     return process
 
 
+def need_in_use(path, beside):
+    """The store isn't opened, made or run on threads, and its file stays as it is."""
+    before = held(path)
+    for name, script, words in (("open", "open\n", ()), ("shape", SHAPE, ()), ("threads", SHAPE, ("--threads",))):
+        status, output, complaint = run_of(path, script, *words)
+        refused = (status, output, complaint.endswith("is in use by another process\n"))
+        need(f"{name} {beside}", refused, (3, REFUSED, True))
+        need(f"the file behind {name} {beside}", held(path), before)
+
+
 def one_alone(path):
     """Two processes on one file; and the first is killed with the lock held."""
     first = started(path)
     try:
-        before = held(path)
-        for script in ("open\n", SHAPE):
-            status, output, complaint = ran(path, script)
-            refused = (status, output, complaint.endswith("is in use by another process\n"))
-            need(f"{script.split()[0]} in a second process", refused, (3, REFUSED, True))
-            need("the file behind it", held(path), before)
-        status, output, complaint = run_of(path, SHAPE, "--threads")
-        need("threads in a second process", (status, output, complaint.endswith("is in use by another process\n")), (3, REFUSED, True))
+        need_in_use(path, "in a second process")
     finally:
         first.kill()
         first.wait()
         first.stdout.close()
     need("open once the first process is killed", ran(path, "open\n"), (0, OPENED, ""))
+
+
+def look(path):
+    """What `fkv_look` says of the file: its status, its lines and the complaint."""
+    run = subprocess.run([LOOKER, path, "--pairs"], capture_output=True, text=True, timeout=SECONDS)
+    return run.returncode, run.stdout, run.stderr
+
+
+def looking(path):
+    """A process that looks at the file, by strace, which stops it behind its first lock; and where strace tells so."""
+    told, tells = os.pipe()
+    stop = ["-e", "trace=flock", "-e", "inject=flock:signal=STOP:when=1"]
+    strace = ["strace", "-f", "-qq", *stop, "-o", f"/dev/fd/{tells}", LOOKER, path, "--pairs"]
+    process = subprocess.Popen(strace, pass_fds=[tells], stdout=subprocess.PIPE, text=True)
+    os.close(tells)
+    return process, os.fdopen(told)
+
+
+def told_to_stop(calls):
+    """The lines of strace up to the one that tells of the stop; all where none does."""
+    lines = []
+    for line in iter(calls.readline, ""):
+        lines.append(line.rstrip())
+        if "stopped by SIGSTOP" in line:
+            break
+    return lines
+
+
+def looked_at(path):
+    """A store at whose file another process looks is opened by nobody. Others may look at it too, and that process goes on as it would have."""
+    need("the status of a new store", ran(path, SHAPE)[0], 0)
+    seen = look(path)
+    need("a look", (seen[0], seen[2]), (0, ""))
+    process, calls = looking(path)
+    lines = told_to_stop(calls)
+    number = int(lines[0].split()[0]) if lines else process.pid
+    try:
+        stopped = ["LOCK_SH|LOCK_NB" in lines[0] and lines[0].endswith("= 0"), "stopped by SIGSTOP" in lines[-1]] if lines else []
+        need("a look that is stopped with its lock", stopped, [True, True])
+        need_in_use(path, "beside a look")
+        need("a look beside a look", look(path), seen)
+        os.kill(number, signal.SIGCONT)
+        output, _ = process.communicate(timeout=SECONDS)
+        need("the look that was stopped", (process.returncode, output), seen[:2])
+    finally:
+        if process.poll() is None:
+            os.kill(number, signal.SIGKILL)
+            process.wait()
+        calls.close()
+    need("open behind the look", ran(path, "open\n"), (0, OPENED, ""))
 
 
 def traced(path, script, *asked):
@@ -154,9 +210,10 @@ def no_file_is_refused(path):
 
 def alone(folder):
     """How many of these there are; it ends the program where one goes wrong."""
-    if not os.path.exists(PROGRAM):
-        sys.exit(f"{sys.argv[0]}: there is no program {PROGRAM}: `make fkv` proves and leaves it")
-    checks = (one_alone, folder_is_synced, foreign_is_left, failing_call_is_told, no_file_is_refused)
+    for program in (PROGRAM, LOOKER):
+        if not os.path.exists(program):
+            sys.exit(f"{sys.argv[0]}: there is no program {program}: `rt run` in its crate's folder proves and leaves it")
+    checks = (one_alone, looked_at, folder_is_synced, foreign_is_left, failing_call_is_told, no_file_is_refused)
     for number, check in enumerate(checks):
         check(os.path.join(os.path.realpath(folder), f"alone{number}"))
     return len(checks)
