@@ -1,17 +1,23 @@
 -- Renewals, from device to device.
 use Rattle.std.proofs.Common.{◌≡◌, ◌∙◌, ◌↔◌, ℕ, List, Option, Some, None, IsSomeAnd, refl, sym, ap, subst, unwrap_or}
+use Rattle.std.specs.Prelude.{Result, Ok, Err, IfErr}
+use Rattle.std.specs.Result.{IsErrAnd}
+use Rattle.fkv_base.specs.declared.faults.Fault.{Fault}
+use Rattle.fkv_base.specs.declared.faults.Fault.TheVariants.{Damaged, Device, Memory, NotAStore}
 use Rattle.fkv_base.specs.declared.numbers.Key.{Key}
 use Rattle.fkv_base.specs.declared.numbers.Value.{Value}
 use Rattle.fkv_base.specs.declared.shapes.Shape.{Shape}
 use Rattle.fkv_disk.specs.Device.{LeavesOnly}
+use Rattle.fkv_lines.specs.declared.scripts.Sizes.{Sizes}
+use Rattle.fkv_opening.specs.Faults.{IsFaultOf, IsRefused}
 use Rattle.fkv_opening.specs.Opened.{IsStoreOf}
 use Rattle.fkv_opening.specs.declared.opened_store.Opened.{Opened}
 use Rattle.fkv_pairs.specs.Pairs.{ArePairs, log_of_store}
 use Rattle.fkv_renewing.specs.Renewed.{AreSomePairs, IsRenewal}
 use Rattle.fkv_renewing.specs.Room.{HasRoomFor}
 use Rattle.fkv_spread.specs.declared.keys.Keys.{Keys}
-use Rattle.fkv_renew.specs.Renewals.{HasNoRoom, IsHindrance, IsRenewalOf, Renews, saved_of}
-use Rattle.fkv_renew.specs.Stores.{IsHeld, IsLaid}
+use Rattle.fkv_renew.specs.Renewals.{IsHindrance, IsRefusal, IsRenewalOf, IsUnrenewed, IsWanted, Renews, refusal_of_old, saved_of}
+use Rattle.fkv_renew.specs.Stores.{IsHeld, IsLaid, IsUnread}
 use Rattle.fkv_renew.specs.declared.renewals.Refusal.{Refusal}
 use Rattle.fkv_renew.specs.declared.renewals.Refusal.TheVariants as refusal
 use Rattle.fkv_renew.specs.declared.saved.Saved.{Saved}
@@ -64,10 +70,45 @@ module _ {N : Type 0} (honest : N → Type 0) (seen : N → List ℕ) (may_leave
       },
     )
 
--- why it isn't
-pub no_room : (wanted : Option Shape) (keys : Keys) (store laid : Store) (shape : Shape) (its : Refusal) → IsLaid keys store laid → shape ≡ unwrap_or wanted laid.opened.shape
-    → IsHindrance shape laid.opened.points.items laid.pairs.items its → HasNoRoom wanted keys its
-no_room wanted keys store laid shape (refusal.Unfit fault) is sized why =
-    record { store = store; laid = laid; shape = shape; its_shape = sized_by wanted store laid shape is.opened sized; is_laid = is; why = why }
-no_room wanted keys store laid shape (refusal.Sizes sizes) is sized why = absurd why
-no_room wanted keys store laid shape its is sized why = tt
+-- ---- why it isn't
+
+-- recovery is refused over a device that reads as the image
+pub unopened_so : (before now : ℕ) (honest its : Type 0) (image read : List ℕ) (fault : Fault) → (honest → its) → read ≡ image → IsRefused before now its (IsFaultOf read) fault → IsUnread honest image fault
+unopened_so before now honest its image read NotAStore to same so = λ h. subst (λ (bytes : List ℕ). IsFaultOf bytes NotAStore) same (so (to h))
+unopened_so before now honest its image read (Damaged part place) to same so = λ h. subst (λ (bytes : List ℕ). IsFaultOf bytes (Damaged part place)) same (so (to h))
+unopened_so before now honest its image read Device to same so = tt
+unopened_so before now honest its image read Memory to same so = tt
+unopened_so before now honest its image read other to same so = so
+
+-- a fault that is handed on
+pub passed_on : {T : Type 0} (result : Result T Fault) (fault : Fault) (P : Fault → Type 0) → IsErrAnd result (λ e. e ≡ fault) → P fault → IfErr result P
+passed_on (Ok found) fault P is so = tt
+passed_on (Err e) fault P is so = subst P (sym is) so
+
+module _ {O : Type 0} (honest : O → Type 0) (seen : O → List ℕ) (wanted : Option Shape) (keys : Keys) (old : O) where
+  -- so no store was read
+  pub none_read : (fault : Fault) → IsUnread (honest old) (seen old) fault → IsUnrenewed honest seen wanted keys old (refusal_of_old fault)
+  none_read Memory so = tt
+  none_read other so = so
+
+  -- or it has no room
+  pub no_room : (store laid : Store) (shape : Shape) (its : Refusal) → (honest old → IsHeld (seen old) store) → IsLaid keys store laid → shape ≡ unwrap_or wanted laid.opened.shape
+      → IsHindrance shape laid.opened.points.items laid.pairs.items its → IsUnrenewed honest seen wanted keys old its
+  no_room store laid shape (refusal.Unfit fault) held is sized why =
+      record { store = store; laid = laid; shape = shape; its_shape = sized_by wanted store laid shape is.opened sized; is_laid = is; held = held; why = why }
+  no_room store laid shape (refusal.First its) held is sized why = tt
+  no_room store laid shape (refusal.New its) held is sized why = tt
+  no_room store laid shape refusal.Memory held is sized why = tt
+  no_room store laid shape (refusal.Sizes sizes) held is sized why = absurd why
+  no_room store laid shape (refusal.Old its) held is sized why = absurd why
+  no_room store laid shape (refusal.Unopened fault) held is sized why = absurd why
+
+  -- where the device is the old file
+  pub refused_so : (sizes : Option Sizes) (its : Refusal) → IsWanted sizes wanted → IsUnrenewed honest seen wanted keys old its → IsRefusal honest seen sizes keys its
+  refused_so sizes (refusal.Unopened fault) sized why = (wanted, sized, old, why)
+  refused_so sizes (refusal.Unfit fault) sized why = (wanted, sized, old, why)
+  refused_so sizes (refusal.First its) sized why = (wanted, sized)
+  refused_so sizes (refusal.New its) sized why = (wanted, sized)
+  refused_so sizes refusal.Memory sized why = (wanted, sized)
+  refused_so sizes (refusal.Sizes refused) sized why = absurd why
+  refused_so sizes (refusal.Old its) sized why = absurd why

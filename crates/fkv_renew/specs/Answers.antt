@@ -2,15 +2,13 @@
 use Rattle.std.specs.Prelude.{◌≡◌, ◌⊎◌, ℕ, List, codes, Option}
 use Rattle.fkv_base.specs.declared.faults.Fault.{Fault}
 use Rattle.fkv_base.specs.declared.faults.Fault.TheVariants.{BadShape, Device}
-use Rattle.fkv_files.specs.declared.troubles.Trouble.{Trouble}
-use Rattle.fkv_files.specs.declared.troubles.Trouble.TheVariants as trouble
 use Rattle.fkv_lines.specs.declared.scripts.Sizes.{Sizes}
 use Rattle.fkv_spread.specs.declared.keys.Keys.{Keys}
 use Rattle.fkv_texts.specs.Lines.{line_of}
 use Rattle.fkv_texts.specs.Refusals.{last_refusal}
 use Rattle.clap.specs.Walk.{Text}
 use Rattle.fkv_renew.specs.Asked.{AreRefusedWords, AskFor}
-use Rattle.fkv_renew.specs.Renewals.{IsRefusal}
+use Rattle.fkv_renew.specs.Renewals.{IsRefusal, IsSavedFrom}
 use Rattle.fkv_renew.specs.Saved.{saved_text}
 use Rattle.fkv_renew.specs.declared.renewals.Refusal.{Refusal}
 use Rattle.fkv_renew.specs.declared.renewals.Refusal.TheVariants as refusal
@@ -18,13 +16,9 @@ use Rattle.fkv_renew.specs.declared.saved.Saved.{Saved}
 use Rattle.fkv_renew.specs.declared.words.Asked.{Asked}
 
 -- the fault by which it is told, and the status
-abbrev pub fault_of_file : Trouble → Fault
-fault_of_file (trouble.Fault fault) = fault
-fault_of_file other = Device
-
 abbrev pub fault_of_refusal : Refusal → Fault
 fault_of_refusal (refusal.Sizes sizes) = BadShape
-fault_of_refusal (refusal.Old its) = fault_of_file its
+fault_of_refusal (refusal.Unopened fault) = fault
 fault_of_refusal (refusal.Unfit fault) = fault
 fault_of_refusal other = Device
 
@@ -33,15 +27,15 @@ status_of_refusal (refusal.Sizes sizes) = 2
 status_of_refusal other = 3
 
 -- The answer to what is asked for: what is saved, with status 0; or the refusal.
-abbrev pub IsAnswerTo : (Saved → Type 0) → Option Sizes → Keys → ℕ → List ℕ → Type 0
-IsAnswerTo Saves sizes keys status text =
-    ((saved : Saved) × Saves saved × (status ≡ 0) × (text ≡ saved_text saved))
-    ⊎ ((its : Refusal) × IsRefusal sizes keys its × (status ≡ status_of_refusal its) × (text ≡ last_refusal (fault_of_refusal its)))
+abbrev pub IsAnswerTo : {D : Type 0} → (D → Type 0) → (D → List ℕ) → (D → List ℕ → Type 0) → Option Sizes → Keys → ℕ → List ℕ → Type 0
+IsAnswerTo honest seen may_leave sizes keys status text =
+    ((saved : Saved) × IsSavedFrom honest seen may_leave sizes keys saved × (status ≡ 0) × (text ≡ saved_text saved))
+    ⊎ ((its : Refusal) × IsRefusal honest seen sizes keys its × (status ≡ status_of_refusal its) × (text ≡ last_refusal (fault_of_refusal its)))
 
 -- The answer to the words: words that are refused give the line `options`, with status 2.
-abbrev pub IsAnswer : (Option Sizes → Keys → Saved → Type 0) → List Text → ℕ → List ℕ → Type 0
-IsAnswer Saves words status text =
-    ((asked : Asked) × AskFor words asked × IsAnswerTo (Saves asked.sizes asked.keys) asked.sizes asked.keys status text)
+abbrev pub IsAnswer : {D : Type 0} → (D → Type 0) → (D → List ℕ) → (D → List ℕ → Type 0) → List Text → ℕ → List ℕ → Type 0
+IsAnswer honest seen may_leave words status text =
+    ((asked : Asked) × AskFor words asked × IsAnswerTo honest seen may_leave asked.sizes asked.keys status text)
     ⊎ (AreRefusedWords words × (status ≡ 2) × (text ≡ line_of (codes "options")))
 
 -- words of which one is no text are refused so too

@@ -15,9 +15,9 @@ use Rattle.fkv_renewing.specs.Room.{HasRoomFor}
 use Rattle.fkv_spread.specs.declared.keys.Keys.{Keys}
 use Rattle.fkv_renew.specs.Saved.{taken_of}
 use Rattle.fkv_renew.specs.Sizes.{AreSizes, HasSizes}
-use Rattle.fkv_renew.specs.Stores.{IsHeld, IsLaid}
+use Rattle.fkv_renew.specs.Stores.{IsHeld, IsLaid, IsUnread}
 use Rattle.fkv_renew.specs.declared.renewals.Refusal.{Refusal}
-use Rattle.fkv_renew.specs.declared.renewals.Refusal.TheVariants.{First, Memory, Sizes as SizesRefused, Unfit}
+use Rattle.fkv_renew.specs.declared.renewals.Refusal.TheVariants.{First, Memory, New, Sizes as SizesRefused, Unfit, Unopened}
 use Rattle.fkv_renew.specs.declared.saved.Saved.{Saved}
 use Rattle.fkv_renew.specs.declared.stores.Store.{Store}
 
@@ -52,11 +52,18 @@ pub record Renews {O N : Type 0} (old_honest : O → Type 0) (old_seen : O → L
 
 -- ---- what is refused
 
--- why no new store was written: it has no room, or something else
+-- the shape has no room for these points and pairs
+abbrev pub IsTooSmall : Shape → List Serial → List (Key × Value) → Fault → Type 0
+IsTooSmall shape points pairs MemoryRefused = ⊥
+IsTooSmall shape points pairs other = IsUnfit shape points pairs other
+
+-- why no new store was written: the shape has no room, or its file or memory failed
 abbrev pub IsHindrance : Shape → List Serial → List (Key × Value) → Refusal → Type 0
-IsHindrance shape points pairs (Unfit fault) = IsUnfit shape points pairs fault
-IsHindrance shape points pairs (SizesRefused sizes) = ⊥
-IsHindrance shape points pairs other = Unit {0}
+IsHindrance shape points pairs (Unfit fault) = IsTooSmall shape points pairs fault
+IsHindrance shape points pairs (First its) = Unit {0}
+IsHindrance shape points pairs (New its) = Unit {0}
+IsHindrance shape points pairs Memory = Unit {0}
+IsHindrance shape points pairs other = ⊥
 
 -- the refusal that a fault of `renew` is
 abbrev pub refusal_by : Fault → Refusal
@@ -64,20 +71,34 @@ refusal_by MemoryRefused = Memory
 refusal_by DeviceFailed = First (trouble.Fault DeviceFailed)
 refusal_by other = Unfit other
 
--- A store was opened and its pairs were read, and this is why it wasn't renewed to the shape that is wanted, its keys laid so.
-pub record IsHindered (wanted : Option Shape) (keys : Keys) (its : Refusal) : Type 0 where
+-- the refusal that a fault in reading the old store is
+abbrev pub refusal_of_old : Fault → Refusal
+refusal_of_old MemoryRefused = Memory
+refusal_of_old other = Unopened other
+
+-- why the store on a device isn't opened: its image has this fault, if it is honest; or it failed
+abbrev pub IsUnopened : Type 0 → List ℕ → Fault → Type 0
+IsUnopened honest image MemoryRefused = ⊥
+IsUnopened honest image other = IsUnread honest image other
+
+-- A store was read from a device, which holds it if it is honest. The shape that is wanted, or else its own, has no room for it, its keys laid so.
+pub record IsHindered {O : Type 0} (honest : O → Type 0) (seen : O → List ℕ) (wanted : Option Shape) (keys : Keys) (old : O) (fault : Fault) : Type 0 where
   pub store : Store
   pub laid : Store
   pub shape : Shape
   pub its_shape : shape ≡ unwrap_or wanted store.opened.shape
   pub is_laid : IsLaid keys store laid
-  pub why : IsHindrance shape laid.opened.points.items laid.pairs.items its
+  pub held : honest old → IsHeld (seen old) store
+  pub why : IsTooSmall shape laid.opened.points.items laid.pairs.items fault
 
--- why no store is renewed: it had no room, or something else
-abbrev pub HasNoRoom : Option Shape → Keys → Refusal → Type 0
-HasNoRoom wanted keys (Unfit fault) = IsHindered wanted keys (Unfit fault)
-HasNoRoom wanted keys (SizesRefused sizes) = ⊥
-HasNoRoom wanted keys other = Unit {0}
+-- why the store on a device isn't renewed: it isn't opened, or has no room; or the new file or memory failed
+abbrev pub IsUnrenewed : {O : Type 0} → (O → Type 0) → (O → List ℕ) → Option Shape → Keys → O → Refusal → Type 0
+IsUnrenewed honest seen wanted keys old (Unopened fault) = IsUnopened (honest old) (seen old) fault
+IsUnrenewed honest seen wanted keys old (Unfit fault) = IsHindered honest seen wanted keys old fault
+IsUnrenewed honest seen wanted keys old (First its) = Unit {0}
+IsUnrenewed honest seen wanted keys old (New its) = Unit {0}
+IsUnrenewed honest seen wanted keys old Memory = Unit {0}
+IsUnrenewed honest seen wanted keys old other = ⊥
 
 -- ---- by the sizes that are asked for
 
@@ -94,7 +115,10 @@ pub record IsSavedFrom {D : Type 0} (honest : D → Type 0) (seen : D → List �
   pub new : D
   pub renews : Renews honest seen honest seen may_leave wanted keys old new saved
 
--- why a renewal is refused: no store has the sizes that are asked for, or the new one has no room, or something else
-abbrev pub IsRefusal : Option Sizes → Keys → Refusal → Type 0
-IsRefusal sizes keys (SizesRefused refused) = (sizes ≡ Some refused) × (AreSizes refused → ⊥)
-IsRefusal sizes keys other = (wanted : Option Shape) × IsWanted sizes wanted × HasNoRoom wanted keys other
+-- Why a renewal is refused: no store has the sizes that are asked for. Or a device is the old file, and its store isn't opened or has no room. Or a file or memory
+-- failed.
+abbrev pub IsRefusal : {D : Type 0} → (D → Type 0) → (D → List ℕ) → Option Sizes → Keys → Refusal → Type 0
+IsRefusal honest seen sizes keys (SizesRefused refused) = (sizes ≡ Some refused) × (AreSizes refused → ⊥)
+IsRefusal {D} honest seen sizes keys (Unopened fault) = (wanted : Option Shape) × IsWanted sizes wanted × (old : D) × IsUnopened (honest old) (seen old) fault
+IsRefusal {D} honest seen sizes keys (Unfit fault) = (wanted : Option Shape) × IsWanted sizes wanted × (old : D) × IsHindered honest seen wanted keys old fault
+IsRefusal honest seen sizes keys other = (wanted : Option Shape) × IsWanted sizes wanted

@@ -4,7 +4,6 @@ ghost use Rattle.clap.specs.Walk.{texts};
 ghost use Rattle.fkv_texts.specs.Lines.{line_of};
 ghost use Rattle.fkv_texts.specs.Refusals.{last_refusal};
 ghost use Rattle.fkv_renew.specs.Answers.{IsAnswer, IsAnswerTo, fault_of_refusal, status_of_refusal};
-ghost use Rattle.fkv_renew.specs.Renewals.{IsSavedFrom};
 
 use crate::complaints::Complaint;
 use crate::renewals::{Refusal, renew_file};
@@ -13,7 +12,7 @@ use crate::telling::Teller;
 use crate::words::{Asked, WordFault, asked_of};
 use fkv_base::Fault;
 use fkv_disk::{Device, FileDisk};
-use fkv_files::{Lockable, Trouble};
+use fkv_files::Lockable;
 use fkv_texts::write_refusal;
 use std::alloc::Global;
 use std::io::{self, ErrorKind, Write};
@@ -42,7 +41,7 @@ pub(crate) fn answer_words<H: Files, E: Write>(
 ) -> io::Result<Answer>
 where
     H::File: Lockable,
-    ensures { IfOk result (λ answer. IsAnswer (IsSavedFrom ⟦<FileDisk<H::File> as Device>⟧.honest ⟦<FileDisk<H::File> as Device>⟧.seen ⟦<FileDisk<H::File> as Device>⟧.may_leave) (texts words.now) answer.status answer.text.items) }
+    ensures { IfOk result (λ answer. IsAnswer ⟦<FileDisk<H::File> as Device>⟧.honest ⟦<FileDisk<H::File> as Device>⟧.seen ⟦<FileDisk<H::File> as Device>⟧.may_leave (texts words.now) answer.status answer.text.items) }
 {
     match asked_of(alloc, words) {
         Ok(asked) => answer_asked(rt, alloc, asked, teller),
@@ -81,7 +80,7 @@ fn answer_asked<H: Files, E: Write>(
 ) -> io::Result<Answer>
 where
     H::File: Lockable,
-    ensures { IfOk result (λ answer. IsAnswerTo (IsSavedFrom ⟦<FileDisk<H::File> as Device>⟧.honest ⟦<FileDisk<H::File> as Device>⟧.seen ⟦<FileDisk<H::File> as Device>⟧.may_leave asked.entry.sizes asked.entry.keys) asked.entry.sizes asked.entry.keys answer.status answer.text.items) }
+    ensures { IfOk result (λ answer. IsAnswerTo ⟦<FileDisk<H::File> as Device>⟧.honest ⟦<FileDisk<H::File> as Device>⟧.seen ⟦<FileDisk<H::File> as Device>⟧.may_leave asked.entry.sizes asked.entry.keys answer.status answer.text.items) }
 {
     match renew_file(rt, alloc, asked, teller) {
         Ok(saved) => {
@@ -103,9 +102,9 @@ fn refuse(alloc: Global, refusal: Refusal) -> io::Result<Answer>
 {
     let (fault, status) = match refusal {
         Refusal::Sizes(_) => (Fault::BadShape, WORDS_REFUSED),
-        Refusal::Old(Trouble::Fault(fault)) => (fault, STORE_REFUSED),
-        Refusal::Old(_) | Refusal::First(_) | Refusal::New(_) => (Fault::Device, STORE_REFUSED),
+        Refusal::Unopened(fault) => (fault, STORE_REFUSED),
         Refusal::Unfit(fault) => (fault, STORE_REFUSED),
+        Refusal::Old(_) | Refusal::First(_) | Refusal::New(_) => (Fault::Device, STORE_REFUSED),
         Refusal::Memory => return Err(ErrorKind::OutOfMemory.into()),
     };
     let mut text = Vec::new(alloc);

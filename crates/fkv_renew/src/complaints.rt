@@ -2,7 +2,7 @@
 use crate::renewals::Refusal;
 use crate::words::Asked;
 use fkv_base::Fault;
-use fkv_files::FileTrouble;
+use fkv_files::{FileTrouble, Trouble};
 use fkv_lines::{Class, Sizes};
 use std::{fmt, io};
 
@@ -51,6 +51,7 @@ fn write_refusal<W: fmt::Write>(
             );
         }
         Refusal::Old(trouble) => (asked.old, trouble),
+        Refusal::Unopened(fault) => (asked.old, Trouble::Fault(fault)),
         Refusal::New(trouble) => (asked.new, trouble),
     };
     let fault = FileTrouble { path, trouble };

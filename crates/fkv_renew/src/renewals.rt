@@ -1,8 +1,8 @@
 //! A renewal, from file to file.
 ghost use Rattle.std.specs.Prelude.{◌≡◌, ◌+◌, ◌*◌, ◌≤◌, IfOk, IfErr, IsSomeAnd, OnErr, OnOk, Some, length};
 ghost use Rattle.fkv_renewing.specs.Room.{HasRoomFor};
-ghost use Rattle.fkv_spread.specs.declared.keys.Keys.{Keys as TheKeys};
-ghost use Rattle.fkv_renew.specs.Renewals.{HasNoRoom, IsHindrance, IsRefusal, IsRenewalOf, IsSavedFrom, IsWanted, Renews, refusal_by, saved_of};
+ghost use Rattle.fkv_renew.specs.Renewals.{IsHindrance, IsRefusal, IsRenewalOf, IsSavedFrom, IsUnrenewed, IsWanted, Renews, refusal_by, refusal_of_old, saved_of};
+ghost use Rattle.fkv_renew.specs.Sizes.{AreSizes};
 
 use crate::places::{NewFile, Place};
 use crate::saved::{Saved, Taken};
@@ -25,8 +25,10 @@ use std::rt::Files;
 pub(crate) enum Refusal {
     /// No store of their class has these sizes.
     Sizes(Sizes),
-    /// The file of the old store.
+    /// The file of the old store, which isn't read then.
     Old(Trouble),
+    /// The fault of the old store.
+    Unopened(Fault),
     /// The file of the new one, under its first name.
     First(Trouble),
     /// Its own name.
@@ -62,11 +64,11 @@ pub(crate) fn renew_file<H: Files, E: Write>(
 where
     H::File: Lockable,
     ensures ok { IfOk result (IsSavedFrom ⟦<FileDisk<H::File> as Device>⟧.honest ⟦<FileDisk<H::File> as Device>⟧.seen ⟦<FileDisk<H::File> as Device>⟧.may_leave asked.entry.sizes asked.entry.keys) }
-    ensures err { IfErr result (IsRefusal asked.entry.sizes asked.entry.keys) }
+    ensures err { IfErr result (IsRefusal ⟦<FileDisk<H::File> as Device>⟧.honest ⟦<FileDisk<H::File> as Device>⟧.seen asked.entry.sizes asked.entry.keys) }
 {
     let wanted = match wanted_of(asked.sizes) {
         Ok(wanted) => wanted,
-        Err(refusal) => return Err(refusal),
+        Err(sizes) => return Err(Refusal::Sizes(sizes)),
     };
     if let Err(trouble) = expect_none(rt, asked.new) {
         return Err(Refusal::New(trouble));
@@ -83,17 +85,17 @@ where
     )
 }
 
-/// The shape of the sizes that are asked for, where some are.
-fn wanted_of(sizes: Option<Sizes>) -> Result<Option<Shape>, Refusal>
+/// The shape of the sizes that are asked for, where some are; or sizes that no store of their class has.
+fn wanted_of(sizes: Option<Sizes>) -> Result<Option<Shape>, Sizes>
     ensures ok { IfOk result (IsWanted sizes) }
-    ensures err { IfErr result (λ its. (keys : TheKeys) → IsRefusal sizes keys its) }
+    ensures err { IfErr result (λ refused. (sizes ≡ Some refused) × (¬ (AreSizes refused))) }
 {
     let Some(sizes) = sizes else {
         return Ok(None);
     };
     match shape_of(sizes) {
         Ok(shape) => Ok(Some(shape)),
-        Err(_) => Err(Refusal::Sizes(sizes)),
+        Err(_) => Err(sizes),
     }
 }
 
@@ -108,7 +110,7 @@ fn renew_store<D: Device + Drop, P: Place, E: Write>(
     teller: &mut Teller<E>,
 ) -> Result<Saved, Refusal>
     ensures ok { IfOk result (λ saved. (new : P.Device) × (P.named place.new ≡ Some new) × Renews D.honest D.seen P.Device.honest P.Device.seen P.Device.may_leave wanted keys device new saved) }
-    ensures err { IfErr result (HasNoRoom wanted keys) }
+    ensures err { IfErr result (IsUnrenewed D.honest D.seen wanted keys device) }
     ensures unnamed { OnErr result (P.named place.new ≡ P.named place.old) }
 {
     law_pairs();
@@ -116,8 +118,7 @@ fn renew_store<D: Device + Drop, P: Place, E: Write>(
     // The device is kept to the end, and its file's lock with it.
     let (_device, store) = match read_store(alloc, device, length) {
         Ok(found) => found,
-        Err(Fault::Memory) => return Err(Refusal::Memory),
-        Err(fault) => return Err(Refusal::Old(Trouble::Fault(fault))),
+        Err(fault) => return Err(unopened_as(fault)),
     };
     let store = store.laid(keys);
     let shape = wanted.unwrap_or(store.opened.shape);
@@ -154,6 +155,16 @@ fn write_store<P: Place>(
     match place.name(device) {
         Ok(()) => Ok(()),
         Err(trouble) => Err(Refusal::New(trouble)),
+    }
+}
+
+/// Why nothing is renewed, by the fault in reading the old store.
+fn unopened_as(fault: Fault) -> Refusal
+    ensures { result ≡ refusal_of_old fault }
+{
+    match fault {
+        Fault::Memory => Refusal::Memory,
+        _ => Refusal::Unopened(fault),
     }
 }
 

@@ -5,7 +5,6 @@ ghost use Rattle.clap.specs.Walk.{texts};
 ghost use Rattle.fkv_runs.specs.Below.fkv_playing.InTurn.{Writes};
 ghost use Rattle.fkv_runs.specs.Beginnings.{BreaksOff};
 ghost use Rattle.fkv_renew.specs.Answers.{IsAnswer, IsUnreadAnswer};
-ghost use Rattle.fkv_renew.specs.Renewals.{IsSavedFrom};
 
 use crate::answers::{Answer, answer_words, refuse_words};
 use crate::telling::Teller;
@@ -29,8 +28,8 @@ pub fn run<H: Files, W: Write, E: Write>(
 ) -> io::Result<u8>
 where
     H::File: Lockable,
-    ensures whole { IfOk result (λ status. Writes (IsAnswer (IsSavedFrom ⟦<FileDisk<H::File> as Device>⟧.honest ⟦<FileDisk<H::File> as Device>⟧.seen ⟦<FileDisk<H::File> as Device>⟧.may_leave) (texts words.now) status) (W.contents output.old) (W.contents output.new)) }
-    ensures part { OnErr result (BreaksOff (λ text. (status : ℕ) × IsAnswer (IsSavedFrom ⟦<FileDisk<H::File> as Device>⟧.honest ⟦<FileDisk<H::File> as Device>⟧.seen ⟦<FileDisk<H::File> as Device>⟧.may_leave) (texts words.now) status text) (W.contents output.old) (W.contents output.new)) }
+    ensures whole { IfOk result (λ status. Writes (IsAnswer ⟦<FileDisk<H::File> as Device>⟧.honest ⟦<FileDisk<H::File> as Device>⟧.seen ⟦<FileDisk<H::File> as Device>⟧.may_leave (texts words.now) status) (W.contents output.old) (W.contents output.new)) }
+    ensures part { OnErr result (BreaksOff (λ text. (status : ℕ) × IsAnswer ⟦<FileDisk<H::File> as Device>⟧.honest ⟦<FileDisk<H::File> as Device>⟧.seen ⟦<FileDisk<H::File> as Device>⟧.may_leave (texts words.now) status text) (W.contents output.old) (W.contents output.new)) }
 {
     let answer = answer_words(rt, alloc, words, teller)?;
     write_answer(&answer, output)

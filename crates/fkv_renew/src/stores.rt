@@ -1,6 +1,6 @@
 //! A store that is renewed.
-ghost use Rattle.std.specs.Prelude.{◌≡◌, IfOk};
-ghost use Rattle.fkv_renew.specs.Stores.{IsHeld, IsLaid};
+ghost use Rattle.std.specs.Prelude.{◌≡◌, IfErr, IfOk};
+ghost use Rattle.fkv_renew.specs.Stores.{IsHeld, IsLaid, IsUnread};
 
 use fkv_base::{Fault, Key, Value};
 use fkv_disk::{Device, PageSize, Pages, ReadAhead};
@@ -29,13 +29,14 @@ impl Store {
     }
 }
 
-/// The store that a device of so many bytes holds. The device is read page by page, and never written.
+/// The store that a device of so many bytes holds, or the fault of its image. The device is read page by page, and never written.
 pub(crate) fn read_store<D: Device + Drop>(
     alloc: Global,
     device: D,
     length: Option<u64>,
 ) -> Result<(D, Store), Fault>
-    ensures { D.honest device → IfOk result (λ found. IsHeld (D.seen device) found.1) }
+    ensures held { D.honest device → IfOk result (λ found. IsHeld (D.seen device) found.1) }
+    ensures refused { IfErr result (IsUnread (D.honest device) (D.seen device)) }
 {
     let pages = Pages::new(alloc, PageSize::Kib4, pages_to_keep(length))?;
     let mut ahead = ReadAhead::new(device, pages);
