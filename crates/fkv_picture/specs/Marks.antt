@@ -1,6 +1,7 @@
 -- Where the scan of a commit begins, and where its log ends.
 use Rattle.std.specs.Prelude.{ℕ, ◌+◌, ◌*◌, ◌/◌, ◌%◌, max, min, nat_lt, if◌then◌else◌, List, [], ◌∷◌, ◌++◌, codes}
 use Rattle.std.specs.Fmt.{decimal}
+use Rattle.fkv_picture.specs.declared.marks.Mark.{Mark}
 use Rattle.fkv_picture.specs.Shares.{capped}
 
 -- how many addresses a bar has
@@ -18,16 +19,18 @@ side_of x = if nat_lt x 600 then codes "left" else codes "right"
 unfoldable pub tip_text : ℕ → ℕ → List ℕ → List ℕ
 tip_text x y tail = codes "<path class='mark' d='M" ++ decimal x ++ codes " " ++ decimal y ++ tail ++ codes "'/>"
 
-unfoldable pub start_label : ℕ → ℕ → List ℕ
-start_label x addr = codes "<text class='" ++ side_of x ++ codes "' x='" ++ decimal x ++ codes "' y='189'>the scan begins at " ++ decimal addr ++ codes "</text>"
+-- what is marked, and its address
+unfoldable pub label_text : ℕ → ℕ → List ℕ → ℕ → List ℕ
+label_text x y words addr =
+    codes "<text class='" ++ side_of x ++ codes "' x='" ++ decimal x ++ codes "' y='" ++ decimal y ++ codes "'>" ++ words ++ codes " " ++ decimal addr ++ codes "</text>"
 
-unfoldable pub end_label : ℕ → ℕ → List ℕ
-end_label x addr = codes "<text class='" ++ side_of x ++ codes "' x='" ++ decimal x ++ codes "' y='390'>the log ends at " ++ decimal addr ++ codes "</text>"
+abbrev pub mark_text : Mark → List ℕ
+mark_text mark = tip_text mark.tip.x mark.tip.y mark.tip.tail.now ++ label_text mark.label.x mark.label.y mark.label.words.now mark.label.addr ++ 10 ∷ []
 
 -- where the scan begins, above the strip
 unfoldable pub start_text : ℕ → ℕ → List ℕ
-start_text x addr = tip_text x 202 (codes "l-5 -9h10z") ++ start_label x addr ++ 10 ∷ []
+start_text x addr = tip_text x 202 (codes "l-5 -9h10z") ++ label_text x 189 (codes "the scan begins at") addr ++ 10 ∷ []
 
 -- where the log ends, below the strip
 unfoldable pub end_text : ℕ → ℕ → List ℕ
-end_text x addr = tip_text x 366 (codes "l-5 9h10z") ++ end_label x addr ++ 10 ∷ []
+end_text x addr = tip_text x 366 (codes "l-5 9h10z") ++ label_text x 390 (codes "the log ends at") addr ++ 10 ∷ []

@@ -1,6 +1,6 @@
 //! Where the scan of a commit begins, and where its log ends.
 ghost use Rattle.std.specs.Prelude.{◌≡◌, ◌≤◌, ◌^◌, Some};
-ghost use Rattle.fkv_picture.specs.Marks.{end_label, end_text, mark_x, side_of, start_label, start_text, tip_text};
+ghost use Rattle.fkv_picture.specs.Marks.{end_text, label_text, mark_text, mark_x, side_of, start_text, tip_text};
 
 use crate::strip_layouts::Strip;
 use std::fmt;
@@ -42,88 +42,76 @@ impl fmt::Display for Tip {
     }
 }
 
-/// The words of a mark.
+/// The words beside an arrow, and the address that it marks.
 #[derive(Clone, Copy)]
-struct StartLabel {
+struct Label {
     x: u64,
+    y: u64,
+    words: &'static str,
     addr: u64,
 }
 
-impl fmt::Display for StartLabel {
-    ghost output = { λ it. Some (start_label it.x it.addr) };
+impl fmt::Display for Label {
+    ghost output = { λ it. Some (label_text it.x it.y it.words.now it.addr) };
 
-    #[tactic(auto, unfolding(crate::specs::Marks::start_label))]
+    #[tactic(auto, unfolding(crate::specs::Marks::label_text))]
     fn fmt<W: fmt::Write>(&self, f: &mut fmt::Formatter<W>) -> fmt::Result {
-        let (x, addr, side) = (self.x, self.addr, side_of(self.x));
+        let (side, x, y) = (side_of(self.x), self.x, self.y);
+        let (words, addr) = (self.words, self.addr);
         write!(
             f,
-            "<text class='{side}' x='{x}' y='189'>the scan begins at {addr}</text>"
+            "<text class='{side}' x='{x}' y='{y}'>{words} {addr}</text>"
         )
     }
 }
 
-/// Where the scan begins, above the strip.
+/// An address that is marked: an arrow, and words beside it.
 #[derive(Clone, Copy)]
-pub(crate) struct Start {
-    pub(crate) x: u64,
-    pub(crate) addr: u64,
+pub(crate) struct Mark {
+    tip: Tip,
+    label: Label,
 }
 
-impl fmt::Display for Start {
-    ghost output = { λ it. Some (start_text it.x it.addr) };
-
+impl Mark {
+    /// Where the scan begins, above the strip.
     #[tactic(auto, unfolding(crate::specs::Marks::start_text))]
-    fn fmt<W: fmt::Write>(&self, f: &mut fmt::Formatter<W>) -> fmt::Result {
-        let (x, addr) = (self.x, self.addr);
-        let label = StartLabel { x, addr };
-        let tip = Tip {
-            x,
-            y: 202,
-            tail: "l-5 -9h10z",
-        };
-        writeln!(f, "{tip}{label}")
+    pub(crate) fn start(x: u64, addr: u64) -> Self
+        ensures { mark_text result ≡ start_text x addr }
+    {
+        let (words, tail) = ("the scan begins at", "l-5 -9h10z");
+        Mark {
+            tip: Tip { x, y: 202, tail },
+            label: Label {
+                x,
+                y: 189,
+                words,
+                addr,
+            },
+        }
     }
-}
 
-/// The words of a mark.
-#[derive(Clone, Copy)]
-struct EndLabel {
-    x: u64,
-    addr: u64,
-}
-
-impl fmt::Display for EndLabel {
-    ghost output = { λ it. Some (end_label it.x it.addr) };
-
-    #[tactic(auto, unfolding(crate::specs::Marks::end_label))]
-    fn fmt<W: fmt::Write>(&self, f: &mut fmt::Formatter<W>) -> fmt::Result {
-        let (x, addr, side) = (self.x, self.addr, side_of(self.x));
-        write!(
-            f,
-            "<text class='{side}' x='{x}' y='390'>the log ends at {addr}</text>"
-        )
-    }
-}
-
-/// Where the log ends, below the strip.
-#[derive(Clone, Copy)]
-pub(crate) struct End {
-    pub(crate) x: u64,
-    pub(crate) addr: u64,
-}
-
-impl fmt::Display for End {
-    ghost output = { λ it. Some (end_text it.x it.addr) };
-
+    /// Where the log ends, below the strip.
     #[tactic(auto, unfolding(crate::specs::Marks::end_text))]
+    pub(crate) fn end(x: u64, addr: u64) -> Self
+        ensures { mark_text result ≡ end_text x addr }
+    {
+        let (words, tail) = ("the log ends at", "l-5 9h10z");
+        Mark {
+            tip: Tip { x, y: 366, tail },
+            label: Label {
+                x,
+                y: 390,
+                words,
+                addr,
+            },
+        }
+    }
+}
+
+impl fmt::Display for Mark {
+    ghost output = { λ it. Some (mark_text it) };
+
     fn fmt<W: fmt::Write>(&self, f: &mut fmt::Formatter<W>) -> fmt::Result {
-        let (x, addr) = (self.x, self.addr);
-        let label = EndLabel { x, addr };
-        let tip = Tip {
-            x,
-            y: 366,
-            tail: "l-5 9h10z",
-        };
-        writeln!(f, "{tip}{label}")
+        writeln!(f, "{}{}", self.tip, self.label)
     }
 }

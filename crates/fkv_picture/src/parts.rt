@@ -2,7 +2,7 @@
 ghost use Rattle.std.specs.Prelude.{Some};
 ghost use Rattle.fkv_picture.specs.Parts.{drawn_words, head_text, in_use_words, index_caption, index_text, log_caption, log_text};
 
-use crate::marks::{End, Start, mark_x};
+use crate::marks::{Mark, mark_x};
 use crate::rows::Rows;
 use crate::squares::Squares;
 use crate::stills::Still;
@@ -109,14 +109,8 @@ impl fmt::Display for LogPart<'_> {
                 pages_a_bar: strip.pages_a_bar,
             },
         };
-        let start = Start {
-            x: mark_x(&strip, pages.size, self.first),
-            addr: self.first,
-        };
-        let end = End {
-            x: mark_x(&strip, pages.size, pages.tail),
-            addr: pages.tail,
-        };
+        let start = Mark::start(mark_x(&strip, pages.size, self.first), self.first);
+        let end = Mark::end(mark_x(&strip, pages.size, pages.tail), pages.tail);
         let legend = Still::LogLegend;
         write!(f, "{caption}{legend}{start}{bars}{end}")
     }
