@@ -51,15 +51,17 @@ fn fetch_each(session: &Session, keys: &[u64]) {
     }
 }
 
-/// Fetches for the next keys, where those are done for which it was done before.
+/// Fetches for the next keys, where those are done for which it was done before. A session that doesn't know yet where buckets lie finds out by its
+/// first call, so behind that the rest of the first keys have their turn again.
 #[inline(always)]
 fn fetch_ahead(session: &mut HeldSession, keys: &[u64], done: usize)
     requires { done ≤ length keys.now }
     ensures same { session.new.value ≡ session.old.value }
 {
-    if done % AHEAD == 0 {
+    let behind = done % AHEAD;
+    if behind == 0 || done == 1 {
         let rest = &keys[done..];
-        let count = rest.len().min(AHEAD);
+        let count = rest.len().min(AHEAD - behind);
         fetch_each(session.lent(), &rest[..count]);
     }
 }
