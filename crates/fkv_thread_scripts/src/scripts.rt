@@ -1,9 +1,9 @@
 //! Scripts whose lines run on threads.
-ghost use Rattle.std.specs.Prelude.{◌≡◌, ◌&&◌, true, false, is_some, IfNone, IfOk, Ok};
+ghost use Rattle.std.specs.Prelude.{◌≡◌, ◌⊎◌, ◌&&◌, true, false, not, is_some, IfErr, IfNone, IfOk, IfSome, Ok};
 ghost use Rattle.fkv_lines.specs.Reading.{script_text};
 ghost use Rattle.fkv_lines.specs.Script.{script_of};
 ghost use Rattle.fkv_lines.specs.declared.scripts.Mode.TheVariants as mode;
-ghost use Rattle.fkv_thread_scripts.specs.Served.{are_served, is_commit, is_served, runs_behind};
+ghost use Rattle.fkv_thread_scripts.specs.Served.{TellsRefusal, TellsUnserved, are_served, is_commit, is_served, runs_behind};
 
 use fkv_base::{Fault, ScriptFault};
 use fkv_lines::{Line, Mode, Script, script_of};
@@ -16,26 +16,38 @@ use std::alloc::Global;
 pub fn threads_script_of(alloc: Global, bytes: &[u8]) -> Result<Script, Fault>
     ensures read { IfOk result (λ script. script_of mode.Memory bytes.now ≡ Ok (script_text script)) }
     ensures served { IfOk result (λ script. are_served false script.lines.items ≡ true) }
+    ensures refused { IfErr result (TellsRefusal bytes.now) }
 {
     match script_of(alloc, bytes, Mode::Memory) {
         Ok(script) => match first_unserved(&script.lines, true) {
             Some(index) => Err(at_line(bytes, index)),
             None => Ok(script),
         },
-        Err(Fault::Script(line, kind)) => {
-            let before = lines_before(bytes, line);
-            let script = script_of(alloc, before, Mode::Memory)?;
-            match first_unserved(&script.lines, false) {
-                Some(index) => Err(at_line(bytes, index)),
-                None => Err(Fault::Script(line, kind)),
-            }
-        }
+        Err(Fault::Script(line, kind)) => Err(first_fault(alloc, bytes, line, kind)),
         Err(fault) => Err(fault),
     }
 }
 
+/// The first fault of a script whose first line that is faulty by itself is this one: a line before it that threads don't serve, or this one.
+/// `Memory` where memory was refused.
+fn first_fault(alloc: Global, bytes: &[u8], line: u64, kind: ScriptFault) -> Fault
+    ensures { (result ≡ Fault.Script line kind) ⊎ TellsUnserved result }
+{
+    match script_of(alloc, lines_before(bytes, line), Mode::Memory) {
+        Ok(before) => match first_unserved(&before.lines, false) {
+            Some(index) => at_line(bytes, index),
+            None => Fault::Script(line, kind),
+        },
+        Err(Fault::Memory) => Fault::Memory,
+        // The lines before it have no fault of their own.
+        Err(_) => Fault::Script(line, kind),
+    }
+}
+
 /// A line that threads don't serve, by its place behind the line that makes the store.
-fn at_line(bytes: &[u8], index: usize) -> Fault {
+fn at_line(bytes: &[u8], index: usize) -> Fault
+    ensures { TellsUnserved result }
+{
     Fault::Script(
         number_of_line(bytes, index.saturating_add(1)),
         ScriptFault::Mode,
@@ -43,9 +55,10 @@ fn at_line(bytes: &[u8], index: usize) -> Fault {
 }
 
 /// The first of these lines that threads don't serve, by its place. Of lines of which more follow the last commit isn't judged.
-#[tactic(auto, using(crate::proofs::Served::served_on))]
+#[tactic(auto, using(crate::proofs::Served::served_on, crate::proofs::Served::unserved_here))]
 fn first_unserved(lines: &[Line], is_whole: bool) -> Option<usize>
-    ensures { is_whole ≡ true → IfNone result (are_served false lines.now ≡ true) }
+    ensures none { is_whole ≡ true → IfNone result (are_served false lines.now ≡ true) }
+    ensures some { is_whole ≡ true → IfSome result (λ index. are_served false lines.now ≡ false) }
 {
     let mut begun = None;
     let mut index: usize = 0;
@@ -62,7 +75,8 @@ fn first_unserved(lines: &[Line], is_whole: bool) -> Option<usize>
 
 /// Where the fault is, if threads don't serve this line behind a commit that is begun, or behind none.
 fn faulty_at(begun: Option<usize>, index: usize, line: Line) -> Option<usize>
-    ensures { IfNone result ((is_served line ≡ true) × (is_some begun && is_commit line ≡ false)) }
+    ensures none { IfNone result ((is_served line ≡ true) × (is_some begun && is_commit line ≡ false)) }
+    ensures some { IfSome result (λ place. (is_served line && not (is_some begun && is_commit line)) ≡ false) }
 {
     if !is_served(line) {
         Some(index)

@@ -3,7 +3,12 @@ use Rattle.std.proofs.Common.{◌≡◌, inl, inr, ℕ, ◌+◌, ◌≤◌, refl
 use Rattle.std.specs.Prelude.{Option, Some, Result, Ok, Err, IfOk, ◌||◌, ◌&&◌, if◌then◌else◌, slice_get}
 use Rattle.std.proofs.lemmas.Bool.{and_parts}
 use Rattle.std.proofs.lemmas.List.{drop_all, length-map, take-append-drop, take_more}
-use Rattle.std.proofs.lemmas.Option.{get_or_from_slice_get, slice_get_within}
+use Rattle.std.proofs.lemmas.Iterator.Adapters.{YieldsList-from_vec}
+use Rattle.std.proofs.lemmas.Iterator.Consumers.{YieldsList-turn}
+use Rattle.std.proofs.lemmas.Option.{get_or_from_slice_get, slice_get_read, slice_get_within}
+use Rattle.std.specs.Iterator.{Yields}
+use Rattle.std.specs.Vec.Iter.{into_iter_items, into_iter_len, into_iter_steps}
+use Rattle.std.specs.declared.vec.IntoIter.{IntoIter}
 use Rattle.fkv_base.specs.declared.faults.Fault.{Fault}
 use Rattle.fkv_base.specs.declared.numbers.Serial.{Serial}
 use Rattle.fkv_keeper.specs.declared.answers.Finished.{Finished}
@@ -16,6 +21,7 @@ use Rattle.fkv_seats.specs.Rule.{IsSeenBy}
 use Rattle.fkv_session.specs.declared.answers.Answer.{Answer}
 use Rattle.fkv_threads.specs.Below.fkv_table.Happening.{Happening}
 use Rattle.fkv_threads.specs.Below.fkv_table.KeeperCalls.{HasKept}
+use Rattle.fkv_threads.specs.Below.fkv_table.Keeps.{IsAfterSeen, LeavesDevice}
 use Rattle.fkv_threads.specs.Below.fkv_table.Planes.{plane}
 use Rattle.fkv_threads.specs.Below.fkv_table.Starts.{EachAt}
 use Rattle.fkv_threads.proofs.Below.fkv_table.Starts.{one_more}
@@ -155,6 +161,10 @@ module _ {K : Type 0} (at : K → World) where
   pub finished_on : (key : K) (start : Happening) (finished : Option Finished) (seen seen' : List Happening) → HasKept start seen seen' → WasFinished at key finished seen → WasFinished at key finished seen'
   finished_on key start finished seen seen' kept was = record { turns = was.turns; turned = turns_on key was.turns seen seen' (kept_seen start seen seen' kept) was.turned; last = was.last }
 
+  -- and where it calls no device, that stands behind the same calls
+  pub after_kept : (key : K) (seen seen' : List Happening) (shown : List ℕ) (may_leave : List ℕ → Type 0) → LeavesDevice at key seen seen' → IsAfterSeen at key seen shown may_leave → IsAfterSeen at key seen' shown may_leave
+  after_kept key seen seen' shown may_leave same after = rw (same.0, same.1) after
+
   -- a turn is one more
   pub finished_more : (key : K) (start : Happening) (finished finished' : Option Finished) (answer : Result Turn Fault) (seen behind : List Happening) → HasTurned at key behind answer → HasKept start seen behind → finished' ≡ finish_by finished answer
       → WasFinished at key finished seen → WasFinished at key finished' behind
@@ -188,3 +198,9 @@ module _ {K : Type 0} (at : K → World) where
 -- as many as there were taken, and one more of each
 pub counted : {X Y : Type 0} (xs all : List X) (more : X) (ys : List Y) (next : Y) → all ≡ xs ++ more ∷ [] → length xs ≡ length ys → length all ≡ length (ys ++ next ∷ [])
 counted xs all more ys next pushed same = omega (arith, same, ap length pushed, length-append xs (more ∷ []), length-append ys (next ∷ []))
+
+-- what the iterator of a list gives next stands there behind what it gave
+pub next_at : {X Z : Type 0} (items given : List X) (first at behind : IntoIter X Z) (next : Option X) (item : X) → into_iter_items first ≡ items → into_iter_len first ≡ length items → Yields into_iter_steps first given at → next ≡ Some item → into_iter_steps at next behind → slice_get items (length given) ≡ Some item
+next_at items given first at behind next item held counted by is step =
+    let turn = YieldsList-turn (YieldsList-from_vec {s = first} items held counted) given at by next behind item is step in
+    slice_get_read items (length items) (length given) item refl turn.0 turn.1

@@ -1,5 +1,5 @@
 -- What is written is the report of a run, or a refusal.
-use Rattle.std.proofs.Common.{◌≡◌, ◌↔◌, ◌∙◌, ℕ, List, true, Option, Some, None, Result, Ok, Err, IfOk, OnOk, subst, sym}
+use Rattle.std.proofs.Common.{◌≡◌, ◌↔◌, ◌∙◌, inr, ℕ, List, [], true, Option, Some, Result, Ok, Err, IfOk, OnErr, OnOk, subst, sym, refl, append-nil}
 use Rattle.std.specs.Io.KnownBytes.{Appends, Keeps}
 use Rattle.fkv_base.specs.declared.faults.Fault.{Fault}
 use Rattle.fkv_base.specs.declared.numbers.Key.{Key}
@@ -13,12 +13,21 @@ use Rattle.fkv_lines.specs.declared.scripts.Sizes.{Sizes}
 use Rattle.fkv_opening.specs.Opened.{IsStoreOf}
 use Rattle.fkv_opening.specs.declared.opened_store.Opened.{Opened}
 use Rattle.fkv_pairs.specs.Pairs.{ArePairs, log_of_store}
+use Rattle.fkv_runs.proofs.Shown.{appends_kept, text_breaks}
+use Rattle.fkv_runs.specs.Beginnings.{BreaksOff}
 use Rattle.fkv_thread_scripts.specs.Keys.{IsKeysLine, map_of, told_map}
 use Rattle.fkv_thread_scripts.specs.Reports.{IsLastFinished}
 use Rattle.fkv_thread_scripts.specs.declared.logs.Log.{Log}
 use Rattle.fkv_thread_scripts.specs.declared.reports.Report.{Report}
+use Rattle.fkv_threading.specs.Program.{IsTextOnThreads, WithSomeStatus}
 use Rattle.fkv_threading.specs.Written.{HasSizes, HoldsPairs, IsPlayedNew, IsReportOfRun, IsReportOn, IsRunOnThreads, reported_status, reported_text}
 use Rattle.fkv_threads.specs.Below.fkv_world.Runs.{World}
+
+-- the shape that a call gives has the sizes that were asked for
+pub sized : {E : Type 0} (sizes : Sizes) (r : Result Shape E) → IfOk r (λ shape. shape.bucket_bits ≡ sizes.bucket_bits) → IfOk r (λ shape. shape.page ≡ sizes.page) → IfOk r (λ shape. shape.frames ≡ sizes.frames) → IfOk r (λ shape. shape.mutable ≡ sizes.mutable)
+    → IfOk r (λ shape. shape.sessions ≡ sizes.sessions) → IfOk r (λ shape. shape.overflow ≡ sizes.overflow) → IfOk r (λ shape. shape.disk_pages ≡ sizes.disk_pages) → IfOk r (HasSizes sizes)
+sized sizes (Ok shape) bucket_bits page frames mutable sessions overflow disk_pages = record { bucket_bits = bucket_bits; page = page; frames = frames; mutable = mutable; sessions = sessions; overflow = overflow; disk_pages = disk_pages }
+sized sizes (Err e) bucket_bits page frames mutable sessions overflow disk_pages = tt
 
 -- a store that is recovered, and then its pairs, which are read from a device that stays as it was
 pub held : {D : Type 0} (honest : D → Type 0) (shows : D → List ℕ) (device device' : D) (recovered : Opened) (pairs : List (Key × Value)) → (honest device → IsStoreOf (shows device) recovered) → (honest device ↔ honest device') → (honest device → shows device' ≡ shows device)
@@ -46,25 +55,38 @@ pub passed_on : {X E F : Type 0} (Says : X → Type 0) (r : Result X E) (r' : Re
 passed_on Says r (Ok x) same says = subst (λ q. IfOk q Says) same says
 passed_on Says r (Err e) same says = tt
 
-pub run_written : {K D E : Type 0} (at : K → World) (honest : D → Type 0) (shows : D → List ℕ) (may_leave : D → List ℕ → Type 0) (trusted : E → Type 0) (reads_as : E → List ℕ) (LeftBy : D → E → Type 0) (lines lines' : List Line) (opening : Option Opening) (sizes : Sizes) (before behind : Option (List ℕ)) (status : ℕ) (reported : Result Report Fault)
-    → opening ≡ Some (openings.Shape sizes) → lines' ≡ lines → IfOk reported (IsReportOfRun at honest shows may_leave trusted reads_as LeftBy lines' sizes) → Appends before behind (reported_text reported) → status ≡ reported_status reported → IsRunOnThreads (IsReportOfRun at honest shows may_leave trusted reads_as LeftBy lines) opening (Appends before behind) status
-run_written at honest shows may_leave trusted reads_as LeftBy lines lines' opening sizes before behind status reported is same says wrote answers =
-    subst (λ (o : Option Opening). IsRunOnThreads (IsReportOfRun at honest shows may_leave trusted reads_as LeftBy lines) o (Appends before behind) status) (sym is)
-    (reported, subst (λ (ls : List Line). IfOk reported (IsReportOfRun at honest shows may_leave trusted reads_as LeftBy ls sizes)) same says, wrote, answers)
+-- a report or a refusal is written, with its status
+pub run_written : (Says : List Line → Sizes → Report → Type 0) (lines lines' : List Line) (opening : Option Opening) (sizes : Sizes) (Wrote : List ℕ → Type 0) (status : ℕ) (reported : Result Report Fault)
+    → opening ≡ Some (openings.Shape sizes) → lines' ≡ lines → IfOk reported (Says lines' sizes) → Wrote (reported_text reported) → status ≡ reported_status reported → IsRunOnThreads (Says lines) opening Wrote status
+run_written Says lines lines' opening sizes Wrote status reported is same says wrote answers =
+    subst (λ (o : Option Opening). IsRunOnThreads (Says lines) o Wrote status) (sym is)
+    (reported, subst (λ (ls : List Line). IfOk reported (Says ls sizes)) same says, wrote, answers)
 
 -- so it is of a result
-pub result_written : {K D E F : Type 0} (at : K → World) (honest : D → Type 0) (shows : D → List ℕ) (may_leave : D → List ℕ → Type 0) (trusted : E → Type 0) (reads_as : E → List ℕ) (LeftBy : D → E → Type 0) (lines lines' : List Line) (opening : Option Opening) (sizes : Sizes) (before behind : Option (List ℕ)) (r : Result ℕ F) (reported : Result Report Fault)
-    → opening ≡ Some (openings.Shape sizes) → lines' ≡ lines → IfOk reported (IsReportOfRun at honest shows may_leave trusted reads_as LeftBy lines' sizes) → OnOk r (Appends before behind (reported_text reported)) → IfOk r (λ status. status ≡ reported_status reported) → IfOk r (IsRunOnThreads (IsReportOfRun at honest shows may_leave trusted reads_as LeftBy lines) opening (Appends before behind))
-result_written at honest shows may_leave trusted reads_as LeftBy lines lines' opening sizes before behind (Ok status) reported is same says wrote answers = run_written at honest shows may_leave trusted reads_as LeftBy lines lines' opening sizes before behind status reported is same says wrote answers
-result_written at honest shows may_leave trusted reads_as LeftBy lines lines' opening sizes before behind (Err e) reported is same says wrote answers = tt
+pub result_written : {F : Type 0} (Says : List Line → Sizes → Report → Type 0) (lines lines' : List Line) (opening : Option Opening) (sizes : Sizes) (before behind : Option (List ℕ)) (r : Result ℕ F) (reported : Result Report Fault)
+    → opening ≡ Some (openings.Shape sizes) → lines' ≡ lines → IfOk reported (Says lines' sizes) → OnOk r (Appends before behind (reported_text reported)) → IfOk r (λ status. status ≡ reported_status reported) → IfOk r (IsRunOnThreads (Says lines) opening (Appends before behind))
+result_written Says lines lines' opening sizes before behind (Ok status) reported is same says wrote answers = run_written Says lines lines' opening sizes (Appends before behind) status reported is same says wrote answers
+result_written Says lines lines' opening sizes before behind (Err e) reported is same says wrote answers = tt
+
+-- where the writer fails, a beginning of that is written
+pub run_breaks : (Says : List Line → Sizes → Report → Type 0) (lines lines' : List Line) (opening : Option Opening) (sizes : Sizes) (before behind : Option (List ℕ)) (reported : Result Report Fault)
+    → opening ≡ Some (openings.Shape sizes) → lines' ≡ lines → IfOk reported (Says lines' sizes) → BreaksOff (λ its. its ≡ reported_text reported) before behind → BreaksOff (WithSomeStatus (IsTextOnThreads (Says lines) opening)) before behind
+run_breaks Says lines lines' opening sizes before behind reported is same says =
+    let text : List ℕ = reported_text reported in
+    text_breaks (WithSomeStatus (IsTextOnThreads (Says lines) opening)) text before behind
+    (reported_status reported, run_written Says lines lines' opening sizes (λ its. its ≡ text) (reported_status reported) reported is same says refl refl)
+
+-- what holds anyway holds behind an error
+pub when_err : {T E X : Type 0} (r : Result T E) → X → OnErr r X
+when_err (Ok x) its = tt
+when_err (Err e) its = its
 
 -- what is written stays behind a flush
-appends_kept : (a b c : Option (List ℕ)) (told : List ℕ) → Appends a b told → Keeps b c → Appends a c told
-appends_kept None b c told h k = tt
-appends_kept (Some a) None c told h k = absurd h
-appends_kept (Some a) (Some b) None told h k = absurd k
-appends_kept (Some a) (Some b) (Some c) told h k = k ∙ h
-
 pub flushed : {T E : Type 0} (r : Result T E) (told all : List ℕ) (a b c : Option (List ℕ)) → told ≡ all → Appends a b told → Keeps b c → OnOk r (Appends a c all)
 flushed (Ok x) told all a b c same h k = subst (λ (text : List ℕ). Appends a c text) same (appends_kept a b c told h k)
 flushed (Err e) told all a b c same h k = tt
+
+-- also behind one that fails
+pub flush_fails : {T E : Type 0} (r : Result T E) (told all : List ℕ) (a b c : Option (List ℕ)) → told ≡ all → Appends a b told → Keeps b c → OnErr r (BreaksOff (λ its. its ≡ all) a c)
+flush_fails (Ok x) told all a b c same h k = tt
+flush_fails (Err e) told all a b c same h k = (told, inr ([], append-nil told ∙ same), appends_kept a b c told h k)

@@ -1,3 +1,4 @@
+pub mod Program
 pub mod Said
 pub mod Told
 pub mod Written

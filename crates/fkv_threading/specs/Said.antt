@@ -7,10 +7,13 @@ pub use Rattle.fkv_threads.specs.Below.fkv_table.Keeps.{IsAfterSeen, IsKeeperRea
 pub use Rattle.fkv_threads.specs.Below.fkv_table.Planes.{opening_of}
 pub use Rattle.fkv_threads.specs.Below.fkv_table.Starts.{EachAt}
 pub use Rattle.fkv_texts.specs.Refusals.{last_refusal}
+pub use Rattle.fkv_runs.specs.Beginnings.{BreaksOff}
+pub use Rattle.fkv_runs.specs.Below.fkv_playing.InTurn.{Writes}
 pub use Rattle.fkv_thread_scripts.specs.Reports.{agrees, ended, threads_report_text}
+pub use Rattle.fkv_threading.specs.Program.{IsReportIn, IsRunOfBytes, IsRunOfInput, IsTextOnThreads, TellsLine, WithSomeStatus, line_fault_text, script_limit}
 pub use Rattle.fkv_threading.specs.Told.{AreLogs, AreSeated, HasMade, IsKept, IsPlayed, IsTold, Part, Seat, WasFinished, WasTold, WerePlayed, finish_by, is_full, is_own, part_at, part_of, point_at}
 pub use Rattle.fkv_threading.specs.Written.{HasSizes, HoldsLeft, IsPlayedNew, IsReportOfRun, IsReportOn, IsRunOnThreads, refused_status, reported_status, reported_text}
 pub use Rattle.fkv_threads.specs.Begun.{HasBegun}
 pub use Rattle.fkv_threads.specs.Runs.{IsRun, run_of}
-pub use Rattle.std.specs.Io.KnownBytes.{Appends}
+pub use Rattle.std.specs.Io.KnownBytes.{Appends, Keeps}
 pub use Rattle.std.specs.declared.snapshot.Snapshot.{Snapshot}

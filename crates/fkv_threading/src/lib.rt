@@ -1,6 +1,7 @@
 //! Scripts on threads: each session's lines on a thread of its own, and the keeper's on another.
 #![tactic(auto)]
 
+mod complaints;
 mod gates;
 mod keepers;
 mod keeping;

@@ -1,5 +1,5 @@
 //! A script on threads, from the line that makes its store to its report.
-ghost use Rattle.std.specs.Prelude.{◌≡◌, ⊤, IfOk, OnOk, Ok, if◌then◌else◌};
+ghost use Rattle.std.specs.Prelude.{◌≡◌, ⊤, IfOk, OnErr, OnOk, Ok, if◌then◌else◌};
 ghost use Rattle.fkv_threading.specs.Said as said;
 
 use crate::gates::Gate;
@@ -13,6 +13,7 @@ use fkv_keeper::Finished;
 use fkv_lines::{Class, Line, Opening, Script, Sizes};
 use fkv_opening::recover;
 use fkv_pairs::content;
+use fkv_runs::write_text;
 use fkv_texts::write_refusal;
 use fkv_thread_scripts::{Log, Report, report_of, write_threads_report};
 use std::alloc::Global;
@@ -23,7 +24,7 @@ use std::thread::Threads;
 
 /// Runs a script for threads over a new store in memory, and writes its report: each session's lines on a thread of its own, and the keeper's on the
 /// caller's. The status: 0; 1 where something differs; 2 where the sizes are no shape's; 3 where a store or a turn was refused. An `Err`
-/// is memory, a thread or the output.
+/// is memory, a thread or the output; then what is written is a beginning.
 #[tactic(auto, using(fkv_texts::proofs::Shown::appends_nothing))]
 pub fn run_threads<G: Gate + Sync, W: Write, R: Threads + Wait + Sync>(
     rt: &R,
@@ -32,7 +33,8 @@ pub fn run_threads<G: Gate + Sync, W: Write, R: Threads + Wait + Sync>(
     output: &mut W,
     gate: &G,
 ) -> io::Result<u8>
-    ensures { IfOk result (said.IsRunOnThreads (said.IsReportOfRun (said.opening_of ⟦<Fuse<MemDisk> as Device>⟧.seen) ⟦<Fuse<MemDisk> as Device>⟧.honest ⟦<Fuse<MemDisk> as Device>⟧.seen ⟦<Fuse<MemDisk> as Device>⟧.may_leave ⟦<MemDisk as Device>⟧.honest ⟦<MemDisk as Device>⟧.seen (said.HoldsLeft ⟦<Fuse<MemDisk> as Device>⟧.may_leave ⟦<MemDisk as Device>⟧.seen) script.now.lines.items) script.now.opening (said.Appends (W.contents output.old) (W.contents output.new))) }
+    ensures whole { IfOk result (said.IsRunOnThreads (said.IsReportOfRun (said.opening_of ⟦<Fuse<MemDisk> as Device>⟧.seen) ⟦<Fuse<MemDisk> as Device>⟧.honest ⟦<Fuse<MemDisk> as Device>⟧.seen ⟦<Fuse<MemDisk> as Device>⟧.may_leave ⟦<MemDisk as Device>⟧.honest ⟦<MemDisk as Device>⟧.seen (said.HoldsLeft ⟦<Fuse<MemDisk> as Device>⟧.may_leave ⟦<MemDisk as Device>⟧.seen) script.now.lines.items) script.now.opening (said.Appends (W.contents output.old) (W.contents output.new))) }
+    ensures part { OnErr result (said.BreaksOff (said.WithSomeStatus (said.IsTextOnThreads (said.IsReportOfRun (said.opening_of ⟦<Fuse<MemDisk> as Device>⟧.seen) ⟦<Fuse<MemDisk> as Device>⟧.honest ⟦<Fuse<MemDisk> as Device>⟧.seen ⟦<Fuse<MemDisk> as Device>⟧.may_leave ⟦<MemDisk as Device>⟧.honest ⟦<MemDisk as Device>⟧.seen (said.HoldsLeft ⟦<Fuse<MemDisk> as Device>⟧.may_leave ⟦<MemDisk as Device>⟧.seen) script.now.lines.items) script.now.opening)) (W.contents output.old) (W.contents output.new)) }
 {
     let sizes = match script.opening {
         Some(Opening::Shape(sizes)) => sizes,
@@ -56,7 +58,8 @@ pub fn run_threads_in_file<G: Gate + Sync, W: Write, R: Threads + Wait + Sync, H
 ) -> io::Result<(u8, Option<Trouble>)>
 where
     H::File: Lockable + Send,
-    ensures { IfOk result (λ end. said.IsRunOnThreads (said.IsReportOfRun (said.opening_of ⟦<Mirror<FileDisk<H::File>> as Device>⟧.seen) ⟦<Mirror<FileDisk<H::File>> as Device>⟧.honest ⟦<Mirror<FileDisk<H::File>> as Device>⟧.seen ⟦<Mirror<FileDisk<H::File>> as Device>⟧.may_leave ⟦<ReadAhead<FileDisk<H::File>> as Device>⟧.honest ⟦<ReadAhead<FileDisk<H::File>> as Device>⟧.seen (λ _ _. ⊤) script.now.lines.items) script.now.opening (said.Appends (W.contents output.old) (W.contents output.new)) end.0) }
+    ensures whole { IfOk result (λ end. said.IsRunOnThreads (said.IsReportOfRun (said.opening_of ⟦<Mirror<FileDisk<H::File>> as Device>⟧.seen) ⟦<Mirror<FileDisk<H::File>> as Device>⟧.honest ⟦<Mirror<FileDisk<H::File>> as Device>⟧.seen ⟦<Mirror<FileDisk<H::File>> as Device>⟧.may_leave ⟦<ReadAhead<FileDisk<H::File>> as Device>⟧.honest ⟦<ReadAhead<FileDisk<H::File>> as Device>⟧.seen (λ _ _. ⊤) script.now.lines.items) script.now.opening (said.Appends (W.contents output.old) (W.contents output.new)) end.0) }
+    ensures part { OnErr result (said.BreaksOff (said.WithSomeStatus (said.IsTextOnThreads (said.IsReportOfRun (said.opening_of ⟦<Mirror<FileDisk<H::File>> as Device>⟧.seen) ⟦<Mirror<FileDisk<H::File>> as Device>⟧.honest ⟦<Mirror<FileDisk<H::File>> as Device>⟧.seen ⟦<Mirror<FileDisk<H::File>> as Device>⟧.may_leave ⟦<ReadAhead<FileDisk<H::File>> as Device>⟧.honest ⟦<ReadAhead<FileDisk<H::File>> as Device>⟧.seen (λ _ _. ⊤) script.now.lines.items) script.now.opening)) (W.contents output.old) (W.contents output.new)) }
 {
     let sizes = match script.opening {
         Some(Opening::Shape(sizes)) => sizes,
@@ -87,6 +90,7 @@ fn write_reported<W: Write>(
 ) -> io::Result<u8>
     ensures text { OnOk result (said.Appends (W.contents output.old) (W.contents output.new) (said.reported_text reported)) }
     ensures status { IfOk result (λ status. status ≡ said.reported_status reported) }
+    ensures part { OnErr result (said.BreaksOff (λ its. its ≡ said.reported_text reported) (W.contents output.old) (W.contents output.new)) }
 {
     match reported {
         Ok(report) => write_report(alloc, output, report),
@@ -99,10 +103,11 @@ fn write_reported<W: Write>(
 fn write_report<W: Write>(alloc: Global, output: &mut W, report: Report) -> io::Result<u8>
     ensures text { OnOk result (said.Appends (W.contents output.old) (W.contents output.new) (said.threads_report_text report)) }
     ensures status { IfOk result (λ status. status ≡ (if said.agrees report then 0 else 1)) }
+    ensures part { OnErr result (said.BreaksOff (λ its. its ≡ said.threads_report_text report) (W.contents output.old) (W.contents output.new)) }
 {
     let mut text = Vec::new(alloc);
     write_threads_report(&mut text, report)?;
-    output.write_all(text.as_slice())?;
+    write_text(output, text.as_slice())?;
     Ok(if report.agrees() { 0 } else { 1 })
 }
 
@@ -110,10 +115,11 @@ fn write_report<W: Write>(alloc: Global, output: &mut W, report: Report) -> io::
 fn refuse<W: Write>(alloc: Global, output: &mut W, fault: Fault) -> io::Result<u8>
     ensures text { OnOk result (said.Appends (W.contents output.old) (W.contents output.new) (said.last_refusal fault)) }
     ensures status { IfOk result (λ status. status ≡ said.refused_status fault) }
+    ensures part { OnErr result (said.BreaksOff (λ its. its ≡ said.last_refusal fault) (W.contents output.old) (W.contents output.new)) }
 {
     let mut text = Vec::new(alloc);
     write_refusal(&mut text, fault)?;
-    output.write_all(text.as_slice())?;
+    write_text(output, text.as_slice())?;
     Ok(match fault {
         Fault::BadShape => 2,
         _ => 3,

@@ -1,16 +1,18 @@
 //! Runs of the program whose words ask for threads.
-ghost use Rattle.std.specs.Prelude.{◌≡◌, IfOk, OnOk, codes};
+ghost use Rattle.std.specs.Prelude.{◌≡◌, ⊤, IfOk, IfSome, OnErr, OnOk, codes, is_some, take};
 ghost use Rattle.fkv_threading.specs.Said as said;
 
+use crate::complaints::{Faulty, complain, complain_of_end, complain_of_status};
 use crate::gates::Open;
 use crate::programs::{run_threads, run_threads_in_file};
 use fkv_base::{Fault, ScriptFault};
-use fkv_files::{FileTrouble, Lockable};
+use fkv_disk::{Device, FileDisk, Fuse, MemDisk, ReadAhead};
+use fkv_files::{Lockable, Mirror};
 use fkv_lines::Script;
+use fkv_runs::write_text;
 use fkv_thread_scripts::threads_script_of;
 use std::alloc::Global;
-use std::fmt;
-use std::io::{self, Cursor, Read, Write};
+use std::io::{self, Read, Write};
 use std::rt::Files;
 use std::sync::Wait;
 use std::thread::Threads;
@@ -19,8 +21,9 @@ use std::thread::Threads;
 const SCRIPT_LIMIT: u64 = 65536 * 201 + 1;
 
 /// Runs the program, whose words ask for threads over a store in memory, or in the file of this path: writes the report of the script that the
-/// input gives. The status: 0; 1 where something differs; 2 where the script or its shape is refused; 3 where a store or a turn is.
-/// Where it is above 0, a line of complaint says in words what it means. An `Err` is memory, a thread, or a stream that failed.
+/// input gives. The status: 0; 1 where something differs; 2 where the script or its shape is refused; 3 where a store or a turn is; 4 where the input
+/// could not be read. Where it is above 0, a line of complaint says in words what it means. An `Err` is memory, a thread, or a stream that failed: then
+/// what is written is a beginning.
 pub fn run<R: Threads + Wait + Sync, H: Files, I: Read + Drop, W: Write, E: Write>(
     rt: &R,
     files: &H,
@@ -32,41 +35,45 @@ pub fn run<R: Threads + Wait + Sync, H: Files, I: Read + Drop, W: Write, E: Writ
 ) -> io::Result<u8>
 where
     H::File: Lockable + Send,
+    ensures whole { IfOk result (λ status. said.Writes (said.IsRunOfInput (said.IsReportIn (said.IsReportOfRun (said.opening_of ⟦<Fuse<MemDisk> as Device>⟧.seen) ⟦<Fuse<MemDisk> as Device>⟧.honest ⟦<Fuse<MemDisk> as Device>⟧.seen ⟦<Fuse<MemDisk> as Device>⟧.may_leave ⟦<MemDisk as Device>⟧.honest ⟦<MemDisk as Device>⟧.seen (said.HoldsLeft ⟦<Fuse<MemDisk> as Device>⟧.may_leave ⟦<MemDisk as Device>⟧.seen)) (said.IsReportOfRun (said.opening_of ⟦<Mirror<FileDisk<H::File>> as Device>⟧.seen) ⟦<Mirror<FileDisk<H::File>> as Device>⟧.honest ⟦<Mirror<FileDisk<H::File>> as Device>⟧.seen ⟦<Mirror<FileDisk<H::File>> as Device>⟧.may_leave ⟦<ReadAhead<FileDisk<H::File>> as Device>⟧.honest ⟦<ReadAhead<FileDisk<H::File>> as Device>⟧.seen (λ _ _. ⊤)) (is_some file.entry)) (I.remaining input) status) (W.contents output.old) (W.contents output.new)) }
+    ensures part { OnErr result (said.BreaksOff (said.WithSomeStatus (said.IsRunOfInput (said.IsReportIn (said.IsReportOfRun (said.opening_of ⟦<Fuse<MemDisk> as Device>⟧.seen) ⟦<Fuse<MemDisk> as Device>⟧.honest ⟦<Fuse<MemDisk> as Device>⟧.seen ⟦<Fuse<MemDisk> as Device>⟧.may_leave ⟦<MemDisk as Device>⟧.honest ⟦<MemDisk as Device>⟧.seen (said.HoldsLeft ⟦<Fuse<MemDisk> as Device>⟧.may_leave ⟦<MemDisk as Device>⟧.seen)) (said.IsReportOfRun (said.opening_of ⟦<Mirror<FileDisk<H::File>> as Device>⟧.seen) ⟦<Mirror<FileDisk<H::File>> as Device>⟧.honest ⟦<Mirror<FileDisk<H::File>> as Device>⟧.seen ⟦<Mirror<FileDisk<H::File>> as Device>⟧.may_leave ⟦<ReadAhead<FileDisk<H::File>> as Device>⟧.honest ⟦<ReadAhead<FileDisk<H::File>> as Device>⟧.seen (λ _ _. ⊤)) (is_some file.entry)) (I.remaining input))) (W.contents output.old) (W.contents output.new)) }
+{
+    match script_bytes(alloc, input) {
+        Ok(bytes) => {
+            let status = run_bytes(rt, files, alloc, file, &bytes, output, complaints)?;
+            output.flush()?;
+            Ok(status)
+        }
+        Err(error) => refuse_input(output, complaints, error),
+    }
+}
+
+/// The first bytes of a script, as many as are looked at.
+fn script_bytes<I: Read + Drop>(alloc: Global, input: I) -> io::Result<Vec<u8>>
+    ensures { IfOk result (λ bytes. IfSome (I.remaining input) (λ script. bytes.items ≡ take said.script_limit script)) }
 {
     let mut bytes = Vec::new(alloc);
-    let status = match input.take(SCRIPT_LIMIT).read_to_end(&mut bytes) {
-        Ok(_) => run_bytes(rt, files, alloc, file, &bytes, output, complaints)?,
-        Err(error) => {
-            complain(complaints, &"standard input could not be read");
-            if error.kind() == io::ErrorKind::OutOfMemory {
-                return Err(error);
-            }
-            4
-        }
-    };
+    match input.take(SCRIPT_LIMIT).read_to_end(&mut bytes) {
+        Ok(_count) => Ok(bytes),
+        Err(error) => Err(error),
+    }
+}
+
+/// Tells that the input could not be read. The status: 4. An `Err` is memory, or the output.
+fn refuse_input<W: Write, E: Write>(
+    output: &mut W,
+    complaints: &mut E,
+    error: io::Error,
+) -> io::Result<u8>
+    ensures status { IfOk result (λ status. status ≡ 4) }
+    ensures nothing { said.Keeps (W.contents output.old) (W.contents output.new) }
+{
+    complain(complaints, &"standard input could not be read");
+    if error.kind() == io::ErrorKind::OutOfMemory {
+        return Err(error);
+    }
     output.flush()?;
-    Ok(status)
-}
-
-/// Refuses words that ask for threads and have a seed. The status: 2.
-pub fn refuse_seed<W: Write, E: Write>(output: &mut W, complaints: &mut E) -> io::Result<u8>
-    ensures text { OnOk result (said.Appends (W.contents output.old) (W.contents output.new) (said.ended (codes "options seed and threads"))) }
-    ensures status { IfOk result (λ status. status ≡ 2) }
-{
-    write_options(output)?;
-    complain(
-        complaints,
-        &"--seed and --threads don't go together; those that --threads goes with are --check, --torn B and --file PATH",
-    );
-    Ok(2)
-}
-
-/// The line of words that don't go together.
-fn write_options<W: Write>(output: &mut W) -> io::Result<()>
-    ensures { OnOk result (said.Appends (W.contents output.old) (W.contents output.new) (said.ended (codes "options seed and threads"))) }
-{
-    output.write_all("options seed and threads\n".as_bytes())?;
-    output.flush()
+    Ok(4)
 }
 
 /// Runs the script of these bytes, or writes its first faulty line.
@@ -81,23 +88,32 @@ fn run_bytes<R: Threads + Wait + Sync, H: Files, W: Write, E: Write>(
 ) -> io::Result<u8>
 where
     H::File: Lockable + Send,
+    ensures whole { IfOk result (λ status. said.Writes (said.IsRunOfBytes (said.IsReportIn (said.IsReportOfRun (said.opening_of ⟦<Fuse<MemDisk> as Device>⟧.seen) ⟦<Fuse<MemDisk> as Device>⟧.honest ⟦<Fuse<MemDisk> as Device>⟧.seen ⟦<Fuse<MemDisk> as Device>⟧.may_leave ⟦<MemDisk as Device>⟧.honest ⟦<MemDisk as Device>⟧.seen (said.HoldsLeft ⟦<Fuse<MemDisk> as Device>⟧.may_leave ⟦<MemDisk as Device>⟧.seen)) (said.IsReportOfRun (said.opening_of ⟦<Mirror<FileDisk<H::File>> as Device>⟧.seen) ⟦<Mirror<FileDisk<H::File>> as Device>⟧.honest ⟦<Mirror<FileDisk<H::File>> as Device>⟧.seen ⟦<Mirror<FileDisk<H::File>> as Device>⟧.may_leave ⟦<ReadAhead<FileDisk<H::File>> as Device>⟧.honest ⟦<ReadAhead<FileDisk<H::File>> as Device>⟧.seen (λ _ _. ⊤)) (is_some file.entry)) bytes.now status) (W.contents output.old) (W.contents output.new)) }
+    ensures part { OnErr result (said.BreaksOff (said.WithSomeStatus (said.IsRunOfBytes (said.IsReportIn (said.IsReportOfRun (said.opening_of ⟦<Fuse<MemDisk> as Device>⟧.seen) ⟦<Fuse<MemDisk> as Device>⟧.honest ⟦<Fuse<MemDisk> as Device>⟧.seen ⟦<Fuse<MemDisk> as Device>⟧.may_leave ⟦<MemDisk as Device>⟧.honest ⟦<MemDisk as Device>⟧.seen (said.HoldsLeft ⟦<Fuse<MemDisk> as Device>⟧.may_leave ⟦<MemDisk as Device>⟧.seen)) (said.IsReportOfRun (said.opening_of ⟦<Mirror<FileDisk<H::File>> as Device>⟧.seen) ⟦<Mirror<FileDisk<H::File>> as Device>⟧.honest ⟦<Mirror<FileDisk<H::File>> as Device>⟧.seen ⟦<Mirror<FileDisk<H::File>> as Device>⟧.may_leave ⟦<ReadAhead<FileDisk<H::File>> as Device>⟧.honest ⟦<ReadAhead<FileDisk<H::File>> as Device>⟧.seen (λ _ _. ⊤)) (is_some file.entry)) bytes.now)) (W.contents output.old) (W.contents output.new)) }
 {
     match threads_script_of(alloc, bytes) {
         Ok(script) => match file {
             Some(path) => run_in_file(rt, files, alloc, path, &script, output, complaints),
-            None => {
-                let status = run_threads(rt, alloc, &script, output, &Open)?;
-                complain_of_status(complaints, status);
-                Ok(status)
-            }
+            None => run_in_memory(rt, alloc, &script, output, complaints),
         },
-        Err(Fault::Script(line, kind)) => {
-            write_line_fault(alloc, output, line, kind)?;
-            complain(complaints, &Faulty { line, kind });
-            Ok(2)
-        }
-        Err(_) => Err(io::ErrorKind::OutOfMemory.into()),
+        Err(fault) => refuse_script(alloc, output, complaints, fault),
     }
+}
+
+/// Runs a script over a new store in memory.
+fn run_in_memory<R: Threads + Wait + Sync, W: Write, E: Write>(
+    rt: &R,
+    alloc: Global,
+    script: &Script,
+    output: &mut W,
+    complaints: &mut E,
+) -> io::Result<u8>
+    ensures whole { IfOk result (said.IsRunOnThreads (said.IsReportOfRun (said.opening_of ⟦<Fuse<MemDisk> as Device>⟧.seen) ⟦<Fuse<MemDisk> as Device>⟧.honest ⟦<Fuse<MemDisk> as Device>⟧.seen ⟦<Fuse<MemDisk> as Device>⟧.may_leave ⟦<MemDisk as Device>⟧.honest ⟦<MemDisk as Device>⟧.seen (said.HoldsLeft ⟦<Fuse<MemDisk> as Device>⟧.may_leave ⟦<MemDisk as Device>⟧.seen) script.now.lines.items) script.now.opening (said.Appends (W.contents output.old) (W.contents output.new))) }
+    ensures part { OnErr result (said.BreaksOff (said.WithSomeStatus (said.IsTextOnThreads (said.IsReportOfRun (said.opening_of ⟦<Fuse<MemDisk> as Device>⟧.seen) ⟦<Fuse<MemDisk> as Device>⟧.honest ⟦<Fuse<MemDisk> as Device>⟧.seen ⟦<Fuse<MemDisk> as Device>⟧.may_leave ⟦<MemDisk as Device>⟧.honest ⟦<MemDisk as Device>⟧.seen (said.HoldsLeft ⟦<Fuse<MemDisk> as Device>⟧.may_leave ⟦<MemDisk as Device>⟧.seen) script.now.lines.items) script.now.opening)) (W.contents output.old) (W.contents output.new)) }
+{
+    let status = run_threads(rt, alloc, script, output, &Open)?;
+    complain_of_status(complaints, status);
+    Ok(status)
 }
 
 /// Runs a script over a new store in the file of this path.
@@ -112,66 +128,64 @@ fn run_in_file<R: Threads + Wait + Sync, H: Files, W: Write, E: Write>(
 ) -> io::Result<u8>
 where
     H::File: Lockable + Send,
+    ensures whole { IfOk result (said.IsRunOnThreads (said.IsReportOfRun (said.opening_of ⟦<Mirror<FileDisk<H::File>> as Device>⟧.seen) ⟦<Mirror<FileDisk<H::File>> as Device>⟧.honest ⟦<Mirror<FileDisk<H::File>> as Device>⟧.seen ⟦<Mirror<FileDisk<H::File>> as Device>⟧.may_leave ⟦<ReadAhead<FileDisk<H::File>> as Device>⟧.honest ⟦<ReadAhead<FileDisk<H::File>> as Device>⟧.seen (λ _ _. ⊤) script.now.lines.items) script.now.opening (said.Appends (W.contents output.old) (W.contents output.new))) }
+    ensures part { OnErr result (said.BreaksOff (said.WithSomeStatus (said.IsTextOnThreads (said.IsReportOfRun (said.opening_of ⟦<Mirror<FileDisk<H::File>> as Device>⟧.seen) ⟦<Mirror<FileDisk<H::File>> as Device>⟧.honest ⟦<Mirror<FileDisk<H::File>> as Device>⟧.seen ⟦<Mirror<FileDisk<H::File>> as Device>⟧.may_leave ⟦<ReadAhead<FileDisk<H::File>> as Device>⟧.honest ⟦<ReadAhead<FileDisk<H::File>> as Device>⟧.seen (λ _ _. ⊤) script.now.lines.items) script.now.opening)) (W.contents output.old) (W.contents output.new)) }
 {
     let (status, trouble) = run_threads_in_file(rt, files, alloc, path, script, output, &Open)?;
-    match trouble {
-        Some(trouble) => complain(complaints, &FileTrouble { path, trouble }),
-        None => complain_of_status(complaints, status),
-    }
+    complain_of_end(complaints, path, status, trouble);
     Ok(status)
 }
 
-/// The first faulty line of a script: `script line 7 Count`.
-fn write_line_fault<W: Write>(
+/// Writes the line of a script's fault. The status: 2. An `Err` is memory, or the output.
+fn refuse_script<W: Write, E: Write>(
     alloc: Global,
     output: &mut W,
-    line: u64,
-    kind: ScriptFault,
-) -> io::Result<()> {
+    complaints: &mut E,
+    fault: Fault,
+) -> io::Result<u8>
+    ensures whole { IfOk result (λ status. (status ≡ 2) × said.Writes (said.TellsLine fault) (W.contents output.old) (W.contents output.new)) }
+    ensures part { OnErr result (said.BreaksOff (said.TellsLine fault) (W.contents output.old) (W.contents output.new)) }
+{
+    match fault {
+        Fault::Script(line, kind) => {
+            let text = line_fault_text(alloc, line, kind)?;
+            write_text(output, &text)?;
+            complain(complaints, &Faulty { line, kind });
+            Ok(2)
+        }
+        _ => Err(io::ErrorKind::OutOfMemory.into()),
+    }
+}
+
+/// The first faulty line of a script: `script line 7 Count`.
+fn line_fault_text(alloc: Global, line: u64, kind: ScriptFault) -> io::Result<Vec<u8>>
+    ensures { IfOk result (λ text. text.items ≡ said.line_fault_text (record { line = line; kind = kind })) }
+{
     let name = kind.name();
     let mut text = Vec::new(alloc);
     writeln!(text, "script line {line} {name}")?;
-    output.write_all(text.as_slice())
+    Ok(text)
 }
 
-/// A line and what is wrong with it, in words.
-#[derive(Clone, Copy)]
-struct Faulty {
-    line: u64,
-    kind: ScriptFault,
+/// Refuses words that ask for threads and have a seed. The status: 2.
+pub fn refuse_seed<W: Write, E: Write>(output: &mut W, complaints: &mut E) -> io::Result<u8>
+    ensures text { OnOk result (said.Appends (W.contents output.old) (W.contents output.new) (said.ended (codes "options seed and threads"))) }
+    ensures status { IfOk result (λ status. status ≡ 2) }
+    ensures part { OnErr result (said.BreaksOff (λ its. its ≡ said.ended (codes "options seed and threads")) (W.contents output.old) (W.contents output.new)) }
+{
+    write_options(output)?;
+    complain(
+        complaints,
+        &"--seed and --threads don't go together; those that --threads goes with are --check, --torn B and --file PATH",
+    );
+    Ok(2)
 }
 
-impl fmt::Display for Faulty {
-    fn fmt<W: fmt::Write>(&self, f: &mut fmt::Formatter<W>) -> fmt::Result {
-        let (line, kind) = (self.line, self.kind);
-        write!(f, "line {line} of the script: {kind}")
-    }
-}
-
-fn complain_of_status<E: Write>(complaints: &mut E, status: u8) {
-    match status {
-        1 => complain(
-            complaints,
-            &"a point or a key differs from what the threads were told",
-        ),
-        2 => complain(complaints, &"a size is outside its limits"),
-        3 => complain(complaints, &"a store or a turn of the keeper was refused"),
-        _ => {}
-    }
-}
-
-/// No complaint is longer: its words are cut.
-const LONGEST: usize = 1024;
-
-/// Writes a complaint as one line, at once. Where its writer fails the line is lost, and nothing else comes of that.
-fn complain<E: Write, D: fmt::Display>(complaints: &mut E, why: &D) {
-    let mut line = Cursor::new([0; LONGEST]);
-    let _cut = writeln!(line, "fkv: {why}");
-    let Ok(end) = usize::try_from(line.position()) else {
-        return;
-    };
-    if let Some(text) = line.get_ref().get(..end) {
-        let _lost = complaints.write_all(text);
-        let _failed = complaints.flush();
-    }
+/// The line of words that don't go together.
+fn write_options<W: Write>(output: &mut W) -> io::Result<()>
+    ensures text { OnOk result (said.Appends (W.contents output.old) (W.contents output.new) (said.ended (codes "options seed and threads"))) }
+    ensures part { OnErr result (said.BreaksOff (λ its. its ≡ said.ended (codes "options seed and threads")) (W.contents output.old) (W.contents output.new)) }
+{
+    write_text(output, "options seed and threads\n".as_bytes())?;
+    output.flush()
 }

@@ -1,11 +1,8 @@
 -- The thread at this number keeps its promise.
 use Rattle.std.proofs.Common.{◌∙◌, sym, ap, length, refl, rules, ℕ}
-use Rattle.std.proofs.lemmas.Iterator.Adapters.{YieldsList-from_vec}
-use Rattle.std.proofs.lemmas.Iterator.Consumers.{YieldsList-turn}
-use Rattle.std.proofs.lemmas.Option.{slice_get_read}
 use Rattle.fkv_threads.specs.Below.fkv_table.Planes.{opening_of}
 use Rattle.fkv_threading.specs.Told.{part_at}
-use Rattle.fkv_threading.proofs.Told.{counted, logs_more}
+use Rattle.fkv_threading.proofs.Told.{counted, logs_more, next_at}
 use Rattle.fkv_threading.proofs.playing.joined.Goals as goal
 
 pub loop-handle-preserved : goal.loop-handle-preserved
@@ -13,8 +10,8 @@ loop-handle-preserved g c =
     let items = c.args.handles.items in
     let inv = c.loop-handle.invariant in
     let at = length c.loop-handle.yielded in
-    let turn = YieldsList-turn (YieldsList-from_vec {s = c.into_iter-handle-iterator.result} items (search rules) (search rules)) c.loop-handle.yielded c.loop-handle.handle-iterator c.loop-handle.yielded_by c.next.result c.next.new.self c.in-Some.handle c.in-Some.is c.next.ensures.steps in
-    let there = slice_get_read items (length items) at c.in-Some.handle refl turn.0 turn.1 in
+    let gives = c.into_iter-handle-iterator.ensures.into_iter_gives in
+    let there = next_at items c.loop-handle.yielded _ c.loop-handle.handle-iterator c.next.new.self c.next.result c.in-Some.handle gives.0 (gives.1 ∙ c.args.handles.ok.0) c.loop-handle.yielded_by c.in-Some.is c.next.ensures.steps in
     let promised = c.requires at c.in-Some.handle there ∙ ap (λ (n : ℕ). part_at c.args.table.now.table.shared.key c.args.points.now c.args.lines.now n) (sym inv.0) in
     let pushed = c.in_ok-push.ensures.items in (
       counted _ _ _ _ _ pushed inv.0,

@@ -1,27 +1,22 @@
 -- Each session is ready with its pass, as the table's opening says of its place in the list, and was told nothing yet.
 use Rattle.std.proofs.Common.{◌≡◌, ◌∙◌, arith, sym, length, refl, rules}
-use Rattle.std.proofs.lemmas.Iterator.Adapters.{YieldsList-from_vec}
-use Rattle.std.proofs.lemmas.Iterator.Consumers.{YieldsList-turn}
-use Rattle.std.proofs.lemmas.Option.{slice_get_read}
-use Rattle.fkv_threading.proofs.Told.{counted, one_at, seated_at}
+use Rattle.fkv_threading.proofs.Told.{counted, next_at, one_at, seated_at}
 use Rattle.fkv_threading.proofs.playing.seated.Goals as goal
 
 pub invariant_of-seat : goal.invariant_of-seat
 invariant_of-seat g c =
     let items = c.args.sessions.items in
     let at = length c.loop-session.yielded in
-    let turn = YieldsList-turn (YieldsList-from_vec {s = c.into_iter-session-iterator.result} items (search rules) (search rules)) c.loop-session.yielded c.loop-session.session-iterator c.loop-session.yielded_by c.next.result
-    c.next.new.self (c.in-Some.session, c.in-Some.pass) c.in-Some.is c.next.ensures.steps in
-    let there = slice_get_read items (length items) at (c.in-Some.session, c.in-Some.pass) refl turn.0 turn.1 in
+    let gives = c.into_iter-session-iterator.ensures.into_iter_gives in
+    let there = next_at items c.loop-session.yielded _ c.loop-session.session-iterator c.next.new.self c.next.result (c.in-Some.session, c.in-Some.pass) gives.0 (gives.1 ∙ c.args.sessions.ok.0) c.loop-session.yielded_by c.in-Some.is c.next.ensures.steps in
     (c.requires.ready at (c.in-Some.session, c.in-Some.pass) there).ready
 
 pub player_of-requires : goal.player_of-requires
 player_of-requires g c =
     let items = c.args.sessions.items in
     let at = length c.loop-session.yielded in
-    let turn = YieldsList-turn (YieldsList-from_vec {s = c.into_iter-session-iterator.result} items (search rules) (search rules)) c.loop-session.yielded c.loop-session.session-iterator c.loop-session.yielded_by c.next.result
-    c.next.new.self (c.in-Some.session, c.in-Some.pass) c.in-Some.is c.next.ensures.steps in
-    let there = slice_get_read items (length items) at (c.in-Some.session, c.in-Some.pass) refl turn.0 turn.1 in
+    let gives = c.into_iter-session-iterator.ensures.into_iter_gives in
+    let there = next_at items c.loop-session.yielded _ c.loop-session.session-iterator c.next.new.self c.next.result (c.in-Some.session, c.in-Some.pass) gives.0 (gives.1 ∙ c.args.sessions.ok.0) c.loop-session.yielded_by c.in-Some.is c.next.ensures.steps in
     (c.requires.ready at (c.in-Some.session, c.in-Some.pass) there).nothing_seen
 
 pub loop-session-preserved : goal.loop-session-preserved
@@ -29,9 +24,8 @@ loop-session-preserved g c =
     let items = c.args.sessions.items in
     let inv = c.loop-session.invariant in
     let at = length c.loop-session.yielded in
-    let turn = YieldsList-turn (YieldsList-from_vec {s = c.into_iter-session-iterator.result} items (search rules) (search rules)) c.loop-session.yielded c.loop-session.session-iterator c.loop-session.yielded_by c.next.result
-    c.next.new.self (c.in-Some.session, c.in-Some.pass) c.in-Some.is c.next.ensures.steps in
-    let there = slice_get_read items (length items) at (c.in-Some.session, c.in-Some.pass) refl turn.0 turn.1 in
+    let gives = c.into_iter-session-iterator.ensures.into_iter_gives in
+    let there = next_at items c.loop-session.yielded _ c.loop-session.session-iterator c.next.new.self c.next.result (c.in-Some.session, c.in-Some.pass) gives.0 (gives.1 ∙ c.args.sessions.ok.0) c.loop-session.yielded_by c.in-Some.is c.next.ensures.steps in
     let begun = c.requires.ready at (c.in-Some.session, c.in-Some.pass) there in
     let pushed = c.in_ok-push.ensures.items in
     let number : c.len-number.result ≡ length c.loop-session.players.items = omega (arith, c.len-number.ensures, c.loop-session.players.ok.0) in (

@@ -1,8 +1,7 @@
 -- The start of a commit finishes none, and calls no device.
-use Rattle.std.proofs.Common.{rules}
 use Rattle.fkv_threads.specs.Below.fkv_table.Planes.{opening_of}
 use Rattle.fkv_threads.specs.Below.fkv_table.Happening.TheVariants.{Commits}
-use Rattle.fkv_threading.proofs.Told.{finished_on}
+use Rattle.fkv_threading.proofs.Told.{after_kept, finished_on}
 use Rattle.fkv_threading.proofs.keeping.Keeping.ask_commit.Goals as goal
 
 pub invariant_of-next : goal.invariant_of-next
@@ -10,6 +9,6 @@ invariant_of-next g c =
     let did = c.ask_commit-pass.ensures in (
       did.ready,
       c.self.invariant.1,
-      search rules,
+      after_kept (opening_of g.D.Device.seen) _ _ _ _ _ did.device c.self.invariant.2,
       finished_on (opening_of g.D.Device.seen) _ (Commits c.args.kind) _ _ _ did.kept c.self.invariant.3,
     )
