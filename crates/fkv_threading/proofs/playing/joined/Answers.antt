@@ -1,5 +1,5 @@
 -- The thread at this number keeps its promise.
-use Rattle.std.proofs.Common.{◌∙◌, sym, ap, length, refl, rules, ℕ}
+use Rattle.std.proofs.Common.{◌∙◌, sym, ap, length, refl, ℕ}
 use Rattle.fkv_threads.specs.Below.fkv_table.Planes.{opening_of}
 use Rattle.fkv_threading.specs.Told.{part_at}
 use Rattle.fkv_threading.proofs.Told.{counted, logs_more, next_at}

@@ -1,5 +1,5 @@
 -- Each session is ready with its pass, as the table's opening says of its place in the list, and was told nothing yet.
-use Rattle.std.proofs.Common.{◌≡◌, ◌∙◌, arith, sym, length, refl, rules}
+use Rattle.std.proofs.Common.{◌≡◌, ◌∙◌, arith, sym, length}
 use Rattle.fkv_threading.proofs.Told.{counted, next_at, one_at, seated_at}
 use Rattle.fkv_threading.proofs.playing.seated.Goals as goal
 

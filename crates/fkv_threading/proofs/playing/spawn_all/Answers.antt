@@ -1,5 +1,5 @@
 -- The thread of the session at this number promises what that session is told.
-use Rattle.std.proofs.Common.{◌≡◌, ◌∙◌, ap, arith, sym, subst, length, refl, rules, IfOk}
+use Rattle.std.proofs.Common.{◌≡◌, ◌∙◌, ap, arith, sym, subst, length, IfOk}
 use Rattle.fkv_threads.specs.Below.fkv_table.Planes.{opening_of}
 use Rattle.fkv_threading.specs.Told.{IsTold, part_of}
 use Rattle.fkv_threading.proofs.Told.{counted, next_at, one_at, promised_at}
