@@ -1,4 +1,4 @@
-/* The calls of fkv.h over a device in memory: each once, of many keys, what they refuse, a crash at each call of a commit, and renewals. */
+/* The calls of fkv.h over a device in memory: each once, many keys, what they refuse, a crash at each call of a commit, and renewals. */
 #include "device.h"
 
 enum { SESSIONS = 2, KEYS = 100, MOST_TURNS = 1000 };

@@ -1,4 +1,4 @@
-/* Calls of many keys and single calls over 2^20 keys of a store in a file, by the C library: for tools/bench/many, which compares them. */
+/* Calls of many keys, and single calls, over 2^20 keys of a store in a file, by the C library: for tools/bench/many. */
 #define _POSIX_C_SOURCE 200809L
 #include "fkv_posix.h"
 
@@ -91,7 +91,8 @@ static void fill(fkv_file *file, fkv_session *session) {
 }
 
 int main(int count, char **words) {
-    static const fkv_shape shape = {.bucket_bits = 18, .page = 65536, .frames = 32, .mutable_pages = 28, .sessions = 3, .overflow = 1 << 18, .disk_pages = 64};
+    static const fkv_shape shape = {
+        .bucket_bits = 18, .page = 65536, .frames = 32, .mutable_pages = 28, .sessions = 3, .overflow = 1 << 18, .disk_pages = 64};
     fkv_file *file;
     fkv_session *session;
     if (count != 2) return 2;
