@@ -92,6 +92,7 @@ const BEGUN: [Start<'static>; 2] = [
 ];
 
 /// A start that is refused, and why; it ends without a change, after so many asks.
+#[derive(Clone, Copy)]
 struct Refusal<'a> {
     words: &'a [(usize, u64)],
     kind: CommitKind,
@@ -100,49 +101,48 @@ struct Refusal<'a> {
     why: Fault,
 }
 
+/// A commit runs, no more ranges have room, and the epochs are spent.
+const RUNNING: Refusal<'static> = Refusal {
+    words: &[(EPOCH, LAST_EPOCH), (PHASE, 65537)],
+    kind: CommitKind::Log,
+    lost: 9,
+    after: 1,
+    why: Fault::CommitRunning,
+};
+
+/// The epochs are spent, and the last version but one is attempted.
+const SPENT: &[(usize, u64)] = &[(EPOCH, LAST_EPOCH), (PHASE, 8190)];
+
 /// In the order in which they are tested: each is also one by the tests that come later.
 const REFUSED: [Refusal<'static>; 7] = [
-    Refusal {
-        words: &[(EPOCH, LAST_EPOCH), (PHASE, 65537)],
-        kind: CommitKind::Log,
-        lost: 9,
-        after: 1,
-        why: Fault::CommitRunning,
-    },
+    RUNNING,
     Refusal {
         words: &[(EPOCH, LAST_EPOCH), (PHASE, 1 << 40)],
-        kind: CommitKind::Log,
-        lost: 9,
-        after: 1,
-        why: Fault::CommitRunning,
+        ..RUNNING
     },
     Refusal {
         words: &[(EPOCH, LAST_EPOCH), (PHASE, 8191)],
-        kind: CommitKind::Log,
-        lost: 9,
-        after: 1,
         why: Fault::VersionsSpent,
+        ..RUNNING
     },
     Refusal {
-        words: &[(EPOCH, LAST_EPOCH), (PHASE, 8190)],
-        kind: CommitKind::Log,
-        lost: 9,
-        after: 1,
+        words: SPENT,
         why: Fault::LostFull,
+        ..RUNNING
     },
     Refusal {
-        words: &[(EPOCH, LAST_EPOCH), (PHASE, 8190)],
+        words: SPENT,
         kind: CommitKind::Full,
-        lost: 9,
         after: 2,
         why: Fault::EpochsSpent,
+        ..RUNNING
     },
     Refusal {
-        words: &[(EPOCH, LAST_EPOCH), (PHASE, 8190)],
-        kind: CommitKind::Log,
+        words: SPENT,
         lost: 8,
         after: 2,
         why: Fault::EpochsSpent,
+        ..RUNNING
     },
     Refusal {
         words: &[

@@ -113,6 +113,8 @@ struct Case<'a> {
     /// How many asks are made before those that are looked at.
     skips: usize,
     asks: &'a [Ask<TryAnswer>],
+    /// What it answers behind these, where they don't say it.
+    answer: Option<TryAnswer>,
     /// Whether it shares the latch in the end, and what it has to spare then.
     has_shared: bool,
     spare: u64,
@@ -132,6 +134,7 @@ const USUAL: Case<'static> = Case {
     rival: None,
     skips: 0,
     asks: &[],
+    answer: None,
     has_shared: false,
     spare: 0,
 };
@@ -212,6 +215,9 @@ fn asks(rt: &impl Abort, machine: &Try, case: &Case<'_>, number: usize) {
 
 /// What the try has in the end.
 fn ends(rt: &impl Abort, machine: &Try, case: &Case<'_>) {
+    if let Some(answer) = case.answer {
+        assert!(rt; machine.ask() == Ask::Done(answer));
+    }
     assert!(rt; machine.has_shared() == case.has_shared);
     assert!(rt; machine.spare() == case.spare);
 }

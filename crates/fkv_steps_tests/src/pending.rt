@@ -172,13 +172,35 @@ fn a_record_comes_by_the_mailbox(rt: HostRuntime) -> Result<(), Fail> {
     Ok(())
 }
 
-/// An attempt, and where it isn't the last one the request that goes on from it. The words stand there from then on.
+/// An attempt, with its asks part by part, and where it isn't the last one the request that goes on from it. The words stand there from
+/// then on.
 struct Step<'a> {
     words: &'a [(usize, u64)],
     occasion: Occasion,
-    asks: &'a [Ask<TryAnswer>],
+    asks: &'a [&'a [Ask<TryAnswer>]],
     left: Option<Wait>,
     is_orphaned: bool,
+}
+
+/// Moves an attempt on from this ask, along these, to the ask behind them.
+fn follows(
+    rt: &impl Abort,
+    plane: &mut PlainWords,
+    machine: &mut Attempt,
+    ask: Ask<TryAnswer>,
+    asks: &[Ask<TryAnswer>],
+) -> Ask<TryAnswer> {
+    let mut ask = ask;
+    for (number, wanted) in asks.iter().enumerate() {
+        assert!(rt; ask == *wanted, "at ask {number}");
+        let makes_effect = matches!(ask, Ask::Cas(place, _, _) if place != 3);
+        ask = machine.drive(plane.perform(&ask));
+        assert!(rt;
+            machine.effect().is_some() == makes_effect,
+            "after ask {number}"
+        );
+    }
+    ask
 }
 
 /// Makes an attempt, of a session whose seen head and read-only offset are 5.
@@ -198,14 +220,8 @@ fn attempts(
         },
     };
     let mut ask = machine.start(&pending, seen, step.occasion, 0, false);
-    for (number, wanted) in step.asks.iter().enumerate() {
-        assert!(rt; ask == *wanted, "at ask {number}");
-        let makes_effect = matches!(ask, Ask::Cas(place, _, _) if place != 3);
-        ask = machine.drive(plane.perform(&ask));
-        assert!(rt;
-            machine.effect().is_some() == makes_effect,
-            "after ask {number}"
-        );
+    for part in step.asks {
+        ask = follows(rt, plane, machine, ask, part);
     }
 }
 

@@ -1,6 +1,21 @@
 //! Tries that take the latch of their bucket.
 use super::*;
 
+/// An update takes the latch for itself alone, finds no room in the log, and gives it back.
+const LATCHED_IN_VAIN: Case<'static> = Case {
+    op: Op::Upsert(FOURTH, Value(11)),
+    phase: Phase::WaitPending,
+    skips: 2,
+    asks: &[
+        Ask::Load(47),
+        Ask::Cas(47, 0, EXCLUSIVE),
+        Ask::Load(4),
+        Ask::Load(3),
+        Ask::Add(47, EXCLUSIVE),
+    ],
+    ..USUAL
+};
+
 /// The latch for one alone.
 pub const ALONE: &[Case<'static>] = &[
     Case {
@@ -25,52 +40,20 @@ pub const ALONE: &[Case<'static>] = &[
         ..USUAL
     },
     Case {
-        op: Op::Upsert(FOURTH, Value(11)),
-        occasion: Occasion::Call,
-        phase: Phase::WaitPending,
         words: AT_LIMIT,
-        skips: 2,
-        asks: &[
-            Ask::Load(47),
-            Ask::Cas(47, 0, EXCLUSIVE),
-            Ask::Load(4),
-            Ask::Load(3),
-            Ask::Add(47, EXCLUSIVE),
-            Ask::Done(TryAnswer::Wait(Reason::NoRoom)),
-        ],
-        ..USUAL
+        answer: Some(TryAnswer::Wait(Reason::NoRoom)),
+        ..LATCHED_IN_VAIN
     },
     Case {
-        op: Op::Upsert(FOURTH, Value(11)),
-        occasion: Occasion::Call,
-        phase: Phase::WaitPending,
         words: LOG_ENDED,
-        skips: 2,
-        asks: &[
-            Ask::Load(47),
-            Ask::Cas(47, 0, EXCLUSIVE),
-            Ask::Load(4),
-            Ask::Load(3),
-            Ask::Add(47, EXCLUSIVE),
-            Ask::Done(TryAnswer::LogFull),
-        ],
-        ..USUAL
+        answer: Some(TryAnswer::LogFull),
+        ..LATCHED_IN_VAIN
     },
     Case {
-        op: Op::Upsert(FOURTH, Value(11)),
         occasion: Occasion::Poll,
-        phase: Phase::WaitPending,
         words: LOG_ENDED,
-        skips: 2,
-        asks: &[
-            Ask::Load(47),
-            Ask::Cas(47, 0, EXCLUSIVE),
-            Ask::Load(4),
-            Ask::Load(3),
-            Ask::Add(47, EXCLUSIVE),
-            Ask::Done(TryAnswer::Wait(Reason::Full)),
-        ],
-        ..USUAL
+        answer: Some(TryAnswer::Wait(Reason::Full)),
+        ..LATCHED_IN_VAIN
     },
     Case {
         op: Op::Upsert(FOURTH, Value(11)),

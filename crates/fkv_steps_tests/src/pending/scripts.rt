@@ -117,18 +117,27 @@ const OTHER_HELD: HeldRecord = HeldRecord {
     value: 7,
 };
 
+/// A record that has come is taken out of the mailbox.
+const TAKES: &[Ask<TryAnswer>] = &[
+    Ask::Load(STATE),
+    Ask::Load(HEADER_WORD),
+    Ask::Load(KEY_WORD),
+    Ask::Load(VALUE_WORD),
+    Ask::Store(STATE, 0),
+];
+
 /// An add of a record on the device.
 const ADDED: &[Step<'static>] = &[
     Step {
         words: &[],
         occasion: Occasion::Call,
-        asks: &[
+        asks: &[&[
             Ask::Load(SLOT),
             Ask::Load(STATE),
             Ask::Store(ADDRESS, 4),
             Ask::Store(STATE, 1),
             Ask::Done(AWAITED),
-        ],
+        ]],
         left: Some(AWAITS),
         is_orphaned: false,
     },
@@ -136,7 +145,7 @@ const ADDED: &[Step<'static>] = &[
     Step {
         words: &[],
         occasion: Occasion::Poll,
-        asks: &[Ask::Load(STATE), Ask::Load(SLOT), Ask::Done(AWAITED)],
+        asks: &[&[Ask::Load(STATE), Ask::Load(SLOT), Ask::Done(AWAITED)]],
         left: Some(AWAITS),
         is_orphaned: false,
     },
@@ -145,15 +154,13 @@ const ADDED: &[Step<'static>] = &[
         words: SERVED_OTHER,
         occasion: Occasion::Poll,
         asks: &[
-            Ask::Load(STATE),
-            Ask::Load(HEADER_WORD),
-            Ask::Load(KEY_WORD),
-            Ask::Load(VALUE_WORD),
-            Ask::Store(STATE, 0),
-            Ask::Load(SLOT),
-            Ask::Store(ADDRESS, 2),
-            Ask::Store(STATE, 1),
-            Ask::Done(AWAITED),
+            TAKES,
+            &[
+                Ask::Load(SLOT),
+                Ask::Store(ADDRESS, 2),
+                Ask::Store(STATE, 1),
+                Ask::Done(AWAITED),
+            ],
         ],
         left: Some(Wait {
             held: Some(OTHER_HELD),
@@ -166,20 +173,18 @@ const ADDED: &[Step<'static>] = &[
         words: SERVED,
         occasion: Occasion::Poll,
         asks: &[
-            Ask::Load(STATE),
-            Ask::Load(HEADER_WORD),
-            Ask::Load(KEY_WORD),
-            Ask::Load(VALUE_WORD),
-            Ask::Store(STATE, 0),
-            Ask::Load(SLOT),
-            Ask::Load(4),
-            Ask::Load(3),
-            Ask::Cas(3, 6, 7),
-            Ask::Store(84, 15),
-            Ask::Store(83, 3),
-            Ask::Store(82, 4 + 2 * ONE),
-            Ask::Cas(SLOT, ENTRY, 6 + 3 * ONE),
-            Ask::Done(DONE),
+            TAKES,
+            &[
+                Ask::Load(SLOT),
+                Ask::Load(4),
+                Ask::Load(3),
+                Ask::Cas(3, 6, 7),
+                Ask::Store(84, 15),
+                Ask::Store(83, 3),
+                Ask::Store(82, 4 + 2 * ONE),
+                Ask::Cas(SLOT, ENTRY, 6 + 3 * ONE),
+                Ask::Done(DONE),
+            ],
         ],
         left: None,
         is_orphaned: false,
@@ -190,13 +195,13 @@ const ADDED: &[Step<'static>] = &[
 const SEEKS_NOTHING: &[Step<'static>] = &[Step {
     words: &[],
     occasion: Occasion::Poll,
-    asks: &[
+    asks: &[&[
         Ask::Load(SLOT),
         Ask::Load(STATE),
         Ask::Store(ADDRESS, 4),
         Ask::Store(STATE, 1),
         Ask::Done(AWAITED),
-    ],
+    ]],
     left: Some(AWAITS),
     is_orphaned: false,
 }];
@@ -206,7 +211,7 @@ const READ_ON: &[Step<'static>] = &[
     Step {
         words: &[(STATE, 1)],
         occasion: Occasion::Call,
-        asks: &[Ask::Load(SLOT), Ask::Load(STATE), Ask::Done(AWAITED)],
+        asks: &[&[Ask::Load(SLOT), Ask::Load(STATE), Ask::Done(AWAITED)]],
         left: Some(Wait {
             has_asked: false,
             ..AWAITS
@@ -216,19 +221,19 @@ const READ_ON: &[Step<'static>] = &[
     Step {
         words: &[(STATE, 0)],
         occasion: Occasion::Poll,
-        asks: &[
+        asks: &[&[
             Ask::Load(STATE),
             Ask::Store(ADDRESS, 4),
             Ask::Store(STATE, 1),
             Ask::Done(AWAITED),
-        ],
+        ]],
         left: Some(AWAITS),
         is_orphaned: false,
     },
     Step {
         words: &[],
         occasion: Occasion::Poll,
-        asks: &[Ask::Load(STATE), Ask::Done(AWAITED)],
+        asks: &[&[Ask::Load(STATE), Ask::Done(AWAITED)]],
         left: Some(AWAITS),
         is_orphaned: false,
     },
@@ -236,14 +241,12 @@ const READ_ON: &[Step<'static>] = &[
         words: SERVED_OTHER,
         occasion: Occasion::Poll,
         asks: &[
-            Ask::Load(STATE),
-            Ask::Load(HEADER_WORD),
-            Ask::Load(KEY_WORD),
-            Ask::Load(VALUE_WORD),
-            Ask::Store(STATE, 0),
-            Ask::Store(ADDRESS, 2),
-            Ask::Store(STATE, 1),
-            Ask::Done(AWAITED),
+            TAKES,
+            &[
+                Ask::Store(ADDRESS, 2),
+                Ask::Store(STATE, 1),
+                Ask::Done(AWAITED),
+            ],
         ],
         left: Some(AWAITS_OLDER),
         is_orphaned: false,
@@ -251,14 +254,7 @@ const READ_ON: &[Step<'static>] = &[
     Step {
         words: SERVED,
         occasion: Occasion::Poll,
-        asks: &[
-            Ask::Load(STATE),
-            Ask::Load(HEADER_WORD),
-            Ask::Load(KEY_WORD),
-            Ask::Load(VALUE_WORD),
-            Ask::Store(STATE, 0),
-            Ask::Done(TryAnswer::Found(Value(10))),
-        ],
+        asks: &[TAKES, &[Ask::Done(TryAnswer::Found(Value(10)))]],
         left: None,
         is_orphaned: false,
     },
@@ -268,14 +264,7 @@ const READ_ON: &[Step<'static>] = &[
 const READ_ABSENT: &[Step<'static>] = &[Step {
     words: SERVED_ABSENT,
     occasion: Occasion::Poll,
-    asks: &[
-        Ask::Load(STATE),
-        Ask::Load(HEADER_WORD),
-        Ask::Load(KEY_WORD),
-        Ask::Load(VALUE_WORD),
-        Ask::Store(STATE, 0),
-        Ask::Done(TryAnswer::Absent),
-    ],
+    asks: &[TAKES, &[Ask::Done(TryAnswer::Absent)]],
     left: None,
     is_orphaned: false,
 }];
@@ -284,14 +273,7 @@ const READ_ABSENT: &[Step<'static>] = &[Step {
 const READ_NONE: &[Step<'static>] = &[Step {
     words: SERVED_NONE,
     occasion: Occasion::Poll,
-    asks: &[
-        Ask::Load(STATE),
-        Ask::Load(HEADER_WORD),
-        Ask::Load(KEY_WORD),
-        Ask::Load(VALUE_WORD),
-        Ask::Store(STATE, 0),
-        Ask::Done(TryAnswer::Absent),
-    ],
+    asks: &[TAKES, &[Ask::Done(TryAnswer::Absent)]],
     left: None,
     is_orphaned: false,
 }];
@@ -306,7 +288,7 @@ const MAIL_FOR_NOBODY: &[Step<'static>] = &[Step {
         (81, 10),
     ],
     occasion: Occasion::Poll,
-    asks: &[
+    asks: &[&[
         Ask::Load(STATE),
         Ask::Load(SLOT),
         Ask::Load(79),
@@ -314,7 +296,7 @@ const MAIL_FOR_NOBODY: &[Step<'static>] = &[Step {
         Ask::Load(81),
         Ask::Cas(81, 10, 15),
         Ask::Done(DONE),
-    ],
+    ]],
     left: None,
     is_orphaned: true,
 }];
@@ -324,15 +306,13 @@ const ANOTHER_ENTRY: &[Step<'static>] = &[Step {
     words: SERVED,
     occasion: Occasion::Poll,
     asks: &[
-        Ask::Load(STATE),
-        Ask::Load(HEADER_WORD),
-        Ask::Load(KEY_WORD),
-        Ask::Load(VALUE_WORD),
-        Ask::Store(STATE, 0),
-        Ask::Load(SLOT),
-        Ask::Store(ADDRESS, 4),
-        Ask::Store(STATE, 1),
-        Ask::Done(AWAITED),
+        TAKES,
+        &[
+            Ask::Load(SLOT),
+            Ask::Store(ADDRESS, 4),
+            Ask::Store(STATE, 1),
+            Ask::Done(AWAITED),
+        ],
     ],
     left: Some(AWAITS),
     is_orphaned: false,
