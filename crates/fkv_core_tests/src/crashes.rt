@@ -2,7 +2,7 @@
 use crate::beside_each_other::all_go;
 use crate::lines::Line::{Commit, Get, Turn, Up};
 use crate::lines::{Line, beginning};
-use crate::stores::{Sizes, Store, WIDE, WIDE_FOR_TWO, begin, new_store, steps};
+use crate::stores::{Sizes, Store, WIDE, WIDE_FOR_TWO, begin, crash, hold, new_store, steps};
 use fkv_base::{Fault, Value};
 use fkv_core::{Actor, Event, Told};
 use fkv_disk::FuseState;
@@ -48,10 +48,10 @@ fn ends_in_hand(store: &mut Store) -> bool {
 
 /// An update has reserved its address when the life ends: it is never answered, and neither another call nor the keeper does anything.
 fn nothing_happens_behind_a_crash(rt: &impl Abort, store: &mut Store) {
-    assert!(rt; begin(store, beginning(Up(0, 1, 10)), 4).is_none());
-    assert!(rt; ends_in_hand(store));
+    hold!(rt; begin(store, beginning(Up(0, 1, 10)), 4).is_none());
+    hold!(rt; ends_in_hand(store));
     for line in [Get(0, 1), Commit, Turn] {
-        assert!(rt; is_nothing(store, line));
+        hold!(rt; is_nothing(store, line));
     }
 }
 
@@ -70,16 +70,16 @@ fn effects_of_a_call(store: &mut Store) -> Option<u64> {
 
 /// Of the asks of an update one makes its effect, and the world shows it behind that one alone.
 fn an_effect_is_shown(rt: &impl Abort, store: &mut Store) {
-    assert!(rt; store.step(beginning(Up(0, 1, 10))).is_none());
-    assert!(rt; effects_of_a_call(store) == Some(1));
-    assert!(rt; store.effect(1).is_none());
+    hold!(rt; store.step(beginning(Up(0, 1, 10))).is_none());
+    hold!(rt; effects_of_a_call(store) == Some(1));
+    hold!(rt; store.effect(1).is_none());
 }
 
 /// A fuse shows how far it is from blowing.
 fn a_fuse_is_shown(rt: &impl Abort, store: &mut Store) {
-    assert!(rt; store.fuse() == FuseState::Sound);
+    hold!(rt; store.fuse() == FuseState::Sound);
     store.arm(3);
-    assert!(rt; store.fuse() == FuseState::Armed(3));
+    hold!(rt; store.fuse() == FuseState::Armed(3));
 }
 
 /// How many events begin and move session 0's read of this key up to the one in which it ends.
@@ -97,25 +97,25 @@ fn events_of_a_read(store: &mut Store, key: u64) -> Option<u64> {
 
 /// There is no answer before the call's end.
 fn an_update_ends(rt: &impl Abort, store: &mut Store) {
-    assert!(rt; !store.advance(beginning(Up(0, 1, 10))));
-    assert!(rt; store.answer(Event::Move(0)).is_none());
-    assert!(rt; effects_of_a_call(store) == Some(1));
+    hold!(rt; !store.advance(beginning(Up(0, 1, 10))));
+    hold!(rt; store.answer(Event::Move(0)).is_none());
+    hold!(rt; effects_of_a_call(store) == Some(1));
 }
 
 /// The answer is there, and stays there.
 fn a_read_ends(rt: &impl Abort, store: &mut Store) {
-    assert!(rt; events_of_a_read(store, 1).is_some());
+    hold!(rt; events_of_a_read(store, 1).is_some());
     let found = Some(Told::Session(0, Answer::Found(Value(10))));
     for _ in 0..2 {
-        assert!(rt; store.answer(Event::Move(0)) == found);
+        hold!(rt; store.answer(Event::Move(0)) == found);
     }
 }
 
 /// Nothing moves behind the end, and no other actor has an answer.
 fn nothing_is_in_hand(rt: &impl Abort, store: &mut Store) {
-    assert!(rt; !store.advance(Event::Move(0)));
-    assert!(rt; store.answer(Event::Move(7)).is_none());
-    assert!(rt; store.answer(Event::Crash).is_none());
+    hold!(rt; !store.advance(Event::Move(0)));
+    hold!(rt; store.answer(Event::Move(7)).is_none());
+    hold!(rt; store.answer(Event::Crash).is_none());
 }
 
 /// Where a call ends in an event its answer is there, and stays there up to the next call.
@@ -146,9 +146,11 @@ fn plays(rt: &impl Abort, store: &mut Store, scene: Scene) {
     }
 }
 
+/// (The store ends, since its drop would be proved too.)
 fn play(rt: &impl Abort, alloc: Global, scene: Scene, sizes: Sizes) -> Result<(), Fault> {
     let mut store = new_store(alloc, sizes)?;
     plays(rt, &mut store, scene);
+    crash(store, 0)?;
     Ok(())
 }
 

@@ -2,8 +2,8 @@
 //! alone, where no call can be made to fail.
 use crate::lines::Line;
 use crate::lines::Line::{Commit, Finish, LogCommit, Up};
-use crate::stores::{Store, WIDE, crash, new_store, store_of, whole};
-use fkv_base::{Fault, Serial, Version};
+use crate::stores::{Store, WIDE, crash, hold, new_store, play, store_of};
+use fkv_base::{Fault, Serial};
 use fkv_disk::MemDisk;
 use fkv_opening::recover;
 use std::alloc::Global;
@@ -13,12 +13,6 @@ use std::test::Fail;
 
 /// Where the slot of commits of odd numbers lies in an image.
 const ODD_SLOT: Range<usize> = 1024..1536;
-
-fn play(store: &mut Store, lines: &[Line]) {
-    for line in lines {
-        let _ = whole(store, *line);
-    }
-}
 
 /// A store's first commit as the first layout spells it: without a checkpoint of its own, lost ranges and a format.
 fn in_first_layout(alloc: Global, store: Store) -> Result<Store, Fault> {
@@ -47,10 +41,16 @@ fn left(alloc: Global, kind: Line, passing: u64, torn: u8) -> Result<MemDisk, Fa
     crash(store, torn)
 }
 
-/// The number and the point that are recovered of it.
-fn kept(alloc: Global, mut image: MemDisk) -> Result<(Version, Option<Serial>), Fault> {
+/// Whether the commit of this number is recovered of it, with the point of the same number.
+fn keeps(alloc: Global, mut image: MemDisk, number: u64) -> Result<bool, Fault> {
     let opened = recover(alloc, &mut image)?;
-    Ok((opened.number, opened.points.first().copied()))
+    Ok(opened.number.0 == number && opened.points.as_slice() == [Serial(number)].as_slice())
+}
+
+/// The number of the commit that stands where so many calls pass, out of those that the second one makes.
+fn standing(calls: u64, passing: u64, torn: u8) -> u64 {
+    let is_open = passing == calls || (torn == 165 && passing.saturating_add(2) >= calls);
+    if is_open { 2 } else { 1 }
 }
 
 /// A second commit of so many calls stops where so many of them pass.
@@ -62,10 +62,8 @@ fn stops(
     passing: u64,
 ) -> Result<(), Fault> {
     for torn in [0, 165, 255] {
-        let is_open = passing == calls || (torn == 165 && passing.saturating_add(2) >= calls);
-        let number = if is_open { 2 } else { 1 };
-        let kept = kept(alloc, left(alloc, kind, passing, torn)?)?;
-        assert!(rt; kept == (Version(number), Some(Serial(number))));
+        let image = left(alloc, kind, passing, torn)?;
+        hold!(rt; keeps(alloc, image, standing(calls, passing, torn))?);
     }
     Ok(())
 }

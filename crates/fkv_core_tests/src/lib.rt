@@ -10,6 +10,8 @@ mod crashes;
 #[cfg(test)]
 mod first_layout;
 #[cfg(test)]
+mod holding;
+#[cfg(test)]
 mod lines;
 #[cfg(test)]
 mod million;

@@ -2,10 +2,10 @@
 //! tools/large plays the same by the built program, whose scripts are too short for so many keys in memory.
 use crate::lines::Line;
 use crate::lines::Line::{Commit, Finish, LogCommit, Refresh, Turn, Up};
-use crate::stores::{Store, crash, opened_store, whole};
+use crate::stores::{Store, crash, hold, opened_store, play, store_of, whole};
 use fkv_base::{Fault, Key, Shape, Value};
-use fkv_core::{Told, World};
-use fkv_disk::{Fuse, MemDisk};
+use fkv_core::Told;
+use fkv_disk::MemDisk;
 use fkv_map::{Op, PlainMap};
 use fkv_opening::recover;
 use fkv_pairs::content;
@@ -30,7 +30,7 @@ struct Updates {
 /// Updates, and the commit behind them.
 type Kept = (Updates, Line);
 
-/// The first life: a full commit, one of the log, and updates that no commit keeps.
+/// The first life: a full commit, and one of the log.
 const FIRST: [Kept; 2] = [
     (
         Updates {
@@ -50,6 +50,7 @@ const FIRST: [Kept; 2] = [
     ),
 ];
 
+/// What no commit keeps, at the end of each life.
 const LOST: Updates = Updates {
     from: 0,
     to: KEYS / 64,
@@ -75,9 +76,7 @@ fn large_store(alloc: Global) -> Result<Store, Fault> {
 fn is_done(store: &mut Store, key: u64, value: u64) -> bool {
     let told = whole(store, Up(0, key, value));
     if key % EACH == 0 {
-        for line in [Refresh(0), Turn, Refresh(0), Turn] {
-            let _ = whole(store, line);
-        }
+        play(store, &[Refresh(0), Turn, Refresh(0), Turn]);
     }
     matches!(told, Some(Told::Session(_, Answer::Done(_, _))))
 }
@@ -110,53 +109,72 @@ fn live(
     life: &[Kept],
 ) -> Result<(), Fault> {
     for (updates, kind) in life {
-        assert!(rt; update(store, map, *updates)?);
-        assert!(rt; commit(store, *kind));
+        hold!(rt; update(store, map, *updates)?);
+        hold!(rt; commit(store, *kind));
     }
     Ok(())
 }
 
-/// The life ends. The store that opens then.
-fn recovered(rt: &impl Abort, alloc: Global, store: Store, map: &PlainMap) -> Result<Store, Fault> {
-    let mut device = Fuse::new(crash(store, 165)?);
-    let opened = recover(alloc, &mut device)?;
-    let pairs = content(alloc, &opened, &mut device)?;
-    compare(rt, pairs.as_slice(), map)?;
-    World::open(alloc, opened, device)
-}
-
-/// The pairs are those of the map.
-fn compare(rt: &impl Abort, pairs: &[(Key, Value)], map: &PlainMap) -> Result<(), Fault> {
-    let wanted = map.pairs()?;
-    assert!(rt; pairs == wanted.as_slice());
+/// Makes updates that no commit keeps.
+fn lose(rt: &impl Abort, alloc: Global, store: &mut Store) -> Result<(), Fault> {
+    let mut lost = PlainMap::new(alloc);
+    hold!(rt; update(store, &mut lost, LOST)?);
     Ok(())
 }
 
-/// The first life, and the store that opens behind it.
-fn first_life(rt: &impl Abort, alloc: Global, map: &mut PlainMap) -> Result<Store, Fault> {
-    let mut store = large_store(alloc)?;
-    live(rt, &mut store, map, &FIRST)?;
-    let mut lost = PlainMap::new(alloc);
-    assert!(rt; update(&mut store, &mut lost, LOST)?);
-    recovered(rt, alloc, store, map)
-}
-
-/// The second life, and what opens behind it.
-fn second_life(
+/// Lives so, and ends. (The store isn't dropped, but ends in each case: its drop would be proved too.)
+fn lived(
     rt: &impl Abort,
-    alloc: Global,
     mut store: Store,
     map: &mut PlainMap,
+    life: &[Kept],
+    alloc: Global,
+) -> Result<MemDisk, Fault> {
+    let kept = live(rt, &mut store, map, life);
+    let lost = lose(rt, alloc, &mut store);
+    let image = crash(store, 165)?;
+    kept?;
+    lost?;
+    Ok(image)
+}
+
+/// The pairs that are recovered are those of the map.
+fn compare(
+    rt: &impl Abort,
+    alloc: Global,
+    image: &mut MemDisk,
+    map: &PlainMap,
 ) -> Result<(), Fault> {
-    live(rt, &mut store, map, &SECOND)?;
-    recovered(rt, alloc, store, map)?;
+    let opened = recover(alloc, image)?;
+    let pairs = content(alloc, &opened, image)?;
+    let wanted = map.pairs()?;
+    hold!(rt; pairs.as_slice() == wanted.as_slice());
+    Ok(())
+}
+
+/// A life over this store, which leaves what the map has.
+fn leaves(
+    rt: &impl Abort,
+    alloc: Global,
+    store: Store,
+    map: &mut PlainMap,
+    life: &[Kept],
+) -> Result<MemDisk, Fault> {
+    let mut image = lived(rt, store, map, life, alloc)?;
+    compare(rt, alloc, &mut image, map)?;
+    Ok(image)
+}
+
+/// Two lives, of which the second one begins with what the first one leaves.
+fn both_lives(rt: &impl Abort, alloc: Global, map: &mut PlainMap) -> Result<(), Fault> {
+    let left = leaves(rt, alloc, large_store(alloc)?, map, &FIRST)?;
+    leaves(rt, alloc, store_of(alloc, left)?, map, &SECOND)?;
     Ok(())
 }
 
 #[test]
 fn a_million_keys_are_recovered(rt: HostRuntime) -> Result<(), Fail> {
     let mut map = PlainMap::new(rt.alloc());
-    let store = first_life(&rt, rt.alloc(), &mut map)?;
-    second_life(&rt, rt.alloc(), store, &mut map)?;
+    both_lives(&rt, rt.alloc(), &mut map)?;
     Ok(())
 }

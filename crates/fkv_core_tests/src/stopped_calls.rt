@@ -1,8 +1,10 @@
 //! A session that is stopped behind each ask of a call, while another session and the keeper go through a commit. Then it goes on.
 use crate::lines::Line::{Add, Commit, Finish, Poll, Refresh, Sleep, Turn, Up, Wake};
 use crate::lines::{Line, actor, beginning};
-use crate::stores::{NARROW_FOR_TWO, Sizes, Store, WIDE_FOR_TWO, begin, crash, new_store, whole};
-use fkv_base::{Fault, Key, Serial, Value};
+use crate::stores::{
+    NARROW_FOR_TWO, Sizes, Store, WIDE_FOR_TWO, begin, crash, hold, new_store, play,
+};
+use fkv_base::{DRAIN_SLOTS, Fault, Key, Serial, Value};
 use fkv_disk::MemDisk;
 use fkv_opening::recover;
 use fkv_pairs::content;
@@ -23,8 +25,8 @@ const HELD: u64 = 1;
 /// What a crash leaves behind the commit: its points, and the pairs that are recovered.
 #[derive(Clone, Copy)]
 struct Kept<'a> {
-    points: [u64; 2],
-    pairs: &'a [(u64, u64)],
+    points: [Serial; 2],
+    pairs: &'a [(Key, Value)],
 }
 
 /// A call of session 0 that is stopped, with the lines before it and those behind its end, whether it holds a drain slot at some stop,
@@ -47,8 +49,8 @@ const APPEND: Stopped = Stopped {
     behind: &[],
     holds_a_slot: false,
     kept: &[Kept {
-        points: [1, 1],
-        pairs: &[(1, 10), (2, 20)],
+        points: [Serial(1), Serial(1)],
+        pairs: &[(Key(1), Value(10)), (Key(2), Value(20))],
     }],
 };
 
@@ -61,12 +63,12 @@ const WAKING: Stopped = Stopped {
     holds_a_slot: false,
     kept: &[
         Kept {
-            points: [1, 1],
-            pairs: &[(1, 10), (2, 20)],
+            points: [Serial(1), Serial(1)],
+            pairs: &[(Key(1), Value(10)), (Key(2), Value(20))],
         },
         Kept {
-            points: [2, 1],
-            pairs: &[(1, 15), (2, 20)],
+            points: [Serial(2), Serial(1)],
+            pairs: &[(Key(1), Value(15)), (Key(2), Value(20))],
         },
     ],
 };
@@ -87,110 +89,101 @@ const OWN_TURN: Stopped = Stopped {
     behind: &[],
     holds_a_slot: true,
     kept: &[Kept {
-        points: [8, 0],
+        points: [Serial(8), Serial(0)],
         pairs: &[
-            (1, 10),
-            (2, 20),
-            (3, 30),
-            (4, 40),
-            (5, 50),
-            (6, 60),
-            (7, 70),
-            (8, 80),
+            (Key(1), Value(10)),
+            (Key(2), Value(20)),
+            (Key(3), Value(30)),
+            (Key(4), Value(40)),
+            (Key(5), Value(50)),
+            (Key(6), Value(60)),
+            (Key(7), Value(70)),
+            (Key(8), Value(80)),
         ],
     }],
 };
 
-/// The store in which the call is in hand, behind so many of its asks; none where it ends before.
-fn stopped_behind(alloc: Global, stopped: &Stopped, asks: u64) -> Result<Option<Store>, Fault> {
-    let mut store = new_store(alloc, stopped.sizes)?;
-    for line in stopped.before {
-        let _ = whole(&mut store, *line);
+/// Whether some actor holds a drain slot.
+fn is_a_slot_held(store: &Store) -> bool {
+    for slot in 0..DRAIN_SLOTS {
+        if store.word(drain_place(slot)) == HELD {
+            return true;
+        }
     }
-    match begin(&mut store, beginning(stopped.call), asks) {
-        None => Ok(Some(store)),
-        Some(_) => Ok(None),
-    }
+    false
 }
 
 /// A commit begins, and all but session 0 go on with it.
 fn commits_beside(store: &mut Store) {
-    let _ = whole(store, Commit);
+    play(store, &[Commit]);
     for _ in 0..ROUNDS {
-        for line in [Refresh(1), Poll(1), Turn] {
-            let _ = whole(store, line);
+        play(store, &[Refresh(1), Poll(1), Turn]);
+    }
+}
+
+/// The call goes on behind the commit. Whether it ends.
+fn goes_on(store: &mut Store, stopped: &Stopped) -> bool {
+    commits_beside(store);
+    let told = store.finish(actor(beginning(stopped.call)));
+    play(store, stopped.behind);
+    play(store, &[Finish]);
+    told.is_some()
+}
+
+/// Stops the call behind so many of its asks, up to the commit's end. Whether a drain slot is held at the stop; none where the call ends
+/// before.
+fn stops(rt: &impl Abort, store: &mut Store, stopped: &Stopped, asks: u64) -> Option<bool> {
+    play(store, stopped.before);
+    if begin(store, beginning(stopped.call), asks).is_some() {
+        return None;
+    }
+    let is_held = is_a_slot_held(store);
+    hold!(rt; goes_on(store, stopped));
+    Some(is_held)
+}
+
+/// Whether these points and pairs are one of what may be kept.
+fn are_kept(points: &[Serial], pairs: &[(Key, Value)], all: &[Kept]) -> bool {
+    for kept in all {
+        if points == kept.points.as_slice() && pairs == kept.pairs {
+            return true;
         }
     }
-}
-
-/// The image that is left behind the commit, or none where the call never ends.
-fn left(mut store: Store, stopped: &Stopped) -> Result<Option<MemDisk>, Fault> {
-    commits_beside(&mut store);
-    if store.finish(actor(beginning(stopped.call))).is_none() {
-        return Ok(None);
-    }
-    for line in stopped.behind {
-        let _ = whole(&mut store, *line);
-    }
-    let _ = whole(&mut store, Finish);
-    Ok(Some(crash(store, 0)?))
-}
-
-fn are_pairs(pairs: &[(Key, Value)], numbers: &[(u64, u64)]) -> bool {
-    pairs.len() == numbers.len()
-        && pairs
-            .iter()
-            .zip(numbers.iter())
-            .all(|((key, value), (k, v))| key.0 == *k && value.0 == *v)
-}
-
-fn are_points(points: &[Serial], numbers: [u64; 2]) -> bool {
-    let [first, second] = numbers;
-    match points {
-        [one, other] => one.0 == first && other.0 == second,
-        _ => false,
-    }
+    false
 }
 
 /// Whether the image holds the first commit, and one of these.
-fn is_kept(alloc: Global, mut image: MemDisk, stopped: &Stopped) -> Result<bool, Fault> {
-    let opened = recover(alloc, &mut image)?;
-    let pairs = content(alloc, &opened, &mut image)?;
-    let is_one = stopped.kept.iter().any(|kept| {
-        are_points(opened.points.as_slice(), kept.points) && are_pairs(pairs.as_slice(), kept.pairs)
-    });
-    Ok(opened.number.0 == 1 && is_one)
+fn is_kept(alloc: Global, image: &mut MemDisk, stopped: &Stopped) -> Result<bool, Fault> {
+    let opened = recover(alloc, image)?;
+    let pairs = content(alloc, &opened, image)?;
+    let points = opened.points.as_slice();
+    Ok(opened.number.0 == 1 && are_kept(points, pairs.as_slice(), stopped.kept))
 }
 
-/// Whether some actor holds a drain slot.
-fn is_a_slot_held(store: &Store) -> bool {
-    let places = [
-        drain_place(0),
-        drain_place(1),
-        drain_place(2),
-        drain_place(3),
-        drain_place(4),
-        drain_place(5),
-        drain_place(6),
-        drain_place(7),
-    ];
-    places.iter().any(|place| store.word(*place) == HELD)
+/// Stops the call behind so many of its asks in a new store, which ends then.
+fn stops_once(
+    rt: &impl Abort,
+    alloc: Global,
+    stopped: &Stopped,
+    asks: u64,
+) -> Result<Option<bool>, Fault> {
+    let mut store = new_store(alloc, stopped.sizes)?;
+    let is_held = stops(rt, &mut store, stopped, asks);
+    let mut image = crash(store, 0)?;
+    hold!(rt; is_held.is_none() || is_kept(alloc, &mut image, stopped)?);
+    Ok(is_held)
 }
 
 /// Stops the call behind each of its asks in turn, and gives how many it has. A slot is held at some stop just where that is said of it.
-fn stop_at_each(rt: &impl Abort, alloc: Global, stopped: &Stopped) -> Result<u64, Fail> {
+fn stop_at_each(rt: &impl Abort, alloc: Global, stopped: &Stopped) -> Result<u64, Fault> {
     let mut has_held = false;
     for asks in 0..ENOUGH {
-        match stopped_behind(alloc, stopped, asks)? {
+        match stops_once(rt, alloc, stopped, asks)? {
             None => {
-                assert!(rt; has_held == stopped.holds_a_slot);
+                hold!(rt; has_held == stopped.holds_a_slot);
                 return Ok(asks);
             }
-            Some(store) => {
-                has_held = has_held || is_a_slot_held(&store);
-                let image = left(store, stopped)?.ok_or("the call never ends")?;
-                assert!(rt; is_kept(alloc, image, stopped)?);
-            }
+            Some(is_held) => has_held = has_held || is_held,
         }
     }
     Ok(ENOUGH)
@@ -200,7 +193,7 @@ fn stop_at_each(rt: &impl Abort, alloc: Global, stopped: &Stopped) -> Result<u64
 fn a_call_goes_on_behind_a_commit(rt: HostRuntime) -> Result<(), Fail> {
     for stopped in [&APPEND, &WAKING, &OWN_TURN] {
         let asks = stop_at_each(&rt, rt.alloc(), stopped)?;
-        assert!(rt; 0 < asks && asks < ENOUGH);
+        hold!(&rt; 0 < asks && asks < ENOUGH);
     }
     Ok(())
 }

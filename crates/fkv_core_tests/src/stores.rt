@@ -8,6 +8,15 @@ use fkv_opening::recover;
 use fkv_plane::SharedWord;
 use std::alloc::Global;
 
+/// As `assert!`, but by a call: a branch of its own costs a proof more.
+macro_rules! hold {
+    ($rt:expr; $holds:expr) => {
+        $crate::holding::holds($rt, $holds, concat!("assertion failed: ", stringify!($holds)))
+    };
+}
+
+pub(crate) use hold;
+
 /// Bucket bits, page, frames, mutable pages, sessions, overflow buckets, and pages on the device.
 pub(crate) type Sizes = [u64; 7];
 
@@ -88,6 +97,12 @@ pub(crate) fn whole(store: &mut Store, line: Line) -> Option<Told> {
     match line {
         Line::Finish => finish(store),
         line => call(store, beginning(line)),
+    }
+}
+
+pub(crate) fn play(store: &mut Store, lines: &[Line]) {
+    for line in lines {
+        let _ = whole(store, *line);
     }
 }
 
