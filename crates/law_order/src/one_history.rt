@@ -11,6 +11,19 @@ use law_commit::{
 };
 use law_opening::law_latches_open;
 
+/// What the induction is given of each life: of phases, of latches, and of how versions end.
+fn law_given()
+    ensures { said.Given }
+{
+    law_phases_are_seen();
+    law_floor_stands();
+    law_versions_end();
+    law_shares_not_missed();
+    law_versions_counted();
+    law_latched_in_tries();
+    law_views_see_tails();
+}
+
 /// Each life keeps order, with no further premise: it begins so, and what the induction is given of phases, latches and versions holds of each life. So each
 /// event of the log beside it is enabled, and what a session is about to change in place is published. And no attempt ends as a shift and isn't made again.
 pub fn law_lives_keep_order()
@@ -22,13 +35,7 @@ pub fn law_lives_keep_order()
     law_ends_open();
     law_versions_open();
     law_latches_open();
-    law_phases_are_seen();
-    law_floor_stands();
-    law_versions_end();
-    law_shares_not_missed();
-    law_versions_counted();
-    law_latched_in_tries();
-    law_views_see_tails();
+    law_given();
 }
 
 /// In each life each read that waits seeks a record of the device, but for the one that is polled just then. No poll tries it again.
@@ -41,13 +48,7 @@ pub fn law_lives_seek()
     law_ends_open();
     law_versions_open();
     law_latches_open();
-    law_phases_are_seen();
-    law_floor_stands();
-    law_versions_end();
-    law_shares_not_missed();
-    law_versions_counted();
-    law_latched_in_tries();
-    law_views_see_tails();
+    law_given();
 }
 
 /// So each life keeps to the rules of that log. What `law_log` says of logs holds beside each life.

@@ -45,26 +45,14 @@ new_keeper k = record k {
 }
 
 -- ---- what a new store says
-version_at : ℕ → Version
-version_at n = record { 0 = n }
-
 version_is : (x y : Version) → x.0 ≡ y.0 → x ≡ y
-unfolding version_at
-version_is x y e = ap version_at e
-
-addr_at : ℕ → Addr
-addr_at n = record { 0 = n }
+version_is x y e = λ i. record { 0 = e i }
 
 addr_is : (x y : Addr) → x.0 ≡ y.0 → x ≡ y
-unfolding addr_at
-addr_is x y e = ap addr_at e
-
-serial_at : ℕ → Serial
-serial_at n = record { 0 = n }
+addr_is x y e = λ i. record { 0 = e i }
 
 serial_is : (x y : Serial) → x.0 ≡ y.0 → x ≡ y
-unfolding serial_at
-serial_is x y e = ap serial_at e
+serial_is x y e = λ i. record { 0 = e i }
 
 same_serials : (xs ys : List Serial) → serial_numbers xs ≡ serial_numbers ys → xs ≡ ys
 same_serials [] [] e = refl
