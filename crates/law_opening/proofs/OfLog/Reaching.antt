@@ -5,13 +5,14 @@ use Rattle.std.proofs.lemmas.Bool.{cases_lt}
 use Rattle.std.proofs.lemmas.Bool.Decides.{nat_tests}
 use Rattle.law_paper.specs.Below.fkv_chains.Chains.{HasChains}
 use Rattle.law_paper.specs.Below.fkv_chains.Entries.{Counts, IsEntry}
-use Rattle.law_paper.specs.Below.fkv_chains.Reached.{Reached, in_scan, led_to, linked}
+use Rattle.law_paper.specs.Below.fkv_chains.Reached.{Reached}
 use Rattle.fkv_entries.specs.declared.home_entries.HomeEntry.{HomeEntry}
 use Rattle.law_paper.specs.Below.fkv_opening.Entries.{entry_home, place_of, AreEntries}
 use Rattle.law_paper.specs.Below.fkv_pairs.Pairs.{IsChainOf}
 use Rattle.fkv_record.specs.Layout.{record_bytes}
 use Rattle.fkv_record.specs.declared.records.Record.{Record}
 use Rattle.law_paper.proofs.Below.fkv_room.Shown.{in_rest, in_head, in_tail}
+use Rattle.law_paper.proofs.Reached.{leads_down, reached_low as below_end}
 use Rattle.law_paper.specs.Below.fkv_scan.Log.{Log, AreBelow}
 use Rattle.law_paper.specs.Below.fkv_scan.Records.{Stands}
 use Rattle.law_paper.specs.Below.fkv_scan.Scan.{Has, HasScan}
@@ -31,26 +32,11 @@ module _ (log : Log) (entries : List HomeEntry) (store : IsOfStore log entries) 
   pub one : (a : ℕ) (x y : Record) → Stands log a x → Stands log a y → x ≡ y
   one a x y first second = store.apart x y (first ∙ sym second)
 
-  falls_in : (a : ℕ) (x : Record) → a < log.tail → Reached log a → Stands log a x → x.header.previous.0 < a
-  falls_in a x within reached stands = ⊎_elim
-      (λ low.
-      let this = store.chains a reached low in
-      subst (λ (y : Record). y.header.previous.0 < a) (one a this.held x this.old.stands stands) this.old.falls)
-      (λ from.
-      let this = store.scan.records a from within in
-      subst (λ (y : Record). y.header.previous.0 < a) (one a this.held x this.fits.stands stands) this.fits.falls)
-      (cases_lt a log.start)
-
   pub reached_low : (a : ℕ) → Reached log a → a < log.tail
-  reached_low a (in_scan _ x from within stands valid) = within
-  reached_low a (led_to its_home _ t) = (let low = store.below t.place t.triple t.stands in let at = t.address in omega (arith, low, at))
-  reached_low b (linked a _ x reached stands is some) =
-      let low = reached_low a reached in
-      let falls = falls_in a x low reached stands in
-      omega (arith, low, falls, is)
+  reached_low = below_end store.apart store.scan store.chains store.below
 
   pub reached_falls : (a : ℕ) (x : Record) → Reached log a → Stands log a x → x.header.previous.0 < a
-  reached_falls a x reached stands = falls_in a x (reached_low a reached) reached stands
+  reached_falls a x reached = leads_down store.apart store.scan store.chains store.below a x (reached_low a reached) reached
 
   -- ---- a home with a record that counts has an entry
   -- none counts from so many addresses below the end up
