@@ -24,6 +24,8 @@ enum Step {
     Tells(Call, Told),
     /// The call makes these asks, of which the last is its end.
     Asks(Call, &'static [Ask<Told>]),
+    /// It makes these, part by part.
+    AsksInParts(Call, &'static [&'static [Ask<Told>]]),
     /// So many asks of words were counted in the last call.
     Counts(u64),
     /// The last poll has finished these.
@@ -49,18 +51,33 @@ struct Scene {
     steps: &'static [Step],
 }
 
+/// Moves a call on from this ask, along these, to the ask behind them.
+fn follows(
+    rt: &impl Abort,
+    plane: &mut PlainWords,
+    session: &mut Session,
+    ask: Ask<Told>,
+    asks: &[Ask<Told>],
+) -> Ask<Told> {
+    let mut ask = ask;
+    for (number, wanted) in asks.iter().enumerate() {
+        assert!(rt; ask == *wanted, "at ask {number}");
+        ask = go_on(plane, session, ask);
+    }
+    ask
+}
+
 /// Moves a call along these asks, of which the last is its end.
 fn asks(
     rt: &impl Abort,
     plane: &mut PlainWords,
     session: &mut Session,
     call: Call,
-    asks: &[Ask<Told>],
+    parts: &[&[Ask<Told>]],
 ) {
     let mut ask = session.begin(call);
-    for (number, wanted) in asks.iter().enumerate() {
-        assert!(rt; ask == *wanted, "at ask {number}");
-        ask = go_on(plane, session, ask);
+    for part in parts {
+        ask = follows(rt, plane, session, ask, part);
     }
     assert!(rt; session.ask() == ask);
 }
@@ -108,7 +125,8 @@ fn plays(rt: &impl Abort, plane: &mut PlainWords, session: &mut Session, step: &
         Step::Tells(call, wanted) => {
             assert!(rt; told(plane, session, *call) == Some(*wanted));
         }
-        Step::Asks(call, wanted) => asks(rt, plane, session, *call, wanted),
+        Step::Asks(call, wanted) => asks(rt, plane, session, *call, &[*wanted]),
+        Step::AsksInParts(call, parts) => asks(rt, plane, session, *call, parts),
         Step::Counts(count) => assert!(rt; session.asks() == *count),
         Step::Finishes(list) => finishes(rt, session, list),
         Step::Stands(words) => stands(rt, plane, words),
@@ -328,6 +346,27 @@ const COUNTED: Scene = Scene {
     ],
 };
 
+/// The tries of the updates of keys 8 and 9, each of which finds no room.
+const TRY_OF_EIGHTH: &[Ask<Told>] = &[Ask::Load(104), Ask::Load(4), Ask::Load(3)];
+
+const TRY_OF_NINTH: &[Ask<Told>] = &[Ask::Load(112), Ask::Load(4), Ask::Load(3)];
+
+/// What a turn asks first: the epoch, and the session's.
+const EPOCHS: &[Ask<Told>] = &[Ask::Load(0), Ask::Load(24)];
+
+/// What it asks behind the first drain slot: the others, the tail and the read-only offset.
+const BEHIND_FIRST_SLOT: &[Ask<Told>] = &[
+    Ask::Load(17),
+    Ask::Load(18),
+    Ask::Load(19),
+    Ask::Load(20),
+    Ask::Load(21),
+    Ask::Load(22),
+    Ask::Load(23),
+    Ask::Load(3),
+    Ask::Load(5),
+];
+
 /// Seven updates fill the log. The turn stands behind the tries of the call in which one had no room, once, and nothing is tried
 /// behind it.
 const TURNS_BEHIND_THE_TRIES: Scene = Scene {
@@ -338,65 +377,44 @@ const TURNS_BEHIND_THE_TRIES: Scene = Scene {
     serial: 0,
     steps: &[
         Step::Fills(7),
-        Step::Asks(
+        Step::AsksInParts(
             EIGHTH,
             &[
-                Ask::Load(104),
-                Ask::Load(4),
-                Ask::Load(3),
-                Ask::Load(0),
-                Ask::Load(24),
-                Ask::Max(1, 0),
-                Ask::Load(16),
-                Ask::Load(17),
-                Ask::Load(18),
-                Ask::Load(19),
-                Ask::Load(20),
-                Ask::Load(21),
-                Ask::Load(22),
-                Ask::Load(23),
-                Ask::Load(3),
-                Ask::Load(5),
-                Ask::Load(0),
-                Ask::Load(16),
-                Ask::Cas(16, 0, 1),
-                Ask::Max(5, 8),
-                Ask::Add(0, 1),
-                Ask::Put(0, Action::SafeReadOnly(Addr(8))),
-                Ask::Store(16, 3),
-                Ask::Load(4),
-                Ask::Load(9),
-                Ask::Done(NO_ROOM),
+                TRY_OF_EIGHTH,
+                EPOCHS,
+                &[Ask::Max(1, 0), Ask::Load(16)],
+                BEHIND_FIRST_SLOT,
+                &[
+                    Ask::Load(0),
+                    Ask::Load(16),
+                    Ask::Cas(16, 0, 1),
+                    Ask::Max(5, 8),
+                    Ask::Add(0, 1),
+                    Ask::Put(0, Action::SafeReadOnly(Addr(8))),
+                    Ask::Store(16, 3),
+                    Ask::Load(4),
+                    Ask::Load(9),
+                    Ask::Done(NO_ROOM),
+                ],
             ],
         ),
         Step::Tells(Call::Refresh, REFRESHED),
-        Step::Asks(
+        Step::AsksInParts(
             Call::Poll,
             &[
-                Ask::Load(104),
-                Ask::Load(4),
-                Ask::Load(3),
-                Ask::Load(0),
-                Ask::Load(24),
-                Ask::Max(1, 1),
-                Ask::Load(16),
-                Ask::Load(1),
-                Ask::Cas(16, 3, 1),
-                Ask::Take(0),
-                Ask::Max(6, 8),
-                Ask::Store(16, 0),
-                Ask::Load(17),
-                Ask::Load(18),
-                Ask::Load(19),
-                Ask::Load(20),
-                Ask::Load(21),
-                Ask::Load(22),
-                Ask::Load(23),
-                Ask::Load(3),
-                Ask::Load(5),
-                Ask::Load(4),
-                Ask::Load(9),
-                Ask::Done(Told::Polled(1)),
+                TRY_OF_EIGHTH,
+                EPOCHS,
+                &[
+                    Ask::Max(1, 1),
+                    Ask::Load(16),
+                    Ask::Load(1),
+                    Ask::Cas(16, 3, 1),
+                    Ask::Take(0),
+                    Ask::Max(6, 8),
+                    Ask::Store(16, 0),
+                ],
+                BEHIND_FIRST_SLOT,
+                &[Ask::Load(4), Ask::Load(9), Ask::Done(Told::Polled(1))],
             ],
         ),
         Step::Counts(22),
@@ -419,37 +437,28 @@ const ONE_TURN_FOR_TWO: Scene = Scene {
         Step::Stores(&[(0, 3), (1, 1), (6, 8), (7, 8), (8, 4), (16, 4)]),
         Step::Closes(4),
         Step::Tells(Call::Refresh, REFRESHED),
-        Step::Asks(
+        Step::AsksInParts(
             Call::Poll,
             &[
-                Ask::Load(104),
-                Ask::Load(4),
-                Ask::Load(3),
-                Ask::Load(112),
-                Ask::Load(4),
-                Ask::Load(3),
-                Ask::Load(0),
-                Ask::Load(24),
-                Ask::Max(1, 2),
-                Ask::Load(16),
-                Ask::Load(1),
-                Ask::Cas(16, 4, 1),
-                Ask::Take(0),
-                Ask::Max(9, 4),
-                Ask::Store(16, 0),
-                Ask::Load(17),
-                Ask::Load(18),
-                Ask::Load(19),
-                Ask::Load(20),
-                Ask::Load(21),
-                Ask::Load(22),
-                Ask::Load(23),
-                Ask::Load(3),
-                Ask::Load(5),
-                Ask::Load(4),
-                Ask::Load(9),
-                Ask::Cas(4, 8, 12),
-                Ask::Done(Told::Polled(2)),
+                TRY_OF_EIGHTH,
+                TRY_OF_NINTH,
+                EPOCHS,
+                &[
+                    Ask::Max(1, 2),
+                    Ask::Load(16),
+                    Ask::Load(1),
+                    Ask::Cas(16, 4, 1),
+                    Ask::Take(0),
+                    Ask::Max(9, 4),
+                    Ask::Store(16, 0),
+                ],
+                BEHIND_FIRST_SLOT,
+                &[
+                    Ask::Load(4),
+                    Ask::Load(9),
+                    Ask::Cas(4, 8, 12),
+                    Ask::Done(Told::Polled(2)),
+                ],
             ],
         ),
         Step::Tells(Call::Poll, Told::Polled(0)),
