@@ -16,56 +16,19 @@ const SESSIONS: u64 = 3;
 
 /// A store, by its bucket bits, page, frames, mutable pages, overflow buckets, and pages on the device; and how many homes and how many keys
 /// of each are drawn over it.
-#[derive(Clone, Copy)]
-struct Scene {
-    sizes: [u64; 6],
-    homes: u64,
-    keys: u64,
-}
+type Scene = ([u64; 6], u64, u64);
 
 /// A roomy log; one bucket, with overflow buckets and with none; long chains; a log of which two pages lie in memory; more homes than slots;
 /// and large stores, of one bucket and of long chains.
 const SCENES: [Scene; 8] = [
-    Scene {
-        sizes: [3, 64, 8, 6, 8, 65_536],
-        homes: 40,
-        keys: 1,
-    },
-    Scene {
-        sizes: [0, 64, 8, 6, 8, 65_536],
-        homes: 45,
-        keys: 1,
-    },
-    Scene {
-        sizes: [0, 16, 4, 2, 0, 65_536],
-        homes: 9,
-        keys: 1,
-    },
-    Scene {
-        sizes: [1, 64, 8, 6, 2, 65_536],
-        homes: 2,
-        keys: 12,
-    },
-    Scene {
-        sizes: [1, 16, 2, 1, 2, 65_536],
-        homes: 20,
-        keys: 2,
-    },
-    Scene {
-        sizes: [2, 16, 8, 4, 4, 65_536],
-        homes: 60,
-        keys: 1,
-    },
-    Scene {
-        sizes: [0, 16, 4, 2, 1100, 65_600],
-        homes: 30,
-        keys: 2,
-    },
-    Scene {
-        sizes: [2, 32, 4, 3, 1100, 65_600],
-        homes: 4,
-        keys: 10,
-    },
+    ([3, 64, 8, 6, 8, 65_536], 40, 1),
+    ([0, 64, 8, 6, 8, 65_536], 45, 1),
+    ([0, 16, 4, 2, 0, 65_536], 9, 1),
+    ([1, 64, 8, 6, 2, 65_536], 2, 12),
+    ([1, 16, 2, 1, 2, 65_536], 20, 2),
+    ([2, 16, 8, 4, 4, 65_536], 60, 1),
+    ([0, 16, 4, 2, 1100, 65_600], 30, 2),
+    ([2, 32, 4, 3, 1100, 65_600], 4, 10),
 ];
 
 /// The shape of these sizes, small or large.
@@ -85,12 +48,13 @@ fn play_scene<R: Abort>(
     seed: u64,
     ways: &mut Ways,
 ) -> Result<(), Wrong> {
-    let shape = shape_of(scene.sizes)?;
+    let (sizes, homes, keys) = scene;
+    let shape = shape_of(sizes)?;
     let buckets = Places::of(&shape).buckets as u64;
     let keys = Keys {
         apart: buckets.wrapping_mul(TAGS),
-        homes: scene.homes,
-        keys: scene.keys,
+        homes,
+        keys,
     };
     let mut draws = Draws::new(seed, keys, SESSIONS);
     play(rt, alloc, shape, &mut draws, OPERATIONS, ways)
