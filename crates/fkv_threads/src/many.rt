@@ -32,8 +32,8 @@ fn fetch<D: Device>(session: &Session, table: &Table<D>, ops: &[Op], from: usize
 }
 
 /// Runs the operations one after another, in their order, each as `run_op` does, and writes what each was told at its place. It waits for no other
-/// thread. The cache lines of sixteen operations are loaded before the first of these runs. So many keys of a large store take less time than by as many
-/// calls of `run_op`.
+/// thread. The cache lines of sixteen operations are mostly loaded before the first of these runs. So many keys of a large store take less time than by as
+/// many calls of `run_op`.
 pub fn run_ops<D: Device>(
     session: &mut Session,
     table: &Table<D>,
