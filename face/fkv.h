@@ -280,7 +280,7 @@ int32_t fkv_delete(fkv_session *session, uint64_t key, fkv_update *told);
  * They do what so many single calls do. A key may come twice. A refusal of one doesn't end the others: see each `result`.
  *
  * They are for stores whose index and records don't fit the processor's caches. Before each 16 calls most cache lines are fetched that
- * these will read, so their misses are waited for at once. With 2^20 keys that is 1.2 to 2.5 times as fast as single calls. A store
+ * these will read, so their misses are waited for at once. With 2^20 keys that is 1.2 to 1.7 times as fast as single calls. A store
  * that fits the caches goes better by single calls: many take up to half as long again. The session doesn't refresh meanwhile: refresh
  * and poll between calls of 64 keys or so.
  *

@@ -217,7 +217,7 @@ impl Session {
 
     /// Reads many keys: one behind the other, as [`Session::get`] does, with the answer or the refusal of each.
     ///
-    /// This is for a store whose index and records don't fit the processor's caches. With 2^20 keys it is 1.2 to 2.5 times as fast as
+    /// This is for a store whose index and records don't fit the processor's caches. With 2^20 keys it is 1.2 to 1.7 times as fast as
     /// single calls; a store that fits them goes better by these. The session doesn't refresh meanwhile: refresh it between calls of 64
     /// keys or so.
     pub fn get_many(&mut self, keys: &[u64]) -> Vec<Result<Read, Error>> {
