@@ -68,6 +68,10 @@ refresh_begun c seen serial = record c { seen = seen; serial = serial; is_refres
 abbrev pub wake_begun : CatchState → Seen → ℕ → CatchState
 wake_begun c seen serial = record c { seen = seen; serial = serial; is_refresh = false; is_entering = false; protecting = protect.LoadsEpoch; step = Protects }
 
+-- a refresh that came to this end without the machine, which stays as it is but for that
+abbrev pub refresh_ended : CatchState → Seen → ℕ → CatchState
+refresh_ended c seen serial = record c { seen = seen; serial = serial; is_refresh = true; is_entering = false; refreshing = refresh.AtRest; step = Ended }
+
 -- the cut word of even versions, or of odd ones
 abbrev pub cut_of : ℕ → SessionWord
 cut_of version = if version % 2 == 0 then own.EvenCut else own.OddCut

@@ -50,7 +50,7 @@ use Rattle.fkv_session.specs.declared.sessions.CatchCause.{CatchCause}
 use Rattle.fkv_session.specs.declared.sessions.CatchCause.TheVariants.{Refreshes, Wakes, Shifts}
 use Rattle.fkv_session.specs.declared.sessions.Sitting.{Sitting}
 use Rattle.fkv_session.specs.declared.sessions.Sitting.TheVariants.{Idle, Attempts, CatchesUp, ClearsMail, Polls, StoresOwing, Turns, StoresCut, Leaves, LoadsDurable}
-use Rattle.fkv_session.specs.CatchingUp.{CatchState, refresh_begun, wake_begun, catch_ask, catch_next, catch_requests, cut_of, cut_at, owing}
+use Rattle.fkv_session.specs.CatchingUp.{CatchState, refresh_begun, refresh_ended, wake_begun, catch_ask, catch_next, catch_requests, cut_of, cut_at, owing}
 use Rattle.fkv_session.specs.OwnTurns.{OwnTurnState, own_turn_begun, own_turn_ask, own_turn_next, own_turn_given}
 
 pub record SessionState : Type 0 where
@@ -247,6 +247,10 @@ attempted s has_shifted tried.LogFull = refuses s fault.LogFull
 unfoldable pub attempt_ledto : SessionState → Bool → Ask TryAnswer → SessionState
 attempt_ledto s has_shifted (Done its) = attempted (attempt_left s) has_shifted its
 attempt_ledto s has_shifted ask = s
+
+-- the session has refreshed without its machine, and goes by this from then on
+abbrev pub refreshed : SessionState → Seen → SessionState
+refreshed s seen = answers (record s { seen = seen; catching = refresh_ended s.catching seen s.serial }) told.Slept
 
 abbrev pub caught_up : Seat → SessionState → CatchCause → SessionState
 caught_up k s Refreshes = answers s (told.Refreshed s.seen.phase s.seen.version)

@@ -5,7 +5,7 @@ ghost use Rattle.fkv_plane.specs.AsksLeft.{AsksWhereLeft};
 ghost use Rattle.fkv_pending.specs.declared.pending_requests.PendingRequest.{PendingRequest};
 ghost use Rattle.fkv_session.specs.declared.catching_up.Catching.TheVariants.{Ended};
 ghost use Rattle.fkv_session.specs.AsksLeft.{catch_asks_left, most_catch_asks};
-ghost use Rattle.fkv_session.specs.CatchingUp.{refresh_begun, wake_begun, catch_ask, catch_next, catch_requests, cut_of, cut_at, seen_after, finishes, latch_wanted, latches, cuts, takes_up, enters_prepare, owing, refresh_ledto, protect_ledto, latch_ledto, finish_ledto, latch_marked};
+ghost use Rattle.fkv_session.specs.CatchingUp.{refresh_begun, refresh_ended, wake_begun, catch_ask, catch_next, catch_requests, cut_of, cut_at, seen_after, finishes, latch_wanted, latches, cuts, takes_up, enters_prepare, owing, refresh_ledto, protect_ledto, latch_ledto, finish_ledto, latch_marked};
 
 use fkv_base::{Phase, Serial, Version};
 use fkv_epoch::{Protect, Refresh, RefreshAnswer, Seen as LoadedValues};
@@ -118,6 +118,18 @@ impl CatchUp {
         self.is_entering = false;
         self.step = Catching::Refreshes;
         passed(self.refresh.start(), ())
+    }
+
+    /// A refresh has come to its end without the machine: the session goes by this, in the version that it had.
+    pub(crate) fn end_refresh(&mut self, seen: Seen, serial: Serial)
+        ensures { self.new ≡ record self.old { state = refresh_ended self.old.state seen serial.0 } }
+    {
+        self.seen = seen;
+        self.serial = serial.0;
+        self.is_refresh = true;
+        self.is_entering = false;
+        self.refresh = Refresh::new(self.session);
+        self.step = Catching::Ended;
     }
 
     /// The first ask of a wake.

@@ -4,7 +4,7 @@ ghost use Rattle.fkv_base.specs.Limits.{max_sessions, last_serial};
 ghost use Rattle.fkv_session.specs.AsksLeft.{session_asks_left, call_bound};
 ghost use Rattle.fkv_session.specs.declared.answers.Told.TheVariants.{Slept};
 ghost use Rattle.fkv_session.specs.declared.sessions.Sitting.TheVariants.{Idle, Turns};
-ghost use Rattle.fkv_session.specs.Sessions.{session_begun, session_ask, sitting_next, sitting_given, asks_after, IsOpened};
+ghost use Rattle.fkv_session.specs.Sessions.{session_begun, session_ask, sitting_next, sitting_given, asks_after, refreshed, IsOpened};
 
 use crate::answers::{Finished, Told};
 use crate::catching_up::CatchUp;
@@ -120,6 +120,18 @@ impl Context {
         ensures ask { result ≡ session_ask self.old.seat self.new.state }
     {
         self.serial += 1;
+        self.step = Sitting::Idle(Told::Slept);
+        Ask::Done(Told::Slept)
+    }
+
+    /// The session was refreshed outside, and goes by this.
+    #[tactic(auto, unfolding(crate::specs::Sessions::sitting_ask))]
+    pub(crate) fn take_seen(&mut self, seen: Seen) -> Ask<Told>
+        ensures next { self.new ≡ record self.old { state = refreshed self.old.state seen } }
+        ensures ask { result ≡ session_ask self.old.seat self.new.state }
+    {
+        self.seen = seen;
+        self.catch.end_refresh(seen, Serial(self.serial));
         self.step = Sitting::Idle(Told::Slept);
         Ask::Done(Told::Slept)
     }

@@ -3,7 +3,7 @@ ghost use Rattle.std.specs.Prelude.{◌≡◌, ◌<◌, ◌≤◌, ◌+◌, ◌^
 ghost use Rattle.fkv_base.specs.Limits.{max_pending, max_sessions, last_serial};
 ghost use Rattle.fkv_session.specs.declared.answers.Told.TheVariants.{Slept};
 ghost use Rattle.fkv_session.specs.declared.sessions.Sitting.TheVariants.{Idle};
-ghost use Rattle.fkv_session.specs.Sessions.{is_busy, refusal_of, HasRoom};
+ghost use Rattle.fkv_session.specs.Sessions.{is_busy, refusal_of, refreshed, HasRoom};
 
 use crate::answers::Finished;
 use crate::sessions::{Session, Sitting};
@@ -140,5 +140,12 @@ impl Session {
     {
         self.ask = self.context.take_serial();
         self.serial()
+    }
+    /// Goes by this from now on, behind a refresh whose asks somebody else has made in its place. Its version is the one that it had, and it
+    /// doesn't enter prepare. No call is in hand behind it.
+    pub fn take_seen(&mut self, seen: Seen)
+        ensures { self.new ≡ record self.old { state = refreshed self.old.state seen } }
+    {
+        self.ask = self.context.take_seen(seen);
     }
 }
