@@ -68,10 +68,6 @@ refresh_begun c seen serial = record c { seen = seen; serial = serial; is_refres
 abbrev pub wake_begun : CatchState → Seen → ℕ → CatchState
 wake_begun c seen serial = record c { seen = seen; serial = serial; is_refresh = false; is_entering = false; protecting = protect.LoadsEpoch; step = Protects }
 
--- a refresh that came to this end without the machine, which stays as it is but for that
-abbrev pub refresh_ended : CatchState → Seen → ℕ → CatchState
-refresh_ended c seen serial = record c { seen = seen; serial = serial; is_refresh = true; is_entering = false; refreshing = refresh.AtRest; step = Ended }
-
 -- the cut word of even versions, or of odd ones
 abbrev pub cut_of : ℕ → SessionWord
 cut_of version = if version % 2 == 0 then own.EvenCut else own.OddCut
@@ -132,6 +128,11 @@ is_same_version a b = a.version.0 == b.version.0
 
 abbrev pub enters_prepare : Seen → Seen → Bool
 enters_prepare before after = is_prepare after.phase && not (is_prepare before.phase && is_same_version before after)
+
+-- A refresh has come to its end without the machine, where no request waits: the session went by the one, and goes by the other. The machine's other parts
+-- stay as they are.
+abbrev pub refresh_ended : CatchState → Seen → Seen → ℕ → CatchState
+refresh_ended c before after serial = record c { seen = after; serial = serial; is_refresh = true; is_entering = enters_prepare before after; refreshing = refresh.AtRest; step = Ended }
 
 -- what was loaded is taken up
 abbrev pub takes_up : Places → ℕ → CatchState → List PendingRequest → Seen → CatchState

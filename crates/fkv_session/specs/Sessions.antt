@@ -250,7 +250,7 @@ attempt_ledto s has_shifted ask = s
 
 -- the session has refreshed without its machine, and goes by this from then on
 abbrev pub refreshed : SessionState → Seen → SessionState
-refreshed s seen = answers (record s { seen = seen; catching = refresh_ended s.catching seen s.serial }) told.Slept
+refreshed s seen = answers (record s { seen = seen; catching = refresh_ended s.catching s.seen seen s.serial }) told.Slept
 
 abbrev pub caught_up : Seat → SessionState → CatchCause → SessionState
 caught_up k s Refreshes = answers s (told.Refreshed s.seen.phase s.seen.version)

@@ -120,14 +120,14 @@ impl CatchUp {
         passed(self.refresh.start(), ())
     }
 
-    /// A refresh has come to its end without the machine: the session goes by this, in the version that it had.
-    pub(crate) fn end_refresh(&mut self, seen: Seen, serial: Serial)
-        ensures { self.new ≡ record self.old { state = refresh_ended self.old.state seen serial.0 } }
+    /// A refresh has come to its end without the machine, where no request waits: the session went by the one, and goes by the other.
+    pub(crate) fn end_refresh(&mut self, before: Seen, after: Seen, serial: Serial)
+        ensures { self.new ≡ record self.old { state = refresh_ended self.old.state before after serial.0 } }
     {
-        self.seen = seen;
+        self.seen = after;
         self.serial = serial.0;
         self.is_refresh = true;
-        self.is_entering = false;
+        self.is_entering = enters_prepare(before, after);
         self.refresh = Refresh::new(self.session);
         self.step = Catching::Ended;
     }
@@ -345,8 +345,8 @@ pub(crate) fn owing(seen: Seen, requests: &PendingList) -> u64
     requests.updates_of(before) as u64
 }
 
-/// The cut word of even versions, or of odd ones.
-pub(crate) fn cut_of(version: u64) -> SessionWord
+/// Which of a session's two cut words is this version's: there is one of even versions, and one of odd ones.
+pub fn cut_of(version: u64) -> SessionWord
     ensures { result ≡ cut_of version }
 {
     if version % 2 == 0 {
@@ -357,7 +357,7 @@ pub(crate) fn cut_of(version: u64) -> SessionWord
 }
 
 /// The cut word that says that a version ends for the session at this serial.
-pub(crate) fn cut_at(serial: u64, version: u64) -> u64
+pub fn cut_at(serial: u64, version: u64) -> u64
     ensures { result ≡ cut_at serial version }
 {
     let cut = CutWord {
@@ -367,8 +367,8 @@ pub(crate) fn cut_at(serial: u64, version: u64) -> u64
     cut.pack()
 }
 
-/// What the session goes by once it has loaded these values.
-fn seen_after(seen: Seen, values: LoadedValues, said: PhaseSaid) -> Seen
+/// What a session goes by once it has loaded these values, of which the phase's word says this. One that is spoiled changes neither phase nor version.
+pub fn seen_after(seen: Seen, values: LoadedValues, said: PhaseSaid) -> Seen
     ensures { result ≡ seen_after seen values said }
 {
     let offsets = SeenOffsets {

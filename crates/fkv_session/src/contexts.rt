@@ -130,8 +130,8 @@ impl Context {
         ensures next { self.new ≡ record self.old { state = refreshed self.old.state seen } }
         ensures ask { result ≡ session_ask self.old.seat self.new.state }
     {
+        self.catch.end_refresh(self.seen, seen, Serial(self.serial));
         self.seen = seen;
-        self.catch.end_refresh(seen, Serial(self.serial));
         self.step = Sitting::Idle(Told::Slept);
         Ask::Done(Told::Slept)
     }

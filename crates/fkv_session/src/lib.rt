@@ -22,7 +22,7 @@ pub use answer_laws::law_of_answers;
 pub use answers::{Answer, Finished, Told, answer_of};
 pub use asks::is_word_ask;
 pub use bounds::law_of_asks;
-pub use catching_up::CatchUp;
+pub use catching_up::{CatchUp, cut_at, cut_of, seen_after};
 pub use laws::{
     law_of_cuts, law_of_latches, law_of_reads, law_of_refusals, law_of_replies, law_sessions,
 };

@@ -141,8 +141,7 @@ impl Session {
         self.ask = self.context.take_serial();
         self.serial()
     }
-    /// Goes by this from now on, behind a refresh whose asks somebody else has made in its place. Its version is the one that it had, and it
-    /// doesn't enter prepare. No call is in hand behind it.
+    /// Goes by this from now on, behind a refresh whose asks somebody else has made in its place while no request waited. No call is in hand behind it.
     pub fn take_seen(&mut self, seen: Seen)
         ensures { self.new ≡ record self.old { state = refreshed self.old.state seen } }
     {
