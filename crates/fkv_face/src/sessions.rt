@@ -5,7 +5,7 @@ ghost use Rattle.fkv_map.specs.declared.operations.Call.TheVariants as call;
 ghost use Rattle.fkv_handles.specs.Below.fkv_table.Planes.{opening_of};
 
 use crate::held_session::HeldSession;
-use crate::told::{Numbers, told_by, told_of};
+use crate::told::{Numbers, told_by};
 use fkv_base::{Key, Value};
 use fkv_disk::Device;
 use fkv_map::{Call, Op};
@@ -29,7 +29,7 @@ pub struct Seen {
 pub(crate) fn run(session: &mut HeldSession, call: Call) -> Numbers
     ensures { says.IsToldIn (opening_of ⟦<Posted<'static> as Device>⟧.seen) session.old.value call result session.new.value }
 {
-    told_of(session.lent().call(call))
+    told_by(session.lent().tell(call))
 }
 
 /// An operation by what it was told: it is called so often that no `Answer` is made for it.

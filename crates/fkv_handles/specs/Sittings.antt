@@ -2,8 +2,6 @@
 use Rattle.std.specs.Prelude.{◌≡◌, List, Option, None, Some}
 use Rattle.fkv_base.specs.declared.faults.Fault.TheVariants.{NoSession}
 use Rattle.fkv_map.specs.declared.operations.Call.{Call}
-use Rattle.fkv_map.specs.declared.operations.Call.TheVariants as call
-use Rattle.fkv_map.specs.declared.operations.Op.{Op}
 use Rattle.fkv_session.specs.Answers.{IsAnswerTold}
 use Rattle.fkv_session.specs.declared.answers.Answer.{Answer}
 use Rattle.fkv_session.specs.declared.answers.Answer.TheVariants.{Refused}
@@ -31,10 +29,10 @@ module _ {K : Type 0} (at : K → World) where
   IsCalled None call answer None = answer ≡ Refused NoSession
   IsCalled None call answer (Some s') = ⊥
 
-  -- The session has run this operation, and was told this. The answer to the call is the one that says so, with what it has finished by then.
-  abbrev pub IsOpOf : Sitting K → Op → Told → Sitting K → Type 0
-  IsOpOf s op told s' = (finished : List Finished) × ((answer : Answer) → IsAnswerTold told finished answer → IsCallOf s (call.Op op) answer s')
+  -- The session has run this call, and was told this. The answer to the call is the one that says so, with what it has finished by then.
+  abbrev pub IsToldCallOf : Sitting K → Call → Told → Sitting K → Type 0
+  IsToldCallOf s call told s' = (finished : List Finished) × ((answer : Answer) → IsAnswerTold told finished answer → IsCallOf s call answer s')
 
-  -- A handle's operation, and what it was told. The answer to the call is the one that says so.
-  abbrev pub IsOpCalled : Option (Sitting K) → Op → Told → Option (Sitting K) → Type 0
-  IsOpCalled s op told s' = (finished : List Finished) × ((answer : Answer) → IsAnswerTold told finished answer → IsCalled s (call.Op op) answer s')
+  -- A handle's call, and what it was told. The answer to the call is the one that says so.
+  abbrev pub IsToldCall : Option (Sitting K) → Call → Told → Option (Sitting K) → Type 0
+  IsToldCall s call told s' = (finished : List Finished) × ((answer : Answer) → IsAnswerTold told finished answer → IsCalled s call answer s')

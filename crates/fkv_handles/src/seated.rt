@@ -7,7 +7,7 @@ use fkv_disk::Device;
 use fkv_map::{Call, Op};
 use fkv_posted::Posted;
 use fkv_session::{Answer, Told};
-use fkv_threads::{Pass, Session, Table, run, run_op};
+use fkv_threads::{Pass, Session, Table, run, run_op, run_told};
 use std::alloc::Global;
 use std::marker::Model;
 use std::sync::Arc;
@@ -47,10 +47,24 @@ impl Seated {
         }
     }
 
+    /// Runs a call to its end, as `fkv_threads::run_told` does. It waits for no other thread.
+    pub fn tell(&mut self, call: Call) -> Told
+        ensures called { said.IsToldCallOf (said.opening_of ⟦<Posted<'static> as Device>⟧.seen) self.old call result self.new }
+    {
+        match self.pass.take() {
+            Some(pass) => {
+                let (pass, told) = run_told(&mut self.session, &self.table, pass, call);
+                self.pass = Some(pass);
+                told
+            }
+            None => Told::Refused(Fault::NoSession),
+        }
+    }
+
     /// Runs an operation to its end, as `fkv_threads::run_op` does. It waits for no other thread.
     #[inline(always)]
     pub fn op(&mut self, op: Op) -> Told
-        ensures called { said.IsOpOf (said.opening_of ⟦<Posted<'static> as Device>⟧.seen) self.old op result self.new }
+        ensures called { said.IsToldCallOf (said.opening_of ⟦<Posted<'static> as Device>⟧.seen) self.old (said.Op op) result self.new }
     {
         match self.pass.take() {
             Some(pass) => {

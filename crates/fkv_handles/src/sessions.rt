@@ -56,11 +56,24 @@ impl Session {
         }
     }
 
-    /// Runs an operation to its end, as `call` does, and gives what it was told, which has four words. An `Answer` has room for the list of a poll, which
-    /// would be cleared and copied at each call. `NoSession` once the handle is ended.
+    /// Runs a call to its end, as `call` does, and gives what it was told, which has four words. An `Answer` has room for the list of a poll, which
+    /// would be cleared and copied at each call. A poll tells how many requests are left, and `call` alone those that it has finished. `NoSession` once the
+    /// handle is ended.
+    pub fn tell(&mut self, call: Call) -> Told
+        ensures called { said.IsToldCall (said.opening_of ⟦<Posted<'static> as Device>⟧.seen) (said.sitting_of self.old) (said.laid_call (said.keys_of self.old) call) result (said.sitting_of self.new) }
+        ensures keys { said.keys_of self.new ≡ said.keys_of self.old }
+    {
+        let call = laid_in(self.keys, call);
+        match &mut self.seated {
+            Some(seated) => seated.tell(call),
+            None => Told::Refused(Fault::NoSession),
+        }
+    }
+
+    /// Runs an operation to its end, as `tell` does a call.
     #[inline(always)]
     pub fn op(&mut self, op: Op) -> Told
-        ensures called { said.IsOpCalled (said.opening_of ⟦<Posted<'static> as Device>⟧.seen) (said.sitting_of self.old) (said.laid_op (said.keys_of self.old) op) result (said.sitting_of self.new) }
+        ensures called { said.IsToldCall (said.opening_of ⟦<Posted<'static> as Device>⟧.seen) (said.sitting_of self.old) (said.Op (said.laid_op (said.keys_of self.old) op)) result (said.sitting_of self.new) }
         ensures keys { said.keys_of self.new ≡ said.keys_of self.old }
     {
         let op = laid(self.keys, op);

@@ -1,25 +1,22 @@
 -- How an update comes to a new record: by a copy of the one that was met, at the chain's end, or where the chain leaves memory.
 use Rattle.std.proofs.Common.{◌≡◌, ℕ, ◌<◌, ◌≤◌, refl, sym, ◌∙◌, subst, arith, true, false}
-use Rattle.std.specs.Prelude.{◌==◌, ◌&&◌, nat_lt, nat_le, Option, None}
+use Rattle.std.specs.Prelude.{◌==◌, ◌&&◌, nat_lt, nat_le, None}
 use Rattle.std.proofs.lemmas.Bool.Decides.{nat_tests}
 use Rattle.fkv_map.specs.declared.operations.Op.{Op}
-use Rattle.fkv_map.specs.Keys.{key_of, reply_from}
+use Rattle.fkv_map.specs.Keys.{key_of}
 use Rattle.fkv_plane.specs.declared.asks.Ask.TheVariants.{Load}
 use Rattle.fkv_plane.specs.declared.places.RecordWord.TheVariants as rec
 use Rattle.fkv_plane.specs.declared.places.SharedWord.TheVariants as one
 use Rattle.fkv_plane.specs.Passing.{passed}
 use Rattle.fkv_plane.specs.Places.{record_place, shared_place}
-use Rattle.fkv_log.specs.declared.filling.Filling.TheVariants as fill
 use Rattle.fkv_log.specs.declared.loading.Loading.{Loading}
 use Rattle.fkv_log.specs.declared.loading.Loading.TheVariants as load
 use Rattle.fkv_log.specs.declared.reserving.Reserving.TheVariants as reserve
 use Rattle.fkv_log.specs.Loading.{load_ask, load_next, load_next_ask, load_on}
 use Rattle.fkv_log.specs.Reserving.{reserve_ask}
-use Rattle.fkv_index.specs.declared.publishing.Publishing.TheVariants as publish
-use Rattle.fkv_ops.specs.declared.appending.Appending.TheVariants.{Reserves}
 use Rattle.fkv_ops.specs.declared.trying.OldValue.TheVariants.{InMemory}
 use Rattle.fkv_ops.specs.declared.trying.Trying.{Trying}
-use Rattle.fkv_ops.specs.declared.trying.Trying.TheVariants.{Walks, LoadsSafe, LoadsOld, Appends}
+use Rattle.fkv_ops.specs.declared.trying.Trying.TheVariants.{Walks, LoadsSafe, LoadsOld}
 use Rattle.fkv_ops.specs.declared.walking.WalkAnswer.{WalkAnswer}
 use Rattle.fkv_ops.specs.declared.walking.WalkAnswer.TheVariants as walked
 use Rattle.fkv_ops.specs.declared.walking.Walking.{Walking}
@@ -33,7 +30,7 @@ use Rattle.fkv_session.specs.Sessions.{Seat, SessionState}
 use Rattle.fkv_straight.specs.declared.going.Going.{Going}
 use Rattle.fkv_straight.specs.declared.searching.Record.{Record}
 use Rattle.fkv_straight.specs.Course.{Course, head_in, request_in, shares, Goes}
-use Rattle.fkv_straight.specs.Met.{Trail, trying, meeting, holding, finding, walking, judged, append_at, HasKey, IsMet, IsReached, IsAtSafe, HasSafe, IsCopied, IsAtOld, IsAtReserve}
+use Rattle.fkv_straight.specs.Met.{Trail, meeting, holding, finding, walking, judged, HasKey, IsMet, IsReached, IsAtSafe, HasSafe, IsCopied, IsAtOld, IsAtReserve}
 use Rattle.fkv_straight.specs.Standing.{asked, leads, IsLed, next_try}
 use Rattle.fkv_straight.proofs.Appends.{reserving}
 use Rattle.fkv_straight.proofs.Changes.{MetBy, has_value}

@@ -5,6 +5,7 @@ mod Endings
 mod Goings
 mod Moves
 mod ReadEnds
+mod Refreshes
 mod Replays
 mod Seeks
 mod Tests

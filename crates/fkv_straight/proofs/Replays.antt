@@ -13,7 +13,7 @@ replay_none : (k : Seat) (s : SessionState) → replayed k s [] ≡ s
 unfolding replayed
 replay_none k s = refl
 
-pub begin_comes : (m n : Sitter) (op : Op) → n ≡ record m { state = session_begun m.seat m.state (call.Op op) } → (n.seat ≡ m.seat) × (n.state ≡ begins m.seat m.state op)
+pub begin_comes : (m n : Sitter) (op : Op) → n ≡ record m { state = session_begun m.seat m.state (call.Op op) } → (n.seat ≡ m.seat) × (n.state ≡ begins m.seat m.state (call.Op op))
 unfolding begins
 begin_comes m n op e = (ap (λ (x : Sitter). x.seat) e, ap (λ (x : Sitter). x.state) e)
 
@@ -28,7 +28,7 @@ pub asked_is : (k : Seat) (s : SessionState) → asked k s ≡ session_ask k s
 unfolding asked
 asked_is k s = refl
 
-pub begins_is : (k : Seat) (s : SessionState) (op : Op) → begins k s op ≡ session_begun k s (call.Op op)
+pub begins_is : (k : Seat) (s : SessionState) (op : Op) → begins k s (call.Op op) ≡ session_begun k s (call.Op op)
 unfolding begins
 begins_is k s op = refl
 

@@ -3,6 +3,7 @@ use Rattle.std.proofs.Common.{◌≡◌, ℕ, ◌+◌, ◌-◌, ◌/◌, ◌^◌
 use Rattle.std.specs.Prelude.{◌==◌, ◌&&◌, not, nat_lt, nat_le, None}
 use Rattle.std.proofs.lemmas.Bool.Decides.{nat_tests}
 use Rattle.fkv_base.specs.declared.numbers.Key.{Key}
+use Rattle.fkv_map.specs.declared.operations.Call.TheVariants as call
 use Rattle.fkv_map.specs.declared.operations.Op.{Op}
 use Rattle.fkv_map.specs.Keys.{key_of}
 use Rattle.fkv_plane.specs.declared.asks.Ask.TheVariants.{Load}
@@ -33,20 +34,20 @@ use Rattle.fkv_straight.proofs.Tests.{same}
 abbrev pub begun_in : Course → SessionState
 begun_in c = sitting c 0 (attempting c (seeking c (bucket_place c.seat.places (home_in c).bucket 0) c.seat.places.overflow (LoadsSlot 0)))
 
-begins_at : (k : Seat) (s : SessionState) (op : Op) → refusal_of s op ≡ None → (is_prepare s.seen.phase && not (is_read op)) ≡ false → spare_of k.places s.spare ≡ s.spare → begins k s op ≡ begun_in (course_of k s op)
+begins_at : (k : Seat) (s : SessionState) (op : Op) → refusal_of s op ≡ None → (is_prepare s.seen.phase && not (is_read op)) ≡ false → spare_of k.places s.spare ≡ s.spare → begins k s (call.Op op) ≡ begun_in (course_of k s op)
 unfolding begins op_begun attempts lasting
 begins_at k s op allowed calm spare = rw (allowed, calm, spare) refl
 
-begins_in : (k : Seat) (s : SessionState) (op : Op) → refusal_in (course_of k s op) ≡ None → shares (course_of k s op) ≡ false → (course_of k s op).lasts.spare ≤ k.places.overflow → begins k s op ≡ begun_in (course_of k s op)
+begins_in : (k : Seat) (s : SessionState) (op : Op) → refusal_in (course_of k s op) ≡ None → shares (course_of k s op) ≡ false → (course_of k s op).lasts.spare ≤ k.places.overflow → begins k s (call.Op op) ≡ begun_in (course_of k s op)
 unfolding lasting
 begins_in k s op allowed calm fits = begins_at k s op (refusal_is k s op ∙ allowed) calm (spare_same k.places s.spare fits)
 
-pub begun : (k : Seat) (s : SessionState) (op : Op) (g : Going) → Goes (course_of k s op) k op g → IsAtSlot (course_of k s op) (bucket_place k.places (home_in (course_of k s op)).bucket 0) k.places.overflow 0 (begins k s op)
+pub begun : (k : Seat) (s : SessionState) (op : Op) (g : Going) → Goes (course_of k s op) k op g → IsAtSlot (course_of k s op) (bucket_place k.places (home_in (course_of k s op)).bucket 0) k.places.overflow 0 (begins k s (call.Op op))
 unfolding IsAtSlot Tries
 begun k s op g goes = (0, begins_in k s op goes.allowed goes.unlatched goes.spare_fits)
 
 -- so sessions of which the same lasts begin in one and the same state
-pub begins_same : (k q : Seat) (r s : SessionState) (op : Op) (g : Going) → Goes (course_of k r op) k op g → k ≡ q → lasting r ≡ lasting s → begins q s op ≡ begins k r op
+pub begins_same : (k q : Seat) (r s : SessionState) (op : Op) (g : Going) → Goes (course_of k r op) k op g → k ≡ q → lasting r ≡ lasting s → begins q s (call.Op op) ≡ begins k r (call.Op op)
 begins_same k q r s op g goes same alike =
     let e : course_of k r op ≡ course_of q s op = (λ i. record { seat = same i; lasts = alike i; op = op }) in
     let there : Goes (course_of q s op) k op g = subst (λ (c : Course). Goes c k op g) e goes in
@@ -54,10 +55,10 @@ begins_same k q r s op g goes same alike =
 
 -- the same by the numbers that the call goes by
 pub begun_at : (k : Seat) (s : SessionState) (op : Op) (g : Going) (h : Home) (key : Key) (base links : ℕ) → Goes (course_of k s op) k op g → key ≡ key_of op → h ≡ home_of g.bits key → base ≡ bucket_place g.places h.bucket 0 → links ≡ g.places.overflow
-    → IsAtSlot (course_of k s op) base links 0 (begins k s op)
+    → IsAtSlot (course_of k s op) base links 0 (begins k s (call.Op op))
 begun_at k s op g h key base links goes its e b l =
-    subst (λ (n : ℕ). IsAtSlot (course_of k s op) base n 0 (begins k s op)) (ap (λ (p : Places). p.overflow) goes.its_places ∙ sym l)
-    (subst (λ (n : ℕ). IsAtSlot (course_of k s op) n k.places.overflow 0 (begins k s op)) (bucket_is (course_of k s op) k op g h key base goes its e b) (begun k s op g goes))
+    subst (λ (n : ℕ). IsAtSlot (course_of k s op) base n 0 (begins k s (call.Op op))) (ap (λ (p : Places). p.overflow) goes.its_places ∙ sym l)
+    (subst (λ (n : ℕ). IsAtSlot (course_of k s op) n k.places.overflow 0 (begins k s (call.Op op))) (bucket_is (course_of k s op) k op g h key base goes its e b) (begun k s op g goes))
 
 -- ---- a slot is loaded
 pub slot_asks : (c : Course) (base links slot : ℕ) (s : SessionState) → IsAtSlot c base links slot s → asked c.seat s ≡ Load (base + slot)

@@ -2,4 +2,5 @@ pub mod Course
 pub mod Fetching
 pub mod Memory
 pub mod Met
+pub mod Refreshes
 pub mod Standing

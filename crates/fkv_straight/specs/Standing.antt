@@ -1,7 +1,6 @@
 -- The table of a session's machine, and where the machine stands while an operation is tried.
 use Rattle.std.specs.Prelude.{◌≡◌, ℕ, ◌+◌, if◌then◌else◌, true, false, None, List, [], ◌∷◌}
-use Rattle.fkv_map.specs.declared.operations.Call.TheVariants as call
-use Rattle.fkv_map.specs.declared.operations.Op.{Op}
+use Rattle.fkv_map.specs.declared.operations.Call.{Call}
 use Rattle.fkv_map.specs.declared.operations.Reply.{Reply}
 use Rattle.fkv_plane.specs.declared.asks.Ask.{Ask}
 use Rattle.fkv_ops.specs.declared.requests.Occasion.TheVariants.{Call as AtCall}
@@ -20,15 +19,15 @@ use Rattle.fkv_session.specs.Alike.{Lasting, lasting}
 use Rattle.fkv_session.specs.Sessions.{Seat, SessionState, room_of, ticket_after, session_begun, session_ask, session_next, attempt_ledto, entry_of, is_busy}
 use Rattle.fkv_straight.specs.Course.{Course, request_in}
 
--- what a session's machine asks where it stands, where a reply leads, and where a call of an operation begins
+-- what a session's machine asks where it stands, where a reply leads, and where a call begins
 unfoldable pub asked : Seat → SessionState → Ask Told
 asked k s = session_ask k s
 
 unfoldable pub leads : Seat → SessionState → ℕ → SessionState
 leads k s reply = session_next k s reply
 
-unfoldable pub begins : Seat → SessionState → Op → SessionState
-begins k s op = session_begun k s (call.Op op)
+unfoldable pub begins : Seat → SessionState → Call → SessionState
+begins k s its = session_begun k s its
 
 -- where these replies lead, one after another
 unfoldable pub replayed : Seat → SessionState → List ℕ → SessionState

@@ -1,6 +1,6 @@
 //! A new record of a key, appended and published.
 ghost use Rattle.std.specs.Prelude.{◌≡◌, ◌<◌, ◌≤◌, ◌+◌, ◌*◌, ◌^◌, IfSome, Some, None, false};
-ghost use Rattle.fkv_map.specs.declared.operations.Op.{Op};
+ghost use Rattle.fkv_map.specs.declared.operations.Call.{Call};
 ghost use Rattle.fkv_map.specs.Keys.{as_number};
 ghost use Rattle.fkv_log.specs.declared.reserving.Reserving.TheVariants.{LoadsLimit};
 ghost use Rattle.fkv_index.specs.Slots.{entry_addr};
@@ -54,7 +54,7 @@ fn reserve<L: Line>(
     requires at { (c : Course) × Goes c (L.seat line.old) op going.now × IsAtReserve c slot.place slot.entry (as_number old) LoadsLimit (L.stands line.old) }
     requires room { L.kept line.old ≤ 50 }
     ensures seat { L.seat line.new ≡ L.seat line.old }
-    ensures led { (start : L) (call : Op) → L.led start call line.old → L.led start call line.new }
+    ensures led { (start : L) (call : Call) → L.led start call line.old → L.led start call line.new }
     ensures kept { L.kept line.new ≤ 53 }
     ensures addr { IfSome result (λ addr. addr < 2 ^ 48) }
     ensures fills { (c : Course) → Goes c (L.seat line.old) op going.now → IsAtReserve c slot.place slot.entry (as_number old) LoadsLimit (L.stands line.old)
@@ -81,7 +81,7 @@ fn fill<L: Line>(line: &mut L, going: &Going, op: Op, slot: Slot, old: Option<Va
     requires at { (c : Course) × Goes c (L.seat line.old) op going.now × IsReserved c slot.place slot.entry (as_number old) addr (L.stands line.old) }
     requires room { L.kept line.old ≤ 53 }
     ensures seat { L.seat line.new ≡ L.seat line.old }
-    ensures led { (start : L) (call : Op) → L.led start call line.old → L.led start call line.new }
+    ensures led { (start : L) (call : Call) → L.led start call line.old → L.led start call line.new }
     ensures kept { L.kept line.new ≤ 56 }
     ensures publishes { (c : Course) → Goes c (L.seat line.old) op going.now → IsReserved c slot.place slot.entry (as_number old) addr (L.stands line.old) → IsAtPublish c slot.place slot.entry (as_number old) addr (L.stands line.new) }
 {
@@ -111,7 +111,7 @@ pub(crate) fn append<L: Line>(
     requires room { L.kept line.old ≤ 50 }
     requires updates { is_read op ≡ false }
     ensures seat { L.seat line.new ≡ L.seat line.old }
-    ensures led { (start : L) (call : Op) → L.led start call line.old → L.led start call line.new }
+    ensures led { (start : L) (call : Call) → L.led start call line.old → L.led start call line.new }
     ensures done { (c : Course) → Goes c (L.seat line.old) op going.now → IsAtReserve c slot.place slot.entry (as_number old) LoadsLimit (L.stands line.old)
         → IfSome result (λ reply. IsDone c.lasts reply (L.stands line.new)) }
 {
@@ -142,7 +142,7 @@ pub(crate) fn append_first<L: Line>(
     requires room { L.kept line.old ≤ 48 }
     requires updates { is_read op ≡ false }
     ensures seat { L.seat line.new ≡ L.seat line.old }
-    ensures led { (start : L) (call : Op) → L.led start call line.old → L.led start call line.new }
+    ensures led { (start : L) (call : Call) → L.led start call line.old → L.led start call line.new }
     ensures done { (c : Course) → Goes c (L.seat line.old) op going.now → HasMet c (Nowhere slot) (L.stands line.old) → IfSome result (λ reply. IsDone c.lasts reply (L.stands line.new)) }
 {
     if going.is_moving_on {
@@ -158,7 +158,7 @@ pub(crate) fn append_past<L: Line>(line: &mut L, going: &Going, op: Op, slot: Sl
     requires room { L.kept line.old ≤ 48 }
     requires updates { is_read op ≡ false }
     ensures seat { L.seat line.new ≡ L.seat line.old }
-    ensures led { (start : L) (call : Op) → L.led start call line.old → L.led start call line.new }
+    ensures led { (start : L) (call : Call) → L.led start call line.old → L.led start call line.new }
     ensures done { (c : Course) → Goes c (L.seat line.old) op going.now → HasMet c (OnDisk slot) (L.stands line.old) → IfSome result (λ reply. IsDone c.lasts reply (L.stands line.new)) }
 {
     let blind = is_blind(op);

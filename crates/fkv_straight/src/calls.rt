@@ -1,5 +1,6 @@
 //! A call of an operation, straight.
 ghost use Rattle.std.specs.Prelude.{◌≡◌, IfSome, IfNone, false};
+ghost use Rattle.fkv_map.specs.declared.operations.Call.TheVariants as call;
 ghost use Rattle.fkv_plane.specs.declared.asks.Ask.TheVariants.{Done};
 ghost use Rattle.fkv_session.specs.Alike.{lasting};
 ghost use Rattle.fkv_session.specs.Sessions.{is_busy, session_ask};
@@ -28,12 +29,12 @@ pub(crate) fn go_by<L: Line>(
     requires alike { lasting machine.old.state ≡ lasting (L.stands line.old) }
     requires goes { Goes (course_of machine.old.seat machine.old.state op) machine.old.seat op going.now }
     ensures seat { L.seat line.new ≡ L.seat line.old }
-    ensures led { L.led line.old op line.new }
+    ensures led { L.led line.old (call.Op op) line.new }
     ensures machine { machine.new.seat ≡ machine.old.seat }
     ensures goes_by { (its : Going) → GoesBy machine.old.seat machine.old.state its → GoesBy machine.new.seat machine.new.state its }
     ensures ended { IfSome result (λ told. (Done told ≡ session_ask (L.seat line.old) (L.stands line.new)) × IsCaughtUp machine.new.state (L.stands line.new)) }
     ensures stopped { IfNone result (machine.new ≡ machine.old) }
-    ensures begins { begins (L.seat line.old) (L.stands line.old) op ≡ begins machine.old.seat machine.old.state op }
+    ensures begins { begins (L.seat line.old) (L.stands line.old) (call.Op op) ≡ begins machine.old.seat machine.old.state (call.Op op) }
 {
     match op {
         Op::Read(_) => read(line, going, op),

@@ -1,6 +1,7 @@
 //! An update, straight: in place, or by a new record.
 ghost use Rattle.std.specs.Prelude.{◌≡◌, ◌<◌, ◌≤◌, IfSome, true, false};
-ghost use Rattle.fkv_map.specs.declared.operations.Op.{Op};
+ghost use Rattle.fkv_map.specs.declared.operations.Call.TheVariants as call;
+ghost use Rattle.fkv_map.specs.declared.operations.Call.{Call};
 ghost use Rattle.fkv_ops.specs.Requests.{is_read, is_blind};
 ghost use Rattle.fkv_session.specs.Alike.{lasting};
 ghost use Rattle.fkv_session.specs.Sessions.{is_busy};
@@ -29,7 +30,7 @@ fn swap_value<L: Line>(line: &mut L, going: &Going, op: Op, its: Record) -> Repl
     requires mutable { going.now.read_only ≤ its.addr }
     requires own { its.version ≡ going.now.version }
     ensures seat { L.seat line.new ≡ L.seat line.old }
-    ensures led { (start : L) (call : Op) → L.led start call line.old → L.led start call line.new }
+    ensures led { (start : L) (call : Call) → L.led start call line.old → L.led start call line.new }
     ensures done { (c : Course) → Goes c (L.seat line.old) op going.now → IsMet c its (L.stands line.old) → IsDone c.lasts result (L.stands line.new) }
 {
     let place = going.record(Addr(its.addr), RecordWord::Value);
@@ -49,7 +50,7 @@ fn change_value<L: Line>(line: &mut L, going: &Going, op: Op, its: Record) -> Op
     requires mutable { going.now.read_only ≤ its.addr }
     requires own { its.version ≡ going.now.version }
     ensures seat { L.seat line.new ≡ L.seat line.old }
-    ensures led { (start : L) (call : Op) → L.led start call line.old → L.led start call line.new }
+    ensures led { (start : L) (call : Call) → L.led start call line.old → L.led start call line.new }
     ensures done { (c : Course) → Goes c (L.seat line.old) op going.now → IsMet c its (L.stands line.old) → IfSome result (λ reply. IsDone c.lasts reply (L.stands line.new)) }
 {
     let place = going.record(Addr(its.addr), RecordWord::Value);
@@ -72,7 +73,7 @@ fn update_record<L: Line>(line: &mut L, going: &Going, op: Op, its: Record) -> O
     requires room { L.kept line.old ≤ 48 }
     requires updates { is_read op ≡ false }
     ensures seat { L.seat line.new ≡ L.seat line.old }
-    ensures led { (start : L) (call : Op) → L.led start call line.old → L.led start call line.new }
+    ensures led { (start : L) (call : Call) → L.led start call line.old → L.led start call line.new }
     ensures done { (c : Course) → Goes c (L.seat line.old) op going.now → IsMet c its (L.stands line.old) → IfSome result (λ reply. IsDone c.lasts reply (L.stands line.new)) }
 {
     if its.addr < going.read_only {
@@ -96,7 +97,7 @@ pub(crate) fn update<L: Line>(line: &mut L, going: &Going, op: Op) -> Option<Rep
     requires goes { Goes (course_of (L.seat line.old) (L.stands line.old) op) (L.seat line.old) op going.now }
     requires updates { is_read op ≡ false }
     ensures seat { L.seat line.new ≡ L.seat line.old }
-    ensures led { L.led line.old op line.new }
+    ensures led { L.led line.old (call.Op op) line.new }
     ensures done { IfSome result (λ reply. IsDone (lasting (L.stands line.old)) reply (L.stands line.new)) }
 {
     let met = search(line, going, op);

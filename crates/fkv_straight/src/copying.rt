@@ -1,6 +1,6 @@
 //! An update by a copy of the record that was met.
 ghost use Rattle.std.specs.Prelude.{◌≡◌, ◌<◌, ◌≤◌, IfSome, false};
-ghost use Rattle.fkv_map.specs.declared.operations.Op.{Op};
+ghost use Rattle.fkv_map.specs.declared.operations.Call.{Call};
 ghost use Rattle.fkv_ops.specs.Requests.{is_read};
 ghost use Rattle.fkv_session.specs.Sessions.{};
 ghost use Rattle.fkv_straight.specs.Course.{Course, Goes};
@@ -24,7 +24,7 @@ fn copy<L: Line>(line: &mut L, going: &Going, op: Op, its: Record) -> Option<Rep
     requires room { L.kept line.old ≤ 49 }
     requires updates { is_read op ≡ false }
     ensures seat { L.seat line.new ≡ L.seat line.old }
-    ensures led { (start : L) (call : Op) → L.led start call line.old → L.led start call line.new }
+    ensures led { (start : L) (call : Call) → L.led start call line.old → L.led start call line.new }
     ensures done { (c : Course) → Goes c (L.seat line.old) op going.now → IsCopied c its (L.stands line.old) → IfSome result (λ reply. IsDone c.lasts reply (L.stands line.new)) }
 {
     let slot = Slot {
@@ -51,7 +51,7 @@ pub(crate) fn copy_below<L: Line>(line: &mut L, going: &Going, op: Op, its: Reco
     requires updates { is_read op ≡ false }
     requires below { its.addr < going.now.read_only }
     ensures seat { L.seat line.new ≡ L.seat line.old }
-    ensures led { (start : L) (call : Op) → L.led start call line.old → L.led start call line.new }
+    ensures led { (start : L) (call : Call) → L.led start call line.old → L.led start call line.new }
     ensures done { (c : Course) → Goes c (L.seat line.old) op going.now → IsMet c its (L.stands line.old) → IfSome result (λ reply. IsDone c.lasts reply (L.stands line.new)) }
 {
     let place = SharedWord::SafeReadOnly.place();
@@ -74,7 +74,7 @@ pub(crate) fn copy_later<L: Line>(line: &mut L, going: &Going, op: Op, its: Reco
     requires mutable { going.now.read_only ≤ its.addr }
     requires other { its.version ≡ going.now.version → ⊥ }
     ensures seat { L.seat line.new ≡ L.seat line.old }
-    ensures led { (start : L) (call : Op) → L.led start call line.old → L.led start call line.new }
+    ensures led { (start : L) (call : Call) → L.led start call line.old → L.led start call line.new }
     ensures done { (c : Course) → Goes c (L.seat line.old) op going.now → IsMet c its (L.stands line.old) → IfSome result (λ reply. IsDone c.lasts reply (L.stands line.new)) }
 {
     if going.is_moving_on {

@@ -1,5 +1,6 @@
 //! How the machine takes a call over.
 ghost use Rattle.std.specs.Prelude.{◌≡◌};
+ghost use Rattle.fkv_map.specs.declared.operations.Call.TheVariants as call;
 ghost use Rattle.fkv_session.specs.Sessions.{session_ask};
 ghost use Rattle.fkv_straight.specs.Standing.{begins};
 
@@ -13,7 +14,7 @@ use fkv_session::{Session, Told};
 #[inline(never)]
 pub fn catch_up<L: Line>(line: &L, machine: &mut Session, op: Op) -> Ask<Told>
     requires seat { machine.old.seat ≡ L.seat line.now }
-    requires led { (start : L) × L.led start op line.now × (begins (L.seat start) (L.stands start) op ≡ begins machine.old.seat machine.old.state op) }
+    requires led { (start : L) × L.led start (call.Op op) line.now × (begins (L.seat start) (L.stands start) (call.Op op) ≡ begins machine.old.seat machine.old.state (call.Op op)) }
     ensures caught_up { machine.new ≡ record { seat = L.seat line.now; state = L.stands line.now } }
     ensures ask { result ≡ session_ask machine.new.seat machine.new.state }
 {

@@ -1,4 +1,4 @@
-//! The operations of a session as straight functions. Each step on a word is the one that the session machine's table asks for, and where
+//! The operations and the refresh of a session as straight functions. Each step on a word is the one that the session machine's table asks for, and where
 //! anything unusual is met the machine takes over.
 #![tactic(auto)]
 
@@ -11,6 +11,7 @@ mod going;
 mod handing;
 mod lines;
 mod reading;
+mod refreshing;
 mod searching;
 mod sessions;
 mod words;

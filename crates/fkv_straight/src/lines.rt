@@ -1,11 +1,11 @@
 //! The words of a store, as one session steps at them.
 ghost use Rattle.std.specs.Prelude.{◌≡◌, ◌<◌, ◌+◌, ℕ, false};
-ghost use Rattle.fkv_map.specs.declared.operations.Op.{Op};
+ghost use Rattle.fkv_map.specs.declared.operations.Call.{Call};
 ghost use Rattle.fkv_plane.specs.declared.asks.Ask.TheVariants.{Load, Store, Swap, Cas};
 ghost use Rattle.fkv_session.specs.Sessions.{Seat, SessionState, is_busy};
 ghost use Rattle.fkv_straight.specs.Standing.{asked, leads, begins, replayed};
 
-use fkv_map::Op;
+use fkv_map::Call;
 
 /// The shared words, for the session of which it keeps where the machine stands. It lets the session make just the step that the machine
 /// asks for there, and keeps up to 64 replies of a call.
@@ -16,18 +16,18 @@ pub trait Line {
     /// Where the machine stands by the steps that were made.
     ghost stands: { Self → SessionState };
 
-    /// Since the line stood as the first, the call of the operation has begun and has come to the last, by the replies that are kept.
-    ghost led: { Self → Op → Self → Type 0 };
+    /// Since the line stood as the first, the call has begun and has come to the last, by the replies that are kept.
+    ghost led: { Self → Call → Self → Type 0 };
 
     /// How many replies are kept.
     ghost kept: { Self → ℕ };
 
-    /// Begins a call of an operation, and makes its first step, a load. The replies of the call before are kept no more.
-    fn first(&mut self, op: Op, place: usize) -> u64
+    /// Begins a call, and makes its first step, a load. The replies of the call before are kept no more.
+    fn first(&mut self, call: Call, place: usize) -> u64
         requires idle { is_busy (stands self.old).step ≡ false }
-        requires asked { asked (seat self.old) (begins (seat self.old) (stands self.old) op) ≡ Load place }
-        ensures next { stands self.new ≡ leads (seat self.old) (begins (seat self.old) (stands self.old) op) result }
-        ensures led { led self.old op self.new }
+        requires asked { asked (seat self.old) (begins (seat self.old) (stands self.old) call) ≡ Load place }
+        ensures next { stands self.new ≡ leads (seat self.old) (begins (seat self.old) (stands self.old) call) result }
+        ensures led { led self.old call self.new }
         ensures kept { kept self.new ≡ 1 }
         ensures seat { seat self.new ≡ seat self.old };
 
@@ -36,7 +36,7 @@ pub trait Line {
         requires asked { asked (seat self.old) (stands self.old) ≡ Load place }
         requires room { kept self.old < 64 }
         ensures next { stands self.new ≡ leads (seat self.old) (stands self.old) result }
-        ensures led { (start : Self) (op : Op) → led start op self.old → led start op self.new }
+        ensures led { (start : Self) (call : Call) → led start call self.old → led start call self.new }
         ensures kept { kept self.new ≡ kept self.old + 1 }
         ensures seat { seat self.new ≡ seat self.old };
 
@@ -45,7 +45,7 @@ pub trait Line {
         requires asked { asked (seat self.old) (stands self.old) ≡ Store place new }
         requires room { kept self.old < 64 }
         ensures next { stands self.new ≡ leads (seat self.old) (stands self.old) result }
-        ensures led { (start : Self) (op : Op) → led start op self.old → led start op self.new }
+        ensures led { (start : Self) (call : Call) → led start call self.old → led start call self.new }
         ensures kept { kept self.new ≡ kept self.old + 1 }
         ensures seat { seat self.new ≡ seat self.old };
 
@@ -54,7 +54,7 @@ pub trait Line {
         requires asked { asked (seat self.old) (stands self.old) ≡ Swap place new }
         requires room { kept self.old < 64 }
         ensures next { stands self.new ≡ leads (seat self.old) (stands self.old) result }
-        ensures led { (start : Self) (op : Op) → led start op self.old → led start op self.new }
+        ensures led { (start : Self) (call : Call) → led start call self.old → led start call self.new }
         ensures kept { kept self.new ≡ kept self.old + 1 }
         ensures seat { seat self.new ≡ seat self.old };
 
@@ -63,11 +63,11 @@ pub trait Line {
         requires asked { asked (seat self.old) (stands self.old) ≡ Cas place expected new }
         requires room { kept self.old < 64 }
         ensures next { stands self.new ≡ leads (seat self.old) (stands self.old) result }
-        ensures led { (start : Self) (op : Op) → led start op self.old → led start op self.new }
+        ensures led { (start : Self) (call : Call) → led start call self.old → led start call self.new }
         ensures kept { kept self.new ≡ kept self.old + 1 }
         ensures seat { seat self.new ≡ seat self.old };
 
     /// The replies that are kept, in order.
     fn replies(&self) -> &[u64]
-        ensures led { (start : Self) (op : Op) → led start op self.now → stands self.now ≡ replayed (seat self.now) (begins (seat start) (stands start) op) result.now };
+        ensures led { (start : Self) (call : Call) → led start call self.now → stands self.now ≡ replayed (seat self.now) (begins (seat start) (stands start) call) result.now };
 }

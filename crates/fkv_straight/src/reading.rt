@@ -1,5 +1,6 @@
 //! A read, straight.
 ghost use Rattle.std.specs.Prelude.{◌≡◌, IfSome, true, false};
+ghost use Rattle.fkv_map.specs.declared.operations.Call.TheVariants as call;
 ghost use Rattle.fkv_ops.specs.Requests.{is_read};
 ghost use Rattle.fkv_session.specs.Alike.{lasting};
 ghost use Rattle.fkv_session.specs.Sessions.{is_busy};
@@ -21,7 +22,7 @@ pub(crate) fn read<L: Line>(line: &mut L, going: &Going, op: Op) -> Option<Told>
     requires goes { Goes (course_of (L.seat line.old) (L.stands line.old) op) (L.seat line.old) op going.now }
     requires reads { is_read op ≡ true }
     ensures seat { L.seat line.new ≡ L.seat line.old }
-    ensures led { L.led line.old op line.new }
+    ensures led { L.led line.old (call.Op op) line.new }
     ensures ended { IfSome result (λ its. IsEnded (lasting (L.stands line.old)) its (L.stands line.new)) }
 {
     let met = search(line, going, op);

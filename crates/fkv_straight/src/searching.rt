@@ -1,6 +1,7 @@
 //! The search along bucket and chain, which all straight calls share.
 ghost use Rattle.std.specs.Prelude.{◌≡◌, ◌<◌, ◌≤◌, ◌+◌, IfSome, false};
-ghost use Rattle.fkv_map.specs.declared.operations.Op.{Op};
+ghost use Rattle.fkv_map.specs.declared.operations.Call.TheVariants as call;
+ghost use Rattle.fkv_map.specs.declared.operations.Call.{Call};
 ghost use Rattle.fkv_index.specs.Slots.{entry_addr};
 ghost use Rattle.fkv_session.specs.Sessions.{is_busy};
 ghost use Rattle.fkv_straight.specs.Course.{Course, course_of, Goes};
@@ -12,7 +13,7 @@ use crate::lines::Line;
 use crate::words::{addr_of, header_said, is_entry};
 use fkv_base::Addr;
 use fkv_index::home_of;
-use fkv_map::Op;
+use fkv_map::{Call, Op};
 use fkv_ops::HeaderSaid;
 use fkv_plane::RecordWord;
 
@@ -55,7 +56,7 @@ fn seek<L: Line>(line: &mut L, going: &Going, op: Op) -> Option<Slot>
     requires idle { is_busy (L.stands line.old).step ≡ false }
     requires goes { Goes (course_of (L.seat line.old) (L.stands line.old) op) (L.seat line.old) op going.now }
     ensures seat { L.seat line.new ≡ L.seat line.old }
-    ensures led { L.led line.old op line.new }
+    ensures led { L.led line.old (call.Op op) line.new }
     ensures kept { L.kept line.new ≤ 32 }
     ensures found { IfSome result (λ its. IsReached (course_of (L.seat line.old) (L.stands line.old) op) its.place its.entry (entry_addr its.entry) (L.stands line.new)) }
 {
@@ -63,7 +64,7 @@ fn seek<L: Line>(line: &mut L, going: &Going, op: Op) -> Option<Slot>
     let home = home_of(key, going.bits);
     let first = going.places.bucket(home.bucket, 0);
     let mut base = first;
-    let mut word = line.first(op, first);
+    let mut word = line.first(Call::Op(op), first);
     let mut slot = 0;
     let mut links = 0;
     'slots: while word != 0 {
@@ -107,7 +108,7 @@ fn walk<L: Line>(line: &mut L, going: &Going, op: Op, slot: Slot) -> Option<Met>
     requires at { (c : Course) × Goes c (L.seat line.old) op going.now × IsReached c slot.place slot.entry (entry_addr slot.entry) (L.stands line.old) }
     requires room { L.kept line.old ≤ 32 }
     ensures seat { L.seat line.new ≡ L.seat line.old }
-    ensures led { (start : L) (call : Op) → L.led start call line.old → L.led start call line.new }
+    ensures led { (start : L) (call : Call) → L.led start call line.old → L.led start call line.new }
     ensures kept { L.kept line.new ≤ 48 }
     ensures met { (c : Course) → Goes c (L.seat line.old) op going.now → IsReached c slot.place slot.entry (entry_addr slot.entry) (L.stands line.old)
         → IfSome result (λ its. HasMet c its (L.stands line.new)) }
@@ -160,7 +161,7 @@ pub(crate) fn search<L: Line>(line: &mut L, going: &Going, op: Op) -> Option<Met
     requires idle { is_busy (L.stands line.old).step ≡ false }
     requires goes { Goes (course_of (L.seat line.old) (L.stands line.old) op) (L.seat line.old) op going.now }
     ensures seat { L.seat line.new ≡ L.seat line.old }
-    ensures led { L.led line.old op line.new }
+    ensures led { L.led line.old (call.Op op) line.new }
     ensures kept { L.kept line.new ≤ 48 }
     ensures met { IfSome result (λ its. HasMet (course_of (L.seat line.old) (L.stands line.old) op) its (L.stands line.new)) }
 {

@@ -1,6 +1,7 @@
 //! A session's machine, with what its straight calls go by.
-ghost use Rattle.std.specs.Prelude.{◌≡◌, ◌<◌, ◌≤◌, ℕ, IfSome, false, true, length};
+ghost use Rattle.std.specs.Prelude.{◌≡◌, ◌<◌, ◌≤◌, ℕ, IfSome, IfNone, false, true, length};
 ghost use Rattle.fkv_base.specs.Limits.{max_pending, max_sessions};
+ghost use Rattle.fkv_map.specs.declared.operations.Call.TheVariants as call;
 ghost use Rattle.fkv_epoch.specs.Claiming.{takes_action};
 ghost use Rattle.fkv_plane.specs.declared.asks.Ask.TheVariants.{Done};
 ghost use Rattle.fkv_session.specs.declared.answers.Told.{Told};
@@ -16,6 +17,7 @@ use crate::calls::go_by;
 use crate::going::Going;
 use crate::handing::catch_up;
 use crate::lines::Line;
+use crate::refreshing::refresh;
 use fkv_map::{Call, Op};
 use fkv_plane::{Action, Ask};
 use fkv_session::{Finished, Session, Told};
@@ -136,8 +138,8 @@ impl StraightSession {
         requires alike { lasting self.old.state ≡ lasting (L.stands line.old) }
         ensures seat { L.seat line.new ≡ L.seat line.old }
         ensures machine { self.new.seat ≡ self.old.seat }
-        ensures ended { (told : Told) → result ≡ Ended told → L.led line.old op line.new × (Done told ≡ session_ask (L.seat line.old) (L.stands line.new)) × IsCaughtUp self.new.state (L.stands line.new) }
-        ensures stopped { result ≡ Stopped → L.led line.old op line.new × (self.new ≡ self.old) × (begins (L.seat line.old) (L.stands line.old) op ≡ begins self.old.seat self.old.state op) }
+        ensures ended { (told : Told) → result ≡ Ended told → L.led line.old (call.Op op) line.new × (Done told ≡ session_ask (L.seat line.old) (L.stands line.new)) × IsCaughtUp self.new.state (L.stands line.new) }
+        ensures stopped { result ≡ Stopped → L.led line.old (call.Op op) line.new × (self.new ≡ self.old) × (begins (L.seat line.old) (L.stands line.old) (call.Op op) ≡ begins self.old.seat self.old.state (call.Op op)) }
         ensures stayed { result ≡ Stayed → (line.new ≡ line.old) × (self.new ≡ self.old) }
     {
         self.look();
@@ -155,11 +157,31 @@ impl StraightSession {
         }
     }
 
+    /// Makes the steps of a refresh, each the one that the machine's table asks for, to its end. Where the session sleeps or a request waits it makes none.
+    #[inline(always)]
+    pub fn refresh<L: Line>(&mut self, line: &mut L) -> Option<Told>
+        requires idle { is_busy (L.stands line.old).step ≡ false }
+        requires seat { self.old.seat ≡ L.seat line.old }
+        requires alike { lasting self.old.state ≡ lasting (L.stands line.old) }
+        ensures seat { L.seat line.new ≡ L.seat line.old }
+        ensures machine { self.new.seat ≡ self.old.seat }
+        ensures ended { IfSome result (λ told. L.led line.old call.Refresh line.new × (Done told ≡ session_ask (L.seat line.old) (L.stands line.new)) × IsCaughtUp self.new.state (L.stands line.new)) }
+        ensures stayed { IfNone result ((line.new ≡ line.old) × (self.new ≡ self.old)) }
+    {
+        let awake = self.machine.is_awake();
+        if !awake || self.machine.pending() != 0 {
+            return None;
+        }
+        self.going = None;
+        let told = refresh(line, &mut self.machine);
+        Some(told)
+    }
+
     /// Begins the call anew by the machine and tells it the replies that have come, with no step on a word: then it stands where the line
     /// stands. Gives what it asks there.
     pub fn catch_up<L: Line>(&mut self, line: &L, op: Op) -> Ask<Told>
         requires seat { self.old.seat ≡ L.seat line.now }
-        requires led { (start : L) × L.led start op line.now × (begins (L.seat start) (L.stands start) op ≡ begins self.old.seat self.old.state op) }
+        requires led { (start : L) × L.led start (call.Op op) line.now × (begins (L.seat start) (L.stands start) (call.Op op) ≡ begins self.old.seat self.old.state (call.Op op)) }
         ensures caught_up { self.new ≡ record { seat = L.seat line.now; state = L.stands line.now } }
         ensures ask { result ≡ session_ask self.new.seat self.new.state }
     {

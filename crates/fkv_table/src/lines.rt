@@ -7,7 +7,7 @@ use crate::performing::perform;
 use crate::plays::{First, Next, Turn};
 use crate::rule::{Place, Words};
 use fkv_disk::Device;
-use fkv_map::{Call, Op};
+use fkv_map::Call;
 use fkv_plane::Ask;
 use fkv_seats::Held;
 use fkv_session::Told;
@@ -108,7 +108,7 @@ impl<'t, D: Device> SeatLine<'t, D> {
         requires word { (place : ℕ) × (said.asked_place ask.now ≡ Some place) }
         requires room { length self.old.replies < 64 }
         ensures next { said.stands (said.opening_of D.seen) self.new ≡ said.leads self.old.machine.seat (said.stands (said.opening_of D.seen) self.old) result }
-        ensures led { (start : said.LineModel (said.Snapshot (said.WorldModel D))) (op : said.Op) → said.HasLed (said.opening_of D.seen) start op self.old → said.HasLed (said.opening_of D.seen) start op self.new }
+        ensures led { (start : said.LineModel (said.Snapshot (said.WorldModel D))) (call : said.Call) → said.HasLed (said.opening_of D.seen) start call self.old → said.HasLed (said.opening_of D.seen) start call self.new }
         ensures replies { self.new.replies ≡ self.old.replies ++ result ∷ [] }
         ensures machine { self.new.machine ≡ self.old.machine }
     {
@@ -132,9 +132,9 @@ impl<'t, D: Device> Line for SeatLine<'t, D> {
     ghost kept = { λ l. length l.replies };
 
     #[inline(always)]
-    fn first(&mut self, op: Op, place: usize) -> u64 {
-        law_start_stands(Call::Op(op));
-        let start = Happening::Calls(self.number, Call::Op(op));
+    fn first(&mut self, call: Call, place: usize) -> u64 {
+        law_start_stands(call);
+        let start = Happening::Calls(self.number, call);
         let _ = self
             .words
             .exchange(&mut self.seat, self.desk, Held::Desk(start));

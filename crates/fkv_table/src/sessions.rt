@@ -247,7 +247,36 @@ fn run_told<D: Device>(
     }
 }
 
-/// Runs a call: an operation straight where it may go so, and every other call by the machine.
+/// Refreshes straight where no request waits, and else by the machine.
+fn run_refresh<D: Device>(
+    words: &Words<D>,
+    pass: Pass<D>,
+    machine: &mut StraightSession,
+    desk: usize,
+    replies: &mut Room,
+) -> (Pass<D>, Told)
+    requires ready { said.IsReady (said.opening_of D.seen) words.now.key words.now.table_id pass.seat.table_id pass.seat.me machine.old desk }
+    ensures ready { said.IsReady (said.opening_of D.seen) words.now.key words.now.table_id result.0.seat.table_id result.0.seat.me machine.new desk }
+    ensures number { machine.new.seat.number ≡ machine.old.seat.number }
+    ensures called { said.HasCalled machine.old.seat.number call.Refresh pass.seat.me.0.seen result.0.seat.me.0.seen }
+    ensures told { said.IsToldLast (said.led (said.plane (said.opening_of D.seen)) (said.opening_of D.seen words.now.key) result.0.seat.me.0.seen) machine.new.seat.number (said.telling result.1 machine.new.state.finished) }
+{
+    let Pass { seat } = pass;
+    let mut line = SeatLine::new(words, seat, machine, desk, replies);
+    let went = machine.refresh(&mut line);
+    match went {
+        Some(told) => {
+            let seat = line.into_seat();
+            (Pass { seat }, told)
+        }
+        None => {
+            let seat = line.into_seat();
+            run_by_machine(words, Pass { seat }, machine, desk, &Call::Refresh)
+        }
+    }
+}
+
+/// Runs a call: an operation or a refresh straight where it may go so, and every other call by the machine.
 fn run_call<D: Device>(
     words: &Words<D>,
     pass: Pass<D>,
@@ -264,6 +293,7 @@ fn run_call<D: Device>(
 {
     match call {
         Call::Op(op) => run_told(words, pass, machine, desk, replies, op),
+        Call::Refresh => run_refresh(words, pass, machine, desk, replies),
         _ => run_by_machine(words, pass, machine, desk, &call),
     }
 }
@@ -293,6 +323,30 @@ impl Session {
         );
         let answer = answer_of(told, self.machine.finished());
         (pass, answer)
+    }
+
+    /// Runs a call to its end, as `run` does, and gives what it was told: of a poll how many requests are left, without those that it has finished.
+    pub fn run_told<D: Device>(
+        &mut self,
+        table: &Table<D>,
+        pass: Pass<D>,
+        call: Call,
+    ) -> (Pass<D>, Told)
+        requires ready { said.IsReady (said.opening_of D.seen) table.now.table.shared.key table.now.table.shared.table_id pass.seat.table_id pass.seat.me self.old.machine self.old.desk }
+        ensures ready { said.IsReady (said.opening_of D.seen) table.now.table.shared.key table.now.table.shared.table_id result.0.seat.table_id result.0.seat.me self.new.machine self.new.desk }
+        ensures number { self.new.machine.seat.number ≡ self.old.machine.seat.number }
+        ensures called { said.HasCalled self.old.machine.seat.number call pass.seat.me.0.seen result.0.seat.me.0.seen }
+        ensures told { said.IsToldLast (said.led (said.plane (said.opening_of D.seen)) (said.opening_of D.seen table.now.table.shared.key) result.0.seat.me.0.seen) self.new.machine.seat.number (said.telling result.1 self.new.machine.state.finished) }
+    {
+        let words = &table.table.shared;
+        run_call(
+            words,
+            pass,
+            &mut self.machine,
+            self.desk,
+            &mut self.replies,
+            call,
+        )
     }
 
     /// Runs an operation to its end, as `run` does, and gives what it was told. An `Answer` has room for the list of a poll, which is cleared and copied at

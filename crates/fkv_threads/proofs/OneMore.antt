@@ -3,6 +3,7 @@ use Rattle.std.proofs.Common.{◌≡◌, ℕ, ◌+◌, ◌<◌, ◌≤◌, refl,
 use Rattle.std.proofs.lemmas.List.{take_all, take_more}
 use Rattle.atomic_table.specs.Seated.{TableId}
 use Rattle.atomic_table.specs.Table.{Me}
+use Rattle.fkv_map.specs.declared.operations.Call.TheVariants as call
 use Rattle.fkv_map.specs.declared.operations.Op.{Op}
 use Rattle.fkv_session.specs.Sessions.{Sitter}
 use Rattle.fkv_session.specs.declared.answers.Told.{Told}
@@ -31,10 +32,10 @@ module _ {K : Type 0} (at : K → World) (key : K) where
 
   -- a session's operation, as it was run with its pass
   pub has_run : (table pass : TableId) (me : Me Slot (Knows K)) (machine : Sitter) (desk number number' : ℕ) (op : Op) (told : Told) (before : List Happening) → number' ≡ number → machine.seat.number ≡ number'
-      → IsReady at key table pass me machine desk → IsToldRun at key (told_run number' op told machine.state.finished before me.0.seen) → HasRunOp at key table number op told before me.0.seen
+      → IsReady at key table pass me machine desk → IsToldRun at key (told_run number' (call.Op op) told machine.state.finished before me.0.seen) → HasRunOp at key table number op told before me.0.seen
   has_run table pass me machine desk number number' op told before same its_number ready run = record {
     finished = machine.state.finished;
-    run = subst (λ (n : ℕ). IsToldRun at key (told_run n op told machine.state.finished before me.0.seen)) same run;
+    run = subst (λ (n : ℕ). IsToldRun at key (told_run n (call.Op op) told machine.state.finished before me.0.seen)) same run;
     ready = record { pass = pass; me = me; machine = machine; desk = desk; ready = ready; its_number = its_number ∙ same; has_finished = refl; seen = refl };
   }
 

@@ -2,6 +2,7 @@
 use Rattle.std.specs.Prelude.{◌≡◌, ℕ, List, [], ◌∷◌}
 use Rattle.atomic_table.specs.Seated.{TableId}
 use Rattle.atomic_table.specs.Table.{Me}
+use Rattle.fkv_map.specs.declared.operations.Call.TheVariants as call
 use Rattle.fkv_map.specs.declared.operations.Op.{Op}
 use Rattle.fkv_session.specs.Sessions.{Sitter}
 use Rattle.fkv_session.specs.declared.answers.Finished.{Finished}
@@ -15,7 +16,7 @@ use Rattle.law_threads.specs.Laws.{IsWithin}
 use Rattle.fkv_threads.specs.Runs.{IsLawful, IsRun, OfThisRun, OfToldRun, ToldRun, told_run}
 
 module _ {K : Type 0} (at : K → World) (key : K) where
-  -- All that `run_op` ensures of an operation and of what it was told.
+  -- All that `run_told` ensures of a call and of what it was told.
   pub record IsToldRun (its : ToldRun) : Type 0 where
     pub called : OfToldRun its (λ run. IsRun at key run)
     pub in_lives : OfToldRun its (λ run. IsLawful at key run IsWithin)
@@ -37,7 +38,7 @@ module _ {K : Type 0} (at : K → World) (key : K) where
   -- The session has run an operation and was told this. What its pass had seen before, and has seen behind it, is this. Then the session is ready for the next one.
   pub record HasRunOp (table : TableId) (number : ℕ) (op : Op) (told : Told) (before behind : List Happening) : Type 0 where
     pub finished : List Finished
-    pub run : IsToldRun (told_run number op told finished before behind)
+    pub run : IsToldRun (told_run number (call.Op op) told finished before behind)
     pub ready : IsReadyBehind table number finished behind
 
   -- It has run these operations one after another, and was told this of each. Each begins by what the pass has seen behind the one before.

@@ -3,6 +3,7 @@ pub use Rattle.fkv_base.specs.declared.faults.Fault.TheVariants.{Memory}
 pub use Rattle.fkv_disk.specs.Device.{AtEachMoment, LeavesOnly}
 pub use Rattle.fkv_keeper.specs.Keeping.{keeper_ask}
 pub use Rattle.fkv_keeper.specs.Running.{IsBeginTold, IsTurnTold}
+pub use Rattle.fkv_map.specs.declared.operations.Call.TheVariants.{Op}
 pub use Rattle.fkv_opening.specs.Opened.{IsStoreOf}
 pub use Rattle.fkv_table.specs.Calls.{IsReady}
 pub use Rattle.fkv_table.specs.KeeperCalls.{HasKept}

@@ -34,6 +34,27 @@ pub fn run<D: Device>(
     session.run(table, pass, call)
 }
 
+/// Runs a call, as `run` does, and gives what it was told, which has four words. What `run` ensures of a call and its answer holds here of the call and the
+/// answer that says what was told. A poll tells how many requests are left: those that it has finished are told by `run` alone.
+pub fn run_told<D: Device>(
+    session: &mut Session,
+    table: &Table<D>,
+    pass: Pass<D>,
+    call: Call,
+) -> (Pass<D>, Told)
+    requires ready { said.IsReady (said.opening_of D.seen) table.now.table.shared.key table.now.table.shared.table_id pass.seat.table_id pass.seat.me session.old.machine session.old.desk }
+    ensures ready { said.IsReady (said.opening_of D.seen) table.now.table.shared.key table.now.table.shared.table_id result.0.seat.table_id result.0.seat.me session.new.machine session.new.desk }
+    ensures number { session.new.machine.seat.number ≡ session.old.machine.seat.number }
+    ensures called { said.OfToldRun (said.told_run session.old.machine.seat.number call result.1 session.new.machine.state.finished pass.seat.me.0.seen result.0.seat.me.0.seen) (λ its. said.IsRun (said.opening_of D.seen) table.now.table.shared.key its) }
+    ensures in_lives { said.OfToldRun (said.told_run session.old.machine.seat.number call result.1 session.new.machine.state.finished pass.seat.me.0.seen result.0.seat.me.0.seen) (λ its. said.IsLawful (said.opening_of D.seen) table.now.table.shared.key its said.IsWithin) }
+    ensures durable { said.OfToldRun (said.told_run session.old.machine.seat.number call result.1 session.new.machine.state.finished pass.seat.me.0.seen result.0.seat.me.0.seen) (λ its. said.OfThisRun (said.opening_of D.seen) table.now.table.shared.key its said.IsWithin said.TellsItsDurable) }
+    ensures never_falls { said.OfToldRun (said.told_run session.old.machine.seat.number call result.1 session.new.machine.state.finished pass.seat.me.0.seen result.0.seat.me.0.seen) (λ its. said.OfThisRun (said.opening_of D.seen) table.now.table.shared.key its said.IsWithin said.ItsDurableNeverFalls) }
+    ensures recovered { said.OfToldRun (said.told_run session.old.machine.seat.number call result.1 session.new.machine.state.finished pass.seat.me.0.seen result.0.seat.me.0.seen) (λ its. said.OfThisRun (said.opening_of D.seen) table.now.table.shared.key its said.IsWithin (said.RecoversItsDurable (said.opening_of D.seen))) }
+{
+    law_threads::<Snapshot<World<D>>>();
+    session.run_told(table, pass, call)
+}
+
 /// Runs an operation, as `run` does, and gives what it was told, which has four words. An `Answer` has room for the list of a poll, which would be cleared
 /// and copied at each call. What `run` ensures of a call and its answer holds here of the operation and the answer that says what was told.
 pub fn run_op<D: Device>(
@@ -45,11 +66,11 @@ pub fn run_op<D: Device>(
     requires ready { said.IsReady (said.opening_of D.seen) table.now.table.shared.key table.now.table.shared.table_id pass.seat.table_id pass.seat.me session.old.machine session.old.desk }
     ensures ready { said.IsReady (said.opening_of D.seen) table.now.table.shared.key table.now.table.shared.table_id result.0.seat.table_id result.0.seat.me session.new.machine session.new.desk }
     ensures number { session.new.machine.seat.number ≡ session.old.machine.seat.number }
-    ensures called { said.OfToldRun (said.told_run session.old.machine.seat.number op result.1 session.new.machine.state.finished pass.seat.me.0.seen result.0.seat.me.0.seen) (λ its. said.IsRun (said.opening_of D.seen) table.now.table.shared.key its) }
-    ensures in_lives { said.OfToldRun (said.told_run session.old.machine.seat.number op result.1 session.new.machine.state.finished pass.seat.me.0.seen result.0.seat.me.0.seen) (λ its. said.IsLawful (said.opening_of D.seen) table.now.table.shared.key its said.IsWithin) }
-    ensures durable { said.OfToldRun (said.told_run session.old.machine.seat.number op result.1 session.new.machine.state.finished pass.seat.me.0.seen result.0.seat.me.0.seen) (λ its. said.OfThisRun (said.opening_of D.seen) table.now.table.shared.key its said.IsWithin said.TellsItsDurable) }
-    ensures never_falls { said.OfToldRun (said.told_run session.old.machine.seat.number op result.1 session.new.machine.state.finished pass.seat.me.0.seen result.0.seat.me.0.seen) (λ its. said.OfThisRun (said.opening_of D.seen) table.now.table.shared.key its said.IsWithin said.ItsDurableNeverFalls) }
-    ensures recovered { said.OfToldRun (said.told_run session.old.machine.seat.number op result.1 session.new.machine.state.finished pass.seat.me.0.seen result.0.seat.me.0.seen) (λ its. said.OfThisRun (said.opening_of D.seen) table.now.table.shared.key its said.IsWithin (said.RecoversItsDurable (said.opening_of D.seen))) }
+    ensures called { said.OfToldRun (said.told_run session.old.machine.seat.number (said.Op op) result.1 session.new.machine.state.finished pass.seat.me.0.seen result.0.seat.me.0.seen) (λ its. said.IsRun (said.opening_of D.seen) table.now.table.shared.key its) }
+    ensures in_lives { said.OfToldRun (said.told_run session.old.machine.seat.number (said.Op op) result.1 session.new.machine.state.finished pass.seat.me.0.seen result.0.seat.me.0.seen) (λ its. said.IsLawful (said.opening_of D.seen) table.now.table.shared.key its said.IsWithin) }
+    ensures durable { said.OfToldRun (said.told_run session.old.machine.seat.number (said.Op op) result.1 session.new.machine.state.finished pass.seat.me.0.seen result.0.seat.me.0.seen) (λ its. said.OfThisRun (said.opening_of D.seen) table.now.table.shared.key its said.IsWithin said.TellsItsDurable) }
+    ensures never_falls { said.OfToldRun (said.told_run session.old.machine.seat.number (said.Op op) result.1 session.new.machine.state.finished pass.seat.me.0.seen result.0.seat.me.0.seen) (λ its. said.OfThisRun (said.opening_of D.seen) table.now.table.shared.key its said.IsWithin said.ItsDurableNeverFalls) }
+    ensures recovered { said.OfToldRun (said.told_run session.old.machine.seat.number (said.Op op) result.1 session.new.machine.state.finished pass.seat.me.0.seen result.0.seat.me.0.seen) (λ its. said.OfThisRun (said.opening_of D.seen) table.now.table.shared.key its said.IsWithin (said.RecoversItsDurable (said.opening_of D.seen))) }
 {
     law_threads::<Snapshot<World<D>>>();
     session.run_op(table, pass, op)

@@ -10,7 +10,7 @@ mod opening;
 mod passes;
 mod pieces;
 
-pub use calls::{run, run_op};
+pub use calls::{run, run_op, run_told};
 pub use keepers::{ask_commit, turn};
 pub use many::run_ops;
 pub use opening::open;

@@ -1,5 +1,5 @@
 -- What a call goes by lasts through it, and behind its end the machine has caught up.
-use Rattle.std.proofs.Common.{◌≡◌, refl, sym, ap, ◌∙◌, rules, false}
+use Rattle.std.proofs.Common.{◌≡◌, refl, ap, rules, false}
 use Rattle.fkv_ops.specs.Requests.{is_read}
 use Rattle.fkv_session.specs.Alike.{lasting}
 use Rattle.fkv_session.specs.Sessions.{Sitter}

@@ -1,4 +1,5 @@
 use Rattle.std.proofs.Common.{refl, sym, ap, ◌∙◌, get_or}
+use Rattle.fkv_map.specs.declared.operations.Call.TheVariants as call
 use Rattle.fkv_session.specs.Sessions.{Seat, SessionState, session_ask}
 use Rattle.fkv_straight.specs.Standing.{replayed}
 use Rattle.fkv_straight.proofs.Replays.{begin_comes, step_comes, sitter_is, replay_next, replay_end}
@@ -13,7 +14,7 @@ loop-reply-init g c =
     record {
       seat = comes.0 ∙ c.requires.seat;
       ask = c.begin-ask.ensures.ask ∙ ap (λ (q : Seat). session_ask q n.state) (sym comes.0);
-      left = ap (λ (s : SessionState). replayed k s c.replies-reply-items.result.now) (comes.1 ∙ sym c.requires.led.2) ∙ sym (c.replies-reply-items.ensures.led c.requires.led.0 c.args.op c.requires.led.1);
+      left = ap (λ (s : SessionState). replayed k s c.replies-reply-items.result.now) (comes.1 ∙ sym c.requires.led.2) ∙ sym (c.replies-reply-items.ensures.led c.requires.led.0 (call.Op c.args.op) c.requires.led.1);
     }
 
 pub loop-reply-preserved : goal.loop-reply-preserved
