@@ -3,8 +3,6 @@ use Rattle.std.proofs.Common.{◌≡◌, ℕ, refl, sym, ap, subst, ◌∙◌, i
 use Rattle.std.specs.Prelude.{Option, Some, None, slice_get}
 use Rattle.atomic_table.specs.Table.{Me, rest}
 use Rattle.fkv_map.specs.declared.operations.Call.{Call}
-use Rattle.fkv_map.specs.declared.operations.Call.TheVariants as call
-use Rattle.fkv_map.specs.declared.operations.Op.{Op}
 use Rattle.fkv_plane.specs.declared.asks.Ask.{Ask}
 use Rattle.fkv_plane.specs.declared.asks.Ask.TheVariants.{Load, Store, Swap, Cas, Add, Max, Put, Take, Done}
 use Rattle.fkv_plane.specs.Asked.{asked_place, reply_to}
@@ -24,7 +22,7 @@ use Rattle.fkv_table.specs.declared.happenings.Happening.TheVariants.{Calls}
 use Rattle.fkv_table.specs.Asks.{step_of}
 use Rattle.fkv_table.specs.Calls.{HasCalled, HasStepped}
 use Rattle.fkv_table.specs.Desks.{Slot, Knows, noted, turned}
-use Rattle.fkv_table.specs.Events.{op_fits}
+use Rattle.fkv_table.specs.Events.{may_stand}
 use Rattle.fkv_table.specs.Lines.{HasCome, HasLed, HasReplied, IsAlong, LineModel, come_to, session_in, session_or, sitter, stands}
 use Rattle.fkv_table.specs.Openings.{IsGuardedOpening}
 use Rattle.fkv_table.specs.Planes.{plane}
@@ -150,7 +148,7 @@ module _ {K : Type 0} (at : K → World) where
 
   pub record HasMade (l l' : LineModel K) (reply : ℕ) : Type 0 where
     pub next : stands at l' ≡ leads l.machine.seat (stands at l) reply
-    pub led : (start : LineModel K) (op : Op) → HasLed at start op l → HasLed at start op l'
+    pub led : (start : LineModel K) (call : Call) → HasLed at start call l → HasLed at start call l'
     pub replies : l'.replies ≡ l.replies ++ reply ∷ []
     pub machine : l'.machine ≡ l.machine
 
@@ -219,18 +217,18 @@ module _ {K : Type 0} (at : K → World) where
         pub next_line : IsLineStep l on reply (stands at l)
         next_line = stepped_line l.me (λ _. []) (stands at l) here along.at_desk.note along.at_desk.alone along.at_desk.sits slots ask is word reply me' told replies'
 
-        pub led_on : (start : LineModel K) (op : Op) → HasLed at start op l → HasLed at start op on
-        led_on start op so =
+        pub led_on : (start : LineModel K) (call : Call) → HasLed at start call l → HasLed at start call on
+        led_on start call so =
             let number_is : k.number ≡ start.machine.seat.number = ap (λ (z : LineModel K). z.machine.seat.number) so.same in
             let did = went l.me (λ _. []) (stands at l) here along.at_desk.note along.at_desk.alone along.at_desk.sits slots ask is word reply me' told replies' in
             record {
               same = ap (λ (z : LineModel K). record z { me = me'; replies = replies' }) so.same;
-              called = subst (λ (n : ℕ). HasCalled n (call.Op op) start.me.0.seen me'.0.seen) number_is
-                  (called_more k.number (call.Op op) start.me.0.seen l.me me' (subst (λ (n : ℕ). HasCalled n (call.Op op) start.me.0.seen l.me.0.seen) (sym number_is) so.called) here.role did);
+              called = subst (λ (n : ℕ). HasCalled n call start.me.0.seen me'.0.seen) number_is
+                  (called_more k.number call start.me.0.seen l.me me' (subst (λ (n : ℕ). HasCalled n call start.me.0.seen l.me.0.seen) (sym number_is) so.called) here.role did);
               step = there l.me (λ _. []) (stands at l) here along.at_desk.note along.at_desk.alone along.at_desk.sits slots ask is word reply me' told replies';
               replayed = next_line.next
                   ∙ (ap (λ (s : SessionState). leads k s reply) so.replayed
-                  ∙ (sym (replayed_more k (begins start.machine.seat (stands at start) op) l.replies reply) ∙ ap (replayed k (begins start.machine.seat (stands at start) op)) (sym more)));
+                  ∙ (sym (replayed_more k (begins start.machine.seat (stands at start) call) l.replies reply) ∙ ap (replayed k (begins start.machine.seat (stands at start) call)) (sym more)));
             }
 
         pub made : HasMade l on reply
@@ -250,13 +248,13 @@ module _ {K : Type 0} (at : K → World) where
       pub front : (old : Slot) × (l.me.1 ≡ (l.desk, old) ∷ rest l.me.1)
       front = at_front at l.desk l.me along.at_desk empty_here
 
-      module _ (op : Op) (fits : op_fits op ≡ true) (me1 : Me Slot (Knows K)) (e : me1 ≡ (l.me.0, (l.desk, Desk (Calls l.machine.seat.number (call.Op op))) ∷ rest l.me.1)) where
+      module _ (call : Call) (fits : may_stand (Calls l.machine.seat.number call) ≡ true) (me1 : Me Slot (Knows K)) (e : me1 ≡ (l.me.0, (l.desk, Desk (Calls l.machine.seat.number call)) ∷ rest l.me.1)) where
         abbrev start_note : Slot
-        start_note = Desk (Calls k.number (call.Op op))
+        start_note = Desk (Calls k.number call)
 
-        pub begun_here : IsSeated at l.key me1 (noted me1.1) (record l.machine { state = begins k (stands at l) op })
+        pub begun_here : IsSeated at l.key me1 (noted me1.1) (record l.machine { state = begins k (stands at l) call })
         unfolding begins
-        begun_here = seated_first at l.key l.desk l.me me1 (sitter at l) (record l.machine { state = begins k (stands at l) op }) (call.Op op) fits rests_here idle empty_here e refl
+        begun_here = seated_first at l.key l.desk l.me me1 (sitter at l) (record l.machine { state = begins k (stands at l) call }) call fits rests_here idle empty_here e refl
 
         alone_now : base (plane at) me1.0.hand me1.1 ≡ (l.desk, start_note) ∷ []
         alone_now =
@@ -266,22 +264,22 @@ module _ {K : Type 0} (at : K → World) where
         flag_now : me1.0.desk ≡ true
         flag_now = ap (λ (x : Me Slot (Knows K)). x.0.desk) e ∙ along.at_desk.sits
 
-        module _ (ask : Ask Told) (is : asked k (begins k (stands at l) op) ≡ ask) (word : (place : ℕ) × (asked_place ask ≡ Some place)) (slots reply : ℕ) (me' : Me Slot (Knows K)) (told : turned at noted (step_of slots ask) me1 reply me')
+        module _ (ask : Ask Told) (is : asked k (begins k (stands at l) call) ≡ ask) (word : (place : ℕ) × (asked_place ask ≡ Some place)) (slots reply : ℕ) (me' : Me Slot (Knows K)) (told : turned at noted (step_of slots ask) me1 reply me')
             (replies' : List ℕ) (only : replies' ≡ reply ∷ []) where
           abbrev begun : LineModel K
           begun = record l { me = me'; replies = replies' }
 
-          pub first_line : IsLineStep l begun reply (begins k (stands at l) op)
-          first_line = stepped_line me1 noted (begins k (stands at l) op) begun_here start_note alone_now flag_now slots ask is word reply me' told replies'
+          pub first_line : IsLineStep l begun reply (begins k (stands at l) call)
+          first_line = stepped_line me1 noted (begins k (stands at l) call) begun_here start_note alone_now flag_now slots ask is word reply me' told replies'
 
-          pub led_first : HasLed at l op begun
+          pub led_first : HasLed at l call begun
           unfolding replayed
           led_first =
-              let did = went me1 noted (begins k (stands at l) op) begun_here start_note alone_now flag_now slots ask is word reply me' told replies' in
+              let did = went me1 noted (begins k (stands at l) call) begun_here start_note alone_now flag_now slots ask is word reply me' told replies' in
               record {
                 same = refl;
-                called = subst (λ (seen : List Happening). HasCalled k.number (call.Op op) seen me'.0.seen) (ap (λ (x : Me Slot (Knows K)). x.0.seen) e)
-                    (called at k.number (call.Op op) me1 me' me'.0.seen begun_here.role (ap (λ (x : Me Slot (Knows K)). noted x.1) e) did (record { steps = []; only = tt; so = refl }));
-                step = there me1 noted (begins k (stands at l) op) begun_here start_note alone_now flag_now slots ask is word reply me' told replies';
-                replayed = first_line.next ∙ ap (replayed k (begins k (stands at l) op)) (sym only);
+                called = subst (λ (seen : List Happening). HasCalled k.number call seen me'.0.seen) (ap (λ (x : Me Slot (Knows K)). x.0.seen) e)
+                    (called at k.number call me1 me' me'.0.seen begun_here.role (ap (λ (x : Me Slot (Knows K)). noted x.1) e) did (record { steps = []; only = tt; so = refl }));
+                step = there me1 noted (begins k (stands at l) call) begun_here start_note alone_now flag_now slots ask is word reply me' told replies';
+                replayed = first_line.next ∙ ap (replayed k (begins k (stands at l) call)) (sym only);
               }

@@ -4,8 +4,7 @@ use Rattle.std.specs.Prelude.{Bool, None, Some}
 use Rattle.atomic_table.specs.Seated.{TableId}
 use Rattle.atomic_table.specs.Table.{Me}
 use Rattle.fkv_base.specs.Limits.{drain_slots}
-use Rattle.fkv_map.specs.declared.operations.Call.TheVariants as call
-use Rattle.fkv_map.specs.declared.operations.Op.{Op}
+use Rattle.fkv_map.specs.declared.operations.Call.{Call}
 use Rattle.fkv_plane.specs.declared.asks.Ask.{Ask}
 use Rattle.fkv_plane.specs.declared.asks.Ask.TheVariants.{Done}
 use Rattle.fkv_session.specs.Alike.{lasting}
@@ -67,13 +66,13 @@ module _ {K : Type 0} (at : K → World) (key : K) (table seat : TableId) (me : 
       }
 
   -- the call was made to its end
-  pub record HasGone (op : Op) (seat' : TableId) (me' : Me Slot (Knows K)) (m' : Sitter) (told : Told) : Type 0 where
+  pub record HasGone (call : Call) (seat' : TableId) (me' : Me Slot (Knows K)) (m' : Sitter) (told : Told) : Type 0 where
     pub its_ready : IsReady at key table seat' me' m' desk
     pub its_number : m'.seat.number ≡ m.seat.number
-    pub its_called : HasCalled m.seat.number (call.Op op) me.0.seen me'.0.seen
+    pub its_called : HasCalled m.seat.number call me.0.seen me'.0.seen
     pub its_told : IsToldLast (led (plane at) (at key) me'.0.seen) m'.seat.number (telling told m'.state.finished)
 
-  module _ (op : Op) (now : LineModel K) (went : HasLed at start op now) (along : IsAlong at now) (m1 : Sitter) (same_seat : m1.seat ≡ m.seat) (caught : IsCaughtUp m1.state (stands at now)) where
+  module _ (call : Call) (now : LineModel K) (went : HasLed at start call now) (along : IsAlong at now) (m1 : Sitter) (same_seat : m1.seat ≡ m.seat) (caught : IsCaughtUp m1.state (stands at now)) where
     abbrev me1 : Me Slot (Knows K)
     me1 = now.me
 
@@ -123,9 +122,9 @@ module _ {K : Type 0} (at : K → World) (key : K) (table seat : TableId) (me : 
         told_over =
             subst (λ (x : Seat × List Finished). IsToldLast (led (plane at) (at key) me1.0.seen) x.0.number (telling told x.1)) (λ i. (sym same_seat i, sym (same_finished m1.state s so_caught.lasts) i)) (over.told told (its_ask ∙ done))
 
-        pub gone_over : (seat' : TableId) → seat' ≡ now.table → (me' : Me Slot (Knows K)) → me' ≡ me1 → HasGone op seat' me' m1 told
+        pub gone_over : (seat' : TableId) → seat' ≡ now.table → (me' : Me Slot (Knows K)) → me' ≡ me1 → HasGone call seat' me' m1 told
         gone_over seat' same me' here =
-            subst (λ (x : Me Slot (Knows K)). HasGone op seat' x m1 told) (sym here) record { its_ready = ready_over seat' same; its_number = ap (λ (k : Seat). k.number) same_seat; its_called = went.called; its_told = told_over }
+            subst (λ (x : Me Slot (Knows K)). HasGone call seat' x m1 told) (sym here) record { its_ready = ready_over seat' same; its_number = ap (λ (k : Seat). k.number) same_seat; its_called = went.called; its_told = told_over }
 
       -- it has met something unusual: the machine stands where the line stands, and goes on
       module _ (goes_on : (told : Told) → ask ≢ Done told) where
@@ -180,17 +179,17 @@ module _ {K : Type 0} (at : K → World) (key : K) (table seat : TableId) (me : 
             }
 
             -- it is the same call, from whatever had been seen before
-            pub called_from : (seen : List Happening) → HasCalled m.seat.number (call.Op op) seen me1.0.seen → HasStepped m2.seat.number me2.0.seen me3.0.seen → HasCalled m.seat.number (call.Op op) seen me3.0.seen
+            pub called_from : (seen : List Happening) → HasCalled m.seat.number call seen me1.0.seen → HasStepped m2.seat.number me2.0.seen me3.0.seen → HasCalled m.seat.number call seen me3.0.seen
             called_from seen called steps =
-                called_on at m.seat.number (call.Op op) seen me2.0.seen me3.0.seen (subst (λ (v : Knows K). HasCalled m.seat.number (call.Op op) seen v.seen) (sym view) called)
+                called_on at m.seat.number call seen me2.0.seen me3.0.seen (subst (λ (v : Knows K). HasCalled m.seat.number call seen v.seen) (sym view) called)
                 (subst (λ (k : Seat). HasStepped k.number me2.0.seen me3.0.seen) same_chair steps)
 
-            called_to : HasStepped m2.seat.number me2.0.seen me3.0.seen → HasCalled m.seat.number (call.Op op) me.0.seen me3.0.seen
+            called_to : HasStepped m2.seat.number me2.0.seen me3.0.seen → HasCalled m.seat.number call me.0.seen me3.0.seen
             called_to steps = called_from me.0.seen went.called steps
 
             pub number_on : m3.seat.number ≡ m.seat.number
             number_on = ap (λ (k : Seat). k.number) (chair ∙ same_chair)
 
             pub gone_on : (seat' : TableId) (told : Told) → seat' ≡ now.table → base (plane at) me3.0.hand me3.1 ≡ base (plane at) me2.0.hand me2.1 → me3.0.desk ≡ me2.0.desk → me3.0.hand ≡ None → HasStepped m2.seat.number me2.0.seen me3.0.seen
-                → IsToldLast (led (plane at) (at key) me3.0.seen) m3.seat.number (telling told m3.state.finished) → HasGone op seat' me3 m3 told
+                → IsToldLast (led (plane at) (at key) me3.0.seen) m3.seat.number (telling told m3.state.finished) → HasGone call seat' me3 m3 told
             gone_on seat' told same alone flag empty steps last = record { its_ready = ready_on seat' same alone flag empty; its_number = number_on; its_called = called_to steps; its_told = last }

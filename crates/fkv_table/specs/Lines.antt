@@ -3,6 +3,7 @@ use Rattle.std.specs.Prelude.{◌≡◌, ◌⊎◌, ℕ, List, [], ◌∷◌, Op
 use Rattle.atomic_table.specs.Seated.{TableId}
 use Rattle.atomic_table.specs.Table.{Me}
 use Rattle.fkv_base.specs.Limits.{drain_slots}
+use Rattle.fkv_map.specs.declared.operations.Call.{Call}
 use Rattle.fkv_map.specs.declared.operations.Call.TheVariants as call
 use Rattle.fkv_map.specs.declared.operations.Op.{Op}
 use Rattle.fkv_plane.specs.Asked.{asked_place, reply_to}
@@ -75,17 +76,17 @@ module _ {K : Type 0} (at : K → World) where
     pub its_desk : l.desk ≡ desk_slot drain_slots l.machine.seat.number
     pub come : HasCome l.key l.me (sitter l)
 
-  -- Since the line stood as the first, the call of the operation has begun and has come to the last: by these steps in the list of events, and by these replies.
-  pub record HasLed (start : LineModel K) (op : Op) (now : LineModel K) : Type 0 where
+  -- Since the line stood as the first, the call has begun and has come to the last: by these steps in the list of events, and by these replies.
+  pub record HasLed (start : LineModel K) (call : Call) (now : LineModel K) : Type 0 where
     pub same : now ≡ record start { me = now.me; replies = now.replies }
-    pub called : HasCalled start.machine.seat.number (call.Op op) start.me.0.seen now.me.0.seen
+    pub called : HasCalled start.machine.seat.number call start.me.0.seen now.me.0.seen
     pub step : HasReplied now.key now.me (sitter now)
-    pub replayed : stands now ≡ replayed now.machine.seat (begins start.machine.seat (stands start) op) now.replies
+    pub replayed : stands now ≡ replayed now.machine.seat (begins start.machine.seat (stands start) call) now.replies
 
   -- A session was ready for the call of this operation, which has gone straight as far as the line has come. The machine stands as it stood then.
   pub record IsBegun (key : K) (table : TableId) (m : Sitter) (op : Op) (now : LineModel K) : Type 0 where
     pub me : Me Slot (Knows K)
     pub seat : TableId
     pub ready : IsReady at key table seat me m now.desk
-    pub led : HasLed (line_of key table me m now.desk []) op now
-    pub begins : begins m.seat (stands (line_of key table me m now.desk [])) op ≡ begins m.seat m.state op
+    pub led : HasLed (line_of key table me m now.desk []) (call.Op op) now
+    pub begins : begins m.seat (stands (line_of key table me m now.desk [])) (call.Op op) ≡ begins m.seat m.state (call.Op op)

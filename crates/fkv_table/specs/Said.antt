@@ -14,7 +14,7 @@ pub use Rattle.fkv_keeper.specs.KeeperRun.{is_in_hand}
 pub use Rattle.fkv_keeper.specs.Keeping.{keeper_ask}
 pub use Rattle.fkv_keeper.specs.Running.{IsBeginTold, IsTurnTold}
 pub use Rattle.fkv_keeper.specs.declared.answers.KeeperTold.TheVariants.{Device as AtDevice}
-pub use Rattle.fkv_map.specs.declared.operations.Op.{Op}
+pub use Rattle.fkv_map.specs.declared.operations.Call.{Call}
 pub use Rattle.fkv_plane.specs.Asked.{asked_place, word_at, word_found}
 pub use Rattle.fkv_plane.specs.declared.asks.Ask.TheVariants.{Done}
 pub use Rattle.fkv_seats.specs.Rule.{GotUp, HandFits, Ruled, SatDown, Stepped, base, both_view, desk_of, desk_slot, first_view, led, left_view, right_view, spent_view}

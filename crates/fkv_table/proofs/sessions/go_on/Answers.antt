@@ -1,5 +1,5 @@
 -- The machine comes to stand where the line stands, and makes the rest of the call from there.
-use Rattle.std.proofs.Common.{sym, ap, subst, refl, ◌∙◌, ◌≡◌, false}
+use Rattle.std.proofs.Common.{sym, ap, subst, ◌∙◌}
 use Rattle.fkv_map.specs.declared.operations.Call.TheVariants as call
 use Rattle.fkv_session.specs.Alike.{lasting}
 use Rattle.fkv_session.specs.Sessions.{session_ask}
@@ -22,7 +22,7 @@ returns-in-Done g c =
     let same_seat = ap (λ x. x.seat) there ∙ ap (λ z. z.machine.seat) (b.led.same) in
     let caught : IsCaughtUp c.catch_up-ask.new.self.state (stands at now) = record { lasts = ap (λ x. lasting x.state) there; same = λ busy. ap (λ x. x.state) there } in
     let is = c.catch_up-ask.ensures.ask ∙ (λ i. session_ask (same_seat i) (there i).state) in
-    let its = gone_over at c.args.words.now.key c.args.words.now.table_id b.seat b.me m c.args.line.desk b.ready c.args.op now b.led end.along c.catch_up-ask.new.self same_seat caught c.catch_up-ask.result is
+    let its = gone_over at c.args.words.now.key c.args.words.now.table_id b.seat b.me m c.args.line.desk b.ready (call.Op c.args.op) now b.led end.along c.catch_up-ask.new.self same_seat caught c.catch_up-ask.result is
     c.in-Done.told c.in-Done.is c.into_seat-seat.result.table_id end.table c.into_seat-seat.result.me end.me in
     record {
       ready = its.its_ready;
@@ -40,9 +40,9 @@ settle-next-requires g c =
     let is = c.catch_up-ask.ensures.ask ∙ (λ i. session_ask (same_seat i) (there i).state) in
     record {
       table = end.table ∙ ap (λ z. z.table) (b.led.same);
-      ask = asks_there at c.args.words.now.key c.args.words.now.table_id b.seat b.me m c.args.line.desk b.ready c.args.op now b.led end.along c.catch_up-ask.new.self same_seat caught c.catch_up-ask.result is
+      ask = asks_there at c.args.words.now.key c.args.words.now.table_id b.seat b.me m c.args.line.desk b.ready (call.Op c.args.op) now b.led end.along c.catch_up-ask.new.self same_seat caught c.catch_up-ask.result is
           c.in_default.not-Done;
-      hand = hand_here at c.args.words.now.key c.args.words.now.table_id b.seat b.me m c.args.line.desk b.ready c.args.op now b.led end.along c.catch_up-ask.new.self same_seat caught c.catch_up-ask.result is
+      hand = hand_here at c.args.words.now.key c.args.words.now.table_id b.seat b.me m c.args.line.desk b.ready (call.Op c.args.op) now b.led end.along c.catch_up-ask.new.self same_seat caught c.catch_up-ask.result is
           c.in_default.not-Done c.into_seat-seat.result.me end.me;
     }
 
@@ -54,13 +54,13 @@ steps_on-told-requires g c =
     let caught : IsCaughtUp c.catch_up-ask.new.self.state (stands at now) = record { lasts = ap (λ x. lasting x.state) there; same = λ busy. ap (λ x. x.state) there } in
     let is = c.catch_up-ask.ensures.ask ∙ (λ i. session_ask (same_seat i) (there i).state) in
     let set = c.settle-next.ensures in
-    let moved = settled_here at c.args.words.now.key c.args.words.now.table_id b.seat b.me m c.args.line.desk b.ready c.args.op now b.led end.along c.catch_up-ask.new.self same_seat caught c.catch_up-ask.result is
+    let moved = settled_here at c.args.words.now.key c.args.words.now.table_id b.seat b.me m c.args.line.desk b.ready (call.Op c.args.op) now b.led end.along c.catch_up-ask.new.self same_seat caught c.catch_up-ask.result is
     c.in_default.not-Done c.into_seat-seat.result.me c.settle-next.new.seat.me c.settle-next.new.machine end.me set.settled in
-    let its = on at c.args.words.now.key c.args.words.now.table_id b.seat b.me m c.args.line.desk b.ready c.args.op now b.led end.along c.catch_up-ask.new.self same_seat caught c.catch_up-ask.result is
+    let its = on at c.args.words.now.key c.args.words.now.table_id b.seat b.me m c.args.line.desk b.ready (call.Op c.args.op) now b.led end.along c.catch_up-ask.new.self same_seat caught c.catch_up-ask.result is
     c.in_default.not-Done c.settle-next.new.seat.me c.settle-next.new.machine moved in
     record {
       table = (set.seat.0 ∙ (end.table ∙ ap (λ z. z.table) (b.led.same)), b.ready.opened);
-      seated = stands_on at c.args.words.now.key c.args.words.now.table_id b.seat b.me m c.args.line.desk b.ready c.args.op now b.led end.along c.catch_up-ask.new.self same_seat caught c.catch_up-ask.result is
+      seated = stands_on at c.args.words.now.key c.args.words.now.table_id b.seat b.me m c.args.line.desk b.ready (call.Op c.args.op) now b.led end.along c.catch_up-ask.new.self same_seat caught c.catch_up-ask.result is
           c.in_default.not-Done c.settle-next.new.seat.me c.settle-next.new.machine moved;
       idle = its.idle;
       told = its.told;
@@ -75,16 +75,16 @@ returns g c =
     let caught : IsCaughtUp c.catch_up-ask.new.self.state (stands at now) = record { lasts = ap (λ x. lasting x.state) there; same = λ busy. ap (λ x. x.state) there } in
     let is = c.catch_up-ask.ensures.ask ∙ (λ i. session_ask (same_seat i) (there i).state) in
     let set = c.settle-next.ensures in
-    let moved = settled_here at c.args.words.now.key c.args.words.now.table_id b.seat b.me m c.args.line.desk b.ready c.args.op now b.led end.along c.catch_up-ask.new.self same_seat caught c.catch_up-ask.result is
+    let moved = settled_here at c.args.words.now.key c.args.words.now.table_id b.seat b.me m c.args.line.desk b.ready (call.Op c.args.op) now b.led end.along c.catch_up-ask.new.self same_seat caught c.catch_up-ask.result is
     c.in_default.not-Done c.into_seat-seat.result.me c.settle-next.new.seat.me c.settle-next.new.machine end.me set.settled in
     let later = c.steps_on-told.ensures in
-    let its = gone_on at c.args.words.now.key c.args.words.now.table_id b.seat b.me m c.args.line.desk b.ready c.args.op now b.led end.along c.catch_up-ask.new.self same_seat caught c.catch_up-ask.result is
+    let its = gone_on at c.args.words.now.key c.args.words.now.table_id b.seat b.me m c.args.line.desk b.ready (call.Op c.args.op) now b.led end.along c.catch_up-ask.new.self same_seat caught c.catch_up-ask.result is
     c.in_default.not-Done c.settle-next.new.seat.me c.settle-next.new.machine moved c.steps_on-told.new.seat.me c.steps_on-told.new.machine later.rests.0 later.rests.1 c.steps_on-told.new.seat.table_id c.steps_on-told.result
     (later.seat.0 ∙ (set.seat.0 ∙ end.table)) later.desk.0 later.desk.1 later.idle later.steps later.told in
     record {
       ready = its.its_ready;
       number = its.its_number;
-      called = λ seen called. called_from at c.args.words.now.key c.args.words.now.table_id b.seat b.me m c.args.line.desk b.ready c.args.op now b.led end.along c.catch_up-ask.new.self same_seat caught c.catch_up-ask.result is
+      called = λ seen called. called_from at c.args.words.now.key c.args.words.now.table_id b.seat b.me m c.args.line.desk b.ready (call.Op c.args.op) now b.led end.along c.catch_up-ask.new.self same_seat caught c.catch_up-ask.result is
           c.in_default.not-Done c.settle-next.new.seat.me c.settle-next.new.machine moved c.steps_on-told.new.seat.me c.steps_on-told.new.machine later.rests.0 later.rests.1 seen called later.steps;
       told = its.its_told;
     }

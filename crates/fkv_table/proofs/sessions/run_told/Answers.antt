@@ -25,9 +25,9 @@ pub returns-in-Ended : goal.returns-in-Ended
 returns-in-Ended g c =
     let at = opening_of g.D.Device.seen in let m = c.args.machine.now in let value = c.new-line.ensures.value in let now = c.go-went.new.line in let end = c.into_seat-seat.ensures in
     let did = c.go-went.ensures.ended c.in-Ended.told c.in-Ended.is in
-    let went = subst (λ z. HasLed at z c.args.op now) value did.0 in
+    let went = subst (λ z. HasLed at z (call.Op c.args.op) now) value did.0 in
     let is = did.1 ∙ ap (λ z. session_ask z.machine.seat (stands at now)) value in
-    let its = gone_over at c.args.words.now.key c.args.words.now.table_id c.args.pass.seat.table_id c.args.pass.seat.me m c.args.desk c.requires.ready c.args.op now went end.along c.go-went.new.self c.go-went.ensures.machine did.2 (Done c.in-Ended.told) is
+    let its = gone_over at c.args.words.now.key c.args.words.now.table_id c.args.pass.seat.table_id c.args.pass.seat.me m c.args.desk c.requires.ready (call.Op c.args.op) now went end.along c.go-went.new.self c.go-went.ensures.machine did.2 (Done c.in-Ended.told) is
     c.in-Ended.told refl c.into_seat-seat.result.table_id end.table c.into_seat-seat.result.me end.me in
     record { ready = its.its_ready; number = its.its_number; called = its.its_called; told = its.its_told }
 
@@ -35,14 +35,14 @@ pub go_on-requires : goal.go_on-requires
 go_on-requires g c =
     let at = opening_of g.D.Device.seen in let m = c.args.machine.now in let value = c.new-line.ensures.value in let now = c.go-went.new.line in let key = c.args.words.now.key in let table = c.args.words.now.table_id in
     let did = c.go-went.ensures.stopped c.in-Stopped.is in
-    let went = subst (λ z. HasLed at z c.args.op now) value did.0 in
+    let went = subst (λ z. HasLed at z (call.Op c.args.op) now) value did.0 in
     let begun : IsBegun at key table m c.args.op now = record {
       me = c.args.pass.seat.me;
       seat = c.args.pass.seat.table_id;
       ready = subst (λ d. IsReady at key table c.args.pass.seat.table_id c.args.pass.seat.me m d) (sym (ap (λ z. z.desk) went.same)) c.requires.ready;
-      led = subst (λ d. HasLed at (line_of key table c.args.pass.seat.me m d []) c.args.op now) (sym (ap (λ z. z.desk) went.same)) went;
-      begins = subst (λ d. begins m.seat (stands at (line_of key table c.args.pass.seat.me m d [])) c.args.op ≡ begins m.seat m.state c.args.op) (sym (ap (λ z. z.desk) went.same))
-          (subst (λ z. begins z.machine.seat (stands at z) c.args.op ≡ begins m.seat m.state c.args.op) value did.2);
+      led = subst (λ d. HasLed at (line_of key table c.args.pass.seat.me m d []) (call.Op c.args.op) now) (sym (ap (λ z. z.desk) went.same)) went;
+      begins = subst (λ d. begins m.seat (stands at (line_of key table c.args.pass.seat.me m d [])) (call.Op c.args.op) ≡ begins m.seat m.state (call.Op c.args.op)) (sym (ap (λ z. z.desk) went.same))
+          (subst (λ z. begins z.machine.seat (stands at z) (call.Op c.args.op) ≡ begins m.seat m.state (call.Op c.args.op)) value did.2);
     } in
     record { begun = subst (λ x. IsBegun at key table x c.args.op now) (sym did.1) begun }
 
@@ -50,7 +50,7 @@ pub returns-in-Stopped : goal.returns-in-Stopped
 returns-in-Stopped g c =
     let at = opening_of g.D.Device.seen in let m = c.args.machine.now in let value = c.new-line.ensures.value in let now = c.go-went.new.line in
     let did = c.go-went.ensures.stopped c.in-Stopped.is in
-    let went = subst (λ z. HasLed at z c.args.op now) value did.0 in
+    let went = subst (λ z. HasLed at z (call.Op c.args.op) now) value did.0 in
     let ran = c.go_on.ensures in
     let same = ap (λ x. x.seat.number) did.1 in
     record {
