@@ -63,9 +63,9 @@ impl Session {
         ensures called { said.IsToldCall (said.opening_of ⟦<Posted<'static> as Device>⟧.seen) (said.sitting_of self.old) (said.laid_call (said.keys_of self.old) call) result (said.sitting_of self.new) }
         ensures keys { said.keys_of self.new ≡ said.keys_of self.old }
     {
-        let call = laid_in(self.keys, call);
+        let its_call = laid_in(self.keys, call);
         match &mut self.seated {
-            Some(seated) => seated.tell(call),
+            Some(seated) => seated.tell(its_call),
             None => Told::Refused(Fault::NoSession),
         }
     }

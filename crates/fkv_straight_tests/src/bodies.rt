@@ -90,6 +90,15 @@ const HANDED_OVER: [Meeting; 4] = [
     Meeting::Waits,
 ];
 
+/// What refreshes that go straight come to.
+const REFRESHED: [Meeting; 5] = [
+    Meeting::Rest,
+    Meeting::Prepare,
+    Meeting::InProgress,
+    Meeting::WaitPending,
+    Meeting::WaitFlush,
+];
+
 /// Each of these was met more than a hundred times.
 fn has_met(meetings: &Meetings, wanted: &[Meeting]) -> bool {
     for meeting in wanted {
@@ -112,5 +121,6 @@ fn both_bodies_agree(rt: HostRuntime) -> Result<(), Fail> {
     assert!(rt; has_met(&ways.straight, &STRAIGHT));
     assert!(rt; has_met(&ways.handed_over, &HANDED_OVER));
     assert!(rt; ways.by_machine.of(Meeting::Prepare) > 100);
+    assert!(rt; has_met(&ways.refreshed, &REFRESHED));
     Ok(())
 }

@@ -73,6 +73,12 @@ impl Meetings {
         self.add_trace(trace);
     }
 
+    /// A refresh has come to this phase.
+    pub(crate) fn add_refresh(&mut self, phase: Phase) {
+        self.all = self.all.wrapping_add(1);
+        self.count(phase_of(phase));
+    }
+
     fn add_trace(&mut self, trace: &Trace) {
         if trace.is_full {
             self.count(Meeting::FullBucket);

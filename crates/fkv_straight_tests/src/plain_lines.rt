@@ -6,7 +6,7 @@ ghost use Rattle.fkv_straight.specs.Standing.{leads};
 ghost use Rattle.fkv_straight_tests.specs.Lines.{standing};
 
 use arrayvec::ArrayVec;
-use fkv_map::Op;
+use fkv_map::Call;
 use fkv_plane::{Ask, PlainWords};
 use fkv_session::Told;
 use fkv_straight::{Line, StraightSession};
@@ -20,7 +20,7 @@ pub(crate) struct PlainLine<'w, R: Abort> {
     words: &'w mut PlainWords,
     /// The session's machine, as the line was made.
     machine: Snapshot<StraightSession>,
-    op: Option<Op>,
+    call: Option<Call>,
     replies: ArrayVec<u64, 64>,
 }
 
@@ -33,14 +33,14 @@ impl<'w, R: Abort> PlainLine<'w, R> {
         machine: &StraightSession,
     ) -> PlainLine<'w, R>
         ensures seat { result.machine.value.seat ≡ machine.now.seat }
-        ensures idle { is_busy (standing result.machine.value result.op result.replies.items).step ≡ false }
-        ensures alike { lasting machine.now.state ≡ lasting (standing result.machine.value result.op result.replies.items) }
+        ensures idle { is_busy (standing result.machine.value result.call result.replies.items).step ≡ false }
+        ensures alike { lasting machine.now.state ≡ lasting (standing result.machine.value result.call result.replies.items) }
     {
         PlainLine {
             rt,
             words,
             machine: Snapshot::of(machine),
-            op: None,
+            call: None,
             replies: ArrayVec::new(),
         }
     }
@@ -50,7 +50,7 @@ impl<'w, R: Abort> PlainLine<'w, R> {
         requires room { length self.old.replies.items < 64 }
         ensures replies { self.new.replies.items ≡ self.old.replies.items ++ result ∷ [] }
         ensures machine { self.new.machine.value ≡ self.old.machine.value }
-        ensures op { self.new.op ≡ self.old.op }
+        ensures call { self.new.call ≡ self.old.call }
     {
         let reply = self.words.perform(ask);
         self.replies.push(reply);
@@ -63,9 +63,9 @@ impl<'w, R: Abort> PlainLine<'w, R> {
         requires room { length self.old.replies.items < 64 }
         ensures replies { self.new.replies.items ≡ self.old.replies.items ++ result ∷ [] }
         ensures machine { self.new.machine.value ≡ self.old.machine.value }
-        ensures next { standing self.new.machine.value self.new.op self.new.replies.items ≡ leads self.old.machine.value.seat (standing self.old.machine.value self.old.op self.old.replies.items) result }
+        ensures next { standing self.new.machine.value self.new.call self.new.replies.items ≡ leads self.old.machine.value.seat (standing self.old.machine.value self.old.call self.old.replies.items) result }
     {
-        let Some(_) = self.op else {
+        let Some(_) = self.call else {
             self.rt.abort();
         };
         self.step(ask)
@@ -79,19 +79,19 @@ impl<'w, R: Abort> Line for PlainLine<'w, R> {
 
     ghost seat = { λ l. l.machine.value.seat };
 
-    ghost stands = { λ l. standing l.machine.value l.op l.replies.items };
+    ghost stands = { λ l. standing l.machine.value l.call l.replies.items };
 
-    ghost led = { λ l op m. standing m.machine.value m.op m.replies.items ≡ replayed m.machine.value.seat (begins l.machine.value.seat (standing l.machine.value l.op l.replies.items) op) m.replies.items };
+    ghost led = { λ l call m. standing m.machine.value m.call m.replies.items ≡ replayed m.machine.value.seat (begins l.machine.value.seat (standing l.machine.value l.call l.replies.items) call) m.replies.items };
 
     ghost kept = { λ l. length l.replies.items };
 
     /// A line is for one call: it doesn't begin another.
     #[tactic(auto, using(crate::proofs::Led::stands_first, crate::proofs::Led::led_first))]
-    fn first(&mut self, op: Op, place: usize) -> u64 {
-        if let Some(_) = self.op {
+    fn first(&mut self, call: Call, place: usize) -> u64 {
+        if let Some(_) = self.call {
             self.rt.abort();
         }
-        self.op = Some(op);
+        self.call = Some(call);
         self.replies.clear();
         self.step(&Ask::Load(place))
     }

@@ -1,4 +1,4 @@
-//! One call, in a store whose operations go straight and in one where the machine makes them.
+//! One call, in a store whose operations and refreshes go straight and in one where the machine makes them.
 use crate::actors::step;
 use crate::meetings::Trace;
 use crate::plain_lines::PlainLine;
@@ -57,7 +57,30 @@ fn begin_straight<R: Abort>(
     }
 }
 
-/// Begins a call where operations go straight.
+/// Makes a refresh straight, where it may go so.
+fn begin_refresh<R: Abort>(
+    rt: &R,
+    words: &mut PlainWords,
+    session: &mut StraightSession,
+) -> Begun {
+    let mut line = PlainLine::new(rt, words, session);
+    let told = session.refresh(&mut line);
+    let steps = line.replies().len();
+    match told {
+        Some(told) => Begun {
+            way: Way::Straight,
+            steps,
+            ask: Ask::Done(told),
+        },
+        None => Begun {
+            way: Way::Machine,
+            steps,
+            ask: session.begin(Call::Refresh),
+        },
+    }
+}
+
+/// Begins a call where operations and refreshes go straight.
 pub(crate) fn begin<R: Abort>(
     rt: &R,
     words: &mut PlainWords,
@@ -66,6 +89,7 @@ pub(crate) fn begin<R: Abort>(
 ) -> Begun {
     match call {
         Call::Op(op) => begin_straight(rt, words, session, op),
+        Call::Refresh => begin_refresh(rt, words, session),
         _ => Begun {
             way: Way::Machine,
             steps: 0,

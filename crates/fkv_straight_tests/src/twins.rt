@@ -1,4 +1,4 @@
-//! Two stores that are given the same events: the operations of one go straight, and the machine makes those of the other.
+//! Two stores that are given the same events: the operations and refreshes of one go straight, and the machine makes those of the other.
 use crate::meetings::{Meetings, Parts, Trace};
 use crate::scripts::{Draws, Event};
 use crate::sides::{Begun, Way, begin, begin_by_machine, end};
@@ -22,6 +22,8 @@ pub(crate) struct Ways {
     pub(crate) handed_over: Meetings,
     /// By the machine from the start on.
     pub(crate) by_machine: Meetings,
+    /// Refreshes that went straight, by the phase that they came to.
+    pub(crate) refreshed: Meetings,
 }
 
 impl Ways {
@@ -30,12 +32,16 @@ impl Ways {
             straight: Meetings::new(),
             handed_over: Meetings::new(),
             by_machine: Meetings::new(),
+            refreshed: Meetings::new(),
         }
     }
 
-    /// Counts a call, where it is an operation.
+    /// Counts a call, where it is an operation or a refresh.
     fn add(&mut self, way: Way, call: Call, seen: Seen, trace: &Trace, told: Told) {
         let Call::Op(op) = call else {
+            if let (Way::Straight, Told::Refreshed(phase, _)) = (way, told) {
+                self.refreshed.add_refresh(phase);
+            }
             return;
         };
         match way {
