@@ -11,6 +11,7 @@ use Rattle.fkv_face.specs.declared.sessions.Seen.{Seen}
 use Rattle.fkv_face.specs.declared.sessions.Update.{Update}
 use Rattle.fkv_face.specs.declared.told.Numbers.{Numbers}
 pub use Rattle.fkv_face.specs.Told.{IsToldIn, HasAnswered}
+pub use Rattle.fkv_handles.specs.Below.fkv_table.Planes.{opening_of}
 
 abbrev pub upsert_of : ℕ → ℕ → Op
 upsert_of key value = op.Upsert (record { 0 = key }) (record { 0 = value })

@@ -9,6 +9,7 @@ use Rattle.fkv_base.specs.declared.shapes.Shape.{Shape}
 use Rattle.fkv_face.specs.declared.sizes.Image.{Image}
 use Rattle.fkv_face.specs.declared.sizes.Sizes.{Sizes}
 pub use Rattle.fkv_face.specs.Points.{ArePoints}
+pub use Rattle.std.specs.Prelude.{Err, IfOk, OnErr, is_ok}
 
 -- the shape has these sizes
 pub record HasSizes (sizes : Sizes) (shape : Shape) : Type 0 where

@@ -3,7 +3,7 @@ use Rattle.std.specs.Prelude.{◌≡◌, ℕ, ℤ, List, pos}
 use Rattle.fkv_map.specs.declared.operations.Call.{Call}
 use Rattle.fkv_session.specs.declared.answers.Answer.{Answer}
 use Rattle.fkv_session.specs.declared.answers.Answer.TheVariants as answer
-use Rattle.fkv_session.specs.declared.answers.Finished.{Finished}
+pub use Rattle.fkv_session.specs.declared.answers.Finished.{Finished}
 use Rattle.fkv_session.specs.declared.answers.Told.{Told}
 use Rattle.fkv_session.specs.declared.answers.Told.TheVariants as told
 use Rattle.fkv_handles.specs.Below.fkv_world.Runs.{World}
@@ -12,7 +12,8 @@ use Rattle.fkv_handles.specs.Handles.{Opening, keys_of, sitting_of}
 use Rattle.fkv_handles.specs.Laid.{laid_call}
 use Rattle.fkv_handles.specs.Sittings.{IsCalled}
 use Rattle.fkv_face.specs.declared.told.Numbers.{Numbers}
-use Rattle.fkv_face.specs.Numbers.{fault_told, number_in, phase_number, reason_number}
+use Rattle.fkv_face.specs.Numbers.{fault_told}
+pub use Rattle.fkv_face.specs.Numbers.{number_in, phase_number, reason_number}
 
 abbrev numbered : ℤ → ℕ → ℕ → ℕ → Numbers
 numbered result first second third = record { result = result; first = first; second = second; third = third }

@@ -18,6 +18,7 @@ use Rattle.fkv_face.specs.Numbers.{fault_told}
 use Rattle.fkv_face.specs.Points.{ArePoints}
 pub use Rattle.fkv_handles.specs.Handles.{IsToldHonestly, Opening, due_of, watch_of}
 pub use Rattle.fkv_face.specs.Outcomes.{outcome_of}
+pub use Rattle.fkv_handles.specs.Below.fkv_table.Planes.{opening_of}
 
 -- Where the call lies that is posted. A write's bytes lie where the pointer says.
 abbrev pub IsPosted : Option AskedCall → ℤ → Turned → Turned → Type 0

@@ -1,11 +1,6 @@
 //! The word by which C holds it.
 ghost use Rattle.std.specs.Prelude.{◌≡◌};
-ghost use Rattle.std.specs.Borrow.{sem};
-ghost use Rattle.std_alloc.specs.Box.Ownership.{box_owns};
-ghost use Rattle.std_heap.specs.declared.Global.{Global};
-ghost use Rattle.std_heap.specs.contracts.GlobalAllocator.TheImpl.{ghosts};
-ghost use Rattle.fkv_handles.specs.declared.sessions.Session.{Session};
-ghost use Rattle.fkv_handles.specs.contracts.sessions.Session.{the_row as value_row};
+ghost use Rattle.fkv_face.specs.Holding as holds;
 
 use fkv_handles::Session;
 use std::marker::Model;
@@ -14,12 +9,12 @@ use std::marker::Model;
 #[repr(C)]
 pub struct HeldSession {
     at: *mut u8,
-    ghost value: { Session },
-    ghost alloc: { Global },
+    ghost value: { holds.Session },
+    ghost alloc: { holds.Global },
 }
 
 impl Model for HeldSession {
-    ghost also_owns = { λ h. box_owns (ghosts.dealloc_token h.alloc) value_row h.at h.value };
+    ghost also_owns = { λ h. holds.box_owns (holds.ghosts.dealloc_token h.alloc) holds.session_row h.at h.value };
 }
 
 impl HeldSession {
@@ -28,7 +23,7 @@ impl HeldSession {
     /// What is held.
     #[inline(always)]
     pub fn lent(&mut self) -> &mut Session
-        ensures* writes_back { sem 𝓛 (LendsSession self.entry result) }
+        ensures* writes_back { holds.sem 𝓛 (LendsSession self.entry result) }
         ensures value { result.now ≡ self.old.value }
     {
         unsafe { &mut *self.at.cast::<Session>() }

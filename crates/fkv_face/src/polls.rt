@@ -1,7 +1,6 @@
 //! Polls, and the end of a session's handle.
-ghost use Rattle.std.specs.Prelude.{◌≡◌, ◌≤◌, ◌++◌, length, map, drop};
+ghost use Rattle.std.specs.Prelude.{◌≡◌, ◌≤◌, ◌++◌, length};
 ghost use Rattle.fkv_face.specs.Polls as says;
-ghost use Rattle.fkv_handles.specs.Below.fkv_table.Planes.{opening_of};
 
 use crate::answers::ROOM_SMALL;
 use crate::held_session::HeldSession;
@@ -48,7 +47,7 @@ fn finished_request(its: Finished) -> FinishedRequest
 /// Copies the list to the front of the room.
 fn fill(list: &[Finished], into: &mut [FinishedRequest])
     requires { length list.now ≤ length into.old }
-    ensures { into.new ≡ map says.request_of list.now ++ drop (length list.now) into.old }
+    ensures { into.new ≡ says.map says.request_of list.now ++ says.drop (length list.now) into.old }
 {
     for i in 0..list.len() {
         into[i] = finished_request(list[i]);
@@ -63,7 +62,7 @@ pub extern "C" fn fkv_poll(
     into: &mut [FinishedRequest],
     count: &mut u64,
 ) -> i32
-    ensures { says.IsPolled (opening_of ⟦<Posted<'static> as Device>⟧.seen) session.old.value into.old result into.new count.new session.new.value }
+    ensures { says.IsPolled (says.opening_of ⟦<Posted<'static> as Device>⟧.seen) session.old.value into.old result into.new count.new session.new.value }
 {
     *count = 0;
     if into.len() < MAX_PENDING {
@@ -83,7 +82,7 @@ pub extern "C" fn fkv_poll(
 /// block of the handle is left to the caller, who frees it.
 #[unsafe(no_mangle)]
 pub extern "C" fn fkv_end_session(session: &mut HeldSession) -> i32
-    ensures { says.IsEnded (opening_of ⟦<Posted<'static> as Device>⟧.seen) session.old.value result session.new.value }
+    ensures { says.IsEnded (says.opening_of ⟦<Posted<'static> as Device>⟧.seen) session.old.value result session.new.value }
 {
     let slept = run(session, Call::Sleep);
     if slept.result == -11 {

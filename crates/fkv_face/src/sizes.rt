@@ -1,5 +1,5 @@
 //! Sizes of a store, and what its image has told.
-ghost use Rattle.std.specs.Prelude.{◌≡◌, is_ok, IfOk, OnErr, Err};
+ghost use Rattle.std.specs.Prelude.{◌≡◌};
 ghost use Rattle.fkv_base.specs.Limits.{is_shape};
 ghost use Rattle.fkv_base.specs.declared.faults.Fault.TheVariants.{BadShape};
 ghost use Rattle.fkv_face.specs.Sizes as says;
@@ -55,9 +55,9 @@ impl Image {
 
 /// The shape of these sizes, small or large. `BadShape`.
 pub(crate) fn shape_of(sizes: &Sizes) -> Result<Shape, Fault>
-    ensures sizes { IfOk result (says.HasSizes sizes.now) }
-    ensures tested { is_ok result ≡ says.are_sizes sizes.now }
-    ensures refused { OnErr result (result ≡ Err BadShape) }
+    ensures sizes { says.IfOk result (says.HasSizes sizes.now) }
+    ensures tested { says.is_ok result ≡ says.are_sizes sizes.now }
+    ensures refused { says.OnErr result (result ≡ says.Err BadShape) }
 {
     let Sizes {
         bucket_bits,

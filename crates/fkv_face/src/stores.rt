@@ -1,7 +1,6 @@
 //! A store is made, opened, handed out and closed.
 ghost use Rattle.std.specs.Prelude.{◌≡◌};
 ghost use Rattle.fkv_face.specs.Stores as says;
-ghost use Rattle.fkv_handles.specs.Below.fkv_table.Planes.{opening_of};
 
 use crate::answers::{ROOM_SMALL, not_given, refused};
 use crate::held_store::HeldStore;
@@ -64,7 +63,7 @@ pub extern "C" fn fkv_open(
     image: &mut Image,
     points: &mut [u64],
 ) -> i32
-    ensures { says.IsOpening (opening_of ⟦<Posted<'static> as Device>⟧.seen) bytes.now keys result out.old out.new sizes.old sizes.new image.old image.new points.old points.new }
+    ensures { says.IsOpening (says.opening_of ⟦<Posted<'static> as Device>⟧.seen) bytes.now keys result out.old out.new sizes.old sizes.new image.old image.new points.old points.new }
 {
     match Store::open(alloc, bytes, keys_told(keys)) {
         Ok((store, recovered)) => {

@@ -1,8 +1,6 @@
 //! Answers as numbers.
 ghost use Rattle.std.specs.Prelude.{◌≡◌, List};
-ghost use Rattle.fkv_face.specs.Numbers.{number_in, phase_number, reason_number};
-ghost use Rattle.fkv_face.specs.Told.{answer_saying, numbers_of};
-ghost use Rattle.fkv_session.specs.declared.answers.Finished.{Finished};
+ghost use Rattle.fkv_face.specs.Told as says;
 
 use crate::answers::refused;
 use fkv_base::Phase;
@@ -31,7 +29,7 @@ pub(crate) const PENDING: i32 = 3;
 /// The value that goes with a reply, 0 where none does.
 #[inline(always)]
 pub(crate) fn number_in(reply: Reply) -> u64
-    ensures { result ≡ number_in reply }
+    ensures { result ≡ says.number_in reply }
 {
     match reply {
         Reply::Nothing => 0,
@@ -43,7 +41,7 @@ pub(crate) fn number_in(reply: Reply) -> u64
 
 #[inline(always)]
 fn reason_number(reason: Reason) -> u64
-    ensures { result ≡ reason_number reason }
+    ensures { result ≡ says.reason_number reason }
 {
     match reason {
         Reason::Fuzzy => 1,
@@ -57,7 +55,7 @@ fn reason_number(reason: Reason) -> u64
 
 #[inline(always)]
 fn phase_number(phase: Phase) -> u64
-    ensures { result ≡ phase_number phase }
+    ensures { result ≡ says.phase_number phase }
 {
     match phase {
         Phase::Rest => 0,
@@ -82,7 +80,7 @@ fn tells(its: i32, first: u64, second: u64, third: u64) -> Numbers
 
 /// The numbers of an answer. Of a poll they are how many requests are left.
 pub(crate) fn told_of(answer: Answer) -> Numbers
-    ensures { result ≡ numbers_of answer }
+    ensures { result ≡ says.numbers_of answer }
 {
     match answer {
         Answer::Done(serial, reply) => tells(DONE, serial.0, number_in(reply), 0),
@@ -102,7 +100,7 @@ pub(crate) fn told_of(answer: Answer) -> Numbers
 /// The numbers of what an operation was told: those of the answer that says so, without the list that an `Answer` has room for.
 #[inline(always)]
 pub(crate) fn told_by(told: Told) -> Numbers
-    ensures { (finished : List Finished) → result ≡ numbers_of (answer_saying told finished) }
+    ensures { (finished : List says.Finished) → result ≡ says.numbers_of (says.answer_saying told finished) }
 {
     match told {
         Told::Done(serial, reply) => tells(DONE, serial.0, number_in(reply), 0),

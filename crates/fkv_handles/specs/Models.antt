@@ -9,3 +9,4 @@ pub use Rattle.fkv_posted.specs.declared.posted.Posted.{Posted as Medium}
 pub use Rattle.fkv_threads.specs.Below.fkv_table.Calls.{IsReady}
 pub use Rattle.fkv_threads.specs.Below.fkv_table.Keeps.{IsAfterSeen, IsKeeperAtWork}
 pub use Rattle.fkv_threads.specs.Below.fkv_table.Planes.{opening_of}
+pub use Rattle.std.specs.Prelude.{IfSome, is_some}

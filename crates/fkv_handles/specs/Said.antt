@@ -14,3 +14,4 @@ pub use Rattle.fkv_map.specs.declared.operations.Call.TheVariants.{Op}
 pub use Rattle.fkv_opening.specs.Opened.{IsStoreOf}
 pub use Rattle.fkv_threads.specs.Below.fkv_table.Planes.{opening_of}
 pub use Rattle.fkv_threads.specs.Said.{EachAt, HasBegun, IsAfterSeen, IsKeeperReady}
+pub use Rattle.std.specs.Prelude.{Err, IfErr, IfOk, Ok, OnErr, OnOk, map}

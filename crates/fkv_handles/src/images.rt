@@ -1,5 +1,5 @@
 //! The image of a new store.
-ghost use Rattle.std.specs.Prelude.{◌≡◌, [], IfOk, OnErr, Err};
+ghost use Rattle.std.specs.Prelude.{◌≡◌, []};
 ghost use Rattle.fkv_handles.specs.Said as said;
 
 use fkv_base::{Fault, Shape};
@@ -9,8 +9,8 @@ use std::alloc::Global;
 
 /// The bytes of a new store of this shape, 1,536 of them, for a file that the caller makes. `Memory` where memory was refused.
 pub fn image_of(alloc: Global, shape: Shape) -> Result<Vec<u8>, Fault>
-    ensures bytes { IfOk result (λ bytes. bytes.items ≡ said.created_bytes [] shape) }
-    ensures memory { OnErr result (result ≡ Err said.Memory) }
+    ensures bytes { said.IfOk result (λ bytes. bytes.items ≡ said.created_bytes [] shape) }
+    ensures memory { said.OnErr result (result ≡ said.Err said.Memory) }
 {
     let mut disk = MemDisk::new(alloc);
     match create(&mut disk, shape) {

@@ -25,14 +25,14 @@ pub struct Keeping {
 }
 
 impl Model for Keeping {
-    ghost use Rattle.std.specs.Prelude.{◌≡◌, IfSome, is_some, true};
+    ghost use Rattle.std.specs.Prelude.{◌≡◌, true};
     ghost use Rattle.fkv_handles.specs.Models as model;
 
     ghost Value = { model.Watch (model.Snapshot (model.WorldModel model.Medium)) };
 
     ghost view = { λ s. record { key = s.table.value.table.shared.key; seen = model.seen_by_keeper s.pass; machine = s.keeper.machine; device = s.device; in_turn = s.in_turn } };
 
-    ghost invariant = { λ s. (is_some s.pass ≡ true) × ⟦<Posted<'static> as Device>⟧.honest s.device × IfSome s.pass (λ p. model.IsKeeperAtWork (model.opening_of ⟦<Posted<'static> as Device>⟧.seen) s.table.value.table.shared.key s.table.value.table.shared.table_id p.seat.table_id p.seat.me s.keeper.machine × model.IsAfterSeen (model.opening_of ⟦<Posted<'static> as Device>⟧.seen) s.table.value.table.shared.key p.seat.me.0.seen (⟦<Posted<'static> as Device>⟧.seen s.device) (⟦<Posted<'static> as Device>⟧.may_leave s.device)) × model.StandsSo s.in_turn s.keeper.machine };
+    ghost invariant = { λ s. (model.is_some s.pass ≡ true) × ⟦<Posted<'static> as Device>⟧.honest s.device × model.IfSome s.pass (λ p. model.IsKeeperAtWork (model.opening_of ⟦<Posted<'static> as Device>⟧.seen) s.table.value.table.shared.key s.table.value.table.shared.table_id p.seat.table_id p.seat.me s.keeper.machine × model.IsAfterSeen (model.opening_of ⟦<Posted<'static> as Device>⟧.seen) s.table.value.table.shared.key p.seat.me.0.seen (⟦<Posted<'static> as Device>⟧.seen s.device) (⟦<Posted<'static> as Device>⟧.may_leave s.device)) × model.StandsSo s.in_turn s.keeper.machine };
 }
 
 impl Keeping {

@@ -1,5 +1,5 @@
 //! The parts of a store's opening.
-ghost use Rattle.std.specs.Prelude.{◌≡◌, length, map, IfOk, IfErr, OnErr, Err, Some, true};
+ghost use Rattle.std.specs.Prelude.{◌≡◌, length, Some, true};
 ghost use Rattle.fkv_handles.specs.Said as said;
 
 use crate::keeping::Keeping;
@@ -24,8 +24,8 @@ fn seats(
     sessions: Vec<(fkv_threads::Session, Pass<Medium>)>,
 ) -> Result<Vec<Option<Seated>>, Fault>
     requires ready { said.EachAt sessions.items (λ i x. said.HasBegun (said.opening_of ⟦<Posted<'static> as Device>⟧.seen) table.now.value.table.shared.key table.now.value.table.shared.table_id i x.0.machine x.0.desk x.1.seat.table_id x.1.seat.me) }
-    ensures same { IfOk result (λ seats. seats.items ≡ map (said.sitting_at table.now.value.table.shared.key) sessions.entry.items) }
-    ensures memory { OnErr result (result ≡ Err said.Memory) }
+    ensures same { said.IfOk result (λ seats. seats.items ≡ said.map (said.sitting_at table.now.value.table.shared.key) sessions.entry.items) }
+    ensures memory { said.OnErr result (result ≡ said.Err said.Memory) }
 {
     let mut seats = Vec::new(alloc);
     for (session, pass) in sessions {
@@ -40,8 +40,8 @@ fn seats(
 }
 
 fn copied(alloc: Global, points: &[Serial]) -> Result<Vec<Serial>, Fault>
-    ensures same { IfOk result (λ copies. copies.items ≡ points.now) }
-    ensures memory { OnErr result (result ≡ Err said.Memory) }
+    ensures same { said.IfOk result (λ copies. copies.items ≡ points.now) }
+    ensures memory { said.OnErr result (result ≡ said.Err said.Memory) }
 {
     let mut copies = Vec::new(alloc);
     for point in points {
@@ -52,8 +52,8 @@ fn copied(alloc: Global, points: &[Serial]) -> Result<Vec<Serial>, Fault>
 
 /// What the image has told.
 pub(crate) fn told_of(alloc: Global, opened: &Opened) -> Result<Recovered, Fault>
-    ensures told { IfOk result (said.IsRecovered opened.now) }
-    ensures memory { OnErr result (result ≡ Err said.Memory) }
+    ensures told { said.IfOk result (said.IsRecovered opened.now) }
+    ensures memory { said.OnErr result (result ≡ said.Err said.Memory) }
 {
     let points = copied(alloc, &opened.points)?;
     Ok(Recovered {
@@ -65,11 +65,11 @@ pub(crate) fn told_of(alloc: Global, opened: &Opened) -> Result<Recovered, Fault
 
 /// The store of this image, and the medium that it lies on from now on.
 pub(crate) fn opened_from(alloc: Global, bytes: &[u8]) -> Result<(Opened, Medium), Fault>
-    ensures store { IfOk result (λ r. said.IsStoreOf bytes.now r.0) }
-    ensures seen { IfOk result (λ r. ⟦<Posted<'static> as Device>⟧.seen r.1 ≡ bytes.now) }
-    ensures honest { IfOk result (λ r. ⟦<Posted<'static> as Device>⟧.honest r.1) }
-    ensures leaves { IfOk result (λ r. said.LeavesOnly (⟦<Posted<'static> as Device>⟧.seen r.1) (⟦<Posted<'static> as Device>⟧.may_leave r.1)) }
-    ensures refused { IfErr result (said.IsOpeningRefused bytes.now) }
+    ensures store { said.IfOk result (λ r. said.IsStoreOf bytes.now r.0) }
+    ensures seen { said.IfOk result (λ r. ⟦<Posted<'static> as Device>⟧.seen r.1 ≡ bytes.now) }
+    ensures honest { said.IfOk result (λ r. ⟦<Posted<'static> as Device>⟧.honest r.1) }
+    ensures leaves { said.IfOk result (λ r. said.LeavesOnly (⟦<Posted<'static> as Device>⟧.seen r.1) (⟦<Posted<'static> as Device>⟧.may_leave r.1)) }
+    ensures refused { said.IfErr result (said.IsOpeningRefused bytes.now) }
 {
     let mut shown = Posted::new(bytes);
     match recover(alloc, &mut shown) {
@@ -108,12 +108,12 @@ pub(crate) fn handles_of(
     keys: Keys,
 ) -> Result<Store, Fault>
     requires sessions { said.EachAt sessions.items (λ i x. said.HasBegun (said.opening_of ⟦<Posted<'static> as Device>⟧.seen) table.value.table.shared.key table.value.table.shared.table_id i x.0.machine x.0.desk x.1.seat.table_id x.1.seat.me) }
-    ensures count { IfOk result (λ store. length (said.store_sessions store) ≡ length sessions.entry.items) }
-    ensures first { IfOk result (λ store. said.AreFirst table.entry.value.table.shared.key (said.store_sessions store)) }
-    ensures keeper { IfOk result (λ store. said.store_keeper store ≡ Some keeping) }
-    ensures keys { IfOk result (λ store. said.store_keys store ≡ keys) }
-    ensures is_open { IfOk result (λ store. said.store_is_open store ≡ true) }
-    ensures memory { OnErr result (result ≡ Err said.Memory) }
+    ensures count { said.IfOk result (λ store. length (said.store_sessions store) ≡ length sessions.entry.items) }
+    ensures first { said.IfOk result (λ store. said.AreFirst table.entry.value.table.shared.key (said.store_sessions store)) }
+    ensures keeper { said.IfOk result (λ store. said.store_keeper store ≡ Some keeping) }
+    ensures keys { said.IfOk result (λ store. said.store_keys store ≡ keys) }
+    ensures is_open { said.IfOk result (λ store. said.store_is_open store ≡ true) }
+    ensures memory { said.OnErr result (result ≡ said.Err said.Memory) }
 {
     let sessions = seats(alloc, &table, sessions)?;
     Ok(Store {

@@ -22,14 +22,14 @@ pub struct Seated {
 }
 
 impl Model for Seated {
-    ghost use Rattle.std.specs.Prelude.{◌≡◌, IfSome, is_some, true};
+    ghost use Rattle.std.specs.Prelude.{◌≡◌, true};
     ghost use Rattle.fkv_handles.specs.Models as model;
 
     ghost Value = { model.Sitting (model.Snapshot (model.WorldModel model.Medium)) };
 
     ghost view = { λ s. record { number = s.session.machine.seat.number; key = s.table.value.table.shared.key; seen = model.seen_by s.pass } };
 
-    ghost invariant = { λ s. (is_some s.pass ≡ true) × IfSome s.pass (λ p. model.IsReady (model.opening_of ⟦<Posted<'static> as Device>⟧.seen) s.table.value.table.shared.key s.table.value.table.shared.table_id p.seat.table_id p.seat.me s.session.machine s.session.desk) };
+    ghost invariant = { λ s. (model.is_some s.pass ≡ true) × model.IfSome s.pass (λ p. model.IsReady (model.opening_of ⟦<Posted<'static> as Device>⟧.seen) s.table.value.table.shared.key s.table.value.table.shared.table_id p.seat.table_id p.seat.me s.session.machine s.session.desk) };
 }
 
 impl Seated {

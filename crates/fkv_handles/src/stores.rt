@@ -1,5 +1,5 @@
 //! A store with the handles that nobody has taken yet.
-ghost use Rattle.std.specs.Prelude.{◌≡◌, [], IfOk, IfErr, OnOk, OnErr, Err, Ok, None, true, false};
+ghost use Rattle.std.specs.Prelude.{◌≡◌, [], None, true, false};
 ghost use Rattle.fkv_handles.specs.Said as said;
 
 use crate::keepers::Keeper;
@@ -40,8 +40,8 @@ impl Store {
     /// Opens the store of this image, as `recover` does. The bytes are those of the file, all of them synced. They aren't needed behind the call.
     /// `NotAStore`, `Damaged` or `Memory`.
     pub fn open(alloc: Global, bytes: &[u8], keys: Keys) -> Result<(Store, Recovered), Fault>
-        ensures opened { IfOk result (λ r. said.IsOpenedFrom (said.opening_of ⟦<Posted<'static> as Device>⟧.seen) bytes.now keys r.0 r.1) }
-        ensures refused { IfErr result (said.IsOpeningRefused bytes.now) }
+        ensures opened { said.IfOk result (λ r. said.IsOpenedFrom (said.opening_of ⟦<Posted<'static> as Device>⟧.seen) bytes.now keys r.0 r.1) }
+        ensures refused { said.IfErr result (said.IsOpeningRefused bytes.now) }
     {
         let (opened, medium) = opened_from(alloc, bytes)?;
         let told = told_of(alloc, &opened)?;
@@ -94,10 +94,10 @@ impl Store {
     /// Closes the store, and frees its table. While a handle is out this is refused with `HandleOut`; then what wasn't taken can't be taken any
     /// more. A store that is closed stays so.
     pub fn close(&mut self, alloc: Global) -> Result<(), Refusal>
-        ensures closed { OnOk result (said.store_is_open self.new ≡ false) }
-        ensures out { OnErr result (result ≡ Err said.HandleOut) }
-        ensures still_open { OnErr result (said.store_is_open self.new ≡ true) }
-        ensures again { said.store_is_open self.old ≡ false → result ≡ Ok tt }
+        ensures closed { said.OnOk result (said.store_is_open self.new ≡ false) }
+        ensures out { said.OnErr result (result ≡ said.Err said.HandleOut) }
+        ensures still_open { said.OnErr result (said.store_is_open self.new ≡ true) }
+        ensures again { said.store_is_open self.old ≡ false → result ≡ said.Ok tt }
         ensures dropped { (said.store_sessions self.new ≡ []) × (said.store_keeper self.new ≡ None) }
     {
         self.sessions = Vec::new(alloc);

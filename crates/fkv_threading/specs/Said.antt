@@ -17,3 +17,4 @@ pub use Rattle.fkv_threads.specs.Begun.{HasBegun}
 pub use Rattle.fkv_threads.specs.Runs.{IsRun, run_of}
 pub use Rattle.std.specs.Io.KnownBytes.{Appends, Keeps}
 pub use Rattle.std.specs.declared.snapshot.Snapshot.{Snapshot}
+pub use Rattle.std.specs.Prelude.{IfOk, IfSome, Ok, OnErr, OnOk, codes, is_some, slice_get, take}

@@ -1,5 +1,5 @@
 //! A session that plays the calls of its lines.
-ghost use Rattle.std.specs.Prelude.{◌≡◌, ◌<◌, ◌≤◌, ◌+◌, true, if◌then◌else◌, length, slice_get, IfOk};
+ghost use Rattle.std.specs.Prelude.{◌≡◌, ◌<◌, ◌≤◌, ◌+◌, true, if◌then◌else◌, length};
 ghost use Rattle.fkv_threading.specs.Said as said;
 
 use crate::sitting::Sitting;
@@ -30,14 +30,13 @@ pub(crate) struct SessionEnd {
 }
 
 impl<'t, D: Device> Model for Player<'t, D> {
-    ghost use Rattle.std.specs.Prelude.{take};
     ghost use Rattle.fkv_threading.specs.Said as said;
 
     ghost Value = { said.Part (said.Snapshot (said.WorldModel D)) };
 
     ghost view = { λ s. record { key = s.seat.key; number = s.seat.number; point = s.point; calls = s.calls.items } };
 
-    ghost invariant = { λ s. said.WasTold (said.opening_of D.seen) (record { key = s.seat.key; number = s.seat.number; point = s.point; calls = s.calls.items }) (take s.answered s.calls.items) s.log s.seat.seen };
+    ghost invariant = { λ s. said.WasTold (said.opening_of D.seen) (record { key = s.seat.key; number = s.seat.number; point = s.point; calls = s.calls.items }) (said.take s.answered s.calls.items) s.log s.seat.seen };
 }
 
 impl<'t, D: Device> Player<'t, D> {
@@ -49,7 +48,7 @@ impl<'t, D: Device> Player<'t, D> {
     /// Makes the next call of its lines, and notes its answer. Whether it is answered, or none is left: else too many requests are pending, and it is to
     /// be made again. `Memory` where memory was refused.
     pub(crate) fn call_next(self) -> Result<(Player<'t, D>, bool), Fault>
-        ensures { IfOk result (λ its. its.0 ≡ self.entry) }
+        ensures { said.IfOk result (λ its. its.0 ≡ self.entry) }
     {
         let Player {
             seat,
@@ -84,7 +83,7 @@ impl<'t, D: Device> Player<'t, D> {
     /// Makes a call that is none of its lines, and notes its answer: a refresh, a poll, or that it sleeps. `Memory` where memory was refused.
     pub(crate) fn call_own(self, call: Call) -> Result<(Player<'t, D>, Answer), Fault>
         requires { said.is_own call ≡ true }
-        ensures { IfOk result (λ its. its.0 ≡ self.entry) }
+        ensures { said.IfOk result (λ its. its.0 ≡ self.entry) }
     {
         let Player {
             seat,
@@ -122,7 +121,7 @@ impl<'t, D: Device> Player<'t, D> {
 }
 
 fn call_at(calls: &[Call], place: usize) -> Option<Call>
-    ensures { result ≡ slice_get calls.now place }
+    ensures { result ≡ said.slice_get calls.now place }
 {
     calls.get(place).copied()
 }
@@ -147,7 +146,7 @@ fn make<'t, D: Device>(
     log: &mut Log,
     call: Call,
 ) -> Result<(Sitting<'t, D>, Answer), Fault>
-    ensures { IfOk result (λ its. said.HasMade (said.opening_of D.seen) seat.entry its.0 call its.1 log.old log.new) }
+    ensures { said.IfOk result (λ its. said.HasMade (said.opening_of D.seen) seat.entry its.0 call its.1 log.old log.new) }
 {
     let (seat, answer) = seat.call(call);
     log.note(call, &answer)?;

@@ -1,5 +1,5 @@
 //! A store that threads share, from its opening until they have all ended.
-ghost use Rattle.std.specs.Prelude.{◌≡◌, [], IfOk, length};
+ghost use Rattle.std.specs.Prelude.{◌≡◌, [], length};
 ghost use Rattle.fkv_threading.specs.Said as said;
 
 use crate::gates::Gate;
@@ -45,7 +45,7 @@ pub fn play<D: Device + Drop + Send, G: Gate + Sync, R: Threads + Wait + Sync>(
     requires store { said.IsStoreOf (D.seen device) opened }
     requires honest { D.honest device }
     requires leaves { said.LeavesOnly (D.seen device) (D.may_leave device) }
-    ensures { IfOk result (λ its. said.IsPlayed (said.opening_of D.seen) opened lines.now D.honest D.seen D.may_leave device its.is_whole its.logs.items its.keeper.device its.keeper.finished) }
+    ensures { said.IfOk result (λ its. said.IsPlayed (said.opening_of D.seen) opened lines.now D.honest D.seen D.may_leave device its.is_whole its.logs.items its.keeper.device its.keeper.finished) }
 {
     let points = copy_of(alloc, &opened.points)?;
     let OpenTable {
@@ -80,7 +80,7 @@ fn play_over<'t, D: Device + Drop + Send, G: Gate + Sync, R: Threads + Wait + Sy
 ) -> Result<Played<D>, Fault>
     requires ready { said.EachAt sessions.items (λ i x. said.HasBegun (said.opening_of D.seen) table.now.table.shared.key table.now.table.shared.table_id i x.0.machine x.0.desk x.1.seat.table_id x.1.seat.me) }
     requires keeper { keeping ≡ table.now.table.shared.key }
-    ensures { IfOk result (λ its. said.WerePlayed (said.opening_of D.seen) table.now.table.shared.key points.now lines.now (length sessions.items) D.honest D.seen D.may_leave its.is_whole its.logs.items its.keeper.device its.keeper.finished) }
+    ensures { said.IfOk result (λ its. said.WerePlayed (said.opening_of D.seen) table.now.table.shared.key points.now lines.now (length sessions.items) D.honest D.seen D.may_leave its.is_whole its.logs.items its.keeper.device its.keeper.finished) }
 {
     let players = seated(alloc, table, sessions, points, lines)?;
     play_seats(rt, alloc, table, players, keeping, points, lines, gate)
@@ -95,8 +95,8 @@ fn seated<'t, D: Device>(
     lines: &[Line],
 ) -> Result<Vec<Player<'t, D>>, Fault>
     requires ready { said.EachAt sessions.items (λ i x. said.HasBegun (said.opening_of D.seen) table.now.table.shared.key table.now.table.shared.table_id i x.0.machine x.0.desk x.1.seat.table_id x.1.seat.me) }
-    ensures count { IfOk result (λ players. length players.items ≡ length sessions.items) }
-    ensures players { IfOk result (λ players. said.AreSeated table.now.table.shared.key points.now lines.now players.items) }
+    ensures count { said.IfOk result (λ players. length players.items ≡ length sessions.items) }
+    ensures players { said.IfOk result (λ players. said.AreSeated table.now.table.shared.key points.now lines.now players.items) }
 {
     let mut players = Vec::new(alloc);
     for (session, pass) in sessions {
@@ -144,7 +144,7 @@ fn play_seats<'t, D: Device + Drop + Send, G: Gate + Sync, R: Threads + Wait + S
 ) -> Result<Played<D>, Fault>
     requires seats { said.AreSeated table.now.table.shared.key points.now lines.now players.items }
     requires keeper { keeping ≡ table.now.table.shared.key }
-    ensures { IfOk result (λ its. said.WerePlayed (said.opening_of D.seen) table.now.table.shared.key points.now lines.now (length players.entry.items) D.honest D.seen D.may_leave its.is_whole its.logs.items its.keeper.device its.keeper.finished) }
+    ensures { said.IfOk result (λ its. said.WerePlayed (said.opening_of D.seen) table.now.table.shared.key points.now lines.now (length players.entry.items) D.honest D.seen D.may_leave its.is_whole its.logs.items its.keeper.device its.keeper.finished) }
 {
     let progress = Progress::new();
     let shared = &progress;
@@ -153,7 +153,7 @@ fn play_seats<'t, D: Device + Drop + Send, G: Gate + Sync, R: Threads + Wait + S
         rt,
         |scope| -> Result<Played<D>, Fault>
             requires { said.AreSeated table.now.table.shared.key points.now lines.now players.items × (keeping ≡ table.now.table.shared.key) }
-            ensures { IfOk result (λ its. said.WerePlayed (said.opening_of D.seen) table.entry.now.table.shared.key points.entry.now lines.entry.now (length players.entry.items) D.honest D.seen D.may_leave its.is_whole its.logs.items its.keeper.device its.keeper.finished) }
+            ensures { said.IfOk result (λ its. said.WerePlayed (said.opening_of D.seen) table.entry.now.table.shared.key points.entry.now lines.entry.now (length players.entry.items) D.honest D.seen D.may_leave its.is_whole its.logs.items its.keeper.device its.keeper.finished) }
         {
             let played = play_in(
                 scope, rt, alloc, shared, gate, lines, table, points, players, keeping,
@@ -181,7 +181,7 @@ fn play_in<'s, 't: 's, E, D: Device + Drop + Send, G: Gate + Sync, R: Threads + 
 ) -> Result<Played<D>, Fault>
     requires seats { said.AreSeated table.now.table.shared.key points.now lines.now players.items }
     requires keeper { keeping ≡ table.now.table.shared.key }
-    ensures { IfOk result (λ its. said.WerePlayed (said.opening_of D.seen) table.now.table.shared.key points.now lines.now (length players.entry.items) D.honest D.seen D.may_leave its.is_whole its.logs.items its.keeper.device its.keeper.finished) }
+    ensures { said.IfOk result (λ its. said.WerePlayed (said.opening_of D.seen) table.now.table.shared.key points.now lines.now (length players.entry.items) D.honest D.seen D.may_leave its.is_whole its.logs.items its.keeper.device its.keeper.finished) }
 {
     let count = players.len() as u64;
     let handles = spawn_all(
@@ -209,8 +209,8 @@ fn spawn_all<'s, 't: 's, E, D: Device + Drop + Send, G: Gate + Sync, R: Threads 
     players: Vec<Player<'t, D>>,
 ) -> Result<Vec<PromisedHandle<Result<SessionEnd, Fault>, SessionLog<'t, D>>>, Fault>
     requires { said.AreSeated table.now.table.shared.key points.now lines.now players.items }
-    ensures count { IfOk result (λ handles. length handles.items ≡ length players.entry.items) }
-    ensures promised { IfOk result (λ handles. said.EachAt handles.items (λ i h. said.part_of h.promise.table.now.table.shared.key h.promise.number h.promise.point h.promise.lines.now ≡ said.part_at table.now.table.shared.key points.now lines.now i)) }
+    ensures count { said.IfOk result (λ handles. length handles.items ≡ length players.entry.items) }
+    ensures promised { said.IfOk result (λ handles. said.EachAt handles.items (λ i h. said.part_of h.promise.table.now.table.shared.key h.promise.number h.promise.point h.promise.lines.now ≡ said.part_at table.now.table.shared.key points.now lines.now i)) }
 {
     let mut handles = Vec::new(alloc);
     for player in players {
@@ -224,7 +224,7 @@ fn spawn_all<'s, 't: 's, E, D: Device + Drop + Send, G: Gate + Sync, R: Threads 
         let spawned = scope.spawn_with(
             promise,
             move || -> Result<SessionEnd, Fault>
-                ensures { IfOk result (λ end. said.IsTold (said.opening_of D.seen) player.entry end.is_whole end.log) }
+                ensures { said.IfOk result (λ end. said.IsTold (said.opening_of D.seen) player.entry end.is_whole end.log) }
             { play_session(rt, progress, gate, number, player) },
         );
         let Ok(handle) = spawned else {
@@ -245,8 +245,8 @@ fn joined<'t, D: Device, R: Threads>(
     handles: Vec<PromisedHandle<Result<SessionEnd, Fault>, SessionLog<'t, D>>>,
 ) -> Result<(Vec<Log>, bool), Fault>
     requires { said.EachAt handles.items (λ i h. said.part_of h.promise.table.now.table.shared.key h.promise.number h.promise.point h.promise.lines.now ≡ said.part_at table.now.table.shared.key points.now lines.now i) }
-    ensures count { IfOk result (λ its. length its.0.items ≡ length handles.entry.items) }
-    ensures told { IfOk result (λ its. said.AreLogs (said.opening_of D.seen) table.now.table.shared.key points.now lines.now its.1 its.0.items) }
+    ensures count { said.IfOk result (λ its. length its.0.items ≡ length handles.entry.items) }
+    ensures told { said.IfOk result (λ its. said.AreLogs (said.opening_of D.seen) table.now.table.shared.key points.now lines.now its.1 its.0.items) }
 {
     let mut logs = Vec::new(alloc);
     let mut are_whole = true;
@@ -259,7 +259,7 @@ fn joined<'t, D: Device, R: Threads>(
 }
 
 fn copy_of(alloc: Global, points: &[Serial]) -> Result<Vec<Serial>, Fault>
-    ensures { IfOk result (λ copy. copy.items ≡ points.now) }
+    ensures { said.IfOk result (λ copy. copy.items ≡ points.now) }
 {
     let mut copy = Vec::new(alloc);
     for point in points {

@@ -1,5 +1,5 @@
 //! A script on threads, from the line that makes its store to its report.
-ghost use Rattle.std.specs.Prelude.{◌≡◌, ⊤, IfOk, OnErr, OnOk, Ok, if◌then◌else◌};
+ghost use Rattle.std.specs.Prelude.{◌≡◌, ⊤, if◌then◌else◌};
 ghost use Rattle.fkv_threading.specs.Said as said;
 
 use crate::gates::Gate;
@@ -33,8 +33,8 @@ pub fn run_threads<G: Gate + Sync, W: Write, R: Threads + Wait + Sync>(
     output: &mut W,
     gate: &G,
 ) -> io::Result<u8>
-    ensures whole { IfOk result (said.IsRunOnThreads (said.IsReportOfRun (said.opening_of ⟦<Fuse<MemDisk> as Device>⟧.seen) ⟦<Fuse<MemDisk> as Device>⟧.honest ⟦<Fuse<MemDisk> as Device>⟧.seen ⟦<Fuse<MemDisk> as Device>⟧.may_leave ⟦<MemDisk as Device>⟧.honest ⟦<MemDisk as Device>⟧.seen (said.HoldsLeft ⟦<Fuse<MemDisk> as Device>⟧.may_leave ⟦<MemDisk as Device>⟧.seen) script.now.lines.items) script.now.opening (said.Appends (W.contents output.old) (W.contents output.new))) }
-    ensures part { OnErr result (said.BreaksOff (said.WithSomeStatus (said.IsTextOnThreads (said.IsReportOfRun (said.opening_of ⟦<Fuse<MemDisk> as Device>⟧.seen) ⟦<Fuse<MemDisk> as Device>⟧.honest ⟦<Fuse<MemDisk> as Device>⟧.seen ⟦<Fuse<MemDisk> as Device>⟧.may_leave ⟦<MemDisk as Device>⟧.honest ⟦<MemDisk as Device>⟧.seen (said.HoldsLeft ⟦<Fuse<MemDisk> as Device>⟧.may_leave ⟦<MemDisk as Device>⟧.seen) script.now.lines.items) script.now.opening)) (W.contents output.old) (W.contents output.new)) }
+    ensures whole { said.IfOk result (said.IsRunOnThreads (said.IsReportOfRun (said.opening_of ⟦<Fuse<MemDisk> as Device>⟧.seen) ⟦<Fuse<MemDisk> as Device>⟧.honest ⟦<Fuse<MemDisk> as Device>⟧.seen ⟦<Fuse<MemDisk> as Device>⟧.may_leave ⟦<MemDisk as Device>⟧.honest ⟦<MemDisk as Device>⟧.seen (said.HoldsLeft ⟦<Fuse<MemDisk> as Device>⟧.may_leave ⟦<MemDisk as Device>⟧.seen) script.now.lines.items) script.now.opening (said.Appends (W.contents output.old) (W.contents output.new))) }
+    ensures part { said.OnErr result (said.BreaksOff (said.WithSomeStatus (said.IsTextOnThreads (said.IsReportOfRun (said.opening_of ⟦<Fuse<MemDisk> as Device>⟧.seen) ⟦<Fuse<MemDisk> as Device>⟧.honest ⟦<Fuse<MemDisk> as Device>⟧.seen ⟦<Fuse<MemDisk> as Device>⟧.may_leave ⟦<MemDisk as Device>⟧.honest ⟦<MemDisk as Device>⟧.seen (said.HoldsLeft ⟦<Fuse<MemDisk> as Device>⟧.may_leave ⟦<MemDisk as Device>⟧.seen) script.now.lines.items) script.now.opening)) (W.contents output.old) (W.contents output.new)) }
 {
     let sizes = match script.opening {
         Some(Opening::Shape(sizes)) => sizes,
@@ -58,8 +58,8 @@ pub fn run_threads_in_file<G: Gate + Sync, W: Write, R: Threads + Wait + Sync, H
 ) -> io::Result<(u8, Option<Trouble>)>
 where
     H::File: Lockable + Send,
-    ensures whole { IfOk result (λ end. said.IsRunOnThreads (said.IsReportOfRun (said.opening_of ⟦<Mirror<FileDisk<H::File>> as Device>⟧.seen) ⟦<Mirror<FileDisk<H::File>> as Device>⟧.honest ⟦<Mirror<FileDisk<H::File>> as Device>⟧.seen ⟦<Mirror<FileDisk<H::File>> as Device>⟧.may_leave ⟦<ReadAhead<FileDisk<H::File>> as Device>⟧.honest ⟦<ReadAhead<FileDisk<H::File>> as Device>⟧.seen (λ _ _. ⊤) script.now.lines.items) script.now.opening (said.Appends (W.contents output.old) (W.contents output.new)) end.0) }
-    ensures part { OnErr result (said.BreaksOff (said.WithSomeStatus (said.IsTextOnThreads (said.IsReportOfRun (said.opening_of ⟦<Mirror<FileDisk<H::File>> as Device>⟧.seen) ⟦<Mirror<FileDisk<H::File>> as Device>⟧.honest ⟦<Mirror<FileDisk<H::File>> as Device>⟧.seen ⟦<Mirror<FileDisk<H::File>> as Device>⟧.may_leave ⟦<ReadAhead<FileDisk<H::File>> as Device>⟧.honest ⟦<ReadAhead<FileDisk<H::File>> as Device>⟧.seen (λ _ _. ⊤) script.now.lines.items) script.now.opening)) (W.contents output.old) (W.contents output.new)) }
+    ensures whole { said.IfOk result (λ end. said.IsRunOnThreads (said.IsReportOfRun (said.opening_of ⟦<Mirror<FileDisk<H::File>> as Device>⟧.seen) ⟦<Mirror<FileDisk<H::File>> as Device>⟧.honest ⟦<Mirror<FileDisk<H::File>> as Device>⟧.seen ⟦<Mirror<FileDisk<H::File>> as Device>⟧.may_leave ⟦<ReadAhead<FileDisk<H::File>> as Device>⟧.honest ⟦<ReadAhead<FileDisk<H::File>> as Device>⟧.seen (λ _ _. ⊤) script.now.lines.items) script.now.opening (said.Appends (W.contents output.old) (W.contents output.new)) end.0) }
+    ensures part { said.OnErr result (said.BreaksOff (said.WithSomeStatus (said.IsTextOnThreads (said.IsReportOfRun (said.opening_of ⟦<Mirror<FileDisk<H::File>> as Device>⟧.seen) ⟦<Mirror<FileDisk<H::File>> as Device>⟧.honest ⟦<Mirror<FileDisk<H::File>> as Device>⟧.seen ⟦<Mirror<FileDisk<H::File>> as Device>⟧.may_leave ⟦<ReadAhead<FileDisk<H::File>> as Device>⟧.honest ⟦<ReadAhead<FileDisk<H::File>> as Device>⟧.seen (λ _ _. ⊤) script.now.lines.items) script.now.opening)) (W.contents output.old) (W.contents output.new)) }
 {
     let sizes = match script.opening {
         Some(Opening::Shape(sizes)) => sizes,
@@ -73,7 +73,7 @@ where
 
 /// What is written of a run, and what is wrong with the file where that is why there is no report.
 fn told_apart(reported: Result<Report, Trouble>) -> (Result<Report, Fault>, Option<Trouble>)
-    ensures { IfOk result.0 (λ report. reported ≡ Ok report) }
+    ensures { said.IfOk result.0 (λ report. reported ≡ said.Ok report) }
 {
     match reported {
         Ok(report) => (Ok(report), None),
@@ -88,9 +88,9 @@ fn write_reported<W: Write>(
     output: &mut W,
     reported: Result<Report, Fault>,
 ) -> io::Result<u8>
-    ensures text { OnOk result (said.Appends (W.contents output.old) (W.contents output.new) (said.reported_text reported)) }
-    ensures status { IfOk result (λ status. status ≡ said.reported_status reported) }
-    ensures part { OnErr result (said.BreaksOff (λ its. its ≡ said.reported_text reported) (W.contents output.old) (W.contents output.new)) }
+    ensures text { said.OnOk result (said.Appends (W.contents output.old) (W.contents output.new) (said.reported_text reported)) }
+    ensures status { said.IfOk result (λ status. status ≡ said.reported_status reported) }
+    ensures part { said.OnErr result (said.BreaksOff (λ its. its ≡ said.reported_text reported) (W.contents output.old) (W.contents output.new)) }
 {
     match reported {
         Ok(report) => write_report(alloc, output, report),
@@ -101,9 +101,9 @@ fn write_reported<W: Write>(
 
 /// Writes a report, at once.
 fn write_report<W: Write>(alloc: Global, output: &mut W, report: Report) -> io::Result<u8>
-    ensures text { OnOk result (said.Appends (W.contents output.old) (W.contents output.new) (said.threads_report_text report)) }
-    ensures status { IfOk result (λ status. status ≡ (if said.agrees report then 0 else 1)) }
-    ensures part { OnErr result (said.BreaksOff (λ its. its ≡ said.threads_report_text report) (W.contents output.old) (W.contents output.new)) }
+    ensures text { said.OnOk result (said.Appends (W.contents output.old) (W.contents output.new) (said.threads_report_text report)) }
+    ensures status { said.IfOk result (λ status. status ≡ (if said.agrees report then 0 else 1)) }
+    ensures part { said.OnErr result (said.BreaksOff (λ its. its ≡ said.threads_report_text report) (W.contents output.old) (W.contents output.new)) }
 {
     let mut text = Vec::new(alloc);
     write_threads_report(&mut text, report)?;
@@ -113,9 +113,9 @@ fn write_report<W: Write>(alloc: Global, output: &mut W, report: Report) -> io::
 
 /// Writes a refusal, at once.
 fn refuse<W: Write>(alloc: Global, output: &mut W, fault: Fault) -> io::Result<u8>
-    ensures text { OnOk result (said.Appends (W.contents output.old) (W.contents output.new) (said.last_refusal fault)) }
-    ensures status { IfOk result (λ status. status ≡ said.refused_status fault) }
-    ensures part { OnErr result (said.BreaksOff (λ its. its ≡ said.last_refusal fault) (W.contents output.old) (W.contents output.new)) }
+    ensures text { said.OnOk result (said.Appends (W.contents output.old) (W.contents output.new) (said.last_refusal fault)) }
+    ensures status { said.IfOk result (λ status. status ≡ said.refused_status fault) }
+    ensures part { said.OnErr result (said.BreaksOff (λ its. its ≡ said.last_refusal fault) (W.contents output.old) (W.contents output.new)) }
 {
     let mut text = Vec::new(alloc);
     write_refusal(&mut text, fault)?;
@@ -134,7 +134,7 @@ fn report_in_memory<G: Gate + Sync, R: Threads + Wait + Sync>(
     lines: &[Line],
     gate: &G,
 ) -> Result<Report, Fault>
-    ensures { IfOk result (said.IsReportOfRun (said.opening_of ⟦<Fuse<MemDisk> as Device>⟧.seen) ⟦<Fuse<MemDisk> as Device>⟧.honest ⟦<Fuse<MemDisk> as Device>⟧.seen ⟦<Fuse<MemDisk> as Device>⟧.may_leave ⟦<MemDisk as Device>⟧.honest ⟦<MemDisk as Device>⟧.seen (said.HoldsLeft ⟦<Fuse<MemDisk> as Device>⟧.may_leave ⟦<MemDisk as Device>⟧.seen) lines.now sizes) }
+    ensures { said.IfOk result (said.IsReportOfRun (said.opening_of ⟦<Fuse<MemDisk> as Device>⟧.seen) ⟦<Fuse<MemDisk> as Device>⟧.honest ⟦<Fuse<MemDisk> as Device>⟧.seen ⟦<Fuse<MemDisk> as Device>⟧.may_leave ⟦<MemDisk as Device>⟧.honest ⟦<MemDisk as Device>⟧.seen (said.HoldsLeft ⟦<Fuse<MemDisk> as Device>⟧.may_leave ⟦<MemDisk as Device>⟧.seen) lines.now sizes) }
 {
     let shape = shape_of(sizes)?;
     let device = Fuse::new(MemDisk::new(alloc));
@@ -163,7 +163,7 @@ fn report_in_file<G: Gate + Sync, R: Threads + Wait + Sync, H: Files>(
 ) -> Result<Report, Trouble>
 where
     H::File: Lockable + Send,
-    ensures { IfOk result (said.IsReportOfRun (said.opening_of ⟦<Mirror<FileDisk<H::File>> as Device>⟧.seen) ⟦<Mirror<FileDisk<H::File>> as Device>⟧.honest ⟦<Mirror<FileDisk<H::File>> as Device>⟧.seen ⟦<Mirror<FileDisk<H::File>> as Device>⟧.may_leave ⟦<ReadAhead<FileDisk<H::File>> as Device>⟧.honest ⟦<ReadAhead<FileDisk<H::File>> as Device>⟧.seen (λ _ _. ⊤) lines.now sizes) }
+    ensures { said.IfOk result (said.IsReportOfRun (said.opening_of ⟦<Mirror<FileDisk<H::File>> as Device>⟧.seen) ⟦<Mirror<FileDisk<H::File>> as Device>⟧.honest ⟦<Mirror<FileDisk<H::File>> as Device>⟧.seen ⟦<Mirror<FileDisk<H::File>> as Device>⟧.may_leave ⟦<ReadAhead<FileDisk<H::File>> as Device>⟧.honest ⟦<ReadAhead<FileDisk<H::File>> as Device>⟧.seen (λ _ _. ⊤) lines.now sizes) }
 {
     let shape = shape_of(sizes)?;
     let (file, length) = make_alone(files, path)?;
@@ -196,7 +196,7 @@ fn play_new<D: Device + Drop + Send, G: Gate + Sync, R: Threads + Wait + Sync>(
     gate: &G,
 ) -> Result<Played<D>, Fault>
     requires honest { D.honest device }
-    ensures { IfOk result (λ its. said.IsPlayedNew (said.opening_of D.seen) shape lines.now D.honest D.seen D.may_leave its.logs.items its.keeper.device its.keeper.finished) }
+    ensures { said.IfOk result (λ its. said.IsPlayedNew (said.opening_of D.seen) shape lines.now D.honest D.seen D.may_leave its.logs.items its.keeper.device its.keeper.finished) }
 {
     let mut device = device;
     let opened = create_opened(alloc, &mut device, shape)?;
@@ -216,7 +216,7 @@ fn report_on<D: Device>(
     finished: &Option<Finished>,
     device: &mut D,
 ) -> Result<Report, Fault>
-    ensures { IfOk result (said.IsReportOn D.honest D.seen lines.now logs.now finished.now device.old) }
+    ensures { said.IfOk result (said.IsReportOn D.honest D.seen lines.now logs.now finished.now device.old) }
 {
     let opened = recover(alloc, device)?;
     let pairs = content(alloc, &opened, device)?;
@@ -225,7 +225,7 @@ fn report_on<D: Device>(
 
 /// The shape of these sizes.
 fn shape_of(sizes: Sizes) -> Result<Shape, Fault>
-    ensures { IfOk result (said.HasSizes sizes) }
+    ensures { said.IfOk result (said.HasSizes sizes) }
 {
     let Sizes {
         class,

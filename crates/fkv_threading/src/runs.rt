@@ -1,5 +1,5 @@
 //! Runs of the program whose words ask for threads.
-ghost use Rattle.std.specs.Prelude.{◌≡◌, ⊤, IfOk, IfSome, OnErr, OnOk, codes, is_some, take};
+ghost use Rattle.std.specs.Prelude.{◌≡◌, ⊤};
 ghost use Rattle.fkv_threading.specs.Said as said;
 
 use crate::complaints::{Faulty, complain, complain_of_end, complain_of_status};
@@ -35,8 +35,8 @@ pub fn run<R: Threads + Wait + Sync, H: Files, I: Read + Drop, W: Write, E: Writ
 ) -> io::Result<u8>
 where
     H::File: Lockable + Send,
-    ensures whole { IfOk result (λ status. said.Writes (said.IsRunOfInput (said.IsReportIn (said.IsReportOfRun (said.opening_of ⟦<Fuse<MemDisk> as Device>⟧.seen) ⟦<Fuse<MemDisk> as Device>⟧.honest ⟦<Fuse<MemDisk> as Device>⟧.seen ⟦<Fuse<MemDisk> as Device>⟧.may_leave ⟦<MemDisk as Device>⟧.honest ⟦<MemDisk as Device>⟧.seen (said.HoldsLeft ⟦<Fuse<MemDisk> as Device>⟧.may_leave ⟦<MemDisk as Device>⟧.seen)) (said.IsReportOfRun (said.opening_of ⟦<Mirror<FileDisk<H::File>> as Device>⟧.seen) ⟦<Mirror<FileDisk<H::File>> as Device>⟧.honest ⟦<Mirror<FileDisk<H::File>> as Device>⟧.seen ⟦<Mirror<FileDisk<H::File>> as Device>⟧.may_leave ⟦<ReadAhead<FileDisk<H::File>> as Device>⟧.honest ⟦<ReadAhead<FileDisk<H::File>> as Device>⟧.seen (λ _ _. ⊤)) (is_some file.entry)) (I.remaining input) status) (W.contents output.old) (W.contents output.new)) }
-    ensures part { OnErr result (said.BreaksOff (said.WithSomeStatus (said.IsRunOfInput (said.IsReportIn (said.IsReportOfRun (said.opening_of ⟦<Fuse<MemDisk> as Device>⟧.seen) ⟦<Fuse<MemDisk> as Device>⟧.honest ⟦<Fuse<MemDisk> as Device>⟧.seen ⟦<Fuse<MemDisk> as Device>⟧.may_leave ⟦<MemDisk as Device>⟧.honest ⟦<MemDisk as Device>⟧.seen (said.HoldsLeft ⟦<Fuse<MemDisk> as Device>⟧.may_leave ⟦<MemDisk as Device>⟧.seen)) (said.IsReportOfRun (said.opening_of ⟦<Mirror<FileDisk<H::File>> as Device>⟧.seen) ⟦<Mirror<FileDisk<H::File>> as Device>⟧.honest ⟦<Mirror<FileDisk<H::File>> as Device>⟧.seen ⟦<Mirror<FileDisk<H::File>> as Device>⟧.may_leave ⟦<ReadAhead<FileDisk<H::File>> as Device>⟧.honest ⟦<ReadAhead<FileDisk<H::File>> as Device>⟧.seen (λ _ _. ⊤)) (is_some file.entry)) (I.remaining input))) (W.contents output.old) (W.contents output.new)) }
+    ensures whole { said.IfOk result (λ status. said.Writes (said.IsRunOfInput (said.IsReportIn (said.IsReportOfRun (said.opening_of ⟦<Fuse<MemDisk> as Device>⟧.seen) ⟦<Fuse<MemDisk> as Device>⟧.honest ⟦<Fuse<MemDisk> as Device>⟧.seen ⟦<Fuse<MemDisk> as Device>⟧.may_leave ⟦<MemDisk as Device>⟧.honest ⟦<MemDisk as Device>⟧.seen (said.HoldsLeft ⟦<Fuse<MemDisk> as Device>⟧.may_leave ⟦<MemDisk as Device>⟧.seen)) (said.IsReportOfRun (said.opening_of ⟦<Mirror<FileDisk<H::File>> as Device>⟧.seen) ⟦<Mirror<FileDisk<H::File>> as Device>⟧.honest ⟦<Mirror<FileDisk<H::File>> as Device>⟧.seen ⟦<Mirror<FileDisk<H::File>> as Device>⟧.may_leave ⟦<ReadAhead<FileDisk<H::File>> as Device>⟧.honest ⟦<ReadAhead<FileDisk<H::File>> as Device>⟧.seen (λ _ _. ⊤)) (said.is_some file.entry)) (I.remaining input) status) (W.contents output.old) (W.contents output.new)) }
+    ensures part { said.OnErr result (said.BreaksOff (said.WithSomeStatus (said.IsRunOfInput (said.IsReportIn (said.IsReportOfRun (said.opening_of ⟦<Fuse<MemDisk> as Device>⟧.seen) ⟦<Fuse<MemDisk> as Device>⟧.honest ⟦<Fuse<MemDisk> as Device>⟧.seen ⟦<Fuse<MemDisk> as Device>⟧.may_leave ⟦<MemDisk as Device>⟧.honest ⟦<MemDisk as Device>⟧.seen (said.HoldsLeft ⟦<Fuse<MemDisk> as Device>⟧.may_leave ⟦<MemDisk as Device>⟧.seen)) (said.IsReportOfRun (said.opening_of ⟦<Mirror<FileDisk<H::File>> as Device>⟧.seen) ⟦<Mirror<FileDisk<H::File>> as Device>⟧.honest ⟦<Mirror<FileDisk<H::File>> as Device>⟧.seen ⟦<Mirror<FileDisk<H::File>> as Device>⟧.may_leave ⟦<ReadAhead<FileDisk<H::File>> as Device>⟧.honest ⟦<ReadAhead<FileDisk<H::File>> as Device>⟧.seen (λ _ _. ⊤)) (said.is_some file.entry)) (I.remaining input))) (W.contents output.old) (W.contents output.new)) }
 {
     match script_bytes(alloc, input) {
         Ok(bytes) => {
@@ -50,7 +50,7 @@ where
 
 /// The first bytes of a script, as many as are looked at.
 fn script_bytes<I: Read + Drop>(alloc: Global, input: I) -> io::Result<Vec<u8>>
-    ensures { IfOk result (λ bytes. IfSome (I.remaining input) (λ script. bytes.items ≡ take said.script_limit script)) }
+    ensures { said.IfOk result (λ bytes. said.IfSome (I.remaining input) (λ script. bytes.items ≡ said.take said.script_limit script)) }
 {
     let mut bytes = Vec::new(alloc);
     match input.take(SCRIPT_LIMIT).read_to_end(&mut bytes) {
@@ -65,7 +65,7 @@ fn refuse_input<W: Write, E: Write>(
     complaints: &mut E,
     error: io::Error,
 ) -> io::Result<u8>
-    ensures status { IfOk result (λ status. status ≡ 4) }
+    ensures status { said.IfOk result (λ status. status ≡ 4) }
     ensures nothing { said.Keeps (W.contents output.old) (W.contents output.new) }
 {
     complain(complaints, &"standard input could not be read");
@@ -88,8 +88,8 @@ fn run_bytes<R: Threads + Wait + Sync, H: Files, W: Write, E: Write>(
 ) -> io::Result<u8>
 where
     H::File: Lockable + Send,
-    ensures whole { IfOk result (λ status. said.Writes (said.IsRunOfBytes (said.IsReportIn (said.IsReportOfRun (said.opening_of ⟦<Fuse<MemDisk> as Device>⟧.seen) ⟦<Fuse<MemDisk> as Device>⟧.honest ⟦<Fuse<MemDisk> as Device>⟧.seen ⟦<Fuse<MemDisk> as Device>⟧.may_leave ⟦<MemDisk as Device>⟧.honest ⟦<MemDisk as Device>⟧.seen (said.HoldsLeft ⟦<Fuse<MemDisk> as Device>⟧.may_leave ⟦<MemDisk as Device>⟧.seen)) (said.IsReportOfRun (said.opening_of ⟦<Mirror<FileDisk<H::File>> as Device>⟧.seen) ⟦<Mirror<FileDisk<H::File>> as Device>⟧.honest ⟦<Mirror<FileDisk<H::File>> as Device>⟧.seen ⟦<Mirror<FileDisk<H::File>> as Device>⟧.may_leave ⟦<ReadAhead<FileDisk<H::File>> as Device>⟧.honest ⟦<ReadAhead<FileDisk<H::File>> as Device>⟧.seen (λ _ _. ⊤)) (is_some file.entry)) bytes.now status) (W.contents output.old) (W.contents output.new)) }
-    ensures part { OnErr result (said.BreaksOff (said.WithSomeStatus (said.IsRunOfBytes (said.IsReportIn (said.IsReportOfRun (said.opening_of ⟦<Fuse<MemDisk> as Device>⟧.seen) ⟦<Fuse<MemDisk> as Device>⟧.honest ⟦<Fuse<MemDisk> as Device>⟧.seen ⟦<Fuse<MemDisk> as Device>⟧.may_leave ⟦<MemDisk as Device>⟧.honest ⟦<MemDisk as Device>⟧.seen (said.HoldsLeft ⟦<Fuse<MemDisk> as Device>⟧.may_leave ⟦<MemDisk as Device>⟧.seen)) (said.IsReportOfRun (said.opening_of ⟦<Mirror<FileDisk<H::File>> as Device>⟧.seen) ⟦<Mirror<FileDisk<H::File>> as Device>⟧.honest ⟦<Mirror<FileDisk<H::File>> as Device>⟧.seen ⟦<Mirror<FileDisk<H::File>> as Device>⟧.may_leave ⟦<ReadAhead<FileDisk<H::File>> as Device>⟧.honest ⟦<ReadAhead<FileDisk<H::File>> as Device>⟧.seen (λ _ _. ⊤)) (is_some file.entry)) bytes.now)) (W.contents output.old) (W.contents output.new)) }
+    ensures whole { said.IfOk result (λ status. said.Writes (said.IsRunOfBytes (said.IsReportIn (said.IsReportOfRun (said.opening_of ⟦<Fuse<MemDisk> as Device>⟧.seen) ⟦<Fuse<MemDisk> as Device>⟧.honest ⟦<Fuse<MemDisk> as Device>⟧.seen ⟦<Fuse<MemDisk> as Device>⟧.may_leave ⟦<MemDisk as Device>⟧.honest ⟦<MemDisk as Device>⟧.seen (said.HoldsLeft ⟦<Fuse<MemDisk> as Device>⟧.may_leave ⟦<MemDisk as Device>⟧.seen)) (said.IsReportOfRun (said.opening_of ⟦<Mirror<FileDisk<H::File>> as Device>⟧.seen) ⟦<Mirror<FileDisk<H::File>> as Device>⟧.honest ⟦<Mirror<FileDisk<H::File>> as Device>⟧.seen ⟦<Mirror<FileDisk<H::File>> as Device>⟧.may_leave ⟦<ReadAhead<FileDisk<H::File>> as Device>⟧.honest ⟦<ReadAhead<FileDisk<H::File>> as Device>⟧.seen (λ _ _. ⊤)) (said.is_some file.entry)) bytes.now status) (W.contents output.old) (W.contents output.new)) }
+    ensures part { said.OnErr result (said.BreaksOff (said.WithSomeStatus (said.IsRunOfBytes (said.IsReportIn (said.IsReportOfRun (said.opening_of ⟦<Fuse<MemDisk> as Device>⟧.seen) ⟦<Fuse<MemDisk> as Device>⟧.honest ⟦<Fuse<MemDisk> as Device>⟧.seen ⟦<Fuse<MemDisk> as Device>⟧.may_leave ⟦<MemDisk as Device>⟧.honest ⟦<MemDisk as Device>⟧.seen (said.HoldsLeft ⟦<Fuse<MemDisk> as Device>⟧.may_leave ⟦<MemDisk as Device>⟧.seen)) (said.IsReportOfRun (said.opening_of ⟦<Mirror<FileDisk<H::File>> as Device>⟧.seen) ⟦<Mirror<FileDisk<H::File>> as Device>⟧.honest ⟦<Mirror<FileDisk<H::File>> as Device>⟧.seen ⟦<Mirror<FileDisk<H::File>> as Device>⟧.may_leave ⟦<ReadAhead<FileDisk<H::File>> as Device>⟧.honest ⟦<ReadAhead<FileDisk<H::File>> as Device>⟧.seen (λ _ _. ⊤)) (said.is_some file.entry)) bytes.now)) (W.contents output.old) (W.contents output.new)) }
 {
     match threads_script_of(alloc, bytes) {
         Ok(script) => match file {
@@ -108,8 +108,8 @@ fn run_in_memory<R: Threads + Wait + Sync, W: Write, E: Write>(
     output: &mut W,
     complaints: &mut E,
 ) -> io::Result<u8>
-    ensures whole { IfOk result (said.IsRunOnThreads (said.IsReportOfRun (said.opening_of ⟦<Fuse<MemDisk> as Device>⟧.seen) ⟦<Fuse<MemDisk> as Device>⟧.honest ⟦<Fuse<MemDisk> as Device>⟧.seen ⟦<Fuse<MemDisk> as Device>⟧.may_leave ⟦<MemDisk as Device>⟧.honest ⟦<MemDisk as Device>⟧.seen (said.HoldsLeft ⟦<Fuse<MemDisk> as Device>⟧.may_leave ⟦<MemDisk as Device>⟧.seen) script.now.lines.items) script.now.opening (said.Appends (W.contents output.old) (W.contents output.new))) }
-    ensures part { OnErr result (said.BreaksOff (said.WithSomeStatus (said.IsTextOnThreads (said.IsReportOfRun (said.opening_of ⟦<Fuse<MemDisk> as Device>⟧.seen) ⟦<Fuse<MemDisk> as Device>⟧.honest ⟦<Fuse<MemDisk> as Device>⟧.seen ⟦<Fuse<MemDisk> as Device>⟧.may_leave ⟦<MemDisk as Device>⟧.honest ⟦<MemDisk as Device>⟧.seen (said.HoldsLeft ⟦<Fuse<MemDisk> as Device>⟧.may_leave ⟦<MemDisk as Device>⟧.seen) script.now.lines.items) script.now.opening)) (W.contents output.old) (W.contents output.new)) }
+    ensures whole { said.IfOk result (said.IsRunOnThreads (said.IsReportOfRun (said.opening_of ⟦<Fuse<MemDisk> as Device>⟧.seen) ⟦<Fuse<MemDisk> as Device>⟧.honest ⟦<Fuse<MemDisk> as Device>⟧.seen ⟦<Fuse<MemDisk> as Device>⟧.may_leave ⟦<MemDisk as Device>⟧.honest ⟦<MemDisk as Device>⟧.seen (said.HoldsLeft ⟦<Fuse<MemDisk> as Device>⟧.may_leave ⟦<MemDisk as Device>⟧.seen) script.now.lines.items) script.now.opening (said.Appends (W.contents output.old) (W.contents output.new))) }
+    ensures part { said.OnErr result (said.BreaksOff (said.WithSomeStatus (said.IsTextOnThreads (said.IsReportOfRun (said.opening_of ⟦<Fuse<MemDisk> as Device>⟧.seen) ⟦<Fuse<MemDisk> as Device>⟧.honest ⟦<Fuse<MemDisk> as Device>⟧.seen ⟦<Fuse<MemDisk> as Device>⟧.may_leave ⟦<MemDisk as Device>⟧.honest ⟦<MemDisk as Device>⟧.seen (said.HoldsLeft ⟦<Fuse<MemDisk> as Device>⟧.may_leave ⟦<MemDisk as Device>⟧.seen) script.now.lines.items) script.now.opening)) (W.contents output.old) (W.contents output.new)) }
 {
     let status = run_threads(rt, alloc, script, output, &Open)?;
     complain_of_status(complaints, status);
@@ -128,8 +128,8 @@ fn run_in_file<R: Threads + Wait + Sync, H: Files, W: Write, E: Write>(
 ) -> io::Result<u8>
 where
     H::File: Lockable + Send,
-    ensures whole { IfOk result (said.IsRunOnThreads (said.IsReportOfRun (said.opening_of ⟦<Mirror<FileDisk<H::File>> as Device>⟧.seen) ⟦<Mirror<FileDisk<H::File>> as Device>⟧.honest ⟦<Mirror<FileDisk<H::File>> as Device>⟧.seen ⟦<Mirror<FileDisk<H::File>> as Device>⟧.may_leave ⟦<ReadAhead<FileDisk<H::File>> as Device>⟧.honest ⟦<ReadAhead<FileDisk<H::File>> as Device>⟧.seen (λ _ _. ⊤) script.now.lines.items) script.now.opening (said.Appends (W.contents output.old) (W.contents output.new))) }
-    ensures part { OnErr result (said.BreaksOff (said.WithSomeStatus (said.IsTextOnThreads (said.IsReportOfRun (said.opening_of ⟦<Mirror<FileDisk<H::File>> as Device>⟧.seen) ⟦<Mirror<FileDisk<H::File>> as Device>⟧.honest ⟦<Mirror<FileDisk<H::File>> as Device>⟧.seen ⟦<Mirror<FileDisk<H::File>> as Device>⟧.may_leave ⟦<ReadAhead<FileDisk<H::File>> as Device>⟧.honest ⟦<ReadAhead<FileDisk<H::File>> as Device>⟧.seen (λ _ _. ⊤) script.now.lines.items) script.now.opening)) (W.contents output.old) (W.contents output.new)) }
+    ensures whole { said.IfOk result (said.IsRunOnThreads (said.IsReportOfRun (said.opening_of ⟦<Mirror<FileDisk<H::File>> as Device>⟧.seen) ⟦<Mirror<FileDisk<H::File>> as Device>⟧.honest ⟦<Mirror<FileDisk<H::File>> as Device>⟧.seen ⟦<Mirror<FileDisk<H::File>> as Device>⟧.may_leave ⟦<ReadAhead<FileDisk<H::File>> as Device>⟧.honest ⟦<ReadAhead<FileDisk<H::File>> as Device>⟧.seen (λ _ _. ⊤) script.now.lines.items) script.now.opening (said.Appends (W.contents output.old) (W.contents output.new))) }
+    ensures part { said.OnErr result (said.BreaksOff (said.WithSomeStatus (said.IsTextOnThreads (said.IsReportOfRun (said.opening_of ⟦<Mirror<FileDisk<H::File>> as Device>⟧.seen) ⟦<Mirror<FileDisk<H::File>> as Device>⟧.honest ⟦<Mirror<FileDisk<H::File>> as Device>⟧.seen ⟦<Mirror<FileDisk<H::File>> as Device>⟧.may_leave ⟦<ReadAhead<FileDisk<H::File>> as Device>⟧.honest ⟦<ReadAhead<FileDisk<H::File>> as Device>⟧.seen (λ _ _. ⊤) script.now.lines.items) script.now.opening)) (W.contents output.old) (W.contents output.new)) }
 {
     let (status, trouble) = run_threads_in_file(rt, files, alloc, path, script, output, &Open)?;
     complain_of_end(complaints, path, status, trouble);
@@ -143,8 +143,8 @@ fn refuse_script<W: Write, E: Write>(
     complaints: &mut E,
     fault: Fault,
 ) -> io::Result<u8>
-    ensures whole { IfOk result (λ status. (status ≡ 2) × said.Writes (said.TellsLine fault) (W.contents output.old) (W.contents output.new)) }
-    ensures part { OnErr result (said.BreaksOff (said.TellsLine fault) (W.contents output.old) (W.contents output.new)) }
+    ensures whole { said.IfOk result (λ status. (status ≡ 2) × said.Writes (said.TellsLine fault) (W.contents output.old) (W.contents output.new)) }
+    ensures part { said.OnErr result (said.BreaksOff (said.TellsLine fault) (W.contents output.old) (W.contents output.new)) }
 {
     match fault {
         Fault::Script(line, kind) => {
@@ -159,7 +159,7 @@ fn refuse_script<W: Write, E: Write>(
 
 /// The first faulty line of a script: `script line 7 Count`.
 fn line_fault_text(alloc: Global, line: u64, kind: ScriptFault) -> io::Result<Vec<u8>>
-    ensures { IfOk result (λ text. text.items ≡ said.line_fault_text (record { line = line; kind = kind })) }
+    ensures { said.IfOk result (λ text. text.items ≡ said.line_fault_text (record { line = line; kind = kind })) }
 {
     let name = kind.name();
     let mut text = Vec::new(alloc);
@@ -169,9 +169,9 @@ fn line_fault_text(alloc: Global, line: u64, kind: ScriptFault) -> io::Result<Ve
 
 /// Refuses words that ask for threads and have a seed. The status: 2.
 pub fn refuse_seed<W: Write, E: Write>(output: &mut W, complaints: &mut E) -> io::Result<u8>
-    ensures text { OnOk result (said.Appends (W.contents output.old) (W.contents output.new) (said.ended (codes "options seed and threads"))) }
-    ensures status { IfOk result (λ status. status ≡ 2) }
-    ensures part { OnErr result (said.BreaksOff (λ its. its ≡ said.ended (codes "options seed and threads")) (W.contents output.old) (W.contents output.new)) }
+    ensures text { said.OnOk result (said.Appends (W.contents output.old) (W.contents output.new) (said.ended (said.codes "options seed and threads"))) }
+    ensures status { said.IfOk result (λ status. status ≡ 2) }
+    ensures part { said.OnErr result (said.BreaksOff (λ its. its ≡ said.ended (said.codes "options seed and threads")) (W.contents output.old) (W.contents output.new)) }
 {
     write_options(output)?;
     complain(
@@ -183,8 +183,8 @@ pub fn refuse_seed<W: Write, E: Write>(output: &mut W, complaints: &mut E) -> io
 
 /// The line of words that don't go together.
 fn write_options<W: Write>(output: &mut W) -> io::Result<()>
-    ensures text { OnOk result (said.Appends (W.contents output.old) (W.contents output.new) (said.ended (codes "options seed and threads"))) }
-    ensures part { OnErr result (said.BreaksOff (λ its. its ≡ said.ended (codes "options seed and threads")) (W.contents output.old) (W.contents output.new)) }
+    ensures text { said.OnOk result (said.Appends (W.contents output.old) (W.contents output.new) (said.ended (said.codes "options seed and threads"))) }
+    ensures part { said.OnErr result (said.BreaksOff (λ its. its ≡ said.ended (said.codes "options seed and threads")) (W.contents output.old) (W.contents output.new)) }
 {
     write_text(output, "options seed and threads\n".as_bytes())?;
     output.flush()

@@ -1,5 +1,5 @@
 //! A session's thread.
-ghost use Rattle.std.specs.Prelude.{◌≡◌, IfOk};
+ghost use Rattle.std.specs.Prelude.{◌≡◌};
 ghost use Rattle.fkv_threading.specs.Said as said;
 
 use crate::gates::Gate;
@@ -21,7 +21,7 @@ pub(crate) fn play_session<D: Device, G: Gate, R: Wait>(
     number: usize,
     player: Player<'_, D>,
 ) -> Result<SessionEnd, Fault>
-    ensures { IfOk result (λ its. said.IsTold (said.opening_of D.seen) player.entry its.is_whole its.log) }
+    ensures { said.IfOk result (λ its. said.IsTold (said.opening_of D.seen) player.entry its.is_whole its.log) }
 {
     let played = play_calls(rt, progress, gate, number, player);
     if played.is_err() {
@@ -41,7 +41,7 @@ fn play_calls<'t, D: Device, G: Gate, R: Wait>(
     number: usize,
     player: Player<'t, D>,
 ) -> Result<Player<'t, D>, Fault>
-    ensures { IfOk result (λ end. end ≡ player.entry) }
+    ensures { said.IfOk result (λ end. end ≡ player.entry) }
 {
     let calls = player.count_left() as u64;
     let mut at = player;
@@ -58,7 +58,7 @@ fn play_call<'t, D: Device, R: Wait>(
     progress: &Progress,
     player: Player<'t, D>,
 ) -> Result<Player<'t, D>, Fault>
-    ensures { IfOk result (λ end. end ≡ player.entry) }
+    ensures { said.IfOk result (λ end. end ≡ player.entry) }
 {
     let mut at = player;
     for _ in rt.forever() {
@@ -79,7 +79,7 @@ fn play_call<'t, D: Device, R: Wait>(
 
 /// A refresh and a poll, and how many requests are left.
 fn catch_up<'t, D: Device>(player: Player<'t, D>) -> Result<(Player<'t, D>, usize), Fault>
-    ensures { IfOk result (λ its. its.0 ≡ player.entry) }
+    ensures { said.IfOk result (λ its. its.0 ≡ player.entry) }
 {
     let (refreshed, _) = player.call_own(Call::Refresh)?;
     let (polled, answer) = refreshed.call_own(Call::Poll)?;
@@ -95,7 +95,7 @@ fn end<'t, D: Device, R: Wait>(
     progress: &Progress,
     player: Player<'t, D>,
 ) -> Result<Player<'t, D>, Fault>
-    ensures { IfOk result (λ end. end ≡ player.entry) }
+    ensures { said.IfOk result (λ end. end ≡ player.entry) }
 {
     let at = catch_up_whole(rt, progress, player)?;
     if progress.is_stopped() {
@@ -111,7 +111,7 @@ fn catch_up_whole<'t, D: Device, R: Wait>(
     progress: &Progress,
     player: Player<'t, D>,
 ) -> Result<Player<'t, D>, Fault>
-    ensures { IfOk result (λ end. end ≡ player.entry) }
+    ensures { said.IfOk result (λ end. end ≡ player.entry) }
 {
     let mut at = player;
     for _ in rt.forever() {

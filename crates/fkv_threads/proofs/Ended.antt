@@ -1,6 +1,5 @@
 -- A turn that is over.
-use Rattle.std.proofs.Common.{◌≡◌, refl, List}
-use Rattle.std.specs.Prelude.{Result}
+use Rattle.std.proofs.Common.{refl}
 use Rattle.atomic_table.specs.Seated.{TableId}
 use Rattle.atomic_table.specs.Table.{Me}
 use Rattle.fkv_keeper.specs.Keeping.{KeeperModel}

@@ -19,3 +19,4 @@ pub use Rattle.law_threads.specs.Durable.{ItsDurableNeverFalls, RecoversItsDurab
 pub use Rattle.law_threads.specs.Images.{RecoversWithin}
 pub use Rattle.law_threads.specs.Laws.{IsWithin}
 pub use Rattle.law_threads.specs.Turns.{TellsItsFinish}
+pub use Rattle.std.specs.Prelude.{Err, IfOk, OnErr}

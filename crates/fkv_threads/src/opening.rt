@@ -1,5 +1,5 @@
 //! A store that was opened becomes a table that threads share.
-ghost use Rattle.std.specs.Prelude.{◌≡◌, length, IfOk, OnErr, Err};
+ghost use Rattle.std.specs.Prelude.{◌≡◌, length};
 ghost use Rattle.fkv_threads.specs.Said as said;
 
 use fkv_base::Fault;
@@ -19,13 +19,13 @@ pub fn open<D: Device + Drop>(
     device: D,
 ) -> Result<OpenTable<D>, Fault>
     requires store { said.IsStoreOf (D.seen device) opened }
-    ensures over { IfOk result (λ t. said.IsOverStore (said.opening_of D.seen) t.table.table.shared.key opened (D.seen device)) }
-    ensures count { IfOk result (λ t. length t.sessions.items ≡ opened.shape.sessions) }
-    ensures sessions { IfOk result (λ t. said.EachAt t.sessions.items (λ i x. said.HasBegun (said.opening_of D.seen) t.table.table.shared.key t.table.table.shared.table_id i x.0.machine x.0.desk x.1.seat.table_id x.1.seat.me)) }
-    ensures keeper { IfOk result (λ t. said.KeeperHasBegun (said.opening_of D.seen) t.table.table.shared.key t.table.table.shared.table_id t.keeper.machine t.pass.seat.table_id t.pass.seat.me) }
-    ensures device { IfOk result (λ t. t.device ≡ device) }
-    ensures after { said.LeavesOnly (D.seen device) (D.may_leave device) → IfOk result (λ t. said.IsAfterSeen (said.opening_of D.seen) t.table.table.shared.key t.pass.seat.me.0.seen (D.seen t.device) (D.may_leave t.device)) }
-    ensures err { OnErr result (result ≡ Err said.Memory) }
+    ensures over { said.IfOk result (λ t. said.IsOverStore (said.opening_of D.seen) t.table.table.shared.key opened (D.seen device)) }
+    ensures count { said.IfOk result (λ t. length t.sessions.items ≡ opened.shape.sessions) }
+    ensures sessions { said.IfOk result (λ t. said.EachAt t.sessions.items (λ i x. said.HasBegun (said.opening_of D.seen) t.table.table.shared.key t.table.table.shared.table_id i x.0.machine x.0.desk x.1.seat.table_id x.1.seat.me)) }
+    ensures keeper { said.IfOk result (λ t. said.KeeperHasBegun (said.opening_of D.seen) t.table.table.shared.key t.table.table.shared.table_id t.keeper.machine t.pass.seat.table_id t.pass.seat.me) }
+    ensures device { said.IfOk result (λ t. t.device ≡ device) }
+    ensures after { said.LeavesOnly (D.seen device) (D.may_leave device) → said.IfOk result (λ t. said.IsAfterSeen (said.opening_of D.seen) t.table.table.shared.key t.pass.seat.me.0.seen (D.seen t.device) (D.may_leave t.device)) }
+    ensures err { said.OnErr result (result ≡ said.Err said.Memory) }
 {
     law_guard_opens();
     law_device_opens(&device);
