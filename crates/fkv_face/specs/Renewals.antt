@@ -1,5 +1,5 @@
 -- What a renewal tells.
-use Rattle.std.specs.Prelude.{◌≡◌, ◌⊎◌, ℕ, zero, suc, ℤ, neg_ℤ, pos, Bool, true, false, ◌&&◌, ◌==◌, List, length, Option, Some, None, IsSomeAnd}
+use Rattle.std.specs.Prelude.{◌≡◌, ℕ, zero, suc, ℤ, neg_ℤ, pos, Bool, true, false, ◌&&◌, ◌==◌, List, length, Option, None, IsSomeAnd}
 use Rattle.fkv_base.specs.declared.faults.Fault.{Fault}
 use Rattle.fkv_base.specs.declared.faults.Fault.TheVariants.{Damaged}
 use Rattle.fkv_base.specs.declared.shapes.Shape.{Shape}
