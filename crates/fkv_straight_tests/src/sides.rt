@@ -58,11 +58,7 @@ fn begin_straight<R: Abort>(
 }
 
 /// Makes a refresh straight, where it may go so.
-fn begin_refresh<R: Abort>(
-    rt: &R,
-    words: &mut PlainWords,
-    session: &mut StraightSession,
-) -> Begun {
+fn begin_refresh<R: Abort>(rt: &R, words: &mut PlainWords, session: &mut StraightSession) -> Begun {
     let mut line = PlainLine::new(rt, words, session);
     let told = session.refresh(&mut line);
     let steps = line.replies().len();
