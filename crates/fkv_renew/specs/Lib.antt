@@ -1,6 +1,7 @@
 pub mod Answers
 pub mod Asked
 pub mod Renewals
+pub mod Said
 pub mod Saved
 pub mod Sizes
 pub mod Stores

@@ -1,9 +1,6 @@
 //! What the program answers.
-ghost use Rattle.std.specs.Prelude.{◌≡◌, IfOk, codes};
-ghost use Rattle.clap.specs.Walk.{texts};
-ghost use Rattle.fkv_texts.specs.Lines.{line_of};
-ghost use Rattle.fkv_texts.specs.Refusals.{last_refusal};
-ghost use Rattle.fkv_renew.specs.Answers.{IsAnswer, IsAnswerTo, fault_of_refusal, status_of_refusal};
+ghost use Rattle.std.specs.Prelude.{◌≡◌};
+ghost use Rattle.fkv_renew.specs.Said as said;
 
 use crate::complaints::Complaint;
 use crate::renewals::{Refusal, renew_file};
@@ -41,7 +38,7 @@ pub(crate) fn answer_words<H: Files, E: Write>(
 ) -> io::Result<Answer>
 where
     H::File: Lockable,
-    ensures { IfOk result (λ answer. IsAnswer ⟦<FileDisk<H::File> as Device>⟧.honest ⟦<FileDisk<H::File> as Device>⟧.seen ⟦<FileDisk<H::File> as Device>⟧.may_leave (texts words.now) answer.status answer.text.items) }
+    ensures { said.IfOk result (λ answer. said.IsAnswer ⟦<FileDisk<H::File> as Device>⟧.honest ⟦<FileDisk<H::File> as Device>⟧.seen ⟦<FileDisk<H::File> as Device>⟧.may_leave (said.texts words.now) answer.status answer.text.items) }
 {
     match asked_of(alloc, words) {
         Ok(asked) => answer_asked(rt, alloc, asked, teller),
@@ -55,9 +52,9 @@ pub(crate) fn refuse_words<E: Write>(
     fault: WordFault,
     teller: &mut Teller<E>,
 ) -> io::Result<Answer>
-    ensures memory { IfOk result (λ answer. ¬ (fault ≡ WordFault.Memory)) }
-    ensures status { IfOk result (λ answer. answer.status ≡ 2) }
-    ensures text { IfOk result (λ answer. answer.text.items ≡ line_of (codes "options")) }
+    ensures memory { said.IfOk result (λ answer. ¬ (fault ≡ WordFault.Memory)) }
+    ensures status { said.IfOk result (λ answer. answer.status ≡ 2) }
+    ensures text { said.IfOk result (λ answer. answer.text.items ≡ said.line_of (said.codes "options")) }
 {
     if let WordFault::Memory = fault {
         return Err(ErrorKind::OutOfMemory.into());
@@ -80,7 +77,7 @@ fn answer_asked<H: Files, E: Write>(
 ) -> io::Result<Answer>
 where
     H::File: Lockable,
-    ensures { IfOk result (λ answer. IsAnswerTo ⟦<FileDisk<H::File> as Device>⟧.honest ⟦<FileDisk<H::File> as Device>⟧.seen ⟦<FileDisk<H::File> as Device>⟧.may_leave asked.entry.sizes asked.entry.keys answer.status answer.text.items) }
+    ensures { said.IfOk result (λ answer. said.IsAnswerTo ⟦<FileDisk<H::File> as Device>⟧.honest ⟦<FileDisk<H::File> as Device>⟧.seen ⟦<FileDisk<H::File> as Device>⟧.may_leave asked.entry.sizes asked.entry.keys answer.status answer.text.items) }
 {
     match renew_file(rt, alloc, asked, teller) {
         Ok(saved) => {
@@ -97,8 +94,8 @@ where
 
 /// The answer to a renewal that is refused.
 fn refuse(alloc: Global, refusal: Refusal) -> io::Result<Answer>
-    ensures status { IfOk result (λ answer. answer.status ≡ status_of_refusal refusal) }
-    ensures text { IfOk result (λ answer. answer.text.items ≡ last_refusal (fault_of_refusal refusal)) }
+    ensures status { said.IfOk result (λ answer. answer.status ≡ said.status_of_refusal refusal) }
+    ensures text { said.IfOk result (λ answer. answer.text.items ≡ said.last_refusal (said.fault_of_refusal refusal)) }
 {
     let (fault, status) = match refusal {
         Refusal::Sizes(_) => (Fault::BadShape, WORDS_REFUSED),

@@ -1,5 +1,6 @@
 //! Where a new store comes to lie: it has no name there until it is whole.
-ghost use Rattle.std.specs.Prelude.{◌≡◌, Option, Some, OnOk, OnErr};
+ghost use Rattle.std.specs.Prelude.{◌≡◌, Option, Some};
+ghost use Rattle.fkv_renew.specs.Said as said;
 
 use fkv_disk::{Device, FileDisk};
 use fkv_files::{Lockable, Trouble, discard, give_name, make_new};
@@ -18,8 +19,8 @@ pub(crate) trait Place {
 
     /// Gives a device its name. It isn't written from then on.
     fn name(&mut self, device: Self::Device) -> Result<(), Trouble>
-        ensures ok { OnOk result (named self.new ≡ Some device) }
-        ensures err { OnErr result (named self.new ≡ named self.old) };
+        ensures ok { said.OnOk result (named self.new ≡ Some device) }
+        ensures err { said.OnErr result (named self.new ≡ named self.old) };
 
     /// Takes a device back that gets no name, and leaves nothing of it.
     fn discard(&mut self, device: Self::Device)

@@ -1,8 +1,6 @@
 //! A renewal, from file to file.
-ghost use Rattle.std.specs.Prelude.{◌≡◌, ◌+◌, ◌*◌, ◌≤◌, IfOk, IfErr, IsSomeAnd, OnErr, OnOk, Some, length};
-ghost use Rattle.fkv_renewing.specs.Room.{HasRoomFor};
-ghost use Rattle.fkv_renew.specs.Renewals.{IsHindrance, IsRefusal, IsRenewalOf, IsSavedFrom, IsUnrenewed, IsWanted, Renews, refusal_by, refusal_of_old, saved_of};
-ghost use Rattle.fkv_renew.specs.Sizes.{AreSizes};
+ghost use Rattle.std.specs.Prelude.{◌≡◌, ◌+◌, ◌*◌, ◌≤◌, Some, length};
+ghost use Rattle.fkv_renew.specs.Said as said;
 
 use crate::places::{NewFile, Place};
 use crate::saved::{Saved, Taken};
@@ -63,8 +61,8 @@ pub(crate) fn renew_file<H: Files, E: Write>(
 ) -> Result<Saved, Refusal>
 where
     H::File: Lockable,
-    ensures ok { IfOk result (IsSavedFrom ⟦<FileDisk<H::File> as Device>⟧.honest ⟦<FileDisk<H::File> as Device>⟧.seen ⟦<FileDisk<H::File> as Device>⟧.may_leave asked.entry.sizes asked.entry.keys) }
-    ensures err { IfErr result (IsRefusal ⟦<FileDisk<H::File> as Device>⟧.honest ⟦<FileDisk<H::File> as Device>⟧.seen asked.entry.sizes asked.entry.keys) }
+    ensures ok { said.IfOk result (said.IsSavedFrom ⟦<FileDisk<H::File> as Device>⟧.honest ⟦<FileDisk<H::File> as Device>⟧.seen ⟦<FileDisk<H::File> as Device>⟧.may_leave asked.entry.sizes asked.entry.keys) }
+    ensures err { said.IfErr result (said.IsRefusal ⟦<FileDisk<H::File> as Device>⟧.honest ⟦<FileDisk<H::File> as Device>⟧.seen asked.entry.sizes asked.entry.keys) }
 {
     let wanted = match wanted_of(asked.sizes) {
         Ok(wanted) => wanted,
@@ -87,8 +85,8 @@ where
 
 /// The shape of the sizes that are asked for, where some are; or sizes that no store of their class has.
 fn wanted_of(sizes: Option<Sizes>) -> Result<Option<Shape>, Sizes>
-    ensures ok { IfOk result (IsWanted sizes) }
-    ensures err { IfErr result (λ refused. (sizes ≡ Some refused) × (¬ (AreSizes refused))) }
+    ensures ok { said.IfOk result (said.IsWanted sizes) }
+    ensures err { said.IfErr result (λ refused. (sizes ≡ Some refused) × (¬ (said.AreSizes refused))) }
 {
     let Some(sizes) = sizes else {
         return Ok(None);
@@ -109,9 +107,9 @@ fn renew_store<D: Device + Drop, P: Place, E: Write>(
     place: &mut P,
     teller: &mut Teller<E>,
 ) -> Result<Saved, Refusal>
-    ensures ok { IfOk result (λ saved. (new : P.Device) × (P.named place.new ≡ Some new) × Renews D.honest D.seen P.Device.honest P.Device.seen P.Device.may_leave wanted keys device new saved) }
-    ensures err { IfErr result (IsUnrenewed D.honest D.seen wanted keys device) }
-    ensures unnamed { OnErr result (P.named place.new ≡ P.named place.old) }
+    ensures ok { said.IfOk result (λ saved. (new : P.Device) × (P.named place.new ≡ Some new) × said.Renews D.honest D.seen P.Device.honest P.Device.seen P.Device.may_leave wanted keys device new saved) }
+    ensures err { said.IfErr result (said.IsUnrenewed D.honest D.seen wanted keys device) }
+    ensures unnamed { said.OnErr result (P.named place.new ≡ P.named place.old) }
 {
     law_pairs();
     teller.step("1 of 2: reading the old store");
@@ -136,10 +134,10 @@ fn write_store<P: Place>(
     shape: Shape,
     place: &mut P,
 ) -> Result<(), Refusal>
-    ensures room { OnOk result (HasRoomFor shape store.now.opened.points.items store.now.pairs.items) }
-    ensures named { OnOk result (IsSomeAnd (P.named place.new) (IsRenewalOf P.Device.honest P.Device.seen P.Device.may_leave store.now shape)) }
-    ensures unnamed { OnErr result (P.named place.new ≡ P.named place.old) }
-    ensures err { IfErr result (IsHindrance shape store.now.opened.points.items store.now.pairs.items) }
+    ensures room { said.OnOk result (said.HasRoomFor shape store.now.opened.points.items store.now.pairs.items) }
+    ensures named { said.OnOk result (said.IsSomeAnd (P.named place.new) (said.IsRenewalOf P.Device.honest P.Device.seen P.Device.may_leave store.now shape)) }
+    ensures unnamed { said.OnErr result (P.named place.new ≡ P.named place.old) }
+    ensures err { said.IfErr result (said.IsHindrance shape store.now.opened.points.items store.now.pairs.items) }
 {
     let mut device = match place.make() {
         Ok(device) => device,
@@ -160,7 +158,7 @@ fn write_store<P: Place>(
 
 /// Why nothing is renewed, by the fault in reading the old store.
 fn unopened_as(fault: Fault) -> Refusal
-    ensures { result ≡ refusal_of_old fault }
+    ensures { result ≡ said.refusal_of_old fault }
 {
     match fault {
         Fault::Memory => Refusal::Memory,
@@ -170,7 +168,7 @@ fn unopened_as(fault: Fault) -> Refusal
 
 /// Why nothing is renewed, by a renewal's own fault.
 fn refused_as(fault: Fault) -> Refusal
-    ensures { result ≡ refusal_by fault }
+    ensures { result ≡ said.refusal_by fault }
 {
     match fault {
         Fault::Memory => Refusal::Memory,
@@ -182,7 +180,7 @@ fn refused_as(fault: Fault) -> Refusal
 /// What a renewal of this store to this shape has saved.
 fn saved_of(store: &Store, shape: Shape) -> Saved
     requires { length store.now.pairs.items + 1 ≤ shape.disk_pages * shape.page }
-    ensures { result ≡ saved_of store.now shape }
+    ensures { result ≡ said.saved_of store.now shape }
 {
     let (opened, pairs) = (&store.opened, store.pairs.len());
     Saved {

@@ -1,10 +1,6 @@
 //! Whole runs of the program.
-ghost use Rattle.std.specs.Prelude.{◌≡◌, ℕ, IfOk, OnErr};
-ghost use Rattle.std.specs.Io.KnownBytes.{Appends};
-ghost use Rattle.clap.specs.Walk.{texts};
-ghost use Rattle.fkv_runs.specs.Below.fkv_playing.InTurn.{Writes};
-ghost use Rattle.fkv_runs.specs.Beginnings.{BreaksOff};
-ghost use Rattle.fkv_renew.specs.Answers.{IsAnswer, IsUnreadAnswer};
+ghost use Rattle.std.specs.Prelude.{◌≡◌, ℕ};
+ghost use Rattle.fkv_renew.specs.Said as said;
 
 use crate::answers::{Answer, answer_words, refuse_words};
 use crate::telling::Teller;
@@ -28,8 +24,8 @@ pub fn run<H: Files, W: Write, E: Write>(
 ) -> io::Result<u8>
 where
     H::File: Lockable,
-    ensures whole { IfOk result (λ status. Writes (IsAnswer ⟦<FileDisk<H::File> as Device>⟧.honest ⟦<FileDisk<H::File> as Device>⟧.seen ⟦<FileDisk<H::File> as Device>⟧.may_leave (texts words.now) status) (W.contents output.old) (W.contents output.new)) }
-    ensures part { OnErr result (BreaksOff (λ text. (status : ℕ) × IsAnswer ⟦<FileDisk<H::File> as Device>⟧.honest ⟦<FileDisk<H::File> as Device>⟧.seen ⟦<FileDisk<H::File> as Device>⟧.may_leave (texts words.now) status text) (W.contents output.old) (W.contents output.new)) }
+    ensures whole { said.IfOk result (λ status. said.Writes (said.IsAnswer ⟦<FileDisk<H::File> as Device>⟧.honest ⟦<FileDisk<H::File> as Device>⟧.seen ⟦<FileDisk<H::File> as Device>⟧.may_leave (said.texts words.now) status) (W.contents output.old) (W.contents output.new)) }
+    ensures part { said.OnErr result (said.BreaksOff (λ text. (status : ℕ) × said.IsAnswer ⟦<FileDisk<H::File> as Device>⟧.honest ⟦<FileDisk<H::File> as Device>⟧.seen ⟦<FileDisk<H::File> as Device>⟧.may_leave (said.texts words.now) status text) (W.contents output.old) (W.contents output.new)) }
 {
     let answer = answer_words(rt, alloc, words, teller)?;
     write_answer(&answer, output)
@@ -41,8 +37,8 @@ pub fn refuse_unread<W: Write, E: Write>(
     output: &mut W,
     teller: &mut Teller<E>,
 ) -> io::Result<u8>
-    ensures whole { IfOk result (λ status. Writes (IsUnreadAnswer status) (W.contents output.old) (W.contents output.new)) }
-    ensures part { OnErr result (BreaksOff (IsUnreadAnswer 2) (W.contents output.old) (W.contents output.new)) }
+    ensures whole { said.IfOk result (λ status. said.Writes (said.IsUnreadAnswer status) (W.contents output.old) (W.contents output.new)) }
+    ensures part { said.OnErr result (said.BreaksOff (said.IsUnreadAnswer 2) (W.contents output.old) (W.contents output.new)) }
 {
     let answer = refuse_words(alloc, WordFault::Refused, teller)?;
     write_answer(&answer, output)
@@ -50,9 +46,9 @@ pub fn refuse_unread<W: Write, E: Write>(
 
 /// Writes the text of an answer; the status is its own.
 fn write_answer<W: Write>(answer: &Answer, output: &mut W) -> io::Result<u8>
-    ensures status { IfOk result (λ status. status ≡ answer.now.status) }
-    ensures whole { IfOk result (λ status. Appends (W.contents output.old) (W.contents output.new) answer.now.text.items) }
-    ensures part { OnErr result (BreaksOff (λ text. text ≡ answer.now.text.items) (W.contents output.old) (W.contents output.new)) }
+    ensures status { said.IfOk result (λ status. status ≡ answer.now.status) }
+    ensures whole { said.IfOk result (λ status. said.Appends (W.contents output.old) (W.contents output.new) answer.now.text.items) }
+    ensures part { said.OnErr result (said.BreaksOff (λ text. text ≡ answer.now.text.items) (W.contents output.old) (W.contents output.new)) }
 {
     write_text(output, answer.text.as_slice())?;
     Ok(answer.status)

@@ -1,8 +1,6 @@
 //! What a renewal saves.
-ghost use Rattle.std.specs.Prelude.{◌≡◌, ◌*◌, ◌<◌, ◌≤◌, OnOk};
-ghost use Rattle.std.specs.Io.KnownBytes.{Appends};
-ghost use Rattle.fkv_base.specs.Limits.{last_version};
-ghost use Rattle.fkv_renew.specs.Saved.{change_line, saved_text, taken_of};
+ghost use Rattle.std.specs.Prelude.{◌≡◌, ◌*◌, ◌<◌, ◌≤◌};
+ghost use Rattle.fkv_renew.specs.Said as said;
 
 use fkv_base::{Addr, Shape, Version};
 use fkv_record::record_place;
@@ -33,8 +31,8 @@ impl Taken {
     pub(crate) fn of(shape: Shape, tail: Addr, number: Version) -> Taken
         requires some { 1 ≤ tail.0 }
         requires on_disk { tail.0 ≤ shape.disk_pages * shape.page }
-        requires few_commits { number.0 < last_version }
-        ensures { result ≡ taken_of shape tail.0 number.0 }
+        requires few_commits { number.0 < said.last_version }
+        ensures { result ≡ said.taken_of shape tail.0 number.0 }
     {
         Taken {
             records: tail.0 - 1,
@@ -46,7 +44,7 @@ impl Taken {
 
 /// The lines that say what a renewal has saved.
 pub(crate) fn write_saved<W: Write>(output: &mut W, saved: Saved) -> io::Result<()>
-    ensures { OnOk result (Appends (W.contents output.old) (W.contents output.new) (saved_text saved)) }
+    ensures { said.OnOk result (said.Appends (W.contents output.old) (W.contents output.new) (said.saved_text saved)) }
 {
     let Saved {
         pairs,
@@ -66,7 +64,7 @@ pub(crate) fn write_saved<W: Write>(output: &mut W, saved: Saved) -> io::Result<
 
 /// One line of them: `records 1047 now 3`.
 fn write_change<W: Write>(output: &mut W, name: &str, before: u64, after: u64) -> io::Result<()>
-    ensures { OnOk result (Appends (W.contents output.old) (W.contents output.new) (change_line name.now before after)) }
+    ensures { said.OnOk result (said.Appends (W.contents output.old) (W.contents output.new) (said.change_line name.now before after)) }
 {
     writeln!(output, "{name} {before} now {after}")
 }

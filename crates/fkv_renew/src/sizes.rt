@@ -1,18 +1,14 @@
 //! The sizes of a new store.
-ghost use Rattle.std.specs.Prelude.{◌≡◌, ℕ, IfErr, IfOk, IfSome, None};
-ghost use Rattle.clap.specs.Walk.{texts};
-ghost use Rattle.fkv_base.specs.declared.faults.Fault.TheVariants.{BadShape};
-ghost use Rattle.fkv_lines.specs.declared.scripts.Sizes.{Sizes as TheSizes};
-ghost use Rattle.fkv_renew.specs.Asked.{AreSizesOf, Spells};
-ghost use Rattle.fkv_renew.specs.Sizes.{AreSizes, HasSizes};
+ghost use Rattle.std.specs.Prelude.{◌≡◌, ℕ, None};
+ghost use Rattle.fkv_renew.specs.Said as said;
 
 use fkv_base::{Fault, Shape};
 use fkv_lines::{Class, Sizes};
 
 /// The sizes that seven words spell, for a store of this class.
 pub(crate) fn read_sizes(class: Class, words: &[&str]) -> Option<Sizes>
-    ensures some { IfSome result (AreSizesOf class (texts words.now)) }
-    ensures none { result ≡ None → (sizes : TheSizes) → AreSizesOf class (texts words.now) sizes → ⊥ }
+    ensures some { said.IfSome result (said.AreSizesOf class (said.texts words.now)) }
+    ensures none { result ≡ None → (sizes : said.TheSizes) → said.AreSizesOf class (said.texts words.now) sizes → ⊥ }
 {
     let [
         bucket_bits,
@@ -40,8 +36,8 @@ pub(crate) fn read_sizes(class: Class, words: &[&str]) -> Option<Sizes>
 
 /// The number below 2^64 that a word spells.
 fn number_of(word: &str) -> Option<u64>
-    ensures some { IfSome result (Spells word.now) }
-    ensures none { result ≡ None → (number : ℕ) → Spells word.now number → ⊥ }
+    ensures some { said.IfSome result (said.Spells word.now) }
+    ensures none { result ≡ None → (number : ℕ) → said.Spells word.now number → ⊥ }
 {
     match word.parse::<u64>() {
         Ok(number) => Some(number),
@@ -51,8 +47,8 @@ fn number_of(word: &str) -> Option<u64>
 
 /// The shape of these sizes, or `BadShape` where no store of their class has them.
 pub(crate) fn shape_of(sizes: Sizes) -> Result<Shape, Fault>
-    ensures sized { IfOk result (HasSizes sizes) }
-    ensures refused { IfErr result (λ fault. (¬ (AreSizes sizes)) × (fault ≡ BadShape)) }
+    ensures sized { said.IfOk result (said.HasSizes sizes) }
+    ensures refused { said.IfErr result (λ fault. (¬ (said.AreSizes sizes)) × (fault ≡ said.BadShape)) }
 {
     match sizes.class {
         Class::Small => Shape::new(

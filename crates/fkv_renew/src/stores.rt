@@ -1,6 +1,6 @@
 //! A store that is renewed.
-ghost use Rattle.std.specs.Prelude.{◌≡◌, IfErr, IfOk};
-ghost use Rattle.fkv_renew.specs.Stores.{IsHeld, IsLaid, IsUnread};
+ghost use Rattle.std.specs.Prelude.{◌≡◌};
+ghost use Rattle.fkv_renew.specs.Said as said;
 
 use fkv_base::{Fault, Key, Value};
 use fkv_disk::{Device, PageSize, Pages, ReadAhead};
@@ -21,7 +21,7 @@ pub(crate) struct Store {
 impl Store {
     /// The store with its keys laid so.
     pub(crate) fn laid(self, keys: Keys) -> Store
-        ensures { IsLaid keys self result }
+        ensures { said.IsLaid keys self result }
     {
         let Store { opened, mut pairs } = self;
         lay(keys, &mut pairs);
@@ -35,8 +35,8 @@ pub(crate) fn read_store<D: Device + Drop>(
     device: D,
     length: Option<u64>,
 ) -> Result<(D, Store), Fault>
-    ensures held { D.honest device → IfOk result (λ found. IsHeld (D.seen device) found.1) }
-    ensures refused { IfErr result (IsUnread (D.honest device) (D.seen device)) }
+    ensures held { D.honest device → said.IfOk result (λ found. said.IsHeld (D.seen device) found.1) }
+    ensures refused { said.IfErr result (said.IsUnread (D.honest device) (D.seen device)) }
 {
     let pages = Pages::new(alloc, PageSize::Kib4, pages_to_keep(length))?;
     let mut ahead = ReadAhead::new(device, pages);

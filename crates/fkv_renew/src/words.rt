@@ -1,9 +1,6 @@
 //! The words after the program's name.
-ghost use Rattle.std.specs.Prelude.{◌≡◌, ◌≢◌, IfOk, IfErr, Option, option_map};
-ghost use Rattle.clap.specs.Simple.{app_of};
-ghost use Rattle.clap.specs.Walk.{texts};
-ghost use Rattle.fkv_lines.specs.declared.scripts.Sizes.{Sizes as TheSizes};
-ghost use Rattle.fkv_renew.specs.Asked.{AreAskedSizes, TellsAsked, command_line, keys_by};
+ghost use Rattle.std.specs.Prelude.{◌≡◌, ◌≢◌, Option};
+ghost use Rattle.fkv_renew.specs.Said as said;
 
 use crate::sizes::read_sizes;
 use clap::error::ErrorKind;
@@ -47,7 +44,7 @@ impl From<AllocError> for WordFault {
 /// What the words after the program's name ask for: OLD and NEW, two files; `--shape` or `--large` with seven numbers below 2^64, where
 /// one of them is there; and `--spread`, where it is there.
 pub(crate) fn asked_of<'a>(alloc: Global, words: &'a [&'a str]) -> Result<Asked<'a>, WordFault>
-    ensures { TellsAsked (texts words.now) result }
+    ensures { said.TellsAsked (said.texts words.now) result }
 {
     let command = command_of(alloc)?;
     let matches = match command.try_get_matches_from(words) {
@@ -85,7 +82,7 @@ fn refused_as(kind: ErrorKind) -> WordFault
 
 /// How keys come to lie, with `--spread` or without it.
 fn keys_of(spread: bool) -> Keys
-    ensures { result ≡ keys_by spread }
+    ensures { result ≡ said.keys_by spread }
 {
     if spread {
         Keys::Spread
@@ -96,8 +93,8 @@ fn keys_of(spread: bool) -> Keys
 
 /// The sizes that stand behind `--shape` or `--large`.
 fn sizes_of(small: Option<&[&str]>, large: Option<&[&str]>) -> Result<Option<Sizes>, WordFault>
-    ensures ok { IfOk result (AreAskedSizes (option_map (λ s. texts s.now) small.entry) (option_map (λ s. texts s.now) large.entry)) }
-    ensures err { IfErr result (λ fault. (fault ≡ WordFault.Refused) × ((sizes : Option TheSizes) → AreAskedSizes (option_map (λ s. texts s.now) small.entry) (option_map (λ s. texts s.now) large.entry) sizes → ⊥)) }
+    ensures ok { said.IfOk result (said.AreAskedSizes (said.option_map (λ s. said.texts s.now) small.entry) (said.option_map (λ s. said.texts s.now) large.entry)) }
+    ensures err { said.IfErr result (λ fault. (fault ≡ WordFault.Refused) × ((sizes : Option said.TheSizes) → said.AreAskedSizes (said.option_map (λ s. said.texts s.now) small.entry) (said.option_map (λ s. said.texts s.now) large.entry) sizes → ⊥)) }
 {
     match (small, large) {
         (None, None) => Ok(None),
@@ -118,7 +115,7 @@ const SIZES: usize = 7;
 
 /// The command line.
 fn command_of<'a>(alloc: Global) -> Result<Command<'a>, AllocError>
-    ensures { IfOk result (λ command. app_of command ≡ command_line) }
+    ensures { said.IfOk result (λ command. said.app_of command ≡ said.command_line) }
 {
     let old = Arg::new(alloc, "OLD").required(true);
     let new = Arg::new(alloc, "NEW").required(true);
