@@ -1,36 +1,12 @@
--- The call is one that the session has run, by the answer that says what was told, so the thread law speaks of it.
-use Rattle.std.proofs.Common.{refl}
+-- The operation is one that the session has run, by the answer that says what was told, so the thread law speaks of it.
+use Rattle.fkv_map.specs.declared.operations.Call.TheVariants.{Op}
 use Rattle.fkv_table.specs.Planes.{opening_of}
-use Rattle.law_threads.specs.Durable.{ItsDurableNeverFalls, RecoversItsDurable, TellsItsDurable}
-use Rattle.law_threads.specs.Laws.{IsWithin}
-use Rattle.fkv_threads.proofs.Lawful.{lawful, of_this, told_to}
+use Rattle.fkv_threads.proofs.Lawful.{all_told, ran_told}
 use Rattle.fkv_threads.proofs.calls.run_op.Goals as goal
 
-pub returns-clause-called : goal.returns-clause-called
-returns-clause-called g c = λ answer says. record {
-  table = c.args.table.now.table.shared.table_id;
-  seat = c.args.pass.seat.table_id;
-  me = c.args.pass.seat.me;
-  machine = c.args.session.now.machine;
-  desk = c.args.session.now.desk;
-  ready = c.requires.ready;
-  number = refl;
-  seen = refl;
-  called = c.run_op.ensures.called;
-  answered = told_to (opening_of g.D.Device.seen) _ _ _ _ _ _ answer c.run_op.ensures.number c.run_op.ensures.told says;
-  allowed = c.run_op.ensures.ready.rests.seated.allowed;
-}
-
-pub returns-clause-in_lives : goal.returns-clause-in_lives
-returns-clause-in_lives g c = λ answer says. lawful (opening_of g.D.Device.seen) _ _ _ (returns-clause-called g c answer says) (c.law_threads.ensures.in_lives (opening_of g.D.Device.seen))
-
-pub returns-clause-durable : goal.returns-clause-durable
-returns-clause-durable g c = λ answer says. of_this (opening_of g.D.Device.seen) _ _ IsWithin TellsItsDurable (returns-clause-called g c answer says) (c.law_threads.ensures.durable (opening_of g.D.Device.seen))
-
-pub returns-clause-never_falls : goal.returns-clause-never_falls
-returns-clause-never_falls g c =
-    λ answer says. of_this (opening_of g.D.Device.seen) _ _ IsWithin ItsDurableNeverFalls (returns-clause-called g c answer says) (c.law_threads.ensures.never_falls (opening_of g.D.Device.seen))
-
-pub returns-clause-recovered : goal.returns-clause-recovered
-returns-clause-recovered g c =
-    λ answer says. of_this (opening_of g.D.Device.seen) _ _ IsWithin (RecoversItsDurable (opening_of g.D.Device.seen)) (returns-clause-called g c answer says) (c.law_threads.ensures.recovered (opening_of g.D.Device.seen))
+pub returns : goal.returns
+returns g c =
+    let at = opening_of g.D.Device.seen in let ran = c.run_op.ensures in let law = c.law_threads.ensures in
+    let run = ran_told at _ _ _ _ c.run_op.result.0.seat.me _ c.run_op.new.self.machine _ (Op c.args.op) _ c.requires.ready ran.number ran.called ran.told ran.ready.rests.seated.allowed in
+    let its = all_told at _ _ run (law.in_lives at) (law.durable at) (law.never_falls at) (law.recovered at) in
+    record { ready = ran.ready; number = ran.number; called = run; in_lives = its.in_lives; durable = its.durable; never_falls = its.never_falls; recovered = its.recovered }

@@ -1,23 +1,12 @@
 -- The operation is a run of the session that sits here, with its pass.
 use Rattle.std.proofs.Common.{◌≡◌, Some, sym, ap, ◌∙◌}
-use Rattle.fkv_handles.proofs.Renamed.{call_of, sitting_with}
+use Rattle.fkv_handles.proofs.Renamed.{sitting_with, told_call_of}
 use Rattle.fkv_handles.proofs.seated.Seated.op.Goals as goal
 
 pub returns-in-Some : goal.returns-in-Some
 returns-in-Some c =
-    let its : c.self.inside.pass ≡ Some c.in-Some.pass = sym c.take.ensures.value ∙ c.in-Some.is in
-    let number = c.self.inside.session.machine.seat.number in
-    record {
-      called = (
-        c.run_op-pass.new.session.machine.state.finished,
-        λ answer says. call_of _ _ _ (sitting_with number c.deref.result.now.table.shared.key (Some c.in-Some.pass)) _ _ (sym c.self.view_is ∙ (λ i. sitting_with number (sym c.deref.ensures i).table.shared.key (its i))) (record {
-          number = c.run_op-pass.ensures.number;
-          key = ap (λ v. v.table.shared.key) (sym c.deref.ensures);
-          called = c.run_op-pass.ensures.called answer says;
-          in_lives = c.run_op-pass.ensures.in_lives answer says;
-          durable = c.run_op-pass.ensures.durable answer says;
-          never_falls = c.run_op-pass.ensures.never_falls answer says;
-          recovered = c.run_op-pass.ensures.recovered answer says;
-        }),
-      );
-    }
+    let pass : c.self.inside.pass ≡ Some c.in-Some.pass = sym c.take.ensures.value ∙ c.in-Some.is in
+    let number = c.self.inside.session.machine.seat.number in let its = c.run_op-pass.ensures in
+    let here = sym c.self.view_is ∙ (λ i. sitting_with number (sym c.deref.ensures i).table.shared.key (pass i)) in
+    let key = ap (λ v. v.table.shared.key) (sym c.deref.ensures) in
+    record { called = told_call_of _ _ _ (sitting_with number c.deref.result.now.table.shared.key (Some c.in-Some.pass)) _ _ _ here its.number key its.called its.in_lives its.durable its.never_falls its.recovered }
