@@ -23,15 +23,17 @@ call_of {K} at s s' t call answer same its = subst (λ (z : Sitting K). IsCallOf
 -- a call by what it was told, as the calls on threads have it
 pub told_call_of : {K : Type 0} (at : K → World) (s s' t : Sitting K) (call : Call) (told : Told) (finished : List Finished) → s ≡ t → s'.number ≡ t.number → s'.key ≡ t.key
     → (let its = said.told_run t.number call told finished t.seen s'.seen in said.OfToldRun its (λ run. said.IsRun at t.key run) → said.OfToldRun its (λ run. said.IsLawful at t.key run said.IsWithin)
-        → said.OfToldRun its (λ run. said.OfThisRun at t.key run said.IsWithin said.TellsItsDurable) → said.OfToldRun its (λ run. said.OfThisRun at t.key run said.IsWithin said.ItsDurableNeverFalls)
-        → said.OfToldRun its (λ run. said.OfThisRun at t.key run said.IsWithin (said.RecoversItsDurable at)) → IsToldCallOf at s call told s')
-told_call_of at s s' t call told finished same number key called in_lives durable never_falls recovered =
-    (finished, λ answer says. call_of at s s' t call answer same (record {
-      number = number;
-      key = key;
-      called = called answer says;
-      in_lives = in_lives answer says;
-      durable = durable answer says;
-      never_falls = never_falls answer says;
-      recovered = recovered answer says;
-    }))
+    → said.OfToldRun its (λ run. said.OfThisRun at t.key run said.IsWithin said.TellsItsDurable) → said.OfToldRun its (λ run. said.OfThisRun at t.key run said.IsWithin said.ItsDurableNeverFalls)
+    → said.OfToldRun its (λ run. said.OfThisRun at t.key run said.IsWithin (said.RecoversItsDurable at)) → IsToldCallOf at s call told s')
+told_call_of at s s' t call told finished same number key called in_lives durable never_falls recovered = (
+  finished,
+  λ answer says. call_of at s s' t call answer same (record {
+    number = number;
+    key = key;
+    called = called answer says;
+    in_lives = in_lives answer says;
+    durable = durable answer says;
+    never_falls = never_falls answer says;
+    recovered = recovered answer says;
+  }),
+)
