@@ -300,17 +300,20 @@ static int32_t not_served(fkv_file *file) {
 int32_t fkv_settle(fkv_file *file, fkv_session *session, fkv_finished_fn *told, void *user) {
     fkv_finished finished[FKV_MOST_PENDING];
     fkv_seen seen;
-    for (;;) {
+    /* A request that lost to another session is finished by the first poll. What is left then may wait for a refresh, and else for the keeper. */
+    for (unsigned polls = 0;; polls++) {
         uint64_t count = 0;
-        int32_t result = fkv_refresh(session, &seen);
-        if (result < 0) return result;
         int32_t left = fkv_poll(session, finished, FKV_MOST_PENDING, &count);
         for (uint64_t i = 0; i < count && told; i++) told(user, &finished[i]);
         if (left <= 0) return left;
-        result = not_served(file);
+        if (polls > 0) {
+            int32_t served = not_served(file);
+            if (served < 0) return served;
+            fkv_nudge(file);
+            nanosleep(&(struct timespec){0, SETTLE_US * 1000}, NULL);
+        }
+        int32_t result = fkv_refresh(session, &seen);
         if (result < 0) return result;
-        fkv_nudge(file);
-        nanosleep(&(struct timespec){0, SETTLE_US * 1000}, NULL);
     }
 }
 

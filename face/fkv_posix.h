@@ -107,8 +107,8 @@ int32_t fkv_leave(fkv_file *file, fkv_session *session);
 void fkv_abandon(fkv_file *file, fkv_session *session);
 
 /*
- * Refreshes and polls a session until none of its requests is pending, and tells each that is finished; `told` may be NULL. It wants
- * the keeper's thread.
+ * Polls a session until none of its requests is pending, with a refresh between two polls, and tells each that is finished; `told` may be
+ * NULL. It wants the keeper's thread.
  * 0; -FKV_ASLEEP; the fault of the keeper's thread where that can't go on (fkv_keeper_fault); -FKV_BROKEN where it doesn't run.
  */
 int32_t fkv_settle(fkv_file *file, fkv_session *session, fkv_finished_fn *told, void *user);

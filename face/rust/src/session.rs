@@ -340,7 +340,7 @@ impl Session {
         Ok(left as usize)
     }
 
-    /// Refreshes and polls until nothing is pending, and tells what is finished. It wants a keeper: `Broken` where none runs, and the
+    /// Polls until nothing is pending, with a refresh between two polls, and tells what is finished. It wants a keeper: `Broken` where none runs, and the
     /// keeper's fault where that can't go on. `Asleep`.
     pub fn settle(&mut self, mut tell: impl FnMut(Finished)) -> Result<(), Error> {
         let mut tell: &mut dyn FnMut(Finished) = &mut tell;
