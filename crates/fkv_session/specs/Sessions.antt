@@ -5,6 +5,7 @@ use Rattle.std.proofs.Common.{arith}
 use Rattle.fkv_base.specs.Limits.{max_pending, last_serial, last_version}
 use Rattle.fkv_base.specs.declared.faults.Fault.{Fault}
 use Rattle.fkv_base.specs.declared.faults.Fault.TheVariants as fault
+use Rattle.fkv_base.specs.declared.numbers.Serial.{Serial}
 use Rattle.fkv_base.specs.declared.numbers.Version.{Version}
 use Rattle.fkv_base.specs.declared.shapes.Shape.{Shape}
 use Rattle.fkv_map.specs.declared.history.HistoryEntry.{HistoryEntry}
@@ -251,6 +252,22 @@ attempt_ledto s has_shifted ask = s
 -- the session has refreshed without its machine, and goes by this from then on
 abbrev pub refreshed : SessionState → Seen → SessionState
 refreshed s seen = answers (record s { seen = seen; catching = refresh_ended s.catching s.seen seen s.serial }) told.Slept
+
+-- the session has tried an update without its machine, and it waits from then on
+abbrev pub update_waiting : SessionState → Op → SessionState
+update_waiting s op =
+    let taken : ℕ = s.serial + 1 in
+    answers (record s { serial = taken; requests = s.requests ++ record { name = Update (record { 0 = taken }); request = request_of op s.seen.version; sought = None; has_asked = false } ∷ [] }) told.Slept
+
+-- the session has polled without its machine: an update has finished so, and no request waits from then on
+abbrev pub update_polled : SessionState → Serial → Reply → SessionState
+update_polled s serial its = answers (record s { finished = finished.Update serial its ∷ []; requests = [] }) told.Slept
+
+-- the request that waits, where just one does
+abbrev pub only_of : List PendingRequest → Option PendingRequest
+only_of [] = None
+only_of (its ∷ []) = Some its
+only_of (its ∷ other ∷ others) = None
 
 abbrev pub caught_up : Seat → SessionState → CatchCause → SessionState
 caught_up k s Refreshes = answers s (told.Refreshed s.seen.phase s.seen.version)

@@ -1,21 +1,22 @@
 //! What a session's calls go by, and how far the one in hand has come: FASTER's execution context.
-ghost use Rattle.std.specs.Prelude.{◌≡◌, ◌<◌, ◌≤◌, ◌+◌, ◌*◌, ◌^◌, None};
-ghost use Rattle.fkv_base.specs.Limits.{max_sessions, last_serial};
+ghost use Rattle.std.specs.Prelude.{◌≡◌, ◌<◌, ◌≤◌, ◌+◌, ◌*◌, ◌^◌, None, length};
+ghost use Rattle.fkv_base.specs.Limits.{max_pending, max_sessions, last_serial};
 ghost use Rattle.fkv_session.specs.AsksLeft.{session_asks_left, call_bound};
 ghost use Rattle.fkv_session.specs.declared.answers.Told.TheVariants.{Slept};
 ghost use Rattle.fkv_session.specs.declared.sessions.Sitting.TheVariants.{Idle, Turns};
-ghost use Rattle.fkv_session.specs.Sessions.{session_begun, session_ask, sitting_next, sitting_given, asks_after, refreshed, IsOpened};
+ghost use Rattle.fkv_session.specs.Sessions.{session_begun, session_ask, sitting_next, sitting_given, asks_after, refreshed, update_polled, update_waiting, IsOpened};
 
 use crate::answers::{Finished, Told};
 use crate::catching_up::CatchUp;
+use crate::leading::request_of;
 use crate::own_turns::OwnTurn;
 use crate::sessions::Sitting;
 use arrayvec::ArrayVec;
 use fkv_base::{Key, MAX_PENDING, Serial, Shape};
 use fkv_epoch::Leave;
-use fkv_map::{Call, HistoryEntry, Op};
+use fkv_map::{Call, HistoryEntry, Op, Reply};
 use fkv_ops::Seen;
-use fkv_pending::{Attempt, Mail, PendingList};
+use fkv_pending::{Attempt, Mail, PendingList, PendingRequest, RequestName};
 use fkv_plane::{Action, Ask, Places};
 use std::marker::Model;
 
@@ -132,6 +133,38 @@ impl Context {
     {
         self.catch.end_refresh(self.seen, seen, Serial(self.serial));
         self.seen = seen;
+        self.step = Sitting::Idle(Told::Slept);
+        Ask::Done(Told::Slept)
+    }
+
+    /// An update was tried outside and waits.
+    #[tactic(auto, unfolding(crate::specs::Sessions::sitting_ask))]
+    pub(crate) fn take_pending(&mut self, op: Op) -> Ask<Told>
+        requires room { length self.old.state.requests < max_pending }
+        requires serial { self.old.state.serial < last_serial }
+        ensures next { self.new ≡ record self.old { state = update_waiting self.old.state op } }
+        ensures ask { result ≡ session_ask self.old.seat self.new.state }
+    {
+        self.serial += 1;
+        self.requests.push(PendingRequest {
+            name: RequestName::Update(Serial(self.serial)),
+            request: request_of(op, self.seen.version),
+            sought: None,
+            has_asked: false,
+        });
+        self.step = Sitting::Idle(Told::Slept);
+        Ask::Done(Told::Slept)
+    }
+
+    /// The session was polled outside: this update has finished, and no request waits.
+    #[tactic(auto, unfolding(crate::specs::Sessions::sitting_ask))]
+    pub(crate) fn take_polled(&mut self, serial: Serial, reply: Reply) -> Ask<Told>
+        ensures next { self.new ≡ record self.old { state = update_polled self.old.state serial reply } }
+        ensures ask { result ≡ session_ask self.old.seat self.new.state }
+    {
+        self.finished.clear();
+        self.finished.push(Finished::Update(serial, reply));
+        self.requests = PendingList::new();
         self.step = Sitting::Idle(Told::Slept);
         Ask::Done(Told::Slept)
     }

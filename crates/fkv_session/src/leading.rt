@@ -305,7 +305,7 @@ fn is_read(op: Op) -> bool
 }
 
 /// The operation as a request of this version.
-fn request_of(op: Op, version: Version) -> Request
+pub(crate) fn request_of(op: Op, version: Version) -> Request
     ensures { result ≡ request_of op version }
 {
     Request {

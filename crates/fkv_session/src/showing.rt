@@ -3,14 +3,14 @@ ghost use Rattle.std.specs.Prelude.{◌≡◌, ◌<◌, ◌≤◌, ◌+◌, ◌^
 ghost use Rattle.fkv_base.specs.Limits.{max_pending, max_sessions, last_serial};
 ghost use Rattle.fkv_session.specs.declared.answers.Told.TheVariants.{Slept};
 ghost use Rattle.fkv_session.specs.declared.sessions.Sitting.TheVariants.{Idle};
-ghost use Rattle.fkv_session.specs.Sessions.{is_busy, refusal_of, refreshed, HasRoom};
+ghost use Rattle.fkv_session.specs.Sessions.{is_busy, only_of, refusal_of, refreshed, update_polled, update_waiting, HasRoom};
 
 use crate::answers::Finished;
 use crate::sessions::{Session, Sitting};
 use fkv_base::{Fault, Serial, Shape};
-use fkv_map::{HistoryEntry, Op};
+use fkv_map::{HistoryEntry, Op, Reply};
 use fkv_ops::Seen;
-use fkv_pending::Ticket;
+use fkv_pending::{PendingRequest, Ticket};
 use fkv_plane::Places;
 
 impl Session {
@@ -80,6 +80,18 @@ impl Session {
         self.context.requests.len()
     }
 
+    /// The request that waits, where just one does.
+    #[tactic(auto, using(crate::proofs::Requests::first_only, crate::proofs::Requests::many_only))]
+    pub fn only_request(&self) -> Option<PendingRequest>
+        ensures { result ≡ only_of self.now.state.requests }
+    {
+        if self.context.requests.len() == 1 {
+            self.context.requests.get(0)
+        } else {
+            None
+        }
+    }
+
     /// Whether no further request can wait.
     pub fn is_full(&self) -> bool
         ensures { result ≡ (length self.now.state.requests == max_pending) }
@@ -141,10 +153,30 @@ impl Session {
         self.ask = self.context.take_serial();
         self.serial()
     }
+
     /// Goes by this from now on, behind a refresh whose asks somebody else has made in its place while no request waited. No call is in hand behind it.
     pub fn take_seen(&mut self, seen: Seen)
         ensures { self.new ≡ record self.old { state = refreshed self.old.state seen } }
     {
         self.ask = self.context.take_seen(seen);
+    }
+
+    /// Takes the next serial for an update that somebody else has tried in its place. It waits, as a request of the session's version, and no call is in
+    /// hand behind it.
+    pub fn take_pending(&mut self, op: Op) -> Serial
+        requires room { length self.old.state.requests < max_pending }
+        requires left { self.old.state.serial < last_serial }
+        ensures serial { result.0 ≡ self.old.state.serial + 1 }
+        ensures next { self.new ≡ record self.old { state = update_waiting self.old.state op } }
+    {
+        self.ask = self.context.take_pending(op);
+        self.serial()
+    }
+
+    /// Forgets the requests that wait, behind a poll in which somebody else has finished this update in its place. No call is in hand behind it.
+    pub fn take_polled(&mut self, serial: Serial, reply: Reply)
+        ensures { self.new ≡ record self.old { state = update_polled self.old.state serial reply } }
+    {
+        self.ask = self.context.take_polled(serial, reply);
     }
 }
