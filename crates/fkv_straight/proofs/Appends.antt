@@ -19,8 +19,10 @@ use Rattle.fkv_index.specs.declared.publishing.Publishing.TheVariants as publish
 use Rattle.fkv_index.specs.IndexWorld.{new_entry}
 use Rattle.fkv_index.specs.Publishing.{publish_ask, publish_next, publish_next_ask}
 use Rattle.fkv_index.specs.Slots.{entry_addr}
+use Rattle.fkv_ops.specs.declared.answers.Reason.TheVariants as reason
 use Rattle.fkv_ops.specs.declared.answers.TryAnswer.TheVariants as tried
 use Rattle.fkv_ops.specs.declared.appending.Appending.TheVariants.{Reserves, Fills, Publishes}
+use Rattle.fkv_ops.specs.declared.requests.Occasion.TheVariants.{Call as AtCall}
 use Rattle.fkv_ops.specs.declared.trying.Trying.TheVariants.{Appends, Ended}
 use Rattle.fkv_ops.specs.Requests.{is_read}
 use Rattle.fkv_ops.specs.Values.{word_of}
@@ -28,11 +30,11 @@ use Rattle.fkv_ops.specs.Appending.{appending_ask, appending_next, reserve_ledto
 use Rattle.fkv_ops.specs.Trying.{TryState, trying_ask, trying_next, append_ledto, words_of, header_of, ends}
 use Rattle.fkv_ops.specs.Walking.{WalkState}
 use Rattle.fkv_session.specs.Sessions.{SessionState}
-use Rattle.fkv_straight.specs.Course.{Course, home_in, request_in}
+use Rattle.fkv_straight.specs.Course.{Course, IsSettled, home_in, request_in}
 use Rattle.fkv_straight.specs.Met.{trying, append_at, IsAtReserve, IsAtFill, IsReserved, IsAtPublish}
-use Rattle.fkv_straight.specs.Standing.{asked, leads, next_try, IsDone}
-use Rattle.fkv_straight.proofs.Moves.{asks_load, asks_store, asks_cas, led_on, steps, ends_done}
-use Rattle.fkv_straight.proofs.Tests.{same}
+use Rattle.fkv_straight.specs.Standing.{asked, leads, next_try, IsDone, IsWaiting}
+use Rattle.fkv_straight.proofs.Moves.{asks_load, asks_store, asks_cas, led_on, steps, ends_done, ends_waiting}
+use Rattle.fkv_straight.proofs.Tests.{differs, same}
 
 -- ---- its address is reserved
 abbrev pub reserving : Course → WalkState → ℕ → ℕ → Option ℕ → Reserving → TryState
@@ -87,6 +89,27 @@ take_comes c place entry old tail found s u at e won above fits = (
   steps c (reserving c at.0 place entry old (reserve.TakesTail tail)) (filling c at.0 place entry old tail (fill.StoresValue (record { 0 = tail }) (words_of (request_in c) entry old))) tail s u at.1
       (e ∙ ap (λ (n : ℕ). leads c.seat s n) won) (has_taken c at.0 place entry old tail (same tail) (grind (arith, nat_tests)) (grind (arith, nat_tests))) refl refl,
 )
+
+-- another session was quicker
+take_fails : (c : Course) (w : WalkState) (place entry : ℕ) (old : Option ℕ) (tail found : ℕ) → (found == tail) ≡ false → (next_try c (reserving c w place entry old (reserve.TakesTail tail)) found).step ≡ Ended (tried.Wait reason.Contended)
+unfolding trying_next append_ledto appending_ask appending_next reserve_ledto reserve_ask reserve_next reserve_next_ask ends passed
+take_fails c w place entry old tail found lost = rw lost refl
+
+take_leaves : (c : Course) (w : WalkState) (place entry : ℕ) (old : Option ℕ) (tail found : ℕ) → (found == tail) ≡ false → (next_try c (reserving c w place entry old (reserve.TakesTail tail)) found).spare ≡ c.lasts.spare
+unfolding trying_next append_ledto appending_ask appending_next reserve_ledto reserve_ask reserve_next reserve_next_ask ends passed
+take_leaves c w place entry old tail found lost = rw lost refl
+
+take_free : (c : Course) (w : WalkState) (place entry : ℕ) (old : Option ℕ) (tail found : ℕ) → (found == tail) ≡ false → (next_try c (reserving c w place entry old (reserve.TakesTail tail)) found).has_shared ≡ false
+unfolding trying_next append_ledto appending_ask appending_next reserve_ledto reserve_ask reserve_next reserve_next_ask ends passed
+take_free c w place entry old tail found lost = rw lost refl
+
+pub take_lost : (c : Course) (place entry : ℕ) (old : Option ℕ) (tail found : ℕ) (s u : SessionState) → c.occasion ≡ AtCall → is_read c.op ≡ false → IsAtReserve c place entry old (reserve.TakesTail tail) s → u ≡ leads c.seat s found → ¬ (found ≡ tail)
+    → IsWaiting c u
+unfolding IsAtReserve
+take_lost c place entry old tail found s u calls updates at e lost =
+    let t = reserving c at.0 place entry old (reserve.TakesTail tail) in
+    let no = differs found tail lost in
+    ends_waiting c (next_try c t found) u calls (led_on c t found s u at.1 e) (take_fails c at.0 place entry old tail found no) (take_leaves c at.0 place entry old tail found no) (take_free c at.0 place entry old tail found no) updates
 
 -- ---- its words are stored
 pub value_asks : (c : Course) (place entry : ℕ) (old : Option ℕ) (addr : ℕ) (s : SessionState) → IsReserved c place entry old addr s → asked c.seat s ≡ Store (record_place c.seat.places addr rec.Value) (word_of (value_applied old c.op))
@@ -160,8 +183,8 @@ publish_spares : (c : Course) (w : WalkState) (place entry : ℕ) (old : Option 
 unfolding trying_next append_ledto appending_ask appending_next publish_ledto publish_ask publish_next publish_next_ask ends passed
 publish_spares c w place entry old addr won = rw won refl
 
-pub publish_ends : (c : Course) (place entry : ℕ) (old : Option ℕ) (addr found : ℕ) (s u : SessionState) → IsAtPublish c place entry old addr s → is_read c.op ≡ false → found ≡ entry → u ≡ leads c.seat s found → IsDone c.lasts (reply_from old c.op) u
+pub publish_ends : (c : Course) (place entry : ℕ) (old : Option ℕ) (addr found : ℕ) (s u : SessionState) → IsSettled c → IsAtPublish c place entry old addr s → is_read c.op ≡ false → found ≡ entry → u ≡ leads c.seat s found → IsDone c (reply_from old c.op) u
 unfolding IsAtPublish
-publish_ends c place entry old addr found s u at updates won e =
-    ends_done c (next_try c (publishing c at.0 place entry old addr) entry) (reply_from old c.op) u (led_on c (publishing c at.0 place entry old addr) entry s u at.1 (e ∙ ap (λ (n : ℕ). leads c.seat s n) won))
+publish_ends c place entry old addr found s u settled at updates won e =
+    ends_done c (next_try c (publishing c at.0 place entry old addr) entry) (reply_from old c.op) u settled (led_on c (publishing c at.0 place entry old addr) entry s u at.1 (e ∙ ap (λ (n : ℕ). leads c.seat s n) won))
     (published c at.0 place entry old addr (same entry)) (publish_spares c at.0 place entry old addr (same entry)) updates

@@ -10,7 +10,9 @@ use Rattle.fkv_plane.specs.Passing.{passed}
 use Rattle.fkv_plane.specs.Places.{record_place}
 use Rattle.fkv_log.specs.declared.loading.Loading.TheVariants as load
 use Rattle.fkv_log.specs.Loading.{load_ask, load_next, load_next_ask, load_on}
+use Rattle.fkv_ops.specs.declared.answers.Reason.TheVariants as reason
 use Rattle.fkv_ops.specs.declared.answers.TryAnswer.TheVariants as tried
+use Rattle.fkv_ops.specs.declared.requests.Occasion.TheVariants.{Call as AtCall}
 use Rattle.fkv_ops.specs.declared.header_words.HeaderSaid.TheVariants.{Says}
 use Rattle.fkv_ops.specs.declared.trying.Trying.TheVariants.{SwapsValue, LoadsCurrent, ChangesValue, Ended}
 use Rattle.fkv_ops.specs.declared.walking.WalkAnswer.TheVariants as walked
@@ -25,11 +27,11 @@ use Rattle.fkv_ops.specs.Walking.{WalkState, walking_ask, walking_next, load_led
 use Rattle.fkv_session.specs.Sessions.{Seat, SessionState}
 use Rattle.fkv_straight.specs.declared.going.Going.{Going}
 use Rattle.fkv_straight.specs.declared.searching.Record.{Record}
-use Rattle.fkv_straight.specs.Course.{Course, head_in, request_in, shares, Goes}
+use Rattle.fkv_straight.specs.Course.{Course, IsSettled, head_in, request_in, shares, Goes}
 use Rattle.fkv_straight.specs.Met.{Trail, trying, meeting, holding, walking, HasKey, IsMet, IsAtSwap, IsAtCurrent, IsAtChange}
-use Rattle.fkv_straight.specs.Standing.{asked, leads, IsLed, next_try, IsDone}
-use Rattle.fkv_straight.proofs.Moves.{asks_load, asks_swap, asks_cas, led_on, stays, steps, ends_done}
-use Rattle.fkv_straight.proofs.Tests.{same, here}
+use Rattle.fkv_straight.specs.Standing.{asked, leads, IsLed, next_try, IsDone, IsWaiting}
+use Rattle.fkv_straight.proofs.Moves.{asks_load, asks_swap, asks_cas, led_on, stays, steps, ends_done, ends_waiting}
+use Rattle.fkv_straight.proofs.Tests.{differs, same, here}
 use Rattle.fkv_straight.proofs.Walks.{past}
 
 -- what the table tests of the record that an update has met
@@ -90,11 +92,11 @@ swap_spares : (c : Course) (w : WalkState) (addr reply : ℕ) → (next_try c (t
 unfolding trying_next ends
 swap_spares c w addr reply = refl
 
-pub swap_ends : (c : Course) (addr reply : ℕ) (s u : SessionState) → IsAtSwap c addr s → is_read c.op ≡ false → u ≡ leads c.seat s reply → IsDone c.lasts (reply_from None c.op) u
+pub swap_ends : (c : Course) (addr reply : ℕ) (s u : SessionState) → IsSettled c → IsAtSwap c addr s → is_read c.op ≡ false → u ≡ leads c.seat s reply → IsDone c (reply_from None c.op) u
 unfolding IsAtSwap
-swap_ends c addr reply s u at updates e =
+swap_ends c addr reply s u settled at updates e =
     let t = trying c at.0 append_rested (SwapsValue (record { 0 = addr })) in
-    ends_done c (next_try c t reply) (reply_from None c.op) u (led_on c t reply s u at.1 e) (swapped c at.0 addr reply) (swap_spares c at.0 addr reply) updates
+    ends_done c (next_try c t reply) (reply_from None c.op) u settled (led_on c t reply s u at.1 e) (swapped c at.0 addr reply) (swap_spares c at.0 addr reply) updates
 
 -- ---- by a load and a Cas
 turns_to_load : (c : Course) (trail : Trail) (r : Record) → MetBy c r → MayChange c r → is_blind c.op ≡ false
@@ -138,8 +140,28 @@ change_spares : (c : Course) (w : WalkState) (addr old : ℕ) → (old == old) �
 unfolding trying_next ends
 change_spares c w addr old won = rw won refl
 
-pub change_ends : (c : Course) (addr old found : ℕ) (s u : SessionState) → IsAtChange c addr old s → is_read c.op ≡ false → found ≡ old → u ≡ leads c.seat s found → IsDone c.lasts (reply_from (value_of old) c.op) u
+pub change_ends : (c : Course) (addr old found : ℕ) (s u : SessionState) → IsSettled c → IsAtChange c addr old s → is_read c.op ≡ false → found ≡ old → u ≡ leads c.seat s found → IsDone c (reply_from (value_of old) c.op) u
 unfolding IsAtChange
-change_ends c addr old found s u at updates won e =
+change_ends c addr old found s u settled at updates won e =
     let t = trying c at.0 append_rested (ChangesValue (record { 0 = addr }) old) in
-    ends_done c (next_try c t old) (reply_from (value_of old) c.op) u (led_on c t old s u at.1 (e ∙ ap (λ (n : ℕ). leads c.seat s n) won)) (changed c at.0 addr old (same old)) (change_spares c at.0 addr old (same old)) updates
+    ends_done c (next_try c t old) (reply_from (value_of old) c.op) u settled (led_on c t old s u at.1 (e ∙ ap (λ (n : ℕ). leads c.seat s n) won)) (changed c at.0 addr old (same old)) (change_spares c at.0 addr old (same old)) updates
+
+-- another session was quicker
+change_fails : (c : Course) (w : WalkState) (addr old found : ℕ) → (found == old) ≡ false → (next_try c (trying c w append_rested (ChangesValue (record { 0 = addr }) old)) found).step ≡ Ended (tried.Wait reason.Contended)
+unfolding trying_next ends
+change_fails c w addr old found lost = rw lost refl
+
+change_leaves : (c : Course) (w : WalkState) (addr old found : ℕ) → (found == old) ≡ false → (next_try c (trying c w append_rested (ChangesValue (record { 0 = addr }) old)) found).spare ≡ c.lasts.spare
+unfolding trying_next ends
+change_leaves c w addr old found lost = rw lost refl
+
+change_free : (c : Course) (w : WalkState) (addr old found : ℕ) → (found == old) ≡ false → (next_try c (trying c w append_rested (ChangesValue (record { 0 = addr }) old)) found).has_shared ≡ false
+unfolding trying_next ends
+change_free c w addr old found lost = rw lost refl
+
+pub change_lost : (c : Course) (addr old found : ℕ) (s u : SessionState) → c.occasion ≡ AtCall → IsAtChange c addr old s → is_read c.op ≡ false → ¬ (found ≡ old) → u ≡ leads c.seat s found → IsWaiting c u
+unfolding IsAtChange
+change_lost c addr old found s u calls at updates lost e =
+    let t = trying c at.0 append_rested (ChangesValue (record { 0 = addr }) old) in
+    let no = differs found old lost in
+    ends_waiting c (next_try c t found) u calls (led_on c t found s u at.1 e) (change_fails c at.0 addr old found no) (change_leaves c at.0 addr old found no) (change_free c at.0 addr old found no) updates

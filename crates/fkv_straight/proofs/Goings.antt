@@ -24,7 +24,7 @@ use Rattle.fkv_session.specs.declared.sessions.Sitting.TheVariants.{Idle}
 use Rattle.fkv_session.specs.Sessions.{Seat, SessionState, Sitter, refusal_of, bits_of, is_full, version_within}
 use Rattle.fkv_session.specs.Alike.{lasting}
 use Rattle.fkv_straight.specs.declared.going.Going.{Going}
-use Rattle.fkv_straight.specs.Course.{Course, course_of, home_in, head_in, refusal_in, Goes, GoesBy}
+use Rattle.fkv_straight.specs.Course.{Course, course_of, home_in, head_in, Goes, GoesBy}
 use Rattle.fkv_straight.specs.Memory.{is_in_memory}
 use Rattle.fkv_straight.specs.Met.{IsInMemory}
 use Rattle.fkv_straight.specs.Standing.{asked, leads}
@@ -35,10 +35,6 @@ asks_at c q s ask e h = subst (λ (x : Seat). asked x s ≡ ask) e h
 
 pub leads_at : (c : Course) (q : Seat) (s u : SessionState) (reply : ℕ) → c.seat ≡ q → u ≡ leads q s reply → u ≡ leads c.seat s reply
 leads_at c q s u reply e h = h ∙ ap (λ (x : Seat). leads x s reply) (sym e)
-
-pub refusal_is : (k : Seat) (s : SessionState) (op : Op) → refusal_of s op ≡ refusal_in (course_of k s op)
-unfolding lasting
-refusal_is k s op = refl
 
 pub spare_same : (p : Places) (spare : ℕ) → spare ≤ p.overflow → spare_of p spare ≡ spare
 spare_same p spare fits = let h : nat_le spare p.overflow ≡ true = grind (arith, nat_tests) in rw h refl
@@ -86,48 +82,8 @@ pub shares_at : (op : Op) (one other : Seen) → other ≡ one → (is_prepare o
 shares_at op one other e = ap (λ (x : Seen). is_prepare x.phase && not (is_read op)) e
 
 -- ---- what a session shows of itself is what a call of it goes by
-version_same : (v : ℕ) → ¬ (v ≡ 0) → v ≤ last_version → version_within v ≡ v
+pub version_same : (v : ℕ) → ¬ (v ≡ 0) → v ≤ last_version → version_within v ≡ v
 version_same v some fits = omega (arith, some, fits)
-
-pub goes_of : (k : Seat) (s : SessionState) (op : Op) (g : Going) → k.places ≡ g.places → bits_of k ≡ g.bits → s.seen.offsets.head.0 ≡ g.head → s.seen.offsets.read_only.0 ≡ g.read_only → s.seen.version.0 ≡ g.version → ¬ (g.version ≡ 0) → g.version ≤ last_version
-    → is_moving_on s.seen.phase ≡ g.is_moving_on → refusal_of s op ≡ None → (is_read op ≡ false → s.serial < last_serial) → (is_prepare s.seen.phase && not (is_read op)) ≡ false → s.spare ≤ g.places.overflow → Goes (course_of k s op) k op g
-unfolding lasting
-goes_of k s op g places bits head read_only version some fits moving allowed serial calm spare = record {
-  its_seat = refl;
-  its_op = refl;
-  its_places = places;
-  its_bits = bits;
-  its_head = head;
-  its_read_only = read_only;
-  its_version = ap (λ (v : ℕ). version_within v) version ∙ version_same g.version some fits;
-  moves_on = moving;
-  allowed = sym (refusal_is k s op) ∙ allowed;
-  serial_left = serial;
-  unlatched = calm;
-  spare_fits = subst (λ (p : Places). s.spare ≤ p.overflow) (sym places) spare;
-}
-
--- ---- what each straight call goes by is what a call of this operation goes by
-spent_none : (b : Bool) (n : ℕ) → (b ≡ false → n < last_serial) → (not b && (n == last_serial)) ≡ false
-spent_none true n left = refl
-spent_none false n left = let h : n < last_serial = left refl in grind (arith, nat_tests, h)
-
-shares_none : (b prepares : Bool) → (b ≡ false → prepares ≡ false) → (prepares && not b) ≡ false
-shares_none true true calm = refl
-shares_none true false calm = refl
-shares_none false prepares calm = rw (calm refl) refl
-
-none_refused : (s : SessionState) (op : Op) → s.is_awake ≡ true → is_reserved op ≡ false → is_full s.requests ≡ false → (not (is_read op) && (s.serial == last_serial)) ≡ false → refusal_of s op ≡ None
-none_refused s op awake allowed room left = rw (awake, allowed, room, left) refl
-
-pub goes_for : (k : Seat) (s : SessionState) (op : Op) (g : Going) → GoesBy k s g → is_reserved op ≡ false → (is_read op ≡ false → s.serial < last_serial) → (is_read op ≡ false → is_prepare s.seen.phase ≡ false) → Goes (course_of k s op) k op g
-goes_for k s op g by allowed left calm =
-    goes_of k s op g by.places by.bits by.head by.read_only by.version by.some_version by.version_fits by.moves_on (none_refused s op by.awake allowed by.room (spent_none (is_read op) s.serial left)) left
-    (shares_none (is_read op) (is_prepare s.seen.phase) calm) by.spare_fits
-
-pub goes_for_read : (k : Seat) (s : SessionState) (op : Op) (key : Key) (g : Going) → op ≡ Read key → GoesBy k s g → Goes (course_of k s op) k op g
-goes_for_read k s op key g reads by =
-    subst (λ (o : Op). Goes (course_of k s o) k o g) (sym reads) (goes_for k s (Read key) g by refl (λ h. absurd (cc h)) (λ h. absurd (cc h)))
 
 -- the serial that the machine takes is none of what it goes by
 pub goes_by_still : (m n : Sitter) (g : Going) → n ≡ record m { state = record m.state { serial = m.state.serial + 1; step = Idle Slept } } → GoesBy m.seat m.state g → GoesBy n.seat n.state g

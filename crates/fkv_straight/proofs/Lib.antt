@@ -3,7 +3,9 @@ mod Changes
 mod Copies
 mod Endings
 mod Goings
+mod MayGoes
 mod Moves
+mod Polls
 mod ReadEnds
 mod Refreshes
 mod Replays

@@ -13,6 +13,7 @@ use Rattle.fkv_log.specs.declared.loading.Loading.TheVariants as load
 use Rattle.fkv_log.specs.Loading.{load_ask, load_next, load_next_ask, load_on}
 use Rattle.fkv_ops.specs.declared.answers.TryAnswer.TheVariants as tried
 use Rattle.fkv_ops.specs.declared.header_words.HeaderSaid.TheVariants.{Says}
+use Rattle.fkv_ops.specs.declared.requests.Occasion.TheVariants.{Call as AtCall}
 use Rattle.fkv_ops.specs.declared.trying.Trying.TheVariants.{LoadsAnswer, Ended}
 use Rattle.fkv_ops.specs.declared.walking.Walking.{Walking}
 use Rattle.fkv_ops.specs.HeaderWords.{header_said}
@@ -65,17 +66,17 @@ spares : (c : Course) (trail : Trail) (r : Record) (value : ℕ) → (next_try c
 unfolding trying_next walking_ask walking_next load_ask load_next load_next_ask value_ledto answer_ledto ends passed
 spares c trail r value = refl
 
-pub found_ends : (c : Course) (r : Record) (value : ℕ) (s u : SessionState) → IsMet c r s → shares c ≡ false → is_read c.op ≡ true → u ≡ leads c.seat s value → ¬ (value ≡ absent_word) → IsEnded c.lasts (told.Found (record { 0 = value })) u
+pub found_ends : (c : Course) (r : Record) (value : ℕ) (s u : SessionState) → c.occasion ≡ AtCall → IsMet c r s → shares c ≡ false → is_read c.op ≡ true → u ≡ leads c.seat s value → ¬ (value ≡ absent_word) → IsEnded c.lasts (told.Found (record { 0 = value })) u
 unfolding IsAtAnswer
-found_ends c r value s u met calm reads e some =
+found_ends c r value s u calls met calm reads e some =
     let at = met_answers c r s met calm reads in
-    ends_found c (next_try c (holding c at.0 r LoadsAnswer) value) (record { 0 = value }) u (led_on c (holding c at.0 r LoadsAnswer) value s u at.1 e) (finds c at.0 r value (grind (arith, nat_tests))) (spares c at.0 r value)
+    ends_found c (next_try c (holding c at.0 r LoadsAnswer) value) (record { 0 = value }) u calls (led_on c (holding c at.0 r LoadsAnswer) value s u at.1 e) (finds c at.0 r value (grind (arith, nat_tests))) (spares c at.0 r value)
 
-pub absent_ends : (c : Course) (r : Record) (value : ℕ) (s u : SessionState) → IsMet c r s → shares c ≡ false → is_read c.op ≡ true → u ≡ leads c.seat s value → value ≡ absent_word → IsEnded c.lasts told.Absent u
+pub absent_ends : (c : Course) (r : Record) (value : ℕ) (s u : SessionState) → c.occasion ≡ AtCall → IsMet c r s → shares c ≡ false → is_read c.op ≡ true → u ≡ leads c.seat s value → value ≡ absent_word → IsEnded c.lasts told.Absent u
 unfolding IsAtAnswer
-absent_ends c r value s u met calm reads e none =
+absent_ends c r value s u calls met calm reads e none =
     let at = met_answers c r s met calm reads in
-    ends_absent c (next_try c (holding c at.0 r LoadsAnswer) value) u (led_on c (holding c at.0 r LoadsAnswer) value s u at.1 e) (finds_none c at.0 r value (grind (arith, nat_tests))) (spares c at.0 r value)
+    ends_absent c (next_try c (holding c at.0 r LoadsAnswer) value) u calls (led_on c (holding c at.0 r LoadsAnswer) value s u at.1 e) (finds_none c at.0 r value (grind (arith, nat_tests))) (spares c at.0 r value)
 
 -- ---- the chain ends
 ends_chain : (c : Course) (trail : Trail) (place entry : ℕ) (loading : Loading) (step : Walking) → shares c ≡ false → is_read c.op ≡ true
@@ -88,7 +89,7 @@ chain_spares : (c : Course) (trail : Trail) (place entry : ℕ) (loading : Loadi
 unfolding walk_ledto walking_ask ends
 chain_spares c trail place entry loading step calm reads = rw (calm, reads) refl
 
-pub nowhere_ends : (c : Course) (place entry : ℕ) (s : SessionState) → IsReached c place entry 0 s → shares c ≡ false → is_read c.op ≡ true → IsEnded c.lasts told.Absent s
+pub nowhere_ends : (c : Course) (place entry : ℕ) (s : SessionState) → c.occasion ≡ AtCall → IsReached c place entry 0 s → shares c ≡ false → is_read c.op ≡ true → IsEnded c.lasts told.Absent s
 unfolding IsReached
-nowhere_ends c place entry s at calm reads =
-    ends_absent c (judged c (reached c.seat.places (walking c at.0 place entry at.1 at.2) 0)) s at.3 (ends_chain c at.0 place entry at.1 at.2 calm reads) (chain_spares c at.0 place entry at.1 at.2 calm reads)
+nowhere_ends c place entry s calls at calm reads =
+    ends_absent c (judged c (reached c.seat.places (walking c at.0 place entry at.1 at.2) 0)) s calls at.3 (ends_chain c at.0 place entry at.1 at.2 calm reads) (chain_spares c at.0 place entry at.1 at.2 calm reads)

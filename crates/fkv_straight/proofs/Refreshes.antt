@@ -165,7 +165,7 @@ refreshed_lasts m s after alike free =
 pub refreshed_caught_up : (m n s v : SessionState) (after : Seen) → lasting m ≡ lasting s → m.requests ≡ [] → n ≡ refreshed m after → HasRefreshed s after v → IsCaughtUp n v
 refreshed_caught_up m n s v after alike free e has = record {
   lasts = ap lasting e ∙ (refreshed_lasts m s after alike free ∙ sym has.lasts);
-  same = λ busy. absurd (let h : false ≡ true = sym (ap is_busy has.ended) ∙ busy in cc h);
+  alike = λ busy. absurd (let h : false ≡ true = sym (ap is_busy has.ended) ∙ busy in cc h);
 }
 
 pub refreshed_asks : (k : Seat) (s v : SessionState) (after : Seen) → HasRefreshed s after v → Done (told.Refreshed after.phase after.version) ≡ session_ask k v

@@ -1,9 +1,9 @@
 -- How the machine comes to where the line stands.
 use Rattle.std.proofs.Common.{◌≡◌, ℕ, ◌+◌, ◌<◌, ◌≤◌, refl, sym, ap, ◌∙◌, List, [], ◌∷◌, length, drop, get_or, zero, suc, arith, add-one, drop-cons}
-use Rattle.fkv_map.specs.declared.operations.Call.TheVariants as call
-use Rattle.fkv_map.specs.declared.operations.Op.{Op}
-use Rattle.fkv_session.specs.Sessions.{Seat, SessionState, Sitter, session_begun, session_ask, session_next}
-use Rattle.fkv_straight.specs.Standing.{asked, leads, begins, replayed}
+use Rattle.fkv_map.specs.declared.operations.Call.{Call}
+use Rattle.fkv_session.specs.Alike.{StandAlike}
+use Rattle.fkv_session.specs.Sessions.{Seat, SessionState, Sitter, session_begun, session_next}
+use Rattle.fkv_straight.specs.Standing.{leads, begins, replayed}
 
 replay_one : (k : Seat) (s : SessionState) (reply : ℕ) (later : List ℕ) → replayed k s (reply ∷ later) ≡ replayed k (leads k s reply) later
 unfolding replayed
@@ -13,24 +13,17 @@ replay_none : (k : Seat) (s : SessionState) → replayed k s [] ≡ s
 unfolding replayed
 replay_none k s = refl
 
-pub begin_comes : (m n : Sitter) (op : Op) → n ≡ record m { state = session_begun m.seat m.state (call.Op op) } → (n.seat ≡ m.seat) × (n.state ≡ begins m.seat m.state (call.Op op))
+pub begin_comes : (m n : Sitter) (its : Call) → n ≡ record m { state = session_begun m.seat m.state its } → (n.seat ≡ m.seat) × (n.state ≡ begins m.seat m.state its)
 unfolding begins
-begin_comes m n op e = (ap (λ (x : Sitter). x.seat) e, ap (λ (x : Sitter). x.state) e)
+begin_comes m n its e = (ap (λ (x : Sitter). x.seat) e, ap (λ (x : Sitter). x.state) e)
 
 pub step_comes : (k : Seat) (m n : Sitter) (reply : ℕ) → m.seat ≡ k → n ≡ record m { state = session_next m.seat m.state reply } → (n.seat ≡ k) × (n.state ≡ leads k m.state reply)
 unfolding leads
 step_comes k m n reply h e = (ap (λ (x : Sitter). x.seat) e ∙ h, ap (λ (x : Sitter). x.state) e ∙ ap (λ (q : Seat). session_next q m.state reply) h)
 
-pub sitter_is : (m : Sitter) (k : Seat) (s : SessionState) → m.seat ≡ k → m.state ≡ s → m ≡ record { seat = k; state = s }
-sitter_is m k s e f = λ i. record { seat = e i; state = f i }
-
-pub asked_is : (k : Seat) (s : SessionState) → asked k s ≡ session_ask k s
-unfolding asked
-asked_is k s = refl
-
-pub begins_is : (k : Seat) (s : SessionState) (op : Op) → begins k s (call.Op op) ≡ session_begun k s (call.Op op)
-unfolding begins
-begins_is k s op = refl
+pub replies_alike : (k : Seat) (s t : SessionState) (reply : ℕ) → StandAlike (session_next k s reply) (session_next k t reply) → StandAlike (leads k s reply) (leads k t reply)
+unfolding leads
+replies_alike k s t reply alike = alike
 
 pub replay_next : (k : Seat) (s t final : SessionState) (told : List ℕ) (i reply : ℕ) → i < length told → reply ≡ get_or told i 0 → t ≡ leads k s reply → replayed k s (drop i told) ≡ final → replayed k t (drop (i + 1) told) ≡ final
 replay_next k s t final told i reply few its e left =

@@ -3,6 +3,7 @@ use Rattle.std.proofs.Common.{◌≡◌, ℕ, ◌+◌, ◌-◌, ◌/◌, ◌^◌
 use Rattle.std.specs.Prelude.{◌==◌, ◌&&◌, not, nat_lt, nat_le, None}
 use Rattle.std.proofs.lemmas.Bool.Decides.{nat_tests}
 use Rattle.fkv_base.specs.declared.numbers.Key.{Key}
+use Rattle.fkv_map.specs.declared.operations.Call.{Call}
 use Rattle.fkv_map.specs.declared.operations.Call.TheVariants as call
 use Rattle.fkv_map.specs.declared.operations.Op.{Op}
 use Rattle.fkv_map.specs.Keys.{key_of}
@@ -22,43 +23,32 @@ use Rattle.fkv_ops.specs.Walking.{reached, walking_ask, walking_next, find_ledto
 use Rattle.fkv_session.specs.Alike.{lasting}
 use Rattle.fkv_session.specs.Sessions.{Seat, SessionState, op_begun, attempts, refusal_of}
 use Rattle.fkv_straight.specs.declared.going.Going.{Going}
-use Rattle.fkv_straight.specs.Course.{Course, course_of, home_in, refusal_in, shares, Goes}
-use Rattle.fkv_straight.specs.Met.{seeking, walking, judged, IsAtSlot, HasSlot, IsAtLink, HasLink, IsReached}
-use Rattle.fkv_straight.specs.Standing.{asked, leads, begins, attempting, sitting, Tries, IsLed, next_try}
-use Rattle.fkv_straight.proofs.Goings.{refusal_is, spare_same, bucket_is, home_is}
+use Rattle.fkv_straight.specs.Course.{Course, course_of, home_in, shares, Goes}
+use Rattle.fkv_straight.specs.Met.{seeking, walking, judged, Begins, IsAtSlot, HasSlot, IsAtLink, HasLink, IsReached}
+use Rattle.fkv_straight.specs.Standing.{asked, leads, begins, Tries, IsLed, next_try}
+use Rattle.fkv_straight.proofs.Goings.{spare_same, bucket_is, home_is}
 use Rattle.fkv_straight.proofs.Moves.{asks_load, led_on, stays}
 use Rattle.fkv_straight.proofs.Tests.{same}
 
 -- ---- a call begins at the first slot of its home's bucket
--- where that is, by the course alone
-abbrev pub begun_in : Course → SessionState
-begun_in c = sitting c 0 (attempting c (seeking c (bucket_place c.seat.places (home_in c).bucket 0) c.seat.places.overflow (LoadsSlot 0)))
-
-begins_at : (k : Seat) (s : SessionState) (op : Op) → refusal_of s op ≡ None → (is_prepare s.seen.phase && not (is_read op)) ≡ false → spare_of k.places s.spare ≡ s.spare → begins k s (call.Op op) ≡ begun_in (course_of k s op)
+begins_at : (k : Seat) (s : SessionState) (op : Op) → refusal_of s op ≡ None → (is_prepare s.seen.phase && not (is_read op)) ≡ false → spare_of k.places s.spare ≡ s.spare → Begins (course_of k s op (call.Op op)) (call.Op op) s
 unfolding begins op_begun attempts lasting
 begins_at k s op allowed calm spare = rw (allowed, calm, spare) refl
 
-begins_in : (k : Seat) (s : SessionState) (op : Op) → refusal_in (course_of k s op) ≡ None → shares (course_of k s op) ≡ false → (course_of k s op).lasts.spare ≤ k.places.overflow → begins k s (call.Op op) ≡ begun_in (course_of k s op)
+pub begins_call : (k : Seat) (s : SessionState) (op : Op) → refusal_of s op ≡ None → shares (course_of k s op (call.Op op)) ≡ false → s.spare ≤ k.places.overflow → Begins (course_of k s op (call.Op op)) (call.Op op) s
 unfolding lasting
-begins_in k s op allowed calm fits = begins_at k s op (refusal_is k s op ∙ allowed) calm (spare_same k.places s.spare fits)
+begins_call k s op allowed calm fits = begins_at k s op allowed calm (spare_same k.places s.spare fits)
 
-pub begun : (k : Seat) (s : SessionState) (op : Op) (g : Going) → Goes (course_of k s op) k op g → IsAtSlot (course_of k s op) (bucket_place k.places (home_in (course_of k s op)).bucket 0) k.places.overflow 0 (begins k s (call.Op op))
+begun : (c : Course) (its : Call) (s : SessionState) → Begins c its s → IsAtSlot c (bucket_place c.seat.places (home_in c).bucket 0) c.seat.places.overflow 0 (begins c.seat s its)
 unfolding IsAtSlot Tries
-begun k s op g goes = (0, begins_in k s op goes.allowed goes.unlatched goes.spare_fits)
-
--- so sessions of which the same lasts begin in one and the same state
-pub begins_same : (k q : Seat) (r s : SessionState) (op : Op) (g : Going) → Goes (course_of k r op) k op g → k ≡ q → lasting r ≡ lasting s → begins q s (call.Op op) ≡ begins k r (call.Op op)
-begins_same k q r s op g goes same alike =
-    let e : course_of k r op ≡ course_of q s op = (λ i. record { seat = same i; lasts = alike i; op = op }) in
-    let there : Goes (course_of q s op) k op g = subst (λ (c : Course). Goes c k op g) e goes in
-    begins_in q s op there.allowed there.unlatched there.spare_fits ∙ (ap begun_in (sym e) ∙ sym (begins_in k r op goes.allowed goes.unlatched goes.spare_fits))
+begun c its s at = (0, at)
 
 -- the same by the numbers that the call goes by
-pub begun_at : (k : Seat) (s : SessionState) (op : Op) (g : Going) (h : Home) (key : Key) (base links : ℕ) → Goes (course_of k s op) k op g → key ≡ key_of op → h ≡ home_of g.bits key → base ≡ bucket_place g.places h.bucket 0 → links ≡ g.places.overflow
-    → IsAtSlot (course_of k s op) base links 0 (begins k s (call.Op op))
-begun_at k s op g h key base links goes its e b l =
-    subst (λ (n : ℕ). IsAtSlot (course_of k s op) base n 0 (begins k s (call.Op op))) (ap (λ (p : Places). p.overflow) goes.its_places ∙ sym l)
-    (subst (λ (n : ℕ). IsAtSlot (course_of k s op) n k.places.overflow 0 (begins k s (call.Op op))) (bucket_is (course_of k s op) k op g h key base goes its e b) (begun k s op g goes))
+pub begun_at : (c : Course) (k : Seat) (op : Op) (its : Call) (s : SessionState) (g : Going) (h : Home) (key : Key) (base links : ℕ) → Goes c k op g → Begins c its s → key ≡ key_of op → h ≡ home_of g.bits key → base ≡ bucket_place g.places h.bucket 0
+    → links ≡ g.places.overflow → IsAtSlot c base links 0 (begins c.seat s its)
+begun_at c k op its s g h key base links goes at same e b l =
+    subst (λ (n : ℕ). IsAtSlot c base n 0 (begins c.seat s its)) (ap (λ (p : Places). p.overflow) goes.its_places ∙ sym l)
+    (subst (λ (n : ℕ). IsAtSlot c n c.seat.places.overflow 0 (begins c.seat s its)) (bucket_is c k op g h key base goes same e b) (begun c its s at))
 
 -- ---- a slot is loaded
 pub slot_asks : (c : Course) (base links slot : ℕ) (s : SessionState) → IsAtSlot c base links slot s → asked c.seat s ≡ Load (base + slot)

@@ -9,6 +9,9 @@ use Rattle.fkv_straight.specs.Memory.{is_in_memory}
 pub same : (n : ℕ) → (n == n) ≡ true
 same n = grind (arith, nat_tests)
 
+pub differs : (n m : ℕ) → ¬ (n ≡ m) → (n == m) ≡ false
+differs n m h = grind (arith, nat_tests, h)
+
 pub or_false : (b : Bool) → (b || false) ≡ b
 or_false true = refl
 or_false false = refl

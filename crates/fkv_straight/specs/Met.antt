@@ -2,7 +2,12 @@
 -- that is appended.
 use Rattle.std.specs.Prelude.{◌≡◌, ◌<◌, ℕ, true, false, Option, None}
 use Rattle.fkv_base.specs.declared.numbers.Version.{Version}
+use Rattle.fkv_base.specs.Limits.{last_serial}
+use Rattle.fkv_map.specs.declared.operations.Call.{Call}
+use Rattle.fkv_map.specs.declared.operations.Call.TheVariants as call
+use Rattle.fkv_map.specs.declared.operations.Op.{Op}
 use Rattle.fkv_map.specs.Keys.{key_of, reply_from}
+use Rattle.fkv_plane.specs.Places.{bucket_place}
 use Rattle.fkv_latch.specs.declared.latching.Latching.TheVariants as latch
 use Rattle.fkv_log.specs.declared.filling.Filling.{Filling}
 use Rattle.fkv_log.specs.declared.filling.Filling.TheVariants as fill
@@ -21,24 +26,26 @@ use Rattle.fkv_index.specs.IndexWorld.{new_entry}
 use Rattle.fkv_ops.specs.declared.appending.Appending.{Appending}
 use Rattle.fkv_ops.specs.declared.appending.Appending.TheVariants as append
 use Rattle.fkv_ops.specs.declared.header_words.HeaderSaid.TheVariants.{Says}
-use Rattle.fkv_ops.specs.declared.requests.Occasion.TheVariants.{Call}
 use Rattle.fkv_ops.specs.declared.trying.OldValue.TheVariants.{InMemory}
 use Rattle.fkv_ops.specs.declared.trying.Trying.{Trying}
 use Rattle.fkv_ops.specs.declared.trying.Trying.TheVariants.{Walks, LoadsSafe, SwapsValue, LoadsCurrent, ChangesValue, LoadsAnswer, LoadsOld, Appends}
 use Rattle.fkv_ops.specs.declared.walking.Walking.{Walking}
 use Rattle.fkv_ops.specs.declared.walking.Walking.TheVariants.{Finds, Meets, HasFound, LoadsValue}
 use Rattle.fkv_ops.specs.HeaderWords.{header_said}
-use Rattle.fkv_ops.specs.Requests.{purpose_of}
+use Rattle.fkv_ops.specs.Requests.{is_read, purpose_of}
 use Rattle.fkv_ops.specs.Walking.{WalkState, reached, walk_ask}
 use Rattle.fkv_ops.specs.Appending.{AppendState, append_rested}
 use Rattle.fkv_ops.specs.Trying.{TryState, words_of, walk_ledto, copies_from}
-use Rattle.fkv_session.specs.Sessions.{SessionState}
+use Rattle.fkv_pending.specs.declared.pending_requests.RequestName.TheVariants.{Update}
+use Rattle.fkv_session.specs.Sessions.{Seat, SessionState, refusal_of}
 use Rattle.fkv_straight.specs.declared.searching.Met.{Met}
 use Rattle.fkv_straight.specs.declared.searching.Met.TheVariants.{Found, Nowhere, OnDisk}
 use Rattle.fkv_straight.specs.declared.searching.Record.{Record}
-use Rattle.fkv_straight.specs.Course.{Course, home_in, head_in, request_in}
+use Rattle.fkv_straight.specs.declared.going.Going.{Going}
+use Rattle.fkv_straight.specs.declared.going.Lone.{Lone}
+use Rattle.fkv_straight.specs.Course.{Course, course_of, first_name, home_in, head_in, request_in, Goes}
 use Rattle.fkv_straight.specs.Memory.{is_in_memory}
-use Rattle.fkv_straight.specs.Standing.{Tries, IsLed, next_try}
+use Rattle.fkv_straight.specs.Standing.{Tries, IsLed, attempting, begins, next_try, sitting}
 
 -- an address of the chain lies in memory
 abbrev pub IsInMemory : Course → ℕ → Type 0
@@ -46,7 +53,7 @@ IsInMemory c addr = is_in_memory c.seat.places.ring (head_in c) addr ≡ true
 
 -- the try of the operation, with its walk and its append. No latch is held
 abbrev pub trying : Course → WalkState → AppendState → Trying → TryState
-trying c walk a step = record { request = request_in c; seen = c.lasts.seen; occasion = Call; home = home_in c; has_shared = false; has_exclusive = false; effect = None; spare = c.lasts.spare; walk = walk; latching = latch.AtRest; append = a; step = step }
+trying c walk a step = record { request = request_in c; seen = c.lasts.seen; occasion = c.occasion; home = home_in c; has_shared = false; has_exclusive = false; effect = None; spare = c.lasts.spare; walk = walk; latching = latch.AtRest; append = a; step = step }
 
 -- ---- along the bucket
 -- the search among the slots from this place on, which may still follow so many links
@@ -56,6 +63,27 @@ finding_at c base links step = record { home = home_in c; base = base; links = l
 abbrev pub seeking : Course → ℕ → ℕ → FindStep → TryState
 seeking c base links step =
     trying c (record { key = key_of c.op; head = c.lasts.seen.offsets.head; place = 0; entry = 0; first = None; spare = c.lasts.spare; finding = finding_at c base links step; loading = load.AtRest; step = Finds }) append_rested Walks
+
+-- the call begins at the first slot of its home's bucket
+abbrev pub begun_in : Course → SessionState
+begun_in c = sitting c 0 (attempting c (seeking c (bucket_place c.seat.places (home_in c).bucket 0) c.seat.places.overflow (LoadsSlot 0)))
+
+abbrev pub Begins : Course → Call → SessionState → Type 0
+Begins c its s = begins c.seat s its ≡ begun_in c
+
+-- A call of the operation may go straight by these numbers: it isn't refused, and an update has a serial left.
+pub record MayGo (k : Seat) (s : SessionState) (op : Op) (g : Going) : Type 0 where
+  pub goes : Goes (course_of k s op (call.Op op)) k op g
+  pub allowed : refusal_of s op ≡ None
+  pub serial_left : is_read op ≡ false → s.serial < last_serial
+
+-- So may a poll in which this update alone waits, and no record that was asked for by none that waits.
+pub record MayPoll (k : Seat) (s : SessionState) (l : Lone) (g : Going) : Type 0 where
+  pub goes : Goes (course_of k s l.op call.Poll) k l.op g
+  pub awake : s.is_awake ≡ true
+  pub no_orphan : s.is_orphaned ≡ false
+  pub updates : is_read l.op ≡ false
+  pub named : first_name s.requests ≡ Update l.serial
 
 -- a slot is loaded; its word has come and isn't judged yet. The same of the word that leads to an overflow bucket
 unfoldable pub IsAtSlot : Course → ℕ → ℕ → ℕ → SessionState → Type 0

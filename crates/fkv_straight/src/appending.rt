@@ -1,5 +1,5 @@
 //! A new record of a key, appended and published.
-ghost use Rattle.std.specs.Prelude.{◌≡◌, ◌<◌, ◌≤◌, ◌+◌, ◌*◌, ◌^◌, IfSome, Some, None, false};
+ghost use Rattle.std.specs.Prelude.{◌≡◌, ◌<◌, ◌≤◌, ◌+◌, ◌*◌, ◌^◌, ℕ, false};
 ghost use Rattle.fkv_map.specs.declared.operations.Call.{Call};
 ghost use Rattle.fkv_map.specs.Keys.{as_number};
 ghost use Rattle.fkv_log.specs.declared.reserving.Reserving.TheVariants.{LoadsLimit};
@@ -9,16 +9,19 @@ ghost use Rattle.fkv_ops.specs.Requests.{is_read};
 ghost use Rattle.fkv_session.specs.Sessions.{};
 ghost use Rattle.fkv_straight.specs.Course.{Course, home_in, Goes};
 ghost use Rattle.fkv_straight.specs.Met.{HasMet, IsAtReserve, IsReserved, IsAtPublish};
-ghost use Rattle.fkv_straight.specs.Standing.{IsDone};
+ghost use Rattle.fkv_straight.specs.Standing.{ComesTo};
+ghost use Rattle.fkv_straight.specs.declared.appending.Reserved.TheVariants.{Lost, Taken};
+ghost use Rattle.fkv_straight.specs.declared.outcomes.Outcome.TheVariants.{Contended};
 ghost use Rattle.fkv_straight.specs.declared.searching.Met.TheVariants.{Nowhere, OnDisk};
 
 use crate::going::Going;
 use crate::lines::Line;
+use crate::outcomes::Outcome;
 use crate::searching::Slot;
 use crate::words::{addr_of, is_blind};
 use fkv_base::{Addr, Value};
 use fkv_index::home_of;
-use fkv_map::{Op, Reply};
+use fkv_map::Op;
 use fkv_ops::word_of_value;
 use fkv_plane::{RecordWord, SharedWord};
 
@@ -42,37 +45,49 @@ fn entry_of(addr: u64, tag: u16) -> u64
     addr + (u64::from(tag) << 48)
 }
 
+/// What has come of an address that was to be reserved.
+#[derive(Clone, Copy)]
+enum Reserved {
+    /// It is this one.
+    Taken(u64),
+    /// Another session was quicker.
+    Lost,
+    /// The log is full, or the tail stands where it may not.
+    Unusual,
+}
+
 /// Reserves an address at the tail, above that of the slot's entry.
 #[inline(always)]
-fn reserve<L: Line>(
-    line: &mut L,
-    going: &Going,
-    op: Op,
-    slot: Slot,
-    old: Option<Value>,
-) -> Option<u64>
+fn reserve<L: Line>(line: &mut L, going: &Going, op: Op, slot: Slot, old: Option<Value>) -> Reserved
     requires at { (c : Course) × Goes c (L.seat line.old) op going.now × IsAtReserve c slot.place slot.entry (as_number old) LoadsLimit (L.stands line.old) }
     requires room { L.kept line.old ≤ 50 }
+    requires updates { is_read op ≡ false }
     ensures seat { L.seat line.new ≡ L.seat line.old }
     ensures led { (start : L) (call : Call) → L.led start call line.old → L.led start call line.new }
     ensures kept { L.kept line.new ≤ 53 }
-    ensures addr { IfSome result (λ addr. addr < 2 ^ 48) }
+    ensures addr { (addr : ℕ) → result ≡ Taken addr → addr < 2 ^ 48 }
     ensures fills { (c : Course) → Goes c (L.seat line.old) op going.now → IsAtReserve c slot.place slot.entry (as_number old) LoadsLimit (L.stands line.old)
-        → IfSome result (λ addr. IsReserved c slot.place slot.entry (as_number old) addr (L.stands line.new)) }
+        → (addr : ℕ) → result ≡ Taken addr → IsReserved c slot.place slot.entry (as_number old) addr (L.stands line.new) }
+    ensures waits { (c : Course) → Goes c (L.seat line.old) op going.now → IsAtReserve c slot.place slot.entry (as_number old) LoadsLimit (L.stands line.old)
+        → result ≡ Lost → ComesTo c Contended (L.stands line.new) }
 {
     let limit_place = SharedWord::Limit.place();
     let limit = line.load(limit_place);
     let tail_place = SharedWord::Tail.place();
     let tail = line.load(tail_place);
     if tail >= limit {
-        return None;
+        return Reserved::Unusual;
     }
     let previous = addr_of(slot.entry);
     if tail <= previous || tail >= 1 << 48 {
-        return None;
+        return Reserved::Unusual;
     }
     let found = line.cas(tail_place, tail, tail + 1);
-    if found == tail { Some(tail) } else { None }
+    if found == tail {
+        Reserved::Taken(tail)
+    } else {
+        Reserved::Lost
+    }
 }
 
 /// Writes the record at the address: its value, its key, and then its header.
@@ -106,67 +121,66 @@ pub(crate) fn append<L: Line>(
     op: Op,
     slot: Slot,
     old: Option<Value>,
-) -> Option<Reply>
+) -> Outcome
     requires at { (c : Course) × Goes c (L.seat line.old) op going.now × IsAtReserve c slot.place slot.entry (as_number old) LoadsLimit (L.stands line.old) }
     requires room { L.kept line.old ≤ 50 }
     requires updates { is_read op ≡ false }
     ensures seat { L.seat line.new ≡ L.seat line.old }
     ensures led { (start : L) (call : Call) → L.led start call line.old → L.led start call line.new }
     ensures done { (c : Course) → Goes c (L.seat line.old) op going.now → IsAtReserve c slot.place slot.entry (as_number old) LoadsLimit (L.stands line.old)
-        → IfSome result (λ reply. IsDone c.lasts reply (L.stands line.new)) }
+        → ComesTo c result (L.stands line.new) }
 {
     let reserved = reserve(line, going, op, slot, old);
-    let Some(addr) = reserved else {
-        return None;
-    };
-    fill(line, going, op, slot, old, addr);
-    let home = home_of(op.key(), going.bits);
-    let entry = entry_of(addr, home.tag);
-    let found = line.cas(slot.place, slot.entry, entry);
-    if found == slot.entry {
-        Some(op.reply_from(old))
-    } else {
-        None
+    match reserved {
+        Reserved::Taken(addr) => {
+            fill(line, going, op, slot, old, addr);
+            let home = home_of(op.key(), going.bits);
+            let entry = entry_of(addr, home.tag);
+            let found = line.cas(slot.place, slot.entry, entry);
+            if found == slot.entry {
+                let reply = op.reply_from(old);
+                Outcome::Done(reply)
+            } else {
+                Outcome::Unusual
+            }
+        }
+        Reserved::Lost => Outcome::Contended,
+        Reserved::Unusual => Outcome::Unusual,
     }
 }
 
 /// Appends the first record of a key, at the end of its chain.
 #[inline(always)]
-pub(crate) fn append_first<L: Line>(
-    line: &mut L,
-    going: &Going,
-    op: Op,
-    slot: Slot,
-) -> Option<Reply>
+pub(crate) fn append_first<L: Line>(line: &mut L, going: &Going, op: Op, slot: Slot) -> Outcome
     requires at { (c : Course) × Goes c (L.seat line.old) op going.now × HasMet c (Nowhere slot) (L.stands line.old) }
     requires room { L.kept line.old ≤ 48 }
     requires updates { is_read op ≡ false }
     ensures seat { L.seat line.new ≡ L.seat line.old }
     ensures led { (start : L) (call : Call) → L.led start call line.old → L.led start call line.new }
-    ensures done { (c : Course) → Goes c (L.seat line.old) op going.now → HasMet c (Nowhere slot) (L.stands line.old) → IfSome result (λ reply. IsDone c.lasts reply (L.stands line.new)) }
+    ensures done { (c : Course) → Goes c (L.seat line.old) op going.now → HasMet c (Nowhere slot) (L.stands line.old) → ComesTo c result (L.stands line.new) }
 {
     if going.is_moving_on {
-        return None;
+        return Outcome::Unusual;
     }
     append(line, going, op, slot, None)
 }
 
 /// Appends a record whose value doesn't depend on what the device has of the chain.
 #[inline(always)]
-pub(crate) fn append_past<L: Line>(line: &mut L, going: &Going, op: Op, slot: Slot) -> Option<Reply>
+pub(crate) fn append_past<L: Line>(line: &mut L, going: &Going, op: Op, slot: Slot) -> Outcome
     requires at { (c : Course) × Goes c (L.seat line.old) op going.now × HasMet c (OnDisk slot) (L.stands line.old) }
     requires room { L.kept line.old ≤ 48 }
     requires updates { is_read op ≡ false }
     ensures seat { L.seat line.new ≡ L.seat line.old }
     ensures led { (start : L) (call : Call) → L.led start call line.old → L.led start call line.new }
-    ensures done { (c : Course) → Goes c (L.seat line.old) op going.now → HasMet c (OnDisk slot) (L.stands line.old) → IfSome result (λ reply. IsDone c.lasts reply (L.stands line.new)) }
+    ensures done { (c : Course) → Goes c (L.seat line.old) op going.now → HasMet c (OnDisk slot) (L.stands line.old) → ComesTo c result (L.stands line.new) }
 {
     let blind = is_blind(op);
     if !blind {
-        return None;
+        return Outcome::Unusual;
     }
     if going.is_moving_on {
-        return None;
+        return Outcome::Unusual;
     }
     append(line, going, op, slot, None)
 }

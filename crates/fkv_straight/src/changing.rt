@@ -1,22 +1,21 @@
 //! An update, straight: in place, or by a new record.
-ghost use Rattle.std.specs.Prelude.{◌≡◌, ◌<◌, ◌≤◌, IfSome, true, false};
-ghost use Rattle.fkv_map.specs.declared.operations.Call.TheVariants as call;
+ghost use Rattle.std.specs.Prelude.{◌≡◌, ◌<◌, ◌≤◌, true, false};
 ghost use Rattle.fkv_map.specs.declared.operations.Call.{Call};
 ghost use Rattle.fkv_ops.specs.Requests.{is_read, is_blind};
-ghost use Rattle.fkv_session.specs.Alike.{lasting};
 ghost use Rattle.fkv_session.specs.Sessions.{is_busy};
 ghost use Rattle.fkv_straight.specs.Course.{Course, course_of, Goes};
-ghost use Rattle.fkv_straight.specs.Met.{IsMet};
-ghost use Rattle.fkv_straight.specs.Standing.{IsDone};
+ghost use Rattle.fkv_straight.specs.Met.{Begins, IsMet};
+ghost use Rattle.fkv_straight.specs.Standing.{ComesTo, IsDone};
 
 use crate::appending::{append_first, append_past};
 use crate::copying::{copy_below, copy_later};
 use crate::going::Going;
 use crate::lines::Line;
+use crate::outcomes::Outcome;
 use crate::searching::{Met, Record, search};
 use crate::words::is_blind;
 use fkv_base::Addr;
-use fkv_map::{Op, Reply};
+use fkv_map::{Call, Op, Reply};
 use fkv_ops::{value_of_word, word_of_value};
 use fkv_plane::RecordWord;
 
@@ -31,7 +30,7 @@ fn swap_value<L: Line>(line: &mut L, going: &Going, op: Op, its: Record) -> Repl
     requires own { its.version ≡ going.now.version }
     ensures seat { L.seat line.new ≡ L.seat line.old }
     ensures led { (start : L) (call : Call) → L.led start call line.old → L.led start call line.new }
-    ensures done { (c : Course) → Goes c (L.seat line.old) op going.now → IsMet c its (L.stands line.old) → IsDone c.lasts result (L.stands line.new) }
+    ensures done { (c : Course) → Goes c (L.seat line.old) op going.now → IsMet c its (L.stands line.old) → IsDone c result (L.stands line.new) }
 {
     let place = going.record(Addr(its.addr), RecordWord::Value);
     let made = op.value_applied(None);
@@ -42,7 +41,7 @@ fn swap_value<L: Line>(line: &mut L, going: &Going, op: Op, its: Record) -> Repl
 
 /// The value becomes what the operation makes of it, by one Cas, if no other is quicker.
 #[inline(always)]
-fn change_value<L: Line>(line: &mut L, going: &Going, op: Op, its: Record) -> Option<Reply>
+fn change_value<L: Line>(line: &mut L, going: &Going, op: Op, its: Record) -> Outcome
     requires at { (c : Course) × Goes c (L.seat line.old) op going.now × IsMet c its (L.stands line.old) }
     requires room { L.kept line.old ≤ 48 }
     requires updates { is_read op ≡ false }
@@ -51,7 +50,7 @@ fn change_value<L: Line>(line: &mut L, going: &Going, op: Op, its: Record) -> Op
     requires own { its.version ≡ going.now.version }
     ensures seat { L.seat line.new ≡ L.seat line.old }
     ensures led { (start : L) (call : Call) → L.led start call line.old → L.led start call line.new }
-    ensures done { (c : Course) → Goes c (L.seat line.old) op going.now → IsMet c its (L.stands line.old) → IfSome result (λ reply. IsDone c.lasts reply (L.stands line.new)) }
+    ensures done { (c : Course) → Goes c (L.seat line.old) op going.now → IsMet c its (L.stands line.old) → ComesTo c result (L.stands line.new) }
 {
     let place = going.record(Addr(its.addr), RecordWord::Value);
     let old = line.load(place);
@@ -60,21 +59,22 @@ fn change_value<L: Line>(line: &mut L, going: &Going, op: Op, its: Record) -> Op
     let new = word_of_value(made);
     let found = line.cas(place, old, new);
     if found == old {
-        Some(op.reply_from(value))
+        let reply = op.reply_from(value);
+        Outcome::Done(reply)
     } else {
-        None
+        Outcome::Contended
     }
 }
 
 /// An update of the record that was met: in place where the session may change it, and else by a copy.
 #[inline(always)]
-fn update_record<L: Line>(line: &mut L, going: &Going, op: Op, its: Record) -> Option<Reply>
+fn update_record<L: Line>(line: &mut L, going: &Going, op: Op, its: Record) -> Outcome
     requires at { (c : Course) × Goes c (L.seat line.old) op going.now × IsMet c its (L.stands line.old) }
     requires room { L.kept line.old ≤ 48 }
     requires updates { is_read op ≡ false }
     ensures seat { L.seat line.new ≡ L.seat line.old }
     ensures led { (start : L) (call : Call) → L.led start call line.old → L.led start call line.new }
-    ensures done { (c : Course) → Goes c (L.seat line.old) op going.now → IsMet c its (L.stands line.old) → IfSome result (λ reply. IsDone c.lasts reply (L.stands line.new)) }
+    ensures done { (c : Course) → Goes c (L.seat line.old) op going.now → IsMet c its (L.stands line.old) → ComesTo c result (L.stands line.new) }
 {
     if its.addr < going.read_only {
         return copy_below(line, going, op, its);
@@ -84,25 +84,27 @@ fn update_record<L: Line>(line: &mut L, going: &Going, op: Op, its: Record) -> O
     }
     let blind = is_blind(op);
     if blind {
-        Some(swap_value(line, going, op, its))
+        let reply = swap_value(line, going, op, its);
+        Outcome::Done(reply)
     } else {
         change_value(line, going, op, its)
     }
 }
 
-/// What an update is told that its session may make at once.
+/// Makes the steps of an update up to its answer, in a call of its own or in a poll.
 #[inline(always)]
-pub(crate) fn update<L: Line>(line: &mut L, going: &Going, op: Op) -> Option<Reply>
+pub(crate) fn update<L: Line>(line: &mut L, going: &Going, op: Op, call: Call) -> Outcome
     requires idle { is_busy (L.stands line.old).step ≡ false }
-    requires goes { Goes (course_of (L.seat line.old) (L.stands line.old) op) (L.seat line.old) op going.now }
+    requires goes { Goes (course_of (L.seat line.old) (L.stands line.old) op call) (L.seat line.old) op going.now }
+    requires begins { Begins (course_of (L.seat line.old) (L.stands line.old) op call) call (L.stands line.old) }
     requires updates { is_read op ≡ false }
     ensures seat { L.seat line.new ≡ L.seat line.old }
-    ensures led { L.led line.old (call.Op op) line.new }
-    ensures done { IfSome result (λ reply. IsDone (lasting (L.stands line.old)) reply (L.stands line.new)) }
+    ensures led { L.led line.old call line.new }
+    ensures done { ComesTo (course_of (L.seat line.old) (L.stands line.old) op call) result (L.stands line.new) }
 {
-    let met = search(line, going, op);
+    let met = search(line, going, op, call);
     let Some(its) = met else {
-        return None;
+        return Outcome::Unusual;
     };
     match its {
         Met::Found(record) => update_record(line, going, op, record),

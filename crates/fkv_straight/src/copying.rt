@@ -1,31 +1,32 @@
 //! An update by a copy of the record that was met.
-ghost use Rattle.std.specs.Prelude.{◌≡◌, ◌<◌, ◌≤◌, IfSome, false};
+ghost use Rattle.std.specs.Prelude.{◌≡◌, ◌<◌, ◌≤◌, false};
 ghost use Rattle.fkv_map.specs.declared.operations.Call.{Call};
 ghost use Rattle.fkv_ops.specs.Requests.{is_read};
 ghost use Rattle.fkv_session.specs.Sessions.{};
 ghost use Rattle.fkv_straight.specs.Course.{Course, Goes};
 ghost use Rattle.fkv_straight.specs.Met.{IsMet, IsCopied};
-ghost use Rattle.fkv_straight.specs.Standing.{IsDone};
+ghost use Rattle.fkv_straight.specs.Standing.{ComesTo};
 
 use crate::appending::append;
 use crate::going::Going;
 use crate::lines::Line;
+use crate::outcomes::Outcome;
 use crate::searching::{Record, Slot};
 use crate::words::is_blind;
 use fkv_base::Addr;
-use fkv_map::{Op, Reply};
+use fkv_map::Op;
 use fkv_ops::value_of_word;
 use fkv_plane::{RecordWord, SharedWord};
 
 /// Appends the copy. The old value is loaded first, where it counts.
 #[inline(always)]
-fn copy<L: Line>(line: &mut L, going: &Going, op: Op, its: Record) -> Option<Reply>
+fn copy<L: Line>(line: &mut L, going: &Going, op: Op, its: Record) -> Outcome
     requires at { (c : Course) × Goes c (L.seat line.old) op going.now × IsCopied c its (L.stands line.old) }
     requires room { L.kept line.old ≤ 49 }
     requires updates { is_read op ≡ false }
     ensures seat { L.seat line.new ≡ L.seat line.old }
     ensures led { (start : L) (call : Call) → L.led start call line.old → L.led start call line.new }
-    ensures done { (c : Course) → Goes c (L.seat line.old) op going.now → IsCopied c its (L.stands line.old) → IfSome result (λ reply. IsDone c.lasts reply (L.stands line.new)) }
+    ensures done { (c : Course) → Goes c (L.seat line.old) op going.now → IsCopied c its (L.stands line.old) → ComesTo c result (L.stands line.new) }
 {
     let slot = Slot {
         place: its.place,
@@ -45,29 +46,29 @@ fn copy<L: Line>(line: &mut L, going: &Going, op: Op, its: Record) -> Option<Rep
 /// Copies a record below the safe read-only offset, which nobody changes any more. One between the two offsets may be changed still by a
 /// session that has looked less lately: it is the machine's.
 #[inline(always)]
-pub(crate) fn copy_below<L: Line>(line: &mut L, going: &Going, op: Op, its: Record) -> Option<Reply>
+pub(crate) fn copy_below<L: Line>(line: &mut L, going: &Going, op: Op, its: Record) -> Outcome
     requires at { (c : Course) × Goes c (L.seat line.old) op going.now × IsMet c its (L.stands line.old) }
     requires room { L.kept line.old ≤ 48 }
     requires updates { is_read op ≡ false }
     requires below { its.addr < going.now.read_only }
     ensures seat { L.seat line.new ≡ L.seat line.old }
     ensures led { (start : L) (call : Call) → L.led start call line.old → L.led start call line.new }
-    ensures done { (c : Course) → Goes c (L.seat line.old) op going.now → IsMet c its (L.stands line.old) → IfSome result (λ reply. IsDone c.lasts reply (L.stands line.new)) }
+    ensures done { (c : Course) → Goes c (L.seat line.old) op going.now → IsMet c its (L.stands line.old) → ComesTo c result (L.stands line.new) }
 {
     let place = SharedWord::SafeReadOnly.place();
     let safe = line.load(place);
     if safe <= its.addr {
-        return None;
+        return Outcome::Unusual;
     }
     if going.is_moving_on && its.version != going.version {
-        return None;
+        return Outcome::Unusual;
     }
     copy(line, going, op, its)
 }
 
 /// Copies a record of another version, which stays as it was for a commit.
 #[inline(always)]
-pub(crate) fn copy_later<L: Line>(line: &mut L, going: &Going, op: Op, its: Record) -> Option<Reply>
+pub(crate) fn copy_later<L: Line>(line: &mut L, going: &Going, op: Op, its: Record) -> Outcome
     requires at { (c : Course) × Goes c (L.seat line.old) op going.now × IsMet c its (L.stands line.old) }
     requires room { L.kept line.old ≤ 48 }
     requires updates { is_read op ≡ false }
@@ -75,10 +76,10 @@ pub(crate) fn copy_later<L: Line>(line: &mut L, going: &Going, op: Op, its: Reco
     requires other { its.version ≡ going.now.version → ⊥ }
     ensures seat { L.seat line.new ≡ L.seat line.old }
     ensures led { (start : L) (call : Call) → L.led start call line.old → L.led start call line.new }
-    ensures done { (c : Course) → Goes c (L.seat line.old) op going.now → IsMet c its (L.stands line.old) → IfSome result (λ reply. IsDone c.lasts reply (L.stands line.new)) }
+    ensures done { (c : Course) → Goes c (L.seat line.old) op going.now → IsMet c its (L.stands line.old) → ComesTo c result (L.stands line.new) }
 {
     if going.is_moving_on {
-        return None;
+        return Outcome::Unusual;
     }
     copy(line, going, op, its)
 }

@@ -2,9 +2,10 @@
 ghost use Rattle.std.specs.Prelude.{◌≡◌, ◌^◌, ◌<◌};
 ghost use Rattle.fkv_plane.specs.Places.{frames_start};
 
-use crate::words::{is_moving_on, is_preparing};
+use crate::words::{is_moving_on, is_preparing, is_read};
 use fkv_base::{Addr, Serial, Version};
 use fkv_map::Op;
+use fkv_pending::RequestName;
 use fkv_plane::{Places, RecordWord};
 use fkv_session::Session;
 
@@ -29,10 +30,18 @@ pub struct Going {
     pub ghost starts: { frames ≡ frames_start places },
 }
 
+/// An update that alone waits.
+#[derive(Clone, Copy)]
+pub(crate) struct Lone {
+    pub op: Op,
+    pub serial: Serial,
+}
+
 impl Going {
     ghost use Rattle.std.specs.Prelude.{IfSome, true};
+    ghost use Rattle.fkv_straight.specs.Met.{MayGo, MayPoll};
     ghost use Rattle.fkv_plane.specs.Places.{record_place};
-    ghost use Rattle.fkv_straight.specs.Course.{course_of, Goes, GoesBy};
+    ghost use Rattle.fkv_straight.specs.Course.{GoesBy};
     ghost use Rattle.fkv_straight.specs.Memory.{is_in_memory};
 
     /// What the straight calls of the session go by, if it may make any: it is awake and has room for a request, and version and spare
@@ -73,7 +82,7 @@ impl Going {
     /// What a call of this operation goes by, if it may go straight: the session doesn't refuse it, it shares no latch, and version and
     /// spare bucket are ones that there are.
     pub fn of(machine: &Session, op: Op) -> Option<Going>
-        ensures { IfSome result (λ its. Goes (course_of machine.now.seat machine.now.state op) machine.now.seat op its) }
+        ensures { IfSome result (λ its. MayGo machine.now.seat machine.now.state op its) }
     {
         let going = Going::look(machine);
         let Some(its) = going else {
@@ -86,7 +95,7 @@ impl Going {
     /// Whether a call of this operation may go straight by it: the session doesn't refuse it, and it shares no latch.
     #[inline(always)]
     pub(crate) fn lets(&self, machine: &Session, op: Op) -> bool
-        ensures { result ≡ true → GoesBy machine.now.seat machine.now.state self.now → Goes (course_of machine.now.seat machine.now.state op) machine.now.seat op self.now }
+        ensures { result ≡ true → GoesBy machine.now.seat machine.now.state self.now → MayGo machine.now.seat machine.now.state op self.now }
     {
         match op {
             Op::Read(_) => true,
@@ -96,6 +105,36 @@ impl Going {
                 !self.is_preparing && !reserved && serial.0 < Serial::LAST
             }
         }
+    }
+
+    /// The update that a poll may try straight, if there is one: it alone waits, for nothing but the poll, and is one of the session's version.
+    pub(crate) fn lone(&self, machine: &Session) -> Option<Lone>
+        ensures { IfSome result (λ its. GoesBy machine.now.seat machine.now.state self.now → MayPoll machine.now.seat machine.now.state its self.now) }
+    {
+        let only = machine.only_request();
+        let Some(pending) = only else {
+            return None;
+        };
+        let RequestName::Update(serial) = pending.name else {
+            return None;
+        };
+        let request = pending.request;
+        let op = request.op;
+        if pending.has_asked || pending.sought.is_some() {
+            return None;
+        }
+        if request.has_latch || request.held.is_some() {
+            return None;
+        }
+        if request.version.0 != self.version || self.is_preparing {
+            return None;
+        }
+        let reads = is_read(op);
+        let orphaned = machine.is_orphaned();
+        if reads || orphaned {
+            return None;
+        }
+        Some(Lone { op, serial })
     }
 
     /// The place of a word of the record at this address.

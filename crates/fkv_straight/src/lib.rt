@@ -1,4 +1,4 @@
-//! The operations and the refresh of a session as straight functions. Each step on a word is the one that the session machine's table asks for, and where
+//! The operations, the refresh and the poll of a session as straight functions. Each step on a word is the one that the session machine's table asks for, and where
 //! anything unusual is met the machine takes over.
 #![tactic(auto)]
 
@@ -10,6 +10,8 @@ mod fetching;
 mod going;
 mod handing;
 mod lines;
+mod outcomes;
+mod polling;
 mod reading;
 mod refreshing;
 mod searching;

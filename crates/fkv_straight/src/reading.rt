@@ -5,13 +5,14 @@ ghost use Rattle.fkv_ops.specs.Requests.{is_read};
 ghost use Rattle.fkv_session.specs.Alike.{lasting};
 ghost use Rattle.fkv_session.specs.Sessions.{is_busy};
 ghost use Rattle.fkv_straight.specs.Course.{course_of, Goes};
+ghost use Rattle.fkv_straight.specs.Met.{Begins};
 ghost use Rattle.fkv_straight.specs.Standing.{IsEnded};
 
 use crate::going::Going;
 use crate::lines::Line;
 use crate::searching::{Met, search};
 use fkv_base::{Addr, Value};
-use fkv_map::Op;
+use fkv_map::{Call, Op};
 use fkv_plane::RecordWord;
 use fkv_session::Told;
 
@@ -19,13 +20,14 @@ use fkv_session::Told;
 #[inline(always)]
 pub(crate) fn read<L: Line>(line: &mut L, going: &Going, op: Op) -> Option<Told>
     requires idle { is_busy (L.stands line.old).step ≡ false }
-    requires goes { Goes (course_of (L.seat line.old) (L.stands line.old) op) (L.seat line.old) op going.now }
+    requires goes { Goes (course_of (L.seat line.old) (L.stands line.old) op (call.Op op)) (L.seat line.old) op going.now }
+    requires begins { Begins (course_of (L.seat line.old) (L.stands line.old) op (call.Op op)) (call.Op op) (L.stands line.old) }
     requires reads { is_read op ≡ true }
     ensures seat { L.seat line.new ≡ L.seat line.old }
     ensures led { L.led line.old (call.Op op) line.new }
     ensures ended { IfSome result (λ its. IsEnded (lasting (L.stands line.old)) its (L.stands line.new)) }
 {
-    let met = search(line, going, op);
+    let met = search(line, going, op, Call::Op(op));
     let Some(its) = met else {
         return None;
     };

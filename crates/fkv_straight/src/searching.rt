@@ -1,11 +1,10 @@
 //! The search along bucket and chain, which all straight calls share.
 ghost use Rattle.std.specs.Prelude.{◌≡◌, ◌<◌, ◌≤◌, ◌+◌, IfSome, false};
-ghost use Rattle.fkv_map.specs.declared.operations.Call.TheVariants as call;
 ghost use Rattle.fkv_map.specs.declared.operations.Call.{Call};
 ghost use Rattle.fkv_index.specs.Slots.{entry_addr};
 ghost use Rattle.fkv_session.specs.Sessions.{is_busy};
 ghost use Rattle.fkv_straight.specs.Course.{Course, course_of, Goes};
-ghost use Rattle.fkv_straight.specs.Met.{HasMet, IsReached};
+ghost use Rattle.fkv_straight.specs.Met.{Begins, HasMet, IsReached};
 ghost use Rattle.fkv_straight.specs.Standing.{};
 
 use crate::going::Going;
@@ -52,19 +51,20 @@ const RECORDS: usize = 8;
 
 /// Finds the slot of the key's home: the first one with an entry of its tag, or the first empty one.
 #[inline(always)]
-fn seek<L: Line>(line: &mut L, going: &Going, op: Op) -> Option<Slot>
+fn seek<L: Line>(line: &mut L, going: &Going, op: Op, call: Call) -> Option<Slot>
     requires idle { is_busy (L.stands line.old).step ≡ false }
-    requires goes { Goes (course_of (L.seat line.old) (L.stands line.old) op) (L.seat line.old) op going.now }
+    requires goes { Goes (course_of (L.seat line.old) (L.stands line.old) op call) (L.seat line.old) op going.now }
+    requires begins { Begins (course_of (L.seat line.old) (L.stands line.old) op call) call (L.stands line.old) }
     ensures seat { L.seat line.new ≡ L.seat line.old }
-    ensures led { L.led line.old (call.Op op) line.new }
+    ensures led { L.led line.old call line.new }
     ensures kept { L.kept line.new ≤ 32 }
-    ensures found { IfSome result (λ its. IsReached (course_of (L.seat line.old) (L.stands line.old) op) its.place its.entry (entry_addr its.entry) (L.stands line.new)) }
+    ensures found { IfSome result (λ its. IsReached (course_of (L.seat line.old) (L.stands line.old) op call) its.place its.entry (entry_addr its.entry) (L.stands line.new)) }
 {
     let key = op.key();
     let home = home_of(key, going.bits);
     let first = going.places.bucket(home.bucket, 0);
     let mut base = first;
-    let mut word = line.first(Call::Op(op), first);
+    let mut word = line.first(call, first);
     let mut slot = 0;
     let mut links = 0;
     'slots: while word != 0 {
@@ -157,15 +157,16 @@ fn walk<L: Line>(line: &mut L, going: &Going, op: Op, slot: Slot) -> Option<Met>
 
 /// Finds the slot of the key's home and walks its chain; nothing where that meets anything unusual.
 #[inline(always)]
-pub(crate) fn search<L: Line>(line: &mut L, going: &Going, op: Op) -> Option<Met>
+pub(crate) fn search<L: Line>(line: &mut L, going: &Going, op: Op, call: Call) -> Option<Met>
     requires idle { is_busy (L.stands line.old).step ≡ false }
-    requires goes { Goes (course_of (L.seat line.old) (L.stands line.old) op) (L.seat line.old) op going.now }
+    requires goes { Goes (course_of (L.seat line.old) (L.stands line.old) op call) (L.seat line.old) op going.now }
+    requires begins { Begins (course_of (L.seat line.old) (L.stands line.old) op call) call (L.stands line.old) }
     ensures seat { L.seat line.new ≡ L.seat line.old }
-    ensures led { L.led line.old (call.Op op) line.new }
+    ensures led { L.led line.old call line.new }
     ensures kept { L.kept line.new ≤ 48 }
-    ensures met { IfSome result (λ its. HasMet (course_of (L.seat line.old) (L.stands line.old) op) its (L.stands line.new)) }
+    ensures met { IfSome result (λ its. HasMet (course_of (L.seat line.old) (L.stands line.old) op call) its (L.stands line.new)) }
 {
-    let slot = seek(line, going, op);
+    let slot = seek(line, going, op, call);
     match slot {
         Some(its) => walk(line, going, op, its),
         None => None,

@@ -6,7 +6,7 @@ ghost use Rattle.fkv_epoch.specs.Claiming.{takes_action};
 ghost use Rattle.fkv_plane.specs.declared.asks.Ask.TheVariants.{Done};
 ghost use Rattle.fkv_session.specs.declared.answers.Told.{Told};
 ghost use Rattle.fkv_session.specs.declared.sessions.Sitting.TheVariants.{Turns};
-ghost use Rattle.fkv_session.specs.Alike.{lasting};
+ghost use Rattle.fkv_session.specs.Alike.{StandAlike, lasting};
 ghost use Rattle.fkv_session.specs.AsksLeft.{session_asks_left};
 ghost use Rattle.fkv_session.specs.Sessions.{is_busy, session_ask, session_begun, session_given, session_next};
 ghost use Rattle.fkv_straight.specs.Course.{GoesBy};
@@ -17,10 +17,11 @@ use crate::calls::go_by;
 use crate::going::Going;
 use crate::handing::catch_up;
 use crate::lines::Line;
+use crate::polling::poll_by;
 use crate::refreshing::refresh;
 use fkv_map::{Call, Op};
 use fkv_plane::{Action, Ask};
-use fkv_session::{Finished, Session, Told};
+use fkv_session::{Finished, Session, Told, law_of_standing};
 use std::marker::Model;
 
 /// What has come of a call that was to go straight.
@@ -34,8 +35,8 @@ pub enum Went {
     Stayed,
 }
 
-/// A session's machine. What its straight calls go by is looked up at the first of them, and lasts until the machine makes a call. A contract
-/// sees it as the machine.
+/// A session's machine. What its straight calls go by is looked up at the first of them, and lasts until the session
+/// refreshes or the machine makes a call. A contract sees it as the machine.
 #[derive(Drop)]
 pub struct StraightSession {
     machine: Session,
@@ -112,7 +113,8 @@ impl StraightSession {
         self.machine.take(action)
     }
 
-    /// What its straight calls go by. Nothing before the first of them, and behind a call that the machine has made.
+    /// What its straight calls go by. Nothing before the first of them, behind a refresh, and behind a call that the
+    /// machine has made.
     #[inline(always)]
     pub fn goes_by(&self) -> Option<&Going>
         ensures { IfSome result (λ its. GoesBy self.now.seat self.now.state its.now) }
@@ -139,7 +141,7 @@ impl StraightSession {
         ensures seat { L.seat line.new ≡ L.seat line.old }
         ensures machine { self.new.seat ≡ self.old.seat }
         ensures ended { (told : Told) → result ≡ Ended told → L.led line.old (call.Op op) line.new × (Done told ≡ session_ask (L.seat line.old) (L.stands line.new)) × IsCaughtUp self.new.state (L.stands line.new) }
-        ensures stopped { result ≡ Stopped → L.led line.old (call.Op op) line.new × (self.new ≡ self.old) × (begins (L.seat line.old) (L.stands line.old) (call.Op op) ≡ begins self.old.seat self.old.state (call.Op op)) }
+        ensures stopped { result ≡ Stopped → L.led line.old (call.Op op) line.new × (self.new ≡ self.old) × StandAlike (begins self.old.seat self.old.state (call.Op op)) (begins (L.seat line.old) (L.stands line.old) (call.Op op)) }
         ensures stayed { result ≡ Stayed → (line.new ≡ line.old) × (self.new ≡ self.old) }
     {
         self.look();
@@ -151,10 +153,11 @@ impl StraightSession {
             return Went::Stayed;
         }
         let straight = go_by(line, &mut self.machine, going, op);
-        match straight {
-            Some(told) => Went::Ended(told),
-            None => Went::Stopped,
-        }
+        let Some(told) = straight else {
+            law_of_standing();
+            return Went::Stopped;
+        };
+        Went::Ended(told)
     }
 
     /// Makes the steps of a refresh, each the one that the machine's table asks for, to its end. Where the session sleeps or a request waits it makes none.
@@ -177,15 +180,45 @@ impl StraightSession {
         Some(told)
     }
 
+    /// Makes the steps of a poll, each the one that the machine's table asks for, up to its answer or to where anything unusual is met. It may go straight
+    /// where one update waits, and that for nothing but the poll.
+    #[inline(always)]
+    pub fn poll<L: Line>(&mut self, line: &mut L) -> Went
+        requires idle { is_busy (L.stands line.old).step ≡ false }
+        requires seat { self.old.seat ≡ L.seat line.old }
+        requires alike { lasting self.old.state ≡ lasting (L.stands line.old) }
+        ensures seat { L.seat line.new ≡ L.seat line.old }
+        ensures machine { self.new.seat ≡ self.old.seat }
+        ensures ended { (told : Told) → result ≡ Ended told → L.led line.old call.Poll line.new × (Done told ≡ session_ask (L.seat line.old) (L.stands line.new)) × IsCaughtUp self.new.state (L.stands line.new) }
+        ensures stopped { result ≡ Stopped → L.led line.old call.Poll line.new × (self.new ≡ self.old) × StandAlike (begins self.old.seat self.old.state call.Poll) (begins (L.seat line.old) (L.stands line.old) call.Poll) }
+        ensures stayed { result ≡ Stayed → (line.new ≡ line.old) × (self.new ≡ self.old) }
+    {
+        self.look();
+        let Some(going) = &self.going else {
+            return Went::Stayed;
+        };
+        let lone = going.lone(&self.machine);
+        let Some(its) = lone else {
+            return Went::Stayed;
+        };
+        let straight = poll_by(line, &mut self.machine, going, its);
+        let Some(told) = straight else {
+            law_of_standing();
+            return Went::Stopped;
+        };
+        Went::Ended(told)
+    }
+
     /// Begins the call anew by the machine and tells it the replies that have come, with no step on a word: then it stands where the line
     /// stands. Gives what it asks there.
-    pub fn catch_up<L: Line>(&mut self, line: &L, op: Op) -> Ask<Told>
+    pub fn catch_up<L: Line>(&mut self, line: &L, call: Call) -> Ask<Told>
         requires seat { self.old.seat ≡ L.seat line.now }
-        requires led { (start : L) × L.led start (call.Op op) line.now × (begins (L.seat start) (L.stands start) (call.Op op) ≡ begins self.old.seat self.old.state (call.Op op)) }
-        ensures caught_up { self.new ≡ record { seat = L.seat line.now; state = L.stands line.now } }
-        ensures ask { result ≡ session_ask self.new.seat self.new.state }
+        requires led { (start : L) × L.led start call line.now × StandAlike (begins self.old.seat self.old.state call) (begins (L.seat start) (L.stands start) call) }
+        ensures seat { self.new.seat ≡ L.seat line.now }
+        ensures alike { StandAlike self.new.state (L.stands line.now) }
+        ensures ask { result ≡ session_ask (L.seat line.now) (L.stands line.now) }
     {
         self.going = None;
-        catch_up(line, &mut self.machine, op)
+        catch_up(line, &mut self.machine, call)
     }
 }

@@ -2,7 +2,7 @@
 ghost use Rattle.std.specs.Prelude.{◌≡◌};
 ghost use Rattle.fkv_index.specs.Slots.{entry_addr, is_entry};
 ghost use Rattle.fkv_ops.specs.HeaderWords.{header_said};
-ghost use Rattle.fkv_ops.specs.Requests.{is_blind};
+ghost use Rattle.fkv_ops.specs.Requests.{is_blind, is_read};
 ghost use Rattle.fkv_ops.specs.Trying.{is_prepare, is_moving_on};
 
 use fkv_base::{Addr, Phase, Version};
@@ -54,6 +54,14 @@ pub(crate) fn is_moving_on(phase: Phase) -> bool
     ensures { result ≡ is_moving_on phase }
 {
     matches!(phase, Phase::InProgress | Phase::WaitPending)
+}
+
+/// Whether it is a read.
+#[inline(always)]
+pub(crate) fn is_read(op: Op) -> bool
+    ensures { result ≡ is_read op }
+{
+    matches!(op, Op::Read(_))
 }
 
 /// Whether the new value doesn't depend on the old one.

@@ -8,7 +8,7 @@ use Rattle.fkv_index.specs.IndexWorld.{new_entry}
 use Rattle.fkv_straight.specs.Met.{IsReserved}
 use Rattle.fkv_straight.specs.Standing.{IsDone}
 use Rattle.fkv_straight.proofs.Appends.{publish_asks, publish_ends}
-use Rattle.fkv_straight.proofs.Goings.{goes_at, home_is, leads_on, place_asks, some_of, updates_in}
+use Rattle.fkv_straight.proofs.Goings.{goes_at, home_is, leads_on, place_asks, updates_in}
 use Rattle.fkv_straight.proofs.appending.append.Goals as goal
 
 pub fill-requires-clause-at : goal.fill-requires-clause-at
@@ -19,7 +19,7 @@ fill-requires-clause-at g c =
     let goes = c.requires.at.1 in (
       its,
       goes_at its k c.args.op c.args.going.now (g.L.Line.seat c.reserve-reserved.new.line) goes c.reserve-reserved.ensures.seat,
-      some_of (λ (addr : ℕ). IsReserved its c.args.slot.place c.args.slot.entry (as_number c.args.old) addr u) c.reserve-reserved.result c.in-Some.addr c.in-Some.is (c.reserve-reserved.ensures.fills its goes c.requires.at.2),
+      c.reserve-reserved.ensures.fills its goes c.requires.at.2 c.in-Taken.addr c.in-Taken.is,
     )
 
 pub cas-found-requires-clause-asked : goal.cas-found-requires-clause-asked
@@ -31,12 +31,12 @@ cas-found-requires-clause-asked g c =
     let its = c.requires.at.0 in
     let goes = c.requires.at.1 in
     let old = as_number c.args.old in
-    let reserved = some_of (λ (addr : ℕ). IsReserved its c.args.slot.place c.args.slot.entry old addr u) c.reserve-reserved.result c.in-Some.addr c.in-Some.is (c.reserve-reserved.ensures.fills its goes c.requires.at.2) in
+    let reserved = c.reserve-reserved.ensures.fills its goes c.requires.at.2 c.in-Taken.addr c.in-Taken.is in
     let at = c.fill.ensures.publishes its (goes_at its k c.args.op c.args.going.now q goes c.reserve-reserved.ensures.seat) reserved in
     let home = home_is its k c.args.op c.args.going.now c.home_of-home.result c.key.result goes c.key.ensures c.home_of-home.ensures.home in
-    let entry = ap (λ (h : Home). new_entry c.in-Some.addr h.tag) (sym home) ∙ sym c.entry_of-entry.ensures in
+    let entry = ap (λ (h : Home). new_entry c.in-Taken.addr h.tag) (sym home) ∙ sym c.entry_of-entry.ensures in
     place_asks its k c.args.op c.args.going.now c.args.slot.place c.args.slot.place (g.L.Line.seat c.fill.new.line) v (λ (n : ℕ). Cas n c.args.slot.entry c.entry_of-entry.result) goes (c.fill.ensures.seat ∙ c.reserve-reserved.ensures.seat) refl
-    (publish_asks its c.args.slot.place c.args.slot.entry old c.in-Some.addr v at ∙ ap (λ (n : ℕ). Cas c.args.slot.place c.args.slot.entry n) entry)
+    (publish_asks its c.args.slot.place c.args.slot.entry old c.in-Taken.addr v at ∙ ap (λ (n : ℕ). Cas c.args.slot.place c.args.slot.entry n) entry)
 
 pub returns-then-found-slot-clause-done : goal.returns-then-found-slot-clause-done
 returns-then-found-slot-clause-done g c = λ its goes reserves.
@@ -46,8 +46,8 @@ returns-then-found-slot-clause-done g c = λ its goes reserves.
     let v = g.L.Line.stands c.fill.new.line in
     let w = g.L.Line.stands c.cas-found.new.self in
     let old = as_number c.args.old in
-    let reserved = some_of (λ (addr : ℕ). IsReserved its c.args.slot.place c.args.slot.entry old addr u) c.reserve-reserved.result c.in-Some.addr c.in-Some.is (c.reserve-reserved.ensures.fills its goes reserves) in
+    let reserved = c.reserve-reserved.ensures.fills its goes reserves c.in-Taken.addr c.in-Taken.is in
     let at = c.fill.ensures.publishes its (goes_at its k c.args.op c.args.going.now q goes c.reserve-reserved.ensures.seat) reserved in
-    subst (λ (x : Reply). IsDone its.lasts x w) (ap (λ (x : Op). reply_from old x) goes.its_op ∙ sym c.reply_from.ensures)
-    (publish_ends its c.args.slot.place c.args.slot.entry old c.in-Some.addr c.cas-found.result v w at (updates_in its k c.args.op c.args.going.now _ goes c.requires.updates) c.if-found-slot.true
+    subst (λ (x : Reply). IsDone its x w) (ap (λ (x : Op). reply_from old x) goes.its_op ∙ sym c.reply_from-reply.ensures)
+    (publish_ends its c.args.slot.place c.args.slot.entry old c.in-Taken.addr c.cas-found.result v w goes.settled at (updates_in its k c.args.op c.args.going.now _ goes c.requires.updates) c.if-found-slot.true
     (leads_on its k c.args.op c.args.going.now (g.L.Line.seat c.fill.new.line) v w c.cas-found.result goes (c.fill.ensures.seat ∙ c.reserve-reserved.ensures.seat) c.cas-found.ensures.next))

@@ -1,11 +1,12 @@
-use Rattle.std.proofs.Common.{ℕ, ◌+◌, ◌<◌, refl, sym, ◌∙◌, subst}
+use Rattle.std.proofs.Common.{◌≡◌, ℕ, ◌+◌, ◌<◌, refl, sym, ◌∙◌, subst}
 use Rattle.fkv_map.specs.Keys.{as_number}
 use Rattle.fkv_plane.specs.declared.asks.Ask.TheVariants.{Load, Cas}
 use Rattle.fkv_plane.specs.declared.places.SharedWord.TheVariants as one
 use Rattle.fkv_plane.specs.Places.{shared_place}
 use Rattle.fkv_index.specs.Slots.{entry_addr}
-use Rattle.fkv_straight.proofs.Appends.{limit_asks, limit_comes, tail_asks, tail_comes, take_asks, take_comes}
-use Rattle.fkv_straight.proofs.Goings.{place_asks, leads_on}
+use Rattle.fkv_straight.specs.Met.{IsReserved}
+use Rattle.fkv_straight.proofs.Appends.{limit_asks, limit_comes, tail_asks, tail_comes, take_asks, take_comes, take_lost}
+use Rattle.fkv_straight.proofs.Goings.{place_asks, leads_on, updates_in}
 use Rattle.fkv_straight.proofs.appending.reserve.Goals as goal
 
 pub load-limit-requires-clause-asked : goal.load-limit-requires-clause-asked
@@ -44,7 +45,7 @@ cas-found-requires-clause-asked g c =
     (take_asks its c.args.slot.place c.args.slot.entry old c.load-tail.result v then)
 
 pub returns-then-found-tail-clause-fills : goal.returns-then-found-tail-clause-fills
-returns-then-found-tail-clause-fills g c = λ its goes reserves.
+returns-then-found-tail-clause-fills g c = λ its goes reserves addr taken.
     let k = g.L.Line.seat c.args.line.now in
     let s = g.L.Line.stands c.args.line.now in
     let u = g.L.Line.stands c.load-limit.new.self in
@@ -55,6 +56,22 @@ returns-then-found-tail-clause-fills g c = λ its goes reserves.
     let then = tail_comes its c.args.slot.place c.args.slot.entry old c.load-limit.result c.load-tail.result u v at
     (leads_on its k c.args.op c.args.going.now (g.L.Line.seat c.load-limit.new.self) u v c.load-tail.result goes c.load-limit.ensures.seat c.load-tail.ensures.next) c.if-tail-limit.false in
     let above : entry_addr c.args.slot.entry < c.load-tail.result = subst (λ (n : ℕ). n < c.load-tail.result) c.addr_of-previous.ensures c.if-tail-previous.false in
-    take_comes its c.args.slot.place c.args.slot.entry old c.load-tail.result c.cas-found.result v w then
+    subst (λ (n : ℕ). IsReserved its c.args.slot.place c.args.slot.entry old n w) (let e : c.load-tail.result ≡ addr = cc taken in e)
+    (take_comes its c.args.slot.place c.args.slot.entry old c.load-tail.result c.cas-found.result v w then
     (leads_on its k c.args.op c.args.going.now (g.L.Line.seat c.load-tail.new.self) v w c.cas-found.result goes (c.load-tail.ensures.seat ∙ c.load-limit.ensures.seat) c.cas-found.ensures.next)
-    c.if-found-tail.true above c.if-tail.false
+    c.if-found-tail.true above c.if-tail.false)
+
+pub returns-else-found-tail-clause-waits : goal.returns-else-found-tail-clause-waits
+returns-else-found-tail-clause-waits g c = λ its goes reserves lost calls.
+    let k = g.L.Line.seat c.args.line.now in
+    let s = g.L.Line.stands c.args.line.now in
+    let u = g.L.Line.stands c.load-limit.new.self in
+    let v = g.L.Line.stands c.load-tail.new.self in
+    let w = g.L.Line.stands c.cas-found.new.self in
+    let old = as_number c.args.old in
+    let at = limit_comes its c.args.slot.place c.args.slot.entry old c.load-limit.result s u reserves (leads_on its k c.args.op c.args.going.now k s u c.load-limit.result goes refl c.load-limit.ensures.next) in
+    let then = tail_comes its c.args.slot.place c.args.slot.entry old c.load-limit.result c.load-tail.result u v at
+    (leads_on its k c.args.op c.args.going.now (g.L.Line.seat c.load-limit.new.self) u v c.load-tail.result goes c.load-limit.ensures.seat c.load-tail.ensures.next) c.if-tail-limit.false in
+    take_lost its c.args.slot.place c.args.slot.entry old c.load-tail.result c.cas-found.result v w calls (updates_in its k c.args.op c.args.going.now _ goes c.requires.updates) then
+    (leads_on its k c.args.op c.args.going.now (g.L.Line.seat c.load-tail.new.self) v w c.cas-found.result goes (c.load-tail.ensures.seat ∙ c.load-limit.ensures.seat) c.cas-found.ensures.next)
+    c.if-found-tail.false

@@ -3,16 +3,22 @@ use Rattle.std.proofs.Common.{◌≡◌, refl, ap, rules, false}
 use Rattle.fkv_ops.specs.Requests.{is_read}
 use Rattle.fkv_session.specs.Alike.{lasting}
 use Rattle.fkv_session.specs.Sessions.{Sitter}
-use Rattle.fkv_straight.proofs.Endings.{none_so, read_ended, serial_fits, update_asks, update_caught_up}
+use Rattle.fkv_straight.proofs.MayGoes.{begins_alike, goes_alike}
+use Rattle.fkv_straight.proofs.Endings.{none_so, read_ended, update_asks, update_caught_up, waiting_ended, waiting_goes, waiting_seat}
 use Rattle.fkv_straight.proofs.Goings.{goes_by_still}
-use Rattle.fkv_straight.proofs.Seeks.{begins_same}
 use Rattle.fkv_straight.proofs.calls.go_by.Goals as goal
 
-pub take_serial-serial-requires : goal.take_serial-serial-requires
-take_serial-serial-requires g c =
-    let m = c.args.machine.now in
-    let updates : is_read c.args.op ≡ false = search rules in
-    serial_fits m.state (lasting m.state) refl (c.requires.goes.serial_left updates)
+pub read-requires-clause-goes : goal.read-requires-clause-goes
+read-requires-clause-goes g c = goes_alike c.args.machine.now.seat (g.L.Line.seat c.args.line.now) c.args.machine.now.state (g.L.Line.stands c.args.line.now) c.args.op c.args.going.now c.requires.may c.requires.seat c.requires.alike
+
+pub read-requires-clause-begins : goal.read-requires-clause-begins
+read-requires-clause-begins g c = begins_alike c.args.machine.now.seat (g.L.Line.seat c.args.line.now) c.args.machine.now.state (g.L.Line.stands c.args.line.now) c.args.op c.args.going.now c.requires.may c.requires.seat c.requires.alike
+
+pub update-straight-requires-clause-goes : goal.update-straight-requires-clause-goes
+update-straight-requires-clause-goes g c = goes_alike c.args.machine.now.seat (g.L.Line.seat c.args.line.now) c.args.machine.now.state (g.L.Line.stands c.args.line.now) c.args.op c.args.going.now c.requires.may c.requires.seat c.requires.alike
+
+pub update-straight-requires-clause-begins : goal.update-straight-requires-clause-begins
+update-straight-requires-clause-begins g c = begins_alike c.args.machine.now.seat (g.L.Line.seat c.args.line.now) c.args.machine.now.state (g.L.Line.stands c.args.line.now) c.args.op c.args.going.now c.requires.may c.requires.seat c.requires.alike
 
 pub returns-in-Read : goal.returns-in-Read
 returns-in-Read g c =
@@ -26,11 +32,10 @@ returns-in-Read g c =
       goes_by = λ its by. by;
       ended = read_ended k m.state (g.L.Line.stands c.read.new.line) l c.read.result c.requires.alike c.read.ensures.ended;
       stopped = none_so (m ≡ m) c.read.result refl;
-      begins = begins_same m.seat k m.state (g.L.Line.stands c.args.line.now) c.args.op c.args.going.now c.requires.goes c.requires.seat c.requires.alike;
     }
 
-pub returns-in-Some : goal.returns-in-Some
-returns-in-Some g c =
+pub returns-in-Done : goal.returns-in-Done
+returns-in-Done g c =
     let k = g.L.Line.seat c.args.line.now in
     let m = c.args.machine.now in
     let n = c.take_serial-serial.new.self in
@@ -42,16 +47,30 @@ returns-in-Some g c =
       machine = ap (λ (x : Sitter). x.seat) c.take_serial-serial.ensures.next;
       goes_by = λ its by. goes_by_still m n its c.take_serial-serial.ensures.next by;
       ended = (
-        update_asks k m.state u l c.take_serial-serial.result c.in-Some.reply c.requires.alike c.take_serial-serial.ensures.serial c.in-Some.ensures.done,
-        update_caught_up m.state n.state u l c.in-Some.reply c.requires.alike (ap (λ (x : Sitter). x.state) c.take_serial-serial.ensures.next) c.in-Some.ensures.done,
+        update_asks k m.state u l c.take_serial-serial.result c.in-Done.reply c.requires.alike c.take_serial-serial.ensures.serial c.in-Done.ensures.done,
+        update_caught_up m.state n.state u l _ c.requires.alike (ap (λ (x : Sitter). x.state) c.take_serial-serial.ensures.next) c.in-Done.ensures.done,
       );
       stopped = tt;
-      begins = begins_same m.seat k m.state (g.L.Line.stands c.args.line.now) c.args.op c.args.going.now c.requires.goes c.requires.seat c.requires.alike;
     }
 
-pub returns-in-None : goal.returns-in-None
-returns-in-None g c =
+pub returns-in-Contended : goal.returns-in-Contended
+returns-in-Contended g c =
     let k = g.L.Line.seat c.args.line.now in
+    let m = c.args.machine.now in
+    let n = c.wait.new.machine in
+    let u = g.L.Line.stands c.update-straight.new.line in
+    let updates : is_read c.args.op ≡ false = search rules in
+    record {
+      seat = c.update-straight.ensures.seat;
+      led = c.update-straight.ensures.led;
+      machine = waiting_seat m n c.args.op c.wait.result c.wait.ensures.waits c.wait.ensures.full;
+      goes_by = λ its by. waiting_goes m n c.args.op its c.wait.result c.wait.ensures.waits c.wait.ensures.full by;
+      ended = waiting_ended k m n (g.L.Line.stands c.args.line.now) u c.args.op c.wait.result updates c.requires.alike c.wait.ensures.waits (c.in-Contended.ensures.done refl);
+      stopped = c.wait.ensures.full;
+    }
+
+pub returns-in-Unusual : goal.returns-in-Unusual
+returns-in-Unusual g c =
     let m = c.args.machine.now in
     record {
       seat = c.update-straight.ensures.seat;
@@ -60,5 +79,4 @@ returns-in-None g c =
       goes_by = λ its by. by;
       ended = tt;
       stopped = refl;
-      begins = begins_same m.seat k m.state (g.L.Line.stands c.args.line.now) c.args.op c.args.going.now c.requires.goes c.requires.seat c.requires.alike;
     }

@@ -34,5 +34,5 @@ returns-clause-done g c = λ its goes met.
     let updates = updates_in its k c.args.op c.args.going.now _ goes c.requires.updates in
     let blind = blind_in its k c.args.op c.args.going.now _ goes c.requires.blind in
     let at = met_swaps its c.args.its s met (met_by its c.args.its s met goes.unlatched updates) (may_change its k c.args.op c.args.going.now c.args.its goes c.requires.mutable c.requires.own) blind in
-    subst (λ (x : Reply). IsDone its.lasts x u) (ap (λ (x : Op). reply_from None x) goes.its_op ∙ sym c.reply_from.ensures)
-    (swap_ends its c.args.its.addr c.swap.result s u at updates (leads_on its k c.args.op c.args.going.now k s u c.swap.result goes refl c.swap.ensures.next))
+    subst (λ (x : Reply). IsDone its x u) (ap (λ (x : Op). reply_from None x) goes.its_op ∙ sym c.reply_from.ensures)
+    (swap_ends its c.args.its.addr c.swap.result s u goes.settled at updates (leads_on its k c.args.op c.args.going.now k s u c.swap.result goes refl c.swap.ensures.next))

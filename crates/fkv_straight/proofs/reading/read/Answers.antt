@@ -1,4 +1,5 @@
-use Rattle.std.proofs.Common.{ℕ}
+use Rattle.std.proofs.Common.{ℕ, refl}
+use Rattle.fkv_map.specs.declared.operations.Call.TheVariants as call
 use Rattle.fkv_plane.specs.declared.asks.Ask.TheVariants.{Load}
 use Rattle.fkv_plane.specs.declared.places.RecordWord.TheVariants as rec
 use Rattle.fkv_straight.specs.declared.searching.Met.{Met}
@@ -12,7 +13,7 @@ use Rattle.fkv_straight.proofs.reading.read.Goals as goal
 pub load-value-requires-clause-asked : goal.load-value-requires-clause-asked
 load-value-requires-clause-asked g c =
     let k = g.L.Line.seat c.args.line.now in
-    let its = course_of k (g.L.Line.stands c.args.line.now) c.args.op in
+    let its = course_of k (g.L.Line.stands c.args.line.now) c.args.op (call.Op c.args.op) in
     let goes = c.requires.goes in
     let q = g.L.Line.seat c.search-met.new.line in
     let u = g.L.Line.stands c.search-met.new.line in
@@ -22,30 +23,30 @@ load-value-requires-clause-asked g c =
 pub returns-then-value-clause-ended : goal.returns-then-value-clause-ended
 returns-then-value-clause-ended g c =
     let k = g.L.Line.seat c.args.line.now in
-    let its = course_of k (g.L.Line.stands c.args.line.now) c.args.op in
+    let its = course_of k (g.L.Line.stands c.args.line.now) c.args.op (call.Op c.args.op) in
     let goes = c.requires.goes in
     let q = g.L.Line.seat c.search-met.new.line in
     let u = g.L.Line.stands c.search-met.new.line in
     let v = g.L.Line.stands c.load-value.new.self in
-    absent_ends its c.in-Found.record c.load-value.result u v (met_of (λ (m : Met). HasMet its m u) c.search-met.result c.in-Some.its (Found c.in-Found.record) c.in-Some.is c.in-Found.is c.search-met.ensures.met) goes.unlatched (updates_in its k c.args.op c.args.going.now _ goes c.requires.reads)
+    absent_ends its c.in-Found.record c.load-value.result u v refl (met_of (λ (m : Met). HasMet its m u) c.search-met.result c.in-Some.its (Found c.in-Found.record) c.in-Some.is c.in-Found.is c.search-met.ensures.met) goes.unlatched (updates_in its k c.args.op c.args.going.now _ goes c.requires.reads)
     (leads_on its k c.args.op c.args.going.now q u v c.load-value.result goes c.search-met.ensures.seat c.load-value.ensures.next) c.if-value.true
 
 pub returns-else-value-clause-ended : goal.returns-else-value-clause-ended
 returns-else-value-clause-ended g c =
     let k = g.L.Line.seat c.args.line.now in
-    let its = course_of k (g.L.Line.stands c.args.line.now) c.args.op in
+    let its = course_of k (g.L.Line.stands c.args.line.now) c.args.op (call.Op c.args.op) in
     let goes = c.requires.goes in
     let q = g.L.Line.seat c.search-met.new.line in
     let u = g.L.Line.stands c.search-met.new.line in
     let v = g.L.Line.stands c.load-value.new.self in
-    found_ends its c.in-Found.record c.load-value.result u v (met_of (λ (m : Met). HasMet its m u) c.search-met.result c.in-Some.its (Found c.in-Found.record) c.in-Some.is c.in-Found.is c.search-met.ensures.met) goes.unlatched (updates_in its k c.args.op c.args.going.now _ goes c.requires.reads)
+    found_ends its c.in-Found.record c.load-value.result u v refl (met_of (λ (m : Met). HasMet its m u) c.search-met.result c.in-Some.its (Found c.in-Found.record) c.in-Some.is c.in-Found.is c.search-met.ensures.met) goes.unlatched (updates_in its k c.args.op c.args.going.now _ goes c.requires.reads)
     (leads_on its k c.args.op c.args.going.now q u v c.load-value.result goes c.search-met.ensures.seat c.load-value.ensures.next) c.if-value.false
 
 pub returns-in-Nowhere-clause-ended : goal.returns-in-Nowhere-clause-ended
 returns-in-Nowhere-clause-ended g c =
     let k = g.L.Line.seat c.args.line.now in
-    let its = course_of k (g.L.Line.stands c.args.line.now) c.args.op in
+    let its = course_of k (g.L.Line.stands c.args.line.now) c.args.op (call.Op c.args.op) in
     let goes = c.requires.goes in
     let u = g.L.Line.stands c.search-met.new.line in
     let slot = c.in-Nowhere.field-0 in
-    nowhere_ends its slot.place slot.entry u (met_of (λ (m : Met). HasMet its m u) c.search-met.result c.in-Some.its (Nowhere slot) c.in-Some.is c.in-Nowhere.is c.search-met.ensures.met) goes.unlatched (updates_in its k c.args.op c.args.going.now _ goes c.requires.reads)
+    nowhere_ends its slot.place slot.entry u refl (met_of (λ (m : Met). HasMet its m u) c.search-met.result c.in-Some.its (Nowhere slot) c.in-Some.is c.in-Nowhere.is c.search-met.ensures.met) goes.unlatched (updates_in its k c.args.op c.args.going.now _ goes c.requires.reads)

@@ -8,7 +8,7 @@ use Rattle.fkv_straight.proofs.searching.search.Goals as goal
 pub walk-requires-clause-at : goal.walk-requires-clause-at
 walk-requires-clause-at g c =
     let k = g.L.Line.seat c.args.line.now in
-    let its = course_of k (g.L.Line.stands c.args.line.now) c.args.op in
+    let its = course_of k (g.L.Line.stands c.args.line.now) c.args.op c.args.call in
     let u = g.L.Line.stands c.seek-slot.new.line in (
       its,
       goes_at its k c.args.op c.args.going.now (g.L.Line.seat c.seek-slot.new.line) c.requires.goes c.seek-slot.ensures.seat,

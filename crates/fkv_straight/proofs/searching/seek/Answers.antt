@@ -1,5 +1,4 @@
 use Rattle.std.proofs.Common.{◌≡◌, ℕ, ◌+◌, ◌-◌, ◌<◌, refl, sym, ap, ◌∙◌, arith, rules, true, add-zero}
-use Rattle.fkv_map.specs.declared.operations.Call.TheVariants as call
 use Rattle.fkv_plane.specs.declared.asks.Ask.TheVariants.{Load}
 use Rattle.fkv_straight.specs.Course.{course_of}
 use Rattle.fkv_straight.specs.Standing.{begins}
@@ -12,15 +11,15 @@ first-word-requires-clause-asked g c =
     let k = g.L.Line.seat c.args.line.now in
     let s = g.L.Line.stands c.args.line.now in
     let base = c.bucket-first.result in
-    let at = begun_at k s c.args.op c.args.going.now c.home_of-home.result c.key-key.result base c.args.going.now.places.overflow c.requires.goes c.key-key.ensures c.home_of-home.ensures.home c.bucket-first.ensures refl in
-    slot_asks (course_of k s c.args.op) base c.args.going.now.places.overflow 0 (begins k s (call.Op c.args.op)) at ∙ ap (λ (n : ℕ). Load n) (add-zero base)
+    let at = begun_at (course_of k s c.args.op c.args.call) k c.args.op c.args.call s c.args.going.now c.home_of-home.result c.key-key.result base c.args.going.now.places.overflow c.requires.goes c.requires.begins c.key-key.ensures c.home_of-home.ensures.home c.bucket-first.ensures refl in
+    slot_asks (course_of k s c.args.op c.args.call) base c.args.going.now.places.overflow 0 (begins k s c.args.call) at ∙ ap (λ (n : ℕ). Load n) (add-zero base)
 
 pub slots-init : goal.slots-init
 slots-init g c =
     let k = g.L.Line.seat c.args.line.now in
     let s = g.L.Line.stands c.args.line.now in
     let base = c.bucket-first.result in
-    let at = begun_at k s c.args.op c.args.going.now c.home_of-home.result c.key-key.result base (c.args.going.now.places.overflow - 0) c.requires.goes c.key-key.ensures c.home_of-home.ensures.home c.bucket-first.ensures (omega arith) in
+    let at = begun_at (course_of k s c.args.op c.args.call) k c.args.op c.args.call s c.args.going.now c.home_of-home.result c.key-key.result base (c.args.going.now.places.overflow - 0) c.requires.goes c.requires.begins c.key-key.ensures c.home_of-home.ensures.home c.bucket-first.ensures (omega arith) in
     record {
       slot = omega arith;
       few = omega arith;
@@ -29,14 +28,14 @@ slots-init g c =
       seat = c.first-word.ensures.seat;
       led = c.first-word.ensures.led;
       kept = (let e = c.first-word.ensures.kept in omega (arith, e));
-      stands = slot_comes (course_of k s c.args.op) base (c.args.going.now.places.overflow - 0) 0 c.first-word.result (begins k s (call.Op c.args.op)) (g.L.Line.stands c.first-word.new.self) at c.first-word.ensures.next;
+      stands = slot_comes (course_of k s c.args.op c.args.call) base (c.args.going.now.places.overflow - 0) 0 c.first-word.result (begins k s c.args.call) (g.L.Line.stands c.first-word.new.self) at c.first-word.ensures.next;
     }
 
 pub load-word-requires-clause-asked : goal.load-word-requires-clause-asked
 load-word-requires-clause-asked g c =
     let k = g.L.Line.seat c.args.line.now in
     let s = g.L.Line.stands c.args.line.now in
-    let its = course_of k s c.args.op in
+    let its = course_of k s c.args.op c.args.call in
     let now = g.L.Line.stands c.slots.line in
     let links = c.args.going.now.places.overflow - c.slots.links in
     let so : c.is_entry-entry.result ≡ true = search rules in
@@ -49,7 +48,7 @@ pub slots-preserved-then-slot-lt6 : goal.slots-preserved-then-slot-lt6
 slots-preserved-then-slot-lt6 g c =
     let k = g.L.Line.seat c.args.line.now in
     let s = g.L.Line.stands c.args.line.now in
-    let its = course_of k s c.args.op in
+    let its = course_of k s c.args.op c.args.call in
     let now = g.L.Line.stands c.slots.line in
     let links = c.args.going.now.places.overflow - c.slots.links in
     let so : c.is_entry-entry.result ≡ true = search rules in
@@ -61,7 +60,7 @@ slots-preserved-then-slot-lt6 g c =
       within = c.slots.invariant.within;
       fits = c.slots.invariant.fits;
       seat = c.load-word.ensures.seat ∙ c.slots.invariant.seat;
-      led = c.load-word.ensures.led c.args.line.now (call.Op c.args.op) c.slots.invariant.led;
+      led = c.load-word.ensures.led c.args.line.now c.args.call c.slots.invariant.led;
       kept = (let e = c.load-word.ensures.kept in let i = c.slots.invariant.kept in omega (arith, e, i));
       stands = slot_comes its c.slots.base links (c.slots.slot + 1) c.load-word.result now (g.L.Line.stands c.load-word.new.self) at
           (leads_on its k c.args.op c.args.going.now (g.L.Line.seat c.slots.line) now (g.L.Line.stands c.load-word.new.self) c.load-word.result c.requires.goes c.slots.invariant.seat c.load-word.ensures.next);
@@ -71,7 +70,7 @@ pub load-link-requires-clause-asked : goal.load-link-requires-clause-asked
 load-link-requires-clause-asked g c =
     let k = g.L.Line.seat c.args.line.now in
     let s = g.L.Line.stands c.args.line.now in
-    let its = course_of k s c.args.op in
+    let its = course_of k s c.args.op c.args.call in
     let now = g.L.Line.stands c.slots.line in
     let links = c.args.going.now.places.overflow - c.slots.links in
     let so : c.is_entry-entry.result ≡ true = search rules in
@@ -82,7 +81,7 @@ load-link-requires-clause-asked g c =
 pub returns-then-word-home-clause-found : goal.returns-then-word-home-clause-found
 returns-then-word-home-clause-found g c =
     let k = g.L.Line.seat c.args.line.now in
-    let its = course_of k (g.L.Line.stands c.args.line.now) c.args.op in
+    let its = course_of k (g.L.Line.stands c.args.line.now) c.args.op c.args.call in
     let so : c.is_entry-entry.result ≡ true = search rules in
     let mine = is_mine its k c.args.op c.args.going.now c.home_of-home.result c.key-key.result c.slots.word c.requires.goes c.key-key.ensures c.home_of-home.ensures.home c.if-word-home.true in
     entry_found its c.slots.base (c.args.going.now.places.overflow - c.slots.links) c.slots.slot c.slots.word (g.L.Line.stands c.slots.line) c.slots.invariant.stands (sym c.is_entry-entry.ensures ∙ so) (is_some c.slots.word c.slots-test.true) mine
@@ -90,7 +89,7 @@ returns-then-word-home-clause-found g c =
 pub load-word-requires-else-slot-lt6-clause-asked : goal.load-word-requires-else-slot-lt6-clause-asked
 load-word-requires-else-slot-lt6-clause-asked g c =
     let k = g.L.Line.seat c.args.line.now in
-    let its = course_of k (g.L.Line.stands c.args.line.now) c.args.op in
+    let its = course_of k (g.L.Line.stands c.args.line.now) c.args.op c.args.call in
     let now = g.L.Line.stands c.slots.line in
     let then = g.L.Line.stands c.load-link.new.self in
     let links = c.args.going.now.places.overflow - c.slots.links in
@@ -107,7 +106,7 @@ pub slots-preserved : goal.slots-preserved
 slots-preserved g c =
     let k = g.L.Line.seat c.args.line.now in
     let s = g.L.Line.stands c.args.line.now in
-    let its = course_of k s c.args.op in
+    let its = course_of k s c.args.op c.args.call in
     let now = g.L.Line.stands c.slots.line in
     let then = g.L.Line.stands c.load-link.new.self in
     let last = g.L.Line.stands c.load-word-else-slot-lt6.new.self in
@@ -124,7 +123,7 @@ slots-preserved g c =
       within = (let h = c.if-links-going.false in omega (arith, h));
       fits = (let e = c.overflow-base.ensures in let p = c.args.going.now.places.few_sessions in let f = c.args.going.now.places.few_buckets in let o = c.args.going.now.places.few_overflow in let n = c.if-number-going.false in omega (arith, e, p, f, o, n));
       seat = c.load-word-else-slot-lt6.ensures.seat ∙ (c.load-link.ensures.seat ∙ c.slots.invariant.seat);
-      led = c.load-word-else-slot-lt6.ensures.led c.args.line.now (call.Op c.args.op) (c.load-link.ensures.led c.args.line.now (call.Op c.args.op) c.slots.invariant.led);
+      led = c.load-word-else-slot-lt6.ensures.led c.args.line.now c.args.call (c.load-link.ensures.led c.args.line.now c.args.call c.slots.invariant.led);
       kept = (let e = c.load-word-else-slot-lt6.ensures.kept in let f = c.load-link.ensures.kept in let i = c.slots.invariant.kept in let j = c.slots.invariant.slot in omega (arith, e, f, i, j));
       stands = slot_comes its next (c.args.going.now.places.overflow - (c.slots.links + 1)) 0 c.load-word-else-slot-lt6.result then last on
           (leads_on its k c.args.op c.args.going.now (g.L.Line.seat c.load-link.new.self) then last c.load-word-else-slot-lt6.result c.requires.goes (c.load-link.ensures.seat ∙ c.slots.invariant.seat) c.load-word-else-slot-lt6.ensures.next);
@@ -132,5 +131,5 @@ slots-preserved g c =
 
 pub returns-clause-found : goal.returns-clause-found
 returns-clause-found g c =
-    let its = course_of (g.L.Line.seat c.args.line.now) (g.L.Line.stands c.args.line.now) c.args.op in
+    let its = course_of (g.L.Line.seat c.args.line.now) (g.L.Line.stands c.args.line.now) c.args.op c.args.call in
     empty_found its c.slots.base (c.args.going.now.places.overflow - c.slots.links) c.slots.slot c.slots.word (g.L.Line.stands c.slots.line) c.slots.invariant.stands c.slots-test.false

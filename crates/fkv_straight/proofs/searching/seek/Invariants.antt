@@ -1,5 +1,4 @@
 use Rattle.std.proofs.Common.{◌≡◌, ◌<◌, ◌≤◌, ◌+◌, ◌-◌, ◌*◌, ◌^◌}
-use Rattle.fkv_map.specs.declared.operations.Call.TheVariants as call
 use Rattle.fkv_straight.specs.Course.{course_of}
 use Rattle.fkv_straight.specs.Met.{HasSlot}
 use Rattle.fkv_straight.proofs.searching.seek.Given as goal
@@ -15,9 +14,9 @@ invariant-slots g l =
       within : l.links ≤ l.fn.going.places.overflow;
       fits : l.base + 8 < 2 ^ 62;
       seat : g.L.Line.seat l.line ≡ k;
-      led : g.L.Line.led l.fn.line (call.Op l.fn.op) l.line;
+      led : g.L.Line.led l.fn.line l.fn.call l.line;
       kept : g.L.Line.kept l.line ≤ 8 * l.links + l.slot + 1;
-      stands : HasSlot (course_of k s l.fn.op) l.base (l.fn.going.places.overflow - l.links) l.slot l.word (g.L.Line.stands l.line);
+      stands : HasSlot (course_of k s l.fn.op l.fn.call) l.base (l.fn.going.places.overflow - l.links) l.slot l.word (g.L.Line.stands l.line);
     }
 
 abbrev pub decreases-slots : goal.decreases-slots

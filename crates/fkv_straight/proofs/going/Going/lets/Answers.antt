@@ -1,7 +1,8 @@
 -- What the session's straight calls go by is what this one goes by.
 use Rattle.std.proofs.Common.{◌≡◌, ◌∙◌, rules, false}
 use Rattle.fkv_map.specs.Map.{is_reserved}
-use Rattle.fkv_straight.proofs.Goings.{goes_for, goes_for_read, less_of}
+use Rattle.fkv_straight.proofs.MayGoes.{goes_for, goes_for_read}
+use Rattle.fkv_straight.proofs.Goings.{less_of}
 use Rattle.fkv_straight.proofs.going.Going.lets.Goals as goal
 
 pub returns-in-Read : goal.returns-in-Read

@@ -1,0 +1,14 @@
+//! What an update comes to that goes straight.
+
+use fkv_map::Reply;
+
+/// What has come of an update that goes straight.
+#[derive(Clone, Copy)]
+pub(crate) enum Outcome {
+    /// It is done, and told this.
+    Done(Reply),
+    /// Another session was quicker, so it has to wait.
+    Contended,
+    /// It has met something unusual, or another session was quicker and something is left to undo: the machine goes on.
+    Unusual,
+}
