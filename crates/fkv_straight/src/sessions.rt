@@ -1,5 +1,5 @@
 //! A session's machine, with what its straight calls go by.
-ghost use Rattle.std.specs.Prelude.{◌≡◌, ◌<◌, ◌≤◌, ℕ, IfSome, IfNone, false, true, length};
+ghost use Rattle.std.specs.Prelude.{◌≡◌, ◌<◌, ◌≤◌, ℕ, IfSome, false, true, length};
 ghost use Rattle.fkv_base.specs.Limits.{max_pending, max_sessions};
 ghost use Rattle.fkv_map.specs.declared.operations.Call.TheVariants as call;
 ghost use Rattle.fkv_epoch.specs.Claiming.{takes_action};
@@ -134,7 +134,7 @@ impl StraightSession {
 
     /// Makes the steps of an operation, each the one that the machine's table asks for, up to its answer or to where anything unusual is met.
     #[inline(always)]
-    pub fn go<L: Line>(&mut self, line: &mut L, op: Op) -> Went
+    fn go<L: Line>(&mut self, line: &mut L, op: Op) -> Went
         requires idle { is_busy (L.stands line.old).step ≡ false }
         requires seat { self.old.seat ≡ L.seat line.old }
         requires alike { lasting self.old.state ≡ lasting (L.stands line.old) }
@@ -162,28 +162,29 @@ impl StraightSession {
 
     /// Makes the steps of a refresh, each the one that the machine's table asks for, to its end. Where the session sleeps or a request waits it makes none.
     #[inline(always)]
-    pub fn refresh<L: Line>(&mut self, line: &mut L) -> Option<Told>
+    fn refresh<L: Line>(&mut self, line: &mut L) -> Went
         requires idle { is_busy (L.stands line.old).step ≡ false }
         requires seat { self.old.seat ≡ L.seat line.old }
         requires alike { lasting self.old.state ≡ lasting (L.stands line.old) }
         ensures seat { L.seat line.new ≡ L.seat line.old }
         ensures machine { self.new.seat ≡ self.old.seat }
-        ensures ended { IfSome result (λ told. L.led line.old call.Refresh line.new × (Done told ≡ session_ask (L.seat line.old) (L.stands line.new)) × IsCaughtUp self.new.state (L.stands line.new)) }
-        ensures stayed { IfNone result ((line.new ≡ line.old) × (self.new ≡ self.old)) }
+        ensures ended { (told : Told) → result ≡ Ended told → L.led line.old call.Refresh line.new × (Done told ≡ session_ask (L.seat line.old) (L.stands line.new)) × IsCaughtUp self.new.state (L.stands line.new) }
+        ensures whole { result ≡ Stopped → ⊥ }
+        ensures stayed { result ≡ Stayed → (line.new ≡ line.old) × (self.new ≡ self.old) }
     {
         let awake = self.machine.is_awake();
         if !awake || self.machine.pending() != 0 {
-            return None;
+            return Went::Stayed;
         }
         self.going = None;
         let told = refresh(line, &mut self.machine);
-        Some(told)
+        Went::Ended(told)
     }
 
     /// Makes the steps of a poll, each the one that the machine's table asks for, up to its answer or to where anything unusual is met. It may go straight
     /// where one update waits, and that for nothing but the poll.
     #[inline(always)]
-    pub fn poll<L: Line>(&mut self, line: &mut L) -> Went
+    fn poll<L: Line>(&mut self, line: &mut L) -> Went
         requires idle { is_busy (L.stands line.old).step ≡ false }
         requires seat { self.old.seat ≡ L.seat line.old }
         requires alike { lasting self.old.state ≡ lasting (L.stands line.old) }
@@ -207,6 +208,27 @@ impl StraightSession {
             return Went::Stopped;
         };
         Went::Ended(told)
+    }
+
+    /// Makes the steps of a call, each the one that the machine's table asks for, up to its end or to where anything unusual is met. An operation goes straight
+    /// where the session doesn't refuse it and it shares no latch, a refresh where no request waits, and a poll where one update waits for nothing else.
+    #[inline(always)]
+    pub fn run<L: Line>(&mut self, line: &mut L, call: Call) -> Went
+        requires idle { is_busy (L.stands line.old).step ≡ false }
+        requires seat { self.old.seat ≡ L.seat line.old }
+        requires alike { lasting self.old.state ≡ lasting (L.stands line.old) }
+        ensures seat { L.seat line.new ≡ L.seat line.old }
+        ensures machine { self.new.seat ≡ self.old.seat }
+        ensures ended { (told : Told) → result ≡ Ended told → L.led line.old call line.new × (Done told ≡ session_ask (L.seat line.old) (L.stands line.new)) × IsCaughtUp self.new.state (L.stands line.new) }
+        ensures stopped { result ≡ Stopped → L.led line.old call line.new × (self.new ≡ self.old) × StandAlike (begins self.old.seat self.old.state call) (begins (L.seat line.old) (L.stands line.old) call) }
+        ensures stayed { result ≡ Stayed → (line.new ≡ line.old) × (self.new ≡ self.old) }
+    {
+        match call {
+            Call::Op(op) => self.go(line, op),
+            Call::Refresh => self.refresh(line),
+            Call::Poll => self.poll(line),
+            _ => Went::Stayed,
+        }
     }
 
     /// Begins the call anew by the machine and tells it the replies that have come, with no step on a word: then it stands where the line
