@@ -46,6 +46,13 @@ TakesAlike = (seat : Seat) (one other : SessionState) (action : Action) → Stan
 abbrev pub LastsAlike : Type 0
 LastsAlike = (one other : SessionState) → StandAlike one other → lasting one ≡ lasting other
 
+-- what is known of sessions that stand alike
+pub record StandsByLaws : Type 0 where
+  pub asks : AsksAlike
+  pub goes : GoesAlike
+  pub takes : TakesAlike
+  pub lasts : LastsAlike
+
 pub same_finished : (s t : SessionState) → lasting s ≡ lasting t → s.finished ≡ t.finished
 unfolding lasting
 same_finished s t alike = ap (λ (l : Lasting). l.finished) alike
@@ -116,7 +123,7 @@ module _ {K : Type 0} (at : K → World) where
       asked_in_hand at key me me1 own (record m { state = r.before.its }) (record m1 { state = r.after }) first ask opens r.before.seated r.replied (was ∙ asks m.seat m.state r.before.its r.before.alike) word (is ∙ asks m1.seat m1.state r.after r.alike)
 
   -- the action that goes with the reply leads both on
-  abbrev SettledIn : Ask Told → Me Slot (Knows K) → Sitter → SessionState → Me Slot (Knows K) → Sitter → Type 0
+  abbrev pub SettledIn : Ask Told → Me Slot (Knows K) → Sitter → SessionState → Me Slot (Knows K) → Sitter → Type 0
   SettledIn ask me1 m1 s me' m' = (s' : SessionState) × Settled at ask me1 (record m1 { state = s }) me' (record m' { state = s' }) × StandAlike m'.state s'
 
   gets_alike : (k : Seat) (s t : SessionState) (its : Option Action) → TakesAlike → StandAlike s t → StandAlike (session_gets k s its) (session_gets k t its)
@@ -126,7 +133,7 @@ module _ {K : Type 0} (at : K → World) where
   stays_in : (s : SessionState) (m1 m' : Sitter) → StandAlike m1.state s → m' ≡ m1 → (◌≡◌ {A = Sitter} (record m' { state = s }) (record m1 { state = s })) × StandAlike m'.state s
   stays_in s m1 m' alike e = (ap (λ (x : Sitter). record x { state = s }) e, subst (λ (x : Sitter). StandAlike x.state s) (sym e) alike)
 
-  settled_in : (ask : Ask Told) (me1 me' : Me Slot (Knows K)) (m1 m' : Sitter) (s : SessionState) → GoesAlike → TakesAlike → StandAlike m1.state s → Settled at ask me1 m1 me' m' → SettledIn ask me1 m1 s me' m'
+  pub settled_in : (ask : Ask Told) (me1 me' : Me Slot (Knows K)) (m1 m' : Sitter) (s : SessionState) → GoesAlike → TakesAlike → StandAlike m1.state s → Settled at ask me1 m1 me' m' → SettledIn ask me1 m1 s me' m'
   settled_in (Put slot action) me1 me' m1 m' s goes takes alike t =
       let s' : SessionState = session_next m1.seat s 0 in
       (s', (t.0, ap (λ (x : Sitter). record x { state = s' }) t.1), subst (λ (x : Sitter). StandAlike x.state s') (sym t.1) (goes m1.seat m1.state s 0 alike))

@@ -7,7 +7,7 @@ use Rattle.fkv_base.specs.Limits.{drain_slots}
 use Rattle.fkv_map.specs.declared.operations.Call.{Call}
 use Rattle.fkv_plane.specs.declared.asks.Ask.{Ask}
 use Rattle.fkv_plane.specs.declared.asks.Ask.TheVariants.{Done}
-use Rattle.fkv_session.specs.Alike.{lasting}
+use Rattle.fkv_session.specs.Alike.{StandAlike, lasting}
 use Rattle.fkv_session.specs.declared.answers.Finished.{Finished}
 use Rattle.fkv_session.specs.declared.answers.Told.{Told}
 use Rattle.fkv_session.specs.Sessions.{Seat, SessionState, Sitter, is_busy, session_ask}
@@ -22,10 +22,10 @@ use Rattle.fkv_table.specs.Desks.{Slot, Knows}
 use Rattle.fkv_table.specs.Lines.{HasLed, HasReplied, IsAlong, LineModel, line_of, sitter, stands}
 use Rattle.fkv_table.specs.Openings.{IsGuardedOpening}
 use Rattle.fkv_table.specs.Planes.{plane}
-use Rattle.fkv_table.specs.Sits.{IsAsked, IsSeated, Rests, Settled, StandsIn}
+use Rattle.fkv_table.specs.Sits.{IsAsked, IsSeated, Replied, RepliedIn, Rests, Settled, StandsIn}
 use Rattle.fkv_table.proofs.LineSteps.{called_on, idle_asks, rested_is, went_so, whole}
-use Rattle.fkv_table.proofs.Settled.{IsStepped, asked_in_hand, ended_so, same_view, stepped_on}
-use Rattle.fkv_table.proofs.StandIns.{same_finished}
+use Rattle.fkv_table.proofs.Settled.{IsStepped, ended_so, same_view}
+use Rattle.fkv_table.proofs.StandIns.{IsSteppedIn, StandsByLaws, hand_in, same_finished, settled_in, stepped_in}
 
 module _ {K : Type 0} (at : K → World) (key : K) (table seat : TableId) (me : Me Slot (Knows K)) (m : Sitter) (desk : ℕ) (ready : IsReady at key table seat me m desk) where
   abbrev start : LineModel K
@@ -127,19 +127,30 @@ module _ {K : Type 0} (at : K → World) (key : K) (table seat : TableId) (me : 
             subst (λ (x : Me Slot (Knows K)). HasGone call seat' x m1 told) (sym here) record { its_ready = ready_over seat' same; its_number = ap (λ (k : Seat). k.number) same_seat; its_called = went.called; its_told = told_over }
 
       -- it has met something unusual: the machine stands where the line stands, and goes on
-      module _ (goes_on : (told : Told) → ask ≢ Done told) where
+      module _ (goes_on : (told : Told) → ask ≢ Done told) (laws : StandsByLaws) where
         busy : (is : Bool) → is_busy s.step ≡ is → is_busy s.step ≡ true
         busy true e = e
         busy false e = absurd (let idle = idle_asks m.seat s s.step e in goes_on idle.0 (sym its_ask ∙ idle.1))
 
-        there : m1 ≡ record m { state = s }
-        there = let e : m1.state ≡ s = so_caught.same (busy (is_busy s.step) refl) in λ i. record { seat = same_seat i; state = e i }
+        alike_now : StandAlike m1.state s
+        alike_now = so_caught.alike (busy (is_busy s.step) refl)
+
+        chair_now : ◌≡◌ {A = Sitter} (record m1 { state = s }) (record m { state = s })
+        chair_now = λ i. record { seat = same_seat i; state = s }
+
+        replied_now : RepliedIn at key step.before step.own step.its me1 m1
+        replied_now = record {
+          before = record { its = step.its.state; seated = step.seated; alike = refl };
+          after = s;
+          replied = subst (λ (x : Sitter). Replied at key step.before step.own step.its me1 x) (sym chair_now) step.replied;
+          alike = alike_now;
+        }
 
         pub asks_there : ask ≡ session_ask m1.seat m1.state
-        asks_there = sym its_ask ∙ ap (λ (x : Sitter). session_ask x.seat x.state) (sym there)
+        asks_there = sym its_ask ∙ (ap (λ (k : Seat). session_ask k s) (sym same_seat) ∙ sym (laws.asks m1.seat m1.state s alike_now))
 
         hand_there : IsAsked at ask me1
-        hand_there = asked_in_hand at key step.before me1 step.own step.its (record m { state = s }) (session_ask step.its.seat step.its.state) ask opens step.seated step.replied refl step.word (sym its_ask)
+        hand_there = hand_in at key step.before me1 step.own step.its m1 (session_ask step.its.seat step.its.state) ask laws.asks opens replied_now refl step.word asks_there
 
         pub hand_here : (me' : Me Slot (Knows K)) → me' ≡ me1 → IsAsked at ask me'
         hand_here me' here = subst (λ (x : Me Slot (Knows K)). IsAsked at ask x) (sym here) hand_there
@@ -148,17 +159,16 @@ module _ {K : Type 0} (at : K → World) (key : K) (table seat : TableId) (me : 
         settled_here me' me2 m2 here t = subst (λ (x : Me Slot (Knows K)). Settled at ask x m1 me2 m2) here t
 
         module _ (me2 : Me Slot (Knows K)) (m2 : Sitter) (settled : Settled at ask me1 m1 me2 m2) where
-          moved : Settled at ask me1 (record m { state = s }) me2 m2
-          moved = subst (λ (x : Sitter). Settled at ask me1 x me2 m2) there settled
-
-          pub on : IsStepped at key step.before step.own step.its me2 m2
-          on = stepped_on at key step.before me1 me2 step.own step.its (record m { state = s }) m2 (session_ask step.its.seat step.its.state) ask opens step.seated step.replied refl step.word (sym its_ask) moved
+          pub on : IsSteppedIn at key step.before step.own step.its me2 m2
+          on = stepped_in at key step.before me1 me2 step.own step.its m1 m2 (session_ask step.its.seat step.its.state) ask laws.asks laws.goes laws.takes laws.lasts opens replied_now refl step.word asks_there settled
 
           pub stands_on : StandsIn at key me2 [] m2
-          stands_on = record { its = m2.state; seated = on.seated; alike = refl }
+          stands_on = on.seated
 
           view : me2.0 ≡ me1.0
-          view = (same_view at key step.before me1 step.own step.its (record m { state = s }) opens step.seated step.replied step.word.0 step.word.1 me2 m2 ask moved).0
+          view =
+              let so = settled_in at ask me1 me2 m1 m2 s laws.goes laws.takes alike_now settled in
+              (same_view at key step.before me1 step.own step.its (record m { state = s }) opens step.seated step.replied step.word.0 step.word.1 me2 (record m2 { state = so.0 }) ask (subst (λ (x : Sitter). Settled at ask me1 x me2 (record m2 { state = so.0 })) chair_now so.1)).0
 
           same_chair : m2.seat ≡ m.seat
           same_chair = on.seat ∙ sym step.replied.seat

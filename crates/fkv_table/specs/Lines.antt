@@ -4,9 +4,8 @@ use Rattle.atomic_table.specs.Seated.{TableId}
 use Rattle.atomic_table.specs.Table.{Me}
 use Rattle.fkv_base.specs.Limits.{drain_slots}
 use Rattle.fkv_map.specs.declared.operations.Call.{Call}
-use Rattle.fkv_map.specs.declared.operations.Call.TheVariants as call
-use Rattle.fkv_map.specs.declared.operations.Op.{Op}
 use Rattle.fkv_plane.specs.Asked.{asked_place, reply_to}
+use Rattle.fkv_session.specs.Alike.{StandAlike}
 use Rattle.fkv_session.specs.Sessions.{SessionState, Sitter, session_ask, session_next}
 use Rattle.fkv_straight.specs.Standing.{begins, replayed}
 use Rattle.law_world.specs.Below.fkv_world.Runs.{World}
@@ -83,10 +82,10 @@ module _ {K : Type 0} (at : K → World) where
     pub step : HasReplied now.key now.me (sitter now)
     pub replayed : stands now ≡ replayed now.machine.seat (begins start.machine.seat (stands start) call) now.replies
 
-  -- A session was ready for the call of this operation, which has gone straight as far as the line has come. The machine stands as it stood then.
-  pub record IsBegun (key : K) (table : TableId) (m : Sitter) (op : Op) (now : LineModel K) : Type 0 where
+  -- A session was ready for this call, which has gone straight as far as the line has come. The machine stands as it stood then, and would begin the call alike.
+  pub record IsBegun (key : K) (table : TableId) (m : Sitter) (call : Call) (now : LineModel K) : Type 0 where
     pub me : Me Slot (Knows K)
     pub seat : TableId
     pub ready : IsReady at key table seat me m now.desk
-    pub led : HasLed (line_of key table me m now.desk []) (call.Op op) now
-    pub begins : begins m.seat (stands (line_of key table me m now.desk [])) (call.Op op) ≡ begins m.seat m.state (call.Op op)
+    pub led : HasLed (line_of key table me m now.desk []) call now
+    pub begins : StandAlike (begins m.seat m.state call) (begins m.seat (stands (line_of key table me m now.desk [])) call)

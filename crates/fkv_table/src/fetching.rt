@@ -27,7 +27,7 @@ fn glance<D: Device>(table: &Table<D>, place: usize) -> u64
 
 impl Session {
     /// Loads the cache lines of the key's bucket, for a call of the key that soon follows. It changes nothing. Before the
-    /// session's first operation, and behind a call that its machine has made, the place isn't known, and nothing is loaded.
+    /// session's first operation, behind a refresh, and behind a call that its machine has made, the place isn't known, and nothing is loaded.
     #[inline(always)]
     pub fn fetch_bucket<D: Device>(&self, table: &Table<D>, key: Key) {
         let Some(going) = self.machine.goes_by() else {

@@ -191,21 +191,22 @@ fn run_by_machine<D: Device>(
     (pass, told)
 }
 
-/// Goes on by the machine with an operation that went straight as far as the line has come.
+/// Goes on by the machine with a call that went straight as far as the line has come.
 #[inline(never)]
 fn go_on<D: Device>(
     words: &Words<D>,
     line: SeatLine<'_, D>,
     machine: &mut StraightSession,
-    op: Op,
+    call: Call,
 ) -> (Pass<D>, Told)
-    requires begun { said.IsBegun (said.opening_of D.seen) words.now.key words.now.table_id machine.old op line }
+    requires begun { said.IsBegun (said.opening_of D.seen) words.now.key words.now.table_id machine.old call line }
     ensures ready { said.IsReady (said.opening_of D.seen) words.now.key words.now.table_id result.0.seat.table_id result.0.seat.me machine.new line.entry.desk }
     ensures number { machine.new.seat.number ≡ machine.old.seat.number }
-    ensures called { (seen : List said.Happening) → said.HasCalled machine.old.seat.number (call.Op op) seen line.entry.me.0.seen → said.HasCalled machine.old.seat.number (call.Op op) seen result.0.seat.me.0.seen }
+    ensures called { (seen : List said.Happening) → said.HasCalled machine.old.seat.number call seen line.entry.me.0.seen → said.HasCalled machine.old.seat.number call seen result.0.seat.me.0.seen }
     ensures told { said.IsToldLast (said.led (said.plane (said.opening_of D.seen)) (said.opening_of D.seen words.now.key) result.0.seat.me.0.seen) machine.new.seat.number (said.telling result.1 machine.new.state.finished) }
 {
-    let ask = machine.catch_up(&line, op);
+    law_of_standing();
+    let ask = machine.catch_up(&line, call);
     let mut seat = line.into_seat();
     if let Ask::Done(told) = ask {
         return (Pass { seat }, told);
@@ -215,68 +216,8 @@ fn go_on<D: Device>(
     (Pass { seat }, told)
 }
 
-/// Runs an operation straight. Where it meets anything unusual the machine goes on, and where it may not go straight the machine runs it.
+/// Runs a call straight. Where it meets anything unusual the machine goes on, and where it may not go straight the machine runs it.
 #[inline(always)]
-fn run_told<D: Device>(
-    words: &Words<D>,
-    pass: Pass<D>,
-    machine: &mut StraightSession,
-    desk: usize,
-    replies: &mut Room,
-    op: Op,
-) -> (Pass<D>, Told)
-    requires ready { said.IsReady (said.opening_of D.seen) words.now.key words.now.table_id pass.seat.table_id pass.seat.me machine.old desk }
-    ensures ready { said.IsReady (said.opening_of D.seen) words.now.key words.now.table_id result.0.seat.table_id result.0.seat.me machine.new desk }
-    ensures number { machine.new.seat.number ≡ machine.old.seat.number }
-    ensures called { said.HasCalled machine.old.seat.number (call.Op op) pass.seat.me.0.seen result.0.seat.me.0.seen }
-    ensures told { said.IsToldLast (said.led (said.plane (said.opening_of D.seen)) (said.opening_of D.seen words.now.key) result.0.seat.me.0.seen) machine.new.seat.number (said.telling result.1 machine.new.state.finished) }
-{
-    let Pass { seat } = pass;
-    let mut line = SeatLine::new(words, seat, machine, desk, replies);
-    let went = machine.go(&mut line, op);
-    match went {
-        Way::Ended(told) => {
-            let seat = line.into_seat();
-            (Pass { seat }, told)
-        }
-        Way::Stopped => go_on(words, line, machine, op),
-        Way::Stayed => {
-            let seat = line.into_seat();
-            run_by_machine(words, Pass { seat }, machine, desk, &Call::Op(op))
-        }
-    }
-}
-
-/// Refreshes straight where no request waits, and else by the machine.
-fn run_refresh<D: Device>(
-    words: &Words<D>,
-    pass: Pass<D>,
-    machine: &mut StraightSession,
-    desk: usize,
-    replies: &mut Room,
-) -> (Pass<D>, Told)
-    requires ready { said.IsReady (said.opening_of D.seen) words.now.key words.now.table_id pass.seat.table_id pass.seat.me machine.old desk }
-    ensures ready { said.IsReady (said.opening_of D.seen) words.now.key words.now.table_id result.0.seat.table_id result.0.seat.me machine.new desk }
-    ensures number { machine.new.seat.number ≡ machine.old.seat.number }
-    ensures called { said.HasCalled machine.old.seat.number call.Refresh pass.seat.me.0.seen result.0.seat.me.0.seen }
-    ensures told { said.IsToldLast (said.led (said.plane (said.opening_of D.seen)) (said.opening_of D.seen words.now.key) result.0.seat.me.0.seen) machine.new.seat.number (said.telling result.1 machine.new.state.finished) }
-{
-    let Pass { seat } = pass;
-    let mut line = SeatLine::new(words, seat, machine, desk, replies);
-    let went = machine.refresh(&mut line);
-    match went {
-        Some(told) => {
-            let seat = line.into_seat();
-            (Pass { seat }, told)
-        }
-        None => {
-            let seat = line.into_seat();
-            run_by_machine(words, Pass { seat }, machine, desk, &Call::Refresh)
-        }
-    }
-}
-
-/// Runs a call: an operation or a refresh straight where it may go so, and every other call by the machine.
 fn run_call<D: Device>(
     words: &Words<D>,
     pass: Pass<D>,
@@ -291,10 +232,19 @@ fn run_call<D: Device>(
     ensures called { said.HasCalled machine.old.seat.number call pass.seat.me.0.seen result.0.seat.me.0.seen }
     ensures told { said.IsToldLast (said.led (said.plane (said.opening_of D.seen)) (said.opening_of D.seen words.now.key) result.0.seat.me.0.seen) machine.new.seat.number (said.telling result.1 machine.new.state.finished) }
 {
-    match call {
-        Call::Op(op) => run_told(words, pass, machine, desk, replies, op),
-        Call::Refresh => run_refresh(words, pass, machine, desk, replies),
-        _ => run_by_machine(words, pass, machine, desk, &call),
+    let Pass { seat } = pass;
+    let mut line = SeatLine::new(words, seat, machine, desk, replies);
+    let went = machine.run(&mut line, call);
+    match went {
+        Way::Ended(told) => {
+            let seat = line.into_seat();
+            (Pass { seat }, told)
+        }
+        Way::Stopped => go_on(words, line, machine, call),
+        Way::Stayed => {
+            let seat = line.into_seat();
+            run_by_machine(words, Pass { seat }, machine, desk, &call)
+        }
     }
 }
 
@@ -360,13 +310,13 @@ impl Session {
         ensures told { said.IsToldLast (said.led (said.plane (said.opening_of D.seen)) (said.opening_of D.seen table.now.table.shared.key) result.0.seat.me.0.seen) self.new.machine.seat.number (said.telling result.1 self.new.machine.state.finished) }
     {
         let words = &table.table.shared;
-        run_told(
+        run_call(
             words,
             pass,
             &mut self.machine,
             self.desk,
             &mut self.replies,
-            op,
+            Call::Op(op),
         )
     }
 }
