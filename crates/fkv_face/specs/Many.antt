@@ -1,6 +1,7 @@
 -- Calls of many keys.
 use Rattle.std.specs.Prelude.{◌≡◌, ◌≢◌, ◌⊎◌, ◌<◌, ℕ, ℤ, pos, neg_ℤ, List, [], ◌∷◌, length}
 pub use Rattle.std.specs.List.{zip}
+pub use Rattle.std.specs.Prelude.{length}
 use Rattle.fkv_map.specs.declared.operations.Op.{Op}
 use Rattle.fkv_handles.specs.Below.fkv_world.Runs.{World}
 use Rattle.fkv_handles.specs.declared.sessions.Session.{Session}

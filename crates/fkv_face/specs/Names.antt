@@ -1,6 +1,6 @@
 -- Names of refusals by number.
 use Rattle.std.specs.Prelude.{ℕ, List, [], ◌==◌, cond, codes}
-pub use Rattle.std.specs.Prelude.{drop, min, take}
+pub use Rattle.std.specs.Prelude.{drop, length, min, take}
 
 -- The names of the faults by their numbers, and of the three refusals that are the face's own; empty where the number is none's.
 abbrev pub name_told : ℕ → List ℕ

@@ -3,6 +3,7 @@ use Rattle.std.specs.Prelude.{◌-◌, ◌++◌, ℕ, zero, suc, List, length, t
 use Rattle.fkv_disk.specs.Asks.{AskedCall, Reads, Writes, Syncs}
 use Rattle.fkv_posted.specs.declared.outcomes.Told.{Told}
 use Rattle.fkv_posted.specs.declared.outcomes.Told.TheVariants.{Failed, Read, Synced, Written}
+pub use Rattle.fkv_disk.specs.Asks.{asked_call}
 
 -- the first 24, and zeros where there are fewer
 abbrev pub first_bytes : List ℕ → List ℕ

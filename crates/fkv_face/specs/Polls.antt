@@ -12,7 +12,7 @@ use Rattle.fkv_face.specs.declared.told.Numbers.{Numbers}
 use Rattle.fkv_face.specs.Calls.{poll, sleep}
 use Rattle.fkv_face.specs.Numbers.{number_in}
 use Rattle.fkv_face.specs.Told.{HasAnswered, IsToldIn, numbers_of}
-pub use Rattle.std.specs.Prelude.{drop, map}
+pub use Rattle.std.specs.Prelude.{drop, length, map}
 pub use Rattle.fkv_handles.specs.Below.fkv_table.Planes.{opening_of}
 
 abbrev pub request_of : Finished → FinishedRequest

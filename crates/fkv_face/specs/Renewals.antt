@@ -11,6 +11,7 @@ use Rattle.fkv_face.specs.declared.sizes.Sizes.{Sizes}
 use Rattle.fkv_face.specs.Numbers.{fault_told}
 use Rattle.fkv_face.specs.Sizes.{HasSizes, are_sizes, damage_number}
 use Rattle.fkv_face.specs.Stores.{IsPut}
+pub use Rattle.fkv_base.specs.declared.faults.Fault.TheVariants.{BadShape}
 pub use Rattle.std.specs.Prelude.{IfErr, IfOk}
 
 -- 0 leaves the keys as they lie

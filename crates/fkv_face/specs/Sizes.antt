@@ -8,6 +8,7 @@ use Rattle.fkv_base.specs.declared.faults.Fault.TheVariants.{Damaged}
 use Rattle.fkv_base.specs.declared.shapes.Shape.{Shape}
 use Rattle.fkv_face.specs.declared.sizes.Image.{Image}
 use Rattle.fkv_face.specs.declared.sizes.Sizes.{Sizes}
+pub use Rattle.fkv_base.specs.declared.faults.Fault.TheVariants.{BadShape}
 pub use Rattle.fkv_face.specs.Points.{ArePoints}
 pub use Rattle.std.specs.Prelude.{Err, IfOk, OnErr, is_ok}
 

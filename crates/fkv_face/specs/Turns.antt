@@ -16,6 +16,8 @@ use Rattle.fkv_handles.specs.Kept.{IsAskedBy, IsToldBy, IsTurnedBy}
 use Rattle.fkv_face.specs.declared.keepers.Turned.{Turned}
 use Rattle.fkv_face.specs.Numbers.{fault_told}
 use Rattle.fkv_face.specs.Points.{ArePoints}
+pub use Rattle.std.specs.Prelude.{None}
+pub use Rattle.fkv_disk.specs.Asks.{asked_call}
 pub use Rattle.fkv_handles.specs.Handles.{IsToldHonestly, Opening, due_of, watch_of}
 pub use Rattle.fkv_face.specs.Outcomes.{outcome_of}
 pub use Rattle.fkv_handles.specs.Below.fkv_table.Planes.{opening_of}

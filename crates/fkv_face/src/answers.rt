@@ -1,6 +1,6 @@
 //! Refusals as numbers.
 ghost use Rattle.std.specs.Prelude.{◌≡◌};
-ghost use Rattle.fkv_face.specs.Numbers.{fault_told, refusal_told};
+ghost use Rattle.fkv_face.specs.Numbers as says;
 
 use fkv_base::Fault;
 use fkv_handles::Refusal;
@@ -14,7 +14,7 @@ pub(crate) const ROOM_SMALL: i32 = -24;
 
 /// Minus the number of a fault.
 pub(crate) fn refused(fault: Fault) -> i32
-    ensures { result ≡ fault_told fault }
+    ensures { result ≡ says.fault_told fault }
 {
     match fault {
         Fault::BadShape => -1,
@@ -43,7 +43,7 @@ pub(crate) fn refused(fault: Fault) -> i32
 
 /// The number of a refusal.
 pub(crate) fn not_given(why: Refusal) -> i32
-    ensures { result ≡ refusal_told why }
+    ensures { result ≡ says.refusal_told why }
 {
     match why {
         Refusal::Fault(fault) => refused(fault),

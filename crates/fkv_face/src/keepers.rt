@@ -1,6 +1,5 @@
 //! The keeper's calls. What a turn needs of the device is posted.
-ghost use Rattle.std.specs.Prelude.{◌≡◌, None};
-ghost use Rattle.fkv_disk.specs.Asks.{asked_call};
+ghost use Rattle.std.specs.Prelude.{◌≡◌};
 ghost use Rattle.fkv_face.specs.Turns as says;
 
 use crate::answers::refused;
@@ -54,7 +53,7 @@ fn place(turned: &mut Turned, place: u64, length: usize)
 
 /// Tells the call that is posted.
 fn posted(ask: Option<DeviceAsk<'_>>, turned: &mut Turned) -> Code
-    ensures { says.IsPosted (asked_call ask.entry) result.number turned.old turned.new }
+    ensures { says.IsPosted (says.asked_call ask.entry) result.number turned.old turned.new }
 {
     match ask {
         Some(DeviceAsk::Read(at, length)) => {
@@ -160,7 +159,7 @@ pub extern "C" fn fkv_commit(keeper: &mut HeldKeeper, log_only: u32, number: &mu
 /// Ends the handle, and gives its share of the table up. Its block is left to the caller, who frees it.
 #[unsafe(no_mangle)]
 pub extern "C" fn fkv_end_keeper(keeper: &mut HeldKeeper)
-    ensures { says.watch_of keeper.new.value ≡ None }
+    ensures { says.watch_of keeper.new.value ≡ says.None }
 {
     keeper.lent().end();
 }

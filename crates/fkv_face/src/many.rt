@@ -1,5 +1,5 @@
 //! Calls of many keys: the calls one behind the other. What they read of memory is fetched ahead, which changes nothing.
-ghost use Rattle.std.specs.Prelude.{◌≡◌, ◌≤◌, length};
+ghost use Rattle.std.specs.Prelude.{◌≡◌, ◌≤◌};
 ghost use Rattle.fkv_face.specs.Many as says;
 
 use crate::answers::ROOM_SMALL;
@@ -54,7 +54,7 @@ fn fetch_each(session: &Session, keys: &[u64]) {
 /// first call, so behind that the rest of the first keys have their turn again.
 #[inline(always)]
 fn fetch_ahead(session: &mut HeldSession, keys: &[u64], done: usize)
-    requires { done ≤ length keys.now }
+    requires { done ≤ says.length keys.now }
     ensures same { session.new.value ≡ session.old.value }
 {
     let behind = done % AHEAD;
@@ -78,7 +78,7 @@ fn read_one(session: &mut HeldSession, key: u64) -> EachRead
 
 /// Reads each key, in order.
 fn read_each(session: &mut HeldSession, keys: &[u64], told: &mut [EachRead])
-    requires { length keys.now ≤ length told.old }
+    requires { says.length keys.now ≤ says.length told.old }
     ensures { says.AreCalled (says.IsEachRead (says.opening_of ⟦<Posted<'static> as Device>⟧.seen)) session.old.value keys.now told.old told.new session.new.value }
 {
     for i in 0..keys.len() {
@@ -136,8 +136,8 @@ fn update_each(
     numbers: &[u64],
     told: &mut [EachUpdate],
 )
-    requires numbers { length numbers.now ≡ length keys.now }
-    requires room { length keys.now ≤ length told.old }
+    requires numbers { says.length numbers.now ≡ says.length keys.now }
+    requires room { says.length keys.now ≤ says.length told.old }
     ensures { says.AreCalled (says.IsEachUpdate (says.opening_of ⟦<Posted<'static> as Device>⟧.seen) (says.making kind)) session.old.value (says.zip keys.now numbers.now) told.old told.new session.new.value }
 {
     for i in 0..keys.len() {

@@ -1,5 +1,5 @@
 //! Names of refusals by number.
-ghost use Rattle.std.specs.Prelude.{◌≡◌, ◌++◌, length};
+ghost use Rattle.std.specs.Prelude.{◌≡◌, ◌++◌};
 ghost use Rattle.fkv_face.specs.Names as says;
 
 /// The name of the refusal of this number, empty where the number is none's.
@@ -38,8 +38,8 @@ fn name_of(number: u32) -> &'static [u8]
 /// Writes the name of the refusal of this number, as much of it as there is room for, and answers its length: 0 where the number is none's.
 #[unsafe(no_mangle)]
 pub extern "C" fn fkv_fault_name(number: u32, into: &mut [u8]) -> usize
-    ensures length { result ≡ length (says.name_told number) }
-    ensures name { into.new ≡ says.take (length into.old) (says.name_told number) ++ says.drop (length (says.name_told number)) into.old }
+    ensures length { result ≡ says.length (says.name_told number) }
+    ensures name { into.new ≡ says.take (says.length into.old) (says.name_told number) ++ says.drop (says.length (says.name_told number)) into.old }
 {
     let name = name_of(number);
     let count = name.len().min(into.len());

@@ -1,14 +1,13 @@
 //! What came of a call of the device, as C tells it.
 ghost use Rattle.std.specs.Prelude.{◌≡◌};
-ghost use Rattle.fkv_disk.specs.Asks.{asked_call};
-ghost use Rattle.fkv_face.specs.Outcomes.{first_bytes, outcome_of};
+ghost use Rattle.fkv_face.specs.Outcomes as says;
 
 use fkv_disk::DeviceAsk;
 use fkv_posted::{READ_BYTES, Told};
 
 /// The first 24 of the bytes, and zeros where there are fewer.
 fn first_bytes(bytes: &[u8]) -> [u8; READ_BYTES]
-    ensures { result ≡ first_bytes bytes.now }
+    ensures { result ≡ says.first_bytes bytes.now }
 {
     let mut read = [0; READ_BYTES];
     let count = bytes.len().min(READ_BYTES);
@@ -19,7 +18,7 @@ fn first_bytes(bytes: &[u8]) -> [u8; READ_BYTES]
 
 /// How the call that is posted has gone: it has failed where that isn't 0, and a read gave these bytes.
 pub(crate) fn outcome_of(ask: Option<DeviceAsk<'_>>, failed: u32, bytes: &[u8]) -> Told
-    ensures { result ≡ outcome_of (asked_call ask.entry) failed bytes.now }
+    ensures { result ≡ says.outcome_of (says.asked_call ask.entry) failed bytes.now }
 {
     if failed != 0 {
         return Told::Failed;

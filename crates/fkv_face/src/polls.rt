@@ -1,5 +1,5 @@
 //! Polls, and the end of a session's handle.
-ghost use Rattle.std.specs.Prelude.{◌≡◌, ◌≤◌, ◌++◌, length};
+ghost use Rattle.std.specs.Prelude.{◌≡◌, ◌≤◌, ◌++◌};
 ghost use Rattle.fkv_face.specs.Polls as says;
 
 use crate::answers::ROOM_SMALL;
@@ -46,8 +46,8 @@ fn finished_request(its: Finished) -> FinishedRequest
 
 /// Copies the list to the front of the room.
 fn fill(list: &[Finished], into: &mut [FinishedRequest])
-    requires { length list.now ≤ length into.old }
-    ensures { into.new ≡ says.map says.request_of list.now ++ says.drop (length list.now) into.old }
+    requires { says.length list.now ≤ says.length into.old }
+    ensures { into.new ≡ says.map says.request_of list.now ++ says.drop (says.length list.now) into.old }
 {
     for i in 0..list.len() {
         into[i] = finished_request(list[i]);

@@ -1,6 +1,5 @@
 //! A store is renewed, from bytes to bytes.
 ghost use Rattle.std.specs.Prelude.{◌≡◌};
-ghost use Rattle.fkv_base.specs.declared.faults.Fault.TheVariants.{BadShape};
 ghost use Rattle.fkv_face.specs.Renewals as says;
 
 use crate::answers::refused;
@@ -67,7 +66,7 @@ fn all_zero(sizes: &Sizes) -> bool
 /// The shape that is wanted: none where each size is 0. `BadShape`.
 fn wanted_of(sizes: &Sizes) -> Result<Option<Shape>, Fault>
     ensures wanted { says.IfOk result (says.IsWanted sizes.now) }
-    ensures refused { says.IfErr result (λ fault. (fault ≡ BadShape) × says.AreNone sizes.now) }
+    ensures refused { says.IfErr result (λ fault. (fault ≡ says.BadShape) × says.AreNone sizes.now) }
 {
     if all_zero(sizes) {
         return Ok(None);

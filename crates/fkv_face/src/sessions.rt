@@ -1,7 +1,6 @@
 //! A session's calls.
 ghost use Rattle.std.specs.Prelude.{◌≡◌};
 ghost use Rattle.fkv_face.specs.Calls as says;
-ghost use Rattle.fkv_map.specs.declared.operations.Call.TheVariants as call;
 
 use crate::held_session::HeldSession;
 use crate::told::{Numbers, told_by};
@@ -34,7 +33,7 @@ pub(crate) fn run(session: &mut HeldSession, call: Call) -> Numbers
 /// An operation by what it was told: it is called so often that no `Answer` is made for it.
 #[inline(always)]
 pub(crate) fn run_op(session: &mut HeldSession, op: Op) -> Numbers
-    ensures { says.IsToldIn (says.opening_of ⟦<Posted<'static> as Device>⟧.seen) session.old.value (call.Op op) result session.new.value }
+    ensures { says.IsToldIn (says.opening_of ⟦<Posted<'static> as Device>⟧.seen) session.old.value (says.Operation op) result session.new.value }
 {
     told_by(session.lent().op(op))
 }

@@ -1,7 +1,6 @@
 //! Sizes of a store, and what its image has told.
 ghost use Rattle.std.specs.Prelude.{◌≡◌};
 ghost use Rattle.fkv_base.specs.Limits.{is_shape};
-ghost use Rattle.fkv_base.specs.declared.faults.Fault.TheVariants.{BadShape};
 ghost use Rattle.fkv_face.specs.Sizes as says;
 
 use crate::points::tell_points;
@@ -57,7 +56,7 @@ impl Image {
 pub(crate) fn shape_of(sizes: &Sizes) -> Result<Shape, Fault>
     ensures sizes { says.IfOk result (says.HasSizes sizes.now) }
     ensures tested { says.is_ok result ≡ says.are_sizes sizes.now }
-    ensures refused { says.OnErr result (result ≡ says.Err BadShape) }
+    ensures refused { says.OnErr result (result ≡ says.Err says.BadShape) }
 {
     let Sizes {
         bucket_bits,

@@ -1,5 +1,5 @@
 //! Answers as numbers.
-ghost use Rattle.std.specs.Prelude.{◌≡◌, List};
+ghost use Rattle.std.specs.Prelude.{◌≡◌};
 ghost use Rattle.fkv_face.specs.Told as says;
 
 use crate::answers::refused;
@@ -100,7 +100,7 @@ pub(crate) fn told_of(answer: Answer) -> Numbers
 /// The numbers of what an operation was told: those of the answer that says so, without the list that an `Answer` has room for.
 #[inline(always)]
 pub(crate) fn told_by(told: Told) -> Numbers
-    ensures { (finished : List says.Finished) → result ≡ says.numbers_of (says.answer_saying told finished) }
+    ensures { (finished : says.List says.Finished) → result ≡ says.numbers_of (says.answer_saying told finished) }
 {
     match told {
         Told::Done(serial, reply) => tells(DONE, serial.0, number_in(reply), 0),

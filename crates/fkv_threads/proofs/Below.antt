@@ -1,2 +1,2 @@
 -- What crates above name of the crates below.
-pub mod fkv_table
+pub use Rattle.law_threads.proofs.Below.fkv_table

@@ -4,11 +4,11 @@ use Rattle.atomic_table.specs.Seated.{TableId}
 use Rattle.atomic_table.specs.Table.{Me}
 use Rattle.fkv_keeper.specs.Keeping.{KeeperModel}
 use Rattle.law_threads.specs.Below.fkv_world.Runs.{World}
-use Rattle.fkv_table.specs.Desks.{Slot, Knows}
-use Rattle.fkv_table.specs.Keeps.{IsKeeperAtWork, IsKeeperReady}
-use Rattle.fkv_table.specs.Turns.{IsTurnAsked}
-use Rattle.fkv_table.specs.declared.turns.TurnAsk.{TurnAsk}
-use Rattle.fkv_table.specs.declared.turns.TurnAsk.TheVariants.{Device, Over}
+use Rattle.law_threads.specs.Below.fkv_table.Desks.{Slot, Knows}
+use Rattle.law_threads.specs.Below.fkv_table.Keeps.{IsKeeperAtWork, IsKeeperReady}
+use Rattle.law_threads.specs.Below.fkv_table.Turns.{IsTurnAsked}
+use Rattle.law_threads.specs.Below.fkv_table.TurnAsk.{TurnAsk}
+use Rattle.law_threads.specs.Below.fkv_table.TurnAsk.TheVariants.{Device, Over}
 use Rattle.fkv_threads.specs.Pieces.{IfOver}
 use Rattle.law_threads.specs.Turns.{OfEachTurn, TellsItsFinish}
 

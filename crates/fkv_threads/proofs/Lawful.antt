@@ -13,10 +13,10 @@ use Rattle.fkv_session.specs.Sessions.{Sitter}
 use Rattle.law_threads.specs.Below.fkv_world.Runs.{World}
 use Rattle.law_threads.specs.Below.fkv_world.World.{Event, Now}
 use Rattle.fkv_seats.specs.Rule.{AreAllowed, led}
-use Rattle.fkv_table.specs.Calls.{HasCalled, IsAnsweredLast, IsReady, IsToldLast}
-use Rattle.fkv_table.specs.Desks.{Knows, Slot}
-use Rattle.fkv_table.specs.declared.happenings.Happening.{Happening}
-use Rattle.fkv_table.specs.Planes.{plane}
+use Rattle.law_threads.specs.Below.fkv_table.Calls.{HasCalled, IsAnsweredLast, IsReady, IsToldLast}
+use Rattle.law_threads.specs.Below.fkv_table.Desks.{Knows, Slot}
+use Rattle.law_threads.specs.Below.fkv_table.Happening.{Happening}
+use Rattle.law_threads.specs.Below.fkv_table.Planes.{plane}
 use Rattle.law_threads.specs.Calls.{CallRun, HasRun, OfEachRun}
 use Rattle.law_threads.specs.Durable.{ItsDurableNeverFalls, RecoversItsDurable, TellsItsDurable}
 use Rattle.law_threads.specs.Laws.{IsThreadLaw, IsWithin}

@@ -9,10 +9,10 @@ use Rattle.law_threads.specs.Below.fkv_world.Opened.{IsOpenedWorld}
 use Rattle.law_threads.specs.Below.fkv_world.Runs.{World}
 use Rattle.law_threads.specs.Below.law_opening.Lives.Laws.{GuardOpens}
 use Rattle.fkv_seats.specs.Rule.{led}
-use Rattle.fkv_table.specs.declared.happenings.Happening.{Happening}
-use Rattle.fkv_table.specs.Keeps.{IsAfterSeen}
-use Rattle.fkv_table.specs.Openings.{IsGuardedOpening}
-use Rattle.fkv_table.specs.Planes.{opening_of}
+use Rattle.law_threads.specs.Below.fkv_table.Happening.{Happening}
+use Rattle.law_threads.specs.Below.fkv_table.Keeps.{IsAfterSeen}
+use Rattle.law_threads.specs.Below.fkv_table.Openings.{IsGuardedOpening}
+use Rattle.law_threads.specs.Below.fkv_table.Planes.{opening_of}
 
 guard_so : (o : Opened) (w : World) → GuardOpens → IsOpeningWorld o w.now → IsOpenedWorld w → IsGuardedOpening w
 guard_so o w opens world opened = record {

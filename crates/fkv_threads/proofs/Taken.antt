@@ -4,8 +4,8 @@ use Rattle.std.specs.Prelude.{Option, Some, option_to_list, slice_get}
 use Rattle.fkv_disk.specs.Calls.{Call}
 use Rattle.fkv_disk.specs.Device.{IsAfter}
 use Rattle.law_threads.specs.Below.fkv_world.Runs.{World}
-use Rattle.fkv_table.specs.declared.happenings.Happening.{Happening}
-use Rattle.fkv_table.specs.Keeps.{IsAfterSeen, LeavesDevice}
+use Rattle.law_threads.specs.Below.fkv_table.Happening.{Happening}
+use Rattle.law_threads.specs.Below.fkv_table.Keeps.{IsAfterSeen, LeavesDevice}
 
 -- what stands last in a list, and before it
 pub last_there : {X : Type 0} (xs : List X) (x : X) → slice_get (xs ++ x ∷ []) (length xs) ≡ Some x

@@ -6,9 +6,9 @@ use Rattle.fkv_keeper.specs.Keeping.{KeeperModel}
 use Rattle.fkv_opening.specs.declared.opened_store.Opened.{Opened}
 use Rattle.fkv_session.specs.Sessions.{Sitter}
 use Rattle.law_threads.specs.Below.fkv_world.Runs.{World}
-use Rattle.fkv_table.specs.Calls.{IsReady}
-use Rattle.fkv_table.specs.Desks.{Slot, Knows}
-use Rattle.fkv_table.specs.Keeps.{IsKeeperReady}
+use Rattle.law_threads.specs.Below.fkv_table.Calls.{IsReady}
+use Rattle.law_threads.specs.Below.fkv_table.Desks.{Slot, Knows}
+use Rattle.law_threads.specs.Below.fkv_table.Keeps.{IsKeeperReady}
 use Rattle.law_threads.specs.Calls.{IsOver}
 
 module _ {K : Type 0} (at : K → World) where

@@ -7,9 +7,9 @@ use Rattle.fkv_map.specs.declared.operations.Op.{Op}
 use Rattle.fkv_session.specs.Sessions.{Sitter}
 use Rattle.fkv_session.specs.declared.answers.Finished.{Finished}
 use Rattle.fkv_session.specs.declared.answers.Told.{Told}
-use Rattle.fkv_table.specs.Calls.{IsReady}
-use Rattle.fkv_table.specs.Desks.{Slot, Knows}
-use Rattle.fkv_table.specs.declared.happenings.Happening.{Happening}
+use Rattle.law_threads.specs.Below.fkv_table.Calls.{IsReady}
+use Rattle.law_threads.specs.Below.fkv_table.Desks.{Slot, Knows}
+use Rattle.law_threads.specs.Below.fkv_table.Happening.{Happening}
 use Rattle.law_threads.specs.Below.fkv_world.Runs.{World}
 use Rattle.law_threads.specs.Durable.{ItsDurableNeverFalls, RecoversItsDurable, TellsItsDurable}
 use Rattle.law_threads.specs.Laws.{IsWithin}

@@ -8,7 +8,7 @@ use Rattle.fkv_session.specs.declared.answers.Finished.{Finished}
 use Rattle.fkv_session.specs.declared.answers.Told.{Told}
 use Rattle.law_threads.specs.Below.fkv_world.Runs.{World}
 use Rattle.law_threads.specs.Below.fkv_world.World.{Event, Now}
-use Rattle.fkv_table.specs.declared.happenings.Happening.{Happening}
+use Rattle.law_threads.specs.Below.fkv_table.Happening.{Happening}
 use Rattle.law_threads.specs.Calls.{CallRun, HasRun, IsOver, events_of}
 use Rattle.law_threads.specs.Polls.{AnswersInTime, FinishedIsSeen}
 use Rattle.law_threads.specs.Threads.{DoneIsSeen, ReadsWhatWasSeen, StandsInOneHistory}

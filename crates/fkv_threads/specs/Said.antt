@@ -5,13 +5,13 @@ pub use Rattle.fkv_keeper.specs.Keeping.{keeper_ask}
 pub use Rattle.fkv_keeper.specs.Running.{IsBeginTold, IsTurnTold}
 pub use Rattle.fkv_map.specs.declared.operations.Call.TheVariants.{Op}
 pub use Rattle.fkv_opening.specs.Opened.{IsStoreOf}
-pub use Rattle.fkv_table.specs.Calls.{IsReady}
-pub use Rattle.fkv_table.specs.KeeperCalls.{HasKept}
-pub use Rattle.fkv_table.specs.Keeps.{IsAfterSeen, IsKeeperReady, IsLeftWithin, LeavesDevice}
-pub use Rattle.fkv_table.specs.Meets.{AreTwoReady, HaveMet, StaysReady}
-pub use Rattle.fkv_table.specs.Planes.{opening_of}
-pub use Rattle.fkv_table.specs.Starts.{EachAt}
-pub use Rattle.fkv_table.specs.declared.happenings.Happening.TheVariants.{Commits, Turns}
+pub use Rattle.law_threads.specs.Below.fkv_table.Calls.{IsReady}
+pub use Rattle.law_threads.specs.Below.fkv_table.KeeperCalls.{HasKept}
+pub use Rattle.law_threads.specs.Below.fkv_table.Keeps.{IsAfterSeen, IsKeeperReady, IsLeftWithin, LeavesDevice}
+pub use Rattle.law_threads.specs.Below.fkv_table.Meets.{AreTwoReady, HaveMet, StaysReady}
+pub use Rattle.law_threads.specs.Below.fkv_table.Planes.{opening_of}
+pub use Rattle.law_threads.specs.Below.fkv_table.Starts.{EachAt}
+pub use Rattle.law_threads.specs.Below.fkv_table.Happening.TheVariants.{Commits, Turns}
 pub use Rattle.fkv_threads.specs.Begun.{HasBegun, IsOverStore, KeeperHasBegun}
 pub use Rattle.fkv_threads.specs.Many.{HaveRun}
 pub use Rattle.fkv_threads.specs.Runs.{IsLawful, IsRun, OfThisRun, OfToldRun, run_of, told_run}

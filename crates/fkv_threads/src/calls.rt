@@ -5,8 +5,7 @@ ghost use Rattle.fkv_threads.specs.Said as said;
 use fkv_disk::Device;
 use fkv_map::{Call, Op};
 use fkv_session::{Answer, Told};
-use fkv_table::{Pass, Session, Table, World};
-use law_threads::law_threads;
+use law_threads::{Pass, Session, Table, World, law_threads};
 use std::snapshot::Snapshot;
 
 /// Runs a call of a session to its end, in any thread, and waits for no other one. Pass and session belong together, between two calls. It has

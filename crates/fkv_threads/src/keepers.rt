@@ -4,8 +4,7 @@ ghost use Rattle.fkv_threads.specs.Said as said;
 use fkv_base::{CommitKind, Fault, Version};
 use fkv_disk::Device;
 use fkv_keeper::Turn;
-use fkv_table::{Keeper, KeeperPass, Table, World};
-use law_threads::law_threads;
+use law_threads::{Keeper, KeeperPass, Table, World, law_threads};
 use std::snapshot::Snapshot;
 
 /// Makes a turn of the keeper to its end, with each call of the device that it needs: it flushes, serves and carries a commit on. It ends early with

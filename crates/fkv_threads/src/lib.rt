@@ -18,4 +18,4 @@ pub use passes::{close, join};
 pub use pieces::{asks_device, device_ask, device_step, drive, start_turn};
 
 // What crates above name of the table.
-pub use fkv_table::{Happening, Keeper, KeeperPass, OpenTable, Pass, Session, Table, TurnAsk};
+pub use law_threads::{Happening, Keeper, KeeperPass, OpenTable, Pass, Session, Table, TurnAsk};

@@ -6,7 +6,7 @@ use crate::calls::run_op;
 use fkv_disk::Device;
 use fkv_map::Op;
 use fkv_session::Told;
-use fkv_table::{Pass, Session, Table};
+use law_threads::{Pass, Session, Table};
 
 /// The cache lines of so many operations are loaded before the first of them runs, so that they wait for memory together.
 const TOGETHER: usize = 16;

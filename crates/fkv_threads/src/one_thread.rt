@@ -12,7 +12,7 @@ use fkv_disk::{Device, MemDisk};
 use fkv_map::{Call, Op, Reply};
 use fkv_opening::Opened;
 use fkv_session::{Answer, Told};
-use fkv_table::{Keeper, KeeperPass, OpenTable, Pass, Session, Table, TurnAsk};
+use law_threads::{Keeper, KeeperPass, OpenTable, Pass, Session, Table, TurnAsk};
 use std::alloc::Global;
 use std::test::Fail;
 

@@ -5,8 +5,7 @@ ghost use Rattle.fkv_threads.specs.Said as said;
 use fkv_base::Fault;
 use fkv_disk::Device;
 use fkv_opening::Opened;
-use fkv_table::{OpenTable, Table};
-use law_threads::{law_device_opens, law_guard_opens};
+use law_threads::{OpenTable, Table, law_device_opens, law_guard_opens};
 use std::alloc::Global;
 
 /// The table of a store that the device holds, and was opened from it. Each session is ready for its first call with its pass, and so is the keeper.

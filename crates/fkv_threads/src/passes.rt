@@ -2,7 +2,7 @@
 ghost use Rattle.fkv_threads.specs.Said as said;
 
 use fkv_disk::Device;
-use fkv_table::{Pass, Table};
+use law_threads::{Pass, Table};
 
 /// Two sessions' passes meet, as where a thread has told another one of its calls. Each session then has seen what either had seen, so its next calls
 /// stand behind those. Each is ready as before. It waits for nobody, and has no error.
@@ -12,7 +12,7 @@ pub fn join<D: Device>(table: &Table<D>, first: Pass<D>, second: Pass<D>) -> (Pa
     ensures first { said.StaysReady (said.opening_of D.seen) table.now.table.shared.key table.now.table.shared.table_id first.seat.table_id result.0.seat.table_id first.seat.me result.0.seat.me }
     ensures second { said.StaysReady (said.opening_of D.seen) table.now.table.shared.key table.now.table.shared.table_id second.seat.table_id result.1.seat.table_id second.seat.me result.1.seat.me }
 {
-    fkv_table::join(table, first, second)
+    law_threads::join(table, first, second)
 }
 
 /// Frees a table that no thread shares any more. The device stays with the keeper's thread; what no commit has put on it is lost.

@@ -4,8 +4,7 @@ ghost use Rattle.fkv_threads.specs.Pieces as piece;
 ghost use Rattle.fkv_threads.specs.Said as said;
 
 use fkv_disk::{Device, DeviceAsk};
-use fkv_table::{Keeper, KeeperPass, Table, TurnAsk, World};
-use law_threads::law_threads;
+use law_threads::{Keeper, KeeperPass, Table, TurnAsk, World, law_threads};
 use std::snapshot::Snapshot;
 
 /// Begins a turn. `drive` and `device_step` carry it on, by turns, until `drive` tells that it is over. The device isn't called.

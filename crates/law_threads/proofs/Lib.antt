@@ -1,3 +1,4 @@
+pub mod Below
 mod Course
 mod Histories
 mod Numbers

@@ -9,6 +9,11 @@ use law_order::{
     law_durable_never_falls, law_order, law_prefix, law_world_requests, law_world_sessions,
 };
 
+// What crates above name of the table, beside what `specs/Below.antt` shows.
+pub use fkv_table::{
+    Happening, Keeper, KeeperPass, OpenTable, Pass, Session, Table, TurnAsk, World, join,
+};
+
 /// Sessions make their calls at one table, each in any thread. `Session::run` says how a call stands in the list of events. In all lives, with commits too, more
 /// is known by the order law (`in_lives`). Its premise is that fewer than 2^64 - 1 calls begin: the table's rule keeps their numbers below 2^64. What is said of
 /// images also asks that the life began with one that reaches far. A done update has taken effect by what the pass has seen, with its serial and reply, and so has

@@ -1,6 +1,6 @@
 -- The call is one that the session has run, so the thread law speaks of it.
 use Rattle.std.proofs.Common.{refl}
-use Rattle.fkv_table.specs.Planes.{opening_of}
+use Rattle.law_threads.specs.Below.fkv_table.Planes.{opening_of}
 use Rattle.law_threads.specs.Durable.{ItsDurableNeverFalls, RecoversItsDurable, TellsItsDurable}
 use Rattle.law_threads.specs.Laws.{IsWithin}
 use Rattle.fkv_threads.proofs.Lawful.{answered_to, lawful, of_this}

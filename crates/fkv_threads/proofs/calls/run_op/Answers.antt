@@ -1,6 +1,6 @@
 -- The operation is one that the session has run, by the answer that says what was told, so the thread law speaks of it.
 use Rattle.fkv_map.specs.declared.operations.Call.TheVariants.{Op}
-use Rattle.fkv_table.specs.Planes.{opening_of}
+use Rattle.law_threads.specs.Below.fkv_table.Planes.{opening_of}
 use Rattle.fkv_threads.proofs.Lawful.{all_told, ran_told}
 use Rattle.fkv_threads.proofs.calls.run_op.Goals as goal
 

@@ -1,6 +1,6 @@
 -- What images hold that a crash may leave in the turn, and what the turn tells as finished, by the thread law.
 use Rattle.std.proofs.Common.{refl}
-use Rattle.fkv_table.specs.Planes.{opening_of}
+use Rattle.law_threads.specs.Below.fkv_table.Planes.{opening_of}
 use Rattle.fkv_threads.proofs.keepers.turn.Goals as goal
 
 pub returns-clause-recovered : goal.returns-clause-recovered

@@ -1,7 +1,7 @@
 -- Each call stands behind those before it.
 use Rattle.std.proofs.Common.{◌<◌, ◌∙◌, ℕ, sym, refl, subst}
 use Rattle.std.proofs.lemmas.List.{length-set, take_more_set}
-use Rattle.fkv_table.specs.Planes.{opening_of}
+use Rattle.law_threads.specs.Below.fkv_table.Planes.{opening_of}
 use Rattle.fkv_threads.proofs.OneMore.{all_run, has_run, one_further}
 use Rattle.fkv_threads.proofs.many.run_ops.Goals as goal
 

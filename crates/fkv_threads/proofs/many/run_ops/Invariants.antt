@@ -1,7 +1,7 @@
 -- The operations before this place have run, and the session is ready.
 use Rattle.std.proofs.Common.{◌≡◌, length, take}
-use Rattle.fkv_table.specs.Calls.{IsReady}
-use Rattle.fkv_table.specs.Planes.{opening_of}
+use Rattle.law_threads.specs.Below.fkv_table.Calls.{IsReady}
+use Rattle.law_threads.specs.Below.fkv_table.Planes.{opening_of}
 use Rattle.fkv_threads.specs.Many.{HaveRun}
 use Rattle.fkv_threads.proofs.many.run_ops.Given as goal
 

@@ -1,5 +1,5 @@
 -- Neither the turn's start nor its steps of words make a call of the device, so this is behind the list as before.
-use Rattle.fkv_table.specs.Planes.{opening_of}
+use Rattle.law_threads.specs.Below.fkv_table.Planes.{opening_of}
 use Rattle.fkv_threads.proofs.Taken.{after_none}
 use Rattle.fkv_threads.proofs.one_thread.begin_in_pieces.Goals as goal
 

@@ -1,5 +1,5 @@
 -- The commit's beginning makes no call of the device, so this is behind the list as before.
-use Rattle.fkv_table.specs.Planes.{opening_of}
+use Rattle.law_threads.specs.Below.fkv_table.Planes.{opening_of}
 use Rattle.fkv_threads.proofs.Taken.{after_none}
 use Rattle.fkv_threads.proofs.one_thread.commit_and_turn.Goals as goal
 

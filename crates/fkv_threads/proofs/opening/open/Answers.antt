@@ -1,5 +1,5 @@
 -- Each is ready as soon as the guard begins with the table's world.
-use Rattle.fkv_table.specs.Planes.{opening_of}
+use Rattle.law_threads.specs.Below.fkv_table.Planes.{opening_of}
 use Rattle.fkv_threads.proofs.Opens.{after_nothing, guarded_ok, three_ok}
 use Rattle.fkv_threads.proofs.opening.open.Goals as goal
 

@@ -1,5 +1,5 @@
 -- What images hold that a crash may leave in the call, by the thread law.
-use Rattle.fkv_table.specs.Planes.{opening_of}
+use Rattle.law_threads.specs.Below.fkv_table.Planes.{opening_of}
 use Rattle.fkv_threads.proofs.pieces.device_step.Goals as goal
 
 pub returns-clause-recovered : goal.returns-clause-recovered

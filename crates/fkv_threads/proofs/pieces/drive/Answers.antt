@@ -1,5 +1,5 @@
 -- Where the turn is over: the keeper is ready, and what is told as finished is so by the thread law.
-use Rattle.fkv_table.specs.Planes.{opening_of}
+use Rattle.law_threads.specs.Below.fkv_table.Planes.{opening_of}
 use Rattle.fkv_threads.proofs.Ended.{ready_over, finished_over}
 use Rattle.fkv_threads.proofs.pieces.drive.Goals as goal
 

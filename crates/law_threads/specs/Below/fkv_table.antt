@@ -3,6 +3,8 @@ pub use Rattle.fkv_table.specs.Calls
 pub use Rattle.fkv_table.specs.Desks
 pub use Rattle.fkv_table.specs.KeeperCalls
 pub use Rattle.fkv_table.specs.Keeps
+pub use Rattle.fkv_table.specs.Meets
+pub use Rattle.fkv_table.specs.Openings
 pub use Rattle.fkv_table.specs.Planes
 pub use Rattle.fkv_table.specs.Starts
 pub use Rattle.fkv_table.specs.Turns
