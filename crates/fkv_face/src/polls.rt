@@ -5,12 +5,12 @@ ghost use Rattle.fkv_face.specs.Polls as says;
 use crate::answers::ROOM_SMALL;
 use crate::held_session::HeldSession;
 use crate::sessions::run;
-use crate::told::{number_in, told_of};
+use crate::told::{number_in, told_by};
 use fkv_base::MAX_PENDING;
 use fkv_disk::Device;
 use fkv_map::Call;
 use fkv_posted::Posted;
-use fkv_session::{Answer, Finished};
+use fkv_session::{Finished, Told};
 
 /// A request that a poll has finished: 0 an update, by its serial, with the value that it left; 1 a read that has found a value, by its ticket;
 /// 2 one that has found none.
@@ -68,14 +68,14 @@ pub extern "C" fn fkv_poll(
     if into.len() < MAX_PENDING {
         return ROOM_SMALL;
     }
-    match session.lent().call(Call::Poll) {
-        Answer::Polled(list, left) => {
-            fill(&list, into);
-            *count = list.len() as u64;
-            left.min(MAX_PENDING) as i32
-        }
-        other => told_of(other).result,
-    }
+    let its = session.lent().tell(Call::Poll);
+    let Told::Polled(left) = its else {
+        return told_by(its).result;
+    };
+    let list = session.lent().finished();
+    fill(list, into);
+    *count = list.len() as u64;
+    left.min(MAX_PENDING) as i32
 }
 
 /// Ends the handle: the session sleeps first, if it is awake, and gives its share of the table up. `PendingLeft`: then nothing has ended. The

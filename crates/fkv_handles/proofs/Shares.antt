@@ -51,7 +51,8 @@ pub first_of : (at : Opening → World) (key : Opening) (table : TableId) (xs : 
 first_of at key table xs each i its there =
     let got = got_of_map (sitting_at key) xs i its there in
     let begun = each i got.0 got.1 in
-    got.2 ∙ (λ j. Some (record { number = begun.numbered j; key = key; seen = begun.nothing_seen j }))
+    let finished = (let x = got.0.0 in x.machine.state.finished) in
+    (finished, got.2 ∙ (λ j. Some (record { number = begun.numbered j; key = key; seen = begun.nothing_seen j; finished = finished })))
 
 -- A device is behind what was seen there too.
 pub after_at : {K : Type 0} (at : K → World) (key key' : K) (seen : List Happening) (shown : List ℕ) (may_leave : List ℕ → Type 0) → key' ≡ key → IsAfterSeen at key seen shown may_leave → IsAfterSeen at key' seen shown may_leave

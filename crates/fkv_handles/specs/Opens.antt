@@ -27,11 +27,11 @@ pub record IsRecovered (opened : Opened) (told : Recovered) : Type 0 where
 
 -- a session of a table, between two calls
 abbrev pub sitting_at : {K : Type 0} → K → (TableSession × Pass Posted) → Option (Sitting K)
-sitting_at key x = Some (record { number = x.0.machine.seat.number; key = key; seen = x.1.seat.me.0.seen })
+sitting_at key x = Some (record { number = x.0.machine.seat.number; key = key; seen = x.1.seat.me.0.seen; finished = x.0.machine.state.finished })
 
 -- at each place a session of that number is ready, which has seen nothing
 abbrev pub AreFirst : {K : Type 0} → K → List (Option (Sitting K)) → Type 0
-AreFirst {K} key places = (i : ℕ) (its : Option (Sitting K)) → slice_get places i ≡ Some its → its ≡ Some (record { number = i; key = key; seen = [] })
+AreFirst {K} key places = (i : ℕ) (its : Option (Sitting K)) → slice_get places i ≡ Some its → (finished : List Finished) × (its ≡ Some (record { number = i; key = key; seen = []; finished = finished }))
 
 -- the keeper between two calls
 abbrev pub IsFirst : {K : Type 0} → K → List Happening → KeeperModel → Posted → Watch K → Type 0

@@ -1,5 +1,5 @@
 -- The calls of a session that a handle holds.
-use Rattle.std.specs.Prelude.{◌≡◌, List, Option, None, Some}
+use Rattle.std.specs.Prelude.{◌≡◌, List, [], Option, None, Some}
 use Rattle.fkv_base.specs.declared.faults.Fault.TheVariants.{NoSession}
 use Rattle.fkv_map.specs.declared.operations.Call.{Call}
 use Rattle.fkv_session.specs.Answers.{IsAnswerTold}
@@ -10,6 +10,11 @@ use Rattle.fkv_session.specs.declared.answers.Told.{Told}
 use Rattle.fkv_threads.specs.Below.fkv_world.Runs.{World}
 use Rattle.fkv_handles.specs.declared.views.Sitting.{Sitting}
 use Rattle.fkv_threads.specs.Said as said
+
+-- what the session's last poll has finished: a handle that was ended has none
+abbrev pub finished_in : {K : Type 0} → Option (Sitting K) → List Finished
+finished_in (Some s) = s.finished
+finished_in None = []
 
 module _ {K : Type 0} (at : K → World) where
   -- The session has run this call at its table, and all that the thread law says of a call is so of it.
@@ -29,10 +34,10 @@ module _ {K : Type 0} (at : K → World) where
   IsCalled None call answer None = answer ≡ Refused NoSession
   IsCalled None call answer (Some s') = ⊥
 
-  -- The session has run this call, and was told this. The answer to the call is the one that says so, with what it has finished by then.
+  -- The session has run this call, and was told this. The answer to the call is the one that says so, with what its last poll has finished.
   abbrev pub IsToldCallOf : Sitting K → Call → Told → Sitting K → Type 0
-  IsToldCallOf s call told s' = (finished : List Finished) × ((answer : Answer) → IsAnswerTold told finished answer → IsCallOf s call answer s')
+  IsToldCallOf s call told s' = (answer : Answer) → IsAnswerTold told s'.finished answer → IsCallOf s call answer s'
 
   -- A handle's call, and what it was told. The answer to the call is the one that says so.
   abbrev pub IsToldCall : Option (Sitting K) → Call → Told → Option (Sitting K) → Type 0
-  IsToldCall s call told s' = (finished : List Finished) × ((answer : Answer) → IsAnswerTold told finished answer → IsCalled s call answer s')
+  IsToldCall s call told s' = (answer : Answer) → IsAnswerTold told (finished_in s') answer → IsCalled s call answer s'

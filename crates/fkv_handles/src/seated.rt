@@ -1,12 +1,12 @@
 //! A session with its pass at a table that handles share.
-ghost use Rattle.std.specs.Prelude.{◌≡◌};
+ghost use Rattle.std.specs.Prelude.{◌≡◌, ◌≤◌};
 ghost use Rattle.fkv_handles.specs.Said as said;
 
 use fkv_base::{Fault, Key};
 use fkv_disk::Device;
 use fkv_map::{Call, Op};
 use fkv_posted::Posted;
-use fkv_session::{Answer, Told};
+use fkv_session::{Answer, Finished, Told};
 use fkv_threads::{Pass, Session, Table, run, run_op, run_told};
 use std::alloc::Global;
 use std::marker::Model;
@@ -27,7 +27,7 @@ impl Model for Seated {
 
     ghost Value = { model.Sitting (model.Snapshot (model.WorldModel model.Medium)) };
 
-    ghost view = { λ s. record { number = s.session.machine.seat.number; key = s.table.value.table.shared.key; seen = model.seen_by s.pass } };
+    ghost view = { λ s. record { number = s.session.machine.seat.number; key = s.table.value.table.shared.key; seen = model.seen_by s.pass; finished = s.session.machine.state.finished } };
 
     ghost invariant = { λ s. (model.is_some s.pass ≡ true) × model.IfSome s.pass (λ p. model.IsReady (model.opening_of ⟦<Posted<'static> as Device>⟧.seen) s.table.value.table.shared.key s.table.value.table.shared.table_id p.seat.table_id p.seat.me s.session.machine s.session.desk) };
 }
@@ -74,6 +74,14 @@ impl Seated {
             }
             None => Told::Refused(Fault::NoSession),
         }
+    }
+
+    /// What the last poll has finished, in the order of acceptance.
+    pub fn finished(&self) -> &[Finished]
+        ensures value { result.now ≡ self.now.finished }
+        ensures fits { said.length result.now ≤ said.max_pending }
+    {
+        self.session.finished()
     }
 
     /// Fetches the cache line of the key's bucket, for an operation that comes soon. Nothing changes.

@@ -1,5 +1,5 @@
 //! A session's handle.
-ghost use Rattle.std.specs.Prelude.{◌≡◌, None};
+ghost use Rattle.std.specs.Prelude.{◌≡◌, ◌≤◌, None};
 ghost use Rattle.fkv_handles.specs.Said as said;
 
 use crate::seated::Seated;
@@ -7,7 +7,7 @@ use fkv_base::{Fault, Key};
 use fkv_disk::Device;
 use fkv_map::{Call, Op};
 use fkv_posted::Posted;
-use fkv_session::{Answer, Told};
+use fkv_session::{Answer, Finished, Told};
 use fkv_spread::Keys;
 
 /// A session's handle, until it is ended. It may go into any thread.
@@ -57,7 +57,7 @@ impl Session {
     }
 
     /// Runs a call to its end, as `call` does, and gives what it was told, which has four words. An `Answer` has room for the list of a poll, which
-    /// would be cleared and copied at each call. A poll tells how many requests are left, and `call` alone those that it has finished. `NoSession` once the
+    /// would be cleared and copied at each call. A poll tells how many requests are left, and `finished` those that it has finished. `NoSession` once the
     /// handle is ended.
     pub fn tell(&mut self, call: Call) -> Told
         ensures called { said.IsToldCall (said.opening_of ⟦<Posted<'static> as Device>⟧.seen) (said.sitting_of self.old) (said.laid_call (said.keys_of self.old) call) result (said.sitting_of self.new) }
@@ -67,6 +67,17 @@ impl Session {
         match &mut self.seated {
             Some(seated) => seated.tell(its_call),
             None => Told::Refused(Fault::NoSession),
+        }
+    }
+
+    /// What the last poll has finished, in the order of acceptance. Nothing once the handle is ended.
+    pub fn finished(&self) -> &[Finished]
+        ensures value { result.now ≡ said.finished_in (said.sitting_of self.now) }
+        ensures fits { said.length result.now ≤ said.max_pending }
+    {
+        match &self.seated {
+            Some(seated) => seated.finished(),
+            None => &[],
         }
     }
 

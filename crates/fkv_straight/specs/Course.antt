@@ -43,14 +43,17 @@ abbrev pub lasts_in : Call → SessionState → Lasting
 lasts_in Poll s = record (lasting s) { finished = [] }
 lasts_in its s = lasting s
 
+-- when an operation is tried in it
 abbrev pub occasion_of : Call → Occasion
 occasion_of Poll = AtPoll
 occasion_of its = AtCall
 
+-- in a poll the session has its last operation in hand still
 abbrev pub hand_of : Call → SessionState → Op → Op
 hand_of Poll s op = s.op
 hand_of its s op = op
 
+-- by which name it is told
 abbrev pub name_in : Call → SessionState → Op → RequestName
 name_in Poll s op = first_name s.requests
 name_in its s op = next_name (lasting s) op

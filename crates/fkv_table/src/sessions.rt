@@ -12,7 +12,7 @@ use fkv_disk::Device;
 use fkv_map::{Call, Op};
 use fkv_plane::Ask;
 use fkv_seats::Held;
-use fkv_session::{Answer, Told, answer_of, law_of_standing};
+use fkv_session::{Answer, Finished, Told, answer_of, law_of_standing};
 use fkv_straight::{StraightSession, Went as Way};
 
 /// A session of a store that threads share.
@@ -297,6 +297,14 @@ impl Session {
             &mut self.replies,
             call,
         )
+    }
+
+    /// What the last poll has finished, in the order of acceptance.
+    pub fn finished(&self) -> &[Finished]
+        ensures value { result.now ≡ self.now.machine.state.finished }
+        ensures fits { said.length result.now ≤ said.max_pending }
+    {
+        self.machine.finished()
     }
 
     /// Runs an operation to its end, as `run` does, and gives what it was told. An `Answer` has room for the list of a poll, which is cleared and copied at

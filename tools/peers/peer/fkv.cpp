@@ -65,7 +65,7 @@ struct Fkv {
             int32_t result;
             go_over();
             while ((result = fkv_upsert(handle, key, value, &told)) != FKV_DONE) [[unlikely]]
-                if (is_taken(result, "upsert")) break;
+                if (is_updated(result, told, "upsert")) break;
         }
 
         void add(uint64_t key, uint64_t number) {
@@ -73,7 +73,7 @@ struct Fkv {
             int32_t result;
             go_over();
             while ((result = fkv_add(handle, key, number, &told)) != FKV_DONE) [[unlikely]]
-                if (is_taken(result, "add")) break;
+                if (is_updated(result, told, "add")) break;
         }
 
         void settle() {
@@ -92,6 +92,13 @@ struct Fkv {
             fkv_nudge(file);
             refresh();
             return false;
+        }
+
+        // The same of an update. One that lost to another session is finished by a poll at once.
+        bool is_updated(int32_t result, const fkv_update &told, const char *what) {
+            if (!is_taken(result, what)) return false;
+            if (told.reason == FKV_CONTENDED) poll();
+            return true;
         }
 
         bool get_later(int32_t result, uint64_t key, uint64_t &value) {

@@ -1,16 +1,19 @@
 -- The handle has run the operation, and its answer is the one that says what was told.
+use Rattle.fkv_handles.specs.Handles.{sitting_of}
+use Rattle.fkv_handles.specs.Sittings.{finished_in}
 use Rattle.fkv_face.specs.Told.{answer_saying}
 use Rattle.fkv_face.proofs.Sayings.{says_so}
 use Rattle.fkv_face.proofs.sessions.run_op.Goals as goal
 
 pub returns : goal.returns
 returns c =
+    let finished = finished_in (sitting_of c.op.new.self) in
     let its = c.op.ensures.called in
     record {
-      answer = answer_saying c.op.result its.0;
+      answer = answer_saying c.op.result finished;
       answered = record {
-        called = rw (← c.lent.ensures.value) (its.1 (answer_saying c.op.result its.0) (says_so c.op.result its.0));
+        called = rw (← c.lent.ensures.value) (its (answer_saying c.op.result finished) (says_so c.op.result finished));
         keys = rw (← c.lent.ensures.value) c.op.ensures.keys;
       };
-      told = c.told_by.ensures its.0;
+      told = c.told_by.ensures finished;
     }

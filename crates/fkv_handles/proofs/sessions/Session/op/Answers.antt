@@ -1,9 +1,8 @@
 -- The handle's operation is that of the session that it holds.
-use Rattle.std.proofs.Common.{[]}
 use Rattle.fkv_handles.proofs.sessions.Session.op.Goals as goal
 
 pub returns-in-Some-clause-called : goal.returns-in-Some-clause-called
 returns-in-Some-clause-called c = rw (c.in-Some.is, ← c.laid-op.ensures) c.op.ensures.called
 
 pub returns-in-None-clause-called : goal.returns-in-None-clause-called
-returns-in-None-clause-called c = rw c.in-None.is ([], λ answer says. says)
+returns-in-None-clause-called c = rw c.in-None.is (λ answer says. says)
