@@ -64,7 +64,7 @@ fn play_scene<R: Abort>(
 const TAGS: u64 = 1 << 15;
 
 /// What operations meet that go straight to their end. In prepare these are reads.
-const STRAIGHT: [Meeting; 15] = [
+const STRAIGHT: [Meeting; 17] = [
     Meeting::Read,
     Meeting::Upsert,
     Meeting::Delete,
@@ -80,6 +80,8 @@ const STRAIGHT: [Meeting; 15] = [
     Meeting::LongChain,
     Meeting::ReadOnly,
     Meeting::OnDevice,
+    Meeting::LostTail,
+    Meeting::LostValue,
 ];
 
 /// What the others meet of which the machine goes on.
@@ -98,6 +100,9 @@ const REFRESHED: [Meeting; 5] = [
     Meeting::WaitPending,
     Meeting::WaitFlush,
 ];
+
+/// In what phases polls go straight to their end. None does in prepare, where an update shares a latch, and wait-pending is short.
+const POLLED: [Meeting; 3] = [Meeting::Rest, Meeting::InProgress, Meeting::WaitFlush];
 
 /// Each of these was met more than a hundred times.
 fn has_met(meetings: &Meetings, wanted: &[Meeting]) -> bool {
@@ -122,5 +127,7 @@ fn both_bodies_agree(rt: HostRuntime) -> Result<(), Fail> {
     assert!(rt; has_met(&ways.handed_over, &HANDED_OVER));
     assert!(rt; ways.by_machine.of(Meeting::Prepare) > 100);
     assert!(rt; has_met(&ways.refreshed, &REFRESHED));
+    assert!(rt; has_met(&ways.polled, &POLLED));
+    assert!(rt; ways.polled_on.all > 100);
     Ok(())
 }

@@ -12,6 +12,8 @@ mod meetings;
 #[cfg(test)]
 mod plain_lines;
 #[cfg(test)]
+mod rivals;
+#[cfg(test)]
 mod scripts;
 #[cfg(test)]
 mod sides;

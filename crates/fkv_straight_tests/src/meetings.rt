@@ -1,7 +1,7 @@
 //! What operations have met.
 use fkv_base::{Addr, Phase};
 use fkv_map::Op;
-use fkv_ops::Seen;
+use fkv_ops::{Reason, Seen};
 use fkv_plane::{Ask, Places, RecordWord, SharedWord};
 use fkv_session::Told;
 
@@ -27,11 +27,15 @@ pub(crate) enum Meeting {
     ReadOnly,
     /// A chain that lies on the device alone, to which an update appends.
     OnDevice,
-    /// It waits for the device, for room, or for a latch.
+    /// It waits for the device, for room, for a latch, or since another session was quicker.
     Waits,
+    /// Another session was quicker at the tail.
+    LostTail,
+    /// Another session was quicker at a record's value.
+    LostValue,
 }
 
-const MEETINGS: usize = 16;
+const MEETINGS: usize = 18;
 
 /// How many operations have met what.
 #[derive(Clone, Copy)]
@@ -70,11 +74,14 @@ impl Meetings {
         if matches!(told, Told::Pending(_, _) | Told::PendingRead(_)) {
             self.count(Meeting::Waits);
         }
+        if matches!(told, Told::Pending(_, Reason::Contended)) {
+            self.count(trace.lost());
+        }
         self.add_trace(trace);
     }
 
-    /// A refresh has come to this phase.
-    pub(crate) fn add_refresh(&mut self, phase: Phase) {
+    /// A call in this phase.
+    pub(crate) fn add_phase(&mut self, phase: Phase) {
         self.all = self.all.wrapping_add(1);
         self.count(phase_of(phase));
     }
@@ -149,6 +156,8 @@ pub(crate) struct Trace {
     records: u64,
     is_read_only: bool,
     is_on_device: bool,
+    /// Whether its last Cas was one of the tail.
+    is_at_tail: bool,
 }
 
 impl Trace {
@@ -161,6 +170,16 @@ impl Trace {
             records: 0,
             is_read_only: false,
             is_on_device: false,
+            is_at_tail: false,
+        }
+    }
+
+    /// What it has met if its last Cas was lost.
+    fn lost(&self) -> Meeting {
+        if self.is_at_tail {
+            Meeting::LostTail
+        } else {
+            Meeting::LostValue
         }
     }
 
@@ -174,6 +193,7 @@ impl Trace {
     }
 
     fn note_cas(&mut self, place: usize, addr: u64) {
+        self.is_at_tail = place == SharedWord::Tail.place();
         let is_slot = place >= self.parts.buckets && place < self.parts.frames;
         if is_slot && addr != 0 && addr < self.head.0 {
             self.is_on_device = true;

@@ -5,6 +5,7 @@ ghost use Rattle.fkv_session.specs.Sessions.{is_busy};
 ghost use Rattle.fkv_straight.specs.Standing.{leads};
 ghost use Rattle.fkv_straight_tests.specs.Lines.{standing};
 
+use crate::rivals::{Rival, be_quicker};
 use arrayvec::ArrayVec;
 use fkv_map::Call;
 use fkv_plane::{Ask, PlainWords};
@@ -18,6 +19,8 @@ use std::snapshot::Snapshot;
 pub(crate) struct PlainLine<'w, R: Abort> {
     rt: &'w R,
     words: &'w mut PlainWords,
+    /// The session that is quicker than the call, if one is.
+    rival: Option<Rival>,
     /// The session's machine, as the line was made.
     machine: Snapshot<StraightSession>,
     call: Option<Call>,
@@ -30,6 +33,7 @@ impl<'w, R: Abort> PlainLine<'w, R> {
     pub(crate) fn new(
         rt: &'w R,
         words: &'w mut PlainWords,
+        rival: Option<Rival>,
         machine: &StraightSession,
     ) -> PlainLine<'w, R>
         ensures seat { result.machine.value.seat ≡ machine.now.seat }
@@ -39,19 +43,21 @@ impl<'w, R: Abort> PlainLine<'w, R> {
         PlainLine {
             rt,
             words,
+            rival,
             machine: Snapshot::of(machine),
             call: None,
             replies: ArrayVec::new(),
         }
     }
 
-    /// Makes the step, and keeps its reply.
+    /// Makes the step, before which the rival makes its own, and keeps its reply.
     fn step(&mut self, ask: &Ask<Told>) -> u64
         requires room { length self.old.replies.items < 64 }
         ensures replies { self.new.replies.items ≡ self.old.replies.items ++ result ∷ [] }
         ensures machine { self.new.machine.value ≡ self.old.machine.value }
         ensures call { self.new.call ≡ self.old.call }
     {
+        be_quicker(self.rival, self.words, ask);
         let reply = self.words.perform(ask);
         self.replies.push(reply);
         reply

@@ -5,8 +5,8 @@ use fkv_map::{Call, Op};
 /// What happens next.
 #[derive(Clone, Copy)]
 pub(crate) enum Event {
-    /// The session of this number makes a call.
-    Call(usize, Call),
+    /// The session of this number makes a call. If there is a value, another session is quicker than the call, and leaves this value.
+    Call(usize, Call, Option<Value>),
     /// The keeper begins a turn, and makes so many steps of it.
     Turn(u64),
     /// The keeper makes so many steps of its call.
@@ -29,6 +29,8 @@ pub(crate) struct Draws {
     state: u64,
     keys: Keys,
     sessions: u64,
+    /// The session of the operation that came last, if that had a rival.
+    slower: Option<usize>,
 }
 
 impl Draws {
@@ -37,6 +39,7 @@ impl Draws {
             state: seed.wrapping_mul(0x9e37_79b9_7f4a_7c15),
             keys,
             sessions,
+            slower: None,
         }
     }
 
@@ -53,21 +56,40 @@ impl Draws {
         }
     }
 
-    /// Each call of a session, and what the keeper does.
+    /// What comes next. Behind an operation that had a rival its session polls, one time out of two.
     pub(crate) fn next(&mut self) -> Event {
+        if let Some(session) = self.slower.take() {
+            if self.below(2) == 0 {
+                return Event::Call(session, Call::Poll, None);
+            }
+        }
+        self.next_event()
+    }
+
+    /// Each call of a session, and what the keeper does.
+    fn next_event(&mut self) -> Event {
         let session = self.below(self.sessions) as usize;
         match self.below(60) {
             0..3 => Event::Turn(u64::MAX),
             3..5 => Event::Turn(self.below(40)),
             5 => Event::Move(self.below(20)),
             6 => self.next_commit(),
-            7..13 => Event::Call(session, Call::Poll),
-            13 => Event::Call(session, Call::Sleep),
-            14..18 => Event::Call(session, Call::Wake),
-            18 => Event::Call(session, Call::Durable),
-            19..24 => Event::Call(session, Call::Refresh),
-            _ => Event::Call(session, Call::Op(self.next_op())),
+            7..13 => Event::Call(session, Call::Poll, self.next_rival()),
+            13 => Event::Call(session, Call::Sleep, None),
+            14..18 => Event::Call(session, Call::Wake, None),
+            18 => Event::Call(session, Call::Durable, None),
+            19..26 => Event::Call(session, Call::Refresh, None),
+            _ => self.next_operation(session),
         }
+    }
+
+    fn next_operation(&mut self, session: usize) -> Event {
+        let call = Call::Op(self.next_op());
+        let rival = self.next_rival();
+        if rival.is_some() {
+            self.slower = Some(session);
+        }
+        Event::Call(session, call, rival)
     }
 
     /// A commit one time out of three, and else a turn.
@@ -76,6 +98,14 @@ impl Draws {
             0 => Event::Commit(CommitKind::Full),
             1 => Event::Commit(CommitKind::Log),
             _ => Event::Turn(u64::MAX),
+        }
+    }
+
+    /// What another session leaves that is quicker: one is, one time out of eight.
+    fn next_rival(&mut self) -> Option<Value> {
+        match self.below(8) {
+            0 => Some(Value(self.below(1000))),
+            _ => None,
         }
     }
 

@@ -1,9 +1,10 @@
-//! One call, in a store whose operations and refreshes go straight and in one where the machine makes them.
+//! One call, in a store whose operations, refreshes and polls go straight and in one where the machine makes them.
 use crate::actors::step;
 use crate::meetings::Trace;
 use crate::plain_lines::PlainLine;
+use crate::rivals::{Rival, be_quicker};
 use crate::wrongs::Wrong;
-use fkv_map::{Call, Op};
+use fkv_map::Call;
 use fkv_plane::{Ask, PlainWords};
 use fkv_session::{Session, Told};
 use fkv_straight::{Line, StraightSession, Went};
@@ -28,15 +29,16 @@ pub(crate) struct Begun {
     pub(crate) ask: Ask<Told>,
 }
 
-/// Begins an operation straight, and makes its steps as far as it goes so.
-fn begin_straight<R: Abort>(
+/// Begins a call, and makes its steps as far as it goes straight. The machine goes on from there, or makes all of it.
+pub(crate) fn begin<R: Abort>(
     rt: &R,
     words: &mut PlainWords,
+    rival: Option<Rival>,
     session: &mut StraightSession,
-    op: Op,
+    call: Call,
 ) -> Begun {
-    let mut line = PlainLine::new(rt, words, session);
-    let went = session.go(&mut line, op);
+    let mut line = PlainLine::new(rt, words, rival, session);
+    let went = session.run(&mut line, call);
     let steps = line.replies().len();
     match went {
         Went::Ended(told) => Begun {
@@ -47,56 +49,20 @@ fn begin_straight<R: Abort>(
         Went::Stopped => Begun {
             way: Way::HandedOver,
             steps,
-            ask: session.catch_up(&line, op),
+            ask: session.catch_up(&line, call),
         },
         Went::Stayed => Begun {
             way: Way::Machine,
             steps,
-            ask: session.begin(Call::Op(op)),
-        },
-    }
-}
-
-/// Makes a refresh straight, where it may go so.
-fn begin_refresh<R: Abort>(rt: &R, words: &mut PlainWords, session: &mut StraightSession) -> Begun {
-    let mut line = PlainLine::new(rt, words, session);
-    let told = session.refresh(&mut line);
-    let steps = line.replies().len();
-    match told {
-        Some(told) => Begun {
-            way: Way::Straight,
-            steps,
-            ask: Ask::Done(told),
-        },
-        None => Begun {
-            way: Way::Machine,
-            steps,
-            ask: session.begin(Call::Refresh),
-        },
-    }
-}
-
-/// Begins a call where operations and refreshes go straight.
-pub(crate) fn begin<R: Abort>(
-    rt: &R,
-    words: &mut PlainWords,
-    session: &mut StraightSession,
-    call: Call,
-) -> Begun {
-    match call {
-        Call::Op(op) => begin_straight(rt, words, session, op),
-        Call::Refresh => begin_refresh(rt, words, session),
-        _ => Begun {
-            way: Way::Machine,
-            steps: 0,
             ask: session.begin(call),
         },
     }
 }
 
-/// Begins a call by the machine, and makes so many of its steps.
+/// Begins a call by the machine, and makes so many of its steps. The rival makes its own before them, as in the other store.
 pub(crate) fn begin_by_machine(
     words: &mut PlainWords,
+    rival: Option<Rival>,
     machine: &mut Session,
     call: Call,
     steps: usize,
@@ -105,6 +71,7 @@ pub(crate) fn begin_by_machine(
     let mut ask = machine.begin(call);
     for _ in 0..steps {
         trace.note(&ask);
+        be_quicker(rival, words, &ask);
         ask = step(words, machine, &ask);
     }
     ask
@@ -115,6 +82,7 @@ const MOST_ASKS: u64 = 1 << 20;
 
 /// Both make their steps up to the call's end: each asks what the other asks. Gives what they were told.
 pub(crate) fn end(
+    rival: Option<Rival>,
     words: &mut PlainWords,
     session: &mut StraightSession,
     asked: Ask<Told>,
@@ -133,7 +101,9 @@ pub(crate) fn end(
             return Ok(told);
         }
         trace.note(&ask);
+        be_quicker(rival, words, &asked);
         asked = step(words, session, &asked);
+        be_quicker(rival, others, &ask);
         ask = step(others, machine, &ask);
     }
     Err(Wrong::Endless)

@@ -1,11 +1,12 @@
-//! Two stores that are given the same events: the operations and refreshes of one go straight, and the machine makes those of the other.
+//! Two stores that are given the same events: the operations, refreshes and polls of one go straight, and the machine makes those of the other.
 use crate::meetings::{Meetings, Parts, Trace};
+use crate::rivals::Rival;
 use crate::scripts::{Draws, Event};
 use crate::sides::{Begun, Way, begin, begin_by_machine, end};
 use crate::stores::Store;
 use crate::wrongs::Wrong;
-use fkv_base::Shape;
-use fkv_map::Call;
+use fkv_base::{Phase, Shape, Value};
+use fkv_map::{Call, Op};
 use fkv_ops::Seen;
 use fkv_plane::Places;
 use fkv_session::{Session, Told};
@@ -24,6 +25,10 @@ pub(crate) struct Ways {
     pub(crate) by_machine: Meetings,
     /// Refreshes that went straight, by the phase that they came to.
     pub(crate) refreshed: Meetings,
+    /// Polls that went straight to their end, by the phase that the session had seen.
+    pub(crate) polled: Meetings,
+    /// Polls that went straight up to something unusual, by that phase.
+    pub(crate) polled_on: Meetings,
 }
 
 impl Ways {
@@ -33,21 +38,38 @@ impl Ways {
             handed_over: Meetings::new(),
             by_machine: Meetings::new(),
             refreshed: Meetings::new(),
+            polled: Meetings::new(),
+            polled_on: Meetings::new(),
         }
     }
 
-    /// Counts a call, where it is an operation or a refresh.
+    /// Counts a call, where it is an operation, a refresh or a poll.
     fn add(&mut self, way: Way, call: Call, seen: Seen, trace: &Trace, told: Told) {
-        let Call::Op(op) = call else {
-            if let (Way::Straight, Told::Refreshed(phase, _)) = (way, told) {
-                self.refreshed.add_refresh(phase);
+        match call {
+            Call::Op(op) => self.add_op(way, op, seen, trace, told),
+            Call::Refresh => {
+                if let (Way::Straight, Told::Refreshed(phase, _)) = (way, told) {
+                    self.refreshed.add_phase(phase);
+                }
             }
-            return;
-        };
+            Call::Poll => self.add_poll(way, seen.phase),
+            _ => {}
+        }
+    }
+
+    fn add_op(&mut self, way: Way, op: Op, seen: Seen, trace: &Trace, told: Told) {
         match way {
             Way::Straight => self.straight.add(op, seen, trace, told),
             Way::HandedOver => self.handed_over.add(op, seen, trace, told),
             Way::Machine => self.by_machine.add(op, seen, trace, told),
+        }
+    }
+
+    fn add_poll(&mut self, way: Way, phase: Phase) {
+        match way {
+            Way::Straight => self.polled.add_phase(phase),
+            Way::HandedOver => self.polled_on.add_phase(phase),
+            Way::Machine => {}
         }
     }
 
@@ -65,9 +87,7 @@ pub(crate) struct Twins {
     sessions: Vec<StraightSession>,
     machine: Store,
     machines: Vec<Session>,
-    parts: Parts,
-    /// How many words each store has.
-    words: usize,
+    places: Places,
 }
 
 impl Twins {
@@ -80,17 +100,17 @@ impl Twins {
             sessions: straight_sessions(alloc, opened)?,
             machine,
             machines,
-            parts: Parts::of(&places),
-            words: places.word_count(),
+            places,
         })
     }
 
-    /// The session of this number makes a call in both.
+    /// The session of this number makes a call in both. A rival leaves the value in both, if there is one.
     fn call<R: Abort>(
         &mut self,
         rt: &R,
         number: usize,
         call: Call,
+        value: Option<Value>,
         ways: &mut Ways,
     ) -> Result<(), Wrong> {
         let (Some(session), Some(machine)) = (
@@ -100,10 +120,14 @@ impl Twins {
             return Err(Wrong::NoSession);
         };
         let seen = machine.seen();
-        let mut trace = Trace::new(self.parts, seen.offsets.head);
-        let Begun { way, steps, ask } = begin(rt, &mut self.straight.words, session, call);
-        let reached = begin_by_machine(&mut self.machine.words, machine, call, steps, &mut trace);
+        let mut trace = Trace::new(Parts::of(&self.places), seen.offsets.head);
+        let rival = rival_of(self.places, seen, value);
+        let words = &mut self.straight.words;
+        let Begun { way, steps, ask } = begin(rt, words, rival, session, call);
+        let others = &mut self.machine.words;
+        let reached = begin_by_machine(others, rival, machine, call, steps, &mut trace);
         let told = end(
+            rival,
             &mut self.straight.words,
             session,
             ask,
@@ -121,7 +145,7 @@ impl Twins {
 
     /// Each word of both is the same, and both keepers are in a call or neither is.
     fn compare(&self) -> Result<(), Wrong> {
-        for place in 0..self.words {
+        for place in 0..self.places.word_count() {
             if self.straight.words.word(place) != self.machine.words.word(place) {
                 return Err(Wrong::Words);
             }
@@ -136,13 +160,25 @@ impl Twins {
     /// Gives both this event, and compares them behind it.
     fn play<R: Abort>(&mut self, rt: &R, event: Event, ways: &mut Ways) -> Result<(), Wrong> {
         match event {
-            Event::Call(number, call) => self.call(rt, number, call, ways)?,
+            Event::Call(number, call, value) => self.call(rt, number, call, value, ways)?,
             _ => {
                 keep(&mut self.straight, event);
                 keep(&mut self.machine, event);
             }
         }
         self.compare()
+    }
+}
+
+/// The rival that leaves this value, in the version that the call's session has seen.
+fn rival_of(places: Places, seen: Seen, value: Option<Value>) -> Option<Rival> {
+    match value {
+        Some(value) => Some(Rival {
+            places,
+            version: seen.version,
+            value,
+        }),
+        None => None,
     }
 }
 
@@ -169,7 +205,7 @@ fn keep(store: &mut Store, event: Event) {
             store.begin_commit(kind);
             store.move_keeper(u64::MAX);
         }
-        Event::Call(_, _) => {}
+        Event::Call(_, _, _) => {}
     }
 }
 
