@@ -6,7 +6,7 @@ use crate::answers::refused;
 use fkv_base::Phase;
 use fkv_map::Reply;
 use fkv_ops::Reason;
-use fkv_session::{Answer, Told};
+use fkv_session::Told;
 
 /// An answer: its result, and up to three numbers that go with it.
 #[derive(Clone, Copy)]
@@ -75,25 +75,6 @@ fn tells(its: i32, first: u64, second: u64, third: u64) -> Numbers
         first,
         second,
         third,
-    }
-}
-
-/// The numbers of an answer. Of a poll they are how many requests are left.
-pub(crate) fn told_of(answer: Answer) -> Numbers
-    ensures { result ≡ says.numbers_of answer }
-{
-    match answer {
-        Answer::Done(serial, reply) => tells(DONE, serial.0, number_in(reply), 0),
-        Answer::Pending(serial, reason) => tells(PENDING, serial.0, 0, reason_number(reason)),
-        Answer::Found(value) => tells(FOUND, value.0, 0, 0),
-        Answer::Absent => tells(NONE, 0, 0, 0),
-        Answer::PendingRead(ticket) => tells(PENDING, ticket.0, 0, 0),
-        Answer::Refreshed(phase, version) => tells(DONE, phase_number(phase), version.0, 0),
-        Answer::Woken(phase, version) => tells(DONE, phase_number(phase), version.0, 0),
-        Answer::Polled(_, left) => tells(DONE, left as u64, 0, 0),
-        Answer::Slept => tells(DONE, 0, 0, 0),
-        Answer::Durable(serial) => tells(DONE, serial.0, 0, 0),
-        Answer::Refused(why) => tells(refused(why), 0, 0, 0),
     }
 }
 

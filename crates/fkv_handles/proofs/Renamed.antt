@@ -26,11 +26,11 @@ pub told_call_of : {K : Type 0} (at : K → World) (s s' t : Sitting K) (call : 
     → said.OfToldRun its (λ run. said.OfThisRun at t.key run said.IsWithin said.TellsItsDurable) → said.OfToldRun its (λ run. said.OfThisRun at t.key run said.IsWithin said.ItsDurableNeverFalls)
     → said.OfToldRun its (λ run. said.OfThisRun at t.key run said.IsWithin (said.RecoversItsDurable at)) → IsToldCallOf at s call told s')
 told_call_of at s s' t call told same number key called in_lives durable never_falls recovered = λ answer says. call_of at s s' t call answer same (record {
-    number = number;
-    key = key;
-    called = called answer says;
-    in_lives = in_lives answer says;
-    durable = durable answer says;
-    never_falls = never_falls answer says;
-    recovered = recovered answer says;
-  })
+  number = number;
+  key = key;
+  called = called answer says;
+  in_lives = in_lives answer says;
+  durable = durable answer says;
+  never_falls = never_falls answer says;
+  recovered = recovered answer says;
+})

@@ -1,6 +1,6 @@
 -- What the clauses of `src` say: they take all of it under one name.
 pub use Rattle.atomic_table.specs.Table.{Allows, opening, rest}
-pub use Rattle.fkv_base.specs.Limits.{drain_slots}
+pub use Rattle.fkv_base.specs.Limits.{drain_slots, max_pending}
 pub use Rattle.fkv_base.specs.declared.commits.CommitKind.TheVariants.{Full, Log}
 pub use Rattle.fkv_base.specs.declared.faults.Fault.TheVariants.{Memory}
 pub use Rattle.fkv_checkpoint.specs.Copying.{IsRoomFor}

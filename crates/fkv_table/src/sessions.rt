@@ -1,5 +1,5 @@
 //! A session's calls at the table.
-ghost use Rattle.std.specs.Prelude.{◌≡◌, ◌<◌, ℕ, List, Some, None, [], ◌∷◌, true, false};
+ghost use Rattle.std.specs.Prelude.{◌≡◌, ◌<◌, ◌≤◌, ℕ, List, Some, None, [], ◌∷◌, true, false, length};
 ghost use Rattle.fkv_map.specs.declared.operations.Call.TheVariants as call;
 ghost use Rattle.fkv_table.specs.Said as said;
 
@@ -302,7 +302,7 @@ impl Session {
     /// What the last poll has finished, in the order of acceptance.
     pub fn finished(&self) -> &[Finished]
         ensures value { result.now ≡ self.now.machine.state.finished }
-        ensures fits { said.length result.now ≤ said.max_pending }
+        ensures fits { length result.now ≤ said.max_pending }
     {
         self.machine.finished()
     }
