@@ -1,4 +1,5 @@
 pub mod Fronts
 pub mod InOrder
-pub mod Results
+pub mod Polling
+mod Results
 pub mod Sayings

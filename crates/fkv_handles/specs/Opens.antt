@@ -7,6 +7,7 @@ use Rattle.fkv_opening.specs.declared.opened_store.Opened.{Opened}
 use Rattle.fkv_opening.specs.Faults.{IsFaultOf}
 use Rattle.fkv_opening.specs.Opened.{IsStoreOf}
 use Rattle.fkv_posted.specs.declared.posted.Posted.{Posted}
+use Rattle.fkv_session.specs.declared.answers.Finished.{Finished}
 use Rattle.fkv_spread.specs.declared.keys.Keys.{Keys}
 use Rattle.fkv_threads.specs.Below.fkv_table.Happening.{Happening}
 use Rattle.fkv_threads.specs.Below.fkv_table.Pass.{Pass}
