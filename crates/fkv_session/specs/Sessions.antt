@@ -259,9 +259,13 @@ update_waiting s op =
     let taken : ℕ = s.serial + 1 in
     answers (record s { serial = taken; requests = s.requests ++ record { name = Update (record { 0 = taken }); request = request_of op s.seen.version; sought = None; has_asked = false } ∷ [] }) told.Slept
 
--- the session has polled without its machine: an update has finished so, and no request waits from then on
+-- the session has polled without its machine: an update has finished so, the first request that waited
 abbrev pub update_polled : SessionState → Serial → Reply → SessionState
-update_polled s serial its = answers (record s { finished = finished.Update serial its ∷ []; requests = [] }) told.Slept
+update_polled s serial its = answers (record s { finished = finished.Update serial its ∷ []; requests = remove s.requests 0 }) told.Slept
+
+-- and it has finished none
+abbrev pub nothing_polled : SessionState → SessionState
+nothing_polled s = answers (record s { finished = [] }) told.Slept
 
 -- the request that waits, where just one does
 abbrev pub only_of : List PendingRequest → Option PendingRequest

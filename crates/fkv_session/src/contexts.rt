@@ -4,7 +4,7 @@ ghost use Rattle.fkv_base.specs.Limits.{max_pending, max_sessions, last_serial};
 ghost use Rattle.fkv_session.specs.AsksLeft.{session_asks_left, call_bound};
 ghost use Rattle.fkv_session.specs.declared.answers.Told.TheVariants.{Slept};
 ghost use Rattle.fkv_session.specs.declared.sessions.Sitting.TheVariants.{Idle, Turns};
-ghost use Rattle.fkv_session.specs.Sessions.{session_begun, session_ask, sitting_next, sitting_given, asks_after, refreshed, update_polled, update_waiting, IsOpened};
+ghost use Rattle.fkv_session.specs.Sessions.{session_begun, session_ask, sitting_next, sitting_given, asks_after, nothing_polled, refreshed, update_polled, update_waiting, IsOpened};
 
 use crate::answers::{Finished, Told};
 use crate::catching_up::CatchUp;
@@ -156,7 +156,7 @@ impl Context {
         Ask::Done(Told::Slept)
     }
 
-    /// The session was polled outside: this update has finished, and no request waits.
+    /// The session was polled outside: this update has finished, the first request that waited.
     #[tactic(auto, unfolding(crate::specs::Sessions::sitting_ask))]
     pub(crate) fn take_polled(&mut self, serial: Serial, reply: Reply) -> Ask<Told>
         ensures next { self.new ≡ record self.old { state = update_polled self.old.state serial reply } }
@@ -164,7 +164,18 @@ impl Context {
     {
         self.finished.clear();
         self.finished.push(Finished::Update(serial, reply));
-        self.requests = PendingList::new();
+        self.requests.remove(0);
+        self.step = Sitting::Idle(Told::Slept);
+        Ask::Done(Told::Slept)
+    }
+
+    /// The session was polled outside, and nothing has finished.
+    #[tactic(auto, unfolding(crate::specs::Sessions::sitting_ask))]
+    pub(crate) fn take_unpolled(&mut self) -> Ask<Told>
+        ensures next { self.new ≡ record self.old { state = nothing_polled self.old.state } }
+        ensures ask { result ≡ session_ask self.old.seat self.new.state }
+    {
+        self.finished.clear();
         self.step = Sitting::Idle(Told::Slept);
         Ask::Done(Told::Slept)
     }

@@ -3,7 +3,7 @@ ghost use Rattle.std.specs.Prelude.{◌≡◌, ◌<◌, ◌≤◌, ◌+◌, ◌^
 ghost use Rattle.fkv_base.specs.Limits.{max_pending, max_sessions, last_serial};
 ghost use Rattle.fkv_session.specs.declared.answers.Told.TheVariants.{Slept};
 ghost use Rattle.fkv_session.specs.declared.sessions.Sitting.TheVariants.{Idle};
-ghost use Rattle.fkv_session.specs.Sessions.{is_busy, only_of, refusal_of, refreshed, update_polled, update_waiting, HasRoom};
+ghost use Rattle.fkv_session.specs.Sessions.{is_busy, nothing_polled, only_of, refusal_of, refreshed, update_polled, update_waiting, HasRoom};
 
 use crate::answers::Finished;
 use crate::sessions::{Session, Sitting};
@@ -173,10 +173,17 @@ impl Session {
         self.serial()
     }
 
-    /// Forgets the requests that wait, behind a poll in which somebody else has finished this update in its place. No call is in hand behind it.
+    /// Forgets the first request that waits, behind a poll in which somebody else has finished this update in its place. No call is in hand behind it.
     pub fn take_polled(&mut self, serial: Serial, reply: Reply)
         ensures { self.new ≡ record self.old { state = update_polled self.old.state serial reply } }
     {
         self.ask = self.context.take_polled(serial, reply);
+    }
+
+    /// Forgets what the last poll has finished, behind one in which somebody else has finished nothing in its place. No call is in hand behind it.
+    pub fn take_unpolled(&mut self)
+        ensures { self.new ≡ record self.old { state = nothing_polled self.old.state } }
+    {
+        self.ask = self.context.take_unpolled();
     }
 }

@@ -22,7 +22,6 @@ use Rattle.fkv_index.specs.Slots.{entry_addr}
 use Rattle.fkv_ops.specs.declared.answers.Reason.TheVariants as reason
 use Rattle.fkv_ops.specs.declared.answers.TryAnswer.TheVariants as tried
 use Rattle.fkv_ops.specs.declared.appending.Appending.TheVariants.{Reserves, Fills, Publishes}
-use Rattle.fkv_ops.specs.declared.requests.Occasion.TheVariants.{Call as AtCall}
 use Rattle.fkv_ops.specs.declared.trying.Trying.TheVariants.{Appends, Ended}
 use Rattle.fkv_ops.specs.Requests.{is_read}
 use Rattle.fkv_ops.specs.Values.{word_of}
@@ -103,13 +102,13 @@ take_free : (c : Course) (w : WalkState) (place entry : ℕ) (old : Option ℕ) 
 unfolding trying_next append_ledto appending_ask appending_next reserve_ledto reserve_ask reserve_next reserve_next_ask ends passed
 take_free c w place entry old tail found lost = rw lost refl
 
-pub take_lost : (c : Course) (place entry : ℕ) (old : Option ℕ) (tail found : ℕ) (s u : SessionState) → c.occasion ≡ AtCall → is_read c.op ≡ false → IsAtReserve c place entry old (reserve.TakesTail tail) s → u ≡ leads c.seat s found → ¬ (found ≡ tail)
+pub take_lost : (c : Course) (place entry : ℕ) (old : Option ℕ) (tail found : ℕ) (s u : SessionState) → IsSettled c → is_read c.op ≡ false → IsAtReserve c place entry old (reserve.TakesTail tail) s → u ≡ leads c.seat s found → ¬ (found ≡ tail)
     → IsWaiting c u
 unfolding IsAtReserve
-take_lost c place entry old tail found s u calls updates at e lost =
+take_lost c place entry old tail found s u settled updates at e lost =
     let t = reserving c at.0 place entry old (reserve.TakesTail tail) in
     let no = differs found tail lost in
-    ends_waiting c (next_try c t found) u calls (led_on c t found s u at.1 e) (take_fails c at.0 place entry old tail found no) (take_leaves c at.0 place entry old tail found no) (take_free c at.0 place entry old tail found no) updates
+    ends_waiting c (next_try c t found) u settled (led_on c t found s u at.1 e) (take_fails c at.0 place entry old tail found no) (take_leaves c at.0 place entry old tail found no) (take_free c at.0 place entry old tail found no) updates
 
 -- ---- its words are stored
 pub value_asks : (c : Course) (place entry : ℕ) (old : Option ℕ) (addr : ℕ) (s : SessionState) → IsReserved c place entry old addr s → asked c.seat s ≡ Store (record_place c.seat.places addr rec.Value) (word_of (value_applied old c.op))

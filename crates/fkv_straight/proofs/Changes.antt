@@ -12,7 +12,6 @@ use Rattle.fkv_log.specs.declared.loading.Loading.TheVariants as load
 use Rattle.fkv_log.specs.Loading.{load_ask, load_next, load_next_ask, load_on}
 use Rattle.fkv_ops.specs.declared.answers.Reason.TheVariants as reason
 use Rattle.fkv_ops.specs.declared.answers.TryAnswer.TheVariants as tried
-use Rattle.fkv_ops.specs.declared.requests.Occasion.TheVariants.{Call as AtCall}
 use Rattle.fkv_ops.specs.declared.header_words.HeaderSaid.TheVariants.{Says}
 use Rattle.fkv_ops.specs.declared.trying.Trying.TheVariants.{SwapsValue, LoadsCurrent, ChangesValue, Ended}
 use Rattle.fkv_ops.specs.declared.walking.WalkAnswer.TheVariants as walked
@@ -159,9 +158,9 @@ change_free : (c : Course) (w : WalkState) (addr old found : ℕ) → (found == 
 unfolding trying_next ends
 change_free c w addr old found lost = rw lost refl
 
-pub change_lost : (c : Course) (addr old found : ℕ) (s u : SessionState) → c.occasion ≡ AtCall → IsAtChange c addr old s → is_read c.op ≡ false → ¬ (found ≡ old) → u ≡ leads c.seat s found → IsWaiting c u
+pub change_lost : (c : Course) (addr old found : ℕ) (s u : SessionState) → IsSettled c → IsAtChange c addr old s → is_read c.op ≡ false → ¬ (found ≡ old) → u ≡ leads c.seat s found → IsWaiting c u
 unfolding IsAtChange
-change_lost c addr old found s u calls at updates lost e =
+change_lost c addr old found s u settled at updates lost e =
     let t = trying c at.0 append_rested (ChangesValue (record { 0 = addr }) old) in
     let no = differs found old lost in
-    ends_waiting c (next_try c t found) u calls (led_on c t found s u at.1 e) (change_fails c at.0 addr old found no) (change_leaves c at.0 addr old found no) (change_free c at.0 addr old found no) updates
+    ends_waiting c (next_try c t found) u settled (led_on c t found s u at.1 e) (change_fails c at.0 addr old found no) (change_leaves c at.0 addr old found no) (change_free c at.0 addr old found no) updates

@@ -22,9 +22,9 @@ use Rattle.fkv_session.specs.declared.answers.Told.{Told}
 use Rattle.fkv_session.specs.declared.answers.Told.TheVariants as told
 use Rattle.fkv_session.specs.declared.sessions.Sitting.TheVariants.{Idle}
 use Rattle.fkv_session.specs.Alike.{lasting}
-use Rattle.fkv_session.specs.Sessions.{Seat, SessionState, sitting_ask, sitting_next, session_ask, accepts, attempt_ledto, finishes_request, poll_ledto, polls_at, asks_after, is_word_ask}
+use Rattle.fkv_session.specs.Sessions.{Seat, SessionState, sitting_ask, sitting_next, session_ask, accepts, attempt_ledto, finishes_request, keeps_request, poll_ledto, polls_at, asks_after, is_word_ask}
 use Rattle.fkv_straight.specs.Course.{Course, pending_in, request_in, IsLone, IsSettled}
-use Rattle.fkv_straight.specs.Standing.{asked, leads, attempt_leads, attempting, sitting, led_attempt, resumed, Tries, IsLed, next_try, IsEnded, IsDone, IsWaiting}
+use Rattle.fkv_straight.specs.Standing.{asked, leads, attempt_leads, attempting, sitting, led_attempt, resumed, Tries, IsLed, next_try, IsEnded, IsDone, IsWaiting, waiting_lasts, waiting_told}
 use Rattle.fkv_straight.proofs.Tests.{or_false}
 
 -- ---- the session asks what its try asks
@@ -148,11 +148,23 @@ lasts_waiting : (c : Course) (asks : ℕ) (t : TryState) → c.occasion ≡ AtCa
 unfolding lasting attempt_ledto attempting_ask accepts
 lasts_waiting c asks t calls updates = rw (calls, updates) refl
 
-pub ends_waiting : (c : Course) (t : TryState) (s : SessionState) → c.occasion ≡ AtCall → IsLed c t s → t.step ≡ Ended (tried.Wait reason.Contended) → t.spare ≡ c.lasts.spare → t.has_shared ≡ false → is_read c.op ≡ false → IsWaiting c s
+told_polled : (c : Course) (asks : ℕ) (t : TryState) → c.occasion ≡ AtPoll → IsLone c → (resumed c asks (waited c t)).step ≡ Idle (told.Polled 1)
+unfolding poll_ledto keeps_request polls_at attempting_ask
+told_polled c asks t polls lone = rw (polls, lone.waits) refl
+
+lasts_polled : (c : Course) (asks : ℕ) (t : TryState) → c.occasion ≡ AtPoll → IsLone c → lasting (resumed c asks (waited c t)) ≡ record c.lasts { requests = c.lasts.requests }
+unfolding lasting poll_ledto keeps_request polls_at attempting_ask
+lasts_polled c asks t polls lone = rw (polls, lone.waits) refl
+
+waits_when : (c : Course) (asks : ℕ) (t : TryState) (when : Occasion) → c.occasion ≡ when → IsSettled c → is_read c.op ≡ false → IsEnded (waiting_lasts when c) (waiting_told when c) (resumed c asks (waited c t))
+waits_when c asks t AtCall calls settled updates = record { ended = told_waits c asks t calls updates; lasts = lasts_waiting c asks t calls updates }
+waits_when c asks t AtPoll polls settled updates = record { ended = told_polled c asks t polls (settled.lone polls); lasts = lasts_polled c asks t polls (settled.lone polls) }
+
+pub ends_waiting : (c : Course) (t : TryState) (s : SessionState) → IsSettled c → IsLed c t s → t.step ≡ Ended (tried.Wait reason.Contended) → t.spare ≡ c.lasts.spare → t.has_shared ≡ false → is_read c.op ≡ false → IsWaiting c s
 unfolding IsLed
-ends_waiting c t s calls led ends spare free updates =
+ends_waiting c t s settled led ends spare free updates =
     let at : s ≡ resumed c led.0 (waited c t) = led.1 ∙ ap (λ (a : AttemptState). resumed c led.0 a) (attempt_waits c t ends spare free) in
-    record { ended = ap (λ (x : SessionState). x.step) at ∙ told_waits c led.0 t calls updates; lasts = ap lasting at ∙ lasts_waiting c led.0 t calls updates }
+    subst (λ (x : SessionState). IsWaiting c x) (sym at) (waits_when c led.0 t c.occasion refl settled updates)
 
 -- a poll that has done the update leaves no request, and owes nothing of a version before
 is_owed_not : (version seen : ℕ) → version ≡ seen → nat_lt version seen ≡ false

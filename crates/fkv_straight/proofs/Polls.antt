@@ -22,12 +22,12 @@ use Rattle.fkv_pending.specs.declared.pending_requests.RequestName.{RequestName}
 use Rattle.fkv_pending.specs.declared.pending_requests.RequestName.TheVariants.{Update}
 use Rattle.fkv_session.specs.declared.answers.Told.TheVariants as told
 use Rattle.fkv_session.specs.Alike.{Lasting, lasting}
-use Rattle.fkv_session.specs.Sessions.{Seat, SessionState, Sitter, finished_of, only_of, poll_call, polls_at, request_of, session_ask, update_polled, version_within}
+use Rattle.fkv_session.specs.Sessions.{Seat, SessionState, Sitter, finished_of, nothing_polled, only_of, poll_call, polls_at, request_of, session_ask, update_polled, version_within}
 use Rattle.fkv_straight.specs.declared.going.Going.{Going}
 use Rattle.fkv_straight.specs.declared.going.Lone.{Lone}
 use Rattle.fkv_straight.specs.Course.{Course, course_of, first_name, pending_in, Goes, GoesBy}
 use Rattle.fkv_straight.specs.Met.{Begins, MayPoll}
-use Rattle.fkv_straight.specs.Standing.{begins, IsDone, IsCaughtUp}
+use Rattle.fkv_straight.specs.Standing.{begins, IsDone, IsCaughtUp, IsWaiting}
 use Rattle.fkv_straight.proofs.Endings.{read_asks, read_caught_up}
 use Rattle.fkv_straight.proofs.Goings.{spare_same, version_same}
 
@@ -157,22 +157,39 @@ pub poll_begins : (k q : Seat) (r s : SessionState) (l : Lone) (g : Going) → M
 poll_begins k q r s l g may same alike = begins_poll q s l g (poll_alike k q r s l g may same alike)
 
 -- ---- behind its end the machine has caught up
-polled_lasts : (m : SessionState) (serial : Serial) (its : Reply) → first_name m.requests ≡ Update serial → lasting (update_polled m serial its) ≡ record (lasting m) { requests = []; finished = finished_of (first_name (lasting m).requests) (tried.Done its) ∷ [] }
+polled_lasts : (m : SessionState) (serial : Serial) (its : Reply) (waiting : PendingRequest) → m.requests ≡ waiting ∷ [] → waiting.name ≡ Update serial → lasting (update_polled m serial its) ≡ record (lasting m) { requests = []; finished = finished_of (first_name (lasting m).requests) (tried.Done its) ∷ [] }
 unfolding lasting
-polled_lasts m serial its named = rw named refl
+polled_lasts m serial its waiting waits named = rw (waits, named) refl
 
-pub poll_caught_up : (m n u s : SessionState) (k : Seat) (l : Lone) (its : Reply) → lasting m ≡ lasting s → n ≡ update_polled m l.serial its → first_name m.requests ≡ Update l.serial → IsDone (course_of k s l.op call.Poll) its u → IsCaughtUp n u
+pub poll_caught_up : (m n u s : SessionState) (k : Seat) (l : Lone) (its : Reply) (waiting : PendingRequest) → lasting m ≡ lasting s → n ≡ update_polled m l.serial its → m.requests ≡ waiting ∷ [] → first_name m.requests ≡ Update l.serial → IsDone (course_of k s l.op call.Poll) its u → IsCaughtUp n u
 unfolding lasting
-poll_caught_up m n u s k l its alike e named done =
+poll_caught_up m n u s k l its waiting alike e waits named done =
     let w : Lasting → Lasting = λ l. record l { requests = []; finished = finished_of (first_name l.requests) (tried.Done its) ∷ [] } in
-    read_caught_up n u (w (lasting s)) (told.Polled 0) (ap (λ (x : SessionState). lasting x) e ∙ (polled_lasts m l.serial its named ∙ ap w alike)) done
+    read_caught_up n u (w (lasting s)) (told.Polled 0) (ap (λ (x : SessionState). lasting x) e ∙ (polled_lasts m l.serial its waiting waits (sym (ap first_name waits) ∙ named) ∙ ap w alike)) done
+
+-- what alone waits
+pub waits_in : (k : Seat) (s : SessionState) (l : Lone) (g : Going) → MayPoll k s l g → s.requests ≡ pending_in (course_of k s l.op call.Poll) ∷ []
+unfolding lasting
+waits_in k s l g may = (may.goes.settled.lone refl).waits
 
 pub poll_asks : (k : Seat) (s u : SessionState) (op : Op) (its : Reply) → IsDone (course_of k s op call.Poll) its u → Done (told.Polled 0) ≡ session_ask k u
 poll_asks k s u op its done = read_asks k u _ (told.Polled 0) done
 
--- what the next call goes by stays
-pub polled_by : (m n : Sitter) (serial : Serial) (its : Reply) (g : Going) → n ≡ record m { state = update_polled m.state serial its } → GoesBy m.seat m.state g → GoesBy n.seat n.state g
-polled_by m n serial its g e by =
+-- the same where it has finished nothing
+unpolled_lasts : (m : SessionState) → lasting (nothing_polled m) ≡ record (lasting m) { finished = [] }
+unfolding lasting
+unpolled_lasts m = refl
+
+pub unpolled_caught_up : (m n u s : SessionState) (k : Seat) (op : Op) → lasting m ≡ lasting s → n ≡ nothing_polled m → IsWaiting (course_of k s op call.Poll) u → IsCaughtUp n u
+unpolled_caught_up m n u s k op alike e waits =
+    let w : Lasting → Lasting = λ l. record l { finished = [] } in
+    read_caught_up n u (w (lasting s)) (told.Polled 1) (ap (λ (x : SessionState). lasting x) e ∙ (unpolled_lasts m ∙ ap w alike)) waits
+
+pub unpolled_asks : (k : Seat) (s u : SessionState) (op : Op) → IsWaiting (course_of k s op call.Poll) u → Done (told.Polled 1) ≡ session_ask k u
+unpolled_asks k s u op waits = read_asks k u _ (told.Polled 1) waits
+
+pub unpolled_by : (m n : Sitter) (g : Going) → n ≡ record m { state = nothing_polled m.state } → GoesBy m.seat m.state g → GoesBy n.seat n.state g
+unpolled_by m n g e by =
     subst (λ (x : Sitter). GoesBy x.seat x.state g) (sym e) record {
       places = by.places;
       bits = by.bits;
@@ -184,6 +201,24 @@ polled_by m n serial its g e by =
       moves_on = by.moves_on;
       prepares = by.prepares;
       awake = by.awake;
-      room = refl;
+      room = by.room;
+      spare_fits = by.spare_fits;
+    }
+
+-- what the next call goes by stays
+pub polled_by : (m n : Sitter) (serial : Serial) (its : Reply) (waiting : PendingRequest) (g : Going) → m.state.requests ≡ waiting ∷ [] → n ≡ record m { state = update_polled m.state serial its } → GoesBy m.seat m.state g → GoesBy n.seat n.state g
+polled_by m n serial its waiting g waits e by =
+    subst (λ (x : Sitter). GoesBy x.seat x.state g) (sym e) record {
+      places = by.places;
+      bits = by.bits;
+      head = by.head;
+      read_only = by.read_only;
+      version = by.version;
+      some_version = by.some_version;
+      version_fits = by.version_fits;
+      moves_on = by.moves_on;
+      prepares = by.prepares;
+      awake = by.awake;
+      room = rw waits refl;
       spare_fits = by.spare_fits;
     }

@@ -126,12 +126,20 @@ done_told AtPoll c its = told.Polled 0
 abbrev pub IsDone : Course → Reply → SessionState → Type 0
 IsDone c its s = IsEnded (done_lasts c.occasion c its) (done_told c.occasion c its) s
 
--- another session was quicker: a call takes the next serial, and its update waits
-abbrev pub IsWaiting : Course → SessionState → Type 0
-IsWaiting c s = IsEnded (record c.lasts { serial = c.lasts.serial + 1; requests = c.lasts.requests ++ pending_in c ∷ [] }) (told.Pending (record { 0 = c.lasts.serial + 1 }) reason.Contended) s
+-- the same where another session was quicker: a call takes the next serial, and its update waits. In a poll it waits on
+abbrev pub waiting_lasts : Occasion → Course → Lasting
+waiting_lasts AtCall c = record c.lasts { serial = c.lasts.serial + 1; requests = c.lasts.requests ++ pending_in c ∷ [] }
+waiting_lasts AtPoll c = c.lasts
 
--- what an update comes to. One that is unusual is in hand still, and so is a poll in which another session was quicker again
+abbrev pub waiting_told : Occasion → Course → Told
+waiting_told AtCall c = told.Pending (record { 0 = c.lasts.serial + 1 }) reason.Contended
+waiting_told AtPoll c = told.Polled 1
+
+abbrev pub IsWaiting : Course → SessionState → Type 0
+IsWaiting c s = IsEnded (waiting_lasts c.occasion c) (waiting_told c.occasion c) s
+
+-- what an update comes to. One that is unusual is in hand still
 abbrev pub ComesTo : Course → Outcome → SessionState → Type 0
 ComesTo c (Done its) s = IsDone c its s
-ComesTo c Contended s = c.occasion ≡ AtCall → IsWaiting c s
+ComesTo c Contended s = IsWaiting c s
 ComesTo c Unusual s = ⊤

@@ -16,8 +16,8 @@ use crate::outcomes::Outcome;
 use fkv_map::Call;
 use fkv_session::{Session, Told};
 
-/// Makes the steps of a poll, each the one that the machine's table asks for, up to its answer. None where it has met anything unusual, or another
-/// session was quicker once more: the machine has to catch up with the line then.
+/// Makes the steps of a poll, each the one that the machine's table asks for, up to its answer. None where it has met anything unusual: the
+/// machine has to catch up with the line then.
 #[inline(always)]
 pub(crate) fn poll_by<L: Line>(
     line: &mut L,
@@ -42,6 +42,10 @@ pub(crate) fn poll_by<L: Line>(
             machine.take_polled(its.serial, reply);
             Some(Told::Polled(0))
         }
-        _ => None,
+        Outcome::Contended => {
+            machine.take_unpolled();
+            Some(Told::Polled(1))
+        }
+        Outcome::Unusual => None,
     }
 }

@@ -62,7 +62,7 @@ returns-then-found-tail-clause-fills g c = λ its goes reserves addr taken.
     c.if-found-tail.true above c.if-tail.false)
 
 pub returns-else-found-tail-clause-waits : goal.returns-else-found-tail-clause-waits
-returns-else-found-tail-clause-waits g c = λ its goes reserves lost calls.
+returns-else-found-tail-clause-waits g c = λ its goes reserves lost.
     let k = g.L.Line.seat c.args.line.now in
     let s = g.L.Line.stands c.args.line.now in
     let u = g.L.Line.stands c.load-limit.new.self in
@@ -72,6 +72,6 @@ returns-else-found-tail-clause-waits g c = λ its goes reserves lost calls.
     let at = limit_comes its c.args.slot.place c.args.slot.entry old c.load-limit.result s u reserves (leads_on its k c.args.op c.args.going.now k s u c.load-limit.result goes refl c.load-limit.ensures.next) in
     let then = tail_comes its c.args.slot.place c.args.slot.entry old c.load-limit.result c.load-tail.result u v at
     (leads_on its k c.args.op c.args.going.now (g.L.Line.seat c.load-limit.new.self) u v c.load-tail.result goes c.load-limit.ensures.seat c.load-tail.ensures.next) c.if-tail-limit.false in
-    take_lost its c.args.slot.place c.args.slot.entry old c.load-tail.result c.cas-found.result v w calls (updates_in its k c.args.op c.args.going.now _ goes c.requires.updates) then
+    take_lost its c.args.slot.place c.args.slot.entry old c.load-tail.result c.cas-found.result v w goes.settled (updates_in its k c.args.op c.args.going.now _ goes c.requires.updates) then
     (leads_on its k c.args.op c.args.going.now (g.L.Line.seat c.load-tail.new.self) v w c.cas-found.result goes (c.load-tail.ensures.seat ∙ c.load-limit.ensures.seat) c.cas-found.ensures.next)
     c.if-found-tail.false

@@ -65,7 +65,7 @@ returns-in-Contended g c =
       led = c.update-straight.ensures.led;
       machine = waiting_seat m n c.args.op c.wait.result c.wait.ensures.waits c.wait.ensures.full;
       goes_by = λ its by. waiting_goes m n c.args.op its c.wait.result c.wait.ensures.waits c.wait.ensures.full by;
-      ended = waiting_ended k m n (g.L.Line.stands c.args.line.now) u c.args.op c.wait.result updates c.requires.alike c.wait.ensures.waits (c.in-Contended.ensures.done refl);
+      ended = waiting_ended k m n (g.L.Line.stands c.args.line.now) u c.args.op c.wait.result updates c.requires.alike c.wait.ensures.waits c.in-Contended.ensures.done;
       stopped = c.wait.ensures.full;
     }
 

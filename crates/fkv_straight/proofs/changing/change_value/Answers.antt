@@ -55,7 +55,7 @@ returns-then-found-old-clause-done g c = λ its goes met.
     (leads_on its k c.args.op c.args.going.now (g.L.Line.seat c.load-old.new.self) u v c.cas-found.result goes c.load-old.ensures.seat c.cas-found.ensures.next))
 
 pub returns-else-found-old-clause-done : goal.returns-else-found-old-clause-done
-returns-else-found-old-clause-done g c = λ its goes met calls.
+returns-else-found-old-clause-done g c = λ its goes met.
     let k = g.L.Line.seat c.args.line.now in
     let s = g.L.Line.stands c.args.line.now in
     let u = g.L.Line.stands c.load-old.new.self in
@@ -64,5 +64,5 @@ returns-else-found-old-clause-done g c = λ its goes met calls.
     let seeing = blind_in its k c.args.op c.args.going.now _ goes c.requires.seeing in
     let at = met_currents its c.args.its s met (met_by its c.args.its s met goes.unlatched updates) (may_change its k c.args.op c.args.going.now c.args.its goes c.requires.mutable c.requires.own) seeing in
     let comes = current_comes its c.args.its c.load-old.result s u at (leads_on its k c.args.op c.args.going.now k s u c.load-old.result goes refl c.load-old.ensures.next) in
-    change_lost its c.args.its.addr c.load-old.result c.cas-found.result u v calls comes updates c.if-found-old.false
+    change_lost its c.args.its.addr c.load-old.result c.cas-found.result u v goes.settled comes updates c.if-found-old.false
     (leads_on its k c.args.op c.args.going.now (g.L.Line.seat c.load-old.new.self) u v c.cas-found.result goes c.load-old.ensures.seat c.cas-found.ensures.next)
