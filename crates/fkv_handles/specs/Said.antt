@@ -8,7 +8,7 @@ pub use Rattle.fkv_handles.specs.Handles.{IsGiven, IsKeeperGiven, IsToldHonestly
 pub use Rattle.fkv_handles.specs.Kept.{IsAskedBy, IsToldBy, IsTurnedBy}
 pub use Rattle.fkv_handles.specs.Laid.{laid_call, laid_op}
 pub use Rattle.fkv_handles.specs.Opens.{AreFirst, IsFirst, IsOpenedFrom, IsOpeningRefused, IsRecovered, sitting_at}
-pub use Rattle.fkv_handles.specs.Sittings.{IsCallOf, IsCalled, IsToldCall, IsToldCallOf, finished_in}
+pub use Rattle.fkv_handles.specs.Sittings.{IsToldCall, IsToldCallOf, finished_in}
 pub use Rattle.fkv_handles.specs.Watches.{IsAskedToCommit, IsHonestlyTold, IsTold, IsTurned, keeper_due}
 pub use Rattle.fkv_handles.specs.declared.refusals.Refusal.TheVariants.{HandleOut}
 pub use Rattle.fkv_map.specs.declared.operations.Call.TheVariants.{Op}

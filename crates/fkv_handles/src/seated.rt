@@ -6,8 +6,8 @@ use fkv_base::{Fault, Key};
 use fkv_disk::Device;
 use fkv_map::{Call, Op};
 use fkv_posted::Posted;
-use fkv_session::{Answer, Finished, Told};
-use fkv_threads::{Pass, Session, Table, run, run_op, run_told};
+use fkv_session::{Finished, Told};
+use fkv_threads::{Pass, Session, Table, run_op, run_told};
 use std::alloc::Global;
 use std::marker::Model;
 use std::sync::Arc;
@@ -33,20 +33,6 @@ impl Model for Seated {
 }
 
 impl Seated {
-    /// Runs a call to its end, as `fkv_threads::run` does. It waits for no other thread.
-    pub fn call(&mut self, call: Call) -> Answer
-        ensures called { said.IsCallOf (said.opening_of ⟦<Posted<'static> as Device>⟧.seen) self.old call result self.new }
-    {
-        match self.pass.take() {
-            Some(pass) => {
-                let (pass, answer) = run(&mut self.session, &self.table, pass, call);
-                self.pass = Some(pass);
-                answer
-            }
-            None => Answer::Refused(Fault::NoSession),
-        }
-    }
-
     /// Runs a call to its end, as `fkv_threads::run_told` does. It waits for no other thread.
     pub fn tell(&mut self, call: Call) -> Told
         ensures called { said.IsToldCallOf (said.opening_of ⟦<Posted<'static> as Device>⟧.seen) self.old call result self.new }

@@ -7,7 +7,7 @@ use fkv_base::{Fault, Key};
 use fkv_disk::Device;
 use fkv_map::{Call, Op};
 use fkv_posted::Posted;
-use fkv_session::{Answer, Finished, Told};
+use fkv_session::{Finished, Told};
 use fkv_spread::Keys;
 
 /// A session's handle, until it is ended. It may go into any thread.
@@ -43,21 +43,8 @@ fn laid_in(keys: Keys, call: Call) -> Call
 }
 
 impl Session {
-    /// Runs a call to its end, as `fkv_threads::run` does: it waits for no other thread, and a refusal is one of the answers. The key of an
-    /// operation is the caller's. `NoSession` once the handle is ended.
-    pub fn call(&mut self, call: Call) -> Answer
-        ensures called { said.IsCalled (said.opening_of ⟦<Posted<'static> as Device>⟧.seen) (said.sitting_of self.old) (said.laid_call (said.keys_of self.old) call) result (said.sitting_of self.new) }
-        ensures keys { said.keys_of self.new ≡ said.keys_of self.old }
-    {
-        let call = laid_in(self.keys, call);
-        match &mut self.seated {
-            Some(seated) => seated.call(call),
-            None => Answer::Refused(Fault::NoSession),
-        }
-    }
-
-    /// Runs a call to its end, as `call` does, and gives what it was told, which has four words. An `Answer` has room for the list of a poll, which
-    /// would be cleared and copied at each call. A poll tells how many requests are left, and `finished` those that it has finished. `NoSession` once the
+    /// Runs a call to its end, as `fkv_threads::run_told` does, and gives what it was told. It waits for no other thread, and a refusal is told too. The key
+    /// of an operation is the caller's. A poll tells how many requests are left, and `finished` those that it has finished. `NoSession` once the
     /// handle is ended.
     pub fn tell(&mut self, call: Call) -> Told
         ensures called { said.IsToldCall (said.opening_of ⟦<Posted<'static> as Device>⟧.seen) (said.sitting_of self.old) (said.laid_call (said.keys_of self.old) call) result (said.sitting_of self.new) }

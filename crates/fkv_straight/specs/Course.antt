@@ -33,7 +33,7 @@ pub record Course : Type 0 where
 abbrev pub next_name : Lasting → Op → RequestName
 next_name l op = if is_read op then Read (record { 0 = ticket_after l.ticket }) else Update (record { 0 = l.serial + 1 })
 
--- the name of the first request that waits
+-- the name of the first request that waits: where there is none any name will do
 abbrev pub first_name : List PendingRequest → RequestName
 first_name [] = Update (record { 0 = 0 })
 first_name (its ∷ later) = its.name

@@ -77,7 +77,7 @@ pub record MayGo (k : Seat) (s : SessionState) (op : Op) (g : Going) : Type 0 wh
   pub allowed : refusal_of s op ≡ None
   pub serial_left : is_read op ≡ false → s.serial < last_serial
 
--- So may a poll in which this update alone waits, and no record that was asked for by none that waits.
+-- So may a poll in which this update alone waits. No record is on its way that nobody waits for.
 pub record MayPoll (k : Seat) (s : SessionState) (l : Lone) (g : Going) : Type 0 where
   pub goes : Goes (course_of k s l.op call.Poll) k l.op g
   pub awake : s.is_awake ≡ true

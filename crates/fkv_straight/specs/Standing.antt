@@ -126,7 +126,7 @@ done_told AtPoll c its = told.Polled 0
 abbrev pub IsDone : Course → Reply → SessionState → Type 0
 IsDone c its s = IsEnded (done_lasts c.occasion c its) (done_told c.occasion c its) s
 
--- the same where another session was quicker: a call takes the next serial, and its update waits. In a poll it waits on
+-- Another session was quicker: a call takes the next serial, and its update waits. In a poll it goes on waiting.
 abbrev pub waiting_lasts : Occasion → Course → Lasting
 waiting_lasts AtCall c = record c.lasts { serial = c.lasts.serial + 1; requests = c.lasts.requests ++ pending_in c ∷ [] }
 waiting_lasts AtPoll c = c.lasts
@@ -138,7 +138,7 @@ waiting_told AtPoll c = told.Polled 1
 abbrev pub IsWaiting : Course → SessionState → Type 0
 IsWaiting c s = IsEnded (waiting_lasts c.occasion c) (waiting_told c.occasion c) s
 
--- what an update comes to. One that is unusual is in hand still
+-- what an update comes to. Of one that is unusual nothing is said
 abbrev pub ComesTo : Course → Outcome → SessionState → Type 0
 ComesTo c (Done its) s = IsDone c its s
 ComesTo c Contended s = IsWaiting c s

@@ -22,7 +22,7 @@ use fkv_map::{Call, Op};
 use fkv_ops::Reason;
 use fkv_session::{Session, Told};
 
-/// The machine takes the update for one that waits, if there is room for one more behind it.
+/// Adds the update to the machine's requests that wait. None where the list would be full then: a session with a full list makes no straight call.
 #[inline(never)]
 fn wait(machine: &mut Session, op: Op) -> Option<Told>
     requires left { machine.old.state.serial < last_serial }

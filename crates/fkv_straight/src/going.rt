@@ -107,7 +107,8 @@ impl Going {
         }
     }
 
-    /// The update that a poll may try straight, if there is one: it alone waits, for nothing but the poll, and is one of the session's version.
+    /// The update that a poll may try straight, if there is one: it alone waits, needs no record of the device, holds no latch, and is one of the
+    /// session's version, which isn't in prepare.
     pub(crate) fn lone(&self, machine: &Session) -> Option<Lone>
         ensures { IfSome result (λ its. GoesBy machine.now.seat machine.now.state self.now → MayPoll machine.now.seat machine.now.state its self.now) }
     {

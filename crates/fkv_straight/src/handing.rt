@@ -9,8 +9,8 @@ use fkv_map::Call;
 use fkv_plane::Ask;
 use fkv_session::{Session, Told, law_of_standing};
 
-/// Begins the call anew by the machine and tells it the replies that have come, with no step on a word: then it stands where the line
-/// stands. Gives what it asks there.
+/// Begins the call anew by the machine and tells it the replies that have come, with no step on a word: then it stands like the line. Gives
+/// what it asks there.
 #[inline(never)]
 pub fn catch_up<L: Line>(line: &L, machine: &mut Session, call: Call) -> Ask<Told>
     requires seat { machine.old.seat ≡ L.seat line.now }

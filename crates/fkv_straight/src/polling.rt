@@ -1,4 +1,4 @@
-//! A poll, straight, in which one update waits that another session was quicker than.
+//! A poll, straight, in which one update alone waits.
 ghost use Rattle.std.specs.Prelude.{◌≡◌, IfSome, IfNone, false};
 ghost use Rattle.fkv_map.specs.declared.operations.Call.TheVariants as call;
 ghost use Rattle.fkv_plane.specs.declared.asks.Ask.TheVariants.{Done};

@@ -35,8 +35,8 @@ pub enum Went {
     Stayed,
 }
 
-/// A session's machine. What its straight calls go by is looked up at the first of them, and lasts until the session
-/// refreshes or the machine makes a call. A contract sees it as the machine.
+/// A session's machine, and what its straight calls go by. That is looked up at the first straight call. A refresh, or a call by the machine, drops it. A
+/// contract sees it as the machine.
 #[derive(Drop)]
 pub struct StraightSession {
     machine: Session,
@@ -161,7 +161,7 @@ impl StraightSession {
     }
 
     /// Makes the steps of a refresh, each the one that the machine's table asks for, to its end. Where the session sleeps or a request waits it makes none.
-    #[inline(always)]
+    #[inline(never)]
     fn refresh<L: Line>(&mut self, line: &mut L) -> Went
         requires idle { is_busy (L.stands line.old).step ≡ false }
         requires seat { self.old.seat ≡ L.seat line.old }
@@ -183,7 +183,7 @@ impl StraightSession {
 
     /// Makes the steps of a poll, each the one that the machine's table asks for, up to its answer or to where anything unusual is met. It may go straight
     /// where one update waits, and that for nothing but the poll.
-    #[inline(always)]
+    #[inline(never)]
     fn poll<L: Line>(&mut self, line: &mut L) -> Went
         requires idle { is_busy (L.stands line.old).step ≡ false }
         requires seat { self.old.seat ≡ L.seat line.old }
@@ -231,8 +231,8 @@ impl StraightSession {
         }
     }
 
-    /// Begins the call anew by the machine and tells it the replies that have come, with no step on a word: then it stands where the line
-    /// stands. Gives what it asks there.
+    /// Begins the call anew by the machine and tells it the replies that have come, with no step on a word: then it stands like the line.
+    /// Gives what it asks there.
     pub fn catch_up<L: Line>(&mut self, line: &L, call: Call) -> Ask<Told>
         requires seat { self.old.seat ≡ L.seat line.now }
         requires led { (start : L) × L.led start call line.now × StandAlike (begins self.old.seat self.old.state call) (begins (L.seat start) (L.stands start) call) }

@@ -275,7 +275,7 @@ impl Session {
         (pass, answer)
     }
 
-    /// Runs a call to its end, as `run` does, and gives what it was told: of a poll how many requests are left, without those that it has finished.
+    /// Runs a call to its end, as `run` does, and gives what it was told: of a poll how many requests are left. `finished` tells those that it has finished.
     pub fn run_told<D: Device>(
         &mut self,
         table: &Table<D>,

@@ -34,7 +34,7 @@ pub fn run<D: Device>(
 }
 
 /// Runs a call, as `run` does, and gives what it was told, which has four words. What `run` ensures of a call and its answer holds here of the call and the
-/// answer that says what was told. A poll tells how many requests are left: those that it has finished are told by `run` alone.
+/// answer that says what was told. A poll tells how many requests are left, and `Session::finished` those that it has finished.
 pub fn run_told<D: Device>(
     session: &mut Session,
     table: &Table<D>,
