@@ -138,7 +138,7 @@ enum {
     FKV_FUZZY = 1,     /* its record is about to become read-only */
     FKV_DISK = 2,      /* its record may lie in the file alone */
     FKV_LATCH = 3,     /* a commit holds its bucket */
-    FKV_CONTENDED = 4, /* another session was quicker */
+    FKV_CONTENDED = 4, /* another session was quicker: poll at once */
     FKV_NO_ROOM = 5,   /* the next page isn't open yet: the keeper is behind */
     FKV_FULL = 6       /* the index or the log is full */
 };
@@ -159,7 +159,7 @@ enum { FKV_AS_THEY_LIE = 0, FKV_SPREAD_NOW = 1 };
 enum {
     FKV_BAD_SHAPE = 1,       /* a size of the shape is outside its limits */
     FKV_VALUE_RESERVED = 2,  /* 2^64 - 1 is no value */
-    FKV_PENDING_FULL = 3,    /* 64 requests of the session are pending: refresh, poll, and call again */
+    FKV_PENDING_FULL = 3,    /* 64 requests of the session are pending: poll, refresh, and call again */
     FKV_INDEX_FULL = 4,      /* the index has no room for another home of keys */
     FKV_LOG_FULL = 5,        /* the log has no room for another record, and never will have */
     FKV_VERSIONS_SPENT = 6,  /* the store has taken its last commit */
@@ -281,8 +281,8 @@ int32_t fkv_delete(fkv_session *session, uint64_t key, fkv_update *told);
  *
  * They are for stores whose index and records don't fit the processor's caches. Before each 16 calls most cache lines are fetched that
  * these will read, so their misses are waited for at once. With 2^20 keys that is 1.2 to 1.7 times as fast as single calls. A store
- * that fits the caches goes better by single calls: many take up to half as long again. The session doesn't refresh meanwhile: refresh
- * and poll between calls of 64 keys or so.
+ * that fits the caches goes better by single calls: many take up to half as long again. The session doesn't refresh meanwhile: poll
+ * and refresh between calls of 64 keys or so.
  *
  * `told` has `room` places, and those behind `count` stay as they are. `values` and `numbers` are as many as the keys. No pointer is
  * NULL, though a length may be 0.

@@ -300,7 +300,7 @@ static int32_t not_served(fkv_file *file) {
 int32_t fkv_settle(fkv_file *file, fkv_session *session, fkv_finished_fn *told, void *user) {
     fkv_finished finished[FKV_MOST_PENDING];
     fkv_seen seen;
-    /* A request that lost to another session is finished by the first poll. What is left then may wait for a refresh, and else for the keeper. */
+    /* A request that lost to another session is mostly finished by the first poll. What is left then may wait for a refresh, and else for the keeper. */
     for (unsigned polls = 0;; polls++) {
         uint64_t count = 0;
         int32_t left = fkv_poll(session, finished, FKV_MOST_PENDING, &count);

@@ -49,7 +49,7 @@ static uint64_t draw(struct worker *worker) {
     return (worker->drawn >> 33) % keys;
 }
 
-/* One update, made again where too many are pending. It tells why it waits, or 0. */
+/* One update, made again where too many are pending. One that another session was quicker than is polled at once. It tells why it waited, or 0. */
 static uint64_t update(struct worker *worker) {
     fkv_finished finished[FKV_MOST_PENDING];
     fkv_update told;
@@ -57,7 +57,10 @@ static uint64_t update(struct worker *worker) {
     uint64_t key = draw(worker), count;
     for (;;) {
         int32_t result = adds ? fkv_add(worker->session, key, 1, &told) : fkv_upsert(worker->session, key, key, &told);
-        if (result == FKV_PENDING) return told.reason;
+        if (result == FKV_PENDING) {
+            if (told.reason == FKV_CONTENDED) must(fkv_poll(worker->session, finished, FKV_MOST_PENDING, &count), "poll");
+            return told.reason;
+        }
         if (result != -FKV_PENDING_FULL) return must(result, "update"), 0;
         fkv_nudge(file);
         must(fkv_refresh(worker->session, &seen), "refresh");

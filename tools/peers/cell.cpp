@@ -80,7 +80,7 @@ Outcome measure(Peer &peer, const Cell &cell, const Draws &draws, unsigned turn)
     Gate gate;
     std::vector<Tally> tallies(cell.threads);
     std::vector<std::thread> threads;
-    // (fkv's keeper begins with a full commit, and a cell with commits of the log is to have no other)
+    // (each store commits once first: fkv's keeper begins with a full commit, which isn't for a cell with commits of the log)
     if (cell.commits != Commits::none) peer.commit(cell.commits == Commits::full);
     for (unsigned n = 0; n < cell.threads; n++) {
         const uint64_t from = (Draws::count / 4 * n + 4096 * turn) % Draws::count;

@@ -5,7 +5,7 @@
 //!
 //! Each add is of 1, so in every opened store the values' sum is that of the points: the sum line says whether it is. Each thread
 //! writes out which of its adds are durable: no crash behind that line may lose one of them.
-use fkv::{Error, Keeping, Phase, Session, Shape, Store};
+use fkv::{Error, Keeping, Session, Shape, Store};
 use std::io::{ErrorKind, Write, stdout};
 use std::time::Duration;
 use std::{env, fmt, thread};
@@ -75,9 +75,9 @@ fn work(mut session: Session, number: u64) -> Result<(), Error> {
         if i % REFRESH_EACH != 0 {
             continue;
         }
-        if session.refresh()?.phase != Phase::Rest {
-            session.settle(|_| {})?;
-        }
+        // Where nothing is pending a refresh takes no longer than an update.
+        session.settle(|_| {})?;
+        session.refresh()?;
         let durable = session.durable()?;
         if durable > told {
             told = durable;

@@ -81,7 +81,7 @@ pub enum Reason {
     Disk,
     /// A commit holds its bucket.
     Latch,
-    /// Another session was quicker.
+    /// Another session was quicker: poll at once.
     Contended,
     /// The next page isn't open yet: the keeper is behind.
     NoRoom,

@@ -94,7 +94,7 @@ struct Fkv {
             return false;
         }
 
-        // The same of an update. One that lost to another session is finished by a poll at once.
+        // The same of an update. One that lost to another session is mostly finished by a poll at once.
         bool is_updated(int32_t result, const fkv_update &told, const char *what) {
             if (!is_taken(result, what)) return false;
             if (told.reason == FKV_CONTENDED) poll();
