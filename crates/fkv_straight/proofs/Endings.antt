@@ -21,6 +21,7 @@ use Rattle.fkv_session.specs.Sessions.{Seat, SessionState, Sitter, session_ask, 
 use Rattle.fkv_straight.specs.declared.going.Going.{Going}
 use Rattle.fkv_straight.specs.Course.{course_of, next_name, GoesBy}
 use Rattle.fkv_straight.specs.Standing.{begins, IsEnded, IsWaiting, IsCaughtUp}
+use Rattle.fkv_straight.proofs.Goings.{goes_on_by}
 use Rattle.fkv_straight.proofs.Moves.{asks_none}
 
 -- a call that has ended is in hand no more
@@ -97,21 +98,7 @@ room_left : (requests : List PendingRequest) (its : PendingRequest) → length r
 room_left requests its few = let e : length (requests ++ its ∷ []) ≡ length requests + 1 = length_push requests its in grind (arith, nat_tests, e)
 
 waiting_by : (m n : Sitter) (op : Op) (g : Going) → length m.state.requests + 1 < max_pending → n ≡ record m { state = update_waiting m.state op } → GoesBy m.seat m.state g → GoesBy n.seat n.state g
-waiting_by m n op g few e by =
-    subst (λ (x : Sitter). GoesBy x.seat x.state g) (sym e) record {
-      places = by.places;
-      bits = by.bits;
-      head = by.head;
-      read_only = by.read_only;
-      version = by.version;
-      some_version = by.some_version;
-      version_fits = by.version_fits;
-      moves_on = by.moves_on;
-      prepares = by.prepares;
-      awake = by.awake;
-      room = room_left m.state.requests _ few;
-      spare_fits = by.spare_fits;
-    }
+waiting_by m n op g few e by = goes_on_by m n (update_waiting m.state op) g e refl refl refl (room_left m.state.requests _ few) by
 
 pub waiting_goes : (m n : Sitter) (op : Op) (g : Going) (r : Option Told)
     → IfSome r (λ (its : Told). (its ≡ told.Pending (record { 0 = m.state.serial + 1 }) reason.Contended) × (length m.state.requests + 1 < max_pending) × (n ≡ record m { state = update_waiting m.state op })) → IfNone r (n ≡ m) → GoesBy m.seat m.state g

@@ -85,23 +85,28 @@ shares_at op one other e = ap (λ (x : Seen). is_prepare x.phase && not (is_read
 pub version_same : (v : ℕ) → ¬ (v ≡ 0) → v ≤ last_version → version_within v ≡ v
 version_same v some fits = omega (arith, some, fits)
 
--- the serial that the machine takes is none of what it goes by
-pub goes_by_still : (m n : Sitter) (g : Going) → n ≡ record m { state = record m.state { serial = m.state.serial + 1; step = Idle Slept } } → GoesBy m.seat m.state g → GoesBy n.seat n.state g
-goes_by_still m n g e by =
+-- a call of the machine changes nothing that the next call goes by, if it leaves the view, the spare bucket and room for a request
+pub goes_on_by : (m n : Sitter) (s : SessionState) (g : Going) → n ≡ record m { state = s } → s.seen ≡ m.state.seen → s.is_awake ≡ m.state.is_awake → s.spare ≡ m.state.spare → is_full s.requests ≡ false → GoesBy m.seat m.state g
+    → GoesBy n.seat n.state g
+goes_on_by m n s g e seen awake spare room by =
     subst (λ (x : Sitter). GoesBy x.seat x.state g) (sym e) record {
       places = by.places;
       bits = by.bits;
-      head = by.head;
-      read_only = by.read_only;
-      version = by.version;
+      head = ap (λ (x : Seen). x.offsets.head.0) seen ∙ by.head;
+      read_only = ap (λ (x : Seen). x.offsets.read_only.0) seen ∙ by.read_only;
+      version = ap (λ (x : Seen). x.version.0) seen ∙ by.version;
       some_version = by.some_version;
       version_fits = by.version_fits;
-      moves_on = by.moves_on;
-      prepares = by.prepares;
-      awake = by.awake;
-      room = by.room;
-      spare_fits = by.spare_fits;
+      moves_on = ap (λ (x : Seen). is_moving_on x.phase) seen ∙ by.moves_on;
+      prepares = ap (λ (x : Seen). is_prepare x.phase) seen ∙ by.prepares;
+      awake = awake ∙ by.awake;
+      room = room;
+      spare_fits = subst (λ (x : ℕ). x ≤ g.places.overflow) (sym spare) by.spare_fits;
     }
+
+-- the serial that the machine takes is none of what it goes by
+pub goes_by_still : (m n : Sitter) (g : Going) → n ≡ record m { state = record m.state { serial = m.state.serial + 1; step = Idle Slept } } → GoesBy m.seat m.state g → GoesBy n.seat n.state g
+goes_by_still m n g e by = goes_on_by m n (record m.state { serial = m.state.serial + 1; step = Idle Slept }) g e refl refl refl by.room by
 
 pub less_of : (serial shown : ℕ) → shown ≡ serial → nat_lt shown last_serial ≡ true → serial < last_serial
 less_of serial shown e h = subst (λ (n : ℕ). n < last_serial) e (grind (arith, nat_tests, h))

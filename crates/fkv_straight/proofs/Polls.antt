@@ -29,7 +29,7 @@ use Rattle.fkv_straight.specs.Course.{Course, course_of, first_name, pending_in,
 use Rattle.fkv_straight.specs.Met.{Begins, MayPoll}
 use Rattle.fkv_straight.specs.Standing.{begins, IsDone, IsCaughtUp, IsWaiting}
 use Rattle.fkv_straight.proofs.Endings.{read_asks, read_caught_up}
-use Rattle.fkv_straight.proofs.Goings.{spare_same, version_same}
+use Rattle.fkv_straight.proofs.Goings.{goes_on_by, spare_same, version_same}
 
 -- what waits, as the request of a course
 as_request : (r : Request) (op : Op) (version : Version) → r.op ≡ op → r.version.0 ≡ version_within version.0 → r.has_latch ≡ false → r.held ≡ None → r ≡ request_of op version
@@ -189,36 +189,8 @@ pub unpolled_asks : (k : Seat) (s u : SessionState) (op : Op) → IsWaiting (cou
 unpolled_asks k s u op waits = read_asks k u _ (told.Polled 1) waits
 
 pub unpolled_by : (m n : Sitter) (g : Going) → n ≡ record m { state = nothing_polled m.state } → GoesBy m.seat m.state g → GoesBy n.seat n.state g
-unpolled_by m n g e by =
-    subst (λ (x : Sitter). GoesBy x.seat x.state g) (sym e) record {
-      places = by.places;
-      bits = by.bits;
-      head = by.head;
-      read_only = by.read_only;
-      version = by.version;
-      some_version = by.some_version;
-      version_fits = by.version_fits;
-      moves_on = by.moves_on;
-      prepares = by.prepares;
-      awake = by.awake;
-      room = by.room;
-      spare_fits = by.spare_fits;
-    }
+unpolled_by m n g e by = goes_on_by m n (nothing_polled m.state) g e refl refl refl by.room by
 
 -- what the next call goes by stays
 pub polled_by : (m n : Sitter) (serial : Serial) (its : Reply) (waiting : PendingRequest) (g : Going) → m.state.requests ≡ waiting ∷ [] → n ≡ record m { state = update_polled m.state serial its } → GoesBy m.seat m.state g → GoesBy n.seat n.state g
-polled_by m n serial its waiting g waits e by =
-    subst (λ (x : Sitter). GoesBy x.seat x.state g) (sym e) record {
-      places = by.places;
-      bits = by.bits;
-      head = by.head;
-      read_only = by.read_only;
-      version = by.version;
-      some_version = by.some_version;
-      version_fits = by.version_fits;
-      moves_on = by.moves_on;
-      prepares = by.prepares;
-      awake = by.awake;
-      room = rw waits refl;
-      spare_fits = by.spare_fits;
-    }
+polled_by m n serial its waiting g waits e by = goes_on_by m n (update_polled m.state serial its) g e refl refl refl (rw waits refl) by
