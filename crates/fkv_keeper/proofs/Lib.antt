@@ -14,6 +14,7 @@ mod DrainParts
 mod DrainRuns
 mod DrainSought
 mod FewLost
+mod GoesOn
 mod Granted
 mod HandBusy
 mod KeeperBegun

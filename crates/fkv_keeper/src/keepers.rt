@@ -17,7 +17,7 @@ ghost use Rattle.fkv_keeper.specs.KeeperAsks.{IsBusyWhereLeft, keeper_asks_left,
 ghost use Rattle.fkv_keeper.specs.Keeping.{commit_asked, turn_asked, keeper_ask, keeper_next, keeper_given, keeper_called, may_copy, turn_called, writes_called};
 ghost use Rattle.fkv_keeper.specs.KeeperRun.{IsOpened};
 ghost use Rattle.fkv_keeper.specs.NewKeepers.{IsNewKeeper};
-ghost use Rattle.fkv_keeper.specs.declared.keepers.Keeping.TheVariants.{Ended};
+ghost use Rattle.fkv_keeper.specs.declared.keepers.Keeping.TheVariants.{Ended, Maintains};
 
 use crate::answers::KeeperTold;
 use crate::last_commits::{Checkpoint, LastCommit};
@@ -242,10 +242,7 @@ impl Keeper {
                 let ask = self.start.drive(reply);
                 self.after_start(ask);
             }
-            Keeping::Maintains => {
-                let ask = self.maintain.drive(reply);
-                self.after_maintain(ask);
-            }
+            Keeping::Maintains => return self.go_on_maintaining(reply),
             Keeping::LoadsPhase => self.after_phase(phase_said(reply), room),
             Keeping::Enters => {
                 let ask = self.enter.drive(reply);
@@ -269,6 +266,21 @@ impl Keeper {
             }
         }
         self.ask()
+    }
+
+    /// Goes on with what every turn does. What that asks is passed on at once, and not asked for again.
+    #[tactic(auto, using(crate::proofs::GoesOn::maintain_goes_on), unfolding(crate::specs::Keeping::keeping_next, crate::specs::Keeping::keeping_ask))]
+    fn go_on_maintaining(&mut self, reply: u64) -> Ask<KeeperTold>
+        requires { self.old.state.step ≡ Maintains }
+        ensures next { (granted : Bool) → self.new ≡ record self.old { state = keeper_next self.old.shape self.old.places self.old.state reply granted } }
+        ensures ask { result ≡ keeper_ask self.old.shape self.old.places self.new.state }
+    {
+        let ask = self.maintain.drive(reply);
+        if let Ask::Done(_) = ask {
+            self.after_maintain(ask);
+            return self.ask();
+        }
+        device_passed(ask, KeeperTold::Turned(false, self.is_drain_full))
     }
 
     /// Gets the action of the slot that it claimed.

@@ -1,3 +1,4 @@
+mod GoesOn
 mod MaintainLeft
 mod PartsDriven
 mod PartsFollow

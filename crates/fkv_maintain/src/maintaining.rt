@@ -9,7 +9,7 @@ ghost use Rattle.fkv_flush.specs.Devices.{Adds};
 ghost use Rattle.fkv_flush.specs.Serving.{mail_place};
 ghost use Rattle.fkv_maintain.specs.AsksLeft.{maintain_asks_left, most_maintain_asks, GoesOnWhereLeft};
 ghost use Rattle.fkv_maintain.specs.declared.maintaining.MaintainAnswer.TheVariants.{Device as AtDevice};
-ghost use Rattle.fkv_maintain.specs.declared.maintaining.Maintaining.TheVariants.{Through, Broken};
+ghost use Rattle.fkv_maintain.specs.declared.maintaining.Maintaining.TheVariants.{Through, Broken, Flushes};
 ghost use Rattle.fkv_plane.specs.Passing.{is_done};
 ghost use Rattle.fkv_plane.specs.declared.asks.Ask.TheVariants.{Done};
 ghost use Rattle.fkv_maintain.specs.Maintaining.{maintain_begun, maintain_ask, maintain_next, maintain_given, maintain_called, maintain_asked, maintain_calls, maintain_calls_asked, maintain_made, device_asked, scan_ledto, claim_ledto, flush_ledto, shift_ledto, turn_ledto, serve_begun, serve_ledto, turn_form};
@@ -136,10 +136,7 @@ impl Maintain {
                 let ask = self.claim.drive(reply);
                 self.after_claim(ask);
             }
-            Maintaining::Flushes => {
-                let ask = self.flush.drive(reply);
-                self.after_flush(ask);
-            }
+            Maintaining::Flushes => return self.go_on_flushing(reply),
             Maintaining::Shifts => {
                 let ask = self.shift.drive(reply);
                 self.after_shift(ask);
@@ -154,6 +151,21 @@ impl Maintain {
             }
         }
         self.ask()
+    }
+
+    /// Goes on with the flush, which loads each word of each record: what it asks is passed on at once, and not asked for again.
+    #[tactic(auto, using(crate::proofs::GoesOn::flush_goes_on), unfolding(crate::specs::Maintaining::maintaining_next, crate::specs::Maintaining::maintaining_ask))]
+    fn go_on_flushing(&mut self, reply: u64) -> Ask<MaintainAnswer>
+        requires { self.old.state.step ≡ Flushes }
+        ensures next { self.new ≡ record self.old { state = maintain_next self.old.shape self.old.places self.old.state reply } }
+        ensures ask { result ≡ maintain_ask self.old.shape self.old.places self.new.state }
+    {
+        let ask = self.flush.drive(reply);
+        if let Ask::Done(_) = ask {
+            self.after_flush(ask);
+            return self.ask();
+        }
+        device_asked(ask)
     }
 
     /// Gets the action of the slot that it claimed.

@@ -231,7 +231,7 @@ fn step<D: Device>(
     seat: &mut Place<D>,
     machine: &mut fkv_keeper::Keeper,
     ask: &Ask<KeeperTold>,
-)
+) -> Ask<KeeperTold>
     requires table { (seat.old.table_id ≡ words.now.table_id) × said.IsTableOf (said.opening_of D.seen words.now.key) words.now.table_id }
     requires keeping { said.IsKeeping (said.opening_of D.seen) words.now.key seat.old.me machine.old }
     requires ask { ask.now ≡ said.keeper_ask machine.old.shape machine.old.places machine.old.state }
@@ -242,10 +242,11 @@ fn step<D: Device>(
     ensures calls { (said.led (said.plane (said.opening_of D.seen)) (said.opening_of D.seen words.now.key) seat.new.me.0.seen).past.calls ≡ (said.led (said.plane (said.opening_of D.seen)) (said.opening_of D.seen words.now.key) seat.old.me.0.seen).past.calls }
     ensures fewer { said.keeper_asks_left machine.new.shape machine.new.places machine.new.state < said.keeper_asks_left machine.old.shape machine.old.places machine.old.state }
     ensures beginning { said.IsBeginning machine.old.state.step → said.IsBeginning machine.new.state.step }
+    ensures ask { result ≡ said.keeper_ask machine.new.shape machine.new.places machine.new.state }
 {
     let room = machine.room();
     let next = ask_by_room(words, seat, machine, ask, room);
-    settle(words, seat, machine, next);
+    settle(words, seat, machine, next)
 }
 
 /// Makes the call of the device that the machine asks for, and adds that to the list.
@@ -292,11 +293,12 @@ pub(crate) fn word_steps<D: Device>(
     ensures left { said.keeper_asks_left machine.new.shape machine.new.places machine.new.state ≤ said.keeper_asks_left machine.old.shape machine.old.places machine.old.state }
     ensures beginning { said.IsBeginning machine.old.state.step → said.IsBeginning machine.new.state.step }
 {
+    let mut ask = machine.ask();
     'asks: loop {
-        match machine.ask() {
-            Ask::Done(told) => return told,
-            ask => step(words, seat, machine, &ask),
+        if let Ask::Done(told) = ask {
+            return told;
         }
+        ask = step(words, seat, machine, &ask);
     }
 }
 

@@ -13,18 +13,19 @@ asks-init g c = record {
   calls = refl;
   left = omega arith;
   beginning = λ b. b;
+  asked = c.ask.ensures;
 }
 
-pub step-requires : goal.step-requires
-step-requires g c = let inv = c.asks.invariant in record {
+pub step-ask-requires : goal.step-ask-requires
+step-ask-requires g c = let inv = c.asks.invariant in record {
   table = (inv.table ∙ c.requires.table.0, c.requires.table.1);
   keeping = inv.keeping;
-  ask = c.ask.ensures;
-  word = keeper_word (opening_of g.D.Device.seen) _ _ c.asks.machine _ c.requires.table.1.opening inv.keeping c.ask.ensures c.in_default.not-Done;
+  ask = inv.asked;
+  word = keeper_word (opening_of g.D.Device.seen) _ _ c.asks.machine _ c.requires.table.1.opening inv.keeping inv.asked c.in_default.not-Done;
 }
 
 pub asks-preserved : goal.asks-preserved
-asks-preserved g c = let inv = c.asks.invariant in let did = c.step.ensures in record {
+asks-preserved g c = let inv = c.asks.invariant in let did = c.step-ask.ensures in record {
   table = did.seat.0 ∙ inv.table;
   id = did.seat.1 ∙ inv.id;
   keeping = did.keeping;
@@ -32,7 +33,8 @@ asks-preserved g c = let inv = c.asks.invariant in let did = c.step.ensures in r
   calls = did.calls ∙ inv.calls;
   left = omega (arith, did.fewer, inv.left);
   beginning = λ b. did.beginning (inv.beginning b);
+  asked = did.ask;
 }
 
 pub returns-in-Done-clause-told : goal.returns-in-Done-clause-told
-returns-in-Done-clause-told g c = sym c.ask.ensures ∙ c.in-Done.is
+returns-in-Done-clause-told g c = sym c.asks.invariant.asked ∙ c.in-Done.is

@@ -1,5 +1,6 @@
 use Rattle.std.proofs.Common.{◌≡◌, ◌≤◌}
 use Rattle.fkv_keeper.specs.KeeperAsks.{keeper_asks_left}
+use Rattle.fkv_keeper.specs.Keeping.{keeper_ask}
 use Rattle.fkv_seats.specs.Rule.{led}
 use Rattle.fkv_table.specs.KeeperCalls.{HasGoneOn, IsBeginning}
 use Rattle.fkv_table.specs.Keeps.{IsKeeping}
@@ -16,6 +17,7 @@ invariant-asks g l = record {
       ≡ (led (plane (opening_of g.D.Device.seen)) (opening_of g.D.Device.seen l.fn.words.key) l.fn.seat.me.0.seen).past.calls;
   left : keeper_asks_left l.machine.shape l.machine.places l.machine.state ≤ keeper_asks_left l.fn.machine.shape l.fn.machine.places l.fn.machine.state;
   beginning : IsBeginning l.fn.machine.state.step → IsBeginning l.machine.state.step;
+  asked : l.ask ≡ keeper_ask l.machine.shape l.machine.places l.machine.state;
 }
 
 abbrev pub decreases-asks : goal.decreases-asks

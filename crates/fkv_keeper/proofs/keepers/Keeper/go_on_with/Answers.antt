@@ -25,3 +25,14 @@ returns-clause-fewer c =
     let state = ap (λ (k : KeeperModel). k.state) its in
     λ asks takes. subst (λ (s : KeeperState). keeper_asks_left before.shape before.places s < keeper_asks_left before.shape before.places before.state) (sym state)
     (keeper_fewer before.shape before.places before.state c.args.reply (is_some c.args.room) asks takes)
+
+pub returns-in-Maintains-clause-left : goal.returns-in-Maintains-clause-left
+returns-in-Maintains-clause-left c =
+    let before = c.args.self.now in keeper_asked before.shape before.places c.go_on_maintaining.new.self.state c.go_on_maintaining.result c.go_on_maintaining.ensures.ask
+
+pub returns-in-Maintains-clause-fewer : goal.returns-in-Maintains-clause-fewer
+returns-in-Maintains-clause-fewer c =
+    let before = c.args.self.now in
+    let state = ap (λ (k : KeeperModel). k.state) (c.go_on_maintaining.ensures.next (is_some c.args.room)) in
+    λ asks takes. subst (λ (s : KeeperState). keeper_asks_left before.shape before.places s < keeper_asks_left before.shape before.places before.state) (sym state)
+    (keeper_fewer before.shape before.places before.state c.args.reply (is_some c.args.room) asks takes)

@@ -19,3 +19,9 @@ returns-clause-fewer c =
     let before = c.args.self.now in
     let its : c.match-self.self ≡ record before { state = maintain_next before.shape before.places before.state c.args.reply } = search rules in
     rw its (maintain_fewer before.shape before.places before.state c.args.reply)
+
+pub returns-in-Flushes-clause-left : goal.returns-in-Flushes-clause-left
+returns-in-Flushes-clause-left c = let before = c.args.self.now in maintain_asked before.shape before.places c.go_on_flushing.new.self.state c.go_on_flushing.result c.go_on_flushing.ensures.ask
+
+pub returns-in-Flushes-clause-fewer : goal.returns-in-Flushes-clause-fewer
+returns-in-Flushes-clause-fewer c = let before = c.args.self.now in rw c.go_on_flushing.ensures.next (maintain_fewer before.shape before.places before.state c.args.reply)
