@@ -64,6 +64,7 @@ impl Store {
         ensures given { said.IsGiven (said.store_keys self.old) (said.store_sessions self.old) number result (said.store_sessions self.new) }
         ensures keeper { said.store_keeper self.new ≡ said.store_keeper self.old }
         ensures keys { said.store_keys self.new ≡ said.store_keys self.old }
+        ensures open { said.store_is_open self.new ≡ said.store_is_open self.old }
     {
         match self.sessions.get_mut(number) {
             None => Err(Refusal::Fault(Fault::NoSession)),
@@ -82,6 +83,7 @@ impl Store {
         ensures given { said.IsKeeperGiven (said.store_keeper self.old) result (said.store_keeper self.new) }
         ensures sessions { said.store_sessions self.new ≡ said.store_sessions self.old }
         ensures keys { said.store_keys self.new ≡ said.store_keys self.old }
+        ensures open { said.store_is_open self.new ≡ said.store_is_open self.old }
     {
         match self.keeper.take() {
             None => Err(Refusal::HandleTaken),
