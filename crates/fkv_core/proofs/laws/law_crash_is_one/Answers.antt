@@ -1,0 +1,15 @@
+-- A store that has crashed before stays so.
+use Rattle.std.proofs.Common.{◌≡◌, refl, Bool, true, false}
+use Rattle.std.specs.Prelude.{if◌then◌else◌}
+use Rattle.fkv_core.specs.declared.events.Event.TheVariants.{Crash}
+use Rattle.fkv_core.specs.Worlds.{took_place}
+use Rattle.fkv_world.specs.World.{Now, life_goes}
+use Rattle.fkv_core.proofs.laws.law_crash_is_one.Goals as goal
+
+crashed_so : (b : Bool) (n m : Now) → n.crashed ≡ b → m.crashed ≡ true → (if b then n else m).crashed ≡ true
+crashed_so true n m e h = e
+crashed_so false n m e h = h
+
+pub returns-clause-crashed : goal.returns-clause-crashed
+unfolding life_goes
+returns-clause-crashed c = λ n read granted done. crashed_so n.crashed n (life_goes n read (took_place Crash granted done)) refl refl
