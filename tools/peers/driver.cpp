@@ -45,6 +45,7 @@ struct Settings {
     Words full_mixes{"upsert", "A"}, full_threads{"2"};    // with full ones
     Words timed_mixes{"get", "upsert", "add", "A"}, timed_threads = threads;  // cells of single calls, of fkv
     Words beside_mixes{"A"}, beside_threads{"2"};          // and of the others
+    Words own_sizes;                                       // of which sizes its cells with commits, and of single calls, are played; all where nothing is said
     Words only;                                            // the peers that take part; all where nothing is said
     double cell = 0.03, commit_cell = 0.13, timed_cell = 0.13, until = 470;
     unsigned rounds = 3, commit_rounds = 3;
@@ -64,7 +65,8 @@ Settings read(const Words &words) {
     std::map<std::string, Words *> lists{
         {"sizes", &settings.sizes}, {"mixes", &settings.mixes}, {"spreads", &settings.spreads}, {"threads", &settings.threads}, {"commit_threads", &settings.commit_threads},
         {"commit_mixes", &settings.commit_mixes}, {"full_mixes", &settings.full_mixes}, {"full_threads", &settings.full_threads}, {"timed_mixes", &settings.timed_mixes},
-        {"timed_threads", &settings.timed_threads}, {"beside_mixes", &settings.beside_mixes}, {"beside_threads", &settings.beside_threads}, {"only", &settings.only}};
+        {"timed_threads", &settings.timed_threads}, {"beside_mixes", &settings.beside_mixes}, {"beside_threads", &settings.beside_threads}, {"own_sizes", &settings.own_sizes},
+        {"only", &settings.only}};
     std::map<std::string, double *> numbers{{"cell", &settings.cell}, {"commit_cell", &settings.commit_cell}, {"timed_cell", &settings.timed_cell}, {"until", &settings.until}};
     std::map<std::string, unsigned *> counts{{"rounds", &settings.rounds}, {"commit_rounds", &settings.commit_rounds}};
     for (const std::string &word : words) {
@@ -165,12 +167,14 @@ class Run {
         });
     }
 
+    bool plays_own(const Board &board) const { return settings_.own_sizes.empty() || has(settings_.own_sizes, std::to_string(board.keys)); }
+
     // Cells with commits. Of fkv each stands beside one without, of the same length.
     void play_committed(Board &board, bool zipf, unsigned round) {
         const auto play = [&](const Mix &mix, unsigned threads, Commits commits) {
             for (const Guest &guest : board.guests) {
                 const bool own = guest.kind->two_commits;
-                if (!guest.kind->durable || (!own && (round > 0 || commits == Commits::full))) continue;
+                if (!guest.kind->durable || (own ? !plays_own(board) : round > 0 || commits == Commits::full)) continue;
                 if (own) cell("pair", guest, *guest.plain, {board.keys, zipf, mix, threads, Commits::none, false, settings_.commit_cell}, board, round);
                 cell("pair", guest, guest.committed(), {board.keys, zipf, mix, threads, commits, false, settings_.commit_cell}, board, round);
             }
@@ -183,7 +187,7 @@ class Run {
     void play_timed(Board &board, bool zipf, unsigned round) {
         const auto play = [&](const Mix &mix, unsigned threads, bool own) {
             for (const Guest &guest : board.guests) {
-                if (guest.kind->two_commits != own) continue;
+                if (guest.kind->two_commits != own || (own && !plays_own(board))) continue;
                 cell("timed", guest, *guest.plain, {board.keys, zipf, mix, threads, Commits::none, true, settings_.timed_cell}, board, round);
                 if (guest.kind->durable) cell("timed", guest, guest.committed(), {board.keys, zipf, mix, threads, Commits::log, true, settings_.timed_cell}, board, round);
             }

@@ -10,6 +10,6 @@ crashed_so : (b : Bool) (n m : Now) → n.crashed ≡ b → m.crashed ≡ true �
 crashed_so true n m e h = e
 crashed_so false n m e h = h
 
-pub returns-clause-crashed : goal.returns-clause-crashed
+pub returns : goal.returns
 unfolding life_goes
-returns-clause-crashed c = λ n read granted done. crashed_so n.crashed n (life_goes n read (took_place Crash granted done)) refl refl
+returns c = λ n read granted done. crashed_so n.crashed n (life_goes n read (took_place Crash granted done)) refl refl
