@@ -1,5 +1,5 @@
 -- A store that has crashed before stays so.
-use Rattle.std.proofs.Common.{◌≡◌, refl, Bool, true, false}
+use Rattle.std.proofs.Common.{◌≡◌, refl, ℕ, Bool, true, false, List}
 use Rattle.std.specs.Prelude.{if◌then◌else◌}
 use Rattle.fkv_core.specs.declared.events.Event.TheVariants.{Crash}
 use Rattle.fkv_core.specs.Worlds.{took_place}
@@ -10,6 +10,9 @@ crashed_so : (b : Bool) (n m : Now) → n.crashed ≡ b → m.crashed ≡ true �
 crashed_so true n m e h = e
 crashed_so false n m e h = h
 
-pub returns : goal.returns
+crashes : (n : Now) (read : List ℕ) (granted done : Bool) → (life_goes n read (took_place Crash granted done)).crashed ≡ true
 unfolding life_goes
-returns c = λ n read granted done. crashed_so n.crashed n (life_goes n read (took_place Crash granted done)) refl refl
+crashes n read granted done = refl
+
+pub returns : goal.returns
+returns c = record { crashed = λ n read granted done. crashed_so n.crashed n (life_goes n read (took_place Crash granted done)) refl (crashes n read granted done) }
