@@ -7,16 +7,22 @@
 #include <string.h>
 #include <time.h>
 
+#ifdef __linux__
+#include <sys/prctl.h>
+#endif
+
 enum {
     /* Between two turns when nothing is to be done, unless the caller says how long. */
     USUAL_TURN_US = 500,
     /* While a commit runs: it waits for sessions, which refresh every few microseconds. */
     COMMIT_TURN_US = 50,
     /*
-     * For so long its turns follow at once, up to its first write. Until then it waits four times for all sessions, and their updates
-     * go the long way, or wait too.
+     * The same for so long, up to its first write. Until then it waits four times for all sessions, and their updates go the long way, or
+     * wait too. Between two turns the keeper sleeps all the same: if each processor has a session's thread, it may have taken the place of
+     * the one that it waits for.
      */
     HASTE_US = 500,
+    HASTE_TURN_US = 20,
     /* While no session is joined, which is told at once. */
     IDLE_TURN_US = 100000,
     /* Between two polls of a session that waits. */
@@ -131,23 +137,25 @@ static int32_t turn(struct run *run, bool commits, fkv_turned *turned, uint64_t 
     return call;
 }
 
-/* How long nobody needs a turn. */
-static uint32_t rest_us(const fkv_file *file) {
-    uint32_t usual = file->keeping.turn_us ? file->keeping.turn_us : USUAL_TURN_US;
-    if (file->in_hand) return usual < COMMIT_TURN_US ? usual : COMMIT_TURN_US;
-    return file->joined || usual > IDLE_TURN_US ? usual : IDLE_TURN_US;
-}
-
 /* Whether a commit is in hand that still waits for sessions, and hasn't done so for long. The file's lock is held. */
 static bool makes_haste(const struct run *run) {
     return run->file->in_hand && run->written == 0 && is_before(now(), run->haste);
 }
 
+/* How long nobody needs a turn. */
+static uint32_t rest_us(const struct run *run) {
+    const fkv_file *file = run->file;
+    uint32_t usual = file->keeping.turn_us ? file->keeping.turn_us : USUAL_TURN_US;
+    uint32_t most = makes_haste(run) ? HASTE_TURN_US : COMMIT_TURN_US;
+    if (file->in_hand) return usual < most ? usual : most;
+    return file->joined || usual > IDLE_TURN_US ? usual : IDLE_TURN_US;
+}
+
 /* Waits for the next turn, or commit. The file's lock is held. */
 static void rest(const struct run *run) {
     fkv_file *file = run->file;
-    if (run->has_called || file->nudged || file->stops || makes_haste(run)) return;
-    struct timespec until = behind(now(), rest_us(file));
+    if (run->has_called || file->nudged || file->stops) return;
+    struct timespec until = behind(now(), rest_us(run));
     if (file->keeping.commit_ms > 0 && file->was_joined && is_before(run->next, until)) until = run->next;
     pthread_cond_timedwait(&file->work, &file->lock, &until);
 }
@@ -172,9 +180,17 @@ static void go_on(struct run *run) {
     if (result < 0 && result != -FKV_MEMORY) note_fault(file, result);
 }
 
+/* Linux ends a short sleep of a thread up to 50 microseconds late, unless the thread says otherwise. */
+static void wake_in_time(void) {
+#ifdef __linux__
+    prctl(PR_SET_TIMERSLACK, 1UL, 0UL, 0UL, 0UL);
+#endif
+}
+
 static void *keep(void *its_file) {
     struct run run = {.file = its_file};
     fkv_file *file = its_file;
+    wake_in_time();
     pthread_mutex_lock(&file->lock);
     run.next = behind(now(), (uint64_t)file->keeping.commit_ms * 1000);
     run.log_left = 0;
