@@ -38,6 +38,7 @@ struct run {
     uint32_t log_left;     /* so many log commits before the next full one */
     uint64_t written;      /* bytes, since the commit in hand began */
     bool has_called;       /* the last turn has called the file, so the next one may have something to do */
+    bool is_put_off;       /* a commit was due, and has to wait for more turns */
 };
 
 /* ---- Time ----------------------------------------------------------------------------------------------------------------- */
@@ -61,11 +62,15 @@ static bool is_before(struct timespec one, struct timespec other) {
 
 /* ---- Commits. The file's lock is held. -------------------------------------------------------------------------------------- */
 
+/* Whether the next commit begins at its time, without being asked for. */
+static bool goes_by_clock(const fkv_file *file) {
+    return !file->in_hand && !file->fault && file->keeping.commit_ms > 0 && file->was_joined;
+}
+
 static bool is_due(const struct run *run) {
     const fkv_file *file = run->file;
     if (file->in_hand || file->fault) return false;
-    if (file->asked > file->covers) return true;
-    return file->keeping.commit_ms > 0 && file->was_joined && !is_before(now(), run->next);
+    return file->asked > file->covers || (goes_by_clock(file) && !is_before(now(), run->next));
 }
 
 /* The commits that were asked for until now are served by the one that has begun. */
@@ -79,9 +84,15 @@ static void note_begun(struct run *run) {
     run->haste = behind(now(), HASTE_US);
 }
 
-/* From now on there are no commits, or no turns either, and nobody waits for one. */
+/* Where commits are spent turns go on; where turns are refused they are refused for good. */
+static bool has_turns(const fkv_file *file) {
+    return !file->fault || file->fault == -FKV_VERSIONS_SPENT;
+}
+
+/* From now on there are no commits, or no turns either, and nobody waits for one. The commit in hand is never finished. */
 static void note_fault(fkv_file *file, int32_t fault) {
-    if (!file->fault || file->fault == -FKV_VERSIONS_SPENT) file->fault = fault;
+    if (has_turns(file)) file->fault = fault;
+    file->in_hand = false;
     pthread_cond_broadcast(&file->news);
 }
 
@@ -89,6 +100,7 @@ static void note_fault(fkv_file *file, int32_t fault) {
 static bool begin_commit(struct run *run) {
     fkv_file *file = run->file;
     uint64_t number;
+    run->is_put_off = false;
     if (!is_due(run)) return false;
     bool is_log = run->log_left > 0;
     int32_t result = fkv_commit(&file->keeper, is_log, &number);
@@ -102,7 +114,8 @@ static bool begin_commit(struct run *run) {
         return true;
     }
     /* Either of these goes away with turns. */
-    if (result != -FKV_DRAIN_FULL && result != -FKV_COMMIT_RUNNING) note_fault(file, result);
+    run->is_put_off = result == -FKV_DRAIN_FULL || result == -FKV_COMMIT_RUNNING;
+    if (!run->is_put_off) note_fault(file, result);
     return false;
 }
 
@@ -127,13 +140,15 @@ static int32_t turn(struct run *run, bool commits, fkv_turned *turned, uint64_t 
     fkv_file *file = run->file;
     uint8_t into[FKV_READ_SIZE] = {0};
     int32_t call = fkv_turn(&file->keeper, turned, points, FKV_MOST_SESSIONS);
-    run->has_called = call > FKV_OVER;
+    bool has_called = call > FKV_OVER;
     while (call > FKV_OVER) {
         int failed = fkv_call_file(file->fd, call, turned, into);
         if (!failed && call == FKV_WRITE) run->written += turned->length;
         if (commits) tell_progress(run);
         call = fkv_told(&file->keeper, failed != 0, into, call == FKV_READ ? FKV_READ_SIZE : 0, turned, points, FKV_MOST_SESSIONS);
     }
+    /* Where memory was refused, the next turn would at once be refused it again. */
+    run->has_called = has_called && call == FKV_OVER;
     return call;
 }
 
@@ -156,7 +171,7 @@ static void rest(const struct run *run) {
     fkv_file *file = run->file;
     if (run->has_called || file->nudged || file->stops) return;
     struct timespec until = behind(now(), rest_us(run));
-    if (file->keeping.commit_ms > 0 && file->was_joined && is_before(run->next, until)) until = run->next;
+    if (goes_by_clock(file) && !run->is_put_off && is_before(run->next, until)) until = run->next;
     pthread_cond_timedwait(&file->work, &file->lock, &until);
 }
 
@@ -195,9 +210,11 @@ static void *keep(void *its_file) {
     run.next = behind(now(), (uint64_t)file->keeping.commit_ms * 1000);
     run.log_left = 0;
     while (!file->stops) {
-        /* Where commits are spent turns go on; where turns are refused they are refused for good. */
-        if (!file->fault || file->fault == -FKV_VERSIONS_SPENT) go_on(&run);
-        else run.has_called = false, file->nudged = false;
+        if (!has_turns(file)) {
+            pthread_cond_wait(&file->work, &file->lock);
+            continue;
+        }
+        go_on(&run);
         rest(&run);
     }
     pthread_mutex_unlock(&file->lock);
