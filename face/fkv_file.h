@@ -35,6 +35,7 @@ struct fkv_file {
     uint64_t covers;   /* tickets up to this one are served by the commit in hand */
     uint64_t finished; /* and up to this one they are served */
     int32_t fault;     /* 0 while there are turns and commits */
+    int why;           /* errno of a fault that is -FKV_DEVICE */
     fkv_keeping keeping;
 };
 

@@ -37,6 +37,7 @@ struct run {
     struct timespec haste; /* up to then the commit in hand makes haste */
     uint32_t log_left;     /* so many log commits before the next full one */
     uint64_t written;      /* bytes, since the commit in hand began */
+    int why;               /* errno of the last call of the file that has failed */
     bool has_called;       /* the last turn has called the file, so the next one may have something to do */
     bool is_put_off;       /* a commit was due, and has to wait for more turns */
 };
@@ -90,8 +91,12 @@ static bool has_turns(const fkv_file *file) {
 }
 
 /* From now on there are no commits, or no turns either, and nobody waits for one. The commit in hand is never finished. */
-static void note_fault(fkv_file *file, int32_t fault) {
-    if (has_turns(file)) file->fault = fault;
+static void note_fault(const struct run *run, int32_t fault) {
+    fkv_file *file = run->file;
+    if (has_turns(file)) {
+        file->fault = fault;
+        file->why = run->why;
+    }
     file->in_hand = false;
     pthread_cond_broadcast(&file->news);
 }
@@ -115,7 +120,7 @@ static bool begin_commit(struct run *run) {
     }
     /* Either of these goes away with turns. */
     run->is_put_off = result == -FKV_DRAIN_FULL || result == -FKV_COMMIT_RUNNING;
-    if (!run->is_put_off) note_fault(file, result);
+    if (!run->is_put_off) note_fault(run, result);
     return false;
 }
 
@@ -143,6 +148,7 @@ static int32_t turn(struct run *run, bool commits, fkv_turned *turned, uint64_t 
     bool has_called = call > FKV_OVER;
     while (call > FKV_OVER) {
         int failed = fkv_call_file(file->fd, call, turned, into);
+        if (failed) run->why = errno;
         if (!failed && call == FKV_WRITE) run->written += turned->length;
         if (commits) tell_progress(run);
         call = fkv_told(&file->keeper, failed != 0, into, call == FKV_READ ? FKV_READ_SIZE : 0, turned, points, FKV_MOST_SESSIONS);
@@ -192,7 +198,7 @@ static void go_on(struct run *run) {
     pthread_mutex_lock(&file->lock);
     if (finished) note_finished(file, &turned, points);
     /* Memory that was refused may come; the other refusals stay. */
-    if (result < 0 && result != -FKV_MEMORY) note_fault(file, result);
+    if (result < 0 && result != -FKV_MEMORY) note_fault(run, result);
 }
 
 /* Linux ends a short sleep of a thread up to 50 microseconds late, unless the thread says otherwise. */
@@ -219,6 +225,17 @@ static void *keep(void *its_file) {
     }
     pthread_mutex_unlock(&file->lock);
     return NULL;
+}
+
+/* ---- What its fault is ------------------------------------------------------------------------------------------------------ */
+
+/*
+ * A result of a call that another thread may have made, with that call's errno: each thread has its own. The lock isn't held. Who
+ * has seen -FKV_DEVICE under it sees this errno too, which stays.
+ */
+static int32_t with_errno(const fkv_file *file, int32_t result) {
+    if (result == -FKV_DEVICE) errno = file->why;
+    return result;
 }
 
 /* ---- Its start and end ------------------------------------------------------------------------------------------------------ */
@@ -272,7 +289,7 @@ int32_t fkv_stop(fkv_file *file, uint32_t with_commit) {
     /* Another caller ends it. */
     while (file->runs) pthread_cond_wait(&file->news, &file->lock);
     pthread_mutex_unlock(&file->lock);
-    return result;
+    return with_errno(file, result);
 }
 
 /* ---- Who waits -------------------------------------------------------------------------------------------------------------- */
@@ -292,7 +309,7 @@ int32_t fkv_ask_commit(fkv_file *file, uint64_t *ticket) {
         pthread_cond_signal(&file->work);
     }
     pthread_mutex_unlock(&file->lock);
-    return result;
+    return with_errno(file, result);
 }
 
 int32_t fkv_wait_commit(fkv_file *file, uint64_t ticket, fkv_session *session) {
@@ -304,7 +321,7 @@ int32_t fkv_wait_commit(fkv_file *file, uint64_t ticket, fkv_session *session) {
     int32_t result = file->finished >= ticket ? 0 : refusal(file);
     pthread_mutex_unlock(&file->lock);
     if (slept == 0) fkv_wake(session, &seen);
-    return result;
+    return with_errno(file, result);
 }
 
 void fkv_nudge(fkv_file *file) {
@@ -318,7 +335,7 @@ int32_t fkv_keeper_fault(fkv_file *file) {
     pthread_mutex_lock(&file->lock);
     int32_t fault = file->fault;
     pthread_mutex_unlock(&file->lock);
-    return fault;
+    return with_errno(file, fault);
 }
 
 /* Whether requests that are pending are served: they are too where commits alone are spent. */
@@ -327,7 +344,7 @@ static int32_t not_served(fkv_file *file) {
     int32_t why = refusal(file);
     if (why == -FKV_VERSIONS_SPENT && file->runs) why = 0;
     pthread_mutex_unlock(&file->lock);
-    return why;
+    return with_errno(file, why);
 }
 
 int32_t fkv_settle(fkv_file *file, fkv_session *session, fkv_finished_fn *told, void *user) {
