@@ -21,7 +21,7 @@ struct fkv_file {
     pthread_cond_t work;  /* the keeper's thread waits for it: something is asked */
     pthread_cond_t news;  /* others wait for it: a commit has ended, or the thread */
     uint32_t joined;      /* a bit for each session that is joined */
-    uint32_t abandoned;   /* and for each that was abandoned */
+    uint32_t abandoned;   /* and for each that was abandoned, and has requests pending: the keeper's thread has it, or who closes */
     bool was_joined;      /* some session was, since the last commit began */
     uint64_t number;      /* the last finished commit, and its points */
     uint64_t points[FKV_MOST_SESSIONS];
@@ -38,5 +38,8 @@ struct fkv_file {
     int why;           /* errno of a fault that is -FKV_DEVICE */
     fkv_keeping keeping;
 };
+
+/* Makes turns until nothing of what was abandoned is pending, or that can't be. No thread runs, and none begins. */
+void fkv_end_abandoned(fkv_file *file);
 
 #endif

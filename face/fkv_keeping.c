@@ -27,6 +27,8 @@ enum {
     IDLE_TURN_US = 100000,
     /* Between two polls of a session that waits. */
     SETTLE_US = 20,
+    /* A file that is closed waits so long for what was abandoned: a full index or log lets it wait for ever. */
+    LAST_US = 1000000,
     MOST_MS = 1000000000
 };
 
@@ -79,7 +81,7 @@ static void note_begun(struct run *run) {
     fkv_file *file = run->file;
     file->in_hand = true;
     file->covers = file->asked;
-    file->was_joined = file->joined != 0;
+    file->was_joined = (file->joined | file->abandoned) != 0;
     run->written = 0;
     run->next = behind(now(), (uint64_t)file->keeping.commit_ms * 1000);
     run->haste = behind(now(), HASTE_US);
@@ -134,6 +136,34 @@ static void note_finished(fkv_file *file, const fkv_turned *turned, const uint64
 
 /* ---- Turns. The file's lock isn't held. ------------------------------------------------------------------------------------- */
 
+/*
+ * Polls and refreshes the sessions that were abandoned, of which nobody else has one, and puts those to sleep that have nothing pending.
+ * Gives the others.
+ */
+static uint32_t tend(fkv_file *file, uint32_t abandoned) {
+    fkv_finished finished[FKV_MOST_PENDING];
+    fkv_seen seen;
+    uint32_t left = abandoned;
+    for (uint64_t i = 0; abandoned >> i; i++) {
+        uint64_t count = 0;
+        if (!(abandoned >> i & 1)) continue;
+        fkv_poll(&file->sessions[i], finished, FKV_MOST_PENDING, &count);
+        fkv_refresh(&file->sessions[i], &seen);
+        if (fkv_sleep(&file->sessions[i]) != -FKV_PENDING_LEFT) left &= ~(UINT32_C(1) << i);
+    }
+    return left;
+}
+
+void fkv_end_abandoned(fkv_file *file) {
+    uint64_t points[FKV_MOST_SESSIONS];
+    fkv_turned turned;
+    struct timespec until = behind(now(), LAST_US);
+    while (file->abandoned && is_before(now(), until)) {
+        file->abandoned = tend(file, file->abandoned);
+        if (file->abandoned && fkv_turn_file(file->fd, &file->keeper, &turned, points, FKV_MOST_SESSIONS, NULL) < 0) return;
+    }
+}
+
 static void tell_progress(const struct run *run) {
     const fkv_keeping *keeping = &run->file->keeping;
     fkv_progress progress = {FKV_COMMITTING, run->written, 0};
@@ -169,7 +199,7 @@ static uint32_t rest_us(const struct run *run) {
     uint32_t usual = file->keeping.turn_us ? file->keeping.turn_us : USUAL_TURN_US;
     uint32_t most = makes_haste(run) ? HASTE_TURN_US : COMMIT_TURN_US;
     if (file->in_hand) return usual < most ? usual : most;
-    return file->joined || usual > IDLE_TURN_US ? usual : IDLE_TURN_US;
+    return file->joined || file->abandoned || usual > IDLE_TURN_US ? usual : IDLE_TURN_US;
 }
 
 /* Waits for the next turn, or commit. The file's lock is held. */
@@ -188,14 +218,18 @@ static void go_on(struct run *run) {
     fkv_turned turned = {0};
     bool begins = begin_commit(run);
     bool commits = file->in_hand;
+    uint32_t abandoned = file->abandoned;
     file->nudged = false;
     pthread_mutex_unlock(&file->lock);
     if (begins) tell_progress(run);
+    uint32_t left = tend(file, abandoned);
     int32_t result = turn(run, commits, &turned, points);
     bool finished = result == FKV_OVER && turned.finished;
     const fkv_keeping *keeping = &file->keeping;
     if (finished && keeping->committed) keeping->committed(keeping->user, turned.number, points, (size_t)file->shape.sessions);
     pthread_mutex_lock(&file->lock);
+    /* Who joins gets those that sleep. Others may have been abandoned meanwhile. */
+    file->abandoned &= ~abandoned | left;
     if (finished) note_finished(file, &turned, points);
     /* Memory that was refused may come; the other refusals stay. */
     if (result < 0 && result != -FKV_MEMORY) note_fault(run, result);

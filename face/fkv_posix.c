@@ -246,8 +246,8 @@ static int32_t take_handles(fkv_file *file) {
 }
 
 /*
- * Gives back what was taken and opened. An abandoned session with pending requests isn't ended, and holds the store's table: both stay
- * until the process ends.
+ * Gives back what was taken and opened. A session with requests that can't be finished isn't ended, and holds the store's table: both
+ * stay until the process ends.
  */
 static void give_up(fkv_file *file) {
     for (int i = 0; i < FKV_MOST_SESSIONS; i++) {
@@ -310,6 +310,7 @@ int32_t fkv_close_file(fkv_file *file) {
     pthread_mutex_unlock(&file->lock);
     if (is_out) return -FKV_HANDLE_OUT;
     fkv_stop(file, 0);
+    fkv_end_abandoned(file);
     give_up(file);
     return 0;
 }
@@ -384,6 +385,10 @@ int32_t fkv_leave(fkv_file *file, fkv_session *session) {
 void fkv_abandon(fkv_file *file, fkv_session *session) {
     pthread_mutex_lock(&file->lock);
     file->joined &= ~bit_of(file, session);
-    file->abandoned |= bit_of(file, session);
+    if (fkv_sleep(session) == -FKV_PENDING_LEFT) {
+        file->abandoned |= bit_of(file, session);
+        file->nudged = true;
+        pthread_cond_signal(&file->work);
+    }
     pthread_mutex_unlock(&file->lock);
 }

@@ -71,7 +71,9 @@ typedef struct {
 int32_t fkv_open_file(const char *path, const fkv_how *how, fkv_file **out);
 
 /*
- * Ends the keeper's thread, if one runs, and closes the file. What no commit has kept is lost: fkv_stop makes a last one.
+ * Ends the keeper's thread, if one runs, and closes the file. What no commit has kept is lost: fkv_stop makes a last one. If an
+ * abandoned session has requests pending, it takes up to a second. Those that can't be finished hold the store's memory until the
+ * process ends: a call of the file has failed, or the index or the log is full.
  * 0; -FKV_HANDLE_OUT while a session is joined, and then the file stays open.
  */
 int32_t fkv_close_file(fkv_file *file);
@@ -101,8 +103,8 @@ int32_t fkv_join(fkv_file *file, uint64_t number, fkv_session **out);
 int32_t fkv_leave(fkv_file *file, fkv_session *session);
 
 /*
- * Takes it back with what is pending, which is lost. Nobody gets this session again, and no commit finishes any more: for who closes
- * a store whose keeper can't go on. If something was pending, the store's memory stays taken until the process ends.
+ * Takes it back in any case, for who can't settle or doesn't want to wait. What is pending is finished by the keeper's thread, as soon
+ * as one runs, and isn't told: commits don't wait for a refresh of this session, and keep its updates. Until then nobody joins it.
  */
 void fkv_abandon(fkv_file *file, fkv_session *session);
 

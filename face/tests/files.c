@@ -119,7 +119,8 @@ static void joining(void) {
     WANTS("leaving asleep", fkv_leave(file, two), 0);
     WANTS("leaving", fkv_leave(file, one), 0);
     fkv_abandon(file, any);
-    WANTS("joining what was abandoned", fkv_join(file, 2, &any), -FKV_HANDLE_TAKEN);
+    WANTS("joining what was abandoned with nothing pending", fkv_join(file, 2, &any), 0);
+    fkv_abandon(file, any);
     WANTS("closing", fkv_close_file(file), 0);
 }
 

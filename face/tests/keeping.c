@@ -82,11 +82,76 @@ static void failed(void) {
     WANTS("closing", fkv_close_file(file), 0);
 }
 
+/* Updates keys from 0 on, until one waits for the keeper. Gives how many it has updated. */
+static uint64_t filled(fkv_session *session) {
+    fkv_update told;
+    int32_t result = FKV_DONE;
+    uint64_t key = 0;
+    for (; result == FKV_DONE; key++) result = fkv_upsert(session, key, key + 1, &told);
+    WANTS("the last update", result, FKV_PENDING);
+    return key;
+}
+
+/* No commit waits for a session that was abandoned while no keeper ran. Its updates are kept, and it is given again. */
+static void abandoned(void) {
+    fkv_file *file = opened("abandoned");
+    fkv_session *session, *other, *again;
+    uint64_t points[FKV_MOST_SESSIONS], value;
+    WANTS("joining", fkv_join(file, 0, &session), 0);
+    WANTS("joining another", fkv_join(file, 1, &other), 0);
+    uint64_t keys = filled(session);
+    WANTS("leaving", fkv_leave(file, session), -FKV_PENDING_LEFT);
+    fkv_abandon(file, session);
+    WANTS("joining it again", fkv_join(file, 0, &again), -FKV_HANDLE_TAKEN);
+    WANTS("closing while another is out", fkv_close_file(file), -FKV_HANDLE_OUT);
+    WANTS("starting the keeper", fkv_start(file, NULL), 0);
+    WANTS("a commit", fkv_commit_and_wait(file, other), 0);
+    WANTS("leaving", fkv_leave(file, other), 0);
+    fkv_last_commit(file, points);
+    WANTS("its point", points[0], keys);
+    while (fkv_join(file, 0, &again) == -FKV_HANDLE_TAKEN) continue;
+    for (uint64_t key = 0; key < keys; key++) {
+        WANTS("a read", fkv_read(file, again, key, &value), FKV_FOUND);
+        WANTS("its value", value, key + 1);
+    }
+    /* The keeper's thread ends while it has another one. */
+    fkv_abandon(file, again);
+    WANTS("joining", fkv_join(file, 1, &other), 0);
+    filled(other);
+    fkv_abandon(file, other);
+    WANTS("stopping behind a commit", fkv_stop(file, 1), 0);
+    WANTS("closing", fkv_close_file(file), 0);
+}
+
+/* Sessions that are abandoned as others use the store, and commits run. */
+static void abandoned_in_turn(void) {
+    fkv_file *file = opened("in_turn");
+    fkv_keeping keeping = {.commit_ms = 2};
+    fkv_session *session;
+    fkv_update told;
+    uint64_t given = 0, kept = 0, points[FKV_MOST_SESSIONS];
+    WANTS("starting the keeper", fkv_start(file, &keeping), 0);
+    for (uint64_t round = 0; round < 300; round++) {
+        int32_t result;
+        while ((result = fkv_join(file, FKV_ANY_SESSION, &session)) == -FKV_NO_SESSION) continue;
+        WANTS("joining", result, 0);
+        for (uint64_t i = 0; i < 50; i++) given += fkv_add(session, (round * 50 + i) % 300, 1, &told) >= 0;
+        fkv_abandon(file, session);
+    }
+    WANTS("stopping behind a commit", fkv_stop(file, 1), 0);
+    fkv_last_commit(file, points);
+    for (int i = 0; i < FKV_MOST_SESSIONS; i++) kept += points[i];
+    WANTS("updates that are kept", kept, given);
+    WANTS("closing", fkv_close_file(file), 0);
+}
+
 int main(int count, char **words) {
     if (count != 2) return 2;
     folder = words[1];
     alarm(MOST_SECONDS);
     held_up();
     failed();
+    abandoned();
+    abandoned_in_turn();
     return 0;
 }
