@@ -102,8 +102,10 @@ static int sync_folder_of(const char *path) {
 static int put_in_place(const char *from, const char *to) {
     if (renameat2(AT_FDCWD, from, AT_FDCWD, to, RENAME_NOREPLACE) == 0) return 0;
     if (errno != EINVAL && errno != ENOSYS) return -1;
-    /* A file system without such a rename: a link doesn't replace either. */
-    return link(from, to) == 0 ? unlink(from) : -1;
+    /* A file system without such a rename: a link doesn't replace either. The first name may stay, since the file is in place. */
+    if (link(from, to)) return -1;
+    unlink(from);
+    return 0;
 }
 
 /* A new file beside the path, open for writing. Its name is put into `name`. */
