@@ -202,7 +202,7 @@ int32_t fkv_image(const fkv_shape *shape, uint8_t *into, size_t room);
  * Opens the store of these bytes: all bytes of its file, which were synced before they were read. They are not needed behind the
  * call, nor kept. `bytes` isn't NULL, though `size` may be 0. `*out` is the address of an fkv_store's word: `&store.at`.
  *
- * `keys` says how keys are placed. The index goes by a key's low bits, so keys in steps of 2^20 would often meet in one bucket. With
+ * `keys` says how keys are placed. The index goes by a key's low bits, so keys in steps of 2^20 would meet in a few buckets. With
  * FKV_SPREAD each key is first spread over all 64 bits, one to one. With FKV_SPREAD_ALREADY keys are taken as they are: for keys that
  * are hashes, or random. Say the same at each opening. A store that is opened the other way finds none of its keys, and nothing tells
  * so.
