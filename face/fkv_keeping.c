@@ -144,7 +144,7 @@ static uint32_t tend(fkv_file *file, uint32_t abandoned) {
     fkv_finished finished[FKV_MOST_PENDING];
     fkv_seen seen;
     uint32_t left = abandoned;
-    for (uint64_t i = 0; abandoned >> i; i++) {
+    for (int i = 0; i < FKV_MOST_SESSIONS; i++) {
         uint64_t count = 0;
         if (!(abandoned >> i & 1)) continue;
         fkv_poll(&file->sessions[i], finished, FKV_MOST_PENDING, &count);
@@ -384,7 +384,10 @@ static int32_t not_served(fkv_file *file) {
 int32_t fkv_settle(fkv_file *file, fkv_session *session, fkv_finished_fn *told, void *user) {
     fkv_finished finished[FKV_MOST_PENDING];
     fkv_seen seen;
-    /* A request that lost to another session is mostly finished by the first poll. What is left then may wait for a refresh, and else for the keeper. */
+    /*
+     * A request that lost to another session is mostly finished by the first poll. What is left then may wait for a refresh, and else for
+     * the keeper.
+     */
     for (unsigned polls = 0;; polls++) {
         uint64_t count = 0;
         int32_t left = fkv_poll(session, finished, FKV_MOST_PENDING, &count);

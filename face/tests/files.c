@@ -198,7 +198,9 @@ static void failing(void) {
     WANTS_DEVICE("one that is waited for", fkv_commit_and_wait(file, session), EFBIG);
     WANTS("a read", fkv_get(session, 7, &value), FKV_FOUND);
     WANTS("an add", fkv_add(session, 7, 1, &told), FKV_DONE);
-    for (uint64_t key = 0; fkv_upsert(session, key, 1, &told) != -FKV_PENDING_FULL; key++) WANTS("whether too many wait", key < KEYS, true);
+    for (uint64_t key = 0; fkv_upsert(session, key, 1, &told) != -FKV_PENDING_FULL; key++) {
+        WANTS("whether too many wait", key < KEYS, true);
+    }
     WANTS_DEVICE("settling what waits for the keeper", fkv_settle(file, session, NULL, NULL), EFBIG);
     fkv_abandon(file, session);
     WANTS_DEVICE("stopping behind a commit", fkv_stop(file, 1), EFBIG);

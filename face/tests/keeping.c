@@ -10,10 +10,10 @@
 #include <unistd.h>
 
 /* A test that waits for ever is ended by a signal behind so many seconds. */
-enum { WAIT_MS = 300, MOST_SECONDS = 60, PATH_ROOM = 500 };
+enum { WAIT_MS = 300, MOST_SECONDS = 60, SESSIONS = FKV_MOST_SESSIONS, LAST = SESSIONS - 1, PATH_ROOM = 500 };
 
 /* Little memory, so that updates soon wait for the keeper. */
-static const fkv_shape SHAPE = {6, 16, 8, 4, 3, 64, 4096};
+static const fkv_shape SHAPE = {6, 16, 8, 4, SESSIONS, 64, 4096};
 static const char *folder;
 
 static const char *path_of(const char *name) {
@@ -97,19 +97,19 @@ static void abandoned(void) {
     fkv_file *file = opened("abandoned");
     fkv_session *session, *other, *again;
     uint64_t points[FKV_MOST_SESSIONS], value;
-    WANTS("joining", fkv_join(file, 0, &session), 0);
+    WANTS("joining", fkv_join(file, LAST, &session), 0);
     WANTS("joining another", fkv_join(file, 1, &other), 0);
     uint64_t keys = filled(session);
     WANTS("leaving", fkv_leave(file, session), -FKV_PENDING_LEFT);
     fkv_abandon(file, session);
-    WANTS("joining it again", fkv_join(file, 0, &again), -FKV_HANDLE_TAKEN);
+    WANTS("joining it again", fkv_join(file, LAST, &again), -FKV_HANDLE_TAKEN);
     WANTS("closing while another is out", fkv_close_file(file), -FKV_HANDLE_OUT);
     WANTS("starting the keeper", fkv_start(file, NULL), 0);
     WANTS("a commit", fkv_commit_and_wait(file, other), 0);
     WANTS("leaving", fkv_leave(file, other), 0);
     fkv_last_commit(file, points);
-    WANTS("its point", points[0], keys);
-    while (fkv_join(file, 0, &again) == -FKV_HANDLE_TAKEN) continue;
+    WANTS("its point", points[LAST], keys);
+    while (fkv_join(file, LAST, &again) == -FKV_HANDLE_TAKEN) continue;
     for (uint64_t key = 0; key < keys; key++) {
         WANTS("a read", fkv_read(file, again, key, &value), FKV_FOUND);
         WANTS("its value", value, key + 1);
@@ -140,7 +140,7 @@ static void abandoned_in_turn(void) {
     }
     WANTS("stopping behind a commit", fkv_stop(file, 1), 0);
     fkv_last_commit(file, points);
-    for (int i = 0; i < FKV_MOST_SESSIONS; i++) kept += points[i];
+    for (int i = 0; i < SESSIONS; i++) kept += points[i];
     WANTS("updates that are kept", kept, given);
     WANTS("closing", fkv_close_file(file), 0);
 }
