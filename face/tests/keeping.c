@@ -82,6 +82,18 @@ static void failed(void) {
     WANTS("closing", fkv_close_file(file), 0);
 }
 
+/* A session that the keeper gives back in time, or any. */
+static fkv_session *joined(fkv_file *file, uint64_t number) {
+    fkv_session *session;
+    int32_t result = fkv_join(file, number, &session);
+    while (result == -FKV_HANDLE_TAKEN || result == -FKV_NO_SESSION) {
+        nanosleep(&(struct timespec){0, 100000}, NULL);
+        result = fkv_join(file, number, &session);
+    }
+    WANTS("joining", result, 0);
+    return session;
+}
+
 /* Updates keys from 0 on, until one waits for the keeper. Gives how many it has updated. */
 static uint64_t filled(fkv_session *session) {
     fkv_update told;
@@ -109,7 +121,7 @@ static void abandoned(void) {
     WANTS("leaving", fkv_leave(file, other), 0);
     fkv_last_commit(file, points);
     WANTS("its point", points[LAST], keys);
-    while (fkv_join(file, LAST, &again) == -FKV_HANDLE_TAKEN) continue;
+    again = joined(file, LAST);
     for (uint64_t key = 0; key < keys; key++) {
         WANTS("a read", fkv_read(file, again, key, &value), FKV_FOUND);
         WANTS("its value", value, key + 1);
@@ -127,14 +139,11 @@ static void abandoned(void) {
 static void abandoned_in_turn(void) {
     fkv_file *file = opened("in_turn");
     fkv_keeping keeping = {.commit_ms = 2};
-    fkv_session *session;
     fkv_update told;
     uint64_t given = 0, kept = 0, points[FKV_MOST_SESSIONS];
     WANTS("starting the keeper", fkv_start(file, &keeping), 0);
     for (uint64_t round = 0; round < 300; round++) {
-        int32_t result;
-        while ((result = fkv_join(file, FKV_ANY_SESSION, &session)) == -FKV_NO_SESSION) continue;
-        WANTS("joining", result, 0);
+        fkv_session *session = joined(file, FKV_ANY_SESSION);
         for (uint64_t i = 0; i < 50; i++) given += fkv_add(session, (round * 50 + i) % 300, 1, &told) >= 0;
         fkv_abandon(file, session);
     }
