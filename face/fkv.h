@@ -14,6 +14,10 @@
  *     fkv_session   reads and updates. Refresh it every 64 calls or so, and poll it while requests of it are pending
  *     fkv_keeper    turns, in a loop: they write the log, read back what lies on the file alone, and carry commits on
  *
+ * Without fkv_posix.h a program runs the keeper itself, in an event loop or over io_uring. fkv_image gives the bytes of a new store,
+ * and fkv_open takes all bytes of a file. fkv_turn tells which read, write or sync of the file comes next, and fkv_told takes how it has
+ * gone. fkv_posix.h's fkv_turn_file is such a loop, over a descriptor.
+ *
  * Threads. One call at a time on one handle. Different handles of one store may be used by different threads at the same time.
  * A handle may move to another thread if something orders the two threads' calls: a mutex, the start or the join of a thread, an
  * atomic. No call from a signal handler, and none in a child that was forked from a process with an open store.
@@ -124,7 +128,7 @@ typedef struct {
     const uint8_t *bytes; /* behind FKV_WRITE: what is to be written. Valid until the next call on this keeper */
     uint64_t finished;    /* behind FKV_OVER: 1 if the turn has finished a commit */
     uint64_t number;      /* and that commit's number */
-    uint64_t drain_full;  /* 1 if a part was left to a later turn, since no drain slot was free */
+    uint64_t drain_full;  /* behind FKV_OVER: 1 if a part was left to a later turn, since no drain slot was free */
 } fkv_turned;
 
 /* Answers of a session's calls. */
@@ -198,9 +202,10 @@ int32_t fkv_image(const fkv_shape *shape, uint8_t *into, size_t room);
  * Opens the store of these bytes: all bytes of its file, which were synced before they were read. They are not needed behind the
  * call, nor kept. `bytes` isn't NULL, though `size` may be 0. `*out` is the address of an fkv_store's word: `&store.at`.
  *
- * `keys` says how keys are placed. The index goes by a key's low bits, so with FKV_SPREAD each key is first spread over all 64
- * bits, one to one. With FKV_SPREAD_ALREADY keys are taken as they are: for keys that are hashes, or random. Say the same at each
- * opening. A store that is opened the other way finds none of its keys, and nothing tells so.
+ * `keys` says how keys are placed. The index goes by a key's low bits, so keys in steps of 2^20 would meet in a few buckets. With
+ * FKV_SPREAD each key is first spread over all 64 bits, one to one. With FKV_SPREAD_ALREADY keys are taken as they are: for keys that
+ * are hashes, or random. Say the same at each opening. A store that is opened the other way finds none of its keys, and nothing tells
+ * so.
  *
  * Each session is awake behind the call, whether it is taken or not, and commits wait for its refresh: take them all, and put those
  * to sleep that you don't use.
@@ -312,7 +317,11 @@ int32_t fkv_sleep(fkv_session *session);
 /* The session comes back. 0; -FKV_AWAKE. */
 int32_t fkv_wake(fkv_session *session, fkv_seen *seen);
 
-/* The serial up to which this session's updates are in a commit that is whole in the file: a crash from now on keeps them. 0; -FKV_ASLEEP. */
+/*
+ * The serial up to which this session's updates are in a commit that is whole in the file: a crash from now on keeps them. 0;
+ * -FKV_ASLEEP. No call tells the last serial that was given. Each update tells its own, and behind an opening a session goes on with
+ * the serial behind its point.
+ */
 int32_t fkv_durable(fkv_session *session, uint64_t *serial);
 
 /* Puts the session to sleep and gives the handle up. 0; -FKV_PENDING_LEFT. Behind a 0, fkv_free_session. */

@@ -27,6 +27,8 @@ enum {
     IDLE_TURN_US = 100000,
     /* Between two polls of a session that waits. */
     SETTLE_US = 20,
+    /* A file that is closed waits so long for what was abandoned: a full index or log lets it wait for ever. */
+    LAST_US = 1000000,
     MOST_MS = 1000000000
 };
 
@@ -37,7 +39,9 @@ struct run {
     struct timespec haste; /* up to then the commit in hand makes haste */
     uint32_t log_left;     /* so many log commits before the next full one */
     uint64_t written;      /* bytes, since the commit in hand began */
+    int why;               /* errno of the last call of the file that has failed */
     bool has_called;       /* the last turn has called the file, so the next one may have something to do */
+    bool is_put_off;       /* a commit was due, and has to wait for more turns */
 };
 
 /* ---- Time ----------------------------------------------------------------------------------------------------------------- */
@@ -61,11 +65,15 @@ static bool is_before(struct timespec one, struct timespec other) {
 
 /* ---- Commits. The file's lock is held. -------------------------------------------------------------------------------------- */
 
+/* Whether the next commit begins at its time, without being asked for. */
+static bool goes_by_clock(const fkv_file *file) {
+    return !file->in_hand && !file->fault && file->keeping.commit_ms > 0 && file->was_joined;
+}
+
 static bool is_due(const struct run *run) {
     const fkv_file *file = run->file;
     if (file->in_hand || file->fault) return false;
-    if (file->asked > file->covers) return true;
-    return file->keeping.commit_ms > 0 && file->was_joined && !is_before(now(), run->next);
+    return file->asked > file->covers || (goes_by_clock(file) && !is_before(now(), run->next));
 }
 
 /* The commits that were asked for until now are served by the one that has begun. */
@@ -73,15 +81,25 @@ static void note_begun(struct run *run) {
     fkv_file *file = run->file;
     file->in_hand = true;
     file->covers = file->asked;
-    file->was_joined = file->joined != 0;
+    file->was_joined = (file->joined | file->abandoned) != 0;
     run->written = 0;
     run->next = behind(now(), (uint64_t)file->keeping.commit_ms * 1000);
     run->haste = behind(now(), HASTE_US);
 }
 
-/* From now on there are no commits, or no turns either, and nobody waits for one. */
-static void note_fault(fkv_file *file, int32_t fault) {
-    if (!file->fault || file->fault == -FKV_VERSIONS_SPENT) file->fault = fault;
+/* Where commits are spent turns go on; where turns are refused they are refused for good. */
+static bool has_turns(const fkv_file *file) {
+    return !file->fault || file->fault == -FKV_VERSIONS_SPENT;
+}
+
+/* From now on there are no commits, or no turns either, and nobody waits for one. The commit in hand is never finished. */
+static void note_fault(const struct run *run, int32_t fault) {
+    fkv_file *file = run->file;
+    if (has_turns(file)) {
+        file->fault = fault;
+        file->why = run->why;
+    }
+    file->in_hand = false;
     pthread_cond_broadcast(&file->news);
 }
 
@@ -89,6 +107,7 @@ static void note_fault(fkv_file *file, int32_t fault) {
 static bool begin_commit(struct run *run) {
     fkv_file *file = run->file;
     uint64_t number;
+    run->is_put_off = false;
     if (!is_due(run)) return false;
     bool is_log = run->log_left > 0;
     int32_t result = fkv_commit(&file->keeper, is_log, &number);
@@ -102,7 +121,8 @@ static bool begin_commit(struct run *run) {
         return true;
     }
     /* Either of these goes away with turns. */
-    if (result != -FKV_DRAIN_FULL && result != -FKV_COMMIT_RUNNING) note_fault(file, result);
+    run->is_put_off = result == -FKV_DRAIN_FULL || result == -FKV_COMMIT_RUNNING;
+    if (!run->is_put_off) note_fault(run, result);
     return false;
 }
 
@@ -116,6 +136,34 @@ static void note_finished(fkv_file *file, const fkv_turned *turned, const uint64
 
 /* ---- Turns. The file's lock isn't held. ------------------------------------------------------------------------------------- */
 
+/*
+ * Polls and refreshes the sessions that were abandoned, of which nobody else has one, and puts those to sleep that have nothing pending.
+ * Gives the others.
+ */
+static uint32_t tend(fkv_file *file, uint32_t abandoned) {
+    fkv_finished finished[FKV_MOST_PENDING];
+    fkv_seen seen;
+    uint32_t left = abandoned;
+    for (int i = 0; i < FKV_MOST_SESSIONS; i++) {
+        uint64_t count = 0;
+        if (!(abandoned >> i & 1)) continue;
+        fkv_poll(&file->sessions[i], finished, FKV_MOST_PENDING, &count);
+        fkv_refresh(&file->sessions[i], &seen);
+        if (fkv_sleep(&file->sessions[i]) != -FKV_PENDING_LEFT) left &= ~(UINT32_C(1) << i);
+    }
+    return left;
+}
+
+void fkv_end_abandoned(fkv_file *file) {
+    uint64_t points[FKV_MOST_SESSIONS];
+    fkv_turned turned;
+    struct timespec until = behind(now(), LAST_US);
+    while (file->abandoned && is_before(now(), until)) {
+        file->abandoned = tend(file, file->abandoned);
+        if (file->abandoned && fkv_turn_file(file->fd, &file->keeper, &turned, points, FKV_MOST_SESSIONS, NULL) < 0) return;
+    }
+}
+
 static void tell_progress(const struct run *run) {
     const fkv_keeping *keeping = &run->file->keeping;
     fkv_progress progress = {FKV_COMMITTING, run->written, 0};
@@ -127,13 +175,16 @@ static int32_t turn(struct run *run, bool commits, fkv_turned *turned, uint64_t 
     fkv_file *file = run->file;
     uint8_t into[FKV_READ_SIZE] = {0};
     int32_t call = fkv_turn(&file->keeper, turned, points, FKV_MOST_SESSIONS);
-    run->has_called = call > FKV_OVER;
+    bool has_called = call > FKV_OVER;
     while (call > FKV_OVER) {
         int failed = fkv_call_file(file->fd, call, turned, into);
+        if (failed) run->why = errno;
         if (!failed && call == FKV_WRITE) run->written += turned->length;
         if (commits) tell_progress(run);
         call = fkv_told(&file->keeper, failed != 0, into, call == FKV_READ ? FKV_READ_SIZE : 0, turned, points, FKV_MOST_SESSIONS);
     }
+    /* Where memory was refused, the next turn would at once be refused it again. */
+    run->has_called = has_called && call == FKV_OVER;
     return call;
 }
 
@@ -148,7 +199,7 @@ static uint32_t rest_us(const struct run *run) {
     uint32_t usual = file->keeping.turn_us ? file->keeping.turn_us : USUAL_TURN_US;
     uint32_t most = makes_haste(run) ? HASTE_TURN_US : COMMIT_TURN_US;
     if (file->in_hand) return usual < most ? usual : most;
-    return file->joined || usual > IDLE_TURN_US ? usual : IDLE_TURN_US;
+    return file->joined || file->abandoned || usual > IDLE_TURN_US ? usual : IDLE_TURN_US;
 }
 
 /* Waits for the next turn, or commit. The file's lock is held. */
@@ -156,7 +207,7 @@ static void rest(const struct run *run) {
     fkv_file *file = run->file;
     if (run->has_called || file->nudged || file->stops) return;
     struct timespec until = behind(now(), rest_us(run));
-    if (file->keeping.commit_ms > 0 && file->was_joined && is_before(run->next, until)) until = run->next;
+    if (goes_by_clock(file) && !run->is_put_off && is_before(run->next, until)) until = run->next;
     pthread_cond_timedwait(&file->work, &file->lock, &until);
 }
 
@@ -167,17 +218,21 @@ static void go_on(struct run *run) {
     fkv_turned turned = {0};
     bool begins = begin_commit(run);
     bool commits = file->in_hand;
+    uint32_t abandoned = file->abandoned;
     file->nudged = false;
     pthread_mutex_unlock(&file->lock);
     if (begins) tell_progress(run);
+    uint32_t left = tend(file, abandoned);
     int32_t result = turn(run, commits, &turned, points);
     bool finished = result == FKV_OVER && turned.finished;
     const fkv_keeping *keeping = &file->keeping;
     if (finished && keeping->committed) keeping->committed(keeping->user, turned.number, points, (size_t)file->shape.sessions);
     pthread_mutex_lock(&file->lock);
+    /* Who joins gets those that sleep. Others may have been abandoned meanwhile. */
+    file->abandoned &= ~abandoned | left;
     if (finished) note_finished(file, &turned, points);
     /* Memory that was refused may come; the other refusals stay. */
-    if (result < 0 && result != -FKV_MEMORY) note_fault(file, result);
+    if (result < 0 && result != -FKV_MEMORY) note_fault(run, result);
 }
 
 /* Linux ends a short sleep of a thread up to 50 microseconds late, unless the thread says otherwise. */
@@ -195,13 +250,26 @@ static void *keep(void *its_file) {
     run.next = behind(now(), (uint64_t)file->keeping.commit_ms * 1000);
     run.log_left = 0;
     while (!file->stops) {
-        /* Where commits are spent turns go on; where turns are refused they are refused for good. */
-        if (!file->fault || file->fault == -FKV_VERSIONS_SPENT) go_on(&run);
-        else run.has_called = false, file->nudged = false;
+        if (!has_turns(file)) {
+            pthread_cond_wait(&file->work, &file->lock);
+            continue;
+        }
+        go_on(&run);
         rest(&run);
     }
     pthread_mutex_unlock(&file->lock);
     return NULL;
+}
+
+/* ---- What its fault is ------------------------------------------------------------------------------------------------------ */
+
+/*
+ * A result of a call that another thread may have made, with that call's errno: each thread has its own. The lock isn't held. Who
+ * has seen -FKV_DEVICE under it sees this errno too, which stays.
+ */
+static int32_t with_errno(const fkv_file *file, int32_t result) {
+    if (result == -FKV_DEVICE) errno = file->why;
+    return result;
 }
 
 /* ---- Its start and end ------------------------------------------------------------------------------------------------------ */
@@ -255,7 +323,7 @@ int32_t fkv_stop(fkv_file *file, uint32_t with_commit) {
     /* Another caller ends it. */
     while (file->runs) pthread_cond_wait(&file->news, &file->lock);
     pthread_mutex_unlock(&file->lock);
-    return result;
+    return with_errno(file, result);
 }
 
 /* ---- Who waits -------------------------------------------------------------------------------------------------------------- */
@@ -275,7 +343,7 @@ int32_t fkv_ask_commit(fkv_file *file, uint64_t *ticket) {
         pthread_cond_signal(&file->work);
     }
     pthread_mutex_unlock(&file->lock);
-    return result;
+    return with_errno(file, result);
 }
 
 int32_t fkv_wait_commit(fkv_file *file, uint64_t ticket, fkv_session *session) {
@@ -287,7 +355,7 @@ int32_t fkv_wait_commit(fkv_file *file, uint64_t ticket, fkv_session *session) {
     int32_t result = file->finished >= ticket ? 0 : refusal(file);
     pthread_mutex_unlock(&file->lock);
     if (slept == 0) fkv_wake(session, &seen);
-    return result;
+    return with_errno(file, result);
 }
 
 void fkv_nudge(fkv_file *file) {
@@ -301,7 +369,7 @@ int32_t fkv_keeper_fault(fkv_file *file) {
     pthread_mutex_lock(&file->lock);
     int32_t fault = file->fault;
     pthread_mutex_unlock(&file->lock);
-    return fault;
+    return with_errno(file, fault);
 }
 
 /* Whether requests that are pending are served: they are too where commits alone are spent. */
@@ -310,13 +378,16 @@ static int32_t not_served(fkv_file *file) {
     int32_t why = refusal(file);
     if (why == -FKV_VERSIONS_SPENT && file->runs) why = 0;
     pthread_mutex_unlock(&file->lock);
-    return why;
+    return with_errno(file, why);
 }
 
 int32_t fkv_settle(fkv_file *file, fkv_session *session, fkv_finished_fn *told, void *user) {
     fkv_finished finished[FKV_MOST_PENDING];
     fkv_seen seen;
-    /* A request that lost to another session is mostly finished by the first poll. What is left then may wait for a refresh, and else for the keeper. */
+    /*
+     * A request that lost to another session is mostly finished by the first poll. What is left then may wait for a refresh, and else for
+     * the keeper.
+     */
     for (unsigned polls = 0;; polls++) {
         uint64_t count = 0;
         int32_t left = fkv_poll(session, finished, FKV_MOST_PENDING, &count);

@@ -102,8 +102,10 @@ static int sync_folder_of(const char *path) {
 static int put_in_place(const char *from, const char *to) {
     if (renameat2(AT_FDCWD, from, AT_FDCWD, to, RENAME_NOREPLACE) == 0) return 0;
     if (errno != EINVAL && errno != ENOSYS) return -1;
-    /* A file system without such a rename: a link doesn't replace either. */
-    return link(from, to) == 0 ? unlink(from) : -1;
+    /* A file system without such a rename: a link doesn't replace either. The first name may stay, since the file is in place. */
+    if (link(from, to)) return -1;
+    unlink(from);
+    return 0;
 }
 
 /* A new file beside the path, open for writing. Its name is put into `name`. */
@@ -246,8 +248,8 @@ static int32_t take_handles(fkv_file *file) {
 }
 
 /*
- * Gives back what was taken and opened. An abandoned session with pending requests isn't ended, and holds the store's table: both stay
- * until the process ends.
+ * Gives back what was taken and opened. A session with requests that can't be finished isn't ended, and holds the store's table: both
+ * stay until the process ends.
  */
 static void give_up(fkv_file *file) {
     for (int i = 0; i < FKV_MOST_SESSIONS; i++) {
@@ -310,6 +312,7 @@ int32_t fkv_close_file(fkv_file *file) {
     pthread_mutex_unlock(&file->lock);
     if (is_out) return -FKV_HANDLE_OUT;
     fkv_stop(file, 0);
+    fkv_end_abandoned(file);
     give_up(file);
     return 0;
 }
@@ -384,6 +387,10 @@ int32_t fkv_leave(fkv_file *file, fkv_session *session) {
 void fkv_abandon(fkv_file *file, fkv_session *session) {
     pthread_mutex_lock(&file->lock);
     file->joined &= ~bit_of(file, session);
-    file->abandoned |= bit_of(file, session);
+    if (fkv_sleep(session) == -FKV_PENDING_LEFT) {
+        file->abandoned |= bit_of(file, session);
+        file->nudged = true;
+        pthread_cond_signal(&file->work);
+    }
     pthread_mutex_unlock(&file->lock);
 }

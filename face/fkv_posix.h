@@ -1,6 +1,6 @@
 /*
- * fkv_posix.h: a store in a file, for POSIX systems. It makes the calls that fkv.h leaves to its caller: of the file, and in a thread
- * of its own the keeper's turns and commits.
+ * fkv_posix.h: a store in a file, for Linux. It makes the calls that fkv.h leaves to its caller: of the file, and in a thread of its
+ * own the keeper's turns and commits.
  *
  *     fkv_make_file     makes the file of a new store
  *     fkv_open_file     opens it, for this process alone
@@ -13,7 +13,7 @@
  * calls of a session are for the thread that joined it.
  *
  * Results are those of fkv.h. Where one is -FKV_DEVICE, errno says what the system has refused: ENOENT no such file, EEXIST there is
- * one already, EWOULDBLOCK another process has it open, ENOSPC no room.
+ * one already, EWOULDBLOCK another process has it open, ENOSPC no room. That holds too if the keeper's thread made the call.
  */
 #ifndef FKV_POSIX_H
 #define FKV_POSIX_H
@@ -71,7 +71,9 @@ typedef struct {
 int32_t fkv_open_file(const char *path, const fkv_how *how, fkv_file **out);
 
 /*
- * Ends the keeper's thread, if one runs, and closes the file. What no commit has kept is lost: fkv_stop makes a last one.
+ * Ends the keeper's thread, if one runs, and closes the file. What no commit has kept is lost: fkv_stop makes a last one. If an
+ * abandoned session has requests pending, it takes up to a second. Those that can't be finished hold the store's memory until the
+ * process ends: a call of the file has failed, or the index or the log is full.
  * 0; -FKV_HANDLE_OUT while a session is joined, and then the file stays open.
  */
 int32_t fkv_close_file(fkv_file *file);
@@ -101,21 +103,23 @@ int32_t fkv_join(fkv_file *file, uint64_t number, fkv_session **out);
 int32_t fkv_leave(fkv_file *file, fkv_session *session);
 
 /*
- * Takes it back with what is pending, which is lost. Nobody gets this session again, and no commit finishes any more: for who closes
- * a store whose keeper can't go on. If something was pending, the store's memory stays taken until the process ends.
+ * Takes it back in any case, for who can't settle or doesn't want to wait. What is pending is finished by the keeper's thread, as soon
+ * as one runs, and isn't told: commits don't wait for a refresh of this session, and keep its updates. Until then nobody joins it.
  */
 void fkv_abandon(fkv_file *file, fkv_session *session);
 
 /*
  * Polls a session until none of its requests is pending, with a refresh between two polls, and tells each that is finished; `told` may be
- * NULL. It wants the keeper's thread.
+ * NULL. It wants the keeper's thread. An update that finds the index or the log full (FKV_FULL) may wait for ever, and so does this call:
+ * who can't wait polls, and abandons the session.
  * 0; -FKV_ASLEEP; the fault of the keeper's thread where that can't go on (fkv_keeper_fault); -FKV_BROKEN where it doesn't run.
  */
 int32_t fkv_settle(fkv_file *file, fkv_session *session, fkv_finished_fn *told, void *user);
 
 /*
  * Reads a key, and waits where it lies in the file alone: FKV_FOUND (`*value`) or FKV_NONE. It settles the session then, so what else
- * of its requests was pending is finished, and isn't told. The refusals are those of fkv_get and fkv_settle.
+ * of its requests was pending is finished, and isn't told. It may wait for ever as fkv_settle does, for an update of this session. The
+ * refusals are those of fkv_get and fkv_settle.
  */
 int32_t fkv_read(fkv_file *file, fkv_session *session, uint64_t key, uint64_t *value);
 
@@ -125,13 +129,17 @@ int32_t fkv_read(fkv_file *file, fkv_session *session, uint64_t key, uint64_t *v
 typedef struct {
     uint32_t commit_ms;          /* a commit each so many milliseconds, unless no session was joined since the last; 0: on request alone */
     uint32_t log_commits;        /* so many log commits between two full ones; 0: each is full */
-    uint32_t turn_us;            /* microseconds between two turns when nothing is to be done; 0: 500 */
+    uint32_t turn_us;            /* microseconds between two turns when nothing is to be done; 0: 500. See below */
     fkv_committed_fn *committed; /* called behind each finished commit, or NULL */
     fkv_progress_fn *progress;   /* called as a commit begins and behind each of its calls of the file, or NULL */
     void *user;                  /* handed to both. They are called in the keeper's thread: make them short, and call no fkv_file there */
 } fkv_keeping;
 
-/* Starts the keeper's thread. 0; -FKV_HANDLE_TAKEN where it runs already, -FKV_DEVICE (errno) where the system starts none. */
+/*
+ * Starts the keeper's thread. `turn_us` is how long it rests while a session is joined and no commit is in hand. While none is
+ * joined it rests 100 milliseconds, or `turn_us` if that is longer. In a commit it rests at most 50 microseconds, and 20 as that begins.
+ * 0; -FKV_HANDLE_TAKEN where it runs already, -FKV_DEVICE (errno) where the system starts none.
+ */
 int32_t fkv_start(fkv_file *file, const fkv_keeping *keeping);
 
 /*
@@ -140,7 +148,10 @@ int32_t fkv_start(fkv_file *file, const fkv_keeping *keeping);
  */
 int32_t fkv_stop(fkv_file *file, uint32_t with_commit);
 
-/* Asks for a commit that begins from now on, and tells the ticket by which fkv_wait_commit waits for it. 0; -FKV_BROKEN: no thread runs. */
+/*
+ * Asks for a commit that begins from now on, and tells the ticket by which fkv_wait_commit waits for it.
+ * 0; the keeper's fault (fkv_keeper_fault); -FKV_BROKEN: no thread runs.
+ */
 int32_t fkv_ask_commit(fkv_file *file, uint64_t *ticket);
 
 /*
@@ -153,6 +164,9 @@ int32_t fkv_wait_commit(fkv_file *file, uint64_t ticket, fkv_session *session);
 /*
  * Settles the session, asks for a commit, and waits until it is finished: all that the session has done survives a crash. What was
  * pending isn't told. `session` may be NULL. The refusals are those of fkv_settle, fkv_ask_commit and fkv_wait_commit.
+ *
+ * It may wait for ever as fkv_settle does. No commit finishes while an update of any session waits for a full index or log, nor past a
+ * session that is awake and doesn't refresh.
  */
 int32_t fkv_commit_and_wait(fkv_file *file, fkv_session *session);
 

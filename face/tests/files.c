@@ -15,10 +15,19 @@
 
 enum { KEYS = 1000, PATH_ROOM = 500 };
 
+/* A call that the system has refused for this reason, maybe in another thread. */
+#define WANTS_DEVICE(what, call, why) (errno = 0, wants_device(__FILE__, __LINE__, what, call, why))
+
 /* Small pages and little memory, so that most records lie in the file alone; and an index that has room for all keys. */
 static const fkv_shape SHAPE = {10, 16, 8, 4, 3, 64, 4096};
 static const char *folder;
 static uint64_t told_commits, told_progress;
+
+static void wants_device(const char *file, int line, const char *what, int32_t got, int why) {
+    int told = errno;
+    wants(file, line, what, got, -FKV_DEVICE);
+    wants(file, line, "its errno", told, why);
+}
 
 static const char *path_of(const char *name) {
     static char path[PATH_ROOM];
@@ -110,7 +119,8 @@ static void joining(void) {
     WANTS("leaving asleep", fkv_leave(file, two), 0);
     WANTS("leaving", fkv_leave(file, one), 0);
     fkv_abandon(file, any);
-    WANTS("joining what was abandoned", fkv_join(file, 2, &any), -FKV_HANDLE_TAKEN);
+    WANTS("joining what was abandoned with nothing pending", fkv_join(file, 2, &any), 0);
+    fkv_abandon(file, any);
     WANTS("closing", fkv_close_file(file), 0);
 }
 
@@ -181,13 +191,19 @@ static void failing(void) {
     limit.rlim_cur = 2000;
     WANTS("setting a limit", setrlimit(RLIMIT_FSIZE, &limit), 0);
     WANTS("asking for a commit", fkv_ask_commit(file, &ticket), 0);
-    WANTS("waiting for it", fkv_wait_commit(file, ticket, session), -FKV_DEVICE);
+    WANTS_DEVICE("waiting for it", fkv_wait_commit(file, ticket, session), EFBIG);
     setrlimit(RLIMIT_FSIZE, &before);
-    WANTS("the keeper's fault", fkv_keeper_fault(file), -FKV_DEVICE);
-    WANTS("the next commit", fkv_ask_commit(file, &ticket), -FKV_DEVICE);
+    WANTS_DEVICE("the keeper's fault", fkv_keeper_fault(file), EFBIG);
+    WANTS_DEVICE("the next commit", fkv_ask_commit(file, &ticket), EFBIG);
+    WANTS_DEVICE("one that is waited for", fkv_commit_and_wait(file, session), EFBIG);
     WANTS("a read", fkv_get(session, 7, &value), FKV_FOUND);
     WANTS("an add", fkv_add(session, 7, 1, &told), FKV_DONE);
-    WANTS("leaving", fkv_leave(file, session), 0);
+    for (uint64_t key = 0; fkv_upsert(session, key, 1, &told) != -FKV_PENDING_FULL; key++) {
+        WANTS("whether too many wait", key < KEYS, true);
+    }
+    WANTS_DEVICE("settling what waits for the keeper", fkv_settle(file, session, NULL, NULL), EFBIG);
+    fkv_abandon(file, session);
+    WANTS_DEVICE("stopping behind a commit", fkv_stop(file, 1), EFBIG);
     WANTS("closing", fkv_close_file(file), 0);
     WANTS("opening it", fkv_open_file(path, NULL, &file), 0);
     WANTS("joining", fkv_join(file, 0, &session), 0);

@@ -54,6 +54,20 @@ static void open_file(const char *path) {
     WANTS("closing", fkv_close_file(file), 0);
 }
 
+/* The same without a keeper, and with a session that is abandoned while requests of it wait for one. */
+static void open_abandoned(const char *path) {
+    fkv_file *file;
+    fkv_session *session;
+    fkv_update update;
+    int32_t result = FKV_DONE;
+    WANTS("opening", fkv_open_file(path, NULL, &file), 0);
+    WANTS("joining", fkv_join(file, FKV_ANY_SESSION, &session), 0);
+    for (uint64_t key = 0; result == FKV_DONE; key++) result = fkv_upsert(session, key, 1, &update);
+    WANTS("the last update", result, FKV_PENDING);
+    fkv_abandon(file, session);
+    WANTS("closing", fkv_close_file(file), 0);
+}
+
 int main(int count, char **words) {
     char path[PATH_ROOM];
     if (count != 3) return 2;
@@ -62,7 +76,9 @@ int main(int count, char **words) {
     WANTS("making a file", fkv_make_file(path, &SHAPE), 0);
     for (uint64_t i = 0; i < rounds; i++) {
         open_bytes(i);
-        if (i % EACH_FILE == 0) open_file(path);
+        if (i % EACH_FILE) continue;
+        open_file(path);
+        open_abandoned(path);
     }
     /* What is refused holds nothing either. */
     WANTS("opening no store", fkv_open_file("/dev/null", NULL, &(fkv_file *){NULL}), -FKV_DEVICE);

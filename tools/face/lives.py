@@ -6,9 +6,8 @@ import sys
 import threading
 import time
 
+# So many kills, and more until half of them have struck while a commit runs, and one of them adds that no commit had kept yet.
 KILLS = 20
-# At least so many kills have to strike while a commit runs; so many lives are played for that, at most.
-IN_COMMITS = KILLS // 2
 MOST_LIVES = 10 * KILLS
 # A life that hasn't begun to add by then, or ends by itself, is a failure.
 SECONDS = 20
@@ -113,10 +112,10 @@ def complaints(told, number, points, total, word):
 def lives(name, command, seed):
     """Plays lives until enough of them were killed, and in commits. What came of it, in words."""
     dice, kills, in_commits, lost = random.Random(seed), 0, 0, 0
-    while kills < KILLS or in_commits < IN_COMMITS:
+    while kills < KILLS or 2 * in_commits < kills or not lost:
         if kills == MOST_LIVES:
-            sys.exit(f"{name}: of {kills} kills only {in_commits} struck while a commit ran")
-        told = Told(play(command, in_commits < IN_COMMITS or kills % 2 == 0, dice))
+            sys.exit(f"{name}: of {kills} kills only {in_commits} struck while a commit ran, and {lost} while adds were in flight")
+        told = Told(play(command, 2 * in_commits <= kills, dice))
         number, points, total, word = looked(command)
         wrong = [*complaints(told, number, points, total, word)]
         if wrong:

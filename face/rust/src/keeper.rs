@@ -29,7 +29,7 @@ struct Hooks {
 }
 
 impl Keeping {
-    /// Commits each so long, in whole milliseconds, unless no session was out since the last commit. A store takes 8,190 commits.
+    /// Commits each so long, rounded up to milliseconds, unless no session was out since the last commit. A store takes 8,190 commits.
     pub fn commit_each(mut self, time: Duration) -> Keeping {
         self.commit_each = time;
         self
@@ -41,7 +41,8 @@ impl Keeping {
         self
     }
 
-    /// Rests so long between two turns when nothing is to be done, in whole microseconds; by default 500.
+    /// Rests so long between two turns when nothing is to be done, rounded up to microseconds; by default 500. While no session is out
+    /// it rests at least 100 milliseconds, and in a commit at most 50 microseconds.
     pub fn turn_each(mut self, time: Duration) -> Keeping {
         self.turn_each = time;
         self
@@ -80,8 +81,9 @@ extern "C" fn tell_progress(user: *mut c_void, progress: *const raw::Progress) {
     }
 }
 
-fn whole(count: u128) -> u32 {
-    u32::try_from(count).unwrap_or(u32::MAX)
+/// A time in units of so many nanoseconds, rounded up: 0 would mean something else.
+fn whole(time: Duration, unit: u128) -> u32 {
+    u32::try_from(time.as_nanos().div_ceil(unit)).unwrap_or(u32::MAX)
 }
 
 /// A commit that was asked for.
@@ -103,9 +105,9 @@ impl Keeper {
     pub(crate) fn start(file: Arc<OpenFile>, keeping: Keeping) -> Result<Keeper, Error> {
         let hooks = Box::into_raw(Box::new(keeping.hooks));
         let its = raw::Keeping {
-            commit_ms: whole(keeping.commit_each.as_millis()),
+            commit_ms: whole(keeping.commit_each, 1_000_000),
             log_commits: keeping.log_commits,
-            turn_us: whole(keeping.turn_each.as_micros()),
+            turn_us: whole(keeping.turn_each, 1_000),
             committed: Some(tell_committed),
             progress: Some(tell_progress),
             user: hooks.cast(),

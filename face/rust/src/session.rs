@@ -188,8 +188,11 @@ extern "C" fn tell_finished(user: *mut c_void, finished: *const raw::Finished) {
 
 /// A session. It may go to another thread, and two threads can't use it at once.
 ///
-/// While it is awake, refresh it every 64 calls or so: nothing of the store moves on past it. Let it sleep before its thread blocks. As
-/// it is dropped it settles and leaves. Where no keeper can finish its requests any more these are lost, and nobody gets it again.
+/// While it is awake, refresh it every 64 calls or so: nothing of the store moves on past it. Let it sleep before its thread blocks.
+///
+/// As it is dropped it settles, and waits as [`Session::settle`] does, and leaves. Where no keeper runs, the next one finishes what is
+/// pending. Commits don't wait for such a session, and keep its updates. Nobody joins it until then. If a call of the file has failed,
+/// what is pending is lost.
 ///
 /// ```compile_fail
 /// fn shared<T: Sync>() {}
@@ -236,7 +239,7 @@ impl Session {
     }
 
     /// Reads a key, and waits where it lies in the file alone. Then the session settles, and what else was pending isn't told. Refused as
-    /// [`Session::get`] and [`Session::settle`] are.
+    /// [`Session::get`] and [`Session::settle`] are, and may wait for ever as the latter does.
     pub fn read(&mut self, key: u64) -> Result<Option<u64>, Error> {
         let mut value = 0;
         let told = answer(unsafe { raw::fkv_read(self.file.at, self.at, key, &mut value) })?;
@@ -340,8 +343,9 @@ impl Session {
         Ok(left as usize)
     }
 
-    /// Polls until nothing is pending, with a refresh between two polls, and tells what is finished. It wants a keeper: `Broken` where none runs, and the
-    /// keeper's fault where that can't go on. `Asleep`.
+    /// Polls until nothing is pending, with a refresh between two polls, and tells what is finished. It wants a keeper: `Broken` where
+    /// none runs, and the keeper's fault where that can't go on. `Asleep`. An update that finds the index or the log full may wait for ever,
+    /// and so does this call.
     pub fn settle(&mut self, mut tell: impl FnMut(Finished)) -> Result<(), Error> {
         let mut tell: &mut dyn FnMut(Finished) = &mut tell;
         let user = ptr::from_mut(&mut tell).cast();
@@ -370,7 +374,7 @@ impl Session {
     }
 
     /// Settles, asks for a commit, and sleeps until it is finished: a crash from then on keeps all that it has done. What was pending
-    /// isn't told. Refused as [`Session::settle`], and by the fault of the commit.
+    /// isn't told. Refused as [`Session::settle`], and by the fault of the commit. It may wait for ever as `settle` does.
     pub fn commit(&mut self) -> Result<(), Error> {
         answer(unsafe { raw::fkv_commit_and_wait(self.file.at, self.at) })?;
         Ok(())
@@ -385,7 +389,7 @@ impl Session {
 impl Drop for Session {
     fn drop(&mut self) {
         unsafe {
-            // One that sleeps has nothing pending.
+            // One that sleeps has nothing pending. What can't be finished now is the next keeper's.
             raw::fkv_settle(self.file.at, self.at, None, ptr::null_mut());
             if raw::fkv_leave(self.file.at, self.at) < 0 {
                 raw::fkv_abandon(self.file.at, self.at);

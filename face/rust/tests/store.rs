@@ -268,6 +268,48 @@ fn what_was_pending_is_told() {
 }
 
 #[test]
+fn a_session_that_is_dropped_without_a_keeper_holds_up_no_commit() {
+    let path = Path::new("dropped");
+    let store = path.store();
+    let mut session = store.join(0).unwrap();
+    let accepted = (0..1000).take_while(|&key| session.upsert(key, key).is_ok());
+    let keys = accepted.count() as u64;
+    assert!(matches!(session.sleep(), Err(Error::PendingLeft)));
+    drop(session);
+    assert!(matches!(store.join(0), Err(Error::HandleTaken)));
+    let keeper = store.start(Keeping::default()).unwrap();
+    store.join(1).unwrap().commit().unwrap();
+    assert_eq!(store.last_commit().points[0], keys);
+    let mut session = loop {
+        match store.join(0) {
+            Err(Error::HandleTaken) => thread::yield_now(),
+            joined => break joined.unwrap(),
+        }
+    };
+    for key in 0..keys {
+        assert_eq!(session.read(key).unwrap(), Some(key));
+    }
+    drop((session, keeper));
+}
+
+#[test]
+fn a_short_time_between_commits_is_not_none() {
+    let path = Path::new("short");
+    let store = path.store();
+    let (send, receive) = mpsc::channel();
+    let keeping = Keeping::default()
+        .commit_each(Duration::from_micros(10))
+        .committed(move |number, _| {
+            let _ = send.send(number);
+        });
+    let _keeper = store.start(keeping).unwrap();
+    let mut session = store.join_any().unwrap();
+    session.add(7, 1).unwrap();
+    session.sleep().unwrap();
+    assert_eq!(receive.recv_timeout(Duration::from_secs(60)), Ok(1));
+}
+
+#[test]
 fn keys_are_spread_one_to_one() {
     let path = Path::new("keys");
     drop(path.store());

@@ -13,7 +13,7 @@ asks-init g c = record {
   calls = refl;
   left = omega arith;
   beginning = λ b. b;
-  asked = c.ask.ensures;
+  asked = c.ask-ask.ensures;
 }
 
 pub step-ask-requires : goal.step-ask-requires

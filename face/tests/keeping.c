@@ -1,0 +1,166 @@
+/* The keeper's thread: what it takes while it waits, and sessions that were given up with pending requests: keeping FOLDER. */
+#define _POSIX_C_SOURCE 200809L
+#include "fkv_posix.h"
+#include "tests.h"
+
+#include <signal.h>
+#include <stdbool.h>
+#include <sys/resource.h>
+#include <time.h>
+#include <unistd.h>
+
+/* A test that waits for ever is ended by a signal behind so many seconds. */
+enum { WAIT_MS = 300, MOST_SECONDS = 60, SESSIONS = FKV_MOST_SESSIONS, LAST = SESSIONS - 1, PATH_ROOM = 500 };
+
+/* Little memory, so that updates soon wait for the keeper. */
+static const fkv_shape SHAPE = {6, 16, 8, 4, SESSIONS, 64, 4096};
+static const char *folder;
+
+static const char *path_of(const char *name) {
+    static char path[PATH_ROOM];
+    snprintf(path, sizeof path, "%s/%s", folder, name);
+    return path;
+}
+
+static fkv_file *opened(const char *name) {
+    fkv_file *file;
+    WANTS("making a file", fkv_make_file(path_of(name), &SHAPE), 0);
+    WANTS("opening it", fkv_open_file(path_of(name), NULL, &file), 0);
+    return file;
+}
+
+static int64_t microseconds(clockid_t clock) {
+    struct timespec time;
+    clock_gettime(clock, &time);
+    return (int64_t)time.tv_sec * 1000000 + time.tv_nsec / 1000;
+}
+
+/* How much of the time of a processor this process takes while this thread sleeps, in percent. */
+static int64_t taken_meanwhile(void) {
+    int64_t real = microseconds(CLOCK_MONOTONIC), taken = microseconds(CLOCK_PROCESS_CPUTIME_ID);
+    nanosleep(&(struct timespec){0, WAIT_MS * 1000000L}, NULL);
+    taken = microseconds(CLOCK_PROCESS_CPUTIME_ID) - taken;
+    return 100 * taken / (microseconds(CLOCK_MONOTONIC) - real);
+}
+
+/* Commits are due each millisecond, and one is held up by a session that doesn't refresh. */
+static void held_up(void) {
+    fkv_file *file = opened("held_up");
+    fkv_keeping keeping = {.commit_ms = 1};
+    fkv_session *session;
+    fkv_update told;
+    WANTS("starting the keeper", fkv_start(file, &keeping), 0);
+    WANTS("joining", fkv_join(file, 0, &session), 0);
+    WANTS("an add", fkv_add(session, 7, 1, &told), FKV_DONE);
+    int64_t taken = taken_meanwhile();
+    WANTS("whether the keeper rests while a commit is held up", taken < 50, true);
+    WANTS("a commit", fkv_commit_and_wait(file, session), 0);
+    WANTS("leaving", fkv_leave(file, session), 0);
+    WANTS("closing", fkv_close_file(file), 0);
+}
+
+/* A call of the file fails while a commit is in hand. */
+static void failed(void) {
+    fkv_file *file = opened("failed");
+    fkv_keeping keeping = {.commit_ms = 1};
+    fkv_session *session;
+    fkv_update told;
+    struct rlimit limit, before;
+    signal(SIGXFSZ, SIG_IGN);
+    WANTS("joining", fkv_join(file, 0, &session), 0);
+    WANTS("an add", fkv_add(session, 7, 1, &told), FKV_DONE);
+    getrlimit(RLIMIT_FSIZE, &before);
+    limit = before;
+    limit.rlim_cur = FKV_IMAGE_SIZE;
+    WANTS("setting a limit", setrlimit(RLIMIT_FSIZE, &limit), 0);
+    WANTS("starting the keeper", fkv_start(file, &keeping), 0);
+    WANTS("a commit", fkv_commit_and_wait(file, session), -FKV_DEVICE);
+    setrlimit(RLIMIT_FSIZE, &before);
+    int64_t taken = taken_meanwhile();
+    WANTS("whether the keeper rests behind a call that failed", taken < 2, true);
+    WANTS("leaving", fkv_leave(file, session), 0);
+    WANTS("closing", fkv_close_file(file), 0);
+}
+
+/* A session that the keeper gives back in time, or any. */
+static fkv_session *joined(fkv_file *file, uint64_t number) {
+    fkv_session *session;
+    int32_t result = fkv_join(file, number, &session);
+    while (result == -FKV_HANDLE_TAKEN || result == -FKV_NO_SESSION) {
+        nanosleep(&(struct timespec){0, 100000}, NULL);
+        result = fkv_join(file, number, &session);
+    }
+    WANTS("joining", result, 0);
+    return session;
+}
+
+/* Updates keys from 0 on, until one waits for the keeper. Gives how many it has updated. */
+static uint64_t filled(fkv_session *session) {
+    fkv_update told;
+    int32_t result = FKV_DONE;
+    uint64_t key = 0;
+    for (; result == FKV_DONE; key++) result = fkv_upsert(session, key, key + 1, &told);
+    WANTS("the last update", result, FKV_PENDING);
+    return key;
+}
+
+/* No commit waits for a session that was abandoned while no keeper ran. Its updates are kept, and it is given again. */
+static void abandoned(void) {
+    fkv_file *file = opened("abandoned");
+    fkv_session *session, *other, *again;
+    uint64_t points[FKV_MOST_SESSIONS], value;
+    WANTS("joining", fkv_join(file, LAST, &session), 0);
+    WANTS("joining another", fkv_join(file, 1, &other), 0);
+    uint64_t keys = filled(session);
+    WANTS("leaving", fkv_leave(file, session), -FKV_PENDING_LEFT);
+    fkv_abandon(file, session);
+    WANTS("joining it again", fkv_join(file, LAST, &again), -FKV_HANDLE_TAKEN);
+    WANTS("closing while another is out", fkv_close_file(file), -FKV_HANDLE_OUT);
+    WANTS("starting the keeper", fkv_start(file, NULL), 0);
+    WANTS("a commit", fkv_commit_and_wait(file, other), 0);
+    WANTS("leaving", fkv_leave(file, other), 0);
+    fkv_last_commit(file, points);
+    WANTS("its point", points[LAST], keys);
+    again = joined(file, LAST);
+    for (uint64_t key = 0; key < keys; key++) {
+        WANTS("a read", fkv_read(file, again, key, &value), FKV_FOUND);
+        WANTS("its value", value, key + 1);
+    }
+    /* The keeper's thread ends while it has another one. */
+    fkv_abandon(file, again);
+    WANTS("joining", fkv_join(file, 1, &other), 0);
+    filled(other);
+    fkv_abandon(file, other);
+    WANTS("stopping behind a commit", fkv_stop(file, 1), 0);
+    WANTS("closing", fkv_close_file(file), 0);
+}
+
+/* Sessions that are abandoned as others use the store, and commits run. */
+static void abandoned_in_turn(void) {
+    fkv_file *file = opened("in_turn");
+    fkv_keeping keeping = {.commit_ms = 2};
+    fkv_update told;
+    uint64_t given = 0, kept = 0, points[FKV_MOST_SESSIONS];
+    WANTS("starting the keeper", fkv_start(file, &keeping), 0);
+    for (uint64_t round = 0; round < 300; round++) {
+        fkv_session *session = joined(file, FKV_ANY_SESSION);
+        for (uint64_t i = 0; i < 50; i++) given += fkv_add(session, (round * 50 + i) % 300, 1, &told) >= 0;
+        fkv_abandon(file, session);
+    }
+    WANTS("stopping behind a commit", fkv_stop(file, 1), 0);
+    fkv_last_commit(file, points);
+    for (int i = 0; i < SESSIONS; i++) kept += points[i];
+    WANTS("updates that are kept", kept, given);
+    WANTS("closing", fkv_close_file(file), 0);
+}
+
+int main(int count, char **words) {
+    if (count != 2) return 2;
+    folder = words[1];
+    alarm(MOST_SECONDS);
+    held_up();
+    failed();
+    abandoned();
+    abandoned_in_turn();
+    return 0;
+}
