@@ -43,7 +43,7 @@ struct Settings {
     Words sizes{"4096", "65536", "1048576"}, mixes{"get", "upsert", "add", "A", "B", "F"}, spreads{"uniform", "zipf"}, threads{"1", "2", "4"};
     Words commit_threads = threads, commit_mixes = mixes;  // cells with commits
     Words full_mixes{"upsert", "A"}, full_threads{"2"};    // with full ones
-    Words timed_mixes{"get", "upsert", "add", "A"}, timed_threads = threads;  // cells of single calls, of fkv
+    Words timed_mixes = mixes, timed_threads = threads;    // cells of single calls, of fkv
     Words beside_mixes{"A"}, beside_threads{"2"};          // and of the others
     Words own_sizes;                                       // of which sizes its cells with commits, and of single calls, are played; all where nothing is said
     Words only;                                            // the peers that take part; all where nothing is said
