@@ -39,7 +39,7 @@ struct fkv_file {
     fkv_keeping keeping;
 };
 
-/* Makes turns until nothing of what was abandoned is pending, or that can't be. No thread runs, and none begins. */
+/* Makes turns until nothing of what was abandoned is pending, or that can't be, or a second has passed. No thread runs, and none begins. */
 void fkv_end_abandoned(fkv_file *file);
 
 #endif

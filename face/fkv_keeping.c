@@ -5,11 +5,8 @@
 #include <errno.h>
 #include <signal.h>
 #include <string.h>
-#include <time.h>
-
-#ifdef __linux__
 #include <sys/prctl.h>
-#endif
+#include <time.h>
 
 enum {
     /* Between two turns when nothing is to be done, unless the caller says how long. */
@@ -17,9 +14,9 @@ enum {
     /* While a commit runs: it waits for sessions, which refresh every few microseconds. */
     COMMIT_TURN_US = 50,
     /*
-     * The same for so long, up to its first write. Until then it waits four times for all sessions, and their updates go the long way, or
-     * wait too. Between two turns the keeper sleeps all the same: if each processor has a session's thread, it may have taken the place of
-     * the one that it waits for.
+     * So long a commit makes haste, and its turns follow sooner, up to its first write. Until then it waits four times for all sessions.
+     * Their updates go the long way meanwhile, or wait too. The keeper sleeps between two turns all the same. If each processor has a
+     * session's thread, it may have taken the place of the one that it waits for.
      */
     HASTE_US = 500,
     HASTE_TURN_US = 20,
@@ -28,7 +25,7 @@ enum {
     /* Between two polls of a session that waits. */
     SETTLE_US = 20,
     /* A file that is closed waits so long for what was abandoned: a full index or log lets it wait for ever. */
-    LAST_US = 1000000,
+    ABANDONED_US = 1000000,
     MOST_MS = 1000000000
 };
 
@@ -157,10 +154,12 @@ static uint32_t tend(fkv_file *file, uint32_t abandoned) {
 void fkv_end_abandoned(fkv_file *file) {
     uint64_t points[FKV_MOST_SESSIONS];
     fkv_turned turned;
-    struct timespec until = behind(now(), LAST_US);
+    struct timespec until = behind(now(), ABANDONED_US);
     while (file->abandoned && is_before(now(), until)) {
         file->abandoned = tend(file, file->abandoned);
-        if (file->abandoned && fkv_turn_file(file->fd, &file->keeper, &turned, points, FKV_MOST_SESSIONS, NULL) < 0) return;
+        if (!file->abandoned) return;
+        if (fkv_turn_file(file->fd, &file->keeper, &turned, points, FKV_MOST_SESSIONS, NULL) < 0) return;
+        nanosleep(&(struct timespec){0, SETTLE_US * 1000}, NULL);
     }
 }
 
@@ -198,7 +197,7 @@ static uint32_t rest_us(const struct run *run) {
     const fkv_file *file = run->file;
     uint32_t usual = file->keeping.turn_us ? file->keeping.turn_us : USUAL_TURN_US;
     uint32_t most = makes_haste(run) ? HASTE_TURN_US : COMMIT_TURN_US;
-    if (file->in_hand) return usual < most ? usual : most;
+    if (file->in_hand || run->is_put_off) return usual < most ? usual : most;
     return file->joined || file->abandoned || usual > IDLE_TURN_US ? usual : IDLE_TURN_US;
 }
 
@@ -237,9 +236,7 @@ static void go_on(struct run *run) {
 
 /* Linux ends a short sleep of a thread up to 50 microseconds late, unless the thread says otherwise. */
 static void wake_in_time(void) {
-#ifdef __linux__
     prctl(PR_SET_TIMERSLACK, 1UL, 0UL, 0UL, 0UL);
-#endif
 }
 
 static void *keep(void *its_file) {

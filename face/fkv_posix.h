@@ -104,7 +104,8 @@ int32_t fkv_leave(fkv_file *file, fkv_session *session);
 
 /*
  * Takes it back in any case, for who can't settle or doesn't want to wait. What is pending is finished by the keeper's thread, as soon
- * as one runs, and isn't told: commits don't wait for a refresh of this session, and keep its updates. Until then nobody joins it.
+ * as one runs, and isn't told. Until all of it is finished nobody joins the session. Commits don't wait for its refresh, and keep its
+ * updates. While an update of it waits for a full index or log, no commit finishes.
  */
 void fkv_abandon(fkv_file *file, fkv_session *session);
 
@@ -144,7 +145,8 @@ int32_t fkv_start(fkv_file *file, const fkv_keeping *keeping);
 
 /*
  * Ends the keeper's thread, behind a last commit if `with_commit` isn't 0. Nothing is committed behind it, until the next fkv_start.
- * 0; the fault of the last commit. Sessions that are joined have to refresh meanwhile, as for each commit.
+ * 0; the fault of the last commit. Sessions that are joined have to refresh meanwhile, as for each commit. With a last commit it may
+ * wait for ever as fkv_commit_and_wait does.
  */
 int32_t fkv_stop(fkv_file *file, uint32_t with_commit);
 
@@ -156,7 +158,8 @@ int32_t fkv_ask_commit(fkv_file *file, uint64_t *ticket);
 
 /*
  * Waits until that commit is finished: what sessions had done when it was asked for survives a crash. `session` is that of the calling
- * thread, which sleeps meanwhile, so that the commit doesn't wait for its refresh; NULL if it has none, or its session sleeps.
+ * thread, which sleeps meanwhile, so that the commit doesn't wait for its refresh; NULL if it has none, or its session sleeps. It may
+ * wait for ever as fkv_commit_and_wait does.
  * 0; -FKV_PENDING_LEFT: fkv_settle comes first; the fault of the commit; -FKV_BROKEN where no thread runs any more.
  */
 int32_t fkv_wait_commit(fkv_file *file, uint64_t ticket, fkv_session *session);
@@ -165,8 +168,8 @@ int32_t fkv_wait_commit(fkv_file *file, uint64_t ticket, fkv_session *session);
  * Settles the session, asks for a commit, and waits until it is finished: all that the session has done survives a crash. What was
  * pending isn't told. `session` may be NULL. The refusals are those of fkv_settle, fkv_ask_commit and fkv_wait_commit.
  *
- * It may wait for ever as fkv_settle does. No commit finishes while an update of any session waits for a full index or log, nor past a
- * session that is awake and doesn't refresh.
+ * It may wait for ever as fkv_settle does. No commit finishes while an update of any session waits for a full index or log. None
+ * finishes past a session that is awake and doesn't refresh.
  */
 int32_t fkv_commit_and_wait(fkv_file *file, fkv_session *session);
 

@@ -6,8 +6,10 @@ import sys
 import threading
 import time
 
-# So many kills, and more until half of them have struck while a commit runs, and one of them adds that no commit had kept yet.
+# So many kills, and more until half of them have struck while a commit runs. One at least has lost adds.
 KILLS = 20
+# Within so many seconds of a commit's beginning a kill is aimed at it. Each that comes too late shortens this.
+REACH, SHORTER = 0.002, 0.8
 MOST_LIVES = 10 * KILLS
 # A life that hasn't begun to add by then, or ends by itself, is a failure.
 SECONDS = 20
@@ -71,15 +73,15 @@ class Told:
                 self.is_in_commit = True
 
 
-def play(command, is_in_commit, dice):
-    """Plays a life, and kills it while a commit runs, or at any time while it adds."""
+def play(command, reach, dice):
+    """Plays a life, and kills it so many seconds behind the beginning of a commit, at most; or at any time while it adds."""
     life = Life(command)
     life.wait_for("told")
-    if is_in_commit:
+    if reach:
         for _ in range(dice.randrange(3)):
             life.wait_for("begins")
         life.wait_for("begins")
-        time.sleep(dice.random() * 0.002)
+        time.sleep(dice.random() * reach)
     else:
         time.sleep(dice.random() * 0.15)
     return life.kill()
@@ -111,16 +113,18 @@ def complaints(told, number, points, total, word):
 
 def lives(name, command, seed):
     """Plays lives until enough of them were killed, and in commits. What came of it, in words."""
-    dice, kills, in_commits, lost = random.Random(seed), 0, 0, 0
+    dice, kills, in_commits, lost, reach = random.Random(seed), 0, 0, 0, REACH
     while kills < KILLS or 2 * in_commits < kills or not lost:
         if kills == MOST_LIVES:
             sys.exit(f"{name}: of {kills} kills only {in_commits} struck while a commit ran, and {lost} while adds were in flight")
-        told = Told(play(command, 2 * in_commits <= kills, dice))
+        is_aimed = 2 * in_commits <= kills
+        told = Told(play(command, reach if is_aimed else None, dice))
         number, points, total, word = looked(command)
         wrong = [*complaints(told, number, points, total, word)]
         if wrong:
             sys.exit("\n".join(f"{name}, seed {seed}, kill {kills + 1}: {it}" for it in wrong))
         kills += 1
         in_commits += told.is_in_commit
+        reach *= SHORTER if is_aimed and not told.is_in_commit else 1
         lost += any(given > point for given, point in zip(told.given, points))
     return f"{name}: {kills} kills, {in_commits} while a commit ran, {lost} with adds in flight that were lost; {sum(points)} adds in {number} commits are there"

@@ -45,7 +45,7 @@ struct Settings {
     Words full_mixes{"upsert", "A"}, full_threads{"2"};    // with full ones
     Words timed_mixes = mixes, timed_threads = threads;    // cells of single calls, of fkv
     Words beside_mixes{"A"}, beside_threads{"2"};          // and of the others
-    Words own_sizes;                                       // of which sizes its cells with commits, and of single calls, are played; all where nothing is said
+    Words own_sizes;                                       // sizes of which fkv's cells with commits, and of single calls, are played; all where nothing is said
     Words only;                                            // the peers that take part; all where nothing is said
     double cell = 0.03, commit_cell = 0.13, timed_cell = 0.13, until = 470;
     unsigned rounds = 3, commit_rounds = 3;

@@ -230,6 +230,18 @@ def opening_told(it):
     return f"{time_told(1e9 * it['seconds'])} / {time_told(1e9 * it['processor'])}"
 
 
+def alone(figures):
+    """Where fkv's cells with commits have a process of their own."""
+    if figures.told["how"] != "whole":
+        return ""
+    return " With 4,096 and 65,536 keys fkv's cells with commits and of timed calls are played by a process that has no other store."
+
+
+def shared(figures):
+    """Which cells of a table of both come from processes of their own."""
+    return " The peers' cells share a process; fkv's do so with 1,048,576 keys alone." if alone(figures) else ""
+
+
 def beginning(figures):
     return f"""{TITLE}
 
@@ -238,7 +250,7 @@ def beginning(figures):
 {conditions(figures)}
 
 - **Keys** are 64-bit words in no order, and so are values. Each call's key is drawn before anything is timed, the same for all. Zipf has the exponent 0.99.
-- **Calls.** YCSB A has half upserts and half gets, B one upsert in twenty calls. F has an add in half of its calls, in place of a read and a write. A cell with commits begins behind one. With 4,096 and 65,536 keys fkv's cells with commits and of timed calls are played by a process that has no other store.
+- **Calls.** YCSB A has half upserts and half gets, B one upsert in twenty calls. F has an add in half of its calls, in place of a read and a write. A cell with commits begins behind one.{alone(figures)}
 - **fkv** spreads the keys itself. Each session refreshes behind 256 calls; behind 64 while it sees a commit, and behind 8 until all have gone over to its version. An update that lost to another session is polled at once. Memory has room for eight records of each key, and for 2^20 of each thread at least. The index has a bucket for each four keys.
 - **Maps** are `std::unordered_map` behind one mutex and in 64 shards, libcuckoo, TBB and dashmap. dashmap comes twice: as it is, and with 512 shards and each key as its own hash.
 - **LMDB** has one transaction behind a mutex, which a commit ends. By call each update is a transaction, gets wait for nobody, and a commit syncs.
@@ -286,7 +298,7 @@ The share of throughput that is kept, in percent, by the clock. The last column 
 
 {kept(figures, "full")}
 
-How many times the peer's calls the library makes, both with a commit each 50 ms, by the clock:
+How many times the peer's calls the library makes, both with a commit each 50 ms, by the clock.{shared(figures)}
 
 {ratios(figures, by_clock, "pair", figures.durable, "log")}
 

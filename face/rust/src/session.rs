@@ -190,9 +190,9 @@ extern "C" fn tell_finished(user: *mut c_void, finished: *const raw::Finished) {
 ///
 /// While it is awake, refresh it every 64 calls or so: nothing of the store moves on past it. Let it sleep before its thread blocks.
 ///
-/// As it is dropped it settles, and waits as [`Session::settle`] does, and leaves. Where no keeper runs, the next one finishes what is
-/// pending. Commits don't wait for such a session, and keep its updates. Nobody joins it until then. If a call of the file has failed,
-/// what is pending is lost.
+/// As it is dropped it leaves. If requests of it are pending, the keeper finishes them, or the next one if none runs. Until all are
+/// finished nobody joins it. Commits don't wait for its refresh, and keep its updates. While an update of it waits for a full index or
+/// log, no commit finishes. If a call of the file has failed, what is pending is lost.
 ///
 /// ```compile_fail
 /// fn shared<T: Sync>() {}
@@ -389,8 +389,7 @@ impl Session {
 impl Drop for Session {
     fn drop(&mut self) {
         unsafe {
-            // One that sleeps has nothing pending. What can't be finished now is the next keeper's.
-            raw::fkv_settle(self.file.at, self.at, None, ptr::null_mut());
+            // What is pending is the keeper's from now on: to settle might never end.
             if raw::fkv_leave(self.file.at, self.at) < 0 {
                 raw::fkv_abandon(self.file.at, self.at);
             }
