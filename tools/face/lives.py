@@ -1,4 +1,5 @@
 """Lives of a counter over one file, each ended by `kill -9`, and what the next opening has to find."""
+import os
 import random
 import re
 import subprocess
@@ -21,7 +22,8 @@ class Life:
 
     def __init__(self, command):
         self.lines, self.news = [], threading.Condition()
-        self.process = subprocess.Popen(command, stdin=subprocess.DEVNULL, stdout=subprocess.PIPE, stderr=subprocess.PIPE)
+        # (its threads may keep all processors, and who kills it wants one at once)
+        self.process = subprocess.Popen(command, stdin=subprocess.DEVNULL, stdout=subprocess.PIPE, stderr=subprocess.PIPE, preexec_fn=lambda: os.nice(19))
         self.reader = threading.Thread(target=self.read)
         self.reader.start()
 
