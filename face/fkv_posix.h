@@ -95,7 +95,7 @@ uint64_t fkv_last_commit(fkv_file *file, uint64_t points[FKV_MOST_SESSIONS]);
 /*
  * Gives the caller session `number`, from 0, awake, until fkv_leave. A session's serials go on where the last life's last commit
  * left them.
- * 0; -FKV_NO_SESSION (of FKV_ANY_SESSION: none is left), -FKV_HANDLE_TAKEN.
+ * 0; -FKV_NO_SESSION (of FKV_ANY_SESSION: none is left); -FKV_HANDLE_TAKEN (it is joined, or abandoned with requests pending).
  */
 int32_t fkv_join(fkv_file *file, uint64_t number, fkv_session **out);
 

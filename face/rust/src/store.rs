@@ -242,7 +242,8 @@ impl Store {
         }
     }
 
-    /// Session `number`, from 0, awake, until it is dropped. `NoSession`; `HandleTaken` where it is out.
+    /// Session `number`, from 0, awake, until it is dropped. `NoSession`; `HandleTaken` where it is out, or was dropped with requests that
+    /// are pending still.
     pub fn join(&self, number: u64) -> Result<Session, Error> {
         let mut at = ptr::null_mut();
         answer(unsafe { raw::fkv_join(self.file.at, number, &mut at) })?;
