@@ -16,7 +16,7 @@ enum {
     /*
      * So long a commit makes haste, and its turns follow sooner, up to its first write. Until then it waits four times for all sessions.
      * Their updates go the long way meanwhile, or wait too. The keeper sleeps between two turns all the same. If each processor has a
-     * session's thread, it may have taken the place of the one that it waits for.
+     * session's thread, it may stand in the way of the one that it waits for.
      */
     HASTE_US = 500,
     HASTE_TURN_US = 20,
