@@ -1,4 +1,4 @@
-//! Laws of the world of a store that opens.
+//! Laws of the world of a store: how it opens, and what a crash leaves of it.
 ghost use Rattle.std.specs.Prelude.{◌≡◌, ℕ, Bool, List, true};
 ghost use Rattle.fkv_core.specs.declared.events.Event.TheVariants.{Crash};
 ghost use Rattle.fkv_core.specs.OpeningPlaces.{HaveSeen, StandAsTold};
@@ -16,6 +16,6 @@ pub fn law_words_open()
 {}
 
 /// Behind the event of a crash the store has crashed.
-pub fn law_crash_is_one()
+pub fn law_crash_has_crashed()
     ensures crashed { (n : Now) (read : List ℕ) (granted done : Bool) → (happens_now n read (took_place Crash granted done)).crashed ≡ true }
 {}

@@ -4,7 +4,7 @@ use Rattle.std.specs.Prelude.{if◌then◌else◌}
 use Rattle.fkv_core.specs.declared.events.Event.TheVariants.{Crash}
 use Rattle.fkv_core.specs.Worlds.{took_place}
 use Rattle.fkv_world.specs.World.{Now, life_goes}
-use Rattle.fkv_core.proofs.laws.law_crash_is_one.Goals as goal
+use Rattle.fkv_core.proofs.laws.law_crash_has_crashed.Goals as goal
 
 crashed_so : (b : Bool) (n m : Now) → n.crashed ≡ b → m.crashed ≡ true → (if b then n else m).crashed ≡ true
 crashed_so true n m e h = e
