@@ -10,7 +10,6 @@ use Rattle.fkv_epoch.specs.Raising.{raise_ask}
 use Rattle.fkv_epoch.specs.EpochWorld.{Raises}
 use Rattle.fkv_log.specs.declared.moving.MoveAnswer.{MoveAnswer}
 use Rattle.fkv_log.specs.declared.moving.Offset.TheVariants.{ReadOnly}
-use Rattle.fkv_log.specs.declared.moving.Moving.TheVariants as move
 use Rattle.fkv_log.specs.declared.shifting.ShiftAnswer.TheVariants as answer
 use Rattle.fkv_log.specs.declared.shifting.Shifting.{Shifting}
 use Rattle.fkv_log.specs.declared.shifting.Shifting.TheVariants as shift

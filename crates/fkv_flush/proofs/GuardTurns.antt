@@ -12,7 +12,6 @@ use Rattle.fkv_epoch.specs.EpochWorld.{Raises}
 use Rattle.fkv_log.specs.declared.moving.MoveAnswer.{MoveAnswer}
 use Rattle.fkv_log.specs.declared.moving.MoveAnswer.TheVariants as moved
 use Rattle.fkv_log.specs.declared.moving.Offset.TheVariants.{Head}
-use Rattle.fkv_log.specs.declared.moving.Moving.TheVariants as move
 use Rattle.fkv_log.specs.declared.turning.TurnForm.TheVariants.{Whole, OpensOnly}
 use Rattle.fkv_log.specs.declared.turning.Turning.{Turning}
 use Rattle.fkv_log.specs.declared.turning.Turning.TheVariants as turn

@@ -1,5 +1,5 @@
 -- How records that nobody writes any more get to the device.
-use Rattle.std.specs.Prelude.{◌≡◌, ℕ, ◌+◌, ◌-◌, ◌*◌, ◌/◌, ◌^◌, ◌<◌, ◌≤◌, ◌&&◌, min, nat_lt, if◌then◌else◌, Bool, true, false, List, [], ◌∷◌, ◌++◌, ⊤}
+use Rattle.std.specs.Prelude.{◌≡◌, ℕ, ◌+◌, ◌-◌, ◌*◌, ◌/◌, ◌^◌, ◌<◌, ◌≤◌, ◌&&◌, min, nat_lt, if◌then◌else◌, Bool, true, false, List, [], ◌∷◌, ◌++◌, ⊤, Option, Some, None}
 use Rattle.std.specs.Int.{w64, to_le_bytes}
 use Rattle.fkv_base.specs.declared.shapes.Shape.{Shape}
 use Rattle.fkv_record.specs.Places as image
@@ -60,6 +60,11 @@ flush_ask places (LoadsWord part addr word) = Load (record_place places addr wor
 flush_ask places (WritesPart part) = Done answer.Device
 flush_ask places (Syncs end) = Done answer.Device
 flush_ask places (RaisesFlushed end) = Max (shared_place one.Flushed) end
+
+-- the place of the record's word that it loads, if it loads one
+abbrev pub word_due : Places → Flushing → Option ℕ
+word_due places (LoadsWord part addr word) = Some (record_place places addr word)
+word_due places step = None
 
 -- a part is loaded from its first record on
 abbrev pub part_begun : ℕ → ℕ → ℕ → Flushing

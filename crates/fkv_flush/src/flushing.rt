@@ -5,7 +5,7 @@ ghost use Rattle.fkv_base.specs.Limits.{max_page};
 ghost use Rattle.fkv_base.specs.declared.faults.Fault.TheVariants.{Memory};
 ghost use Rattle.fkv_disk.specs.Asks.{asked_call, first_asked, kinds_by};
 ghost use Rattle.fkv_disk.specs.Device.{Elapses, HasCause, MakesCalls};
-ghost use Rattle.fkv_flush.specs.Flushing.{flush_ask, flush_next, bytes_next, flush_calls, flush_done, bytes_done, part_begun, record_after, count_next, count_done, HasRoom, IsWithin};
+ghost use Rattle.fkv_flush.specs.Flushing.{flush_ask, flush_next, bytes_next, flush_calls, flush_done, bytes_done, part_begun, record_after, count_next, count_done, word_due, HasRoom, IsWithin};
 ghost use Rattle.fkv_flush.specs.AsksLeft.{flush_asks_left, most_flush_asks, EndsWithin, GoesOnWhereLeft};
 ghost use Rattle.fkv_flush.specs.Devices.{Adds, calls_asked};
 ghost use Rattle.fkv_flush.specs.declared.flushing.Flushing.TheVariants.{AtRest, LoadsFlushed};
@@ -102,9 +102,28 @@ impl Flush {
         ensures fewer { calls_asked (flush_ask self.old.places self.old.step) ≡ 0 → flush_asks_left self.new.step ≤ flush_asks_left self.old.step - 1 }
         ensures bounded { EndsWithin self.old.step reply self.new.step }
     {
+        self.keep(reply);
+        self.ask()
+    }
+
+    /// Goes on as `drive` does, and doesn't tell what it asks: `word_due` does, while it loads the words of records.
+    #[inline(always)]
+    pub fn keep(&mut self, reply: u64)
+        ensures next { self.new ≡ record self.old { bytes = bytes_next self.old.step self.old.bytes reply; step = flush_next self.old.shape.page self.old.step reply } }
+    {
         keep_word(&mut self.bytes, self.step, reply);
         self.step = step_after(self.shape.page, self.step, reply);
-        self.ask()
+    }
+
+    /// The place of the record's word that it loads, if it loads one.
+    #[inline(always)]
+    pub fn word_due(&self) -> Option<usize>
+        ensures { result ≡ word_due self.now.places self.now.step }
+    {
+        match self.step {
+            Flushing::LoadsWord(_, addr, word) => Some(self.places.record(Addr(addr), word)),
+            _ => None,
+        }
     }
 
     /// Makes the one call of the device that it needs, and goes on. Where it needs none it makes none, and stays where it
@@ -162,6 +181,7 @@ impl Flush {
 
 // Puts a word that was loaded behind those in hand.
 #[tactic(auto, unfolding(crate::specs::Flushing::bytes_next, crate::specs::Flushing::count_next))]
+#[inline(always)]
 fn keep_word(bytes: &mut Vec<u8>, step: Flushing, reply: u64)
     requires { HasRoom step (vec_len bytes.old) (vec_capacity bytes.old) }
     ensures items { bytes.new.items ≡ bytes_next step bytes.old.items reply }
@@ -175,6 +195,7 @@ fn keep_word(bytes: &mut Vec<u8>, step: Flushing, reply: u64)
 
 // Where a reply leads.
 #[tactic(auto, unfolding(crate::specs::Flushing::flush_next))]
+#[inline(always)]
 fn step_after(page: u64, step: Flushing, reply: u64) -> Flushing
     requires page { 0 < page }
     requires small { page ≤ max_page }
@@ -220,6 +241,7 @@ fn part_begun(page: u64, from: u64, end: u64) -> Flushing
 }
 
 // The record after this one is loaded, and the part is written after its last.
+#[inline(always)]
 fn record_after(part: Part, addr: u64) -> Flushing
     requires { addr < part.stop }
     ensures { result ≡ record_after part addr }

@@ -1,9 +1,8 @@
 -- The call of the device that is due is all that a step makes of it.
-use Rattle.std.proofs.Common.{◌≡◌, ℕ, List, [], ◌∷◌, Bool, true, refl, ap, sym, ◌∙◌}
-use Rattle.std.specs.Prelude.{Option, Some, None}
+use Rattle.std.proofs.Common.{◌≡◌, ℕ, List, [], ◌∷◌, Bool, true, refl}
+use Rattle.std.specs.Prelude.{Option, Some}
 use Rattle.fkv_base.specs.declared.shapes.Shape.{Shape}
-use Rattle.fkv_disk.specs.Asks.{AskedCall, Reads, Writes, Syncs, first_asked, calls_by, count_by, kinds_by}
-use Rattle.fkv_disk.specs.Bytes.{bytes_at}
+use Rattle.fkv_disk.specs.Asks.{AskedCall, Reads, first_asked, calls_by, count_by, kinds_by}
 use Rattle.fkv_disk.specs.Calls.{Call, Write, Sync}
 use Rattle.fkv_disk.specs.Kinds.{Kind}
 use Rattle.fkv_plane.specs.declared.places.Places.{Places}

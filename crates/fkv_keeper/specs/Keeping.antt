@@ -51,7 +51,7 @@ use Rattle.fkv_keeper.specs.declared.last_commits.Checkpoint.{Checkpoint}
 use Rattle.fkv_maintain.specs.declared.maintaining.MaintainAnswer.{MaintainAnswer}
 use Rattle.fkv_maintain.specs.declared.maintaining.MaintainAnswer.TheVariants as maintain
 use Rattle.fkv_keeper.specs.LastCommits.{other_area, area_number, is_gate_open, gate_opened, slot_place, slot_written}
-use Rattle.fkv_maintain.specs.Maintaining.{MaintainState, maintain_begun, maintain_ask, maintain_next, maintain_given, maintain_called}
+use Rattle.fkv_maintain.specs.Maintaining.{MaintainState, maintain_begun, maintain_ask, maintain_next, maintain_given, maintain_called, maintain_word_due}
 
 -- a finished commit
 pub record Finality : Type 0 where
@@ -162,6 +162,14 @@ start_ledto s (Done (start.Begun number first)) =
 start_ledto s (Done (start.Refused why)) = ended s (CommitRefused why)
 start_ledto s (Done start.Idle) = ended s (CommitRefused fault.CommitRunning)
 start_ledto s ask = s
+
+-- the place of the record's word that its flush loads, if it loads one
+abbrev pub word_due_at : Places → KeeperState → Keeping → Option ℕ
+word_due_at p s Maintains = maintain_word_due p s.maintain
+word_due_at p s step = None
+
+abbrev pub keeper_word_due : Places → KeeperState → Option ℕ
+keeper_word_due p s = word_due_at p s s.step
 
 unfoldable pub maintain_ledto : KeeperState → Ask MaintainAnswer → KeeperState
 maintain_ledto s (Done maintain.Through) = record s { is_drain_full = s.maintain.is_drain_full; step = LoadsPhase }

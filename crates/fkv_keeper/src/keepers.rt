@@ -1,5 +1,5 @@
 //! The keeper: its turns and its commits.
-ghost use Rattle.std.specs.Prelude.{◌≡◌, ◌<◌, ◌≤◌, ◌↔◌, ℕ, Bool, List, [], is_ok, is_some, true, false, IfOk, OnErr, Err, None};
+ghost use Rattle.std.specs.Prelude.{◌≡◌, ◌<◌, ◌≤◌, ◌↔◌, ℕ, Bool, List, [], is_ok, is_some, true, false, IfOk, OnErr, Err, None, Some};
 ghost use Rattle.fkv_checkpoint.specs.Copying.{IsRoomFor};
 ghost use Rattle.fkv_disk.specs.Asks.{asked_call, first_asked, kinds_by};
 ghost use Rattle.fkv_manifest.specs.Committing.{commit_answer, commit_call};
@@ -14,7 +14,7 @@ ghost use Rattle.fkv_keeper.specs.declared.answers.KeeperTold.TheVariants.{Devic
 ghost use Rattle.fkv_disk.specs.Device.{Elapses, HasCause, MakesCalls};
 ghost use Rattle.fkv_flush.specs.Devices.{Adds};
 ghost use Rattle.fkv_keeper.specs.KeeperAsks.{IsBusyWhereLeft, keeper_asks_left, most_begin_asks, most_turn_asks, keeper_calls, keeper_calls_asked, keeper_due, keeper_made, keeper_read};
-ghost use Rattle.fkv_keeper.specs.Keeping.{commit_asked, turn_asked, keeper_ask, keeper_next, keeper_given, keeper_called, may_copy, turn_called, writes_called};
+ghost use Rattle.fkv_keeper.specs.Keeping.{commit_asked, turn_asked, keeper_ask, keeper_next, keeper_given, keeper_called, may_copy, turn_called, writes_called, keeper_word_due};
 ghost use Rattle.fkv_keeper.specs.KeeperRun.{IsOpened};
 ghost use Rattle.fkv_keeper.specs.NewKeepers.{IsNewKeeper};
 ghost use Rattle.fkv_keeper.specs.declared.keepers.Keeping.TheVariants.{Ended, Maintains};
@@ -281,6 +281,27 @@ impl Keeper {
             return self.ask();
         }
         device_passed(ask, KeeperTold::Turned(false, self.is_drain_full))
+    }
+
+    /// The place of the record's word that its flush loads, if it loads one.
+    #[inline(always)]
+    pub fn word_due(&self) -> Option<usize>
+        ensures { result ≡ keeper_word_due self.now.places self.now.state }
+    {
+        match self.step {
+            Keeping::Maintains => self.maintain.word_due(),
+            _ => None,
+        }
+    }
+
+    /// Goes on with the record's word that its flush has loaded, as `go_on` does, and doesn't tell what it asks. A flush loads three words of each record.
+    #[inline(always)]
+    #[tactic(auto, using(crate::proofs::GoesOn::word_goes_on))]
+    pub fn keep(&mut self, word: u64)
+        requires due { (place : ℕ) × (keeper_word_due self.old.places self.old.state ≡ Some place) }
+        ensures next { (granted : Bool) → self.new ≡ record self.old { state = keeper_next self.old.shape self.old.places self.old.state word granted } }
+    {
+        self.maintain.keep(word);
     }
 
     /// Gets the action of the slot that it claimed.

@@ -30,7 +30,7 @@ use Rattle.fkv_flush.specs.declared.flushing.Flushing.TheVariants.{LoadsFlushed}
 use Rattle.fkv_flush.specs.declared.serving.Serving.{Serving}
 use Rattle.fkv_flush.specs.declared.serving.Serving.TheVariants as serving
 use Rattle.fkv_flush.specs.Devices.{calls_asked}
-use Rattle.fkv_flush.specs.Flushing.{flush_ask, flush_next, flush_done, flush_calls, bytes_next, bytes_done}
+use Rattle.fkv_flush.specs.Flushing.{flush_ask, flush_next, flush_done, flush_calls, bytes_next, bytes_done, word_due}
 use Rattle.fkv_flush.specs.Serving.{serve_ask, serve_next, serve_read, mailbox_from, mail_read}
 use Rattle.fkv_maintain.specs.declared.maintaining.MaintainAnswer.{MaintainAnswer}
 use Rattle.fkv_maintain.specs.declared.maintaining.MaintainAnswer.TheVariants as answer
@@ -84,6 +84,14 @@ scan_ledto s ask = s
 unfoldable pub claim_ledto : MaintainState → Ask (Unit {0}) → MaintainState
 claim_ledto s (Done its) = record s { bytes = []; flushing = LoadsFlushed; step = Flushes }
 claim_ledto s ask = s
+
+-- the place of the record's word that the flush loads, if it loads one
+abbrev pub word_due_at : Places → MaintainState → Maintaining → Option ℕ
+word_due_at p s Flushes = word_due p s.flushing
+word_due_at p s step = None
+
+abbrev pub maintain_word_due : Places → MaintainState → Option ℕ
+maintain_word_due p s = word_due_at p s s.step
 
 unfoldable pub flush_ledto : MaintainState → Ask DeviceAnswer → MaintainState
 flush_ledto s (Done device.Through) = record s { shift = shift_begun; step = Shifts }

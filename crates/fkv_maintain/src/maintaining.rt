@@ -1,5 +1,5 @@
 //! What a turn of the keeper does whether a commit is in hand or not.
-ghost use Rattle.std.specs.Prelude.{◌≡◌, ◌<◌, ◌≤◌, ◌↔◌, ℕ, List, [], is_ok, true, false, IfOk, OnOk, OnErr, Err};
+ghost use Rattle.std.specs.Prelude.{◌≡◌, ◌<◌, ◌≤◌, ◌↔◌, ℕ, List, [], is_ok, true, false, IfOk, OnOk, OnErr, Err, Some};
 ghost use Rattle.fkv_base.specs.declared.faults.Fault.TheVariants.{Memory};
 ghost use Rattle.fkv_disk.specs.Asks.{asked_call, kinds_by};
 ghost use Rattle.fkv_disk.specs.Bytes.{bytes_at};
@@ -12,7 +12,7 @@ ghost use Rattle.fkv_maintain.specs.declared.maintaining.MaintainAnswer.TheVaria
 ghost use Rattle.fkv_maintain.specs.declared.maintaining.Maintaining.TheVariants.{Through, Broken, Flushes};
 ghost use Rattle.fkv_plane.specs.Passing.{is_done};
 ghost use Rattle.fkv_plane.specs.declared.asks.Ask.TheVariants.{Done};
-ghost use Rattle.fkv_maintain.specs.Maintaining.{maintain_begun, maintain_ask, maintain_next, maintain_given, maintain_called, maintain_asked, maintain_calls, maintain_calls_asked, maintain_made, device_asked, scan_ledto, claim_ledto, flush_ledto, shift_ledto, turn_ledto, serve_begun, serve_ledto, turn_form};
+ghost use Rattle.fkv_maintain.specs.Maintaining.{maintain_begun, maintain_ask, maintain_next, maintain_given, maintain_called, maintain_asked, maintain_calls, maintain_calls_asked, maintain_made, device_asked, scan_ledto, claim_ledto, flush_ledto, shift_ledto, turn_ledto, serve_begun, serve_ledto, turn_form, maintain_word_due};
 
 use fkv_base::{Addr, Fault, Shape};
 use fkv_disk::{Device, DeviceAsk};
@@ -166,6 +166,27 @@ impl Maintain {
             return self.ask();
         }
         device_asked(ask)
+    }
+
+    /// The place of the record's word that the flush loads, if it loads one.
+    #[inline(always)]
+    pub fn word_due(&self) -> Option<usize>
+        ensures { result ≡ maintain_word_due self.now.places self.now.state }
+    {
+        match self.step {
+            Maintaining::Flushes => self.flush.word_due(),
+            _ => None,
+        }
+    }
+
+    /// Goes on with the record's word that the flush has loaded, as `drive` does, and doesn't tell what it asks.
+    #[inline(always)]
+    #[tactic(auto, using(crate::proofs::GoesOn::word_goes_on))]
+    pub fn keep(&mut self, word: u64)
+        requires due { (place : ℕ) × (maintain_word_due self.old.places self.old.state ≡ Some place) }
+        ensures next { self.new ≡ record self.old { state = maintain_next self.old.shape self.old.places self.old.state word } }
+    {
+        self.flush.keep(word);
     }
 
     /// Gets the action of the slot that it claimed.
