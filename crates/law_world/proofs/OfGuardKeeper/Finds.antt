@@ -39,10 +39,11 @@ use Rattle.fkv_keeper.specs.Keeping.{KeeperState, copy_asked, copy_driven, copy_
 use Rattle.fkv_commit.specs.Waiting.{wait_ask, wait_next}
 use Rattle.fkv_words.specs.PhaseWords.{phase_said}
 use Rattle.fkv_world.specs.Actors.{slot_asked}
+use Rattle.fkv_world.specs.Moves.{keeper_gets}
 use Rattle.law_world.specs.GuardKeeper.Followed.{IsKeepers, KeeperLed, likeness}
 use Rattle.law_world.specs.GuardKeeper.KeeperShown.{KeepingKnows, keeping_machine, keeping_work}
 use Rattle.law_world.specs.GuardKeeper.MaintainShown.{maintaining_machine}
-use Rattle.law_world.specs.GuardKeeper.Settled.{is_of_slot, keeper_gets}
+use Rattle.law_world.specs.GuardKeeper.Settled.{is_of_slot}
 use Rattle.law_world.proofs.OfGuardKeeper.CommitPuts.{start_puts, enter_puts, seek_puts}
 use Rattle.law_world.proofs.OfGuardKeeper.EndKept.{copy_quiet, wait_quiet, finish_quiet, finish_slot}
 use Rattle.law_world.proofs.OfGuardKeeper.KeeperLed.{keeper_settles}

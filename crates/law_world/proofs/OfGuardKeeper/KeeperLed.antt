@@ -9,8 +9,9 @@ use Rattle.fkv_flush.specs.GuardWorld.{Actor, Work, GuardNow, GuardEvent}
 use Rattle.fkv_flush.proofs.Shown.{Fits, FitsMachine, FitsWork, Follows}
 use Rattle.fkv_keeper.specs.declared.answers.KeeperTold.{KeeperTold}
 use Rattle.fkv_keeper.specs.Keeping.{KeeperState, keeper_ask, keeper_next}
+use Rattle.fkv_world.specs.Moves.{keeper_gets}
 use Rattle.law_world.specs.GuardKeeper.Followed.{KeeperLed, likeness}
-use Rattle.law_world.specs.GuardKeeper.Settled.{settled, actions_settled, is_of_slot, keeper_gets}
+use Rattle.law_world.specs.GuardKeeper.Settled.{settled, actions_settled, is_of_slot}
 use Rattle.law_world.proofs.OfGuardKeeper.Slots.{settled_stays, actions_stay}
 
 -- the keeper has come to a state, and the world settles what this asks of a slot

@@ -15,7 +15,8 @@ use Rattle.fkv_flush.specs.GuardWorld.{GuardNow, GuardEvent}
 use Rattle.fkv_flush.proofs.Shown.{Follows}
 use Rattle.fkv_keeper.specs.declared.keepers.Keeping.TheVariants as keeping
 use Rattle.fkv_keeper.specs.Keeping.{KeeperState, keeping_ask, keeping_next, keeping_given, seek_ledto, turn_over}
-use Rattle.law_world.specs.GuardKeeper.Settled.{settled, actions_settled, is_of_slot, takes_none, keeper_gets}
+use Rattle.fkv_world.specs.Moves.{keeper_gets}
+use Rattle.law_world.specs.GuardKeeper.Settled.{settled, actions_settled, is_of_slot, takes_none}
 use Rattle.law_world.proofs.OfGuardKeeper.Ends.{seek_over}
 use Rattle.law_world.specs.GuardKeeper.Followed.{KeeperLed, likeness}
 use Rattle.law_world.proofs.OfGuardKeeper.KeeperLed.{StepLed, step_by_ask, slotless_step, rest_follows}

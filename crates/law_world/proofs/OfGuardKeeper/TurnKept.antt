@@ -15,8 +15,9 @@ use Rattle.fkv_keeper.specs.Keeping.{KeeperState, device_passed, keeping_ask, ke
 use Rattle.fkv_maintain.specs.declared.maintaining.MaintainAnswer.{MaintainAnswer}
 use Rattle.fkv_maintain.specs.declared.maintaining.MaintainAnswer.TheVariants as answer
 use Rattle.fkv_maintain.specs.Maintaining.{MaintainState, maintain_ask, maintain_next, maintain_given}
+use Rattle.fkv_world.specs.Moves.{keeper_gets}
 use Rattle.law_world.specs.GuardKeeper.MaintainShown.{maintain_machine, maintain_work}
-use Rattle.law_world.specs.GuardKeeper.Settled.{settled, actions_settled, is_of_slot, maintain_gets, keeper_gets}
+use Rattle.law_world.specs.GuardKeeper.Settled.{settled, actions_settled, is_of_slot, maintain_gets}
 use Rattle.law_world.proofs.OfGuardKeeper.Ends.{IsTurnOver, follows_known, part_known, is_device, turn_over_at}
 use Rattle.law_world.specs.GuardKeeper.Followed.{KeeperLed, likeness}
 use Rattle.law_world.proofs.OfGuardKeeper.KeeperLed.{StepLed, step_by_ask, slotless_step, rest_follows}

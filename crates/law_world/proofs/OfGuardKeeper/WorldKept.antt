@@ -1,6 +1,6 @@
 -- The keeper's step, as the engine's world makes it.
 use Rattle.std.proofs.Common.{◌≡◌, ℕ, List, ◌⊎◌, inl, inr, refl, ap, sym, subst, ◌∙◌, Bool, false}
-use Rattle.std.specs.Prelude.{Option, Some, None, slice_get, slice_set}
+use Rattle.std.specs.Prelude.{Some, slice_get}
 use Rattle.fkv_base.specs.declared.shapes.Shape.{Shape}
 use Rattle.fkv_plane.specs.declared.actions.Action.{Action}
 use Rattle.fkv_plane.specs.declared.asks.Ask.{Ask}
@@ -8,7 +8,6 @@ use Rattle.fkv_plane.specs.declared.asks.Ask.TheVariants.{Put, Take, Done}
 use Rattle.fkv_plane.specs.declared.places.Places.{Places}
 use Rattle.fkv_plane.specs.Asked.{reply_to, words_after}
 use Rattle.fkv_plane.specs.Passing.{passed, is_done}
-use Rattle.fkv_plane.specs.Plane.{action_at}
 use Rattle.fkv_epoch.specs.declared.claiming.Claiming.{Claiming}
 use Rattle.fkv_epoch.specs.declared.claiming.Claiming.TheVariants as claim
 use Rattle.fkv_epoch.specs.Claiming.{claim_ask, claim_next}
@@ -24,11 +23,10 @@ use Rattle.fkv_keeper.specs.declared.answers.KeeperTold.TheVariants as told
 use Rattle.fkv_keeper.specs.declared.keepers.Keeping.{Keeping}
 use Rattle.fkv_keeper.specs.declared.keepers.Keeping.TheVariants as keeping
 use Rattle.fkv_keeper.specs.Keeping.{KeeperState, device_passed, keeping_ask, keeping_next, keeper_ask, keeper_next, maintain_ledto}
-use Rattle.fkv_world.specs.Moves as world
 use Rattle.fkv_world.specs.Moves.{Near, keeper_settled, keeper_asks, keeper_moved}
 use Rattle.law_world.specs.GuardKeeper.KeeperEvents.{keeping_events, keeper_events_at, keeper_move_events}
 use Rattle.law_world.specs.GuardKeeper.KeeperShown.{keeper_machine, keeper_work, keeping_work, KeeperKnows}
-use Rattle.law_world.specs.GuardKeeper.Settled.{actions_settled, is_of_slot, keeper_gets}
+use Rattle.law_world.specs.GuardKeeper.Settled.{actions_settled, is_of_slot}
 use Rattle.law_world.proofs.OfGuardKeeper.Ends.{PartKnows, part_known}
 use Rattle.law_world.specs.GuardKeeper.Followed.{KeeperLed, likeness}
 use Rattle.law_world.proofs.OfGuardKeeper.KeeperLed.{StepLed, keeper_settles}
@@ -42,17 +40,12 @@ abbrev pub NearLed : GuardNow → ℕ → List GuardEvent → LastSeen → Near 
 NearLed n a events seen there = KeeperLed n a events seen there.machine there.words there.actions
 
 -- the world settles what is asked of a slot as it is said here
-gets_same : (shape : Shape) (p : Places) (s : KeeperState) (found : Option Action) → keeper_gets shape p s found ≡ world.keeper_gets shape p s found
-gets_same shape p s None = refl
-gets_same shape p s (Some action) = refl
-
 settles_near : (n : GuardNow) (a : ℕ) (events : List GuardEvent) (seen : LastSeen) (granted : Bool) (there : KeeperState) (words : List ℕ) (ask : Ask KeeperTold)
     → KeeperLed n a events seen (keeper_settles n granted there ask) words (actions_settled n.actions ask)
     → NearLed n a events seen (keeper_settled n.shape n.places granted (record { machine = there; words = words; actions = n.actions }) ask)
 unfolding keeper_settled
 settles_near n a events seen granted there words (Put slot action) led = led
-settles_near n a events seen granted there words (Take slot) led =
-    subst (λ (its : KeeperState). KeeperLed n a events seen its words (slice_set n.actions slot None)) (gets_same n.shape n.places there (action_at n.actions slot)) led
+settles_near n a events seen granted there words (Take slot) led = led
 settles_near n a events seen granted there words ask led = led
 
 -- a claim that waits for an action asks for it again

@@ -29,11 +29,12 @@ use Rattle.fkv_flush.specs.GuardWorld as guard
 use Rattle.fkv_flush.specs.GuardWorld.{Actor, GuardWorld, is_idle}
 use Rattle.fkv_flush.proofs.Shown.{IsSound, Fits}
 use Rattle.fkv_world.specs.Actors.{slot_asked}
+use Rattle.fkv_world.specs.Moves.{session_gets}
 use Rattle.law_world.specs.GuardSessions.Followed.{Sits, seat_in, is_turning}
 use Rattle.law_world.specs.GuardSessions.Likenesses.{last_seen}
 use Rattle.law_world.specs.GuardSessions.OwnTurns.{own_turn_likeness_at}
 use Rattle.law_world.specs.GuardSessions.Rows.{OwnTurnKnows, SittingKnows}
-use Rattle.law_world.specs.GuardSessions.Sessions.{SessionWritesOuter, session_gets, session_settled, sitting_likeness}
+use Rattle.law_world.specs.GuardSessions.Sessions.{SessionWritesOuter, session_settled, sitting_likeness}
 use Rattle.law_world.proofs.OfGuardSessions.NoSlots.{session_slot}
 use Rattle.law_world.specs.GuardKeeper.Settled.{is_of_slot}
 use Rattle.law_world.proofs.OfGuardSessions.OwnTurns.{scan_behind, work_is, turn_is, opening_busy}

@@ -49,12 +49,13 @@ use Rattle.fkv_log.specs.declared.turning.Turning.{Turning}
 use Rattle.fkv_log.specs.declared.turning.Turning.TheVariants as turn
 use Rattle.fkv_log.specs.Moving.{Mover, offset_place, moving_ask, move_ask}
 use Rattle.fkv_log.specs.Turning.{turning_ask, limit_after}
+use Rattle.fkv_world.specs.Moves.{session_gets}
 use Rattle.law_world.specs.GuardSessions.Steps.{onward_events}
 use Rattle.law_world.specs.GuardSessions.Followed.{TurnsFollow, SessionFollows, seat_in}
 use Rattle.law_world.specs.GuardSessions.Likenesses.{last_seen}
 use Rattle.law_world.specs.GuardSessions.OwnTurns.{own_turn_likeness, own_turn_likeness_at, turn_gets, turn_settled}
 use Rattle.law_world.specs.GuardKeeper.Settled.{actions_settled}
-use Rattle.law_world.specs.GuardSessions.Sessions.{sitting_events, sitting_onward, sitting_likeness, session_likeness, is_protected_at, session_gets, session_settled}
+use Rattle.law_world.specs.GuardSessions.Sessions.{sitting_events, sitting_onward, sitting_likeness, session_likeness, is_protected_at, session_settled}
 use Rattle.law_world.proofs.OfGuardSessions.Onwards.{Keeps, goes_onward}
 use Rattle.law_world.proofs.OfGuardSessions.Epochs.{machine_keeps, ask_keeps}
 use Rattle.law_world.proofs.OfGuardSessions.OwnTurnsLed.{OwnTurnLed, shift_asking, own_turn_through}

@@ -1,12 +1,9 @@
 -- What the world settles in the same step as a word's ask: an action goes into its slot or comes out of it, and the machine goes on at once.
 use Rattle.std.specs.Prelude.{ℕ, Bool, true, false, List, slice_set, Option, Some, None}
-use Rattle.fkv_base.specs.declared.shapes.Shape.{Shape}
 use Rattle.fkv_plane.specs.declared.actions.Action.{Action}
 use Rattle.fkv_plane.specs.declared.asks.Ask.{Ask}
 use Rattle.fkv_plane.specs.declared.asks.Ask.TheVariants.{Put, Take}
 use Rattle.fkv_plane.specs.Plane.{action_at}
-use Rattle.fkv_plane.specs.declared.places.Places.{Places}
-use Rattle.fkv_keeper.specs.Keeping.{KeeperState, keeper_given}
 use Rattle.fkv_maintain.specs.Maintaining.{MaintainState, maintain_given}
 
 -- a machine that has come to ask this; by its own next step, and by what it does with an action
@@ -34,8 +31,3 @@ takes_none s action = s
 abbrev pub maintain_gets : MaintainState → Option Action → MaintainState
 maintain_gets s None = s
 maintain_gets s (Some action) = maintain_given s action
-
--- so does the keeper
-abbrev pub keeper_gets : Shape → Places → KeeperState → Option Action → KeeperState
-keeper_gets shape p s None = s
-keeper_gets shape p s (Some action) = keeper_given shape p s action

@@ -16,7 +16,8 @@ use Rattle.fkv_session.specs.declared.catching_up.Catching.{Catching}
 use Rattle.fkv_session.specs.declared.catching_up.Catching.TheVariants.{Protects}
 use Rattle.fkv_session.specs.declared.sessions.Sitting.{Sitting}
 use Rattle.fkv_session.specs.declared.sessions.Sitting.TheVariants.{Idle, Attempts, CatchesUp, Polls, Turns, Leaves, LoadsDurable}
-use Rattle.fkv_session.specs.Sessions.{SessionState, Seat, room_of, session_ask, session_next, session_given}
+use Rattle.fkv_session.specs.Sessions.{SessionState, Seat, room_of, session_ask, session_next}
+use Rattle.fkv_world.specs.Moves.{session_gets}
 use Rattle.law_world.specs.GuardSessions.Likenesses.{likeness, last_seen, through}
 use Rattle.law_world.specs.GuardSessions.Steps.{Onward, Stays, Starts, onward_events, outer_events}
 use Rattle.law_world.specs.GuardSessions.Attempts.{attempt_events, attempt_onward, attempt_likeness, AttemptWritesOuter}
@@ -63,10 +64,6 @@ sitting_onward s Leaves = leave_onward s.leaving
 sitting_onward s step = Stays
 
 -- an action goes into its slot, and one comes out of it, in the same step; every other ask is left to the next one
-abbrev pub session_gets : Seat → SessionState → Option Action → SessionState
-session_gets k s None = s
-session_gets k s (Some action) = session_given k s action
-
 abbrev pub session_settled : Seat → List (Option Action) → SessionState → Ask Told → SessionState
 session_settled k actions s (Put slot action) = session_next k s 0
 session_settled k actions s (Take slot) = session_gets k s (action_at actions slot)
