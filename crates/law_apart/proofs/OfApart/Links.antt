@@ -15,11 +15,8 @@ use Rattle.fkv_index.specs.declared.finding.Linking.{Linking}
 use Rattle.fkv_index.specs.declared.finding.Linking.TheVariants.{Made, Never, Once}
 use Rattle.fkv_index.specs.Finding.{ended_list, entered, find_ask, find_led, find_next, find_next_ask, find_step_ask, led_ask, led_to, link_led, slot_led}
 use Rattle.fkv_index.specs.Slots.{entry_tag, is_entry, link_of, slot_word}
+use Rattle.law_local.specs.Tries.Replies.{HasNoLink}
 use Rattle.law_apart.specs.Apart.Rows.{has_linked, is_link_step, is_linking}
-
--- a link was not there
-abbrev pub HasNoLink : FindStep → ℕ → Type 0
-HasNoLink step reply = (step ≡ LoadsLink) × (link_of reply ≡ 0)
 
 -- what is led to links only where it did before, or where there was no link
 abbrev LinksSo : Finding → FindStep → ℕ → Finding → Type 0

@@ -1,5 +1,5 @@
 -- What a session knows of versions goes on by each reply to it and each call that begins.
-use Rattle.std.proofs.Common.{◌≡◌, ◌≢◌, ℕ, refl, sym, ap, ◌∙◌, subst, Bool, true, false, Some, None, List}
+use Rattle.std.proofs.Common.{◌≡◌, ◌≢◌, ℕ, refl, sym, ap, ◌∙◌, subst, true, false, Some, None, List}
 use Rattle.std.specs.Prelude.{slice_get}
 use Rattle.fkv_map.specs.declared.operations.Call.{Call}
 use Rattle.fkv_plane.specs.declared.asks.Ask.{Ask}
@@ -25,6 +25,7 @@ use Rattle.law_local.specs.Below.fkv_session.CatchCause.TheVariants.{Shifts}
 use Rattle.law_local.specs.Below.fkv_session.Sitting.{Sitting}
 use Rattle.law_local.specs.Below.fkv_session.Sitting.TheVariants.{Attempts, CatchesUp, Polls}
 use Rattle.law_local.specs.Below.fkv_session.CatchingUp.{CatchState, catch_requests, catching_requests}
+use Rattle.law_local.specs.Below.fkv_session.Refused.{is_catching_up}
 use Rattle.law_local.specs.Below.fkv_session.Sessions.{SessionState, Seat, bits_of, is_busy, request_in_hand, room_of, session_begun, session_next}
 use Rattle.law_local.specs.Sessions.Known.{IsHandedOver, IsKnownAnew, KnowsRequests, attempt_after, attempt_comes_to, catch_after, caught_up_at, is_attempting, is_polling, with_op}
 use Rattle.law_local.specs.Sessions.Moves.{requests_at}
@@ -38,11 +39,6 @@ use Rattle.law_apart.proofs.OfApart.Attempts.{attempt_apart, attempt_begins_apar
 
 never : {X : Type 0} → false ≡ true → X
 never e = cc
-
--- ---- control states
-abbrev is_catching : Sitting → Bool
-is_catching (CatchesUp cause) = true
-is_catching step = false
 
 -- what asks goes on asking, by whatever passes it on
 passes_on : {A B : Type 0} {X : Type 0} (ask : Ask A) (a its : B) → is_done ask ≡ false → passed ask a ≡ Done its → X
@@ -107,10 +103,10 @@ module _ (home : ℕ → ℕ) (k : Seat) where
       left : (its : TryAnswer) → attempt_comes_to k s reply ≡ Done its → Tried log' (attempt_after k s reply) → Waits log' (attempt_after k s reply).pending
       left its e after = left_apart log' (attempt_after k s reply) (attempt_after k s reply).step its e after
 
-      no_catch : {X : Type 0} (cause : CatchCause) → is_catching s.step ≡ false → s.step ≡ CatchesUp cause → X
-      no_catch cause other at = never (sym other ∙ ap is_catching at)
+      no_catch : {X : Type 0} (cause : CatchCause) → is_catching_up s.step ≡ false → s.step ≡ CatchesUp cause → X
+      no_catch cause other at = never (sym other ∙ ap is_catching_up at)
 
-      moves_apart : is_catching s.step ≡ false → Knows log' (session_next k s reply)
+      moves_apart : is_catching_up s.step ≡ false → Knows log' (session_next k s reply)
       moves_apart other =
           next_known (Waits log') (Waits log') (Tried log) (Tried log') k s reply waits_then
           (record {
@@ -125,8 +121,8 @@ module _ (home : ℕ → ℕ) (k : Seat) where
 
       -- ---- in catching up
       module _ (cause : CatchCause) (at : s.step ≡ CatchesUp cause) where
-        not_so : {X : Type 0} (step : Sitting) → s.step ≡ step → is_catching step ≡ false → X
-        not_so step e other = never (sym other ∙ (ap is_catching (sym e) ∙ ap is_catching at))
+        not_so : {X : Type 0} (step : Sitting) → s.step ≡ step → is_catching_up step ≡ false → X
+        not_so step e other = never (sym other ∙ (ap is_catching_up (sym e) ∙ ap is_catching_up at))
 
         idle : {X : Type 0} → is_attempting s.step ≡ true → X
         idle attempting = never (sym (ap is_attempting at) ∙ attempting)
@@ -183,7 +179,7 @@ module _ (home : ℕ → ℕ) (k : Seat) where
 
       by_sitting : (step : Sitting) → s.step ≡ step → Knows log' (session_next k s reply)
       by_sitting (CatchesUp cause) at = caught_apart cause at
-      by_sitting step at = moves_apart (ap is_catching at)
+      by_sitting step at = moves_apart (ap is_catching_up at)
 
       pub step_apart : Knows log' (session_next k s reply)
       step_apart = by_sitting s.step refl

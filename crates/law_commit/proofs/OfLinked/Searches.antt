@@ -14,13 +14,10 @@ use Rattle.fkv_index.specs.declared.finding.Purpose.TheVariants.{Read, Update}
 use Rattle.fkv_index.specs.declared.homes.Home.{Home}
 use Rattle.fkv_index.specs.Finding.{ended_list, entered, find_led, find_next, first_finding, led_to, link_led, linked_led, slot_led, taken_led, took_led}
 use Rattle.fkv_index.specs.Slots.{entry_tag, is_entry, link_of, slot_word}
+use Rattle.law_refine.specs.Below.law_local.Tries.Replies.{HasNoLink}
 use Rattle.law_refine.specs.Index.Finders.{Search, SessionWork, NoWork, Searches, KeepsSlot, PublishesEntry}
 use Rattle.law_refine.proofs.OfIndex.Goes.{WorkGoes, SeeksOn, HasFound, Keeps, Drops, Seeks, Enters}
 use Rattle.law_commit.specs.Linked.{IsLinkStep, IsLinking}
-
--- a link was not there
-abbrev pub HasNoLink : FindStep → ℕ → Type 0
-HasNoLink step reply = (step ≡ LoadsLink) × (link_of reply ≡ 0)
 
 -- what a search is led to is of the same home, and where it links it did so or there was no link
 record LedFrom (f : Finding) (step : FindStep) (reply : ℕ) (after : Finding) : Type 0 where

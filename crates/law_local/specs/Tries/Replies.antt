@@ -7,11 +7,13 @@ use Rattle.fkv_log.specs.declared.loading.Loading.{Loading}
 use Rattle.fkv_log.specs.declared.loading.Loading.TheVariants as load
 use Rattle.fkv_log.specs.declared.reserving.Reserving.{Reserving}
 use Rattle.fkv_log.specs.declared.reserving.Reserving.TheVariants.{TakesTail}
+use Rattle.fkv_index.specs.declared.finding.FindStep.{FindStep}
+use Rattle.fkv_index.specs.declared.finding.FindStep.TheVariants.{LoadsLink}
 use Rattle.fkv_index.specs.declared.finding.Found.{Found}
 use Rattle.fkv_index.specs.declared.finding.Found.TheVariants.{Slot, NoSlot}
 use Rattle.fkv_index.specs.declared.finding.FindAnswer.{FindAnswer}
 use Rattle.fkv_index.specs.Finding.{find_next_ask}
-use Rattle.fkv_index.specs.Slots.{entry_addr}
+use Rattle.fkv_index.specs.Slots.{entry_addr, link_of}
 use Rattle.law_log.specs.Trace.{IsIn}
 use Rattle.law_log.specs.Chains.{Cell, Logged, Published, head_of}
 use Rattle.law_log.specs.Ghosts.{Log}
@@ -54,6 +56,10 @@ LeadsToHead head its = ⊤
 abbrev pub EndsAtHead : ℕ → Ask FindAnswer → Type 0
 EndsAtHead head (Done its) = LeadsToHead head its.found
 EndsAtHead head ask = ⊤
+
+-- the reply is an eighth word, and names no link
+abbrev pub HasNoLink : FindStep → ℕ → Type 0
+HasNoLink step reply = (step ≡ LoadsLink) × (link_of reply ≡ 0)
 
 -- by the walk's control state
 abbrev pub IsTrueOfWalk : (ℕ → ℕ) → Log → Places → WalkState → Walking → ℕ → Type 0

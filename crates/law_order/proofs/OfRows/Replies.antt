@@ -20,6 +20,7 @@ use Rattle.law_commit.specs.Below.fkv_session.CatchCause.{CatchCause}
 use Rattle.law_commit.specs.Below.fkv_session.CatchCause.TheVariants.{Shifts}
 use Rattle.law_commit.specs.Below.fkv_session.Sitting.{Sitting}
 use Rattle.law_commit.specs.Below.fkv_session.Sitting.TheVariants.{Attempts, CatchesUp, Polls}
+use Rattle.law_commit.specs.Below.fkv_session.Refused.{is_catching_up}
 use Rattle.law_commit.specs.Below.fkv_session.Sessions.{SessionState, Seat, bits_of, room_of, is_busy, is_full, is_spent, refusal_of, request_in_hand, session_begun, session_next}
 use Rattle.law_commit.specs.Below.law_local.Sessions.Inputs.{AttemptsBy, AttemptsSo}
 use Rattle.law_commit.specs.Below.law_local.Sessions.Known.{IsHandedOver, IsKnownAnew, KnowsRequests, attempt_after, catch_after, catch_comes_to, caught_up_at, is_attempting, is_polling, with_op}
@@ -35,11 +36,6 @@ use Rattle.law_order.proofs.OfRows.Seeks.{attempt_seeks, attempt_begun_seeks}
 
 never : {X : Type 0} → false ≡ true → X
 never e = cc
-
--- ---- control states
-abbrev pub is_catching : Sitting → Bool
-is_catching (CatchesUp cause) = true
-is_catching step = false
 
 after_seen : (k : Seat) (s : SessionState) (step : Sitting) (reply : ℕ) → AttemptsBy k s step → is_attempting step ≡ true → (attempt_after k s reply).seen ≡ s.seen
 after_seen k s (Attempts has_shifted) reply so e = (attempt_goes (bits_of k) s.seen AtCall k.places (room_of k) k.number s.attempt reply so.goes).its_seen
@@ -135,10 +131,10 @@ module _ (home : ℕ → ℕ) where
       left : (attempting : is_attempting s.step ≡ true) → TriesSo log' (attempt_after k s reply) → WaitsSo log' s.seen (attempt_after k s reply).pending
       left attempting its = (subst (λ (seen : Seen). PendingKnows home log' (attempt_after k s reply).pending seen) (after_seen k s s.step reply facts.inputs attempting) its.0.pending, its.1.pending)
 
-      no_catch : {X : Type 0} (cause : CatchCause) → is_catching s.step ≡ false → s.step ≡ CatchesUp cause → X
-      no_catch cause other at = never (sym other ∙ ap is_catching at)
+      no_catch : {X : Type 0} (cause : CatchCause) → is_catching_up s.step ≡ false → s.step ≡ CatchesUp cause → X
+      no_catch cause other at = never (sym other ∙ ap is_catching_up at)
 
-      moves_so : is_catching s.step ≡ false → KnowsSo log' s.seen (session_next k s reply)
+      moves_so : is_catching_up s.step ≡ false → KnowsSo log' s.seen (session_next k s reply)
       moves_so other =
           next_known (WaitsSo log s.seen) (WaitsSo log' s.seen) (TriesSo log) (TriesSo log') k s reply knows
           (record {
@@ -160,8 +156,8 @@ module _ (home : ℕ → ℕ) where
         attempted = tries.attempted;
       }
         where
-          not_so : {X : Type 0} (step : Sitting) → s.step ≡ step → is_catching step ≡ false → X
-          not_so step e other = never (sym other ∙ (ap is_catching (sym e) ∙ ap is_catching at))
+          not_so : {X : Type 0} (step : Sitting) → s.step ≡ step → is_catching_up step ≡ false → X
+          not_so step e other = never (sym other ∙ (ap is_catching_up (sym e) ∙ ap is_catching_up at))
 
           frees : KnowsRequests (WaitsFree log' s.seen) (λ a. Unit {0}) (session_next k s reply)
           frees =
@@ -191,7 +187,7 @@ module _ (home : ℕ → ℕ) where
 
       by_step : (step : Sitting) → s.step ≡ step → KnowsSo log' s.seen (session_next k s reply)
       by_step (CatchesUp cause) at = caught_so cause at
-      by_step step at = moves_so (ap is_catching at)
+      by_step step at = moves_so (ap is_catching_up at)
 
       pub step_so : KnowsSo log' s.seen (session_next k s reply)
       step_so = by_step s.step refl

@@ -8,6 +8,7 @@ pub use Rattle.fkv_session.specs.Cuts
 pub use Rattle.fkv_session.specs.InOrder
 pub use Rattle.fkv_session.specs.Kinds
 pub use Rattle.fkv_session.specs.OwnTurns
+pub use Rattle.fkv_session.specs.Refused
 pub use Rattle.fkv_session.specs.Replies
 pub use Rattle.fkv_session.specs.SessionRun
 pub use Rattle.fkv_session.specs.Sessions
