@@ -13,6 +13,7 @@ mod LogShows
 pub mod Meets
 pub mod Numbers
 mod OneEvent
+pub mod Puts
 mod RowsStay
 mod SessionRows
 pub mod Standing

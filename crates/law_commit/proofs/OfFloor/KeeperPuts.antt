@@ -5,10 +5,7 @@ use Rattle.fkv_base.specs.declared.numbers.Addr.{Addr}
 use Rattle.fkv_base.specs.declared.numbers.Serial.{Serial}
 use Rattle.fkv_base.specs.declared.numbers.Version.{Version}
 use Rattle.fkv_base.specs.declared.shapes.Shape.{Shape}
-use Rattle.fkv_plane.specs.declared.asks.Ask.{Ask}
-use Rattle.fkv_plane.specs.declared.asks.Ask.TheVariants.{Put}
 use Rattle.fkv_plane.specs.declared.places.Places.{Places}
-use Rattle.fkv_plane.specs.Passing.{passed}
 use Rattle.fkv_epoch.specs.declared.arming.Arming.{Arming}
 use Rattle.fkv_epoch.specs.declared.arming.Arming.TheVariants as arm
 use Rattle.fkv_epoch.specs.declared.raising.Raising.{Raising}
@@ -44,16 +41,8 @@ use Rattle.law_refine.specs.Below.fkv_keeper.KeeperTold.{KeeperTold}
 use Rattle.law_refine.specs.Below.fkv_keeper.TheKeeping.{Keeping}
 use Rattle.law_refine.specs.Below.fkv_keeper.TheKeeping.TheVariants.{Ended, Starts, Maintains, LoadsPhase, Enters, Copies, Seeks, Waits, Writes, Finishes}
 use Rattle.law_refine.specs.Below.fkv_keeper.Keeping.{KeeperState, copy_asked, keeping_ask, write_asked}
+use Rattle.law_refine.proofs.OfRecords.Puts.{is_put, put_passed}
 use Rattle.law_commit.specs.Phases.Staged.{EnterAt, SeekAt, Stage, StartAt, StepAt}
-
-abbrev pub is_put : {A : Type 0} → Ask A → Bool
-is_put (Put slot action) = true
-is_put ask = false
-
-passed_put : {A B : Type 0} (ask : Ask A) (told : B) → is_put (passed ask told) ≡ is_put ask
-unfolding passed
-passed_put (Put slot action) told = refl
-passed_put ask told = refl
 
 raise_put : (step : Raising) → is_put (raise_ask step) ≡ false
 unfolding raise_ask
@@ -84,10 +73,10 @@ defer_puts : (d : DeferState) (step : Deferring) → is_put (deferring_ask d ste
 unfolding deferring_ask
 defer_puts d (defer.Puts its slot epoch) so = record { its = its; slot = slot; epoch = epoch; is = refl }
 defer_puts d (defer.Ended told) so = cc
-defer_puts d defer.Seeks so = clash _ (passed_put (raise_ask d.raising) _ ∙ raise_put d.raising) so
+defer_puts d defer.Seeks so = clash _ (put_passed (raise_ask d.raising) _ ∙ raise_put d.raising) so
 defer_puts d defer.Holds so = cc
-defer_puts d (defer.Raises its) so = clash _ (passed_put (raise_ask d.raising) _ ∙ raise_put d.raising) so
-defer_puts d (defer.Arms epoch) so = clash _ (passed_put (arm_ask d.arming) _ ∙ arm_put d.arming) so
+defer_puts d (defer.Raises its) so = clash _ (put_passed (raise_ask d.raising) _ ∙ raise_put d.raising) so
+defer_puts d (defer.Arms epoch) so = clash _ (put_passed (arm_ask d.arming) _ ∙ arm_put d.arming) so
 
 -- one that seeks a slot puts none
 seeks_none : {X : Type 0} (d : DeferState) (step : Deferring) → step ≡ defer.Seeks → is_put (deferring_ask d step) ≡ true → X
@@ -102,8 +91,8 @@ pub record StartPuts (s : StartState) (step : Starting) : Type 0 where
 
 start_puts : (number : Version) (stage : Stage) (s : StartState) (step : Starting) → StartAt number stage s step → is_put (starting_ask s step) ≡ true → StartPuts s step
 unfolding starting_ask
-start_puts number stage s (start.Defers its first) is so = record { its = its; first = first; is = refl; puts = defer_puts s.defer s.defer.step (sym (passed_put (deferring_ask s.defer s.defer.step) _) ∙ so) }
-start_puts number stage s (start.Seeks its) is so = seeks_none s.defer s.defer.step is.2 (sym (passed_put (deferring_ask s.defer s.defer.step) _) ∙ so)
+start_puts number stage s (start.Defers its first) is so = record { its = its; first = first; is = refl; puts = defer_puts s.defer s.defer.step (sym (put_passed (deferring_ask s.defer s.defer.step) _) ∙ so) }
+start_puts number stage s (start.Seeks its) is so = seeks_none s.defer s.defer.step is.2 (sym (put_passed (deferring_ask s.defer s.defer.step) _) ∙ so)
 start_puts number stage s (start.Ended told) is so = cc
 start_puts number stage s start.LoadsPhase is so = cc
 start_puts number stage s (start.StoresPrepare its) is so = cc
@@ -115,8 +104,8 @@ pub record EnterPuts (s : EnterState) (step : Entering) : Type 0 where
 
 enter_puts : (number : Version) (stage : Stage) (s : EnterState) (step : Entering) → EnterAt number stage s step → is_put (entering_ask s step) ≡ true → EnterPuts s step
 unfolding entering_ask
-enter_puts number stage s enter.Defers is so = record { is = refl; puts = defer_puts s.defer s.defer.step (sym (passed_put (deferring_ask s.defer s.defer.step) _) ∙ so) }
-enter_puts number stage s enter.Seeks is so = seeks_none s.defer s.defer.step is.1 (sym (passed_put (deferring_ask s.defer s.defer.step) _) ∙ so)
+enter_puts number stage s enter.Defers is so = record { is = refl; puts = defer_puts s.defer s.defer.step (sym (put_passed (deferring_ask s.defer s.defer.step) _) ∙ so) }
+enter_puts number stage s enter.Seeks is so = seeks_none s.defer s.defer.step is.1 (sym (put_passed (deferring_ask s.defer s.defer.step) _) ∙ so)
 enter_puts number stage s (enter.Ended told) is so = cc
 
 pub record SeekPuts (s : SeekState) (step : Seeking) : Type 0 where
@@ -126,8 +115,8 @@ pub record SeekPuts (s : SeekState) (step : Seeking) : Type 0 where
 
 seek_puts : (number : Version) (stage : Stage) (s : SeekState) (step : Seeking) → SeekAt number stage s step → is_put (seeking_ask s step) ≡ true → SeekPuts s step
 unfolding seeking_ask
-seek_puts number stage s (seek.Defers end) is so = record { end = end; is = refl; puts = defer_puts s.defer s.defer.step (sym (passed_put (deferring_ask s.defer s.defer.step) _) ∙ so) }
-seek_puts number stage s seek.SeeksSlot is so = seeks_none s.defer s.defer.step is.1 (sym (passed_put (deferring_ask s.defer s.defer.step) _) ∙ so)
+seek_puts number stage s (seek.Defers end) is so = record { end = end; is = refl; puts = defer_puts s.defer s.defer.step (sym (put_passed (deferring_ask s.defer s.defer.step) _) ∙ so) }
+seek_puts number stage s seek.SeeksSlot is so = seeks_none s.defer s.defer.step is.1 (sym (put_passed (deferring_ask s.defer s.defer.step) _) ∙ so)
 seek_puts number stage s (seek.Ended told) is so = cc
 seek_puts number stage s (seek.LoadsOwing session) is so = cc
 seek_puts number stage s seek.LoadsCut is so = cc
@@ -175,13 +164,13 @@ KeeperPuts s step = ⊥
 
 pub keeper_puts : (number : Version) (stage : Stage) (shape : Shape) (p : Places) (s : KeeperState) (step : Keeping) → StepAt number stage s step → is_put (keeping_ask shape p s step) ≡ true → KeeperPuts s step
 unfolding keeping_ask
-keeper_puts number stage shape p s Starts is so = start_puts number stage s.start s.start.step is (sym (passed_put (starting_ask s.start s.start.step) _) ∙ so)
-keeper_puts number stage shape p s Enters is so = enter_puts number stage s.enter s.enter.step is.1 (sym (passed_put (entering_ask s.enter s.enter.step) _) ∙ so)
-keeper_puts number stage shape p s Seeks is so = seek_puts number stage s.seek s.seek.step is.1 (sym (passed_put (seeking_ask s.seek s.seek.step) _) ∙ so)
+keeper_puts number stage shape p s Starts is so = start_puts number stage s.start s.start.step is (sym (put_passed (starting_ask s.start s.start.step) _) ∙ so)
+keeper_puts number stage shape p s Enters is so = enter_puts number stage s.enter s.enter.step is.1 (sym (put_passed (entering_ask s.enter s.enter.step) _) ∙ so)
+keeper_puts number stage shape p s Seeks is so = seek_puts number stage s.seek s.seek.step is.1 (sym (put_passed (seeking_ask s.seek s.seek.step) _) ∙ so)
 keeper_puts number stage shape p s Maintains is so = tt
 keeper_puts number stage shape p s (Ended told) is so = cc
 keeper_puts number stage shape p s LoadsPhase is so = cc
-keeper_puts number stage shape p s Copies is so = clash _ (passed_put (copy_asked s.copy) _ ∙ copy_put s.copy) so
-keeper_puts number stage shape p s Waits is so = clash _ (passed_put (waiting_ask s.wait.step) _ ∙ wait_put s.wait.step) so
+keeper_puts number stage shape p s Copies is so = clash _ (put_passed (copy_asked s.copy) _ ∙ copy_put s.copy) so
+keeper_puts number stage shape p s Waits is so = clash _ (put_passed (waiting_ask s.wait.step) _ ∙ wait_put s.wait.step) so
 keeper_puts number stage shape p s Writes is so = clash _ (write_put (commit_answer s.writes) _) so
-keeper_puts number stage shape p s Finishes is so = clash _ (passed_put (finishing_ask s.seek.points s.finish s.finish.step) _ ∙ finish_put s.seek.points s.finish s.finish.step) so
+keeper_puts number stage shape p s Finishes is so = clash _ (put_passed (finishing_ask s.seek.points s.finish s.finish.step) _ ∙ finish_put s.seek.points s.finish s.finish.step) so

@@ -54,6 +54,7 @@ use Rattle.law_paper.specs.Phases as paper
 use Rattle.law_paper.specs.Phases.{PhaseEvent, Phasing, RaisesEnding, RaisesPending, RaisesProgress, StoresNext, WaitsFlush, phase_after, phase_run}
 use Rattle.law_refine.proofs.Footprint.Commits.{finish_stores, seek_stores, start_stores}
 use Rattle.law_refine.proofs.Footprint.Keepers.{keeper_stores}
+use Rattle.law_refine.proofs.OfRecords.Puts.{is_put}
 use Rattle.law_commit.specs.Floor.Stands.{PaperIsSound}
 use Rattle.law_commit.specs.Phases.Projected.{ShowsLife, ShowsSessions, session_phase_events}
 use Rattle.law_commit.specs.Phases.Running.{IsSafeRun, claim_runs, keeping_runs, maintain_runs, sitting_runs, turn_runs}
@@ -62,7 +63,7 @@ use Rattle.law_commit.proofs.OfFloor.Armed.{ArmedSo, Onward, armed_on, stays_onw
 use Rattle.law_commit.proofs.OfFloor.KeeperFits.{EndingFits, EnterFits, Ground, HandFits, IsEnding, KeeperFits, KeepingFits, PendingFits, ProgressFits, SeekFits, StartFits}
 use Rattle.law_commit.proofs.OfFloor.KeeperGoes.{KeeperReply, StoresReady, asked_fits, called_fits, commit_asked_fits, enter_puts_fit, given_fits, keeper_goes_fits, rest_fits, seek_puts_fit, start_puts_fit, turn_asked_fits, turn_puts_fit}
 use Rattle.law_commit.proofs.OfFloor.KeeperOver.{IsOver, hand_over, keeper_reply, over_fits}
-use Rattle.law_commit.proofs.OfFloor.KeeperPuts.{KeeperPuts, is_put, keeper_puts}
+use Rattle.law_commit.proofs.OfFloor.KeeperPuts.{KeeperPuts, keeper_puts}
 use Rattle.law_commit.proofs.OfFloor.OnPaper.{LeadsHere, goes_on_paper}
 use Rattle.law_commit.proofs.OfFloor.Papers.{Papers, RaisedAt, one_more, staged_rank}
 use Rattle.law_commit.proofs.OfFloor.Paths.{Path, SameAddresses, ending_raises, ending_step, one_on, pending_raises, pending_step, prepares_step, progress_first, progress_step, raises_epoch, rests_step, runs_step, stores_epoch, waited_raises, waits_step}

@@ -44,12 +44,13 @@ use Rattle.law_refine.specs.Below.fkv_world.Runs.{World, run}
 use Rattle.law_refine.specs.Below.fkv_world.World.{Event, Now, seat_at}
 use Rattle.law_refine.proofs.Below.fkv_world.Shown.{session_runs}
 use Rattle.law_refine.proofs.Below.law_world.OfSessions.OwnRun.{of_run, opened_so, seated}
+use Rattle.law_refine.proofs.OfRecords.Puts.{is_put}
 use Rattle.law_commit.specs.Cuts.{word_now}
 use Rattle.law_commit.specs.Floor.Stands.{stage_number}
 use Rattle.law_commit.specs.Phases.Staged.{DefersAt, DefersPending, DefersProgress, EnterAt, FinishAt, FitsVersion, Flushes, IsStaged, Pends, Prepares, Progresses, Rests, SeekAt, Stage, StartAt, StepAt, defer_moves, enter_moves, finish_moves, finish_number, is_resting, keeping_moves, keeping_number, seek_moves, stage_run, start_moves}
 use Rattle.law_commit.specs.Quiet.{HasNoneUpto, IsLater, LiveAreLater, NoneIsLeft, OpensQuiet, OwesNone, flush_rank, pending_rank, rank_now}
 use Rattle.law_commit.specs.Versions.Requests.{AreUpdatesSo, AttemptsSo}
-use Rattle.law_commit.proofs.OfFloor.KeeperPuts.{KeeperPuts, is_put, keeper_puts}
+use Rattle.law_commit.proofs.OfFloor.KeeperPuts.{KeeperPuts, keeper_puts}
 use Rattle.law_commit.proofs.OfPhases.LifeStages.{event_on, life_staged}
 use Rattle.law_commit.proofs.OfPhases.StageMoves.{LedOn, QuietKeeper, Quietly, Replied, RunBySession, Stored}
 use Rattle.law_commit.proofs.OfQuiet.Keeper.{AllLeave, KeeperKnows, KeepingLeaves, SeekLeaves, asked_knows, called_knows, commit_knows, given_knows, opened_knows, replied_knows, turn_knows}

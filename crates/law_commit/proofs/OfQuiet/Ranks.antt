@@ -24,11 +24,12 @@ use Rattle.law_refine.specs.Below.fkv_world.Opened.{IsOpenedWorld}
 use Rattle.law_refine.specs.Below.fkv_world.Runs.{World, run}
 use Rattle.law_refine.specs.Below.fkv_world.World.{Event, Now}
 use Rattle.law_refine.specs.Below.law_world.Guarded.Shows.{IsOpened}
+use Rattle.law_refine.proofs.OfRecords.Puts.{is_put}
 use Rattle.law_commit.specs.Floor.Stands.{stage_number}
 use Rattle.law_commit.specs.Phases.Staged.{DefersAt, DefersPending, DefersProgress, EnterAt, FinishAt, FitsVersion, Flushes, IsStaged, OpensAtRest, Pends, Prepares, Progresses, Rests, Stage, StartAt, StepAt, defer_moves, enter_moves, finish_moves, finish_number, is_resting, keeping_moves, keeping_number, seek_moves, stage_phase, stage_run, stage_version, start_moves}
 use Rattle.law_commit.specs.Quiet.{OpensQuiet, RanksRise, rank_now, rank_said, word_rank}
 use Rattle.law_commit.specs.Ranks.{rank}
-use Rattle.law_commit.proofs.OfFloor.KeeperPuts.{KeeperPuts, is_put, keeper_puts}
+use Rattle.law_commit.proofs.OfFloor.KeeperPuts.{KeeperPuts, keeper_puts}
 use Rattle.law_commit.proofs.OfPhases.LifeStages.{event_on, life_staged}
 use Rattle.law_commit.proofs.OfPhases.StageMoves.{LedOn, Quietly, Replied, RunBySession}
 

@@ -28,11 +28,12 @@ use Rattle.law_commit.specs.Below.fkv_session.Sitting.TheVariants.{Attempts, Cle
 use Rattle.law_commit.specs.Below.fkv_session.Sessions.{SessionState, Seat, bits_of, room_of, sitting_ask, session_ask}
 use Rattle.law_commit.specs.Below.fkv_session.Shares.{HasItsBuckets}
 use Rattle.law_commit.specs.Below.fkv_world.Moves.{Near, session_gets, session_settled, session_replied, session_asks}
+use Rattle.law_commit.specs.Below.law_world.GuardKeeper.Settled.{is_of_slot}
 use Rattle.law_commit.specs.Below.law_refine.Mail.Mailers.{attempt_mailing, sitting_mailing, session_mailing}
 use Rattle.law_order.proofs.OfAsked.Attempts.{PutsSought, AttemptAt}
 use Rattle.law_order.proofs.OfAsked.Sitting.{IsAttempt, SitsAsking, SessionAsks, given_asks, next_asks}
 use Rattle.law_order.proofs.OfAsked.Told.{IsAt, Told, under_way}
-use Rattle.law_order.proofs.OfAsked.Tries.{is_slot, mail_slot, passed_slot, run_slot}
+use Rattle.law_order.proofs.OfAsked.Tries.{mail_slot, passed_slot, run_slot}
 
 -- its own ask is replied as its mail machine's, where one is under way
 attempt_reply : (k : Seat) (a : AttemptState) (step : Attempting) (its : Mailing) (words : List ℕ) → attempt_mailing a step ≡ Some its → reply_to words (attempting_ask k.places k.number a step) ≡ reply_to words (mail_ask k.number its)
@@ -79,7 +80,7 @@ module _ (k : Seat) (buckets : HasItsBuckets k) where
   At its a step = AttemptAt k.places (bits_of k) (room_of k) buckets its a step
 
   -- ---- asks of slots, and none
-  attempt_slot : (its : Option MailTask) (a : AttemptState) (step : Attempting) → At its a step → is_slot (attempting_ask k.places k.number a step) ≡ false
+  attempt_slot : (its : Option MailTask) (a : AttemptState) (step : Attempting) → At its a step → is_of_slot (attempting_ask k.places k.number a step) ≡ false
   unfolding attempting_ask
   attempt_slot its a (Ended end) at = refl
   attempt_slot its a Looks at = passed_slot (mail_ask k.number a.mailing) _ ∙ mail_slot k.number a.mailing
@@ -87,7 +88,7 @@ module _ (k : Seat) (buckets : HasItsBuckets k) where
   attempt_slot its a Puts at = passed_slot (mail_ask k.number a.mailing) _ ∙ mail_slot k.number a.mailing
 
   -- a session that asks for a slot has no mail machine under way
-  sitting_slot : (asked : Option Addr) (its : Option MailTask) (s : SessionState) (step : Sitting) → SitsAsking k buckets asked its s step → is_slot (sitting_ask k s step) ≡ true → sitting_mailing s step ≡ None
+  sitting_slot : (asked : Option Addr) (its : Option MailTask) (s : SessionState) (step : Sitting) → SitsAsking k buckets asked its s step → is_of_slot (sitting_ask k s step) ≡ true → sitting_mailing s step ≡ None
   unfolding sitting_ask
   sitting_slot asked its s (Attempts has_shifted) sits slot = clash _ slot (passed_slot (attempt_ask k.places k.number s.attempt) _ ∙ attempt_slot its s.attempt s.attempt.step sits.asks.at)
   sitting_slot asked its s (Polls index) sits slot = clash _ slot (passed_slot (attempt_ask k.places k.number s.attempt) _ ∙ attempt_slot its s.attempt s.attempt.step sits.asks.at)
@@ -113,7 +114,7 @@ module _ (k : Seat) (buckets : HasItsBuckets k) where
   settled_asks : (asked : Option Addr) (its : Option MailTask) (n : Near SessionState) (ask : Ask Answer) → session_ask k n.machine ≡ ask → SessionAsks k buckets asked its n.machine → SessionAsks k buckets asked its (session_settled k n ask).machine
   unfolding session_settled
   settled_asks asked its n (Put slot action) e sits =
-      next_asks k buckets asked its asked n.machine 0 sits (none_told asked its (session_mailing n.machine) 0 (sitting_slot asked its n.machine n.machine.step sits (ap is_slot e)))
+      next_asks k buckets asked its asked n.machine 0 sits (none_told asked its (session_mailing n.machine) 0 (sitting_slot asked its n.machine n.machine.step sits (ap is_of_slot e)))
   settled_asks asked its n (Take slot) e sits = gets_asks asked its n.machine (action_at n.actions slot) sits
   settled_asks asked its n ask e sits = sits
 
@@ -125,7 +126,7 @@ module _ (k : Seat) (buckets : HasItsBuckets k) where
       subst (λ (x : Option Addr). SessionAsks k buckets x its n.machine) (sym same) sits
   moved_asks asked its asked' n (Put slot action) e sits tells = next_asks k buckets asked its asked' n.machine 0 sits tells
   moved_asks asked its asked' n (Take slot) e sits tells =
-      let same : asked' ≡ asked = told_same asked its (session_mailing n.machine) 0 asked' (sitting_slot asked its n.machine n.machine.step sits (ap is_slot e)) tells in
+      let same : asked' ≡ asked = told_same asked its (session_mailing n.machine) 0 asked' (sitting_slot asked its n.machine n.machine.step sits (ap is_of_slot e)) tells in
       subst (λ (x : Option Addr). SessionAsks k buckets x its (session_gets k n.machine (action_at n.actions slot))) (sym same) (gets_asks asked its n.machine (action_at n.actions slot) sits)
   moved_asks asked its asked' n ask e sits tells =
       settled_asks asked' its (session_replied k n ask) (session_ask k (session_replied k n ask).machine) refl (next_asks k buckets asked its asked' n.machine (reply_to n.words ask) sits tells)

@@ -1,5 +1,5 @@
 -- How a try ends, and that none asks for a slot.
-use Rattle.std.proofs.Common.{◌≡◌, ℕ, ◌^◌, ◌∙◌, sym, ap, refl, Bool, true, false, List, ◌∷◌}
+use Rattle.std.proofs.Common.{◌≡◌, ℕ, ◌^◌, ◌∙◌, sym, ap, refl, false, List, ◌∷◌}
 use Rattle.std.specs.Prelude.{⊤}
 use Rattle.fkv_plane.specs.declared.asks.Ask.{Ask}
 use Rattle.fkv_plane.specs.declared.asks.Ask.TheVariants.{Put, Take, Done}
@@ -19,24 +19,19 @@ use Rattle.law_commit.proofs.Below.fkv_ops.Shown.{each_ask, each_is_true}
 use Rattle.law_commit.specs.Below.fkv_pending.TheMailing.{Mailing}
 use Rattle.law_commit.specs.Below.fkv_pending.TheMailing.TheVariants as mailing
 use Rattle.law_commit.specs.Below.fkv_pending.Mailing.{mail_ask}
+use Rattle.law_commit.specs.Below.law_world.GuardKeeper.Settled.{is_of_slot}
 
--- an ask of a slot
-abbrev pub is_slot : {A : Type 0} → Ask A → Bool
-is_slot (Put slot action) = true
-is_slot (Take slot) = true
-is_slot ask = false
-
-pub passed_slot : {A B : Type 0} (ask : Ask A) (told : B) → is_slot (passed ask told) ≡ is_slot ask
+pub passed_slot : {A B : Type 0} (ask : Ask A) (told : B) → is_of_slot (passed ask told) ≡ is_of_slot ask
 unfolding passed
 passed_slot (Done inner) told = refl
 passed_slot ask told = refl
 
-pub mail_slot : (session : ℕ) (step : Mailing) → is_slot (mail_ask session step) ≡ false
+pub mail_slot : (session : ℕ) (step : Mailing) → is_of_slot (mail_ask session step) ≡ false
 unfolding mail_ask
 mail_slot session (mailing.Ended its) = refl
 mail_slot session step = refl
 
-ask_slot : (c : Trial) (told : Told) (ask : Ask TryAnswer) (reply : ℕ) (effect : _) → AskIsSo c told ask reply effect → is_slot ask ≡ false
+ask_slot : (c : Trial) (told : Told) (ask : Ask TryAnswer) (reply : ℕ) (effect : _) → AskIsSo c told ask reply effect → is_of_slot ask ≡ false
 ask_slot c told (Put slot action) reply effect so = absurd so
 ask_slot c told (Take slot) reply effect so = absurd so
 ask_slot c told ask reply effect so = refl
@@ -71,7 +66,7 @@ module _ (p : Places) (bits room : ℕ) (buckets : p.buckets ≡ 2 ^ bits) where
       let c : Trial = trial_of is.request seen occasion in
       true_ends c (told_by c (trial_begun c is.spare) is.replies) its (each_is_true c is.spare is.replies its (ap (try_ask p) (sym is.run) ∙ ends))
 
-  pub run_slot : (seen : Seen) (occasion : Occasion) (t : TryState) → IsTryRun seen occasion t → is_slot (try_ask p t) ≡ false
+  pub run_slot : (seen : Seen) (occasion : Occasion) (t : TryState) → IsTryRun seen occasion t → is_of_slot (try_ask p t) ≡ false
   run_slot seen occasion t is =
       let c : Trial = trial_of is.request seen occasion in
-      ap (λ (x : TryState). is_slot (try_ask p x)) is.run ∙ ask_slot c (told_by c (trial_begun c is.spare) is.replies) _ 0 _ (each_ask c is.spare is.replies 0)
+      ap (λ (x : TryState). is_of_slot (try_ask p x)) is.run ∙ ask_slot c (told_by c (trial_begun c is.spare) is.replies) _ 0 _ (each_ask c is.spare is.replies 0)

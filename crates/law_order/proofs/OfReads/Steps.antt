@@ -1,5 +1,5 @@
 -- A step of a session, with the drain slot that it turns to behind it, leaves its reads as far as its control state says.
-use Rattle.std.proofs.Common.{◌≡◌, ℕ, zero, suc, ◌∙◌, refl, sym, ap, subst, Bool, true, false, List, [], ◌∷◌, ◌++◌}
+use Rattle.std.proofs.Common.{◌≡◌, ℕ, zero, suc, ◌∙◌, refl, sym, ap, subst, true, false, List, [], ◌∷◌, ◌++◌}
 use Rattle.std.specs.Prelude.{Option, Some, None}
 use Rattle.law_log.specs.Ghosts.{Ghosts, GhostEvent, Tells, FindsEntry, TakesValue, ghost_run}
 use Rattle.fkv_plane.specs.declared.actions.Action.{Action}
@@ -28,6 +28,7 @@ use Rattle.law_commit.specs.Below.fkv_world.Moves.{Near}
 use Rattle.law_commit.specs.Below.fkv_world.OwnEvents.{session_got, session_slots, session_steps}
 use Rattle.law_commit.specs.Below.fkv_world.Past.{Traced}
 use Rattle.law_commit.proofs.Below.fkv_world.Shown.{session_runs_on}
+use Rattle.law_commit.specs.Below.law_world.GuardKeeper.Settled.{is_of_slot}
 use Rattle.law_order.specs.Known.Told.{AreApart}
 use Rattle.law_commit.specs.Below.law_refine.Events.Names.{IsNamedSo, AreNamedSo, AttemptsNamedSo, RequestsAreNamed}
 use Rattle.law_commit.specs.Below.law_refine.Events.Lines.{read_in_hand, read_waiting}
@@ -65,25 +66,20 @@ quiet_moved r k s (Polls index) reply busy quiet so = cc
 quiet_moved r k s step reply busy quiet so = so
 
 -- ---- slots
-abbrev is_slot_ask : {A : Type 0} → Ask A → Bool
-is_slot_ask (Put slot action) = true
-is_slot_ask (Take slot) = true
-is_slot_ask ask = false
-
-off_slot : {X : Type 0} (ask : Ask Told) → IsOffSlots ask → is_slot_ask ask ≡ true → X
+off_slot : {X : Type 0} (ask : Ask Told) → IsOffSlots ask → is_of_slot ask ≡ true → X
 off_slot (Put slot action) off is = absurd off
 off_slot (Take slot) off is = absurd off
 off_slot ask off is = cc
 
 -- who turns to a slot attempts nothing
-asks_slot : (k : Seat) (s : SessionState) (step : Sitting) → is_slot_ask (sitting_ask k s step) ≡ true → (is_busy step ≡ true) × (is_attempting step ≡ false)
+asks_slot : (k : Seat) (s : SessionState) (step : Sitting) → is_of_slot (sitting_ask k s step) ≡ true → (is_busy step ≡ true) × (is_attempting step ≡ false)
 unfolding sitting_ask
 asks_slot k s (Idle its) is = cc
 asks_slot k s (Attempts has_shifted) is = off_slot (passed (attempt_ask k.places k.number s.attempt) told.Slept) (passed_off (attempt_ask k.places k.number s.attempt) told.Slept (attempt_off_slots k.places k.number s.attempt s.attempt.step)) is
 asks_slot k s (Polls index) is = off_slot (passed (attempt_ask k.places k.number s.attempt) told.Slept) (passed_off (attempt_ask k.places k.number s.attempt) told.Slept (attempt_off_slots k.places k.number s.attempt s.attempt.step)) is
 asks_slot k s step is = (refl, refl)
 
-put_comes : (r : SessionReadings) (k : Seat) (s : SessionState) → is_slot_ask (session_ask k s) ≡ true → Comes r s → IsFreshly (session_next k s 0) → Comes r (session_next k s 0)
+put_comes : (r : SessionReadings) (k : Seat) (s : SessionState) → is_of_slot (session_ask k s) ≡ true → Comes r s → IsFreshly (session_next k s 0) → Comes r (session_next k s 0)
 put_comes r k s is so fresh = let at = asks_slot k s s.step is in next_comes r k s 0 (quiet_moved r k s s.step 0 at.0 at.1 so) fresh
 
 got_comes : (r : SessionReadings) (k : Seat) (s : SessionState) (found : Option Action) → Comes r s → Comes r (session_run k s (session_got found))
@@ -93,7 +89,7 @@ got_comes r k s (Some action) so = given_comes r k s action so
 
 slots_by : (r : SessionReadings) (k : Seat) (s : SessionState) (actions : List (Option Action)) (ask : Ask Told) → session_ask k s ≡ ask → Comes r s → IsFreshly (session_run k s (session_slots actions ask)) → Comes r (session_run k s (session_slots actions ask))
 unfolding session_run session_happens session_slots
-slots_by r k s actions (Put slot action) asks so fresh = put_comes r k s (ap is_slot_ask asks) so fresh
+slots_by r k s actions (Put slot action) asks so fresh = put_comes r k s (ap is_of_slot asks) so fresh
 slots_by r k s actions (Take slot) asks so fresh = got_comes r k s (action_at actions slot) so
 slots_by r k s actions ask asks so fresh = so
 
@@ -155,7 +151,7 @@ pub steps_by : (home : ℕ → ℕ) (g : Ghosts) (k : Seat) (trace : List Traced
 unfolding session_steps session_slots session_run session_happens step_ghosts ghost_run
 steps_by home g k trace n (Done its) asks facts fresh = busy_comes (readings_of g.reads trace k.number) n.machine n.machine.step facts.busy facts.reads
 steps_by home g k trace n (Put slot action) asks facts fresh =
-    put_comes (readings_of g.reads trace k.number) k n.machine (ap is_slot_ask asks) (busy_comes (readings_of g.reads trace k.number) n.machine n.machine.step facts.busy facts.reads) fresh
+    put_comes (readings_of g.reads trace k.number) k n.machine (ap is_of_slot asks) (busy_comes (readings_of g.reads trace k.number) n.machine n.machine.step facts.busy facts.reads) fresh
 steps_by home g k trace n (Take slot) asks facts fresh =
     got_comes (readings_of g.reads trace k.number) k n.machine (action_at n.actions slot) (busy_comes (readings_of g.reads trace k.number) n.machine n.machine.step facts.busy facts.reads)
 steps_by home g k trace n ask asks facts fresh =

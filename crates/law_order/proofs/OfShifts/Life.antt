@@ -55,9 +55,10 @@ use Rattle.law_order.proofs.OfShifts.Catches.{CatchRow, HasPassed}
 use Rattle.law_order.proofs.OfShifts.Calm.{stays_calm}
 use Rattle.law_order.proofs.OfShifts.Facts.{replies_so}
 use Rattle.law_order.proofs.OfShifts.Sessions.{Come, LeadsRow, RepliesSo, SitsRow, begun_leads, next_leads, none_shifts, settled}
-use Rattle.law_order.proofs.OfShifts.Slots.{attempt_puts_none, is_put}
+use Rattle.law_order.proofs.OfShifts.Slots.{attempt_puts_none}
 use Rattle.law_order.proofs.OfShifts.Tries.{IsShift, ShiftRow}
 use Rattle.law_commit.specs.Below.law_refine.Events.GhostEvents.{life_ghosts, mapped}
+use Rattle.law_commit.proofs.Below.law_refine.OfRecords.Puts.{is_put}
 use Rattle.law_commit.proofs.Below.law_refine.OfSeen.Alone.{moves_alone}
 use Rattle.law_commit.proofs.Below.law_refine.OfSeen.There.{there_before}
 

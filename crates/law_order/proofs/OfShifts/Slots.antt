@@ -1,5 +1,5 @@
 -- An attempt gives no action to a slot.
-use Rattle.std.proofs.Common.{◌≡◌, refl, Bool, true, false}
+use Rattle.std.proofs.Common.{◌≡◌, refl, true, false}
 use Rattle.law_commit.specs.Below.fkv_pending.Attempting.{attempting_ask}
 use Rattle.fkv_plane.specs.declared.asks.Ask.{Ask}
 use Rattle.fkv_plane.specs.declared.asks.Ask.TheVariants.{Put}
@@ -7,13 +7,11 @@ use Rattle.law_commit.specs.Below.fkv_session.Sitting.{Sitting}
 use Rattle.law_commit.specs.Below.fkv_session.Sitting.TheVariants.{Attempts, Polls}
 use Rattle.law_commit.specs.Below.fkv_session.Sessions.{Seat, SessionState, sitting_ask}
 use Rattle.law_commit.specs.Below.law_local.Sessions.Known.{is_attempting}
-use Rattle.law_commit.proofs.Below.law_refine.OfIndex.SessionAsks.{attempt_whole, is_part_ask, passed_part}
+use Rattle.law_commit.specs.Below.law_world.GuardKeeper.Settled.{is_of_slot}
+use Rattle.law_commit.proofs.Below.law_refine.OfIndex.SessionAsks.{attempt_whole, passed_part}
+use Rattle.law_commit.proofs.Below.law_refine.OfRecords.Puts.{is_put}
 
-abbrev pub is_put : {A : Type 0} → Ask A → Bool
-is_put (Put slot action) = true
-is_put ask = false
-
-put_less : {A : Type 0} (ask : Ask A) → is_part_ask ask ≡ false → is_put ask ≡ false
+put_less : {A : Type 0} (ask : Ask A) → is_of_slot ask ≡ false → is_put ask ≡ false
 put_less (Put slot action) none = cc
 put_less ask none = refl
 

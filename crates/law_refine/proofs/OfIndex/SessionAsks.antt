@@ -53,6 +53,7 @@ use Rattle.law_world.specs.Below.fkv_session.Told.TheVariants as told
 use Rattle.law_world.specs.Below.fkv_session.Sitting.{Sitting}
 use Rattle.law_world.specs.Below.fkv_session.Sitting.TheVariants.{Attempts, Polls}
 use Rattle.law_world.specs.Below.fkv_session.Sessions.{SessionState, Seat, sitting_ask, session_ask, is_word_ask}
+use Rattle.law_world.specs.GuardKeeper.Settled.{is_of_slot}
 use Rattle.law_refine.specs.Index.Finders.{Search, KeptSlot, SessionWork, NoWork, Searches, KeepsSlot, PublishesEntry, IndexPart, slot_kept, kept_work, ended_work, walk_work, append_work, try_work, attempt_part, sitting_part, session_part}
 use Rattle.law_refine.proofs.OfIndex.Goes.{part}
 use Rattle.law_refine.proofs.OfIndex.AppendParts.{AppendKnows}
@@ -140,13 +141,8 @@ pub entry_asks : (k : Seat) (s : SessionState) (slot : KeptSlot) (addr : ℕ) �
     → session_ask k s ≡ passed (publish_ask (publish_first slot.place slot.word (new_entry addr slot.home.tag))) told.Slept
 entry_asks k s slot addr knows at = subst (λ x. AskOf x (session_ask k s)) at (sitting_asks k s s.step knows)
 
--- a part that goes with an ask
-abbrev pub is_part_ask : {A : Type 0} → Ask A → Bool
-is_part_ask (Put slot action) = true
-is_part_ask (Take slot) = true
-is_part_ask ask = false
-
-pub passed_part : {A B : Type 0} (ask : Ask A) (answer : B) → is_part_ask ask ≡ false → is_part_ask (passed ask answer) ≡ false
+-- what asks for no slot asks for none where it is passed on
+pub passed_part : {A B : Type 0} (ask : Ask A) (answer : B) → is_of_slot ask ≡ false → is_of_slot (passed ask answer) ≡ false
 unfolding passed
 passed_part (Put slot action) answer none = cc
 passed_part (Take slot) answer none = cc
@@ -158,7 +154,7 @@ passed_part (Add place k) answer none = refl
 passed_part (Max place k) answer none = refl
 passed_part (Done inner) answer none = refl
 
-find_whole : (f : Finding) (step : FindStep) → is_part_ask (find_step_ask f step) ≡ false
+find_whole : (f : Finding) (step : FindStep) → is_of_slot (find_step_ask f step) ≡ false
 unfolding find_step_ask
 find_whole f find.AtRest = refl
 find_whole f (find.LoadsSlot slot) = refl
@@ -167,7 +163,7 @@ find_whole f (find.LoadsTaken word) = refl
 find_whole f (find.TakesBucket word taken) = refl
 find_whole f (find.LinksBucket word) = refl
 
-load_whole : (p : Places) (step : Loading) → is_part_ask (load_ask p step) ≡ false
+load_whole : (p : Places) (step : Loading) → is_of_slot (load_ask p step) ≡ false
 unfolding load_ask
 load_whole p load.AtRest = refl
 load_whole p (load.LoadsHeader addr) = refl
@@ -175,7 +171,7 @@ load_whole p (load.LoadsKey addr header) = refl
 load_whole p (load.HasKey addr header key) = refl
 load_whole p (load.LoadsValue addr header key) = refl
 
-latch_whole : (step : Latching) → is_part_ask (latch_ask step) ≡ false
+latch_whole : (step : Latching) → is_of_slot (latch_ask step) ≡ false
 unfolding latch_ask
 latch_whole latch.AtRest = refl
 latch_whole (latch.AddsShare place) = refl
@@ -185,31 +181,31 @@ latch_whole (latch.LoadsWord place) = refl
 latch_whole (latch.SetsExclusive place word) = refl
 latch_whole (latch.DropsExclusive place) = refl
 
-publish_whole : (step : Publishing) → is_part_ask (publish_ask step) ≡ false
+publish_whole : (step : Publishing) → is_of_slot (publish_ask step) ≡ false
 unfolding publish_ask
 publish_whole publish.AtRest = refl
 publish_whole (publish.SwapsEntry place word entry) = refl
 
-reserve_whole : (step : Reserving) → is_part_ask (reserve_ask step) ≡ false
+reserve_whole : (step : Reserving) → is_of_slot (reserve_ask step) ≡ false
 unfolding reserve_ask
 reserve_whole reserve.AtRest = refl
 reserve_whole reserve.LoadsLimit = refl
 reserve_whole (reserve.LoadsTail limit) = refl
 reserve_whole (reserve.TakesTail tail) = refl
 
-fill_whole : (p : Places) (step : Filling) → is_part_ask (fill_ask p step) ≡ false
+fill_whole : (p : Places) (step : Filling) → is_of_slot (fill_ask p step) ≡ false
 unfolding fill_ask
 fill_whole p fill.AtRest = refl
 fill_whole p (fill.StoresValue addr its_words) = refl
 fill_whole p (fill.StoresKey addr its_words) = refl
 fill_whole p (fill.StoresHeader addr its_words) = refl
 
-invalidate_whole : (p : Places) (step : Invalidating) → is_part_ask (invalidate_ask p step) ≡ false
+invalidate_whole : (p : Places) (step : Invalidating) → is_of_slot (invalidate_ask p step) ≡ false
 unfolding invalidate_ask
 invalidate_whole p invalidate.AtRest = refl
 invalidate_whole p (invalidate.StoresHeader addr header) = refl
 
-mail_whole : (session : ℕ) (step : Mailing) → is_part_ask (mail_ask session step) ≡ false
+mail_whole : (session : ℕ) (step : Mailing) → is_of_slot (mail_ask session step) ≡ false
 unfolding mail_ask
 mail_whole session (mailing.Ended its) = refl
 mail_whole session (mailing.LoadsState task) = refl
@@ -220,7 +216,7 @@ mail_whole session (mailing.StoresEmpty its) = refl
 mail_whole session (mailing.StoresAddress addr) = refl
 mail_whole session mailing.StoresAsked = refl
 
-walk_whole : (p : Places) (w : WalkState) (step : Walking) → is_part_ask (walking_ask p w step) ≡ false
+walk_whole : (p : Places) (w : WalkState) (step : Walking) → is_of_slot (walking_ask p w step) ≡ false
 unfolding walking_ask
 walk_whole p w (walking.Ended its) = refl
 walk_whole p w walking.Finds = passed_part (find_ask w.finding) _ (find_whole w.finding w.finding.step)
@@ -228,7 +224,7 @@ walk_whole p w (walking.Meets addr) = passed_part (load_ask p w.loading) _ (load
 walk_whole p w (walking.HasFound addr version) = refl
 walk_whole p w walking.LoadsValue = passed_part (load_ask p w.loading) _ (load_whole p w.loading)
 
-append_whole : (p : Places) (a : AppendState) (step : Appending) → is_part_ask (appending_ask p a step) ≡ false
+append_whole : (p : Places) (a : AppendState) (step : Appending) → is_of_slot (appending_ask p a step) ≡ false
 unfolding appending_ask
 append_whole p a (appending.Ended its) = refl
 append_whole p a appending.Reserves = passed_part (reserve_ask a.reserving) _ (reserve_whole a.reserving)
@@ -236,7 +232,7 @@ append_whole p a (appending.Fills addr) = passed_part (fill_ask p a.filling) _ (
 append_whole p a (appending.Publishes addr) = passed_part (publish_ask a.publishing) _ (publish_whole a.publishing)
 append_whole p a appending.Invalidates = passed_part (invalidate_ask p a.invalidating) _ (invalidate_whole p a.invalidating)
 
-try_whole : (p : Places) (t : TryState) (step : Trying) → is_part_ask (trying_ask p t step) ≡ false
+try_whole : (p : Places) (t : TryState) (step : Trying) → is_of_slot (trying_ask p t step) ≡ false
 unfolding trying_ask
 try_whole p t (trying.Ended its) = refl
 try_whole p t trying.TakesShared = passed_part (latch_ask t.latching) _ (latch_whole t.latching)
@@ -252,7 +248,7 @@ try_whole p t (trying.Appends its) = passed_part (appending_ask p t.append t.app
 try_whole p t (trying.DropsExclusive its) = passed_part (latch_ask t.latching) _ (latch_whole t.latching)
 try_whole p t (trying.DropsShared its) = passed_part (latch_ask t.latching) _ (latch_whole t.latching)
 
-pub attempt_whole : (p : Places) (session : ℕ) (a : AttemptState) (step : Attempting) → is_part_ask (attempting_ask p session a step) ≡ false
+pub attempt_whole : (p : Places) (session : ℕ) (a : AttemptState) (step : Attempting) → is_of_slot (attempting_ask p session a step) ≡ false
 unfolding attempting_ask
 attempt_whole p session a (attempting.Ended its) = refl
 attempt_whole p session a attempting.Looks = passed_part (mail_ask session a.mailing) _ (mail_whole session a.mailing)
@@ -260,7 +256,7 @@ attempt_whole p session a attempting.Tries = passed_part (trying_ask p a.trial a
 attempt_whole p session a attempting.Puts = passed_part (mail_ask session a.mailing) _ (mail_whole session a.mailing)
 
 -- where no word is asked for, a whole ask is at its end
-no_word_ends : {A : Type 0} (ask : Ask A) → is_word_ask ask ≡ false → is_part_ask ask ≡ false → is_done ask ≡ true
+no_word_ends : {A : Type 0} (ask : Ask A) → is_word_ask ask ≡ false → is_of_slot ask ≡ false → is_done ask ≡ true
 no_word_ends (Put slot action) none whole = cc
 no_word_ends (Take slot) none whole = cc
 no_word_ends (Done its) none whole = refl

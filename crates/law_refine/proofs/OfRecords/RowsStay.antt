@@ -1,11 +1,11 @@
 -- A session's record stands as it stood where nothing writes it, and as its step writes it.
-use Rattle.std.proofs.Common.{◌≡◌, ◌≢◌, ℕ, ◌∙◌, refl, sym, ap, Bool, true, false}
+use Rattle.std.proofs.Common.{◌≡◌, ◌≢◌, ℕ, ◌∙◌, refl, sym, ap, true}
 use Rattle.std.specs.Prelude.{Option, Some, None}
 use Rattle.fkv_base.specs.declared.numbers.Addr.{Addr}
 use Rattle.fkv_map.specs.declared.history.HistoryEntry.{HistoryEntry}
 use Rattle.fkv_plane.specs.declared.actions.Action.{Action}
 use Rattle.fkv_plane.specs.declared.asks.Ask.{Ask}
-use Rattle.fkv_plane.specs.declared.asks.Ask.TheVariants.{Load, Store, Swap, Cas, Add, Max, Put, Take, Done}
+use Rattle.fkv_plane.specs.declared.asks.Ask.TheVariants.{Put, Take, Done}
 use Rattle.fkv_plane.specs.declared.places.Places.{Places}
 use Rattle.fkv_plane.specs.declared.places.RecordWord.{RecordWord}
 use Rattle.fkv_plane.specs.declared.places.RecordWord.TheVariants as rec
@@ -39,6 +39,7 @@ use Rattle.law_refine.specs.Events.Reserved.{sitting_reserves, reserved_by}
 use Rattle.law_refine.proofs.OfRecords.AppendRows.{Standing, FillStands, FillWrites, InvalidateWrites, AppendStands, AppendWrites}
 use Rattle.law_refine.proofs.OfRecords.AttemptRows.{AttemptWrites, TriesAt}
 use Rattle.law_refine.proofs.OfRecords.FrameWords.{FrameWord, append_word, asked_passed, attempt_word, fill_word, invalidate_word, sitting_word, try_word}
+use Rattle.law_refine.proofs.OfRecords.Puts.{is_put, put_passed}
 use Rattle.law_refine.proofs.OfRecords.SessionRows.{IsSo, SittingWrites, StepIsSo, gets_so, reply_so}
 use Rattle.law_refine.proofs.OfRecords.TryRows.{TryStands, TryWrites}
 
@@ -83,22 +84,6 @@ pub so_stays : (stands after : Standing) (number : ℕ) (s : SessionState) → R
 so_stays stands after number s stays so = record { waiting = so.waiting; sits = sitting_stays stands after number s s.step stays so.sits }
 
 -- ---- an ask for a slot is no store
-abbrev is_put : {A : Type 0} → Ask A → Bool
-is_put (Put slot action) = true
-is_put ask = false
-
-put_passed : {A B : Type 0} (ask : Ask A) (told : B) → is_put (passed ask told) ≡ is_put ask
-unfolding passed
-put_passed (Load place) told = refl
-put_passed (Store place new) told = refl
-put_passed (Swap place new) told = refl
-put_passed (Cas place old new) told = refl
-put_passed (Add place k) told = refl
-put_passed (Max place k) told = refl
-put_passed (Put slot action) told = refl
-put_passed (Take slot) told = refl
-put_passed (Done its) told = refl
-
 fill_puts : (after : Standing) (p : Places) (filling : Filling) → is_put (fill_ask p filling) ≡ true → FillWrites after after filling
 unfolding fill_ask
 fill_puts after p fill.AtRest e = tt
