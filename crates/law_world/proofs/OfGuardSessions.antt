@@ -3,7 +3,7 @@ mod AppendsLed
 mod AppendsOuter
 mod Attempts
 mod AttemptsLed
-mod AttemptsOuter
+pub mod AttemptsOuter
 mod AttemptsSeen
 mod Catches
 mod CatchesLed
@@ -25,7 +25,7 @@ mod OwnTurnsLed
 mod OwnWords
 mod Sessions
 mod SessionsLed
-mod SessionsOuter
+pub mod SessionsOuter
 mod SessionsSeen
 mod Tries
 mod TriesLed

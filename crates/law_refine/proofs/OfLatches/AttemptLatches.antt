@@ -1,14 +1,12 @@
 -- How one reply to an attempt moves its machine for latches.
 use Rattle.std.proofs.Common.{◌≡◌, ℕ, ◌<◌, ◌∙◌, refl, sym, ap, subst, List, [], Bool, true, false}
 use Rattle.std.specs.Prelude.{if◌then◌else◌, ◌==◌, ⊤, Option, Some, None}
-use Rattle.fkv_base.specs.declared.numbers.Key.{Key}
 use Rattle.fkv_map.specs.Keys.{key_of}
 use Rattle.fkv_plane.specs.declared.asks.Ask.{Ask}
 use Rattle.fkv_plane.specs.declared.asks.Ask.TheVariants.{Done}
 use Rattle.fkv_plane.specs.declared.places.Places.{Places}
 use Rattle.fkv_plane.specs.Places.{bucket_place}
 use Rattle.fkv_plane.specs.Passing.{is_done}
-use Rattle.fkv_index.specs.Slots.{home_of}
 use Rattle.fkv_latch.specs.declared.latching.LatchTask.{LatchTask}
 use Rattle.fkv_latch.specs.declared.latching.LatchTask.TheVariants.{TakeShared, DropShared, TakeExclusive, DropExclusive}
 use Rattle.fkv_latch.specs.declared.latching.Latching.{Latching}
@@ -39,6 +37,7 @@ use Rattle.law_world.specs.Below.fkv_pending.Mailing.{mail_ask, mail_next}
 use Rattle.law_world.specs.Below.fkv_pending.Pending.{with_sought, with_held, with_latch, with_asked}
 use Rattle.law_world.specs.Below.fkv_pending.Attempting.{AttemptState, attempt_ended, waits_for_disk, puts_addr, puts, tries, is_seeking_read, goes_on, attempt_begun, held_of, moved_on, read_on, record_taken, look_ledto, held_kept, tried, try_ledto, put_ledto, mail_moved, try_moved, attempting_next, attempt_next, new_attempt}
 use Rattle.law_world.proofs.Below.fkv_pending.Shown.{AttemptAsksAt, AttemptRestsOrAsks}
+use Rattle.law_world.proofs.OfGuardSessions.AttemptsOuter.{HomesAreLow}
 use Rattle.law_refine.specs.Latches.Latchers.{try_latching, try_alone, attempt_latching, attempt_alone}
 use Rattle.law_refine.proofs.OfLatches.TryLatches.{alone_left, alone_given, is_first, HasHeld, Fits, Keeps, Starts, IsTry, TryLed, try_led, begun_led}
 
@@ -65,10 +64,6 @@ no_first DropExclusive place e = cc
 pub free_then : (p : Places) (step : Latching) (held : List ℕ) → FitsAt p step held latching.AtRest [] → IsFree step held
 free_then p step held (KeepsAt same holds later) = record { rests = same; none = holds }
 free_then p step held (StartsAt task bucket low rests same left had) = no_first task (bucket_place p bucket 7) same
-
--- each key's home is a bucket of the index
-abbrev pub HomesAreLow : Places → ℕ → Type 0
-HomesAreLow p bits = (key : Key) → (home_of bits key).bucket < p.buckets
 
 abbrev pub AttemptKnows : Places → AttemptState → Attempting → Type 0
 AttemptKnows p a Tries = IsTry p a.trial

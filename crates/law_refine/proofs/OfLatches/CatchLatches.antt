@@ -25,9 +25,10 @@ use Rattle.law_world.specs.Below.fkv_session.Catching.{Catching}
 use Rattle.law_world.specs.Below.fkv_session.Catching.TheVariants.{Ended, Refreshes, Protects, StoresCut, StoresOwing, Latches, Finishes}
 use Rattle.law_world.specs.Below.fkv_session.CatchingUp.{CatchState, catching_ask, finishes, latch_begun, latch_wanted, latches, cuts, is_same_version, enters_prepare, takes_up, seen_after, refresh_ledto, protect_ledto, latch_ledto, finish_ledto, catch_requests, catching_next, catch_next}
 use Rattle.fkv_words.specs.PhaseWords.{phase_said}
+use Rattle.law_world.proofs.OfGuardSessions.AttemptsOuter.{HomesAreLow}
 use Rattle.law_refine.specs.Latches.Latchers.{catch_latching}
 use Rattle.law_refine.proofs.OfLatches.TryLatches.{alone_given, is_first}
-use Rattle.law_refine.proofs.OfLatches.AttemptLatches.{FitsAt, KeepsAt, StartsAt, HomesAreLow, resting}
+use Rattle.law_refine.proofs.OfLatches.AttemptLatches.{FitsAt, KeepsAt, StartsAt, resting}
 
 -- it takes shares alone
 abbrev pub TakesAShare : Latching → Type 0

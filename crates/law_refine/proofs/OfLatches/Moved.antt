@@ -18,10 +18,10 @@ use Rattle.law_world.specs.Below.fkv_session.Told.{Told}
 use Rattle.law_world.specs.Below.fkv_session.Told.TheVariants as told
 use Rattle.law_world.specs.Below.fkv_session.Sessions.{SessionState, Seat, bits_of, session_ask, is_word_ask}
 use Rattle.law_world.specs.Below.fkv_world.Moves.{Near, session_gets, session_settled, session_replied, session_asks}
+use Rattle.law_world.proofs.OfGuardSessions.AttemptsOuter.{HomesAreLow}
 use Rattle.law_refine.specs.Latches.Latchers.{session_latching}
 use Rattle.law_refine.specs.Latches.LatchEvents.{changed_at, changed_by, asked_by}
 use Rattle.law_refine.specs.Latches.Shows.{KeepsLatch, SparesLatches}
-use Rattle.law_refine.proofs.OfLatches.AttemptLatches.{HomesAreLow}
 use Rattle.law_refine.proofs.OfLatches.SessionLatches.{session_asks as its_asks}
 use Rattle.law_refine.proofs.OfLatches.Seats.{Stands, Sits, rests_on, replies, settled, puts, gets, still, set_same}
 

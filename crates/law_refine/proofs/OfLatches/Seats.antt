@@ -26,11 +26,12 @@ use Rattle.law_world.specs.Below.fkv_session.Sessions.{SessionState, Seat, IsOpe
 use Rattle.law_world.specs.Below.fkv_session.SessionRun.{SessionEvent, Replies, Gets, session_happens, session_run}
 use Rattle.law_world.specs.Below.fkv_session.Shares.{added_by, times_added, shares_added, shares_dropped, HasItsBuckets}
 use Rattle.law_world.proofs.Below.fkv_session.Shown.{Book, StepShares, run_shares, run_room}
+use Rattle.law_world.proofs.OfGuardSessions.AttemptsOuter.{HomesAreLow}
 use Rattle.law_refine.specs.Latches.Latchers.{session_latching, session_alone}
 use Rattle.law_refine.specs.Latches.LatchEvents.{begun_at}
 use Rattle.law_refine.specs.Latches.Shows.{SparesLatches}
 use Rattle.law_refine.proofs.OfLatches.TryLatches.{alone_left, alone_given, is_first, HasHeld}
-use Rattle.law_refine.proofs.OfLatches.AttemptLatches.{FitsAt, KeepsAt, StartsAt, HomesAreLow}
+use Rattle.law_refine.proofs.OfLatches.AttemptLatches.{FitsAt, KeepsAt, StartsAt}
 use Rattle.law_refine.proofs.OfLatches.Counts.{actor_of, replied_shares, begun_shares, no_longer, shared_by, shared_times, shared_few}
 use Rattle.law_refine.proofs.OfLatches.Needs.{drops, takes}
 use Rattle.law_refine.proofs.OfLatches.SessionLatches.{SittingKnows, session_led, given_led, session_asks}

@@ -47,9 +47,11 @@ use Rattle.law_world.specs.Below.fkv_session.Sitting.TheVariants.{Idle, Attempts
 use Rattle.law_world.specs.Below.fkv_session.CatchingUp.{CatchState, catching_ask, catch_ask, refresh_begun, wake_begun}
 use Rattle.law_world.specs.Below.fkv_session.OwnTurns.{own_turn_begun, own_turn_ask, own_turn_given}
 use Rattle.law_world.specs.Below.fkv_session.Sessions.{SessionState, Seat, bits_of, room_of, answers, refuses, answers_after_turn, request_in_hand, attempts, polls_request, polls_at, refusal_of, op_begun, refresh_call, poll_begun, poll_call, sleep_call, wake_call, call_begun, session_begun, ticket_after, attempt_left, serial_taken, update_done, is_no_room, lacks_room, with_request, accepts, shifts, attempted, attempt_ledto, caught_up, catch_ledto, clear_ledto, is_finished, is_owed, request_finished, finishes_request, keeps_request, poll_ledto, turn_ledto, leave_ledto, attempt_moved, caught, own_turn_moved, sitting_ask, session_ask, sitting_next, session_next, sitting_given, session_given, asks_after, is_word_ask}
+use Rattle.law_world.proofs.OfGuardSessions.AttemptsOuter.{HomesAreLow}
+use Rattle.law_world.proofs.OfGuardSessions.SessionsOuter.{Homes}
 use Rattle.law_refine.specs.Latches.Latchers.{try_latching, attempt_latching, catch_latching, sitting_latching, session_latching, attempt_alone, sitting_alone, session_alone}
 use Rattle.law_refine.proofs.OfLatches.TryLatches.{alone_given, is_first}
-use Rattle.law_refine.proofs.OfLatches.AttemptLatches.{FitsAt, KeepsAt, IsFree, free_then, HomesAreLow, AttemptKnows, AttemptLed, attempt_begun_led, attempt_led, resting}
+use Rattle.law_refine.proofs.OfLatches.AttemptLatches.{FitsAt, KeepsAt, IsFree, free_then, AttemptKnows, AttemptLed, attempt_begun_led, attempt_led, resting}
 use Rattle.law_refine.proofs.OfLatches.CatchLatches.{CatchKnows, CatchLed, catch_led, alone_none, catch_ended}
 
 pub record IsAttempt (p : Places) (a : AttemptState) : Type 0 where
@@ -68,9 +70,6 @@ pub record SessionLed (p : Places) (step : Latching) (held : List ℕ) (s : Sess
 
 abbrev Free : Seat → SessionState → Type 0
 Free k s = SessionLed k.places latching.AtRest [] s
-
-abbrev Homes : Seat → Type 0
-Homes k = HomesAreLow k.places (bits_of k)
 
 either_led : (c : Bool) (k : Seat) (a b : SessionState) → Free k a → Free k b → Free k (if c then a else b)
 either_led true k a b one other = one

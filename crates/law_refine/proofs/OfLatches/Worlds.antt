@@ -24,11 +24,11 @@ use Rattle.law_world.specs.Below.fkv_session.Shares.{times_added}
 use Rattle.law_world.specs.Below.fkv_world.World.{Event, Calls, Moves, Commits, Turns, KeeperMoves, Crashes, Now, seat_at, near, with_session, session_calls, session_moves, life_goes, happens_now}
 use Rattle.law_world.specs.Below.fkv_world.Moves.{Near, session_moved, keeper_settled, keeper_replied, keeper_asks}
 use Rattle.law_world.specs.Below.fkv_world.Runs.{World, run, read_by_keeper}
+use Rattle.law_world.proofs.OfGuardSessions.AttemptsOuter.{HomesAreLow}
 use Rattle.law_refine.specs.Latches.Latchers.{session_latching, sitting_latching, sitting_alone}
 use Rattle.law_refine.specs.Latches.LatchEvents.{begun_at, asked_by, changed_by, moved_events, called_events, life_events, latch_events, mapped}
 use Rattle.law_refine.specs.Latches.Shows.{SparesLatches, SessionSpares, IsPermitted, ArePermitted, IsOpened}
 use Rattle.law_refine.proofs.Items.{Here, There, set_at, get_set, get_other, set_twice, there_low}
-use Rattle.law_refine.proofs.OfLatches.AttemptLatches.{HomesAreLow}
 use Rattle.law_refine.proofs.OfLatches.SessionLatches.{SittingKnows, begun_led}
 use Rattle.law_refine.proofs.OfLatches.Seats.{Stands, Sits, set_same, task_begins}
 use Rattle.law_refine.proofs.OfLatches.Moved.{runs_on, spared_run, asked_run, moves_on}
