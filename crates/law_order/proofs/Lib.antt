@@ -6,7 +6,7 @@ mod OfEnabled
 mod OfImages
 mod OfKnown
 mod OfLooks
-mod OfOneHistory
+pub mod OfOneHistory
 mod OfOrdered
 mod OfPrefix
 pub mod OfReads

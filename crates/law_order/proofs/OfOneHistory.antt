@@ -7,4 +7,5 @@ pub mod InVersions
 pub mod NewLives
 mod WorkedEffects
 pub mod WorkedLives
+pub mod WorkedShape
 mod WorkedWorld

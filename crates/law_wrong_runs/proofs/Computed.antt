@@ -1,8 +1,6 @@
 -- The lives whose histories are wrong, by computing them.
 use Rattle.std.proofs.Common.{◌≡◌, inl, ℕ, ◌∙◌, zero, suc, Some, List, [], ◌∷◌, ◌++◌, ◌<◌, refl, sym, ap, subst, arith}
 use Rattle.std.specs.Prelude.{slice_get}
-use Rattle.std.proofs.lemmas.Nat.{and_mask}
-use Rattle.fkv_base.specs.declared.shapes.Shape.{Shape}
 use Rattle.law_order.specs.Below.fkv_flush.GuardLevels.{Levels}
 use Rattle.law_order.specs.Below.fkv_keeper.Keeping.{KeeperState}
 use Rattle.law_order.specs.Below.fkv_keeper.NewKeepers.{ArePlacesOfStore}
@@ -14,8 +12,7 @@ use Rattle.fkv_map.specs.Map.{Map, applied, reply_to, reply_to_read}
 use Rattle.fkv_map.specs.Keys.{reply_from}
 use Rattle.fkv_map.proofs.Shown.{content_one_more, get-applied, legal_each, reply_to_is}
 use Rattle.law_log.specs.Trace.{Effect, IsIn, HasUpdate, GivesResult, CallsUpdate, value_in, history_of}
-use Rattle.law_log.specs.Worked.{entry_of, no_map}
-use Rattle.fkv_plane.specs.declared.places.Places.{Places}
+use Rattle.law_log.specs.Worked.{adds_5, entry_of, gives_70, no_map}
 use Rattle.law_order.specs.Below.fkv_session.Sessions.{SessionState, IsOpened}
 use Rattle.fkv_epoch.specs.EpochWorld.{drain_word, own_epoch}
 use Rattle.law_order.specs.Below.law_world.GuardSessions.Likenesses.{last_seen}
@@ -23,7 +20,8 @@ use Rattle.law_order.specs.Below.fkv_world.Opened.{IsOpenedWorld}
 use Rattle.law_order.specs.Below.law_world.Guarded.Shows as guard
 use Rattle.law_order.specs.Below.law_refine.Calls.Calls.{effects_in_log}
 use Rattle.law_order.specs.Below.law_refine.Events.Lines.{lines_of}
-use Rattle.law_order.specs.Below.law_refine.Events.Worked.{adds_5, first_session, first_words, gives_70, gives_8}
+use Rattle.law_order.specs.Below.law_refine.Events.Worked.{first_session, first_words, gives_8}
+use Rattle.law_order.proofs.OfOneHistory.WorkedShape.{places, shape}
 use Rattle.law_wrong_runs.specs.Tables.{add_copies_in_fuzzy_region, in_place_below_seen_read_only, read_gives_opening_state, run_by}
 use Rattle.law_wrong_runs.specs.WrongLives.{LeavesFresh, LeavesLegal, fixed_begun, fixed_events, fuzzy_begun, fuzzy_events, gives_1, levels_after, opened_world, read_events}
 use Rattle.law_order.specs.Below.fkv_session.Sessions as session_u
@@ -62,13 +60,6 @@ use Rattle.law_order.specs.Below.fkv_world.Past as past_u
 use Rattle.law_order.specs.Below.fkv_world.Runs as runs_u
 use Rattle.fkv_words.specs.PhaseWords as phase_words_u
 use Rattle.law_order.specs.Below.fkv_world.Runs.{World, run}
-
-unfoldable pub shape : Shape
-unfolding lib.Count.ones
-shape = record { bucket_bits = 0; page = 4; frames = 2; mutable = 1; sessions = 2; overflow = 0; disk_pages = 64; limits = record { few_buckets = omega arith; page_size = refl; ring_size = refl; some_mutable = omega arith; some_read_only = omega arith; some_session = omega arith; few_sessions = omega arith; few_overflow = omega arith; some_disk = omega arith; few_disk = omega arith } }
-
-unfoldable pub places : Places
-places = record { sessions = 2; buckets = 1; overflow = 0; ring = 8; ring_mask = 7; few_sessions = omega arith; few_buckets = omega arith; few_overflow = omega arith; some_ring = omega arith; masks = λ a. and_mask a 3; small_ring = omega arith }
 
 pub places_fit : ArePlacesOfStore shape places
 unfolding shape places

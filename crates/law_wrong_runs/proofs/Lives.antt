@@ -2,7 +2,8 @@
 use Rattle.law_order.specs.Below.fkv_keeper.Keeping.{KeeperState}
 use Rattle.law_order.specs.Below.fkv_session.Sessions.{SessionState}
 use Rattle.law_wrong_runs.specs.WrongLives.{AreWrongLives}
-use Rattle.law_wrong_runs.proofs.Computed.{guard_opened, is_fixed, is_fuzzy, places, places_fit, right_copied, right_in_place, shape, world_opened, wrong_copied, wrong_in_place, wrong_stale}
+use Rattle.law_order.proofs.OfOneHistory.WorkedShape.{places, shape}
+use Rattle.law_wrong_runs.proofs.Computed.{guard_opened, is_fixed, is_fuzzy, places_fit, right_copied, right_in_place, world_opened, wrong_copied, wrong_in_place, wrong_stale}
 use Rattle.law_wrong_runs.proofs.OfGuard.{right_refused, slot_armed, slot_claimed, wrong_change, wrong_early, wrong_refused, wrong_unclosed, wrong_untold, wrong_woken}
 
 pub wrong_lives : (its : KeeperState) (one other : SessionState) → AreWrongLives its one other

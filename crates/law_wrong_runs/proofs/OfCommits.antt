@@ -21,15 +21,15 @@ use Rattle.law_order.specs.Below.law_commit.BegunCommits.{BegunCommit, commit_op
 use Rattle.law_order.specs.Below.law_commit.PrefixPast.{PrefixPast, prefix_past, serials_asked}
 use Rattle.law_order.specs.Below.law_commit.ToldPoints.{ToldPoint}
 use Rattle.law_log.specs.Trace.{Effect, IsIn, history_of, upto, value_in}
-use Rattle.law_log.specs.Worked.{entry_of, no_map}
-use Rattle.law_order.specs.Below.law_refine.Events.Worked.{adds_5, gives_70}
+use Rattle.law_log.specs.Worked.{adds_5, entry_of, gives_70, no_map}
 use Rattle.law_order.specs.OneHistory.EachLife.{Life}
 use Rattle.law_order.specs.Prefix.Law.{BeginsWithKept, IsToldDurable, TakesFairPoints, kept_of_all, points_of}
 use Rattle.law_order.specs.Below.law_refine.Calls.Calls.{effects_in_log}
 use Rattle.law_wrong_runs.specs.Tables.{add_copies_in_fuzzy_region, commit_keeps_nothing, right_tables, run_by, serial_is_told_as_durable}
 use Rattle.law_wrong_runs.specs.WrongCommits.{AreWrongCommits, FollowsWith, IsBehind, NeverFollowsWith, giving_life, given_map, KeepsItsValues, KeepsLegal, KeepsValues, all_points, given_point, LeavesCurrent, LeavesDurable, TakesFair, asks_durable, begins_commit, new_world, past_by, with_nothing_kept}
 use Rattle.law_wrong_runs.specs.WrongLives.{fuzzy_events, gives_1, opened_world}
-use Rattle.law_wrong_runs.proofs.Computed.{effect_70, fuzzy_history, gives_value, is_fuzzy_history, not_80, places, places_fit, right_copied, shape, world_opened}
+use Rattle.law_order.proofs.OfOneHistory.WorkedShape.{places, shape}
+use Rattle.law_wrong_runs.proofs.Computed.{effect_70, fuzzy_history, gives_value, is_fuzzy_history, not_80, places_fit, right_copied, world_opened}
 use Rattle.law_order.specs.Below.fkv_session.Sessions as session_u
 use Rattle.law_order.specs.Below.fkv_session.CatchingUp as catching_u
 use Rattle.law_order.specs.Below.fkv_pending.Attempting as attempting_u

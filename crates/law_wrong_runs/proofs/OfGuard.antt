@@ -22,10 +22,11 @@ use Rattle.law_order.specs.Below.law_world.Guarded.KeptGuarded.{ChangesOpenPlace
 use Rattle.law_log.specs.Trace.{IsIn, called_as}
 use Rattle.law_order.specs.Below.law_refine.Calls.Calls.{effects_in_log}
 use Rattle.law_order.specs.Below.law_refine.Events.Lines.{lines_of}
-use Rattle.law_order.specs.Below.law_refine.Events.Worked.{gives_70}
+use Rattle.law_log.specs.Worked.{gives_70}
 use Rattle.law_wrong_runs.specs.Tables.{action_is_claimed_early, durable_is_refused, effect_is_told_to_nobody, guard_run_by, mapped_by, page_opens_unclosed, run_by, wake_keeps_offsets}
 use Rattle.law_wrong_runs.specs.WrongLives.{ClaimsInTime, FailsAt, IsBeside, LeavesOfKind, LeavesOrdered, durable_events, early_begun, gives_events, guard_of_early, opened_world, unclosed_begun, woken_begun}
-use Rattle.law_wrong_runs.proofs.Computed.{effect_70, places, shape}
+use Rattle.law_order.proofs.OfOneHistory.WorkedShape.{places, shape}
+use Rattle.law_wrong_runs.proofs.Computed.{effect_70}
 use Rattle.law_order.specs.Below.law_world.Guarded.GuardEvents as guard_events_u
 use Rattle.law_order.specs.Below.law_world.GuardKeeper.KeeperEvents as keeper_events_u
 use Rattle.law_order.specs.Below.law_world.GuardKeeper.MaintainEvents as maintain_events_u

@@ -20,11 +20,10 @@ use Rattle.law_order.specs.Below.law_commit.BegunCommits.{BegunCommit}
 use Rattle.law_order.specs.Below.law_commit.PrefixPast.{PrefixPast, prefix_past}
 use Rattle.law_order.specs.Below.law_commit.ToldPoints.{ToldPoint, points_told}
 use Rattle.law_log.specs.Trace.{IsIn, history_of, upto, value_in}
-use Rattle.law_log.specs.Worked.{no_map}
+use Rattle.law_log.specs.Worked.{gives_70, no_map}
 use Rattle.law_order.specs.OneHistory.EachLife.{Life}
 use Rattle.law_order.specs.Prefix.Law.{BeginsWithKept, IsCurrent, IsToldDurable, TakesFairPoints, map_of, points_of}
 use Rattle.law_order.specs.Below.law_refine.Calls.Calls.{effects_in_log}
-use Rattle.law_order.specs.Below.law_refine.Events.Worked.{gives_70}
 use Rattle.law_wrong_runs.specs.Tables.{Tables, add_copies_in_fuzzy_region, commit_keeps_nothing, right_tables, run_by, serial_is_told_as_durable}
 use Rattle.law_wrong_runs.specs.WrongLives.{fuzzy_events, gives_events, opened_world}
 

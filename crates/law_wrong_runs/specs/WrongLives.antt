@@ -15,7 +15,7 @@ use Rattle.fkv_map.specs.declared.operations.Op.{Op}
 use Rattle.fkv_map.specs.declared.operations.Op.TheVariants.{Read, Upsert}
 use Rattle.fkv_map.specs.History.{IsLegal}
 use Rattle.law_log.specs.Trace.{OrdersCalls, ReadsAreFresh, history_of}
-use Rattle.law_log.specs.Worked.{no_map}
+use Rattle.law_log.specs.Worked.{adds_5, gives_70, no_map}
 use Rattle.fkv_plane.specs.declared.places.Places.{Places}
 use Rattle.law_order.specs.Below.fkv_session.Kinds.{IsOfKind}
 use Rattle.law_order.specs.Below.fkv_session.SessionRun.{Telling}
@@ -28,7 +28,7 @@ use Rattle.law_order.specs.Below.law_world.Guarded.KeptGuarded.{ChangesOpenPlace
 use Rattle.law_order.specs.Below.law_world.Guarded.LoadedSince.{HaveLoadedSince}
 use Rattle.law_order.specs.Below.law_world.Guarded.Shows as guard
 use Rattle.law_order.specs.Below.law_refine.Events.Lines.{lines_of}
-use Rattle.law_order.specs.Below.law_refine.Events.Worked.{adds_5, first_world, gives_70, gives_8}
+use Rattle.law_order.specs.Below.law_refine.Events.Worked.{first_world, gives_8}
 use Rattle.law_wrong_runs.specs.Tables.{Tables, action_is_claimed_early, add_copies_in_fuzzy_region, durable_is_refused, effect_is_told_to_nobody, guard_run_by, in_place_below_seen_read_only, machine_claims_early, mapped_by, page_opens_unclosed, read_gives_opening_state, run_by, wake_keeps_offsets}
 
 -- ---- what a life leaves

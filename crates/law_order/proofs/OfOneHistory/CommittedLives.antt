@@ -8,16 +8,18 @@ use Rattle.fkv_map.specs.declared.operations.Call.TheVariants as call
 use Rattle.law_opening.specs.Below.fkv_opening.TheOpened.{Opened}
 use Rattle.law_commit.specs.Below.fkv_session.Sessions.{SessionState}
 use Rattle.law_commit.specs.Below.fkv_world.World.{Event, Commits, Turns, Now}
-use Rattle.law_commit.specs.Below.law_refine.Events.Worked.{adds_5, gives_70}
+use Rattle.law_log.specs.Worked.{adds_5, gives_70}
 use Rattle.law_order.specs.OneHistory.Committed.{CommittedLife, CrashedLife, begun_events, both_refresh, committed_events, crashed_events, full_events, keeper_call, session_call}
 use Rattle.law_order.specs.OneHistory.EachLife.{IsLife, Life}
+use Rattle.law_order.specs.OneHistory.NewLives.{AreCreated, HoldNew}
 use Rattle.law_order.specs.Served.Fits.{CallFits, CallsFit, EventFits}
 use Rattle.law_order.specs.Tickets.Few.{HasFewCalls}
 use Rattle.law_order.proofs.OfOneHistory.CommittedRun.{IsComputed, computed}
 use Rattle.law_order.proofs.OfOneHistory.CommittedWorld.{committed_opens, new_keeper}
-use Rattle.law_order.proofs.OfOneHistory.NewLives.{AreCreated, AreNew, HaveWorlds, HoldNew}
+use Rattle.law_order.proofs.OfOneHistory.NewLives.{AreNew, HaveWorlds}
 use Rattle.law_order.proofs.OfOneHistory.WorkedLives.{OrderLaw, adds_fit, gives_fit, has_session, ordered_life}
-use Rattle.law_order.proofs.OfOneHistory.WorkedWorld.{shape, worked_now}
+use Rattle.law_order.proofs.OfOneHistory.WorkedShape.{shape}
+use Rattle.law_order.proofs.OfOneHistory.WorkedWorld.{worked_now}
 
 -- ---- its calls are of numbers below 2^64, and few
 record Fit (events : List Event) : Type 0 where

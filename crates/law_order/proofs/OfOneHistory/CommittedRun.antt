@@ -52,7 +52,8 @@ use Rattle.law_commit.specs.Below.fkv_session.Sessions.{SessionState}
 use Rattle.law_order.specs.OneHistory.Committed.{HasBegunNext, HasFinished, committed_events, committed_history, crashed_events, full_events}
 use Rattle.law_order.specs.Rules.Ordered.{effects_so_far, now_after}
 use Rattle.law_order.proofs.OfOneHistory.CommittedWorld.{new_keeper}
-use Rattle.law_order.proofs.OfOneHistory.WorkedWorld.{places, shape, worked_now}
+use Rattle.law_order.proofs.OfOneHistory.WorkedShape.{places, shape}
+use Rattle.law_order.proofs.OfOneHistory.WorkedWorld.{worked_now}
 
 -- what is said of it, whatever bytes it begins with
 pub record IsComputed (keeper : KeeperState) (one other : SessionState) (bytes : List ℕ) : Type 0 where

@@ -17,7 +17,8 @@ use Rattle.law_opening.specs.Below.fkv_opening.TheOpened.{Opened}
 use Rattle.fkv_record.specs.Points.{serial_numbers}
 use Rattle.law_commit.specs.Below.fkv_session.Sessions.{SessionState}
 use Rattle.law_commit.specs.Below.fkv_world.World.{Now}
-use Rattle.law_order.proofs.OfOneHistory.WorkedWorld.{places, shape, world_opens, worked_now}
+use Rattle.law_order.proofs.OfOneHistory.WorkedShape.{places, shape}
+use Rattle.law_order.proofs.OfOneHistory.WorkedWorld.{world_opens, worked_now}
 
 -- ---- its keeper
 abbrev pub new_checkpoint : Checkpoint

@@ -1,27 +1,19 @@
 -- Each store has lives, and each shape, since there are worlds and new stores.
 use Rattle.std.proofs.Common.{ℕ, List, [], refl}
-use Rattle.std.specs.Prelude.{◌↔◌}
 use Rattle.fkv_base.specs.declared.shapes.Shape.{Shape}
 use Rattle.law_opening.specs.Below.fkv_core.Openings.{IsOpeningWorld}
 use Rattle.law_opening.specs.Below.fkv_creating.Created.{IsCreated, IsNewStore, created_bytes}
-use Rattle.law_opening.specs.Below.fkv_opening.Opened.{IsStoreOf}
 use Rattle.law_opening.specs.Below.fkv_opening.TheOpened.{Opened}
 use Rattle.law_commit.specs.Below.fkv_world.World.{Now}
 use Rattle.law_order.specs.OneHistory.EachLife.{Life}
-use Rattle.law_order.specs.OneHistory.NewLives.{ShapesHaveLives, StoresHaveLives}
+use Rattle.law_order.specs.OneHistory.NewLives.{AreCreated, HoldNew, ShapesHaveLives, StoresHaveLives}
 
 -- what the laws say of worlds and of new stores
 abbrev pub HaveWorlds : Type 0
 HaveWorlds = (o : Opened) → (n : Now) × IsOpeningWorld o n
 
-abbrev pub AreCreated : Type 0
-AreCreated = (old : List ℕ) (shape : Shape) → IsCreated shape (created_bytes old shape)
-
 abbrev pub AreNew : Type 0
 AreNew = (shape : Shape) → (o : Opened) × IsNewStore shape o
-
-abbrev pub HoldNew : Type 0
-HoldNew = (image : List ℕ) (shape : Shape) (o : Opened) → IsCreated shape image → IsStoreOf image o ↔ IsNewStore shape o
 
 pub stores_have_lives : HaveWorlds → StoresHaveLives
 stores_have_lives worlds = λ bytes o events store fits few. record { world = (worlds o).0; life = record { store = store; begins = (worlds o).1; fits = fits; few = few } }

@@ -9,16 +9,18 @@ use Rattle.law_opening.specs.Below.fkv_opening.TheOpened.{Opened}
 use Rattle.law_commit.specs.Below.fkv_session.Sessions.{SessionState}
 use Rattle.law_commit.specs.Below.fkv_world.World.{Now}
 use Rattle.law_commit.specs.WorkedRuns.{resting_keeper}
-use Rattle.law_commit.specs.Below.law_refine.Events.Worked.{adds_5, gives_70, worked_events}
+use Rattle.law_log.specs.Worked.{adds_5, gives_70}
+use Rattle.law_commit.specs.Below.law_refine.Events.Worked.{worked_events}
 use Rattle.law_order.specs.OneHistory.EachLife.{InEachLife, IsLife, Life}
-use Rattle.law_order.specs.OneHistory.NewLives.{BeginsAsWorked, IsOrderedLife, WorkedLife}
+use Rattle.law_order.specs.OneHistory.NewLives.{AreCreated, BeginsAsWorked, HoldNew, IsOrderedLife, WorkedLife}
 use Rattle.law_order.specs.Rules.InTime.{ReadsInTime}
 use Rattle.law_order.specs.Rules.Ordered.{HasLegalHistory, IsGuarded, OrdersItsCalls, ReadsFreshly, RunsActionsOnce}
 use Rattle.law_order.specs.Served.Fits.{CallsFit}
 use Rattle.law_order.specs.Tickets.Few.{HasFewCalls}
-use Rattle.law_order.proofs.OfOneHistory.NewLives.{AreCreated, AreNew, HaveWorlds, HoldNew}
+use Rattle.law_order.proofs.OfOneHistory.NewLives.{AreNew, HaveWorlds}
 use Rattle.law_order.proofs.OfOneHistory.WorkedEffects.{worked_effects}
-use Rattle.law_order.proofs.OfOneHistory.WorkedWorld.{places, shape, world_opens, worked_now}
+use Rattle.law_order.proofs.OfOneHistory.WorkedShape.{places, shape}
+use Rattle.law_order.proofs.OfOneHistory.WorkedWorld.{world_opens, worked_now}
 
 -- what the order law says of each life
 pub record OrderLaw : Type 0 where

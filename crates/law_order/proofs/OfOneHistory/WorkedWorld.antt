@@ -2,7 +2,6 @@
 use Rattle.std.proofs.Common.{◌≡◌, ℕ, zero, suc, ◌+◌, ◌*◌, ◌/◌, ◌%◌, ◌^◌, ◌<◌, List, [], ◌∷◌, ◌++◌, refl, sym, ◌∙◌, ap, subst, arith}
 use Rattle.std.specs.Prelude.{Some, if◌then◌else◌, min, nat_eq, replicate, slice_get, slice_index, slice_index_or}
 use Rattle.std.proofs.lemmas.List.Sorted.{IsPermutation-refl}
-use Rattle.std.proofs.lemmas.Nat.{and_mask}
 use Rattle.fkv_base.specs.declared.numbers.Addr.{Addr}
 use Rattle.fkv_base.specs.declared.phases.Phase.TheVariants.{Rest}
 use Rattle.fkv_base.specs.declared.shapes.Shape.{Shape}
@@ -17,21 +16,13 @@ use Rattle.law_commit.specs.Below.fkv_keeper.Keeping.{KeeperState}
 use Rattle.law_commit.specs.Below.fkv_keeper.NewKeepers.{ArePlacesOfStore, IsNewKeeper}
 use Rattle.law_opening.specs.Below.fkv_opening.Opening.{opening_limit, point_of}
 use Rattle.law_opening.specs.Below.fkv_opening.TheOpened.{Opened}
-use Rattle.fkv_plane.specs.declared.places.Places.{Places}
 use Rattle.law_commit.specs.Below.fkv_session.Sessions.{SessionState}
 use Rattle.law_commit.specs.Below.fkv_world.Runs.{World}
 use Rattle.law_commit.specs.Below.fkv_world.World.{Now}
 use Rattle.fkv_words.specs.Phases.{phase_number}
 use Rattle.law_commit.specs.WorkedRuns.{resting_keeper}
 use Rattle.law_commit.specs.Below.law_refine.Events.Worked.{first_session, first_words, first_world}
-
--- ---- its shape, and where its words lie
-unfoldable pub shape : Shape
-unfolding lib.Count.ones
-shape = record { bucket_bits = 0; page = 4; frames = 2; mutable = 1; sessions = 2; overflow = 0; disk_pages = 64; limits = record { few_buckets = omega arith; page_size = refl; ring_size = refl; some_mutable = omega arith; some_read_only = omega arith; some_session = omega arith; few_sessions = omega arith; few_overflow = omega arith; some_disk = omega arith; few_disk = omega arith } }
-
-unfoldable pub places : Places
-places = record { sessions = 2; buckets = 1; overflow = 0; ring = 8; ring_mask = 7; few_sessions = omega arith; few_buckets = omega arith; few_overflow = omega arith; some_ring = omega arith; masks = λ a. and_mask a 3; small_ring = omega arith }
+use Rattle.law_order.proofs.OfOneHistory.WorkedShape.{places, shape}
 
 places_fit : ArePlacesOfStore shape places
 unfolding shape places

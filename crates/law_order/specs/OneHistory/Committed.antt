@@ -14,8 +14,7 @@ use Rattle.law_commit.specs.Below.fkv_session.Sessions.{SessionState}
 use Rattle.law_commit.specs.Below.fkv_world.World.{Event, Calls, Moves, Commits, Turns, KeeperMoves, Now}
 use Rattle.law_commit.specs.BegunCommits.{kind_opened}
 use Rattle.law_log.specs.Trace.{Effect}
-use Rattle.law_log.specs.Worked.{entry_of}
-use Rattle.law_commit.specs.Below.law_refine.Events.Worked.{adds_5, gives_70}
+use Rattle.law_log.specs.Worked.{adds_5, entry_of, gives_70}
 use Rattle.law_order.specs.OneHistory.EachLife.{Life}
 use Rattle.law_order.specs.OneHistory.NewLives.{IsNewLife, IsOrderedLife}
 use Rattle.law_order.specs.Rules.Ordered.{effects_so_far, now_after}

@@ -1,7 +1,7 @@
 -- The lives of new stores, of which the order law speaks, and one that is worked out.
-use Rattle.std.specs.Prelude.{◌≡◌, ℕ, List}
+use Rattle.std.specs.Prelude.{◌≡◌, ◌↔◌, ℕ, List}
 use Rattle.fkv_base.specs.declared.shapes.Shape.{Shape}
-use Rattle.law_opening.specs.Below.fkv_creating.Created.{IsCreated, IsNewStore}
+use Rattle.law_opening.specs.Below.fkv_creating.Created.{IsCreated, IsNewStore, created_bytes}
 use Rattle.law_commit.specs.Below.fkv_keeper.Keeping.{KeeperState}
 use Rattle.law_opening.specs.Below.fkv_opening.Opened.{IsStoreOf}
 use Rattle.law_opening.specs.Below.fkv_opening.TheOpened.{Opened}
@@ -15,6 +15,15 @@ use Rattle.law_order.specs.Rules.InTime.{ReadsInTime}
 use Rattle.law_order.specs.Rules.Ordered.{HasLegalHistory, IsGuarded, OrdersItsCalls, ReadsFreshly, RunsActionsOnce, effects_so_far}
 use Rattle.law_order.specs.Served.Fits.{CallsFit}
 use Rattle.law_order.specs.Tickets.Few.{HasFewCalls}
+
+-- ---- what the law of new stores says
+-- whatever the device holds before, `create` leaves bytes of a new store
+abbrev pub AreCreated : Type 0
+AreCreated = (old : List ℕ) (shape : Shape) → IsCreated shape (created_bytes old shape)
+
+-- such bytes hold each new store of the shape, and no other
+abbrev pub HoldNew : Type 0
+HoldNew = (image : List ℕ) (shape : Shape) (o : Opened) → IsCreated shape image → IsStoreOf image o ↔ IsNewStore shape o
 
 -- ---- each store has lives
 -- A store has lives of these events: there is a world with which it opens.

@@ -9,12 +9,11 @@ use Rattle.fkv_map.specs.declared.operations.Reply.TheVariants.{Nothing}
 use Rattle.law_opening.specs.Below.fkv_opening.Faults.{IsFaultOf}
 use Rattle.law_opening.specs.Below.fkv_opening.Opened.{IsStoreOf}
 use Rattle.law_opening.specs.Below.fkv_opening.TheOpened.{Opened}
-use Rattle.law_log.specs.Worked.{entry_of}
+use Rattle.law_log.specs.Worked.{entry_of, gives_70}
 use Rattle.law_opening.specs.Log.Maps.{opening_map}
 use Rattle.law_order.specs.OneHistory.Committed.{CrashedLife}
 use Rattle.law_order.specs.OneHistory.EachLife.{Life}
 use Rattle.law_order.specs.Prefix.Law.{calls_so_far, map_of}
-use Rattle.law_commit.specs.Below.law_refine.Events.Worked.{gives_70}
 
 -- the one update that the first commit keeps
 abbrev pub kept_first : List HistoryEntry

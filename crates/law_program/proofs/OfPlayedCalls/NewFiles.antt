@@ -1,25 +1,19 @@
 -- The life of a new store begins quietly, and its lines are played by the map.
 use Rattle.std.proofs.Common.{ℕ, List, [], Bool, subst}
-use Rattle.std.specs.Prelude.{◌↔◌, Option}
+use Rattle.std.specs.Prelude.{Option}
 use Rattle.fkv_base.specs.declared.shapes.Shape.{Shape}
 use Rattle.law_order.specs.Below.fkv_core.Worlds.{WorldModel}
 use Rattle.law_order.specs.Below.fkv_core.Event as events
 use Rattle.law_order.specs.Below.fkv_core.TheTold as tells
-use Rattle.law_order.specs.Below.fkv_creating.Created.{IsCreated, IsNewStore, created_bytes}
+use Rattle.law_order.specs.Below.fkv_creating.Created.{IsNewStore, created_bytes}
 use Rattle.fkv_map.specs.Map.{Map}
 use Rattle.law_order.specs.Below.fkv_opening.Opened.{IsStoreOf}
 use Rattle.law_order.specs.Below.fkv_opening.TheOpened.{Opened}
+use Rattle.law_order.specs.OneHistory.NewLives.{AreCreated, HoldNew}
 use Rattle.law_program.specs.PlayedCalls.NewFiles.{NewFilesPlayMap, NewStoresBeginQuiet}
 use Rattle.law_program.specs.PlayedCalls.Scripts.{FilesPlayMap, IsPlayOfMap}
 use Rattle.law_program.proofs.OfPlayedCalls.NewStores.{PairsAreMap, new_is_empty}
 use Rattle.law_program.proofs.OfPlayedCalls.Scripts.{opening_idle, opening_quiet}
-
--- what the law of new stores says
-abbrev pub AreCreated : Type 0
-AreCreated = (old : List ℕ) (shape : Shape) → IsCreated shape (created_bytes old shape)
-
-abbrev pub HoldNew : Type 0
-HoldNew = (image : List ℕ) (shape : Shape) (o : Opened) → IsCreated shape image → IsStoreOf image o ↔ IsNewStore shape o
 
 holds : AreCreated → HoldNew → (shape : Shape) (o : Opened) → IsNewStore shape o → IsStoreOf (created_bytes [] shape) o
 holds created hold shape o new = (hold (created_bytes [] shape) shape o (created [] shape)).1 new

@@ -4,11 +4,11 @@ use Rattle.fkv_base.specs.declared.phases.Phase.TheVariants.{Rest}
 use Rattle.fkv_base.specs.declared.shapes.Shape.{Shape}
 use Rattle.fkv_map.specs.declared.operations.Call.TheVariants as call
 use Rattle.fkv_map.specs.declared.operations.Op.{Op}
-use Rattle.fkv_map.specs.declared.operations.Op.TheVariants.{Upsert, Add, Read}
+use Rattle.fkv_map.specs.declared.operations.Op.TheVariants.{Upsert, Read}
 use Rattle.fkv_map.specs.declared.operations.Reply.TheVariants.{Nothing, Number, Found, Absent}
 use Rattle.law_log.specs.Ghosts.{GhostEvent, Tells, FindsEntry, TakesValue, Reserves, Publishes, Drops, Changes, Fixes, shown}
 use Rattle.law_log.specs.Trace.{Effect, TraceLine, CallsUpdate, RefusesUpdate, GivesResult, CallsRead, AnswersRead}
-use Rattle.law_log.specs.Worked.{cell_of, empty_log, entry_of}
+use Rattle.law_log.specs.Worked.{adds_5, cell_of, empty_log, entry_of, gives_70}
 use Rattle.fkv_plane.specs.declared.places.Places.{Places}
 use Rattle.law_world.specs.Below.fkv_keeper.Keeping.{KeeperState}
 use Rattle.law_world.specs.Below.fkv_ops.Reason.TheVariants.{Disk}
@@ -52,14 +52,8 @@ first_world shape places keeper one other = record {
   past = record { opened = []; history = []; trace = []; calls = [] };
 }
 
--- session 0 gives key 5 a value, session 1 adds to it
-abbrev pub gives_70 : Op
-gives_70 = Upsert (record { 0 = 5 }) (record { 0 = 70 })
-
-abbrev pub adds_5 : Op
-adds_5 = Add (record { 0 = 5 }) 5
-
--- The first appends a record. The other one has found it as a read begins that finds it too; then it changes the value, which the read loads.
+-- Session 0 gives key 5 a value, session 1 adds to it. The first appends a record. The other one has found it as a read begins that finds it too;
+-- then it changes the value, which the read loads.
 abbrev pub worked_events : List Event
 worked_events =
     Moves 0 ∷ Moves 1 ∷ Moves 1 ∷ Moves 0 ∷ Moves 0 ∷ Moves 0 ∷ Calls 0 (call.Op (Read (record { 0 = 5 })))
