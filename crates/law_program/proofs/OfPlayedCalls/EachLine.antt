@@ -42,6 +42,7 @@ use Rattle.law_program.specs.PlayedCalls.EachLine.{AreMovesOf, ArePlayedInLife, 
 use Rattle.law_program.specs.PlayedCalls.Finished.{IsCallAnswered}
 use Rattle.law_program.specs.PlayedCalls.PlayedCalls.{called_alone}
 use Rattle.law_program.specs.PlayedCalls.Waiting.{SeatsKeepKeys}
+use Rattle.law_program.specs.WholeCalls.Laws.{AnswersWholeCalls}
 use Rattle.law_program.proofs.OfPlayedCalls.Beats.{EndsCall, HasEnded, beats_end}
 use Rattle.law_program.proofs.OfPlayedCalls.InLife.{calls_few, calls_fit}
 use Rattle.law_program.proofs.OfPlayedCalls.Keeper.{map_stays, nobody_still, seats_still}
@@ -50,7 +51,7 @@ use Rattle.law_program.proofs.OfPlayedCalls.Led.{IsKeepers, IsLedBy, IsOneAnswer
 use Rattle.law_program.proofs.OfPlayedCalls.OneCall.{HasOneCall, first_call, played_out, refused_out, struck_silent}
 use Rattle.law_program.proofs.OfPlayedCalls.Polled.{IsTraced, traced, updates_answered}
 use Rattle.law_program.proofs.OfPlayedCalls.PolledReads.{reads_answered}
-use Rattle.law_program.proofs.OfPlayedCalls.Replies.{AnswersWholeCalls, at_rest_behind, missing_number, op_answered}
+use Rattle.law_program.proofs.OfPlayedCalls.Replies.{at_rest_behind, missing_number, op_answered}
 use Rattle.law_program.proofs.OfPlayedCalls.Steps.{GoesByRules}
 use Rattle.law_program.proofs.OfPlayedCalls.Waiting.{seats_kept}
 use Rattle.law_order.specs.Below.law_refine.Results.Results.{NobodyCalls}

@@ -3,7 +3,7 @@ use Rattle.std.proofs.Common.{◌≡◌, ◌∙◌, ◌⊎◌, ℕ, zero, suc, L
 use Rattle.std.specs.Prelude.{Option, Some, None, if◌then◌else◌, nat_lt, slice_get}
 use Rattle.std.proofs.lemmas.Bool.Decides.{nat_tests}
 use Rattle.fkv_base.specs.declared.faults.Fault.TheVariants.{NoSession}
-use Rattle.law_order.specs.Below.fkv_core.Openings.{IsOpeningWorld, beginning}
+use Rattle.law_order.specs.Below.fkv_core.Openings.{beginning}
 use Rattle.law_order.specs.Below.fkv_core.Worlds.{WorldModel}
 use Rattle.law_order.specs.Below.fkv_core.Event as events
 use Rattle.law_order.specs.Below.fkv_core.TheTold as tells
@@ -25,12 +25,10 @@ use Rattle.fkv_runs.specs.Below.fkv_playing.Outcome.TheVariants.{Answered}
 use Rattle.fkv_runs.specs.Below.fkv_playing.Stage.TheVariants as stage
 use Rattle.fkv_runs.specs.Below.fkv_playing.Telling.{Telling}
 use Rattle.fkv_runs.specs.Below.fkv_playing.Telling.TheVariants.{Whole}
-use Rattle.law_order.specs.Below.fkv_session.Sessions.{SessionState}
 use Rattle.law_order.specs.Below.fkv_session.Told.{Told}
 use Rattle.law_order.specs.Below.fkv_session.Told.TheVariants as tellings
-use Rattle.law_order.specs.Below.fkv_session.Sitting.TheVariants.{Idle}
 use Rattle.fkv_texts.specs.Refusals.{session_refusal}
-use Rattle.law_program.specs.WholeCalls.WholeCalls.{IsAnsweredByMap}
+use Rattle.law_program.specs.WholeCalls.Laws.{AnswersWholeCalls}
 use Rattle.law_order.specs.Below.fkv_world.Past.{Effect}
 use Rattle.law_order.specs.Below.fkv_world.Runs.{World, run}
 use Rattle.law_order.specs.Below.fkv_world.World.{Calls, Event, Now}
@@ -45,13 +43,6 @@ use Rattle.law_program.proofs.OfPlayedCalls.Beats.{EndsCall, beats_end}
 use Rattle.law_program.proofs.OfPlayedCalls.InLife.{calls_few, calls_fit, nobody_behind, was_alive, was_there}
 use Rattle.law_program.proofs.OfPlayedCalls.OneCall.{HasOneCall, first_call, played_out, refused_out}
 use Rattle.law_program.proofs.OfPlayedCalls.Steps.{GoesByRules}
-
--- what the law of whole calls says
-abbrev pub AnswersWholeCalls : Type 0
-AnswersWholeCalls = (bytes : List ℕ) (o : Opened) (n : Now) (before : List Event) (number moves : ℕ) (op : Op) (s its : SessionState) (answer : Told) → IsOpeningWorld o n
-    → HasLegalHistory o n bytes (in_call number moves op before) → OrdersItsCalls o n bytes (in_call number moves op before) → ReadsFreshly o n bytes (in_call number moves op before)
-    → NobodyCalls (run (beginning n bytes) before).now → (run (beginning n bytes) before).now.crashed ≡ false → slice_get (run (beginning n bytes) before).now.sessions number ≡ Some s
-    → slice_get (run (beginning n bytes) (in_call number moves op before)).now.sessions number ≡ Some its → its.step ≡ Idle answer → IsAnsweredByMap o n bytes before (in_call number moves op before) op answer
 
 -- the session that is missing is the call's
 pub missing_number : (number its : ℕ) (c : Bool) → (if c then None else Some number) ≡ Some its → number ≡ its
