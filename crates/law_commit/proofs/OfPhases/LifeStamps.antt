@@ -48,7 +48,8 @@ use Rattle.law_commit.specs.Phases.Stamped.{SessionStamped, SittingStamped, forc
 use Rattle.law_commit.specs.Views.{Sight, sight_by, sight_in, sight_opened, sight_through}
 use Rattle.law_commit.proofs.OfPhases.GuardLoads.{LoadsBy, others_stay, stay}
 use Rattle.law_commit.proofs.OfPhases.SessionLoads.{called_loads, called_other, session_loads, session_other}
-use Rattle.law_commit.proofs.OfPhases.SessionStamps.{IsPlain, begins_stamped, given_stamped, next_stamped, sitting_driven}
+use Rattle.law_commit.proofs.OfPhases.SessionStamps.{begins_stamped, given_stamped, next_stamped, sitting_driven}
+use Rattle.law_commit.proofs.Sights.{IsPlain}
 
 -- ---- who catches up asks for no slot
 abbrev AsksNoSlot : {A : Type 0} → Ask A → Type 0

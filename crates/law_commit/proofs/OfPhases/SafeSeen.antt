@@ -35,7 +35,7 @@ use Rattle.law_commit.specs.Views.{Sight, View, sight_found, sight_in, sight_of}
 use Rattle.law_commit.proofs.OfPhases.GuardLoads.{IsBlind, rest_blind}
 use Rattle.law_commit.proofs.OfPhases.LifeStamps.{life_stamped}
 use Rattle.law_commit.proofs.OfPhases.SessionLoads.{fits_blind, sitting_blind}
-use Rattle.law_commit.proofs.OfPhases.SessionStamps.{IsPlain}
+use Rattle.law_commit.proofs.Sights.{IsPlain}
 
 -- a machine that loads nothing goes by what was loaded
 blind_goes : (machine : EpochMachine) → IsBlind machine → goes_by OfPhase machine ≡ true

@@ -64,7 +64,8 @@ use Rattle.law_refine.specs.Below.law_world.GuardSessions.Steps.{GoesOn, Onward,
 use Rattle.law_refine.specs.Below.law_world.GuardSessions.Tries.{append_events, is_for_entry, publish_events, reserved_events, try_events, try_likeness_at}
 use Rattle.law_commit.specs.Phases.Stamped.{driven}
 use Rattle.law_commit.proofs.OfPhases.GuardLoads.{IsBlind, LoadsBy, blind_moved, idle_drives, own_moved, rest_blind, stay, tails_through}
-use Rattle.law_commit.proofs.OfPhases.SessionStamps.{IsPlain, sitting_driven}
+use Rattle.law_commit.proofs.OfPhases.SessionStamps.{sitting_driven}
+use Rattle.law_commit.proofs.Sights.{IsPlain}
 
 -- ---- they are none of another session
 module _ (a b : ℕ) (other : Some a ≢ Some b) where

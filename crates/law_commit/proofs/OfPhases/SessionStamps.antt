@@ -19,16 +19,13 @@ use Rattle.law_refine.specs.Below.fkv_session.SessionRun.{begins}
 use Rattle.law_commit.specs.Phases.Stamped.{CatchStamped, IsOf, IsUnderWay, SessionStamped, SittingStamped, driven, force_by, loads_by}
 use Rattle.law_commit.specs.Views.{Sight, View, loads_phase, sight_left, sight_moved, with_loaded}
 use Rattle.law_commit.proofs.Goes.{BeginsToCatch, Goes, HasBegun, calm_goes, call_calm, given_on, moves_on}
+use Rattle.law_commit.proofs.Sights.{IsPlain}
 use Rattle.law_commit.proofs.OfPhases.CatchStamps.{asks_under_way, done_stamped, replies_keep}
 
 -- the machine of the epochs that a session drives while it catches up
 abbrev pub sitting_driven : SessionState → Sitting → Option EpochMachine
 sitting_driven s (CatchesUp cause) = driven s.catching s.catching.step
 sitting_driven s step = None
-
-abbrev pub IsPlain : Sitting → Type 0
-IsPlain (CatchesUp cause) = ⊥
-IsPlain step = Unit {0}
 
 module _ (l f : Loads) where
   -- where it begins to catch up

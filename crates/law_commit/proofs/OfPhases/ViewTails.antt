@@ -8,6 +8,7 @@ use Rattle.fkv_epoch.specs.EpochWorld.{EpochMachine, Loads, sight_of, with_load}
 use Rattle.law_refine.specs.Below.fkv_flush.GuardPhase.{KeepsTails, PhaseTails, phase_tails, tails_after, with_tail}
 use Rattle.law_refine.specs.Below.fkv_flush.GuardWorld.{GuardEvent, GuardWorld, guard_run, levels}
 use Rattle.law_refine.specs.Below.fkv_flush.Guarded as flush
+use Rattle.law_refine.specs.Below.fkv_log.Reserved.{tail_of}
 use Rattle.fkv_plane.specs.declared.places.Places.{Places}
 use Rattle.fkv_plane.specs.declared.places.SharedWord.TheVariants as one
 use Rattle.fkv_plane.specs.Asked.{word_at}
@@ -52,9 +53,6 @@ by_tails its = record { view = tail_stamped its.view; coming = coming_tail_stamp
 -- words where the epoch reads as the tail does
 abbrev tail_words : ℕ → List ℕ
 tail_words tail = tail ∷ tail ∷ tail ∷ tail ∷ []
-
-abbrev tail_of : List ℕ → ℕ
-tail_of words = word_at words (shared_place one.Tail)
 
 -- it moves as a sight does where such words stand
 module _ (words : List ℕ) where

@@ -43,7 +43,7 @@ use Rattle.law_order.specs.Images.Named.{AreTriplesOf, slot_of}
 use Rattle.law_order.proofs.OfImages.Begun.{AreWritesOf, BeginsSo, HasBegunFor, IsLast, IsLeft, IsWriting, IsWritten, Lists, Uses, UsesOwn, fresh, is_called, is_opened, left_after, plain, writes_on}
 use Rattle.law_order.proofs.OfImages.CopiedLength.{copied_length}
 use Rattle.law_log.specs.Trace.{IsIn}
-use Rattle.law_commit.proofs.Below.law_world.OfStanding.Runs.{happens_at, happens_so}
+use Rattle.law_commit.proofs.Below.law_world.OfStanding.Runs.{calls_at, happens_at, happens_so}
 use Rattle.law_commit.specs.Below.law_world.Standing.CallsMade.{calls_of}
 use Rattle.law_commit.specs.Below.law_world.Standing.Standing.{Standing, is_at_writes, is_writing_after, standing_after, triples_used}
 
@@ -94,10 +94,6 @@ same_last s a step e calm (inl same) = sym same.0
 same_last s a step e calm (inr other) = let over = other.2 in absurd (not_finishing step calm (sym e ∙ over.finishes))
 
 -- the calls of an event, with the step told beside it
-abbrev calls_at : Shape → KeeperState → Keeping → KeeperEvent → List Call
-calls_at shape s step (Calls done bytes) = keeping_calls shape s step done
-calls_at shape s step event = []
-
 calls_so : (shape : Shape) (s : KeeperState) (event : KeeperEvent) → calls_at shape s s.step event ≡ calls_of shape s event
 calls_so shape s BeginsTurn = refl
 calls_so shape s (BeginsCommit kind) = refl

@@ -28,9 +28,10 @@ use Rattle.law_order.specs.Reads.Reads.{SessionReadings, readings_of, AllWait, S
 use Rattle.law_order.proofs.OfReads.Answers.{AreSame, same_wait, same_sits, tell, AllCallOther, told_reads, both_other, end_lines, end_calls, end_each, end_sits}
 use Rattle.law_order.proofs.OfReads.Coming.{IsInHandAs, Comes, IsFreshly, begun_comes}
 use Rattle.law_order.proofs.OfReads.LifeNumbers.{others_given, others_waiting, others_hand, begins_other, goes_other, same_number, effects_behind, begins_trace, goes_trace}
-use Rattle.law_order.proofs.OfReads.Numbers.{IsOwn, own_below, own_same, Numbered, with_called, called_hand}
+use Rattle.law_order.proofs.OfReads.Numbers.{IsOwn, own_below, own_same, Numbered, called_hand}
 use Rattle.law_order.proofs.OfReads.Steps.{StepFacts, steps_by, steps_touch}
 use Rattle.law_order.proofs.OfReads.Touched.{untouched}
+use Rattle.law_commit.proofs.Below.law_refine.OfCalls.Called.{with_called}
 use Rattle.law_commit.proofs.Below.law_refine.OfCalls.Telling.{is_of_keeper, AreOfKeeper}
 use Rattle.law_order.proofs.OfReads.Turns.{Begins, Goes, moved_to}
 use Rattle.law_commit.proofs.Below.law_refine.OfCalls.Life.{AreOthers, keepers_other}

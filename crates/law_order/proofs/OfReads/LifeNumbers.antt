@@ -18,7 +18,8 @@ use Rattle.law_commit.proofs.Below.fkv_world.Shown.{is_over}
 use Rattle.law_commit.proofs.Below.law_world.OfRuns.Added.{trace_so}
 use Rattle.law_commit.specs.Below.law_refine.Events.Lines.{read_in_hand, read_waiting}
 use Rattle.law_order.specs.Reads.Reads.{is_given}
-use Rattle.law_order.proofs.OfReads.Numbers.{Numbered, none_numbered, other_given, other_waiting, other_hand, other_numbered, with_called, called_numbered, answered_numbered}
+use Rattle.law_order.proofs.OfReads.Numbers.{Numbered, none_numbered, other_given, other_waiting, other_hand, other_numbered, called_numbered, answered_numbered}
+use Rattle.law_commit.proofs.Below.law_refine.OfCalls.Called.{with_called}
 use Rattle.law_commit.proofs.Below.law_refine.OfCalls.Telling.{AreOfKeeper}
 use Rattle.law_order.proofs.OfReads.Turns.{Begins, Goes, Turn, Rests, BeginsOne, GoesOne, moved_to, turn_of}
 use Rattle.law_commit.proofs.Below.law_refine.OfCalls.Life.{AreOthers, both_others, end_other, keepers_other}

@@ -9,7 +9,7 @@ use Rattle.law_commit.specs.Below.fkv_session.SessionRun.{Telling}
 use Rattle.law_commit.specs.Below.fkv_world.Past.{Traced, TraceEvent, Called, Answered}
 use Rattle.law_commit.specs.Below.law_refine.Events.Lines.{CallMade, call_made, last_call, number_of_call, read_in_hand, is_ticket, gives_ticket, read_waiting}
 use Rattle.law_order.specs.Reads.Reads.{is_given}
-use Rattle.law_commit.proofs.Below.law_refine.OfCalls.Called.{is_other}
+use Rattle.law_commit.proofs.Below.law_refine.OfCalls.Called.{is_other, with_called}
 
 -- ---- the number of a call
 abbrev pub is_call_of : ℕ → TraceEvent → Type 0
@@ -102,9 +102,6 @@ other_numbered number it trace busy other its =
 -- ---- the session's own calls and answers
 pub same_number : (n : ℕ) → (n == n) ≡ true
 same_number n = grind (arith, nat_tests)
-
-abbrev pub with_called : ℕ → ℕ → Call → List Traced → List Traced
-with_called effects number its trace = record { its = Called number its; effects = effects } ∷ trace
 
 abbrev pub with_answered : ℕ → ℕ → Telling → List Traced → List Traced
 with_answered effects number its trace = record { its = Answered number its; effects = effects } ∷ trace

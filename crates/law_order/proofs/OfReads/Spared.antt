@@ -26,10 +26,11 @@ use Rattle.law_commit.proofs.Below.fkv_world.Shown.{is_over}
 use Rattle.law_log.specs.Ghosts.{GhostEvent, Fixes, Tells}
 use Rattle.law_order.specs.Ordered.Met.{PollsTryNoRead}
 use Rattle.law_order.proofs.OfReads.LifeNumbers.{begins_other, begins_trace, effects_behind, goes_other, goes_trace, life_numbered, others_hand, same_number}
-use Rattle.law_order.proofs.OfReads.Numbers.{IsOwn, called_hand, own_below, own_same, with_called}
+use Rattle.law_order.proofs.OfReads.Numbers.{IsOwn, called_hand, own_below, own_same}
 use Rattle.law_order.proofs.OfReads.Settled.{AllSpare, both_spare, lines_spare, touch_spares}
 use Rattle.law_order.proofs.OfReads.Touched.{attempt_touch}
 use Rattle.law_order.proofs.OfReads.Turns.{BeginsOne, Goes, Begins, GoesOne, Rests, Turn, moved_to, turn_of}
+use Rattle.law_commit.proofs.Below.law_refine.OfCalls.Called.{with_called}
 use Rattle.law_commit.proofs.Below.law_refine.OfCalls.Life.{AreOthers, keepers_other}
 use Rattle.law_commit.specs.Below.law_refine.Events.GhostEvents.{fixed_ghosts, ghost_events, mapped, moved_ghosts, own_ghosts, safe_at, serials_in}
 use Rattle.law_commit.specs.Below.law_refine.Events.Lines.{last_call, lines_added, number_of_call, read_in_hand, read_waiting}

@@ -1,6 +1,6 @@
 -- No event of a life writes a word of a frame but a step of a session that may write it next.
 use Rattle.std.proofs.Common.{◌≡◌, ◌≢◌, ◌⊎◌, ℕ, ◌<◌, ◌≤◌, ◌∙◌, inl, inr, refl, sym, ap, subst, arith, Bool, true, false, List, [], ◌∷◌}
-use Rattle.std.specs.Prelude.{Option, Some, None, ⊤, slice_get, nat_lt, nat_le, not, ◌==◌, ◌&&◌, if◌then◌else◌}
+use Rattle.std.specs.Prelude.{Option, Some, None, slice_get, nat_lt, nat_le, not, ◌==◌, ◌&&◌, if◌then◌else◌}
 use Rattle.std.proofs.lemmas.Bool.Decides.{nat_tests}
 use Rattle.fkv_map.specs.declared.operations.Call.{Call}
 use Rattle.fkv_epoch.specs.EpochWorld.{ToScan, is_at_rest, own_epoch}
@@ -31,7 +31,7 @@ use Rattle.law_world.specs.Below.fkv_world.Runs.{World, happens, read_by_keeper,
 use Rattle.law_world.specs.Below.fkv_world.World.{Event, Calls, Moves, Commits, Turns, KeeperMoves, Crashes, Now, seat_at, near}
 use Rattle.law_world.specs.Guarded.GuardEvents.{called_events, moved_events, keeper_number, life_events, guard_events}
 use Rattle.law_world.specs.Guarded.Shows.{IsOpened, Shows, seen_by_guard}
-use Rattle.law_world.proofs.OfGuarded.OneStep.{IsStep}
+use Rattle.law_world.proofs.OfGuarded.OneStep.{IsQuiet, IsStep}
 use Rattle.law_world.proofs.OfGuarded.Permitted.{are_permitted}
 use Rattle.law_world.proofs.OfGuarded.Worlds.{happens_shows, life_shows}
 use Rattle.law_world.proofs.OfGuarded.Kept.{is_steps}
@@ -42,12 +42,6 @@ use Rattle.law_refine.proofs.OfRecords.FrameWords.{FrameWord, sitting_word}
 use Rattle.law_refine.proofs.OfRecords.Writers.{IsFrameWork, frame_work, change_none}
 
 -- ---- the first event of a step alone may write a word
-abbrev IsQuiet : GuardEvent → Type 0
-IsQuiet (Begins actor task) = ⊤
-IsQuiet (Resumes actor) = ⊤
-IsQuiet (Publishes session) = ⊤
-IsQuiet event = ⊥
-
 quiet_same : (w : GuardWorld) (event : GuardEvent) (place : ℕ) → IsQuiet event → word_at (guard_happens w event).now.words place ≡ word_at w.now.words place
 quiet_same w (Begins a task) place quiet = unwritten w (Begins a task) place tt
 quiet_same w (Resumes a) place quiet = unwritten w (Resumes a) place tt

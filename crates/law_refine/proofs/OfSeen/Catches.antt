@@ -25,6 +25,7 @@ use Rattle.fkv_plane.specs.Places.{shared_place}
 use Rattle.law_world.specs.Below.fkv_session.Catching.{Catching}
 use Rattle.law_world.specs.Below.fkv_session.Catching.TheVariants.{Ended, Refreshes, Protects, StoresCut, StoresOwing, Latches, Finishes}
 use Rattle.law_world.specs.Below.fkv_session.CatchingUp.{CatchState, catching_ask, catching_next, cuts, enters_prepare, finish_ledto, finishes, is_same_version, latch_begun, latch_ledto, latch_wanted, latches, protect_ledto, refresh_ledto, seen_after, takes_up}
+use Rattle.law_world.specs.GuardSessions.Rows.{IsProtecting}
 use Rattle.law_local.specs.Tries.TryRows.{head_in}
 use Rattle.fkv_words.specs.declared.phase_words.PhaseSaid.{PhaseSaid}
 use Rattle.fkv_words.specs.declared.phase_words.PhaseSaid.TheVariants.{Says, Spoiled}
@@ -66,10 +67,6 @@ RefreshSees P (refresh.HasLoaded epoch values) = P values.head.0
 RefreshSees P step = ⊤
 
 -- who protects itself goes on to its load of the head
-abbrev IsProtecting : Protecting → Type 0
-IsProtecting protect.AtRest = ⊥
-IsProtecting step = ⊤
-
 abbrev pub LoadsSee : (ℕ → Type 0) → CatchState → Catching → Type 0
 LoadsSee P c Refreshes = RefreshSees P c.refreshing
 LoadsSee P c Protects = IsProtecting c.protecting

@@ -49,7 +49,7 @@ happens_at shape p s step (Replies reply granted) = keeping_next shape p s step 
 happens_at shape p s step (Gets action) = keeping_given shape p s step action
 happens_at shape p s step (Calls done bytes) = keeping_called shape p s step done bytes
 
-abbrev calls_at : Shape → KeeperState → Keeping → KeeperEvent → List Call
+abbrev pub calls_at : Shape → KeeperState → Keeping → KeeperEvent → List Call
 calls_at shape s step (Calls done bytes) = keeping_calls shape s step done
 calls_at shape s step event = []
 

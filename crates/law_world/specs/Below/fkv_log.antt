@@ -4,6 +4,7 @@ pub use Rattle.fkv_log.specs.Invalidating
 pub use Rattle.fkv_log.specs.Loading
 pub use Rattle.fkv_log.specs.Moving
 pub use Rattle.fkv_log.specs.Regions
+pub use Rattle.fkv_log.specs.Reserved
 pub use Rattle.fkv_log.specs.Reserving
 pub use Rattle.fkv_log.specs.Shifting
 pub use Rattle.fkv_log.specs.Turning
