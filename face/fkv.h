@@ -319,10 +319,15 @@ int32_t fkv_wake(fkv_session *session, fkv_seen *seen);
 
 /*
  * The serial up to which this session's updates are in a commit that is whole in the file: a crash from now on keeps them. 0;
- * -FKV_ASLEEP. No call tells the last serial that was given. Each update tells its own, and behind an opening a session goes on with
- * the serial behind its point.
+ * -FKV_ASLEEP.
  */
 int32_t fkv_durable(fkv_session *session, uint64_t *serial);
+
+/*
+ * The last serial that the session has given, 0 if it has given none: its next update has the one behind it. Behind an opening that is
+ * its point. It is told of a session that sleeps too. 0; -FKV_NO_SESSION behind fkv_end_session.
+ */
+int32_t fkv_serial(fkv_session *session, uint64_t *serial);
 
 /* Puts the session to sleep and gives the handle up. 0; -FKV_PENDING_LEFT. Behind a 0, fkv_free_session. */
 int32_t fkv_end_session(fkv_session *session);

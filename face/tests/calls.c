@@ -127,6 +127,8 @@ static void updates(void) {
     fkv_session *session = &it.sessions[0];
     WANTS("the number of a new store", it.told.number, 0);
     WANTS("its sessions", it.shape.sessions, SESSIONS);
+    WANTS("the last serial", fkv_serial(session, &serial), 0);
+    WANTS("that serial", serial, 0);
     WANTS("a read of no value", fkv_get(session, 7, &value), FKV_NONE);
     WANTS("an upsert", fkv_upsert(session, 7, 10, &told), FKV_DONE);
     WANTS("its serial", told.serial, it.points[0] + 1);
@@ -144,6 +146,8 @@ static void updates(void) {
     WANTS("that serial", serial, 0);
     WANTS("waking", fkv_wake(session, &seen), -FKV_AWAKE);
     WANTS("sleeping", fkv_sleep(session), 0);
+    WANTS("the last serial", fkv_serial(session, &serial), 0);
+    WANTS("that serial", serial, 4);
     WANTS("a read asleep", fkv_get(session, 7, &value), -FKV_ASLEEP);
     WANTS("sleeping again", fkv_sleep(session), -FKV_ASLEEP);
     WANTS("waking", fkv_wake(session, &seen), 0);
@@ -305,6 +309,8 @@ static void reopening(uint32_t keys) {
     it = open_bytes(device.synced, device.synced_size, keys);
     WANTS("the number of the commit", it.told.number, 2);
     WANTS("its points", it.points[0] + it.points[1], KEYS);
+    WANTS("the last serial", fkv_serial(&it.sessions[1], &serial), 0);
+    WANTS("that serial", serial, it.points[1]);
     for (uint64_t key = 0; key < KEYS; key++) WANTS("a value", value_of(&it, key_of(keys, key)), key);
     close_all(&it);
     it = open_bytes(device.synced, device.synced_size, keys == FKV_SPREAD ? FKV_SPREAD_ALREADY : FKV_SPREAD);

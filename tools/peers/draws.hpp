@@ -41,7 +41,7 @@ class Draws {
         std::uniform_real_distribution<double> unit(0, 1);
         for (uint32_t &drawn : drawn_) {
             const uint64_t number = zipf ? std::min<uint64_t>(std::lower_bound(below.begin(), below.end(), unit(random)) - below.begin(), keys - 1) : random() % keys;
-            drawn = number | (random() % (1 << chance_bits)) << number_bits;
+            drawn = (zipf ? scattered(number) : number) | (random() % (1 << chance_bits)) << number_bits;
         }
     }
 
@@ -53,6 +53,10 @@ class Draws {
     uint64_t number(uint32_t drawn, uint64_t shift) const { return ((drawn & ((1u << number_bits) - 1)) + shift) & (keys_ - 1); }
 
   private:
+    // A key's number by its rank, one to one, as YCSB scatters its ranks: else the keys that are drawn most would be those loaded first, and lie
+    // side by side.
+    uint64_t scattered(uint64_t rank) const { return rank * 0x9e3779b1 & (keys_ - 1); }
+
     // YCSB's exponent. The n-th share is the chance of a number up to n.
     static std::vector<double> shares(uint64_t keys) {
         std::vector<double> below(keys);

@@ -48,7 +48,7 @@ struct Settings {
     Words own_sizes;                                       // sizes of which fkv's cells with commits, and of single calls, are played; all where nothing is said
     Words only;                                            // the peers that take part; all where nothing is said
     double cell = 0.03, commit_cell = 0.13, timed_cell = 0.13, until = 470;
-    unsigned rounds = 3, commit_rounds = 3;
+    unsigned rounds = 3, commit_rounds = 3, timed_rounds = 3;
 };
 
 Words split(const std::string &text) {
@@ -68,7 +68,7 @@ Settings read(const Words &words) {
         {"timed_threads", &settings.timed_threads}, {"beside_mixes", &settings.beside_mixes}, {"beside_threads", &settings.beside_threads}, {"own_sizes", &settings.own_sizes},
         {"only", &settings.only}};
     std::map<std::string, double *> numbers{{"cell", &settings.cell}, {"commit_cell", &settings.commit_cell}, {"timed_cell", &settings.timed_cell}, {"until", &settings.until}};
-    std::map<std::string, unsigned *> counts{{"rounds", &settings.rounds}, {"commit_rounds", &settings.commit_rounds}};
+    std::map<std::string, unsigned *> counts{{"rounds", &settings.rounds}, {"commit_rounds", &settings.commit_rounds}, {"timed_rounds", &settings.timed_rounds}};
     for (const std::string &word : words) {
         const size_t sign = word.find('=');
         const std::string name = word.substr(0, sign), value = sign == word.npos ? "" : word.substr(sign + 1);
@@ -116,7 +116,7 @@ class Run {
     void play() {
         std::vector<Board> boards;
         for (const std::string &size : settings_.sizes) boards.push_back(laid(std::stoull(size)));
-        for (unsigned round = 0; round < std::max(settings_.rounds, settings_.commit_rounds); round++)
+        for (unsigned round = 0; round < std::max({settings_.rounds, settings_.commit_rounds, settings_.timed_rounds}); round++)
             for (Board &board : boards)
                 for (const std::string &spread : settings_.spreads) play(board, spread == "zipf", round);
         std::cout << "{\"skipped\": " << skipped_ << ", \"seconds\": " << seconds_of(CLOCK_MONOTONIC) - begun_ << "}" << std::endl;
@@ -147,9 +147,8 @@ class Run {
 
     void play(Board &board, bool zipf, unsigned round) {
         if (round < settings_.rounds) play_plain(board, zipf, round);
-        if (round >= settings_.commit_rounds) return;
-        play_committed(board, zipf, round);
-        play_timed(board, zipf, round);
+        if (round < settings_.commit_rounds) play_committed(board, zipf, round);
+        if (round < settings_.timed_rounds) play_timed(board, zipf, round);
     }
 
     // What follows each other in time are the peers of one cell.

@@ -1,15 +1,19 @@
 -- What a session's exports tell.
-use Rattle.std.specs.Prelude.{◌≡◌, ℕ, ℤ}
+use Rattle.std.specs.Prelude.{◌≡◌, ℕ, ℤ, Result, Ok, Err, pos}
+use Rattle.fkv_base.specs.declared.faults.Fault.{Fault}
+use Rattle.fkv_base.specs.declared.numbers.Serial.{Serial}
 use Rattle.fkv_map.specs.declared.operations.Call.{Call}
 use Rattle.fkv_map.specs.declared.operations.Call.TheVariants as call
 use Rattle.fkv_map.specs.declared.operations.Op.{Op}
 use Rattle.fkv_map.specs.declared.operations.Op.TheVariants as op
 use Rattle.fkv_handles.specs.Below.fkv_world.Runs.{World}
 use Rattle.fkv_handles.specs.declared.sessions.Session.{Session}
-use Rattle.fkv_handles.specs.Handles.{Opening}
+use Rattle.fkv_handles.specs.Handles.{Opening, sitting_of}
+use Rattle.fkv_handles.specs.Sittings.{IsLastSerial}
 use Rattle.fkv_face.specs.declared.sessions.Seen.{Seen}
 use Rattle.fkv_face.specs.declared.sessions.Update.{Update}
 use Rattle.fkv_face.specs.declared.told.Numbers.{Numbers}
+use Rattle.fkv_face.specs.Numbers.{fault_told}
 pub use Rattle.fkv_face.specs.Told.{IsToldIn, HasAnswered}
 pub use Rattle.fkv_handles.specs.Below.fkv_table.Planes.{opening_of}
 pub use Rattle.fkv_map.specs.declared.operations.Call.TheVariants.{Op as Operation}
@@ -44,6 +48,11 @@ durable = call.Durable
 abbrev pub poll : Call
 poll = call.Poll
 
+-- a serial as C is told it, or minus the number of the fault, and 0
+abbrev pub IsSerialAs : Result Serial Fault → ℤ → ℕ → Type 0
+IsSerialAs (Ok serial) result number = (result ≡ pos 0) × (number ≡ serial.0)
+IsSerialAs (Err why) result number = (result ≡ fault_told why) × (number ≡ 0)
+
 module _ (at : Opening → World) where
   -- a call that tells nothing but its result
   abbrev pub IsPlain : Session → Call → ℤ → Session → Type 0
@@ -52,6 +61,10 @@ module _ (at : Opening → World) where
   -- one that tells a number
   abbrev pub IsOneNumber : Session → Call → ℤ → ℕ → Session → Type 0
   IsOneNumber before its result number after = (told : Numbers) × IsToldIn at before its told after × (result ≡ told.result) × (number ≡ told.first)
+
+  -- the last serial that the session has given
+  abbrev pub IsSerialTold : Session → ℤ → ℕ → Type 0
+  IsSerialTold session result number = (its : Result Serial Fault) × IsLastSerial at (sitting_of session) its × IsSerialAs its result number
 
   -- a read
   abbrev pub IsRead : Session → ℕ → ℤ → ℕ → Session → Type 0

@@ -2,8 +2,9 @@
 ghost use Rattle.std.specs.Prelude.{◌≡◌};
 ghost use Rattle.fkv_face.specs.Calls as says;
 
+use crate::answers::refused;
 use crate::held_session::HeldSession;
-use crate::told::{Numbers, told_by};
+use crate::told::{DONE, Numbers, told_by};
 use fkv_base::{Key, Value};
 use fkv_disk::Device;
 use fkv_map::{Call, Op};
@@ -134,6 +135,24 @@ pub extern "C" fn fkv_wake(session: &mut HeldSession, seen: &mut Seen) -> i32
     seen.phase = its.first;
     seen.version = its.second;
     its.result
+}
+
+/// The last serial that the session has given, 0 if it has given none: a store that is opened anew goes on behind its point. `NoSession`, and then 0.
+#[unsafe(no_mangle)]
+pub extern "C" fn fkv_serial(session: &mut HeldSession, serial: &mut u64) -> i32
+    ensures told { says.IsSerialTold (says.opening_of ⟦<Posted<'static> as Device>⟧.seen) session.old.value result serial.new }
+    ensures same { session.new.value ≡ session.old.value }
+{
+    match session.lent().serial() {
+        Ok(its) => {
+            *serial = its.0;
+            DONE
+        }
+        Err(why) => {
+            *serial = 0;
+            refused(why)
+        }
+    }
 }
 
 /// The last serial of the session that a finished commit keeps: its updates up to there survive a crash from now on.

@@ -8,11 +8,11 @@ pub use Rattle.fkv_handles.specs.Handles.{IsGiven, IsKeeperGiven, IsToldHonestly
 pub use Rattle.fkv_handles.specs.Kept.{IsAskedBy, IsToldBy, IsTurnedBy}
 pub use Rattle.fkv_handles.specs.Laid.{laid_call, laid_op}
 pub use Rattle.fkv_handles.specs.Opens.{AreFirst, IsFirst, IsOpenedFrom, IsOpeningRefused, IsRecovered, sitting_at}
-pub use Rattle.fkv_handles.specs.Sittings.{IsToldCall, IsToldCallOf, finished_in}
+pub use Rattle.fkv_handles.specs.Sittings.{IsLastSerial, IsToldCall, IsToldCallOf, finished_in}
 pub use Rattle.fkv_handles.specs.Watches.{IsAskedToCommit, IsHonestlyTold, IsTold, IsTurned, keeper_due}
 pub use Rattle.fkv_handles.specs.declared.refusals.Refusal.TheVariants.{HandleOut}
 pub use Rattle.fkv_map.specs.declared.operations.Call.TheVariants.{Op}
 pub use Rattle.fkv_opening.specs.Opened.{IsStoreOf}
 pub use Rattle.fkv_threads.specs.Below.fkv_table.Planes.{opening_of}
 pub use Rattle.fkv_threads.specs.Said.{EachAt, HasBegun, IsAfterSeen, IsKeeperReady}
-pub use Rattle.std.specs.Prelude.{Err, IfErr, IfOk, Ok, OnErr, OnOk, length, map}
+pub use Rattle.std.specs.Prelude.{Err, IfErr, IfOk, Ok, OnErr, OnOk, Some, length, map}

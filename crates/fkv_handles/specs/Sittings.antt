@@ -1,6 +1,8 @@
 -- The calls of a session that a handle holds.
-use Rattle.std.specs.Prelude.{◌≡◌, List, [], Option, None, Some}
+use Rattle.std.specs.Prelude.{◌≡◌, List, [], Option, None, Some, Result, Ok, Err}
+use Rattle.fkv_base.specs.declared.faults.Fault.{Fault}
 use Rattle.fkv_base.specs.declared.faults.Fault.TheVariants.{NoSession}
+use Rattle.fkv_base.specs.declared.numbers.Serial.{Serial}
 use Rattle.fkv_map.specs.declared.operations.Call.{Call}
 use Rattle.fkv_session.specs.Answers.{IsAnswerTold}
 use Rattle.fkv_session.specs.declared.answers.Answer.{Answer}
@@ -17,6 +19,13 @@ finished_in (Some s) = s.finished
 finished_in None = []
 
 module _ {K : Type 0} (at : K → World) where
+  -- The last serial that the session has given. A handle that was ended answers `NoSession`.
+  abbrev pub IsLastSerial : Option (Sitting K) → Result Serial Fault → Type 0
+  IsLastSerial (Some s) (Ok serial) = said.HasGiven at s.key s.seen s.number serial.0
+  IsLastSerial (Some s) (Err why) = ⊥
+  IsLastSerial None (Err why) = why ≡ NoSession
+  IsLastSerial None (Ok serial) = ⊥
+
   -- The session has run this call at its table, and all that the thread law says of a call is so of it.
   pub record IsCallOf (s : Sitting K) (call : Call) (answer : Answer) (s' : Sitting K) : Type 0 where
     pub number : s'.number ≡ s.number

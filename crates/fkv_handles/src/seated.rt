@@ -2,7 +2,7 @@
 ghost use Rattle.std.specs.Prelude.{◌≡◌, ◌≤◌};
 ghost use Rattle.fkv_handles.specs.Said as said;
 
-use fkv_base::{Fault, Key};
+use fkv_base::{Fault, Key, Serial};
 use fkv_disk::Device;
 use fkv_map::{Call, Op};
 use fkv_posted::Posted;
@@ -68,6 +68,16 @@ impl Seated {
         ensures fits { said.length result.now ≤ said.max_pending }
     {
         self.session.finished()
+    }
+
+    /// The last serial that the session has given, 0 if it has given none.
+    pub fn serial(&self) -> Result<Serial, Fault>
+        ensures given { said.IsLastSerial (said.opening_of ⟦<Posted<'static> as Device>⟧.seen) (said.Some self.now) result }
+    {
+        match &self.pass {
+            Some(pass) => Ok(self.session.serial(&self.table, pass)),
+            None => Err(Fault::NoSession),
+        }
     }
 
     /// Fetches the cache line of the key's bucket, for an operation that comes soon. Nothing changes.

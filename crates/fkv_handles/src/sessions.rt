@@ -3,7 +3,7 @@ ghost use Rattle.std.specs.Prelude.{◌≡◌, ◌≤◌, None};
 ghost use Rattle.fkv_handles.specs.Said as said;
 
 use crate::seated::Seated;
-use fkv_base::{Fault, Key};
+use fkv_base::{Fault, Key, Serial};
 use fkv_disk::Device;
 use fkv_map::{Call, Op};
 use fkv_posted::Posted;
@@ -65,6 +65,17 @@ impl Session {
         match &self.seated {
             Some(seated) => seated.finished(),
             None => &[],
+        }
+    }
+
+    /// The last serial that the session has given, 0 if it has given none. A commit keeps the session's updates up to one of its serials. `NoSession` once
+    /// the handle is ended.
+    pub fn serial(&self) -> Result<Serial, Fault>
+        ensures given { said.IsLastSerial (said.opening_of ⟦<Posted<'static> as Device>⟧.seen) (said.sitting_of self.now) result }
+    {
+        match &self.seated {
+            Some(seated) => seated.serial(),
+            None => Err(Fault::NoSession),
         }
     }
 

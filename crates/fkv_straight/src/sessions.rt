@@ -1,6 +1,6 @@
 //! A session's machine, with what its straight calls go by.
 ghost use Rattle.std.specs.Prelude.{◌≡◌, ◌<◌, ◌≤◌, ℕ, IfSome, false, true, length};
-ghost use Rattle.fkv_base.specs.Limits.{max_pending, max_sessions};
+ghost use Rattle.fkv_base.specs.Limits.{last_serial, max_pending, max_sessions};
 ghost use Rattle.fkv_map.specs.declared.operations.Call.TheVariants as call;
 ghost use Rattle.fkv_epoch.specs.Claiming.{takes_action};
 ghost use Rattle.fkv_plane.specs.declared.asks.Ask.TheVariants.{Done};
@@ -19,6 +19,7 @@ use crate::handing::catch_up;
 use crate::lines::Line;
 use crate::polling::poll_by;
 use crate::refreshing::refresh;
+use fkv_base::Serial;
 use fkv_map::{Call, Op};
 use fkv_plane::{Action, Ask};
 use fkv_session::{Finished, Session, Told, law_of_standing};
@@ -82,6 +83,14 @@ impl StraightSession {
         ensures fits { length result.now ≤ max_pending }
     {
         self.machine.finished()
+    }
+
+    /// The last serial that the session has given, 0 if it has given none.
+    pub fn serial(&self) -> Serial
+        ensures value { result.0 ≡ self.now.state.serial }
+        ensures within { result.0 ≤ last_serial }
+    {
+        self.machine.serial()
     }
 
     /// Begins a call by the machine, as `fkv_session::Session::begin` does.

@@ -139,6 +139,9 @@ impl Twins {
         if session.finished() != machine.finished() {
             return Err(Wrong::Finished);
         }
+        if session.serial() != machine.serial() {
+            return Err(Wrong::Serials);
+        }
         ways.add(way, call, seen, &trace, told);
         Ok(())
     }

@@ -9,6 +9,7 @@ pub(crate) enum Wrong {
     Endless,
     Asks,
     Finished,
+    Serials,
     Words,
     Keepers,
 }
@@ -22,6 +23,7 @@ impl Wrong {
             Wrong::Endless => "a call doesn't end",
             Wrong::Asks => "they ask, or are told, something else",
             Wrong::Finished => "their polls have finished something else",
+            Wrong::Serials => "their last serials differ",
             Wrong::Words => "a word differs",
             Wrong::Keepers => "one keeper is through, and the other isn't",
         }

@@ -5,6 +5,7 @@ pub mod KeeperMoments
 pub mod KeeperNotes
 pub mod KeeperSettled
 pub mod KeeperSteps
+pub mod KeeperWords
 pub mod Laid
 pub mod LaidWords
 pub mod LineSteps

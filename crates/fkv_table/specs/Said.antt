@@ -1,6 +1,6 @@
 -- What the clauses of `src` say: they take all of it under one name.
 pub use Rattle.atomic_table.specs.Table.{Allows, opening, rest}
-pub use Rattle.fkv_base.specs.Limits.{drain_slots, max_pending}
+pub use Rattle.fkv_base.specs.Limits.{drain_slots, last_serial, max_pending}
 pub use Rattle.fkv_base.specs.declared.commits.CommitKind.TheVariants.{Full, Log}
 pub use Rattle.fkv_base.specs.declared.faults.Fault.TheVariants.{Memory}
 pub use Rattle.fkv_checkpoint.specs.Copying.{IsRoomFor}
@@ -11,7 +11,7 @@ pub use Rattle.fkv_disk.specs.Device.{AtEachMoment}
 pub use Rattle.fkv_keeper.specs.Answers.{is_busy}
 pub use Rattle.fkv_keeper.specs.KeeperAsks.{keeper_asks_left, keeper_due}
 pub use Rattle.fkv_keeper.specs.KeeperRun.{is_in_hand}
-pub use Rattle.fkv_keeper.specs.Keeping.{keeper_ask}
+pub use Rattle.fkv_keeper.specs.Keeping.{keeper_ask, keeper_word_due}
 pub use Rattle.fkv_keeper.specs.Running.{IsBeginTold, IsTurnTold}
 pub use Rattle.fkv_keeper.specs.declared.answers.KeeperTold.TheVariants.{Device as AtDevice}
 pub use Rattle.fkv_map.specs.declared.operations.Call.{Call}
@@ -25,7 +25,7 @@ pub use Rattle.fkv_session.specs.Sessions.{session_ask}
 pub use Rattle.fkv_session.specs.declared.answers.Told.{Told}
 pub use Rattle.fkv_straight.specs.Standing.{asked, leads}
 pub use Rattle.fkv_table.specs.Asks.{step_of}
-pub use Rattle.fkv_table.specs.Calls.{HasCalled, HasStepped, IsAnsweredLast, IsReady, IsToldLast, WasIdle}
+pub use Rattle.fkv_table.specs.Calls.{HasCalled, HasGiven, HasStepped, IsAnsweredLast, IsReady, IsToldLast, WasIdle}
 pub use Rattle.fkv_table.specs.Desks.{Slot, noted, noting, turned}
 pub use Rattle.fkv_table.specs.Events.{may_stand}
 pub use Rattle.fkv_table.specs.KeeperCalls.{HasGoneOn, HasKept, IsBeginning}

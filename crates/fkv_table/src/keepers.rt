@@ -249,6 +249,52 @@ fn step<D: Device>(
     settle(words, seat, machine, next)
 }
 
+/// Loads the record's word that the flush is at: one step of the keeper, which asks for no memory and moves no action.
+#[inline(always)]
+fn load_word<D: Device>(
+    words: &Words<D>,
+    seat: &mut Place<D>,
+    machine: &mut fkv_keeper::Keeper,
+    place: usize,
+)
+    requires table { (seat.old.table_id ≡ words.now.table_id) × said.IsTableOf (said.opening_of D.seen words.now.key) words.now.table_id }
+    requires keeping { said.IsKeeping (said.opening_of D.seen) words.now.key seat.old.me machine.old }
+    requires due { said.keeper_word_due machine.old.places machine.old.state ≡ Some place }
+    ensures seat { (seat.new.table_id ≡ seat.old.table_id) × (seat.new.id ≡ seat.old.id) }
+    ensures keeping { said.IsKeeping (said.opening_of D.seen) words.now.key seat.new.me machine.new }
+    ensures went { said.HasGoneOn seat.old.me.0.seen seat.new.me.0.seen }
+    ensures calls { (said.led (said.plane (said.opening_of D.seen)) (said.opening_of D.seen words.now.key) seat.new.me.0.seen).past.calls ≡ (said.led (said.plane (said.opening_of D.seen)) (said.opening_of D.seen words.now.key) seat.old.me.0.seen).past.calls }
+    ensures fewer { said.keeper_asks_left machine.new.shape machine.new.places machine.new.state < said.keeper_asks_left machine.old.shape machine.old.places machine.old.state }
+    ensures beginning { said.IsBeginning machine.old.state.step → said.IsBeginning machine.new.state.step }
+{
+    let ask: Ask<KeeperTold> = Ask::Load(place);
+    let word = perform::<D, Adding<Ungranted>, KeeperTold>(words, seat, &ask);
+    machine.keep(word);
+}
+
+/// Loads the words of records that the flush is at, one after another: three of each record that a commit keeps. No ask is made for them.
+fn load_words<D: Device>(
+    words: &Words<D>,
+    seat: &mut Place<D>,
+    machine: &mut fkv_keeper::Keeper,
+)
+    requires table { (seat.old.table_id ≡ words.now.table_id) × said.IsTableOf (said.opening_of D.seen words.now.key) words.now.table_id }
+    requires keeping { said.IsKeeping (said.opening_of D.seen) words.now.key seat.old.me machine.old }
+    ensures seat { (seat.new.table_id ≡ seat.old.table_id) × (seat.new.id ≡ seat.old.id) }
+    ensures keeping { said.IsKeeping (said.opening_of D.seen) words.now.key seat.new.me machine.new }
+    ensures went { said.HasGoneOn seat.old.me.0.seen seat.new.me.0.seen }
+    ensures calls { (said.led (said.plane (said.opening_of D.seen)) (said.opening_of D.seen words.now.key) seat.new.me.0.seen).past.calls ≡ (said.led (said.plane (said.opening_of D.seen)) (said.opening_of D.seen words.now.key) seat.old.me.0.seen).past.calls }
+    ensures left { said.keeper_asks_left machine.new.shape machine.new.places machine.new.state ≤ said.keeper_asks_left machine.old.shape machine.old.places machine.old.state }
+    ensures beginning { said.IsBeginning machine.old.state.step → said.IsBeginning machine.new.state.step }
+{
+    'words: loop {
+        let Some(place) = machine.word_due() else {
+            return;
+        };
+        load_word(words, seat, machine, place);
+    }
+}
+
 /// Makes the call of the device that the machine asks for, and adds that to the list.
 pub(crate) fn call_device<D: Device>(
     words: &Words<D>,
@@ -299,6 +345,10 @@ pub(crate) fn word_steps<D: Device>(
             return told;
         }
         ask = step(words, seat, machine, &ask);
+        if machine.word_due().is_some() {
+            load_words(words, seat, machine);
+            ask = machine.ask();
+        }
     }
 }
 

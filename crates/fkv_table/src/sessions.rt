@@ -8,6 +8,7 @@ use crate::lines::{Room, SeatLine};
 use crate::performing::perform;
 use crate::plays::{Adds, First, Next, Notes, Turn};
 use crate::rule::{Pass, Place, Table, Words};
+use fkv_base::Serial;
 use fkv_disk::Device;
 use fkv_map::{Call, Op};
 use fkv_plane::Ask;
@@ -305,6 +306,16 @@ impl Session {
         ensures fits { length result.now ≤ said.max_pending }
     {
         self.machine.finished()
+    }
+
+    /// The last serial that the session has given, 0 if it has given none: those of an opened store begin behind its point. The pass has seen the update
+    /// that was told it.
+    pub fn serial<D: Device>(&self, _table: &Table<D>, _pass: &Pass<D>) -> Serial
+        requires ready { said.IsReady (said.opening_of D.seen) _table.now.table.shared.key _table.now.table.shared.table_id _pass.now.seat.table_id _pass.now.seat.me self.now.machine self.now.desk }
+        ensures given { said.HasGiven (said.opening_of D.seen) _table.now.table.shared.key _pass.now.seat.me.0.seen self.now.machine.seat.number result.0 }
+        ensures within { result.0 ≤ said.last_serial }
+    {
+        self.machine.serial()
     }
 
     /// Runs an operation to its end, as `run` does, and gives what it was told. An `Answer` has room for the list of a poll, which is cleared and copied at

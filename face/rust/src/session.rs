@@ -373,6 +373,13 @@ impl Session {
         Ok(serial)
     }
 
+    /// The last serial that it has given, 0 if it has given none: its next update has the one behind it. Behind an opening that is its point.
+    pub fn serial(&mut self) -> Result<u64, Error> {
+        let mut serial = 0;
+        answer(unsafe { raw::fkv_serial(self.at, &mut serial) })?;
+        Ok(serial)
+    }
+
     /// Settles, asks for a commit, and sleeps until it is finished: a crash from then on keeps all that it has done. What was pending
     /// isn't told. Refused as [`Session::settle`], and by the fault of the commit. It may wait for ever as `settle` does.
     pub fn commit(&mut self) -> Result<(), Error> {

@@ -103,6 +103,7 @@ fn calls_answer_as_a_map() {
     assert_eq!(session.refresh().unwrap().phase, Phase::Rest);
     assert_eq!(session.poll(|_| {}).unwrap(), 0);
     assert_eq!(session.durable().unwrap(), 0);
+    assert_eq!(session.serial().unwrap(), 4);
     assert!(matches!(session.wake(), Err(Error::Awake)));
     session.sleep().unwrap();
     assert!(matches!(session.get(7), Err(Error::Asleep)));

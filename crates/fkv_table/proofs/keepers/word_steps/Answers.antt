@@ -36,5 +36,17 @@ asks-preserved g c = let inv = c.asks.invariant in let did = c.step-ask.ensures 
   asked = did.ask;
 }
 
+pub asks-preserved-then-is_some : goal.asks-preserved-then-is_some
+asks-preserved-then-is_some g c = let inv = c.asks.invariant in let did = c.step-ask.ensures in let on = c.load_words.ensures in record {
+  table = on.seat.0 ∙ (did.seat.0 ∙ inv.table);
+  id = on.seat.1 ∙ (did.seat.1 ∙ inv.id);
+  keeping = on.keeping;
+  went = gone_both (opening_of g.D.Device.seen) _ _ _ (gone_both (opening_of g.D.Device.seen) _ _ _ inv.went did.went) on.went;
+  calls = on.calls ∙ (did.calls ∙ inv.calls);
+  left = omega (arith, on.left, did.fewer, inv.left);
+  beginning = λ b. on.beginning (did.beginning (inv.beginning b));
+  asked = c.ask-ask-then-is_some.ensures;
+}
+
 pub returns-in-Done-clause-told : goal.returns-in-Done-clause-told
 returns-in-Done-clause-told g c = sym c.asks.invariant.asked ∙ c.in-Done.is

@@ -1,0 +1,22 @@
+use Rattle.std.proofs.Common.{◌≡◌, ◌≤◌}
+use Rattle.fkv_keeper.specs.KeeperAsks.{keeper_asks_left}
+use Rattle.fkv_seats.specs.Rule.{led}
+use Rattle.fkv_table.specs.KeeperCalls.{HasGoneOn, IsBeginning}
+use Rattle.fkv_table.specs.Keeps.{IsKeeping}
+use Rattle.fkv_table.specs.Planes.{opening_of, plane}
+use Rattle.fkv_table.proofs.keepers.load_words.Given as goal
+
+abbrev pub invariant-words : goal.invariant-words
+invariant-words g l = record {
+  table : l.seat.table_id ≡ l.fn.seat.table_id;
+  id : l.seat.id ≡ l.fn.seat.id;
+  keeping : IsKeeping (opening_of g.D.Device.seen) l.fn.words.key l.seat.me l.machine;
+  went : HasGoneOn l.fn.seat.me.0.seen l.seat.me.0.seen;
+  calls : (led (plane (opening_of g.D.Device.seen)) (opening_of g.D.Device.seen l.fn.words.key) l.seat.me.0.seen).past.calls
+      ≡ (led (plane (opening_of g.D.Device.seen)) (opening_of g.D.Device.seen l.fn.words.key) l.fn.seat.me.0.seen).past.calls;
+  left : keeper_asks_left l.machine.shape l.machine.places l.machine.state ≤ keeper_asks_left l.fn.machine.shape l.fn.machine.places l.fn.machine.state;
+  beginning : IsBeginning l.fn.machine.state.step → IsBeginning l.machine.state.step;
+}
+
+abbrev pub decreases-words : goal.decreases-words
+decreases-words g l = keeper_asks_left l.machine.shape l.machine.places l.machine.state
