@@ -343,16 +343,29 @@ int32_t fkv_ask_commit(fkv_file *file, uint64_t *ticket) {
     return with_errno(file, result);
 }
 
-int32_t fkv_wait_commit(fkv_file *file, uint64_t ticket, fkv_session *session) {
+/* Waits until the commit is finished, up to a time if there is one: behind that it is FKV_PENDING. */
+static int32_t wait_commit(fkv_file *file, uint64_t ticket, fkv_session *session, const struct timespec *until) {
     fkv_seen seen;
+    bool is_late = false;
     int32_t slept = session ? fkv_sleep(session) : -FKV_ASLEEP;
     if (slept < 0 && slept != -FKV_ASLEEP) return slept;
     pthread_mutex_lock(&file->lock);
-    while (file->finished < ticket && refusal(file) == 0) pthread_cond_wait(&file->news, &file->lock);
+    while (file->finished < ticket && refusal(file) == 0 && !is_late) {
+        if (until) is_late = pthread_cond_timedwait(&file->news, &file->lock, until) == ETIMEDOUT;
+        else pthread_cond_wait(&file->news, &file->lock);
+    }
     int32_t result = file->finished >= ticket ? 0 : refusal(file);
+    if (result == 0 && file->finished < ticket) result = FKV_PENDING;
     pthread_mutex_unlock(&file->lock);
     if (slept == 0) fkv_wake(session, &seen);
     return with_errno(file, result);
+}
+
+int32_t fkv_wait_commit(fkv_file *file, uint64_t ticket, fkv_session *session) { return wait_commit(file, ticket, session, NULL); }
+
+int32_t fkv_wait_commit_for(fkv_file *file, uint64_t ticket, fkv_session *session, uint32_t ms) {
+    struct timespec until = behind(now(), UINT64_C(1000) * ms);
+    return wait_commit(file, ticket, session, &until);
 }
 
 void fkv_nudge(fkv_file *file) {
@@ -378,7 +391,8 @@ static int32_t not_served(fkv_file *file) {
     return with_errno(file, why);
 }
 
-int32_t fkv_settle(fkv_file *file, fkv_session *session, fkv_finished_fn *told, void *user) {
+/* Polls until nothing is pending, up to a time if there is one: behind that something is FKV_PENDING. */
+static int32_t settle(fkv_file *file, fkv_session *session, const struct timespec *until, fkv_finished_fn *told, void *user) {
     fkv_finished finished[FKV_MOST_PENDING];
     fkv_seen seen;
     /*
@@ -390,6 +404,7 @@ int32_t fkv_settle(fkv_file *file, fkv_session *session, fkv_finished_fn *told, 
         int32_t left = fkv_poll(session, finished, FKV_MOST_PENDING, &count);
         for (uint64_t i = 0; i < count && told; i++) told(user, &finished[i]);
         if (left <= 0) return left;
+        if (until && !is_before(now(), *until)) return FKV_PENDING;
         if (polls > 0) {
             int32_t served = not_served(file);
             if (served < 0) return served;
@@ -399,6 +414,13 @@ int32_t fkv_settle(fkv_file *file, fkv_session *session, fkv_finished_fn *told, 
         int32_t result = fkv_refresh(session, &seen);
         if (result < 0) return result;
     }
+}
+
+int32_t fkv_settle(fkv_file *file, fkv_session *session, fkv_finished_fn *told, void *user) { return settle(file, session, NULL, told, user); }
+
+int32_t fkv_settle_for(fkv_file *file, fkv_session *session, uint32_t ms, fkv_finished_fn *told, void *user) {
+    struct timespec until = behind(now(), UINT64_C(1000) * ms);
+    return settle(file, session, &until, told, user);
 }
 
 /* The read that is waited for. */

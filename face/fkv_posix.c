@@ -275,18 +275,20 @@ static fkv_file *new_file(void) {
     if (!file) return NULL;
     file->fd = -1;
     pthread_condattr_t by_clock;
-    if (pthread_mutex_init(&file->lock, NULL)) goto no_lock;
-    if (pthread_cond_init(&file->news, NULL)) goto no_news;
     if (pthread_condattr_init(&by_clock)) goto no_clock;
     pthread_condattr_setclock(&by_clock, CLOCK_MONOTONIC);
-    int failed = pthread_cond_init(&file->work, &by_clock);
+    if (pthread_mutex_init(&file->lock, NULL)) goto no_lock;
+    if (pthread_cond_init(&file->news, &by_clock)) goto no_news;
+    if (pthread_cond_init(&file->work, &by_clock)) goto no_work;
     pthread_condattr_destroy(&by_clock);
-    if (!failed) return file;
-no_clock:
+    return file;
+no_work:
     pthread_cond_destroy(&file->news);
 no_news:
     pthread_mutex_destroy(&file->lock);
 no_lock:
+    pthread_condattr_destroy(&by_clock);
+no_clock:
     free(file);
     return NULL;
 }

@@ -112,10 +112,16 @@ void fkv_abandon(fkv_file *file, fkv_session *session);
 /*
  * Polls a session until none of its requests is pending, with a refresh between two polls, and tells each that is finished; `told` may be
  * NULL. It wants the keeper's thread. An update that finds the index or the log full (FKV_FULL) may wait for ever, and so does this call:
- * who can't wait polls, and abandons the session.
+ * fkv_settle_for doesn't.
  * 0; -FKV_ASLEEP; the fault of the keeper's thread where that can't go on (fkv_keeper_fault); -FKV_BROKEN where it doesn't run.
  */
 int32_t fkv_settle(fkv_file *file, fkv_session *session, fkv_finished_fn *told, void *user);
+
+/*
+ * fkv_settle for so many milliseconds at most, and at least one poll: FKV_PENDING where requests are left then. They stay pending, and the
+ * session may go on, settle again, or be abandoned. The refusals are those of fkv_settle.
+ */
+int32_t fkv_settle_for(fkv_file *file, fkv_session *session, uint32_t ms, fkv_finished_fn *told, void *user);
 
 /*
  * Reads a key, and waits where it lies in the file alone: FKV_FOUND (`*value`) or FKV_NONE. It settles the session then, so what else
@@ -163,6 +169,12 @@ int32_t fkv_ask_commit(fkv_file *file, uint64_t *ticket);
  * 0; -FKV_PENDING_LEFT: fkv_settle comes first; the fault of the commit; -FKV_BROKEN where no thread runs any more.
  */
 int32_t fkv_wait_commit(fkv_file *file, uint64_t ticket, fkv_session *session);
+
+/*
+ * fkv_wait_commit for so many milliseconds at most: FKV_PENDING where that commit isn't finished then. It goes on, and may be waited for
+ * again. The refusals are those of fkv_wait_commit.
+ */
+int32_t fkv_wait_commit_for(fkv_file *file, uint64_t ticket, fkv_session *session, uint32_t ms);
 
 /*
  * Settles the session, asks for a commit, and waits until it is finished: all that the session has done survives a crash. What was

@@ -22,12 +22,14 @@ static const char *path_of(const char *name) {
     return path;
 }
 
-static fkv_file *opened(const char *name) {
+static fkv_file *opened_with(const char *name, const fkv_shape *shape) {
     fkv_file *file;
-    WANTS("making a file", fkv_make_file(path_of(name), &SHAPE), 0);
+    WANTS("making a file", fkv_make_file(path_of(name), shape), 0);
     WANTS("opening it", fkv_open_file(path_of(name), NULL, &file), 0);
     return file;
 }
+
+static fkv_file *opened(const char *name) { return opened_with(name, &SHAPE); }
 
 static int64_t microseconds(clockid_t clock) {
     struct timespec time;
@@ -135,6 +137,61 @@ static void abandoned(void) {
     WANTS("closing", fkv_close_file(file), 0);
 }
 
+static void count_finished(void *its, const fkv_finished *finished) {
+    WANTS("what is finished", finished->kind, FKV_UPDATED);
+    ++*(uint64_t *)its;
+}
+
+/* Updates wait for a log that is full, and for good. Who settles them for a while goes on, and no commit finishes. */
+static void full(void) {
+    enum { ROOM = 11, MORE = 5 }; /* of the log: no record has address 0 */
+    static const fkv_shape small = {4, 4, 2, 1, 1, 0, (ROOM + 1) / 4};
+    fkv_file *file = opened_with("full", &small);
+    fkv_session *session;
+    fkv_update told;
+    uint64_t done = 0, ticket, serial;
+    WANTS("joining", fkv_join(file, 0, &session), 0);
+    for (uint64_t key = 0; key < ROOM + MORE; key++) {
+        int32_t result = fkv_upsert(session, key, key, &told);
+        if (result == FKV_DONE) done++;
+        else WANTS("whether an update waits", result, FKV_PENDING);
+    }
+    WANTS("starting the keeper", fkv_start(file, NULL), 0);
+    int64_t begun = microseconds(CLOCK_MONOTONIC);
+    WANTS("settling for a while", fkv_settle_for(file, session, WAIT_MS, count_finished, &done), FKV_PENDING);
+    WANTS("whether that took so long", microseconds(CLOCK_MONOTONIC) - begun >= 1000 * WAIT_MS, true);
+    WANTS("how many updates are done", done, ROOM);
+    WANTS("the last serial", fkv_serial(session, &serial), 0);
+    WANTS("that serial", serial, ROOM + MORE);
+    WANTS("polling once", fkv_settle_for(file, session, 0, count_finished, &done), FKV_PENDING);
+    WANTS("asking for a commit", fkv_ask_commit(file, &ticket), 0);
+    WANTS("waiting while requests are pending", fkv_wait_commit_for(file, ticket, session, 1), -FKV_PENDING_LEFT);
+    fkv_abandon(file, session);
+    WANTS("waiting for a while", fkv_wait_commit_for(file, ticket, NULL, WAIT_MS), FKV_PENDING);
+    WANTS("closing", fkv_close_file(file), 0);
+}
+
+/* A commit is held up by a session that doesn't refresh, and goes on behind that. */
+static void waited_for(void) {
+    fkv_file *file = opened("waited_for");
+    fkv_session *session, *other;
+    fkv_update told;
+    uint64_t ticket, serial;
+    WANTS("starting the keeper", fkv_start(file, NULL), 0);
+    WANTS("joining", fkv_join(file, 0, &session), 0);
+    WANTS("joining another", fkv_join(file, 1, &other), 0);
+    WANTS("an add", fkv_add(session, 7, 1, &told), FKV_DONE);
+    WANTS("settling for no time", fkv_settle_for(file, session, 0, NULL, NULL), 0);
+    WANTS("asking for a commit", fkv_ask_commit(file, &ticket), 0);
+    WANTS("waiting for a while", fkv_wait_commit_for(file, ticket, session, WAIT_MS), FKV_PENDING);
+    WANTS("leaving", fkv_leave(file, other), 0);
+    WANTS("waiting again", fkv_wait_commit_for(file, ticket, session, 1000 * MOST_SECONDS), 0);
+    WANTS("what is durable", fkv_durable(session, &serial), 0);
+    WANTS("that serial", serial, told.serial);
+    WANTS("leaving", fkv_leave(file, session), 0);
+    WANTS("closing", fkv_close_file(file), 0);
+}
+
 /* Sessions that are abandoned as others use the store, and commits run. */
 static void abandoned_in_turn(void) {
     fkv_file *file = opened("in_turn");
@@ -162,5 +219,7 @@ int main(int count, char **words) {
     failed();
     abandoned();
     abandoned_in_turn();
+    full();
+    waited_for();
     return 0;
 }

@@ -82,7 +82,7 @@ extern "C" fn tell_progress(user: *mut c_void, progress: *const raw::Progress) {
 }
 
 /// A time in units of so many nanoseconds, rounded up: 0 would mean something else.
-fn whole(time: Duration, unit: u128) -> u32 {
+pub(crate) fn whole(time: Duration, unit: u128) -> u32 {
     u32::try_from(time.as_nanos().div_ceil(unit)).unwrap_or(u32::MAX)
 }
 
@@ -134,6 +134,20 @@ impl Keeper {
         let session = session.map_or(ptr::null_mut(), Session::handle);
         answer(unsafe { raw::fkv_wait_commit(self.file.at, ticket.0, session) })?;
         Ok(())
+    }
+
+    /// Waits for so long at most, in milliseconds rounded up. Whether the commit is finished: else it goes on, and may be waited for again. Refused as `wait`.
+    pub fn wait_for(
+        &self,
+        ticket: Ticket,
+        session: Option<&mut Session>,
+        most: Duration,
+    ) -> Result<bool, Error> {
+        let session = session.map_or(ptr::null_mut(), Session::handle);
+        let ms = whole(most, 1_000_000);
+        let left =
+            answer(unsafe { raw::fkv_wait_commit_for(self.file.at, ticket.0, session, ms) })?;
+        Ok(left == 0)
     }
 
     /// Asks for the next turn at once: for who polls by himself.

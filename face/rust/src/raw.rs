@@ -200,11 +200,20 @@ unsafe extern "C" {
         told: Option<TellFinished>,
         user: *mut c_void,
     ) -> i32;
+    pub fn fkv_settle_for(
+        file: *mut File,
+        session: *mut Session,
+        ms: u32,
+        told: Option<TellFinished>,
+        user: *mut c_void,
+    ) -> i32;
     pub fn fkv_read(file: *mut File, session: *mut Session, key: u64, value: *mut u64) -> i32;
     pub fn fkv_start(file: *mut File, keeping: *const Keeping) -> i32;
     pub fn fkv_stop(file: *mut File, with_commit: u32) -> i32;
     pub fn fkv_ask_commit(file: *mut File, ticket: *mut u64) -> i32;
     pub fn fkv_wait_commit(file: *mut File, ticket: u64, session: *mut Session) -> i32;
+    pub fn fkv_wait_commit_for(file: *mut File, ticket: u64, session: *mut Session, ms: u32)
+    -> i32;
     pub fn fkv_commit_and_wait(file: *mut File, session: *mut Session) -> i32;
     pub fn fkv_nudge(file: *mut File);
     pub fn fkv_keeper_fault(file: *mut File) -> i32;

@@ -1,10 +1,12 @@
 //! A session: what reads and updates a store.
 use crate::errors::{Error, answer};
+use crate::keeper::whole;
 use crate::raw;
 use crate::store::OpenFile;
 use std::ffi::c_void;
 use std::ptr;
 use std::sync::Arc;
+use std::time::Duration;
 
 /// So many keys go to the library in one call, so that their answers have room on the stack.
 const AT_ONCE: usize = 64;
@@ -345,12 +347,28 @@ impl Session {
 
     /// Polls until nothing is pending, with a refresh between two polls, and tells what is finished. It wants a keeper: `Broken` where
     /// none runs, and the keeper's fault where that can't go on. `Asleep`. An update that finds the index or the log full may wait for ever,
-    /// and so does this call.
+    /// and so does this call: [`Session::settle_for`] doesn't.
     pub fn settle(&mut self, mut tell: impl FnMut(Finished)) -> Result<(), Error> {
         let mut tell: &mut dyn FnMut(Finished) = &mut tell;
         let user = ptr::from_mut(&mut tell).cast();
         answer(unsafe { raw::fkv_settle(self.file.at, self.at, Some(tell_finished), user) })?;
         Ok(())
+    }
+
+    /// Settles for so long at most, in milliseconds rounded up, and polls once at least. Whether nothing is pending any more: else the session may go on, or
+    /// settle again. Refused as `settle`.
+    pub fn settle_for(
+        &mut self,
+        most: Duration,
+        mut tell: impl FnMut(Finished),
+    ) -> Result<bool, Error> {
+        let mut tell: &mut dyn FnMut(Finished) = &mut tell;
+        let user = ptr::from_mut(&mut tell).cast();
+        let ms = whole(most, 1_000_000);
+        let left = answer(unsafe {
+            raw::fkv_settle_for(self.file.at, self.at, ms, Some(tell_finished), user)
+        })?;
+        Ok(left == 0)
     }
 
     /// Leaves, so that nobody waits for it: before its thread blocks. `Asleep`, `PendingLeft`.

@@ -294,6 +294,27 @@ fn a_session_that_is_dropped_without_a_keeper_holds_up_no_commit() {
 }
 
 #[test]
+fn who_waits_for_a_while_goes_on() {
+    let path = Path::new("for_a_while");
+    let store = path.store();
+    let keeper = store.start(Keeping::default()).unwrap();
+    let (mut session, other) = (store.join(0).unwrap(), store.join(1).unwrap());
+    assert_eq!(session.add(7, 1).unwrap().serial(), 1);
+    assert!(session.settle_for(Duration::ZERO, |_| {}).unwrap());
+    let ticket = keeper.ask_commit().unwrap();
+    let a_while = Duration::from_millis(20);
+    assert!(
+        !keeper
+            .wait_for(ticket, Some(&mut session), a_while)
+            .unwrap()
+    );
+    drop(other);
+    let long = Duration::from_secs(60);
+    assert!(keeper.wait_for(ticket, Some(&mut session), long).unwrap());
+    assert_eq!(session.durable().unwrap(), session.serial().unwrap());
+}
+
+#[test]
 fn a_short_time_between_commits_is_not_none() {
     let path = Path::new("short");
     let store = path.store();
