@@ -62,6 +62,9 @@ typedef struct { void *at; } fkv_keeper;
 
 /*
  * How large a store is. A store is small or large. It is small if no size is above the first limit, and large otherwise.
+ *
+ * Behind a commit each key's first update appends a record, and the keeper opens one page ahead. So an update seldom waits for room
+ * (FKV_NO_ROOM) if a page holds as many records as keys are updated while a commit is written.
  */
 typedef struct {
     uint64_t bucket_bits;   /* the index has 2^bucket_bits buckets of seven entries: 0 to 10, of a large store to 24 */
