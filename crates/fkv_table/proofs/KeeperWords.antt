@@ -1,12 +1,12 @@
 -- A record's word that the flush loads is one step of the keeper, which moves no action.
-use Rattle.std.proofs.Common.{◌≡◌, ◌⊎◌, ℕ, inl, inr, refl, sym, ap, subst, ◌∙◌, false, true}
-use Rattle.std.specs.Prelude.{Option, Some}
+use Rattle.std.proofs.Common.{◌≡◌, ℕ, inl, inr, refl, sym, subst, false, true}
+use Rattle.std.specs.Prelude.{Some}
 use Rattle.atomic_table.specs.Table.{Me}
 use Rattle.fkv_plane.specs.declared.asks.Ask.{Ask}
 use Rattle.fkv_plane.specs.declared.asks.Ask.TheVariants.{Load}
 use Rattle.fkv_keeper.specs.declared.answers.KeeperTold.{KeeperTold}
 use Rattle.fkv_keeper.specs.declared.answers.KeeperTold.TheVariants.{Device}
-use Rattle.fkv_keeper.specs.Keeping.{KeeperModel, KeeperState, keeper_ask, keeper_next, keeper_word_due}
+use Rattle.fkv_keeper.specs.Keeping.{KeeperModel, keeper_ask, keeper_next, keeper_word_due}
 use Rattle.fkv_keeper.proofs.Shown.{IsLoadOrCall, due_asks, kept_asks}
 use Rattle.law_world.specs.Below.fkv_world.Runs.{World}
 use Rattle.fkv_table.specs.declared.happenings.Happening.TheVariants.{KeeperMoves}

@@ -273,11 +273,7 @@ fn load_word<D: Device>(
 }
 
 /// Loads the words of records that the flush is at, one after another: three of each record that a commit keeps. No ask is made for them.
-fn load_words<D: Device>(
-    words: &Words<D>,
-    seat: &mut Place<D>,
-    machine: &mut fkv_keeper::Keeper,
-)
+fn load_words<D: Device>(words: &Words<D>, seat: &mut Place<D>, machine: &mut fkv_keeper::Keeper)
     requires table { (seat.old.table_id ≡ words.now.table_id) × said.IsTableOf (said.opening_of D.seen words.now.key) words.now.table_id }
     requires keeping { said.IsKeeping (said.opening_of D.seen) words.now.key seat.old.me machine.old }
     ensures seat { (seat.new.table_id ≡ seat.old.table_id) × (seat.new.id ≡ seat.old.id) }

@@ -33,5 +33,5 @@ returns g c =
       calls = its.calls;
       fewer = its.fewer;
       beginning = word_begins (opening_of g.D.Device.seen) c.args.words.now.key c.args.words.now.table_id.slots c.args.seat.now.me c.perform-word.new.seat.me k c.keep.new.self c.args.place c.perform-word.result guard c.requires.keeping c.requires.due
-      c.perform-word.ensures.told (c.keep.ensures.next false);
+          c.perform-word.ensures.told (c.keep.ensures.next false);
     }

@@ -1,5 +1,5 @@
 -- What the pass has seen has led the session to where it rests, and the same lasts of the machine.
-use Rattle.std.proofs.Common.{sym, ap, ◌∙◌}
+use Rattle.std.proofs.Common.{ap, ◌∙◌}
 use Rattle.fkv_session.specs.Alike.{Lasting, lasting}
 use Rattle.fkv_table.proofs.sessions.Session.serial.Goals as goal
 
