@@ -21,7 +21,7 @@ finished_in None = []
 module _ {K : Type 0} (at : K → World) where
   -- The last serial that the session has given. A handle that was ended answers `NoSession`.
   abbrev pub IsLastSerial : Option (Sitting K) → Result Serial Fault → Type 0
-  IsLastSerial (Some s) (Ok serial) = said.HasGiven at s.key s.seen s.number serial.0
+  IsLastSerial (Some s) (Ok serial) = said.IsLastGiven at s.key s.seen s.number serial.0
   IsLastSerial (Some s) (Err why) = ⊥
   IsLastSerial None (Err why) = why ≡ NoSession
   IsLastSerial None (Ok serial) = ⊥

@@ -62,8 +62,8 @@ module _ {K : Type 0} (at : K → World) where
   abbrev pub WasIdle : K → List Happening → ℕ → Type 0
   WasIdle key seen number = (s : SessionState) → slice_get (led (plane at) (at key) seen).now.sessions number ≡ Some s → is_busy s.step ≡ false
 
-  -- By the events that a pass has seen, this is the last serial that the session has given.
-  pub record HasGiven (key : K) (seen : List Happening) (number serial : ℕ) : Type 0 where
+  -- By the events that a pass has seen this is the last serial that the session has given, or its point behind an opening.
+  pub record IsLastGiven (key : K) (seen : List Happening) (number serial : ℕ) : Type 0 where
     pub its : SessionState
     pub there : slice_get (led (plane at) (at key) seen).now.sessions number ≡ Some its
     pub last : serial ≡ its.serial

@@ -25,7 +25,7 @@ pub use Rattle.fkv_session.specs.Sessions.{session_ask}
 pub use Rattle.fkv_session.specs.declared.answers.Told.{Told}
 pub use Rattle.fkv_straight.specs.Standing.{asked, leads}
 pub use Rattle.fkv_table.specs.Asks.{step_of}
-pub use Rattle.fkv_table.specs.Calls.{HasCalled, HasGiven, HasStepped, IsAnsweredLast, IsReady, IsToldLast, WasIdle}
+pub use Rattle.fkv_table.specs.Calls.{HasCalled, HasStepped, IsAnsweredLast, IsLastGiven, IsReady, IsToldLast, WasIdle}
 pub use Rattle.fkv_table.specs.Desks.{Slot, noted, noting, turned}
 pub use Rattle.fkv_table.specs.Events.{may_stand}
 pub use Rattle.fkv_table.specs.KeeperCalls.{HasGoneOn, HasKept, IsBeginning}

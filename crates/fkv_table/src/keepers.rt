@@ -272,7 +272,7 @@ fn load_word<D: Device>(
     machine.keep(word);
 }
 
-/// Loads the words of records that the flush is at, one after another: three of each record that a commit keeps. No ask is made for them.
+/// Loads the words of records that the flush is at, up to the write of their part. The machine tells each place, and isn't asked between two of them.
 fn load_words<D: Device>(words: &Words<D>, seat: &mut Place<D>, machine: &mut fkv_keeper::Keeper)
     requires table { (seat.old.table_id ≡ words.now.table_id) × said.IsTableOf (said.opening_of D.seen words.now.key) words.now.table_id }
     requires keeping { said.IsKeeping (said.opening_of D.seen) words.now.key seat.old.me machine.old }
@@ -281,6 +281,7 @@ fn load_words<D: Device>(words: &Words<D>, seat: &mut Place<D>, machine: &mut fk
     ensures went { said.HasGoneOn seat.old.me.0.seen seat.new.me.0.seen }
     ensures calls { (said.led (said.plane (said.opening_of D.seen)) (said.opening_of D.seen words.now.key) seat.new.me.0.seen).past.calls ≡ (said.led (said.plane (said.opening_of D.seen)) (said.opening_of D.seen words.now.key) seat.old.me.0.seen).past.calls }
     ensures left { said.keeper_asks_left machine.new.shape machine.new.places machine.new.state ≤ said.keeper_asks_left machine.old.shape machine.old.places machine.old.state }
+    ensures over { said.keeper_word_due machine.new.places machine.new.state ≡ None }
     ensures beginning { said.IsBeginning machine.old.state.step → said.IsBeginning machine.new.state.step }
 {
     'words: loop {

@@ -308,11 +308,10 @@ impl Session {
         self.machine.finished()
     }
 
-    /// The last serial that the session has given, 0 if it has given none: those of an opened store begin behind its point. The pass has seen the update
-    /// that was told it.
+    /// The last serial that the session has given, by what its pass has seen, and 0 if it has given none. Behind an opening that is its point.
     pub fn serial<D: Device>(&self, _table: &Table<D>, _pass: &Pass<D>) -> Serial
         requires ready { said.IsReady (said.opening_of D.seen) _table.now.table.shared.key _table.now.table.shared.table_id _pass.now.seat.table_id _pass.now.seat.me self.now.machine self.now.desk }
-        ensures given { said.HasGiven (said.opening_of D.seen) _table.now.table.shared.key _pass.now.seat.me.0.seen self.now.machine.seat.number result.0 }
+        ensures given { said.IsLastGiven (said.opening_of D.seen) _table.now.table.shared.key _pass.now.seat.me.0.seen self.now.machine.seat.number result.0 }
         ensures within { result.0 ≤ said.last_serial }
     {
         self.machine.serial()

@@ -5,7 +5,7 @@ pub use Rattle.fkv_keeper.specs.Keeping.{keeper_ask}
 pub use Rattle.fkv_keeper.specs.Running.{IsBeginTold, IsTurnTold}
 pub use Rattle.fkv_map.specs.declared.operations.Call.TheVariants.{Op}
 pub use Rattle.fkv_opening.specs.Opened.{IsStoreOf}
-pub use Rattle.law_threads.specs.Below.fkv_table.Calls.{HasGiven, IsReady}
+pub use Rattle.law_threads.specs.Below.fkv_table.Calls.{IsLastGiven, IsReady}
 pub use Rattle.law_threads.specs.Below.fkv_table.KeeperCalls.{HasKept}
 pub use Rattle.law_threads.specs.Below.fkv_table.Keeps.{IsAfterSeen, IsKeeperReady, IsLeftWithin, LeavesDevice}
 pub use Rattle.law_threads.specs.Below.fkv_table.Meets.{AreTwoReady, HaveMet, StaysReady}
