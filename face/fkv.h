@@ -63,8 +63,8 @@ typedef struct { void *at; } fkv_keeper;
 /*
  * How large a store is. A store is small or large. It is small if no size is above the first limit, and large otherwise.
  *
- * Behind a commit each key's first update appends a record, and the keeper opens one page ahead. So an update seldom waits for room
- * (FKV_NO_ROOM) if a page holds as many records as keys are updated while a commit is written.
+ * Behind a commit each key's first update appends a record. One page past the last record's is opened ahead, and no more. If a page
+ * holds as many records as keys are updated during a commit, an update seldom waits for room (FKV_NO_ROOM).
  */
 typedef struct {
     uint64_t bucket_bits;   /* the index has 2^bucket_bits buckets of seven entries: 0 to 10, of a large store to 24 */
@@ -327,8 +327,8 @@ int32_t fkv_wake(fkv_session *session, fkv_seen *seen);
 int32_t fkv_durable(fkv_session *session, uint64_t *serial);
 
 /*
- * The last serial that the session has given, 0 if it has given none: its next update has the one behind it. Behind an opening that is
- * its point. It is told of a session that sleeps too. 0; -FKV_NO_SESSION behind fkv_end_session.
+ * The last serial that the session has given, and 0 if it has given none. Its next update has the one behind it. Behind an opening that
+ * is its point. It is told of a session that sleeps too. 0; -FKV_NO_SESSION behind fkv_end_session.
  */
 int32_t fkv_serial(fkv_session *session, uint64_t *serial);
 

@@ -343,7 +343,7 @@ int32_t fkv_ask_commit(fkv_file *file, uint64_t *ticket) {
     return with_errno(file, result);
 }
 
-/* Waits until the commit is finished, up to a time if there is one: behind that it is FKV_PENDING. */
+/* Waits until the commit is finished, up to a time if there is one. If it isn't finished then, the answer is FKV_PENDING. */
 static int32_t wait_commit(fkv_file *file, uint64_t ticket, fkv_session *session, const struct timespec *until) {
     fkv_seen seen;
     bool is_late = false;
@@ -391,7 +391,7 @@ static int32_t not_served(fkv_file *file) {
     return with_errno(file, why);
 }
 
-/* Polls until nothing is pending, up to a time if there is one: behind that something is FKV_PENDING. */
+/* Polls until nothing is pending, up to a time if there is one. If requests are left then, the answer is FKV_PENDING. */
 static int32_t settle(fkv_file *file, fkv_session *session, const struct timespec *until, fkv_finished_fn *told, void *user) {
     fkv_finished finished[FKV_MOST_PENDING];
     fkv_seen seen;
@@ -404,10 +404,13 @@ static int32_t settle(fkv_file *file, fkv_session *session, const struct timespe
         int32_t left = fkv_poll(session, finished, FKV_MOST_PENDING, &count);
         for (uint64_t i = 0; i < count && told; i++) told(user, &finished[i]);
         if (left <= 0) return left;
-        if (until && !is_before(now(), *until)) return FKV_PENDING;
-        if (polls > 0) {
+        bool is_late = until && !is_before(now(), *until);
+        if (polls > 0 || is_late) {
             int32_t served = not_served(file);
             if (served < 0) return served;
+        }
+        if (is_late) return FKV_PENDING;
+        if (polls > 0) {
             fkv_nudge(file);
             nanosleep(&(struct timespec){0, SETTLE_US * 1000}, NULL);
         }

@@ -118,8 +118,8 @@ void fkv_abandon(fkv_file *file, fkv_session *session);
 int32_t fkv_settle(fkv_file *file, fkv_session *session, fkv_finished_fn *told, void *user);
 
 /*
- * fkv_settle for so many milliseconds at most, and at least one poll: FKV_PENDING where requests are left then. They stay pending, and the
- * session may go on, settle again, or be abandoned. The refusals are those of fkv_settle.
+ * fkv_settle for so many milliseconds at most: FKV_PENDING where requests are left then. They stay pending, and the session may go on,
+ * settle again, or be abandoned. With 0 it polls once, and doesn't refresh. The refusals are those of fkv_settle.
  */
 int32_t fkv_settle_for(fkv_file *file, fkv_session *session, uint32_t ms, fkv_finished_fn *told, void *user);
 

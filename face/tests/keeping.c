@@ -1,4 +1,4 @@
-/* The keeper's thread: what it takes while it waits, and sessions that were given up with pending requests: keeping FOLDER. */
+/* The keeper's thread: what it takes while it waits, sessions that were given up with pending requests, and waits that end in time: keeping FOLDER. */
 #define _POSIX_C_SOURCE 200809L
 #include "fkv_posix.h"
 #include "tests.h"
@@ -156,6 +156,8 @@ static void full(void) {
         if (result == FKV_DONE) done++;
         else WANTS("whether an update waits", result, FKV_PENDING);
     }
+    WANTS("settling without a keeper", fkv_settle_for(file, session, WAIT_MS, NULL, NULL), -FKV_BROKEN);
+    WANTS("settling for no time without one", fkv_settle_for(file, session, 0, NULL, NULL), -FKV_BROKEN);
     WANTS("starting the keeper", fkv_start(file, NULL), 0);
     int64_t begun = microseconds(CLOCK_MONOTONIC);
     WANTS("settling for a while", fkv_settle_for(file, session, WAIT_MS, count_finished, &done), FKV_PENDING);
@@ -183,7 +185,9 @@ static void waited_for(void) {
     WANTS("an add", fkv_add(session, 7, 1, &told), FKV_DONE);
     WANTS("settling for no time", fkv_settle_for(file, session, 0, NULL, NULL), 0);
     WANTS("asking for a commit", fkv_ask_commit(file, &ticket), 0);
+    int64_t begun = microseconds(CLOCK_MONOTONIC);
     WANTS("waiting for a while", fkv_wait_commit_for(file, ticket, session, WAIT_MS), FKV_PENDING);
+    WANTS("whether that took so long", microseconds(CLOCK_MONOTONIC) - begun >= 1000 * WAIT_MS, true);
     WANTS("leaving", fkv_leave(file, other), 0);
     WANTS("waiting again", fkv_wait_commit_for(file, ticket, session, 1000 * MOST_SECONDS), 0);
     WANTS("what is durable", fkv_durable(session, &serial), 0);

@@ -53,8 +53,8 @@ class Draws {
     uint64_t number(uint32_t drawn, uint64_t shift) const { return ((drawn & ((1u << number_bits) - 1)) + shift) & (keys_ - 1); }
 
   private:
-    // A key's number by its rank, one to one, as YCSB scatters its ranks: else the keys that are drawn most would be those loaded first, and lie
-    // side by side.
+    // A key's number by its rank, one to one. YCSB scatters its ranks too, by a hash. Else the keys that are drawn most would be those that were
+    // loaded first, and lie side by side.
     uint64_t scattered(uint64_t rank) const { return rank * 0x9e3779b1 & (keys_ - 1); }
 
     // YCSB's exponent. The n-th share is the chance of a number up to n.

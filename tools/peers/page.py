@@ -234,7 +234,10 @@ def alone(figures):
     """Where fkv's cells with commits have a process of their own."""
     if figures.told["how"] != "whole":
         return ""
-    return " With 4,096 and 65,536 keys fkv's cells with commits and of timed calls are played by a process that has no other store."
+    return (
+        " A cell lasts 30 ms, and is played three times. With 4,096 and 65,536 keys fkv's cells with commits and of timed calls are played by a process that has no "
+        "other store. Those with commits last 100 ms there, as the one beside each, and are played twelve times; timed ones last 150 ms, five times. Elsewhere both last 130 ms, three times."
+    )
 
 
 def shared(figures):
@@ -245,13 +248,13 @@ def shared(figures):
 def beginning(figures):
     return f"""{TITLE}
 
-`make bench-peers` plays the same calls over the C library and over what a program would use in its place, and writes this section. `make bench-peers QUICK=1` plays fewer of them, in a minute.
+`make bench-peers` plays the same calls over the C library and over what a program would use in its place, and writes this page. `make bench-peers QUICK=1` plays fewer of them, in a minute.
 
 {conditions(figures)}
 
 - **Keys** are 64-bit words in no order, and so are values. Each call's key is drawn before anything is timed, the same for all. Zipf has the exponent 0.99, and its ranks are scattered over the keys, as those of YCSB are.
 - **Calls.** YCSB A has half upserts and half gets, B one upsert in twenty calls. F has an add in half of its calls, in place of a read and a write. A cell with commits begins behind one.{alone(figures)}
-- **fkv** spreads the keys itself. Each session refreshes behind 256 calls; behind 64 while it sees a commit, and behind 8 until all have gone over to its version. An update that lost to another session is polled at once. Memory has room for eight records of each key, and for 2^20 of each thread at least, in pages of 65,536. The index has a bucket for each four keys.
+- **fkv** spreads the keys itself. Each session refreshes behind 256 calls; behind 64 while it sees a commit, and behind 8 until all have gone over to its version. An update that lost to another session is polled at once. Memory has room for eight records of each key, and for 2^20 of each thread at least, in pages of 65,536 records. The index has a bucket for each four keys.
 - **Maps** are `std::unordered_map` behind one mutex and in 64 shards, libcuckoo, TBB and dashmap. dashmap comes twice: as it is, and with 512 shards and each key as its own hash.
 - **LMDB** has one transaction behind a mutex, which a commit ends. By call each update is a transaction, gets wait for nobody, and a commit syncs.
 - **RocksDB** keeps its log in memory up to a commit. **LevelDB** writes it, and a commit syncs. **SQLite** has one transaction behind a mutex, which a commit ends.
@@ -292,7 +295,7 @@ def committed(figures, pictures):
 
 ![Throughput that is kept]({pictures}/kept.svg)
 
-The share of throughput that is kept, in percent, by the clock. The last column is how many processors the keeper takes beside the threads that call.
+The share of throughput that is kept, in percent, by the clock. The last column is how many processors the keeper takes beside the threads that call. If gets keep next to nothing, their records lie in the file alone: memory lets go of what wasn't updated for long, and a get that waits for the file takes as long as one right behind an opening. A store takes 8,190 commits, 410 seconds at one each 50 ms.
 
 {kept(figures, "log")}
 
@@ -319,7 +322,7 @@ How many times as late the 99.9th percentile of fkv comes with a log commit each
 
 ![How long a call takes]({pictures}/delays.svg)
 
-Calls of YCSB A with {threads_told([n])}. `one in hand` counts the calls alone that a commit meets:
+Calls of YCSB A with {threads_told([n])}. `one in hand` counts the calls alone that a commit meets. Rows of fewer than 1,000 calls are left out:
 
 {delays(figures, n)}
 """

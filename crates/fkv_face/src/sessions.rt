@@ -137,7 +137,8 @@ pub extern "C" fn fkv_wake(session: &mut HeldSession, seen: &mut Seen) -> i32
     its.result
 }
 
-/// The last serial that the session has given, 0 if it has given none: a store that is opened anew goes on behind its point. `NoSession`, and then 0.
+/// The last serial that the session has given, and 0 if it has given none. Behind an opening that is the session's point. `NoSession` once the handle is
+/// ended, and then 0.
 #[unsafe(no_mangle)]
 pub extern "C" fn fkv_serial(session: &mut HeldSession, serial: &mut u64) -> i32
     ensures told { says.IsSerialTold (says.opening_of ⟦<Posted<'static> as Device>⟧.seen) session.old.value result serial.new }

@@ -81,7 +81,7 @@ extern "C" fn tell_progress(user: *mut c_void, progress: *const raw::Progress) {
     }
 }
 
-/// A time in units of so many nanoseconds, rounded up: 0 would mean something else.
+/// A time in units of so many nanoseconds, rounded up, so that no time but 0 becomes 0.
 pub(crate) fn whole(time: Duration, unit: u128) -> u32 {
     u32::try_from(time.as_nanos().div_ceil(unit)).unwrap_or(u32::MAX)
 }
@@ -136,7 +136,8 @@ impl Keeper {
         Ok(())
     }
 
-    /// Waits for so long at most, in milliseconds rounded up. Whether the commit is finished: else it goes on, and may be waited for again. Refused as `wait`.
+    /// Waits for so long at most, in milliseconds rounded up: `true` if the commit is finished then. Else it goes on, and may be waited for again.
+    /// Refused as `wait`.
     pub fn wait_for(
         &self,
         ticket: Ticket,

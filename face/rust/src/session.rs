@@ -355,8 +355,8 @@ impl Session {
         Ok(())
     }
 
-    /// Settles for so long at most, in milliseconds rounded up, and polls once at least. Whether nothing is pending any more: else the session may go on, or
-    /// settle again. Refused as `settle`.
+    /// Settles for so long at most, in milliseconds rounded up: `true` if nothing is pending then. Else the session may go on, or settle again.
+    /// With no time it polls once. Refused as `settle`.
     pub fn settle_for(
         &mut self,
         most: Duration,
@@ -391,7 +391,7 @@ impl Session {
         Ok(serial)
     }
 
-    /// The last serial that it has given, 0 if it has given none: its next update has the one behind it. Behind an opening that is its point.
+    /// The last serial that it has given, and 0 if it has given none. Its next update has the one behind it. Behind an opening that is its point.
     pub fn serial(&mut self) -> Result<u64, Error> {
         let mut serial = 0;
         answer(unsafe { raw::fkv_serial(self.at, &mut serial) })?;

@@ -14,7 +14,8 @@ use std::{io, ptr};
 pub struct Shape {
     /// The index has 2^bucket_bits buckets of seven entries: 0 to 10, of a large store to 24.
     pub bucket_bits: u64,
-    /// Records in a page: a power of two from 4 to 1,024, of a large store to 65,536.
+    /// Records in a page: a power of two from 4 to 1,024, of a large store to 65,536. If a page holds as many records as keys are updated during a commit, an
+    /// update seldom waits for room.
     pub page: u64,
     /// Pages in memory: a power of two from 2 to 64, of a large store to 4,096.
     pub frames: u64,

@@ -13,7 +13,7 @@ int32_t must(int32_t result, const char *what) {
 }
 
 // Room for all keys in place, and for what commits 50 ms apart append meanwhile: eight records of memory for each key, and 2^20 for
-// each thread at least. Pages are as large as they may be: behind a commit sessions append fast, and the keeper opens one page ahead.
+// each thread at least. Pages are as large as they may be: behind a commit sessions append fast, and one page is opened ahead.
 // An entry of the index stands for a key, seven of them make a bucket: a bucket for each four keys. Three sessions for each thread, so
 // that no two in use share a cache line.
 fkv_shape shape_for(const peers::Room &room) {
