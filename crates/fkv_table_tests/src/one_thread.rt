@@ -14,7 +14,7 @@ use std::alloc::Global;
 use std::test::Fail;
 
 /// What a session was told by five calls, and its last serial behind them.
-#[derive(PartialEq)]
+#[derive(PartialEq, Drop)]
 struct Told {
     answers: [Answer; 5],
     last: Serial,
