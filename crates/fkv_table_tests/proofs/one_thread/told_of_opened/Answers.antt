@@ -2,7 +2,7 @@
 use Rattle.std.proofs.Common.{length}
 use Rattle.fkv_table.specs.Planes.{opening_of}
 use Rattle.fkv_table_tests.proofs.Begins.{guard_begins, taken_there}
-use Rattle.fkv_table_tests.proofs.one_thread.answers_of_opened.Goals as goal
+use Rattle.fkv_table_tests.proofs.one_thread.told_of_opened.Goals as goal
 
 pub call_in_turn-requires : goal.call_in_turn-requires
 call_in_turn-requires g c =
