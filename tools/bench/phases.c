@@ -32,8 +32,8 @@ static uint64_t keys, block;
 static bool adds;
 static atomic_bool stops;
 
-static void must(int32_t result, const char *what) {
-    if (result >= 0) return;
+static uint64_t must(int32_t result, const char *what) {
+    if (result >= 0) return (uint64_t)result;
     fprintf(stderr, "%s: %s\n", what, fkv_name_of(result));
     exit(1);
 }
@@ -72,20 +72,21 @@ static void *work(void *its) {
     struct worker *worker = its;
     fkv_finished finished[FKV_MOST_PENDING];
     fkv_seen seen = {0, 0};
-    uint64_t count;
+    uint64_t count, pending = 0;
     double from = now();
     while (!stops) {
         struct met *met = &worker->met[seen.phase];
         bool goes_over = seen.phase != FKV_REST && seen.phase != FKV_WAIT_FLUSH;
-        uint64_t calls = goes_over ? block : 64, waited = 0;
+        uint64_t calls = goes_over ? block : 64;
         for (uint64_t i = 0; i < calls; i++) {
             uint64_t reason = update(worker);
             met->waited[reason]++;
-            waited += reason != 0;
+            pending += reason != 0;
         }
         met->calls += calls;
+        /* A commit waits for what is pending of the version before. */
+        if (pending) pending = must(fkv_poll(worker->session, finished, FKV_MOST_PENDING, &count), "poll");
         must(fkv_refresh(worker->session, &seen), "refresh");
-        if (waited) must(fkv_poll(worker->session, finished, FKV_MOST_PENDING, &count), "poll");
         double to = now();
         met->seconds += to - from;
         from = to;
@@ -138,6 +139,8 @@ int main(int count, char **words) {
     must(fkv_open_file(words[1], NULL, &file), "open");
     must(fkv_start(file, &keeping), "start");
     load();
+    /* The first commit is a full one, whatever is asked for. */
+    must(fkv_commit_and_wait(file, NULL), "commit");
     for (uint64_t i = 0; i < threads; i++) {
         workers[i].drawn = i;
         must(fkv_join(file, FKV_ANY_SESSION, &workers[i].session), "join");

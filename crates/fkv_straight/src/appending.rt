@@ -1,8 +1,8 @@
 //! A new record of a key, appended and published.
-ghost use Rattle.std.specs.Prelude.{◌≡◌, ◌<◌, ◌≤◌, ◌+◌, ◌*◌, ◌^◌, ℕ, false};
+ghost use Rattle.std.specs.Prelude.{◌≡◌, ◌<◌, ◌≤◌, ◌+◌, ◌*◌, ◌^◌, ℕ, false, IfNone, Some};
 ghost use Rattle.fkv_map.specs.declared.operations.Call.{Call};
 ghost use Rattle.fkv_map.specs.Keys.{as_number};
-ghost use Rattle.fkv_log.specs.declared.reserving.Reserving.TheVariants.{LoadsLimit};
+ghost use Rattle.fkv_log.specs.declared.reserving.Reserving.TheVariants.{LoadsLimit, LoadsTail};
 ghost use Rattle.fkv_index.specs.Slots.{entry_addr};
 ghost use Rattle.fkv_index.specs.IndexWorld.{new_entry};
 ghost use Rattle.fkv_ops.specs.Requests.{is_read};
@@ -56,6 +56,86 @@ enum Reserved {
     Unusual,
 }
 
+/// So often it is tried to take an address by one step of the words.
+const TRIES: usize = 8;
+
+/// Takes the address at the tail: loads the tail and raises it, at one moment, so that nobody can be quicker in between. None if the tail went on each
+/// time, or stands where it may not; then no step was made.
+#[inline(always)]
+fn take_at_once<L: Line>(
+    line: &mut L,
+    going: &Going,
+    op: Op,
+    slot: Slot,
+    old: Option<Value>,
+    limit: u64,
+) -> Option<u64>
+    requires at { (c : Course) × Goes c (L.seat line.old) op going.now × IsAtReserve c slot.place slot.entry (as_number old) (LoadsTail limit) (L.stands line.old) }
+    requires room { L.kept line.old ≤ 51 }
+    ensures seat { L.seat line.new ≡ L.seat line.old }
+    ensures led { (start : L) (call : Call) → L.led start call line.old → L.led start call line.new }
+    ensures kept { L.kept line.new ≤ 53 }
+    ensures addr { (addr : ℕ) → result ≡ Some addr → addr < 2 ^ 48 }
+    ensures fills { (c : Course) → Goes c (L.seat line.old) op going.now → IsAtReserve c slot.place slot.entry (as_number old) (LoadsTail limit) (L.stands line.old)
+        → (addr : ℕ) → result ≡ Some addr → IsReserved c slot.place slot.entry (as_number old) addr (L.stands line.new) }
+    ensures still { IfNone result (line.new ≡ line.old) }
+{
+    let place = SharedWord::Tail.place();
+    let previous = addr_of(slot.entry);
+    // The tail is seldom there: this tells where it is, and brings its cache line as one that is about to be changed.
+    let mut tail = limit.wrapping_sub(1);
+    'tries: for _ in 0..TRIES {
+        if tail >= limit || tail <= previous || tail >= 1 << 48 {
+            return None;
+        }
+        let found = line.raise(place, tail);
+        if found == tail {
+            return Some(tail);
+        }
+        tail = found;
+    }
+    None
+}
+
+/// Takes the address at the tail by a load and a Cas, if no other is quicker in between.
+#[inline(always)]
+fn take_by_steps<L: Line>(
+    line: &mut L,
+    going: &Going,
+    op: Op,
+    slot: Slot,
+    old: Option<Value>,
+    limit: u64,
+) -> Reserved
+    requires at { (c : Course) × Goes c (L.seat line.old) op going.now × IsAtReserve c slot.place slot.entry (as_number old) (LoadsTail limit) (L.stands line.old) }
+    requires room { L.kept line.old ≤ 51 }
+    requires updates { is_read op ≡ false }
+    ensures seat { L.seat line.new ≡ L.seat line.old }
+    ensures led { (start : L) (call : Call) → L.led start call line.old → L.led start call line.new }
+    ensures kept { L.kept line.new ≤ 53 }
+    ensures addr { (addr : ℕ) → result ≡ Taken addr → addr < 2 ^ 48 }
+    ensures fills { (c : Course) → Goes c (L.seat line.old) op going.now → IsAtReserve c slot.place slot.entry (as_number old) (LoadsTail limit) (L.stands line.old)
+        → (addr : ℕ) → result ≡ Taken addr → IsReserved c slot.place slot.entry (as_number old) addr (L.stands line.new) }
+    ensures waits { (c : Course) → Goes c (L.seat line.old) op going.now → IsAtReserve c slot.place slot.entry (as_number old) (LoadsTail limit) (L.stands line.old)
+        → result ≡ Lost → ComesTo c Contended (L.stands line.new) }
+{
+    let tail_place = SharedWord::Tail.place();
+    let tail = line.load(tail_place);
+    if tail >= limit {
+        return Reserved::Unusual;
+    }
+    let previous = addr_of(slot.entry);
+    if tail <= previous || tail >= 1 << 48 {
+        return Reserved::Unusual;
+    }
+    let found = line.cas(tail_place, tail, tail + 1);
+    if found == tail {
+        Reserved::Taken(tail)
+    } else {
+        Reserved::Lost
+    }
+}
+
 /// Reserves an address at the tail, above that of the slot's entry.
 #[inline(always)]
 fn reserve<L: Line>(line: &mut L, going: &Going, op: Op, slot: Slot, old: Option<Value>) -> Reserved
@@ -73,20 +153,10 @@ fn reserve<L: Line>(line: &mut L, going: &Going, op: Op, slot: Slot, old: Option
 {
     let limit_place = SharedWord::Limit.place();
     let limit = line.load(limit_place);
-    let tail_place = SharedWord::Tail.place();
-    let tail = line.load(tail_place);
-    if tail >= limit {
-        return Reserved::Unusual;
-    }
-    let previous = addr_of(slot.entry);
-    if tail <= previous || tail >= 1 << 48 {
-        return Reserved::Unusual;
-    }
-    let found = line.cas(tail_place, tail, tail + 1);
-    if found == tail {
-        Reserved::Taken(tail)
-    } else {
-        Reserved::Lost
+    let taken = take_at_once(line, going, op, slot, old, limit);
+    match taken {
+        Some(addr) => Reserved::Taken(addr),
+        None => take_by_steps(line, going, op, slot, old, limit),
     }
 }
 

@@ -1,5 +1,5 @@
 //! The words of a store, as one session steps at them.
-ghost use Rattle.std.specs.Prelude.{◌≡◌, ◌<◌, ◌+◌, ℕ, false};
+ghost use Rattle.std.specs.Prelude.{◌≡◌, ◌<◌, ◌+◌, ◌^◌, ℕ, false};
 ghost use Rattle.fkv_map.specs.declared.operations.Call.{Call};
 ghost use Rattle.fkv_plane.specs.declared.asks.Ask.TheVariants.{Load, Store, Swap, Cas};
 ghost use Rattle.fkv_session.specs.Sessions.{Seat, SessionState, is_busy};
@@ -65,6 +65,19 @@ pub trait Line {
         ensures next { stands self.new ≡ leads (seat self.old) (stands self.old) result }
         ensures led { (start : Self) (call : Call) → led start call self.old → led start call self.new }
         ensures kept { kept self.new ≡ kept self.old + 1 }
+        ensures seat { seat self.new ≡ seat self.old };
+
+    /// Where the word at a place is the expected one, makes two steps at one moment, as the machine asks for them: it loads the word, and raises it by
+    /// one. Else it makes no step, and keeps no reply. Gives a word that is the expected one if it was raised.
+    fn raise(&mut self, place: usize, expected: u64) -> u64
+        requires asked { asked (seat self.old) (stands self.old) ≡ Load place }
+        requires then { asked (seat self.old) (leads (seat self.old) (stands self.old) expected) ≡ Cas place expected (expected + 1) }
+        requires fits { expected + 1 < 2 ^ 64 }
+        requires room { kept self.old < 63 }
+        ensures next { result ≡ expected → stands self.new ≡ leads (seat self.old) (leads (seat self.old) (stands self.old) expected) expected }
+        ensures led { (start : Self) (call : Call) → led start call self.old → led start call self.new }
+        ensures kept { result ≡ expected → kept self.new ≡ kept self.old + 2 }
+        ensures still { (result ≡ expected → ⊥) → self.new ≡ self.old }
         ensures seat { seat self.new ≡ seat self.old };
 
     /// The replies that are kept, in order.

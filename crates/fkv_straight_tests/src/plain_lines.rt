@@ -76,6 +76,20 @@ impl<'w, R: Abort> PlainLine<'w, R> {
         };
         self.step(ask)
     }
+
+    /// Keeps a reply of a call that has begun.
+    #[tactic(auto, using(crate::proofs::Led::stands_more))]
+    fn keep(&mut self, reply: u64)
+        requires room { length self.old.replies.items < 64 }
+        ensures replies { self.new.replies.items ≡ self.old.replies.items ++ reply ∷ [] }
+        ensures machine { self.new.machine.value ≡ self.old.machine.value }
+        ensures next { standing self.new.machine.value self.new.call self.new.replies.items ≡ leads self.old.machine.value.seat (standing self.old.machine.value self.old.call self.old.replies.items) reply }
+    {
+        let Some(_) = self.call else {
+            self.rt.abort();
+        };
+        self.replies.push(reply);
+    }
 }
 
 impl<'w, R: Abort> Line for PlainLine<'w, R> {
@@ -116,6 +130,22 @@ impl<'w, R: Abort> Line for PlainLine<'w, R> {
 
     fn cas(&mut self, place: usize, expected: u64, new: u64) -> u64 {
         self.go_on(&Ask::Cas(place, expected, new))
+    }
+
+    /// Where a rival is about to be quicker it makes no step, so that the call makes the two one after the other.
+    fn raise(&mut self, place: usize, expected: u64) -> u64 {
+        if let Some(_) = self.rival {
+            return expected + 1;
+        }
+        let found = self.words.word(place);
+        if found != expected {
+            return found;
+        }
+        let raised: Ask<Told> = Ask::Store(place, expected + 1);
+        let _ = self.words.perform(&raised);
+        self.keep(expected);
+        self.keep(expected);
+        expected
     }
 
     fn replies(&self) -> &[u64] {

@@ -13,6 +13,7 @@ pub mod Lives
 pub mod Meets
 pub mod Moved
 pub mod Opens
+pub mod Raises
 pub mod Ready
 pub mod Seating
 pub mod Settled

@@ -9,6 +9,7 @@ pub mod Meets
 pub mod Openings
 pub mod Planes
 pub mod Positions
+pub mod Raises
 pub mod Said
 pub mod Seating
 pub mod Sits

@@ -35,6 +35,7 @@ pub use Rattle.fkv_table.specs.Meets.{AreTwoReady, HaveMet, StaysReady}
 pub use Rattle.fkv_table.specs.Openings.{IsTableOf}
 pub use Rattle.fkv_table.specs.Planes.{opening_of, plane}
 pub use Rattle.fkv_table.specs.Positions.{gaps, laid, low_place, place_at, position}
+pub use Rattle.fkv_table.specs.Raises.{raising}
 pub use Rattle.fkv_table.specs.Seating.{HasDeskInHand, MaySit, rising, sitting}
 pub use Rattle.fkv_table.specs.Sits.{IsAsked, IsIdleEmpty, RepliedIn, Rests, Settled, StandsIn, Went}
 pub use Rattle.fkv_table.specs.Starts.{EachAt, HasSeat, IsFresh, rest_view}

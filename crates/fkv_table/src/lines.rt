@@ -4,7 +4,8 @@ ghost use Rattle.fkv_table.specs.Said as said;
 
 use crate::happenings::{Happening, law_start_stands};
 use crate::performing::perform;
-use crate::plays::{First, Next, Turn};
+use crate::plays::{First, Next, Raises, Turn};
+use crate::positions::position;
 use crate::rule::{Place, Words};
 use fkv_disk::Device;
 use fkv_map::Call;
@@ -42,6 +43,17 @@ fn keep(replies: &mut Room, kept: usize, reply: u64)
     ensures length { length replies.new ≡ 64 }
 {
     replies[kept] = reply;
+}
+
+/// The same, twice.
+#[inline(always)]
+fn keep_twice(replies: &mut Room, kept: usize, reply: u64)
+    requires { (kept < 63) × (length replies.old ≡ 64) }
+    ensures items { take (kept + 2) replies.new ≡ (take kept replies.old ++ reply ∷ []) ++ reply ∷ [] }
+    ensures length { length replies.new ≡ 64 }
+{
+    keep(replies, kept, reply);
+    keep(replies, kept + 1, reply);
 }
 
 /// The replies that are kept.
@@ -163,6 +175,19 @@ impl<'t, D: Device> Line for SeatLine<'t, D> {
     #[inline(always)]
     fn cas(&mut self, place: usize, expected: u64, new: u64) -> u64 {
         self.step(&Ask::Cas(place, expected, new))
+    }
+
+    /// One Cas of the table. The machine asks for a load first, and nobody has a step between the two.
+    #[inline(always)]
+    fn raise(&mut self, place: usize, expected: u64) -> u64 {
+        let found = self
+            .words
+            .compare_exchange::<Raises>(&mut self.seat, position(place), expected, expected + 1);
+        if found == expected {
+            keep_twice(self.replies, self.kept, expected);
+            self.kept += 2;
+        }
+        found
     }
 
     #[inline(always)]

@@ -49,3 +49,12 @@ impl<D: Device> Play<Slot, Knows<D>> for Notes {
 
     ghost then = { said.noting (said.opening_of D.seen) };
 }
+
+/// A Cas that raises a word and stands for the load before it too, where it finds the expected word. Else it adds nothing.
+pub(crate) struct Raises;
+
+impl<D: Device> Play<Slot, Knows<D>> for Raises {
+    ghost use Rattle.fkv_table.specs.Said as said;
+
+    ghost then = { said.raising (said.opening_of D.seen) };
+}

@@ -1,12 +1,13 @@
-use Rattle.std.proofs.Common.{◌≡◌, ℕ, ◌+◌, ◌<◌, refl, sym, ◌∙◌, subst}
+use Rattle.std.proofs.Common.{◌≡◌, ℕ, refl, sym, subst}
 use Rattle.fkv_map.specs.Keys.{as_number}
-use Rattle.fkv_plane.specs.declared.asks.Ask.TheVariants.{Load, Cas}
+use Rattle.fkv_plane.specs.declared.asks.Ask.TheVariants.{Load}
 use Rattle.fkv_plane.specs.declared.places.SharedWord.TheVariants as one
 use Rattle.fkv_plane.specs.Places.{shared_place}
-use Rattle.fkv_index.specs.Slots.{entry_addr}
-use Rattle.fkv_straight.specs.Met.{IsReserved}
-use Rattle.fkv_straight.proofs.Appends.{limit_asks, limit_comes, tail_asks, tail_comes, take_asks, take_comes, take_lost}
-use Rattle.fkv_straight.proofs.Goings.{place_asks, leads_on, updates_in}
+use Rattle.fkv_log.specs.declared.reserving.Reserving.TheVariants.{LoadsTail}
+use Rattle.fkv_straight.specs.Course.{Course, Goes}
+use Rattle.fkv_straight.specs.Met.{IsAtReserve, IsReserved}
+use Rattle.fkv_straight.proofs.Appends.{limit_asks, limit_comes}
+use Rattle.fkv_straight.proofs.Goings.{goes_at, place_asks, leads_on}
 use Rattle.fkv_straight.proofs.appending.reserve.Goals as goal
 
 pub load-limit-requires-clause-asked : goal.load-limit-requires-clause-asked
@@ -17,61 +18,69 @@ load-limit-requires-clause-asked g c =
     place_asks its k c.args.op c.args.going.now (shared_place one.Limit) c.place-limit_place.result k s (λ (n : ℕ). Load n) c.requires.at.1 refl (sym c.place-limit_place.ensures)
     (limit_asks its c.args.slot.place c.args.slot.entry (as_number c.args.old) s c.requires.at.2)
 
-pub load-tail-requires-clause-asked : goal.load-tail-requires-clause-asked
-load-tail-requires-clause-asked g c =
+pub take_at_once-taken-requires-clause-at : goal.take_at_once-taken-requires-clause-at
+take_at_once-taken-requires-clause-at g c =
     let k = g.L.Line.seat c.args.line.now in
     let s = g.L.Line.stands c.args.line.now in
+    let q = g.L.Line.seat c.load-limit.new.self in
+    let u = g.L.Line.stands c.load-limit.new.self in
+    let its = c.requires.at.0 in
+    let goes = c.requires.at.1 in (
+      its,
+      goes_at its k c.args.op c.args.going.now q goes c.load-limit.ensures.seat,
+      limit_comes its c.args.slot.place c.args.slot.entry (as_number c.args.old) c.load-limit.result s u c.requires.at.2 (leads_on its k c.args.op c.args.going.now k s u c.load-limit.result goes refl c.load-limit.ensures.next),
+    )
+
+pub take_by_steps-requires-clause-at : goal.take_by_steps-requires-clause-at
+take_by_steps-requires-clause-at g c =
+    let k = g.L.Line.seat c.args.line.now in
+    let s = g.L.Line.stands c.args.line.now in
+    let q = g.L.Line.seat c.load-limit.new.self in
     let u = g.L.Line.stands c.load-limit.new.self in
     let its = c.requires.at.0 in
     let goes = c.requires.at.1 in
     let old = as_number c.args.old in
-    let at = limit_comes its c.args.slot.place c.args.slot.entry old c.load-limit.result s u c.requires.at.2 (leads_on its k c.args.op c.args.going.now k s u c.load-limit.result goes refl c.load-limit.ensures.next) in
-    place_asks its k c.args.op c.args.going.now (shared_place one.Tail) c.place-tail_place.result (g.L.Line.seat c.load-limit.new.self) u (λ (n : ℕ). Load n) goes c.load-limit.ensures.seat (sym c.place-tail_place.ensures)
-    (tail_asks its c.args.slot.place c.args.slot.entry old c.load-limit.result u at)
+    let limit = c.load-limit.result in
+    subst (λ l. (x : Course) × Goes x (g.L.Line.seat l) c.args.op c.args.going.now × IsAtReserve x c.args.slot.place c.args.slot.entry old (LoadsTail limit) (g.L.Line.stands l)) (sym c.in-None.ensures.still) (
+      its,
+      goes_at its k c.args.op c.args.going.now q goes c.load-limit.ensures.seat,
+      limit_comes its c.args.slot.place c.args.slot.entry old limit s u c.requires.at.2 (leads_on its k c.args.op c.args.going.now k s u limit goes refl c.load-limit.ensures.next),
+    )
 
-pub cas-found-requires-clause-asked : goal.cas-found-requires-clause-asked
-cas-found-requires-clause-asked g c =
+pub returns-in-Some-clause-fills : goal.returns-in-Some-clause-fills
+returns-in-Some-clause-fills g c = λ its goes reserves addr taken.
     let k = g.L.Line.seat c.args.line.now in
     let s = g.L.Line.stands c.args.line.now in
+    let q = g.L.Line.seat c.load-limit.new.self in
     let u = g.L.Line.stands c.load-limit.new.self in
-    let v = g.L.Line.stands c.load-tail.new.self in
-    let its = c.requires.at.0 in
-    let goes = c.requires.at.1 in
     let old = as_number c.args.old in
-    let at = limit_comes its c.args.slot.place c.args.slot.entry old c.load-limit.result s u c.requires.at.2 (leads_on its k c.args.op c.args.going.now k s u c.load-limit.result goes refl c.load-limit.ensures.next) in
-    let then = tail_comes its c.args.slot.place c.args.slot.entry old c.load-limit.result c.load-tail.result u v at
-    (leads_on its k c.args.op c.args.going.now (g.L.Line.seat c.load-limit.new.self) u v c.load-tail.result goes c.load-limit.ensures.seat c.load-tail.ensures.next) c.if-tail-limit.false in
-    place_asks its k c.args.op c.args.going.now (shared_place one.Tail) c.place-tail_place.result (g.L.Line.seat c.load-tail.new.self) v (λ (n : ℕ). Cas n c.load-tail.result (c.load-tail.result + 1)) goes (c.load-tail.ensures.seat ∙ c.load-limit.ensures.seat) (sym c.place-tail_place.ensures)
-    (take_asks its c.args.slot.place c.args.slot.entry old c.load-tail.result v then)
+    let limit = c.load-limit.result in
+    let at = limit_comes its c.args.slot.place c.args.slot.entry old limit s u reserves (leads_on its k c.args.op c.args.going.now k s u limit goes refl c.load-limit.ensures.next) in
+    subst (λ (n : ℕ). IsReserved its c.args.slot.place c.args.slot.entry old n (g.L.Line.stands c.take_at_once-taken.new.line)) (let e : c.in-Some.addr ≡ addr = cc taken in e)
+    (c.take_at_once-taken.ensures.fills its (goes_at its k c.args.op c.args.going.now q goes c.load-limit.ensures.seat) at c.in-Some.addr c.in-Some.is)
 
-pub returns-then-found-tail-clause-fills : goal.returns-then-found-tail-clause-fills
-returns-then-found-tail-clause-fills g c = λ its goes reserves addr taken.
+pub returns-in-None-clause-fills : goal.returns-in-None-clause-fills
+returns-in-None-clause-fills g c = λ its goes reserves.
     let k = g.L.Line.seat c.args.line.now in
     let s = g.L.Line.stands c.args.line.now in
+    let q = g.L.Line.seat c.load-limit.new.self in
     let u = g.L.Line.stands c.load-limit.new.self in
-    let v = g.L.Line.stands c.load-tail.new.self in
-    let w = g.L.Line.stands c.cas-found.new.self in
     let old = as_number c.args.old in
-    let at = limit_comes its c.args.slot.place c.args.slot.entry old c.load-limit.result s u reserves (leads_on its k c.args.op c.args.going.now k s u c.load-limit.result goes refl c.load-limit.ensures.next) in
-    let then = tail_comes its c.args.slot.place c.args.slot.entry old c.load-limit.result c.load-tail.result u v at
-    (leads_on its k c.args.op c.args.going.now (g.L.Line.seat c.load-limit.new.self) u v c.load-tail.result goes c.load-limit.ensures.seat c.load-tail.ensures.next) c.if-tail-limit.false in
-    let above : entry_addr c.args.slot.entry < c.load-tail.result = subst (λ (n : ℕ). n < c.load-tail.result) c.addr_of-previous.ensures c.if-tail-previous.false in
-    subst (λ (n : ℕ). IsReserved its c.args.slot.place c.args.slot.entry old n w) (let e : c.load-tail.result ≡ addr = cc taken in e)
-    (take_comes its c.args.slot.place c.args.slot.entry old c.load-tail.result c.cas-found.result v w then
-    (leads_on its k c.args.op c.args.going.now (g.L.Line.seat c.load-tail.new.self) v w c.cas-found.result goes (c.load-tail.ensures.seat ∙ c.load-limit.ensures.seat) c.cas-found.ensures.next)
-    c.if-found-tail.true above c.if-tail.false)
+    let limit = c.load-limit.result in
+    let at = limit_comes its c.args.slot.place c.args.slot.entry old limit s u reserves (leads_on its k c.args.op c.args.going.now k s u limit goes refl c.load-limit.ensures.next) in
+    let still = sym c.in-None.ensures.still in
+    c.take_by_steps.ensures.fills its (subst (λ l. Goes its (g.L.Line.seat l) c.args.op c.args.going.now) still (goes_at its k c.args.op c.args.going.now q goes c.load-limit.ensures.seat))
+    (subst (λ l. IsAtReserve its c.args.slot.place c.args.slot.entry old (LoadsTail limit) (g.L.Line.stands l)) still at)
 
-pub returns-else-found-tail-clause-waits : goal.returns-else-found-tail-clause-waits
-returns-else-found-tail-clause-waits g c = λ its goes reserves lost.
+pub returns-in-None-clause-waits : goal.returns-in-None-clause-waits
+returns-in-None-clause-waits g c = λ its goes reserves.
     let k = g.L.Line.seat c.args.line.now in
     let s = g.L.Line.stands c.args.line.now in
+    let q = g.L.Line.seat c.load-limit.new.self in
     let u = g.L.Line.stands c.load-limit.new.self in
-    let v = g.L.Line.stands c.load-tail.new.self in
-    let w = g.L.Line.stands c.cas-found.new.self in
     let old = as_number c.args.old in
-    let at = limit_comes its c.args.slot.place c.args.slot.entry old c.load-limit.result s u reserves (leads_on its k c.args.op c.args.going.now k s u c.load-limit.result goes refl c.load-limit.ensures.next) in
-    let then = tail_comes its c.args.slot.place c.args.slot.entry old c.load-limit.result c.load-tail.result u v at
-    (leads_on its k c.args.op c.args.going.now (g.L.Line.seat c.load-limit.new.self) u v c.load-tail.result goes c.load-limit.ensures.seat c.load-tail.ensures.next) c.if-tail-limit.false in
-    take_lost its c.args.slot.place c.args.slot.entry old c.load-tail.result c.cas-found.result v w goes.settled (updates_in its k c.args.op c.args.going.now _ goes c.requires.updates) then
-    (leads_on its k c.args.op c.args.going.now (g.L.Line.seat c.load-tail.new.self) v w c.cas-found.result goes (c.load-tail.ensures.seat ∙ c.load-limit.ensures.seat) c.cas-found.ensures.next)
-    c.if-found-tail.false
+    let limit = c.load-limit.result in
+    let at = limit_comes its c.args.slot.place c.args.slot.entry old limit s u reserves (leads_on its k c.args.op c.args.going.now k s u limit goes refl c.load-limit.ensures.next) in
+    let still = sym c.in-None.ensures.still in
+    c.take_by_steps.ensures.waits its (subst (λ l. Goes its (g.L.Line.seat l) c.args.op c.args.going.now) still (goes_at its k c.args.op c.args.going.now q goes c.load-limit.ensures.seat))
+    (subst (λ l. IsAtReserve its c.args.slot.place c.args.slot.entry old (LoadsTail limit) (g.L.Line.stands l)) still at)
