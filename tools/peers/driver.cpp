@@ -123,13 +123,14 @@ class Run {
     }
 
   private:
-    std::unique_ptr<Peer> made(const Kind &kind, uint64_t keys, const char *of) {
+    std::unique_ptr<Peer> made(const Kind &kind, uint64_t keys, const char *of, bool goes_round) {
         const std::string folder = folder_ + "/" + std::to_string(kind.rank) + "-" + std::to_string(keys) + "-" + of;
         std::filesystem::remove_all(folder);
         std::filesystem::create_directories(folder);
         const double begun = seconds_of(CLOCK_MONOTONIC);
         std::unique_ptr<Peer> peer = kind.open({keys, most_threads, folder}, true);
         peer->load(keys);
+        if (goes_round) peer->go_round(keys);
         if (keys <= most_checked && peer->sum(keys) != keys * (keys - 1) / 2) fail(std::string(kind.name) + ": what was loaded isn't there");
         peer->pause();
         std::cout << "{\"loaded\": \"" << kind.name << "\", \"keys\": " << keys << ", \"seconds\": " << seconds_of(CLOCK_MONOTONIC) - begun << "}" << std::endl;
@@ -140,7 +141,7 @@ class Run {
         Board board{keys, {}, {Draws(keys, false), Draws(keys, true)}};
         for (const Kind &kind : kinds()) {
             if (!settings_.only.empty() && !has(settings_.only, kind.name)) continue;
-            board.guests.push_back({&kind, made(kind, keys, "plain"), kind.two_commits ? made(kind, keys, "committed") : nullptr});
+            board.guests.push_back({&kind, made(kind, keys, "plain", false), kind.two_commits ? made(kind, keys, "committed", true) : nullptr});
         }
         return board;
     }

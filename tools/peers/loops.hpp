@@ -1,6 +1,7 @@
 // The loop of calls, made anew for each peer's own types, so that a map that is a header is inlined as in a program that uses it.
 //
-// A Store has a type Session, session(n) and commit(full); pause() and resume() where a thread of its own goes on. A Session has get,
+// A Store has a type Session, session(n) and commit(full); pause() and resume() where a thread of its own goes on, and
+// loads_in_memory(keys) where it has a log. A Session has get,
 // upsert and add; enter() and leave(), by the thread that uses it then; idle(), after each 64 calls; and settle(), which waits until
 // the last call has taken effect.
 #pragma once
@@ -85,6 +86,14 @@ class PeerOf final : public Peer {
     }
 
     void commit(bool full) override { store_.commit(full); }
+
+    void go_round(uint64_t keys) override {
+        if constexpr (requires { store_.loads_in_memory(keys); })
+            for (uint64_t n = store_.loads_in_memory(keys); n > 0; n--) {
+                load(keys);
+                store_.commit(false);
+            }
+    }
 
     void pause() override {
         if constexpr (requires { store_.pause(); }) store_.pause();

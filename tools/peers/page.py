@@ -236,7 +236,7 @@ def alone(figures):
         return ""
     return (
         " A cell lasts 30 ms, and is played three times. With 4,096 and 65,536 keys fkv's cells with commits and of timed calls are played by a process that has no "
-        "other store. Those with commits last 100 ms there, as the one beside each, and are played twelve times; timed ones last 150 ms, five times. Elsewhere both last 130 ms, three times."
+        "other store. Those with commits last 100 ms there, as the one beside each, and are played twenty times; timed ones last 150 ms, nine times. Elsewhere both last 130 ms, three times."
     )
 
 
@@ -253,7 +253,7 @@ def beginning(figures):
 {conditions(figures)}
 
 - **Keys** are 64-bit words in no order, and so are values. Each call's key is drawn before anything is timed, the same for all. Zipf has the exponent 0.99, and its ranks are scattered over the keys, as those of YCSB are.
-- **Calls.** YCSB A has half upserts and half gets, B one upsert in twenty calls. F has an add in half of its calls, in place of a read and a write. A cell with commits begins behind one.{alone(figures)}
+- **Calls.** YCSB A has half upserts and half gets, B one upsert in twenty calls. F has an add in half of its calls, in place of a read and a write. A cell with commits begins behind one. Before the first of them fkv's log has gone round memory once, as it has after some seconds.{alone(figures)}
 - **fkv** spreads the keys itself. Each session refreshes behind 256 calls; behind 64 while it sees a commit, and behind 8 until all have gone over to its version. An update that lost to another session is polled at once. Memory has room for eight records of each key, and for 2^20 of each thread at least, in pages of 65,536 records. The index has a bucket for each four keys.
 - **Maps** are `std::unordered_map` behind one mutex and in 64 shards, libcuckoo, TBB and dashmap. dashmap comes twice: as it is, and with 512 shards and each key as its own hash.
 - **LMDB** has one transaction behind a mutex, which a commit ends. By call each update is a transaction, gets wait for nobody, and a commit syncs.

@@ -53,6 +53,8 @@ class Peer {
     virtual void run(unsigned session, const Plan &plan, Gate &gate, Tally &tally) = 0;
     // Returns when all calls that ended before it began survive a crash. It is called beside the sessions.
     virtual void commit(bool full) = 0;
+    // A store with a log goes round its memory once: until then each new page of memory is given by the system.
+    virtual void go_round(uint64_t) {}
     // Between its cells a peer takes no processor time from the others.
     virtual void pause() {}
     virtual void resume() {}

@@ -56,7 +56,7 @@ enum Reserved {
     Unusual,
 }
 
-/// So often it is tried to take an address by one step of the words.
+/// So often a raise of the tail is tried, the first look included.
 const TRIES: usize = 8;
 
 /// Takes the address at the tail: loads the tail and raises it, at one moment, so that nobody can be quicker in between. None if the tail went on each
@@ -82,7 +82,7 @@ fn take_at_once<L: Line>(
 {
     let place = SharedWord::Tail.place();
     let previous = addr_of(slot.entry);
-    // The tail is seldom there: this tells where it is, and brings its cache line as one that is about to be changed.
+    // The tail seldom stands there: this call tells where it does, and fetches its cache line for writing.
     let mut tail = limit.wrapping_sub(1);
     'tries: for _ in 0..TRIES {
         if tail >= limit || tail <= previous || tail >= 1 << 48 {

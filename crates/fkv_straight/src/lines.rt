@@ -7,7 +7,7 @@ ghost use Rattle.fkv_straight.specs.Standing.{asked, leads, begins, replayed};
 
 use fkv_map::Call;
 
-/// The shared words, for the session of which it keeps where the machine stands. It lets the session make just the step that the machine
+/// The shared words, for the session of which it keeps where the machine stands. It lets the session make just the steps that the machine
 /// asks for there, and keeps up to 64 replies of a call.
 pub trait Line {
     /// Whose machine it is, in which store.
@@ -40,7 +40,7 @@ pub trait Line {
         ensures kept { kept self.new ≡ kept self.old + 1 }
         ensures seat { seat self.new ≡ seat self.old };
 
-    /// The word becomes the number; gives the word as it was, as the three below do.
+    /// The word becomes the number; gives the word as it was, as `swap` and `cas` do.
     fn store(&mut self, place: usize, new: u64) -> u64
         requires asked { asked (seat self.old) (stands self.old) ≡ Store place new }
         requires room { kept self.old < 64 }
@@ -67,8 +67,8 @@ pub trait Line {
         ensures kept { kept self.new ≡ kept self.old + 1 }
         ensures seat { seat self.new ≡ seat self.old };
 
-    /// Where the word at a place is the expected one, makes two steps at one moment, as the machine asks for them: it loads the word, and raises it by
-    /// one. Else it makes no step, and keeps no reply. Gives a word that is the expected one if it was raised.
+    /// Two steps at one moment, if the word at the place is the expected one: its load, and the Cas that raises it by one. Else no step is made, and
+    /// no reply is kept. Gives the expected number if the word was raised. Else it gives another number, as a guess at the word.
     fn raise(&mut self, place: usize, expected: u64) -> u64
         requires asked { asked (seat self.old) (stands self.old) ≡ Load place }
         requires then { asked (seat self.old) (leads (seat self.old) (stands self.old) expected) ≡ Cas place expected (expected + 1) }

@@ -16,7 +16,8 @@ use fkv_straight::{Line, StraightSession};
 use std::marker::Model;
 use std::snapshot::Snapshot;
 
-/// The words of a table, for the session whose seat this is. Each of its steps is the one that the session's machine would ask for.
+/// The words of a table, for the session whose seat this is. Each of its steps is the one that the session's machine would ask for; `raise` makes
+/// two of them, or none.
 #[derive(Drop)]
 pub(crate) struct SeatLine<'t, D: Device> {
     words: &'t Words<D>,
@@ -45,7 +46,7 @@ fn keep(replies: &mut Room, kept: usize, reply: u64)
     replies[kept] = reply;
 }
 
-/// The same, twice.
+/// Puts a reply there twice.
 #[inline(always)]
 fn keep_twice(replies: &mut Room, kept: usize, reply: u64)
     requires { (kept < 63) × (length replies.old ≡ 64) }
@@ -177,7 +178,7 @@ impl<'t, D: Device> Line for SeatLine<'t, D> {
         self.step(&Ask::Cas(place, expected, new))
     }
 
-    /// One Cas of the table. The machine asks for a load first, and nobody has a step between the two.
+    /// One Cas of the table. It stands for the load that the machine asks for, and for the Cas behind that.
     #[inline(always)]
     fn raise(&mut self, place: usize, expected: u64) -> u64 {
         let found = self

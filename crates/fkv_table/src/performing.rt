@@ -1,4 +1,4 @@
-//! An ask of a word is one step of the table.
+//! An ask of a word, as one step of the table.
 ghost use Rattle.std.specs.Prelude.{◌≡◌, ◌<◌, ◌^◌, ℕ, Some};
 ghost use Rattle.fkv_plane.specs.Asked.{asked};
 ghost use Rattle.fkv_table.specs.Said as said;

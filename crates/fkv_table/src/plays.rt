@@ -50,7 +50,7 @@ impl<D: Device> Play<Slot, Knows<D>> for Notes {
     ghost then = { said.noting (said.opening_of D.seen) };
 }
 
-/// A Cas that raises a word and stands for the load before it too, where it finds the expected word. Else it adds nothing.
+/// A Cas that raises a word. If it finds the expected word it adds two events: the load before it, and the Cas. Else it adds none.
 pub(crate) struct Raises;
 
 impl<D: Device> Play<Slot, Knows<D>> for Raises {

@@ -138,7 +138,7 @@ struct Fkv {
 
     Fkv(const peers::Room &room, bool fresh) {
         const std::string path = room.folder + "/store.fkv";
-        const fkv_shape shape = shape_for(room);
+        shape = shape_for(room);
         if (fresh) must(fkv_make_file(path.c_str(), &shape), "make");
         must(fkv_open_file(path.c_str(), nullptr, &file), "open");
         keep(false);
@@ -160,6 +160,9 @@ struct Fkv {
         if (!runs) keep(false);
     }
 
+    // Behind a commit each update makes a new record.
+    uint64_t loads_in_memory(uint64_t keys) const { return shape.page * shape.frames / keys + 1; }
+
     std::unique_ptr<Session> session(unsigned) { return std::make_unique<Session>(file); }
 
     void commit(bool full) {
@@ -180,6 +183,7 @@ struct Fkv {
         runs = true;
     }
 
+    fkv_shape shape{};
     fkv_file *file = nullptr;
     bool runs = false, is_full = false;  // the keeper's thread, and whether it makes full commits
 };
