@@ -236,15 +236,20 @@ fn run_call<D: Device>(
     let Pass { seat } = pass;
     let mut line = SeatLine::new(words, seat, machine, desk, replies);
     let went = machine.run(&mut line, call);
+    // What the machine tells is bound first: else both ways would tell it in one place of memory, and a straight call would read it back from there.
     match went {
         Way::Ended(told) => {
             let seat = line.into_seat();
             (Pass { seat }, told)
         }
-        Way::Stopped => go_on(words, line, machine, call),
+        Way::Stopped => {
+            let (pass, told) = go_on(words, line, machine, call);
+            (pass, told)
+        }
         Way::Stayed => {
             let seat = line.into_seat();
-            run_by_machine(words, Pass { seat }, machine, desk, &call)
+            let (pass, told) = run_by_machine(words, Pass { seat }, machine, desk, &call);
+            (pass, told)
         }
     }
 }

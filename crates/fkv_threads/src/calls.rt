@@ -55,7 +55,9 @@ pub fn run_told<D: Device>(
 }
 
 /// Runs an operation, as `run` does, and gives what it was told, which has four words. An `Answer` has room for the list of a poll, which would be cleared
-/// and copied at each call. What `run` ensures of a call and its answer holds here of the operation and the answer that says what was told.
+/// and copied at each call. What `run` ensures of a call and its answer holds here of the operation and the answer that says what was told. It is inlined: a caller
+/// whose operation is always of one kind has none of the others' steps.
+#[inline(always)]
 pub fn run_op<D: Device>(
     session: &mut Session,
     table: &Table<D>,

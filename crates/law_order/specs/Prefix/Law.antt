@@ -8,6 +8,8 @@ use Rattle.fkv_disk.specs.Calls.{Call, MayLeave}
 use Rattle.fkv_map.specs.History.{AreAtMost, IsLegal, IsWhole, content, kept, point_of}
 use Rattle.fkv_map.specs.Map.{Map}
 use Rattle.fkv_map.specs.declared.history.HistoryEntry.{HistoryEntry}
+use Rattle.law_opening.specs.Below.fkv_newest.Newest.{IsNewestOf}
+use Rattle.law_opening.specs.Below.fkv_newest.TheNewest.{Newest}
 use Rattle.law_opening.specs.Below.fkv_opening.Faults.{IsFaultOf}
 use Rattle.law_opening.specs.Below.fkv_opening.Opened.{IsStoreOf}
 use Rattle.law_opening.specs.Below.fkv_opening.TheOpened.{Opened}
@@ -68,11 +70,19 @@ pub record IsKeptOf (o : Opened) (n : Now) (bytes : List ℕ) (events : List Eve
   pub whole : IsWhole (history_so_far n bytes events) o.points.items r.points.items
   pub risen : AreAtMost o.points.items r.points.items
 
--- An image holds a prefix of a life. No fault stands in it, and any store that it holds is what one current commit keeps. So `recover` refuses it for the
--- device or want of memory alone, and `content` answers this map. It reaches as far as the next life asks.
+-- An image names a commit: its newest slot says the commit's number and its points.
+pub record NamesCommit (image : List ℕ) (c : BegunCommit) : Type 0 where
+  pub newest : Newest
+  pub its : IsNewestOf image newest
+  pub number : (let n = newest in let s = n.slot in s.number ≡ c.number.0)
+  pub points : (let n = newest in let s = n.slot in (session : ℕ) → point_of s.points.serials.items session ≡ point_of c.points session)
+
+-- An image holds a prefix of a life. It names a current commit, no fault stands in it, and any store that it holds is what the commit keeps. So `recover` refuses
+-- it for the device or want of memory alone, and `content` answers this map. It reaches as far as the next life asks.
 pub record HoldsPrefix (o : Opened) (n : Now) (bytes : List ℕ) (events : List Event) (image : List ℕ) : Type 0 where
   pub commit : BegunCommit
   pub current : IsCurrent (past_so_far n bytes events) commit
+  pub named : (let c = commit in NamesCommit image c)
   pub faultless : (fault : Fault) → IsFaultOf image fault → ⊥
   pub each : (r : Opened) → IsStoreOf image r → IsKeptOf o n bytes events commit image r
   pub reaches : ReachesFar image

@@ -1,6 +1,7 @@
 -- That each image which a crash may leave holds the commit that its newest slot names.
 use Rattle.std.specs.Prelude.{◌≡◌, ◌≤◌, ℕ, List}
 use Rattle.fkv_map.specs.History.{point_of}
+use Rattle.law_opening.specs.Below.fkv_newest.Newest.{IsNewestOf}
 use Rattle.law_opening.specs.Below.fkv_newest.TheNewest.{Newest}
 use Rattle.law_opening.specs.Below.fkv_opening.TheOpened.{Opened}
 use Rattle.law_commit.specs.Below.fkv_world.World.{Event, Now}
@@ -14,10 +15,12 @@ use Rattle.law_order.specs.Recovered.Leaves.{SaidOfLeft, SaidOfNamed, homes_of}
 abbrev pub HoldsItsCommit : SaidOfNamed
 HoldsItsCommit o n bytes events image leaves names = HoldsCommit (homes_of n) image names.newest (log_beside o n bytes events)
 
--- An image names a commit that has begun, or the opening's. It says the commit's number and its points, and holds the commit. It ends behind all that it names.
+-- An image names a commit that has begun, or the opening's. Its newest slot says the commit's number and its points. The image holds the commit, and ends
+-- behind all that it names.
 pub record HoldsBegun (o : Opened) (n : Now) (bytes : List ℕ) (events : List Event) (image : List ℕ) : Type 0 where
   pub named : NamesBegun n bytes events image
   pub newest : Newest
+  pub its : IsNewestOf image newest
   pub shape : (let is = newest in is.shape ≡ n.shape)
   pub number : (let it = named in let c = it.commit in let is = newest in let s = is.slot in s.number ≡ c.number.0)
   pub points : (let it = named in let c = it.commit in let is = newest in let s = is.slot in (session : ℕ) → point_of s.points.serials.items session ≡ point_of c.points session)

@@ -30,8 +30,8 @@ returns-in-Ended g c =
     c.in-Ended.told refl c.into_seat-seat.result.table_id end.table c.into_seat-seat.result.me end.me in
     record { ready = its.its_ready; number = its.its_number; called = its.its_called; told = its.its_told }
 
-pub go_on-requires : goal.go_on-requires
-go_on-requires g c =
+pub go_on-pass-requires : goal.go_on-pass-requires
+go_on-pass-requires g c =
     let at = opening_of g.D.Device.seen in let m = c.args.machine.now in let value = c.new-line.ensures.value in let now = c.run-went.new.line in let key = c.args.words.now.key in let table = c.args.words.now.table_id in
     let did = c.run-went.ensures.stopped c.in-Stopped.is in
     let went = subst (λ z. HasLed at z c.args.call now) value did.0 in
@@ -50,18 +50,18 @@ returns-in-Stopped g c =
     let at = opening_of g.D.Device.seen in let m = c.args.machine.now in let value = c.new-line.ensures.value in let now = c.run-went.new.line in
     let did = c.run-went.ensures.stopped c.in-Stopped.is in
     let went = subst (λ z. HasLed at z c.args.call now) value did.0 in
-    let ran = c.go_on.ensures in
+    let ran = c.go_on-pass.ensures in
     let same = ap (λ x. x.seat.number) did.1 in
     record {
-      ready = subst (λ d. IsReady at c.args.words.now.key c.args.words.now.table_id c.go_on.result.0.seat.table_id c.go_on.result.0.seat.me c.go_on.new.machine d) (ap (λ z. z.desk) went.same) ran.ready;
+      ready = subst (λ d. IsReady at c.args.words.now.key c.args.words.now.table_id c.go_on-pass.result.0.seat.table_id c.go_on-pass.result.0.seat.me c.go_on-pass.new.machine d) (ap (λ z. z.desk) went.same) ran.ready;
       number = ran.number ∙ same;
-      called = subst (λ n. HasCalled n c.args.call c.args.pass.seat.me.0.seen c.go_on.result.0.seat.me.0.seen) same
+      called = subst (λ n. HasCalled n c.args.call c.args.pass.seat.me.0.seen c.go_on-pass.result.0.seat.me.0.seen) same
           (ran.called c.args.pass.seat.me.0.seen (subst (λ n. HasCalled n c.args.call c.args.pass.seat.me.0.seen now.me.0.seen) (sym same) went.called));
       told = ran.told;
     }
 
-pub run_by_machine-requires : goal.run_by_machine-requires
-run_by_machine-requires g c =
+pub run_by_machine-pass-requires : goal.run_by_machine-pass-requires
+run_by_machine-pass-requires g c =
     let at = opening_of g.D.Device.seen in let end = c.into_seat-seat-in-Stayed.ensures in let did = c.run-went.ensures.stayed c.in-Stayed.is in let value = c.new-line.ensures.value in
     record {
       ready = stays_ready at c.args.words.now.key c.args.words.now.table_id c.args.pass.seat.table_id c.args.pass.seat.me c.args.machine.now c.args.desk c.requires.ready c.run-went.new.self did.1 c.into_seat-seat-in-Stayed.result.table_id
@@ -70,13 +70,13 @@ run_by_machine-requires g c =
 
 pub returns-in-Stayed : goal.returns-in-Stayed
 returns-in-Stayed g c =
-    let end = c.into_seat-seat-in-Stayed.ensures in let did = c.run-went.ensures.stayed c.in-Stayed.is in let value = c.new-line.ensures.value in let ran = c.run_by_machine.ensures in
+    let end = c.into_seat-seat-in-Stayed.ensures in let did = c.run-went.ensures.stayed c.in-Stayed.is in let value = c.new-line.ensures.value in let ran = c.run_by_machine-pass.ensures in
     let same = ap (λ x. x.seat.number) did.1 in
     let me = end.me ∙ ap (λ z. z.me) (did.0 ∙ value) in
     record {
       ready = ran.ready;
       number = ran.number ∙ same;
-      called = subst (λ n. HasCalled n c.args.call c.args.pass.seat.me.0.seen c.run_by_machine.result.0.seat.me.0.seen) same
-          (subst (λ x. HasCalled c.run-went.new.self.seat.number c.args.call x.0.seen c.run_by_machine.result.0.seat.me.0.seen) me ran.called);
+      called = subst (λ n. HasCalled n c.args.call c.args.pass.seat.me.0.seen c.run_by_machine-pass.result.0.seat.me.0.seen) same
+          (subst (λ x. HasCalled c.run-went.new.self.seat.number c.args.call x.0.seen c.run_by_machine-pass.result.0.seat.me.0.seen) me ran.called);
       told = ran.told;
     }

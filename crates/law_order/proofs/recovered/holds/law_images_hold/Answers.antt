@@ -40,6 +40,7 @@ returns c = λ o n bytes events image leaves.
           record {
             named = named;
             newest = read.newest;
+            its = read.its;
             shape = read.shape;
             number = number;
             points = λ session. ap (λ (s : SlotSaid). point_of s.points session) says.said ∙ (c.law_points_keep.ensures.kept life it is named.begun).fits session;
@@ -58,6 +59,7 @@ returns c = λ o n bytes events image leaves.
           record {
             named = named;
             newest = read.newest;
+            its = read.its;
             shape = read.shape;
             number = number ∙ sym opened;
             points = λ session.

@@ -61,6 +61,7 @@ returns c = λ its is reaches image left.
             let up = c.law_points_keep.ensures.rise its is sealed.commit it sealed.begun named.begun (named.sealed sealed.commit sealed.begun sealed.is_sealed) session in
             omega (arith, point, up);
       };
+      named = record { newest = held.newest; its = held.its; number = held.number; points = held.points };
       faultless = held.holds.faultless;
       each = λ r store.
           let of = held.holds.each r store in
