@@ -185,7 +185,7 @@ enum {
     FKV_NO_SESSION = 19,     /* the shape has no session of this number, or its handle was ended */
     FKV_AWAKE = 20,          /* the session is awake */
     FKV_LOST_FULL = 21,      /* a log commit: more than eight ranges of lost records are in hand; a full commit clears them */
-    FKV_HANDLE_OUT = 22,     /* a handle of the store is out still */
+    FKV_HANDLE_OUT = 22,     /* a handle of the store is out still; of fkv_stop: the thread that it would end calls it */
     FKV_HANDLE_TAKEN = 23,   /* the handle was taken before; of fkv_start: the keeper's thread runs already */
     FKV_ROOM_SMALL = 24      /* the caller's room is too small */
 };

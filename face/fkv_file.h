@@ -27,8 +27,9 @@ struct fkv_file {
     uint64_t points[FKV_MOST_SESSIONS];
 
     pthread_t thread;
-    bool runs;
-    bool stops; /* it is to end */
+    uint64_t run; /* how many threads were started: who ends one ends no later one */
+    bool runs;    /* the thread itself resets it as it ends */
+    bool stops;   /* it is to end */
     bool nudged;
     bool in_hand;      /* a commit has begun and isn't finished */
     uint64_t asked;    /* the last ticket that was given */

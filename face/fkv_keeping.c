@@ -254,6 +254,8 @@ static void *keep(void *its_file) {
         go_on(&run);
         rest(&run);
     }
+    file->runs = false;
+    pthread_cond_broadcast(&file->news);
     pthread_mutex_unlock(&file->lock);
     return NULL;
 }
@@ -292,6 +294,7 @@ int32_t fkv_start(fkv_file *file, const fkv_keeping *keeping) {
         file->stops = false;
         failed = start_thread(file);
         file->runs = !failed;
+        file->run += !failed;
     }
     pthread_mutex_unlock(&file->lock);
     if (runs) return -FKV_HANDLE_TAKEN;
@@ -299,27 +302,37 @@ int32_t fkv_start(fkv_file *file, const fkv_keeping *keeping) {
     return failed ? -FKV_DEVICE : 0;
 }
 
+/*
+ * Ends this run of the thread, and no later one that is started meanwhile. Of several callers the first joins the thread. It joins what
+ * has ended: if two threads joined each other, the system would refuse it, and the thread would go on.
+ */
+static void end_run(fkv_file *file, uint64_t run) {
+    pthread_mutex_lock(&file->lock);
+    pthread_t thread = file->thread;
+    bool is_first = file->runs && file->run == run && !file->stops;
+    if (is_first) {
+        file->stops = true;
+        pthread_cond_signal(&file->work);
+    }
+    while (file->runs && file->run == run) pthread_cond_wait(&file->news, &file->lock);
+    pthread_mutex_unlock(&file->lock);
+    if (is_first) pthread_join(thread, NULL);
+}
+
 int32_t fkv_stop(fkv_file *file, uint32_t with_commit) {
     uint64_t ticket = 0;
     int32_t result = 0;
+    pthread_mutex_lock(&file->lock);
+    bool is_own = file->runs && pthread_equal(file->thread, pthread_self());
+    uint64_t run = file->run;
+    pthread_mutex_unlock(&file->lock);
+    /* A hook calls. Its thread can't wait for its own end. */
+    if (is_own) return -FKV_HANDLE_OUT;
     if (with_commit) {
         result = fkv_ask_commit(file, &ticket);
         if (result == 0) result = fkv_wait_commit(file, ticket, NULL);
     }
-    pthread_mutex_lock(&file->lock);
-    bool ends = file->runs && !file->stops;
-    if (ends) {
-        file->stops = true;
-        pthread_cond_signal(&file->work);
-        pthread_mutex_unlock(&file->lock);
-        pthread_join(file->thread, NULL);
-        pthread_mutex_lock(&file->lock);
-        file->runs = false;
-        pthread_cond_broadcast(&file->news);
-    }
-    /* Another caller ends it. */
-    while (file->runs) pthread_cond_wait(&file->news, &file->lock);
-    pthread_mutex_unlock(&file->lock);
+    end_run(file, run);
     return with_errno(file, result);
 }
 

@@ -313,7 +313,8 @@ int32_t fkv_close_file(fkv_file *file) {
     bool is_out = file->joined != 0;
     pthread_mutex_unlock(&file->lock);
     if (is_out) return -FKV_HANDLE_OUT;
-    fkv_stop(file, 0);
+    int32_t result = fkv_stop(file, 0);
+    if (result < 0) return result;
     fkv_end_abandoned(file);
     give_up(file);
     return 0;

@@ -74,7 +74,7 @@ int32_t fkv_open_file(const char *path, const fkv_how *how, fkv_file **out);
  * Ends the keeper's thread, if one runs, and closes the file. What no commit has kept is lost: fkv_stop makes a last one. If an
  * abandoned session has requests pending, it takes up to a second. Those that can't be finished hold the store's memory until the
  * process ends: a call of the file has failed, or the index or the log is full.
- * 0; -FKV_HANDLE_OUT while a session is joined, and then the file stays open.
+ * 0; -FKV_HANDLE_OUT while a session is joined, and in a hook of the keeper's thread. Then the file stays open.
  */
 int32_t fkv_close_file(fkv_file *file);
 
@@ -139,7 +139,7 @@ typedef struct {
     uint32_t turn_us;            /* microseconds between two turns when nothing is to be done; 0: 500. See below */
     fkv_committed_fn *committed; /* called behind each finished commit, or NULL */
     fkv_progress_fn *progress;   /* called as a commit begins and behind each of its calls of the file, or NULL */
-    void *user;                  /* handed to both. They are called in the keeper's thread: make them short, and call no fkv_file there */
+    void *user;                  /* handed to both hooks. The keeper's thread calls them: make them short, and call no fkv_file there */
 } fkv_keeping;
 
 /*
@@ -150,9 +150,11 @@ typedef struct {
 int32_t fkv_start(fkv_file *file, const fkv_keeping *keeping);
 
 /*
- * Ends the keeper's thread, behind a last commit if `with_commit` isn't 0. Nothing is committed behind it, until the next fkv_start.
- * 0; the fault of the last commit. Sessions that are joined have to refresh meanwhile, as for each commit. With a last commit it may
- * wait for ever as fkv_commit_and_wait does.
+ * Ends the keeper's thread, after a last commit if `with_commit` isn't 0. Nothing is committed after it, until the next fkv_start. A
+ * thread that another caller starts meanwhile goes on. Sessions that are joined have to refresh meanwhile, as for each commit. With a
+ * last commit it may wait for ever as fkv_commit_and_wait does.
+ * 0; the fault of the last commit, or -FKV_BROKEN where one is wanted and no thread runs. The thread has ended then too.
+ * -FKV_HANDLE_OUT in a hook of that thread, which goes on.
  */
 int32_t fkv_stop(fkv_file *file, uint32_t with_commit);
 

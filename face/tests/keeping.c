@@ -1,8 +1,12 @@
-/* The keeper's thread: what it takes while it waits, sessions that were given up with pending requests, and waits that end in time: keeping FOLDER. */
+/*
+ * The keeper's thread: what it takes while it waits, and sessions that were given up with pending requests. Waits that end in time. Ends
+ * of it by its own hook, and by several threads. keeping FOLDER.
+ */
 #define _POSIX_C_SOURCE 200809L
 #include "fkv_posix.h"
 #include "tests.h"
 
+#include <pthread.h>
 #include <signal.h>
 #include <stdbool.h>
 #include <sys/resource.h>
@@ -215,6 +219,53 @@ static void abandoned_in_turn(void) {
     WANTS("closing", fkv_close_file(file), 0);
 }
 
+/* A commit's hook that would end its own thread. */
+static void end_own_thread(void *its, uint64_t number, const uint64_t *points, size_t sessions) {
+    fkv_file **file = its;
+    (void)number, (void)points, (void)sessions;
+    WANTS("stopping in a hook", fkv_stop(*file, 0), -FKV_HANDLE_OUT);
+    WANTS("stopping behind a commit in a hook", fkv_stop(*file, 1), -FKV_HANDLE_OUT);
+    WANTS("closing in a hook", fkv_close_file(*file), -FKV_HANDLE_OUT);
+}
+
+/* The thread goes on behind that, and others end it. */
+static void ended_by_itself(void) {
+    fkv_file *file = opened("by_itself");
+    fkv_keeping keeping = {.committed = end_own_thread, .user = &file};
+    WANTS("starting the keeper", fkv_start(file, &keeping), 0);
+    WANTS("a commit", fkv_commit_and_wait(file, NULL), 0);
+    WANTS("another one", fkv_commit_and_wait(file, NULL), 0);
+    WANTS("stopping behind a commit", fkv_stop(file, 1), 0);
+    WANTS("the last commit", fkv_last_commit(file, (uint64_t[FKV_MOST_SESSIONS]){0}), 3);
+    WANTS("closing", fkv_close_file(file), 0);
+}
+
+static void *stop(void *file) {
+    WANTS("stopping", fkv_stop(file, 0), 0);
+    return NULL;
+}
+
+static void *start_anew(void *file) {
+    stop(file);
+    WANTS("starting it anew", fkv_start(file, NULL), 0);
+    return NULL;
+}
+
+/* Two threads end the keeper's, and one of them starts it anew at once. The other one doesn't wait for the end of that. */
+static void ended_by_two(void) {
+    fkv_file *file = opened("by_two");
+    for (int round = 0; round < 500; round++) {
+        pthread_t one, other;
+        WANTS("starting the keeper", fkv_start(file, NULL), 0);
+        WANTS("a thread", pthread_create(&one, NULL, start_anew, file), 0);
+        WANTS("another one", pthread_create(&other, NULL, stop, file), 0);
+        pthread_join(one, NULL);
+        pthread_join(other, NULL);
+        WANTS("stopping", fkv_stop(file, 0), 0);
+    }
+    WANTS("closing", fkv_close_file(file), 0);
+}
+
 int main(int count, char **words) {
     if (count != 2) return 2;
     folder = words[1];
@@ -225,5 +276,7 @@ int main(int count, char **words) {
     abandoned_in_turn();
     full();
     waited_for();
+    ended_by_itself();
+    ended_by_two();
     return 0;
 }
