@@ -81,9 +81,7 @@ int32_t fkv_turn_file(int fd, fkv_keeper *keeper, fkv_turned *turned, uint64_t *
     return call;
 }
 
-/* ---- Making --------------------------------------------------------------------------------------------------------------- */
-
-/* Makes a name in a folder durable. */
+/* Makes a name in a folder durable. A folder that can't be read can't be synced. */
 static int sync_folder_of(const char *path) {
     const char *slash = strrchr(path, '/');
     char *folder = slash ? strndup(path, slash == path ? 1 : (size_t)(slash - path)) : strdup(".");
@@ -97,6 +95,8 @@ static int sync_folder_of(const char *path) {
     errno = why;
     return failed;
 }
+
+/* ---- Making --------------------------------------------------------------------------------------------------------------- */
 
 /* Gives a file its name, if no file has it. */
 static int put_in_place(const char *from, const char *to) {
@@ -122,7 +122,10 @@ static int open_beside(const char *path, char *name, size_t room) {
     return -1;
 }
 
-/* Writes the bytes to a new file, syncs it, and puts it in place. */
+/*
+ * Writes the bytes to a new file, syncs it, and puts it in place. There it stays if the folder's sync fails: another process may have
+ * opened it already.
+ */
 static int write_file(const char *path, const uint8_t *bytes, size_t length) {
     char name[PATH_MAX];
     int fd = open_beside(path, name, sizeof name);
@@ -143,7 +146,7 @@ int32_t fkv_make_file(const char *path, const fkv_shape *shape) {
     uint8_t image[FKV_IMAGE_SIZE];
     int32_t result = fkv_image(shape, image, sizeof image);
     if (result < 0) return result;
-    /* (the rename would tell it too, but behind two syncs) */
+    /* (the rename would tell it too, but after a sync) */
     if (access(path, F_OK) == 0) {
         errno = EEXIST;
         return -FKV_DEVICE;
@@ -219,11 +222,11 @@ static int open_locked(const char *path) {
 }
 
 /* Opens the store of a file's bytes. */
-static int32_t open_store(fkv_file *file, const fkv_how *how) {
+static int32_t open_store(fkv_file *file, const char *path, const fkv_how *how) {
     fkv_opened opened = {0, 0, 0};
     struct bytes shown = {NULL, 0};
-    /* A process that was killed may have written what no sync has kept. What is read is to be durable. */
-    if (fsync(file->fd)) return -FKV_DEVICE;
+    /* A process that was killed may have written what no sync has kept, or made the file and not synced its name. */
+    if (fsync(file->fd) || sync_folder_of(path)) return -FKV_DEVICE;
     int32_t result = show(file->fd, how, &shown);
     if (result == 0) {
         result = fkv_open(shown.at, shown.size, how->keys, &file->store.at, &file->shape, &opened, file->points, FKV_MOST_SESSIONS);
@@ -261,7 +264,11 @@ static void give_up(fkv_file *file) {
     }
     if (file->store.at && fkv_close(&file->store) == 0) fkv_free_store(file->store);
     int why = errno;
-    if (file->fd >= 0) close(file->fd);
+    if (file->fd >= 0) {
+        /* A child that was forked may have the descriptor too, and would hold the lock. */
+        flock(file->fd, LOCK_UN);
+        close(file->fd);
+    }
     pthread_cond_destroy(&file->news);
     pthread_cond_destroy(&file->work);
     pthread_mutex_destroy(&file->lock);
@@ -298,7 +305,7 @@ int32_t fkv_open_file(const char *path, const fkv_how *how, fkv_file **out) {
     fkv_file *file = new_file();
     if (!file) return -FKV_MEMORY;
     file->fd = open_locked(path);
-    int32_t result = file->fd < 0 ? -FKV_DEVICE : open_store(file, how ? how : &usual);
+    int32_t result = file->fd < 0 ? -FKV_DEVICE : open_store(file, path, how ? how : &usual);
     if (result == 0) result = take_handles(file);
     if (result < 0) {
         give_up(file);

@@ -12,8 +12,9 @@
  * Threads. The calls that take an fkv_file may be called by any thread at any time, up to fkv_close_file, which is the last. The
  * calls of a session are for the thread that joined it.
  *
- * Results are those of fkv.h. Where one is -FKV_DEVICE, errno says what the system has refused: ENOENT no such file, EEXIST there is
- * one already, EWOULDBLOCK another process has it open, ENOSPC no room. That holds too if the keeper's thread made the call.
+ * Results are those of fkv.h. A call that waits may have done a part of its work before it is refused. Where a result is -FKV_DEVICE,
+ * errno says what the system has refused: ENOENT no such file, EEXIST there is one already, EWOULDBLOCK it is open already, ENOSPC no
+ * room. That holds too if the keeper's thread made the call.
  */
 #ifndef FKV_POSIX_H
 #define FKV_POSIX_H
@@ -49,8 +50,9 @@ typedef void fkv_finished_fn(void *user, const fkv_finished *finished);
 /*
  * Makes the file of a new store of this shape. It is written under another name in the same folder, synced, and put in place by a
  * rename that replaces nothing; then the folder is synced. So a crash leaves the whole file or none of this name. It isn't open
- * behind the call.
- * 0; -FKV_BAD_SHAPE, -FKV_MEMORY, -FKV_DEVICE (errno EEXIST: there is a file of this name, and it stays as it is).
+ * after the call.
+ * 0; -FKV_BAD_SHAPE, -FKV_MEMORY, -FKV_DEVICE (errno EEXIST: there is a file of this name, and it stays as it is). If the folder's
+ * sync alone has failed, the new file stays in place, and the next call tells EEXIST. An opening syncs the folder again.
  */
 int32_t fkv_make_file(const char *path, const fkv_shape *shape);
 
@@ -64,9 +66,15 @@ typedef struct {
 } fkv_how;
 
 /*
- * Opens the store in this file, and locks the file (flock) so that no other process opens it; the lock ends with the process. All
- * sessions sleep. No commit is made before fkv_start.
- * 0; -FKV_NOT_A_STORE, -FKV_DAMAGED, -FKV_MEMORY, -FKV_DEVICE (errno EWOULDBLOCK: another process has it open).
+ * Opens the store in this file. All sessions sleep. No commit is made before fkv_start.
+ *
+ * The file is locked (flock), so that neither this process nor another one opens it meanwhile. The lock ends with fkv_close_file, or with
+ * the process. If that has forked children, it ends with the last of them that has called no exec.
+ *
+ * The file is synced first, and so is the folder of `path`: no commit is told of a file whose name a crash may take. A folder that can't be
+ * read can't be synced. If `path` is a link, the folder of the link is synced, and that of the file isn't.
+ * 0; -FKV_NOT_A_STORE, -FKV_DAMAGED, -FKV_MEMORY, -FKV_DEVICE (errno EWOULDBLOCK: it is open already; EACCES: no right to read or write
+ * the file, or to read its folder).
  */
 int32_t fkv_open_file(const char *path, const fkv_how *how, fkv_file **out);
 

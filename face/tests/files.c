@@ -1,5 +1,5 @@
 /* The calls of fkv_posix.h over real files: files FOLDER. */
-#define _POSIX_C_SOURCE 200809L
+#define _GNU_SOURCE
 #include "fkv_posix.h"
 #include "tests.h"
 
@@ -11,6 +11,8 @@
 #include <string.h>
 #include <sys/resource.h>
 #include <sys/stat.h>
+#include <sys/syscall.h>
+#include <sys/wait.h>
 #include <unistd.h>
 
 enum { KEYS = 1000, PATH_ROOM = 500 };
@@ -21,7 +23,19 @@ enum { KEYS = 1000, PATH_ROOM = 500 };
 /* Small pages and little memory, so that most records lie in the file alone; and an index that has room for all keys. */
 static const fkv_shape SHAPE = {10, 16, 8, 4, 3, 64, 4096};
 static const char *folder;
-static uint64_t told_commits, told_progress;
+static uint64_t told_commits, told_progress, folder_syncs;
+static bool folders_fail;
+
+/* The library's syncs come here, before those of the C library: folders are counted, or fail. */
+int fsync(int fd) {
+    struct stat known;
+    if (fstat(fd, &known) == 0 && S_ISDIR(known.st_mode)) {
+        folder_syncs++;
+        errno = EIO;
+        if (folders_fail) return -1;
+    }
+    return (int)syscall(SYS_fsync, fd);
+}
 
 static void wants_device(const char *file, int line, const char *what, int32_t got, int why) {
     int told = errno;
@@ -69,7 +83,7 @@ static void wants_values(fkv_file *file, fkv_session *session, uint64_t more) {
     WANTS("a read of no value", fkv_read(file, session, KEYS, &value), FKV_NONE);
 }
 
-/* What is there is never replaced, and one process alone has a file open. */
+/* What is there is never replaced, and a file is open once. */
 static void making(void) {
     const char *path = path_of("making");
     fkv_file *file, *other;
@@ -98,6 +112,43 @@ static void making(void) {
     WANTS("opening a foreign file", fkv_open_file(path_of("foreign"), NULL, &file), -FKV_NOT_A_STORE);
     WANTS("opening a folder", fkv_open_file(folder, NULL, &file), -FKV_DEVICE);
     WANTS("making in no folder", fkv_make_file(path_of("none/store"), &SHAPE), -FKV_DEVICE);
+}
+
+/* A file whose folder wasn't synced as it was made stays. Each opening syncs the folder, and is refused where that fails. */
+static void naming(void) {
+    fkv_file *file;
+    const char *path = path_of("naming");
+    folders_fail = true;
+    WANTS_DEVICE("making a file", fkv_make_file(path, &SHAPE), EIO);
+    WANTS_DEVICE("opening it", fkv_open_file(path, NULL, &file), EIO);
+    folders_fail = false;
+    WANTS_DEVICE("making it again", fkv_make_file(path, &SHAPE), EEXIST);
+    folder_syncs = 0;
+    WANTS("opening it", fkv_open_file(path, NULL, &file), 0);
+    WANTS("how many folders were synced", folder_syncs, 1);
+    WANTS("closing it", fkv_close_file(file), 0);
+}
+
+/* A child that was forked has the file's descriptor, and not its lock once that is given back. */
+static void forking(void) {
+    fkv_file *file;
+    int ends[2];
+    char byte;
+    const char *path = path_of("naming");
+    WANTS("a pipe", pipe(ends), 0);
+    WANTS("opening it", fkv_open_file(path, NULL, &file), 0);
+    pid_t child = fork();
+    if (child == 0) {
+        close(ends[1]);
+        _exit(read(ends[0], &byte, 1) != 0);
+    }
+    WANTS("whether there is a child", child > 0, true);
+    WANTS("closing it", fkv_close_file(file), 0);
+    WANTS("opening it while a child lives", fkv_open_file(path, NULL, &file), 0);
+    WANTS("closing it", fkv_close_file(file), 0);
+    close(ends[0]);
+    close(ends[1]);
+    WANTS("the child's end", waitpid(child, NULL, 0), child);
 }
 
 static void joining(void) {
@@ -236,6 +287,8 @@ int main(int count, char **words) {
     if (count != 2) return 2;
     folder = words[1];
     making();
+    naming();
+    forking();
     joining();
     committing();
     failing();
