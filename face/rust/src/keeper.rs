@@ -4,15 +4,17 @@ use crate::raw;
 use crate::session::Session;
 use crate::store::{OpenFile, Progress};
 use std::ffi::c_void;
-use std::ptr;
-use std::slice;
 use std::sync::Arc;
 use std::time::Duration;
+use std::{mem, ptr, slice};
 
 type TellCommitted = Box<dyn FnMut(u64, &[u64]) + Send>;
 type TellProgress = Box<dyn FnMut(Progress) + Send>;
 
 /// How the keeper's thread goes. By default it commits on request alone.
+///
+/// Its hooks are called in the keeper's thread. If one of them panics, then the process is aborted. If one waits for the keeper, then it
+/// waits for ever.
 #[derive(Default)]
 pub struct Keeping {
     commit_each: Duration,
@@ -48,14 +50,14 @@ impl Keeping {
         self
     }
 
-    /// This is called behind each finished commit, in the keeper's thread, with its number, and the last serial of each session that it
-    /// keeps. It has to be short, and to ask for no commit.
+    /// This is called after each finished commit, in the keeper's thread, with its number, and the last serial of each session that it
+    /// keeps. It has to be short, and to wait for no commit.
     pub fn committed(mut self, tell: impl FnMut(u64, &[u64]) + Send + 'static) -> Keeping {
         self.hooks.committed = Some(Box::new(tell));
         self
     }
 
-    /// This is called as a commit begins, and behind each of its calls of the file, in the keeper's thread.
+    /// This is called as a commit begins, and after each of its calls of the file, in the keeper's thread.
     pub fn progress(mut self, tell: impl FnMut(Progress) + Send + 'static) -> Keeping {
         self.hooks.progress = Some(Box::new(tell));
         self
@@ -92,12 +94,16 @@ pub struct Ticket(u64);
 
 /// The thread that writes the log, reads back what lies in the file alone, and carries commits on. It ends as this is dropped, and makes
 /// no last commit then: [`Keeper::stop`] does.
+///
+/// A thread can't wait for its own end. If one of its hooks drops or stops this, then the thread goes on, and the file stays open, until
+/// the process ends.
 pub struct Keeper {
     file: Arc<OpenFile>,
+    /// Null once the thread was ended.
     hooks: *mut Hooks,
 }
 
-// Its calls may be made by any thread. The hooks are the keeper's thread's alone, until that has ended.
+// Its calls may be made by any thread. The hooks are the keeper's thread's alone, until that has ended. They are dropped in any thread.
 unsafe impl Send for Keeper {}
 unsafe impl Sync for Keeper {}
 
@@ -161,19 +167,33 @@ impl Keeper {
         answer(unsafe { raw::fkv_keeper_fault(self.file.at) }).err()
     }
 
-    /// Ends the thread behind a last commit, and tells how that has gone. Sessions that are out have to refresh or sleep meanwhile.
-    pub fn stop(self) -> Result<(), Error> {
-        answer(unsafe { raw::fkv_stop(self.file.at, 1) })?;
-        Ok(())
+    /// Ends the thread after a last commit, and tells how that has gone. Sessions that are out have to refresh or sleep meanwhile.
+    /// `HandleOut` in a hook of the thread.
+    pub fn stop(mut self) -> Result<(), Error> {
+        self.end(1)
+    }
+
+    /// Ends the thread and drops its hooks, once: another keeper may have been started by the second time.
+    fn end(&mut self, with_commit: u32) -> Result<(), Error> {
+        let hooks = mem::replace(&mut self.hooks, ptr::null_mut());
+        if hooks.is_null() {
+            return Ok(());
+        }
+        let result = answer(unsafe { raw::fkv_stop(self.file.at, with_commit) });
+        if let Err(Error::HandleOut) = result {
+            // One of the hooks calls. The thread goes on with them and the file.
+            mem::forget(Arc::clone(&self.file));
+        } else {
+            // The thread has ended.
+            drop(unsafe { Box::from_raw(hooks) });
+        }
+        result.map(drop)
     }
 }
 
 impl Drop for Keeper {
     fn drop(&mut self) {
-        unsafe {
-            raw::fkv_stop(self.file.at, 0);
-            // The thread has ended.
-            drop(Box::from_raw(self.hooks));
-        }
+        // Nobody is told how it has gone.
+        let _ = self.end(0);
     }
 }

@@ -166,7 +166,7 @@ unsafe impl Sync for OpenFile {}
 
 impl Drop for OpenFile {
     fn drop(&mut self) {
-        // Sessions share it, so none is out.
+        // Sessions share it, so none is out. So does a keeper, whose thread has ended.
         unsafe { raw::fkv_close_file(self.at) };
     }
 }

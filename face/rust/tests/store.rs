@@ -1,12 +1,13 @@
 //! The crate over real files: each call once, and what it refuses.
 use fkv::{
-    Error, Finished, How, Keeping, Phase, Read, RenewedKeys, Shape, Store, Update, Work, renew,
-    spread, spread_back,
+    Error, Finished, How, Keeper, Keeping, Phase, Read, RenewedKeys, Shape, Store, Update, Work,
+    renew, spread, spread_back,
 };
 use std::io::ErrorKind;
 use std::path::PathBuf;
 use std::sync::atomic::{AtomicU64, Ordering};
-use std::sync::{Arc, mpsc};
+use std::sync::mpsc::{self, Receiver};
+use std::sync::{Arc, Mutex};
 use std::time::Duration;
 use std::{env, fs, process, thread};
 
@@ -266,6 +267,54 @@ fn what_was_pending_is_told() {
     answers.sort_by_key(|answer| answer.0.0);
     assert_eq!(answers, tickets);
     drop(keeper);
+}
+
+/// Keepers that hooks drop.
+type Held = Arc<Mutex<Option<Keeper>>>;
+
+/// Starts a keeper whose hook takes it from here and ends it, and then says so.
+fn start_for_hook(
+    store: &Store,
+    held: &Held,
+    end: impl Fn(Keeper) + Send + 'static,
+) -> Receiver<()> {
+    let (send, receive) = mpsc::channel();
+    let theirs = Arc::clone(held);
+    let keeping = Keeping::default().committed(move |_, _| {
+        if let Some(keeper) = theirs.lock().unwrap().take() {
+            end(keeper);
+            let _ = send.send(());
+        }
+    });
+    *held.lock().unwrap() = Some(store.start(keeping).unwrap());
+    receive
+}
+
+#[test]
+fn a_keeper_that_its_own_hook_drops_goes_on() {
+    let path = Path::new("own_hook");
+    for stops in [false, true] {
+        let _ = fs::remove_file(&path.0);
+        let store = path.store();
+        let held = Held::default();
+        let ended = start_for_hook(&store, &held, move |keeper| {
+            if stops {
+                assert!(matches!(keeper.stop(), Err(Error::HandleOut)));
+            }
+        });
+        let asked = held.lock().unwrap().as_ref().unwrap().ask_commit();
+        assert!(asked.is_ok());
+        ended.recv_timeout(Duration::from_secs(60)).unwrap();
+        let mut session = store.join_any().unwrap();
+        session.add(7, 1).unwrap();
+        session.commit().unwrap();
+        assert!(matches!(
+            store.start(Keeping::default()),
+            Err(Error::HandleTaken)
+        ));
+        drop((session, store));
+        assert!(is_device(Store::open(&path.0), ErrorKind::WouldBlock));
+    }
 }
 
 #[test]
