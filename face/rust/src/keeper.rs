@@ -88,9 +88,12 @@ pub(crate) fn whole(time: Duration, unit: u128) -> u32 {
     u32::try_from(time.as_nanos().div_ceil(unit)).unwrap_or(u32::MAX)
 }
 
-/// A commit that was asked for.
+/// A commit that was asked for. It is of one opening of one store.
 #[derive(Clone, Copy, Debug, PartialEq, Eq, PartialOrd, Ord)]
-pub struct Ticket(u64);
+pub struct Ticket {
+    opening: u64,
+    number: u64,
+}
 
 /// The thread that writes the log, reads back what lies in the file alone, and carries commits on. It ends as this is dropped, and makes
 /// no last commit then: [`Keeper::stop`] does.
@@ -129,31 +132,46 @@ impl Keeper {
 
     /// Asks for a commit that begins from now on. It is refused by the fault of the thread, if it has one.
     pub fn ask_commit(&self) -> Result<Ticket, Error> {
-        let mut ticket = 0;
-        answer(unsafe { raw::fkv_ask_commit(self.file.at, &mut ticket) })?;
-        Ok(Ticket(ticket))
+        let mut number = 0;
+        answer(unsafe { raw::fkv_ask_commit(self.file.at, &mut number) })?;
+        let opening = self.file.opening;
+        Ok(Ticket { opening, number })
+    }
+
+    /// The ticket as C knows it. Another store's would tell of a commit that its own hasn't made.
+    fn number_of(&self, ticket: Ticket) -> u64 {
+        let is_own = ticket.opening == self.file.opening;
+        assert!(is_own, "the ticket is of another opening of a store");
+        ticket.number
     }
 
     /// Waits until that commit is finished: what sessions had done when it was asked for survives a crash. `session` is the calling
     /// thread's, if it has one that is awake, and sleeps meanwhile. `PendingLeft`: settle it first; or the fault of the commit.
+    ///
+    /// # Panics
+    /// The ticket is of another opening of a store.
     pub fn wait(&self, ticket: Ticket, session: Option<&mut Session>) -> Result<(), Error> {
+        let number = self.number_of(ticket);
         let session = session.map_or(ptr::null_mut(), Session::handle);
-        answer(unsafe { raw::fkv_wait_commit(self.file.at, ticket.0, session) })?;
+        answer(unsafe { raw::fkv_wait_commit(self.file.at, number, session) })?;
         Ok(())
     }
 
     /// Waits for so long at most, in milliseconds rounded up: `true` if the commit is finished then. Else it goes on, and may be waited for again.
     /// Refused as `wait`.
+    ///
+    /// # Panics
+    /// The ticket is of another opening of a store.
     pub fn wait_for(
         &self,
         ticket: Ticket,
         session: Option<&mut Session>,
         most: Duration,
     ) -> Result<bool, Error> {
+        let number = self.number_of(ticket);
         let session = session.map_or(ptr::null_mut(), Session::handle);
         let ms = whole(most, 1_000_000);
-        let left =
-            answer(unsafe { raw::fkv_wait_commit_for(self.file.at, ticket.0, session, ms) })?;
+        let left = answer(unsafe { raw::fkv_wait_commit_for(self.file.at, number, session, ms) })?;
         Ok(left == 0)
     }
 

@@ -196,7 +196,7 @@ extern "C" fn tell_finished(user: *mut c_void, finished: *const raw::Finished) {
 /// finished nobody joins it. Commits don't wait for its refresh, and keep its updates. While an update of it waits for a full index or
 /// log, no commit finishes. If a call of the file has failed, what is pending is lost.
 ///
-/// ```compile_fail
+/// ```compile_fail,E0277
 /// fn shared<T: Sync>() {}
 /// shared::<fkv::Session>();
 /// ```
@@ -220,7 +220,7 @@ impl Session {
         Read::of(told, value)
     }
 
-    /// Reads many keys: one behind the other, as [`Session::get`] does, with the answer or the refusal of each.
+    /// Reads many keys: one after the other, as [`Session::get`] does, with the answer or the refusal of each.
     ///
     /// This is for a store whose index and records don't fit the processor's caches. With 2^20 keys it is 1.2 to 1.7 times as fast as
     /// single calls; a store that fits them goes better by these. The session doesn't refresh meanwhile: refresh it between calls of 64
@@ -304,13 +304,13 @@ impl Session {
         self.update(|at, told| unsafe { raw::fkv_add(at, key, number, told) })
     }
 
-    /// Gives many keys their values: one behind the other, as [`Session::upsert`] does, with the answer or the refusal of each. See
+    /// Gives many keys their values: one after the other, as [`Session::upsert`] does, with the answer or the refusal of each. See
     /// [`Session::get_many`].
     pub fn upsert_many(&mut self, pairs: &[(u64, u64)]) -> Vec<Result<Update, Error>> {
         self.update_many(raw::fkv_upsert_many, pairs)
     }
 
-    /// Adds to the values of many keys: one behind the other, as [`Session::add`] does, with the answer or the refusal of each. See
+    /// Adds to the values of many keys: one after the other, as [`Session::add`] does, with the answer or the refusal of each. See
     /// [`Session::get_many`].
     pub fn add_many(&mut self, pairs: &[(u64, u64)]) -> Vec<Result<Update, Error>> {
         self.update_many(raw::fkv_add_many, pairs)
@@ -347,7 +347,7 @@ impl Session {
 
     /// Polls until nothing is pending, with a refresh between two polls, and tells what is finished. It wants a keeper: `Broken` where
     /// none runs, and the keeper's fault where that can't go on. `Asleep`. An update that finds the index or the log full may wait for ever,
-    /// and so does this call: [`Session::settle_for`] doesn't.
+    /// and so does this call: [`Session::settle_for`] doesn't. If `tell` panics, then the process is aborted.
     pub fn settle(&mut self, mut tell: impl FnMut(Finished)) -> Result<(), Error> {
         let mut tell: &mut dyn FnMut(Finished) = &mut tell;
         let user = ptr::from_mut(&mut tell).cast();
@@ -356,7 +356,7 @@ impl Session {
     }
 
     /// Settles for so long at most, in milliseconds rounded up: `true` if nothing is pending then. Else the session may go on, or settle again.
-    /// With no time it polls once. Refused as `settle`.
+    /// With no time it polls once. Refused as `settle`, and aborted as that.
     pub fn settle_for(
         &mut self,
         most: Duration,
@@ -391,7 +391,7 @@ impl Session {
         Ok(serial)
     }
 
-    /// The last serial that it has given, and 0 if it has given none. Its next update has the one behind it. Behind an opening that is its point.
+    /// The last serial that it has given, and 0 if it has given none. Its next update has the one after it. After an opening that is its point.
     pub fn serial(&mut self) -> Result<u64, Error> {
         let mut serial = 0;
         answer(unsafe { raw::fkv_serial(self.at, &mut serial) })?;

@@ -7,6 +7,7 @@ use std::ffi::{CString, c_void};
 use std::os::unix::ffi::OsStrExt;
 use std::path::Path;
 use std::sync::Arc;
+use std::sync::atomic::{AtomicU64, Ordering};
 use std::{io, ptr};
 
 /// How large a store is. A store is small if no size is above the first limit, and large otherwise.
@@ -142,7 +143,7 @@ impl<'a> How<'a> {
         self
     }
 
-    /// This is called while the file is read.
+    /// This is called while the file is read. If it panics, then the process is aborted.
     pub fn progress(mut self, tell: &'a mut dyn FnMut(Progress)) -> How<'a> {
         self.progress = Some(tell);
         self
@@ -155,9 +156,14 @@ extern "C" fn tell_opening(user: *mut c_void, progress: *const raw::Progress) {
     tell(Progress::of_raw(unsafe { &*progress }));
 }
 
+/// How many files this process has opened.
+static OPENINGS: AtomicU64 = AtomicU64::new(0);
+
 /// The open file, which the last of those that share it closes.
 pub(crate) struct OpenFile {
     pub(crate) at: *mut raw::File,
+    /// The number of this opening, which no other one of this process has.
+    pub(crate) opening: u64,
 }
 
 // The calls that take a file may be made by any thread.
@@ -183,9 +189,10 @@ fn path_for_c(path: &Path) -> Result<CString, Error> {
 }
 
 impl Store {
-    /// Makes the file of a new store of this shape, which isn't open behind the call. A crash leaves the whole file, or none of this name.
+    /// Makes the file of a new store of this shape, which isn't open after the call. A crash leaves the whole file, or none of this name.
     ///
-    /// `BadShape`, `Memory`, or `Device`: with `AlreadyExists` there is a file of this name, and it stays as it is.
+    /// `BadShape`, `Memory`, or `Device`: with `AlreadyExists` there is a file of this name, and it stays as it is. If the sync of its folder
+    /// alone has failed, the new file stays in place. An opening syncs the folder again.
     pub fn make(path: impl AsRef<Path>, shape: &Shape) -> Result<(), Error> {
         let path = path_for_c(path.as_ref())?;
         answer(unsafe { raw::fkv_make_file(path.as_ptr(), &shape.to_raw()) })?;
@@ -194,7 +201,7 @@ impl Store {
 
     /// Opens the store in this file, in the usual way.
     ///
-    /// `NotAStore`, `Damaged`, `Memory`, or `Device`: with `WouldBlock` another process has it open.
+    /// `NotAStore`, `Damaged`, `Memory`, or `Device`: with `WouldBlock` it is open already, in this process or another one.
     pub fn open(path: impl AsRef<Path>) -> Result<Store, Error> {
         Store::open_with(path, How::default())
     }
@@ -223,8 +230,9 @@ impl Store {
         if result < 0 {
             return Err(Error::of(result, &opened));
         }
+        let opening = OPENINGS.fetch_add(1, Ordering::Relaxed);
         Ok(Store {
-            file: Arc::new(OpenFile { at }),
+            file: Arc::new(OpenFile { at, opening }),
         })
     }
 

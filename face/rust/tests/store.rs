@@ -364,6 +364,17 @@ fn who_waits_for_a_while_goes_on() {
 }
 
 #[test]
+#[should_panic(expected = "another opening")]
+fn a_ticket_of_another_store_is_refused() {
+    let (path, other_path) = (Path::new("ticket"), Path::new("other_ticket"));
+    let (store, other) = (path.store(), other_path.store());
+    let [keeper, others] = [&store, &other].map(|store| store.start(Keeping::default()).unwrap());
+    let ticket = others.ask_commit().unwrap();
+    others.wait(ticket, None).unwrap();
+    let _ = keeper.wait(ticket, None);
+}
+
+#[test]
 fn a_short_time_between_commits_is_not_none() {
     let path = Path::new("short");
     let store = path.store();
@@ -407,6 +418,13 @@ fn sessions_go_to_other_threads_and_the_rest_is_shared() {
     is_sent::<fkv::Session>();
     is_shared::<Store>();
     is_shared::<fkv::Keeper>();
+    // If a session were `Sync`, this wouldn't compile: two functions could be meant.
+    trait IsAlone<T> {
+        fn is_alone() {}
+    }
+    impl<T> IsAlone<()> for T {}
+    impl<T: Sync> IsAlone<u8> for T {}
+    <fkv::Session as IsAlone<_>>::is_alone();
 }
 
 #[test]
