@@ -341,17 +341,11 @@ uint64_t fkv_last_commit(fkv_file *file, uint64_t points[FKV_MOST_SESSIONS]) {
 
 /* ---- Sessions ------------------------------------------------------------------------------------------------------------- */
 
-/* Of any sessions, the first to be given have numbers so far apart. */
-enum { APART = 3 };
-
 static uint32_t bit_of(const fkv_file *file, const fkv_session *session) {
     return UINT32_C(1) << (session - file->sessions);
 }
 
-/*
- * The number of a session that is free, of this one or of any. Of any, every third is given first. Each call of a session notes itself
- * on the session's desk. The desks lie apart, so that no two share a cache line, whatever their numbers.
- */
+/* The number of a session that is free, of this one or of any. */
 static int32_t free_session(const fkv_file *file, uint64_t number, uint64_t *found) {
     uint32_t taken = file->joined | file->abandoned;
     if (number != FKV_ANY_SESSION) {
@@ -359,12 +353,10 @@ static int32_t free_session(const fkv_file *file, uint64_t number, uint64_t *fou
         *found = number;
         return taken >> number & 1 ? -FKV_HANDLE_TAKEN : 0;
     }
-    for (uint64_t first = 0; first < APART; first++) {
-        for (uint64_t i = first; i < file->shape.sessions; i += APART) {
-            if (taken >> i & 1) continue;
-            *found = i;
-            return 0;
-        }
+    for (uint64_t i = 0; i < file->shape.sessions; i++) {
+        if (taken >> i & 1) continue;
+        *found = i;
+        return 0;
     }
     return -FKV_NO_SESSION;
 }

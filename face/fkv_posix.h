@@ -9,8 +9,8 @@
  *     fkv_wait_commit   waits until a commit is finished
  *     fkv_leave, fkv_stop, fkv_close_file
  *
- * Threads. The calls that take an fkv_file may be called by any thread at any time, up to fkv_close_file, which is the last. The
- * calls of a session are for the thread that joined it.
+ * Threads. The calls that take an fkv_file may be called by any thread at any time, up to fkv_close_file, which is the last. One call
+ * at a time on one session. It may move to another thread, as a handle of fkv.h may.
  *
  * Results are those of fkv.h. A call that waits may have done a part of its work before it is refused. Where a result is -FKV_DEVICE,
  * errno says what the system has refused: ENOENT no such file, EEXIST there is one already, EWOULDBLOCK it is open already, ENOSPC no
@@ -94,10 +94,7 @@ uint64_t fkv_last_commit(fkv_file *file, uint64_t points[FKV_MOST_SESSIONS]);
 
 /* ---- Sessions ------------------------------------------------------------------------------------------------------------- */
 
-/*
- * In place of a session's number: any that nobody has. Every third one is given first. Whichever they are, no two sessions note
- * their calls on one cache line.
- */
+/* In place of a session's number: the first that nobody has. */
 #define FKV_ANY_SESSION UINT64_MAX
 
 /*
