@@ -25,6 +25,9 @@
  * Results. A call gives 0 or more for an answer, and for a refusal minus the number of its fault: `-FKV_ASLEEP`. A call that is
  * refused has changed nothing, unless its comment says so; what it would have written through a pointer is then not to be read.
  *
+ * Pointers. None that the library follows is NULL, unless the call's comment allows it. That holds of a room of 0 too, and of a length
+ * of 0.
+ *
  * Values are 0 to 2^64 - 2; 2^64 - 1 stands for 'no value' (FKV_ABSENT). Keys are any words.
  */
 #ifndef FKV_H
@@ -55,7 +58,7 @@ extern "C" {
 /* Commits that a store takes in all its life. */
 #define FKV_MOST_COMMITS 8190
 
-/* A handle is the word `at`. It is written by the call that makes the handle, and NULL before. */
+/* A handle is the word `at`. The call that makes the handle writes the word. If the call is refused, then the word stays as it was. */
 typedef struct { void *at; } fkv_store;
 typedef struct { void *at; } fkv_session;
 typedef struct { void *at; } fkv_keeper;
@@ -63,7 +66,7 @@ typedef struct { void *at; } fkv_keeper;
 /*
  * How large a store is. A store is small or large. It is small if no size is above the first limit, and large otherwise.
  *
- * Behind a commit each key's first update appends a record. One page past the last record's is opened ahead, and no more. If a page
+ * After a commit each key's first update appends a record. One page past the last record's is opened ahead, and no more. If a page
  * holds as many records as keys are updated during a commit, an update seldom waits for room (FKV_NO_ROOM).
  */
 typedef struct {
@@ -79,14 +82,14 @@ typedef struct {
 /* What an opening has told. */
 typedef struct {
     uint64_t number;     /* the last finished commit, 0 in a new store */
-    uint64_t damage;     /* behind -FKV_DAMAGED: 1 manifest slot, 2 triple, 3 record, 4 link of a record, 5 full bucket */
+    uint64_t damage;     /* after -FKV_DAMAGED: 1 manifest slot, 2 triple, 3 record, 4 link of a record, 5 full bucket */
     uint64_t damaged_at; /* and which: a slot's, triple's or bucket's number, or a record's address */
 } fkv_opened;
 
 /* What a renewal has told. */
 typedef struct {
-    uint64_t size;       /* bytes of the new store's file, behind a 0 and behind -FKV_ROOM_SMALL */
-    uint64_t damage;     /* behind -FKV_DAMAGED: the part of the old store, as of fkv_opened */
+    uint64_t size;       /* bytes of the new store's file, after a 0 and after -FKV_ROOM_SMALL */
+    uint64_t damage;     /* after -FKV_DAMAGED: the part of the old store, as of fkv_opened */
     uint64_t damaged_at; /* and which */
 } fkv_renewed;
 
@@ -126,12 +129,12 @@ typedef struct {
 
 /* What a turn of the keeper has posted, or what it has done. */
 typedef struct {
-    uint64_t place;       /* behind FKV_READ and FKV_WRITE: where in the file, in bytes */
+    uint64_t place;       /* after FKV_READ and FKV_WRITE: where in the file, in bytes */
     uint64_t length;      /* and how many bytes */
-    const uint8_t *bytes; /* behind FKV_WRITE: what is to be written. Valid until the next call on this keeper */
-    uint64_t finished;    /* behind FKV_OVER: 1 if the turn has finished a commit */
+    const uint8_t *bytes; /* after FKV_WRITE: what is to be written. Valid until the next call on this keeper */
+    uint64_t finished;    /* after FKV_OVER: 1 if the turn has finished a commit */
     uint64_t number;      /* and that commit's number */
-    uint64_t drain_full;  /* behind FKV_OVER: 1 if a part was left to a later turn, since no drain slot was free */
+    uint64_t drain_full;  /* after FKV_OVER: 1 if a part was left to a later turn, since no drain slot was free */
 } fkv_turned;
 
 /* Answers of a session's calls. */
@@ -172,7 +175,7 @@ enum {
     FKV_VERSIONS_SPENT = 6,  /* the store has taken its last commit */
     FKV_SERIALS_SPENT = 7,   /* the session has taken its last serial, 2^48 - 1 */
     FKV_EPOCHS_SPENT = 8,    /* the last epoch is reached */
-    FKV_DRAIN_FULL = 9,      /* a commit: no drain slot is free; ask again behind a turn */
+    FKV_DRAIN_FULL = 9,      /* a commit: no drain slot is free; ask again after a turn */
     FKV_COMMIT_RUNNING = 10, /* a commit: another one runs, or a turn is in hand */
     FKV_PENDING_LEFT = 11,   /* the session has pending requests: poll until none is left */
     FKV_ASLEEP = 12,         /* the session sleeps */
@@ -202,7 +205,7 @@ const char *fkv_name_of(int32_t result);
 int32_t fkv_image(const fkv_shape *shape, uint8_t *into, size_t room);
 
 /*
- * Opens the store of these bytes: all bytes of its file, which were synced before they were read. They are not needed behind the
+ * Opens the store of these bytes: all bytes of its file, which were synced before they were read. They are not needed after the
  * call, nor kept. `bytes` isn't NULL, though `size` may be 0. `*out` is the address of an fkv_store's word: `&store.at`.
  *
  * `keys` says how keys are placed. The index goes by a key's low bits, so keys in steps of 2^20 would meet in a few buckets. With
@@ -210,11 +213,11 @@ int32_t fkv_image(const fkv_shape *shape, uint8_t *into, size_t room);
  * are hashes, or random. Say the same at each opening. A store that is opened the other way finds none of its keys, and nothing tells
  * so.
  *
- * Each session is awake behind the call, whether it is taken or not, and commits wait for its refresh: take them all, and put those
+ * Each session is awake after the call, whether it is taken or not, and commits wait for its refresh: take them all, and put those
  * to sleep that you don't use.
  *
  * `*shape` becomes the store's shape, `*opened` what was told, and `points` each session's last kept serial, as many as fit into
- * `room`. What lies behind the last session's says nothing.
+ * `room`. What lies behind the last session's says nothing. `points` isn't NULL, though `room` may be 0.
  * 0; -FKV_NOT_A_STORE, -FKV_DAMAGED (`*opened` says where), -FKV_MEMORY.
  */
 int32_t fkv_open(const uint8_t *bytes, size_t size, uint32_t keys, void **out, fkv_shape *shape, fkv_opened *opened,
@@ -231,21 +234,21 @@ int32_t fkv_take_keeper(fkv_store *store, void **out);
 
 /*
  * Gives the store's memory back, once each handle that was taken is ended. What no commit has kept is lost. -FKV_HANDLE_OUT while
- * one is out; a handle that wasn't taken then can't be taken any more. Behind a 0, fkv_free_store.
+ * one is out; a handle that wasn't taken then can't be taken any more. After a 0, fkv_free_store.
  */
 int32_t fkv_close(fkv_store *store);
 
 /*
- * Frees the handle's own block, behind an fkv_close that gave 0. The word is dead then. The block comes from malloc, so the program's
+ * Frees the handle's own block, after an fkv_close that gave 0. The word is dead then. The block comes from malloc, so the program's
  * malloc and free are those that the library is linked with.
  */
 static inline void fkv_free_store(fkv_store store) { free(store.at); }
 
 /*
- * Writes the file of a new store that is a renewal of an old one: the old one's points, and just its keys with their values, as commit 1
- * with one record for each key. So a store that has no room or no commits left lives on. Serials that are spent stay spent. `bytes`
- * are all `size` bytes of the old store's file, synced, and no store need be open. Nothing is kept behind the call. fkv_renew of the
- * repository is a program that does so from file to file.
+ * Writes the file of a new store that is a renewal of an old one. It has the old one's points, and just its keys with their values. They
+ * are its commit 1, with one record for each key. So a store that has no room or no commits left lives on. Serials that are spent stay
+ * spent. `bytes` are all `size` bytes of the old store's file, synced, and no store need be open. Nothing is kept after the call.
+ * fkv_renew of the repository is a program that does so from file to file.
  *
  * `*shape` has the new store's sizes. A shape whose sizes are all 0 stands for the old store's own.
  *
@@ -284,7 +287,7 @@ int32_t fkv_max(fkv_session *session, uint64_t key, uint64_t number, fkv_update 
 int32_t fkv_delete(fkv_session *session, uint64_t key, fkv_update *told);
 
 /*
- * The same calls of `count` keys: one behind the other, in the order of `keys`, and the answer to each stands at its place in `told`.
+ * The same calls of `count` keys: one after the other, in the order of `keys`, and the answer to each stands at its place in `told`.
  * They do what so many single calls do. A key may come twice. A refusal of one doesn't end the others: see each `result`.
  *
  * They are for stores whose index and records don't fit the processor's caches. Before each 16 calls most cache lines are fetched that
@@ -327,15 +330,15 @@ int32_t fkv_wake(fkv_session *session, fkv_seen *seen);
 int32_t fkv_durable(fkv_session *session, uint64_t *serial);
 
 /*
- * The last serial that the session has given, and 0 if it has given none. Its next update has the one behind it. Behind an opening that
- * is its point. It is told of a session that sleeps too. 0; -FKV_NO_SESSION behind fkv_end_session.
+ * The last serial that the session has given, and 0 if it has given none. Its next update has the one after it. After an opening that
+ * is its point. It is told of a session that sleeps too. 0; -FKV_NO_SESSION after fkv_end_session.
  */
 int32_t fkv_serial(fkv_session *session, uint64_t *serial);
 
-/* Puts the session to sleep and gives the handle up. 0; -FKV_PENDING_LEFT. Behind a 0, fkv_free_session. */
+/* Puts the session to sleep and gives the handle up. 0; -FKV_PENDING_LEFT. After a 0, fkv_free_session. */
 int32_t fkv_end_session(fkv_session *session);
 
-/* Frees the handle's own block, behind an fkv_end_session that gave 0. The word is dead then. */
+/* Frees the handle's own block, after an fkv_end_session that gave 0. The word is dead then. */
 static inline void fkv_free_session(fkv_session session) { free(session.at); }
 
 /* ---- The keeper ----------------------------------------------------------------------------------------------------------- */
@@ -354,7 +357,7 @@ int32_t fkv_commit(fkv_keeper *keeper, uint32_t log_only, uint64_t *number);
  *   FKV_WRITE   writes the `length` bytes at `bytes` to `place`, all of them. It may lie past the end of the file, which then grows
  *   FKV_SYNC    syncs the file (fdatasync)
  *   FKV_OVER    the turn is over. If it has finished a commit, `finished` is 1, `number` is its number, and `points` has each
- *               session's last serial that it keeps, as many as fit into `room`
+ *               session's last serial that it keeps, as many as fit into `room`. `points` isn't NULL, though that may be 0
  *
  * A refusal ends the turn: -FKV_DEVICE (what was told has failed), -FKV_BROKEN (an earlier call has failed: the keeper is dead for
  * good), -FKV_MEMORY (the next turn tries again), -FKV_EPOCHS_SPENT.
@@ -365,16 +368,16 @@ int32_t fkv_commit(fkv_keeper *keeper, uint32_t log_only, uint64_t *number);
 int32_t fkv_turn(fkv_keeper *keeper, fkv_turned *turned, uint64_t *points, size_t room);
 
 /*
- * Tells how the posted call has gone, and goes on with the turn, as fkv_turn does. `failed` isn't 0 where it has failed; behind a
- * read `bytes` are what was read, `size` of them, and else `size` is 0. `bytes` isn't NULL.
+ * Tells how the posted call has gone, and goes on with the turn, as fkv_turn does. `failed` isn't 0 where it has failed. After a
+ * read `bytes` are what was read, `size` of them, and else `size` is 0. `bytes` isn't NULL, and `points` neither.
  */
 int32_t fkv_told(fkv_keeper *keeper, uint32_t failed, const uint8_t *bytes, size_t size, fkv_turned *turned, uint64_t *points,
                  size_t room);
 
-/* Gives the handle up. What a commit in hand has not finished is lost. Behind it, fkv_free_keeper. */
+/* Gives the handle up. What a commit in hand has not finished is lost. After it, fkv_free_keeper. */
 void fkv_end_keeper(fkv_keeper *keeper);
 
-/* Frees the handle's own block, behind fkv_end_keeper. The word is dead then. */
+/* Frees the handle's own block, after fkv_end_keeper. The word is dead then. */
 static inline void fkv_free_keeper(fkv_keeper keeper) { free(keeper.at); }
 
 /* ---- Keys ----------------------------------------------------------------------------------------------------------------- */

@@ -12,9 +12,9 @@
  * Threads. The calls that take an fkv_file may be called by any thread at any time, up to fkv_close_file, which is the last. One call
  * at a time on one session. It may move to another thread, as a handle of fkv.h may.
  *
- * Results are those of fkv.h. A call that waits may have done a part of its work before it is refused. Where a result is -FKV_DEVICE,
- * errno says what the system has refused: ENOENT no such file, EEXIST there is one already, EWOULDBLOCK it is open already, ENOSPC no
- * room. That holds too if the keeper's thread made the call.
+ * Results are those of fkv.h, and so is what it says of pointers. A call that waits may have done a part of its work before it is refused.
+ * Where a result is -FKV_DEVICE, errno says what the system has refused: ENOENT no such file, EEXIST there is one already, EWOULDBLOCK
+ * it is open already, ENOSPC no room. That holds too if the keeper's thread made the call.
  */
 #ifndef FKV_POSIX_H
 #define FKV_POSIX_H
@@ -62,7 +62,7 @@ typedef struct {
     uint32_t mapped;           /* not 0: the file is mapped, for one that memory can't hold. A bad disk then kills the process */
     fkv_progress_fn *progress; /* called while the file is read, or NULL */
     void *user;                /* handed to it */
-    fkv_opened *opened;        /* becomes what fkv_open has told, behind -FKV_DAMAGED too; or NULL */
+    fkv_opened *opened;        /* becomes what fkv_open has told, after -FKV_DAMAGED too; or NULL */
 } fkv_how;
 
 /*
@@ -137,13 +137,13 @@ int32_t fkv_read(fkv_file *file, fkv_session *session, uint64_t key, uint64_t *v
 
 /* ---- The keeper's thread -------------------------------------------------------------------------------------------------- */
 
-/* How the keeper's thread goes. All zeros: it commits on request alone. */
+/* How the keeper's thread goes. All zeros, or NULL in its place: it commits on request alone. */
 typedef struct {
     uint32_t commit_ms;          /* a commit each so many milliseconds, unless no session was joined since the last; 0: on request alone */
     uint32_t log_commits;        /* so many log commits between two full ones; 0: each is full */
     uint32_t turn_us;            /* microseconds between two turns when nothing is to be done; 0: 500. See below */
-    fkv_committed_fn *committed; /* called behind each finished commit, or NULL */
-    fkv_progress_fn *progress;   /* called as a commit begins and behind each of its calls of the file, or NULL */
+    fkv_committed_fn *committed; /* called after each finished commit, or NULL */
+    fkv_progress_fn *progress;   /* called as a commit begins and after each of its calls of the file, or NULL */
     void *user;                  /* handed to both hooks. The keeper's thread calls them: make them short, and call no fkv_file there */
 } fkv_keeping;
 
@@ -170,9 +170,9 @@ int32_t fkv_stop(fkv_file *file, uint32_t with_commit);
 int32_t fkv_ask_commit(fkv_file *file, uint64_t *ticket);
 
 /*
- * Waits until that commit is finished: what sessions had done when it was asked for survives a crash. `session` is that of the calling
- * thread, which sleeps meanwhile, so that the commit doesn't wait for its refresh; NULL if it has none, or its session sleeps. It may
- * wait for ever as fkv_commit_and_wait does.
+ * Waits until that commit is finished: what sessions had done when it was asked for survives a crash. `ticket` is of this file.
+ * `session` is that of the calling thread. It sleeps meanwhile, so that the commit doesn't wait for its refresh. It is NULL if the thread
+ * has none, or its session sleeps. The call may wait for ever as fkv_commit_and_wait does.
  * 0; -FKV_PENDING_LEFT: fkv_settle comes first; the fault of the commit; -FKV_BROKEN where no thread runs any more.
  */
 int32_t fkv_wait_commit(fkv_file *file, uint64_t ticket, fkv_session *session);

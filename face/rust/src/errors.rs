@@ -45,7 +45,7 @@ pub enum Error {
     Awake,
     /// More than eight ranges of lost records are in hand.
     LostFull,
-    /// A session is out still.
+    /// A session is out still; or a hook would end the thread that calls it.
     HandleOut,
     /// The session is out already, or a keeper runs already.
     HandleTaken,
