@@ -6,6 +6,7 @@
 # make fkv     proves the program, says at which crate it is, and leaves it at build/fkv
 # make face    proves the library for C, C++ and Rust, and leaves it at build/libfkv.a, with build/fkv.h and build/fkv_posix.h
 # make fkv_renew  proves the program that renews a store, and leaves it at build/fkv_renew
+# make fkv_look  proves the program that shows what a store's file holds, and leaves it at build/fkv_look
 # make rows    runs the built program on whole scripts, and compares what it writes
 # make renewing   renews stored files by that program, and compares what fkv says of the old and of the new ones
 # make memory  runs stored scripts, a store's creation and its opening, a commit's copy and the options' words, with each request for memory refused in turn
@@ -29,7 +30,7 @@ SECONDS ?= 60
 # The crates whose wrong bodies `make audit` tries, as CRATES="fkv_log fkv_ops"; all where nothing is said.
 CRATES ?=
 
-.PHONY: run test fkv face fkv_renew rows renewing memory large bench bench-peers hammer gate audit docs toolchain
+.PHONY: run test fkv face fkv_renew fkv_look rows renewing memory large bench bench-peers hammer gate audit docs toolchain
 
 run: toolchain
 	@tools/script/run "$(SCRIPT)" $(WORDS)
@@ -61,6 +62,12 @@ face: toolchain
 
 fkv_renew: toolchain
 	@tools/script/prove fkv_renew
+
+# (it needs words to end with status 0, and tools/script/prove gives none; a program that runs can be replaced, but not written)
+fkv_look: toolchain
+	@cd crates/fkv_look && rt run -- data/store > /dev/null
+	@mkdir -p build && cp crates/fkv_look/out/fkv_look build/fkv_look.new && mv build/fkv_look.new build/fkv_look
+	@echo "make fkv_look: build/fkv_look is proved" >&2
 
 rows: fkv
 	tools/rows/run build/fkv
