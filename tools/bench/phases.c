@@ -132,7 +132,7 @@ int main(int count, char **words) {
     uint64_t threads = strtoull(words[4], NULL, 10), commits = strtoull(words[5], NULL, 10), bits = 0;
     if (!keys || !threads || threads > MOST_THREADS || !commits || !block) return 2;
     while (UINT64_C(4) << bits < keys) bits++;
-    fkv_shape shape = {bits, 32768, 128, 96, 3 * threads, UINT64_C(1) << bits, 1 << 20};
+    fkv_shape shape = {bits, 32768, 128, 96, threads, UINT64_C(1) << bits, 1 << 20};
     fkv_keeping keeping = {.log_commits = UINT32_MAX};
     double committing = 0;
     must(fkv_make_file(words[1], &shape), "make");

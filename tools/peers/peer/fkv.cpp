@@ -14,13 +14,12 @@ int32_t must(int32_t result, const char *what) {
 
 // Room for all keys in place, and for what commits 50 ms apart append meanwhile: eight records of memory for each key, and 2^20 for
 // each thread at least. Pages are as large as they may be: behind a commit sessions append fast, and one page is opened ahead.
-// An entry of the index stands for a key, seven of them make a bucket: a bucket for each four keys. Three sessions for each thread, so
-// that no two in use share a cache line.
+// An entry of the index stands for a key, seven of them make a bucket: a bucket for each four keys.
 fkv_shape shape_for(const peers::Room &room) {
     unsigned bits = 0;
     while (uint64_t{4} << bits < room.keys) bits++;
     const uint64_t records = std::max(8 * room.keys, uint64_t{room.sessions} << 20), page = 65536, frames = records / page;
-    return {bits, page, frames, frames * 3 / 4, 3 * room.sessions, uint64_t{1} << bits, 1 << 20};
+    return {bits, page, frames, frames * 3 / 4, room.sessions, uint64_t{1} << bits, 1 << 20};
 }
 
 struct Fkv {
