@@ -132,7 +132,7 @@ class PeerOf final : public Peer {
         return place;
     }
 
-    // The same, each call timed until it has taken effect.
+    // The same, each call timed until it has taken effect. What a session does after a block of calls counts to the call after it.
     static uint64_t call_timed(Session &session, const Plan &plan, const Gate &gate, Tally &tally) {
         const Draws &draws = *plan.draws;
         uint64_t place = plan.from;
@@ -143,6 +143,7 @@ class PeerOf final : public Peer {
                 const uint64_t key = key_of(draws.number(drawn, shift));
                 const bool in_commit = gate.committing.load(std::memory_order_relaxed);
                 const uint64_t begun = ticks();
+                if (i == 0) session.idle();
                 if (Draws::chance(drawn) < plan.mix.updates) {
                     plan.mix.update == Update::add ? session.add(key, 1) : session.upsert(key, place);
                     session.settle();
@@ -156,7 +157,6 @@ class PeerOf final : public Peer {
                 tally.all.add(length);
                 if (in_commit || gate.committing.load(std::memory_order_relaxed)) tally.in_commit.add(length);
             }
-            session.idle();
         } while (!gate.stop.load(std::memory_order_relaxed));
         return place;
     }

@@ -64,7 +64,7 @@ def conditions(figures):
     verdict = "The machine was idle but for it." if others < 0.2 else "So figures by the clock say little, and those by processor time hide what waiting for a lock costs."
     lines = [
         f"Measured on {time.strftime('%d %B %Y', time.gmtime(told_run['begun'])).lstrip('0')}, on {machine()}, in {told_run['seconds'] / 60:.1f} minutes{HOW[told_run['how']]}."
-        f" The load was {before:.1f} before and {after:.1f} behind it. Beside the run {others:.1f} processors were busy. A thread of fkv got this share of a processor: {share}. {verdict}"
+        f" The load was {before:.1f} before and {after:.1f} after it. Beside the run {others:.1f} processors were busy. A thread of fkv got this share of a processor: {share}. {verdict}"
     ]
     if told_run["versions"]:
         lines.append(f"Debian's packages: {', '.join(told_run['versions'])}.")
@@ -253,8 +253,8 @@ def beginning(figures):
 {conditions(figures)}
 
 - **Keys** are 64-bit words in no order, and so are values. Each call's key is drawn before anything is timed, the same for all. Zipf has the exponent 0.99, and its ranks are scattered over the keys, as those of YCSB are.
-- **Calls.** YCSB A has half upserts and half gets, B one upsert in twenty calls. F has an add in half of its calls, in place of a read and a write. A cell with commits begins behind one. Before the first of them fkv's log has gone round memory once, as it has after some seconds.{alone(figures)}
-- **fkv** spreads the keys itself. Each session refreshes behind 256 calls; behind 64 while it sees a commit, and behind 8 until all have gone over to its version. An update that lost to another session is polled at once. Memory has room for eight records of each key, and for 2^20 of each thread at least, in pages of 65,536 records. The index has a bucket for each four keys.
+- **Calls.** YCSB A has half upserts and half gets, B one upsert in twenty calls. F has an add in half of its calls, in place of a read and a write. A cell with commits begins after one. Before the first of them fkv's log has gone round memory once, as it has after some seconds.{alone(figures)}
+- **fkv** spreads the keys itself. Each session refreshes after 256 calls; after 64 while it sees a commit, and after 8 until all have gone over to its version. An update that lost to another session is polled at once. Memory has room for eight records of each key, and for 2^20 of each thread at least, in pages of 65,536 records. The index has a bucket for each four keys.
 - **Maps** are `std::unordered_map` behind one mutex and in 64 shards, libcuckoo, TBB and dashmap. dashmap comes twice: as it is, and with 512 shards and each key as its own hash.
 - **LMDB** has one transaction behind a mutex, which a commit ends. By call each update is a transaction, gets wait for nobody, and a commit syncs.
 - **RocksDB** keeps its log in memory up to a commit. **LevelDB** writes it, and a commit syncs. **SQLite** has one transaction behind a mutex, which a commit ends.
@@ -295,7 +295,7 @@ def committed(figures, pictures):
 
 ![Throughput that is kept]({pictures}/kept.svg)
 
-The share of throughput that is kept, in percent, by the clock. The last column is how many processors the keeper takes beside the threads that call. If gets keep next to nothing, their records lie in the file alone: memory lets go of what wasn't updated for long, and a get that waits for the file takes as long as one right behind an opening. A store takes 8,190 commits, 410 seconds at one each 50 ms.
+The share of throughput that is kept, in percent, by the clock. The last column is how many processors the keeper takes beside the threads that call. If gets keep next to nothing, their records lie in the file alone: memory lets go of what wasn't updated for long, and a get that waits for the file takes as long as one right after an opening. A store takes 8,190 commits, 410 seconds at one each 50 ms.
 
 {kept(figures, "log")}
 
@@ -314,7 +314,7 @@ How many milliseconds a commit takes:
 def delayed(figures, pictures, n):
     return f"""### How long a call takes
 
-Each call is timed until it has taken effect. So a call that waits for the device, or for a commit, counts until it is through.
+Each call is timed until it has taken effect. So a call that waits for the device, or for a commit, counts until it is through. A session's refresh counts to the call after it.
 
 How many times as late the 99.9th percentile of fkv comes with a log commit each 50 ms as without:
 
@@ -345,7 +345,7 @@ A store is loaded, {thousands(figures.told["calls"])} adds follow with four comm
 
 {recovered(figures, opening_told)}
 
-How long a get takes right behind that, one after another. fkv has no record in memory then, and reads each from the file.
+How long a get takes right after that, one after another. fkv has no record in memory then, and reads each from the file.
 
 {recovered(figures, lambda it: time_told(1e9 * it["each"]))}
 """
