@@ -48,7 +48,7 @@ pub record IsSessionTaken {P : Type 0} (before : Store) (number : ℕ) (result :
   pub given : IsGiven (store_keys before) (store_sessions before) number its (store_sessions after)
   pub told : IsHandedOut its result out out'
   pub keeper : store_keeper after ≡ store_keeper before
-  pub open : store_is_open after ≡ store_is_open before
+  pub stays_open : store_is_open after ≡ store_is_open before
   pub keys : store_keys after ≡ store_keys before
 
 pub record IsKeeperTaken {P : Type 0} (before : Store) (result : ℤ) (out out' : P) (after : Store) : Type 0 where
@@ -56,7 +56,7 @@ pub record IsKeeperTaken {P : Type 0} (before : Store) (result : ℤ) (out out' 
   pub given : IsKeeperGiven (store_keeper before) its (store_keeper after)
   pub told : IsHandedOut its result out out'
   pub sessions : store_sessions after ≡ store_sessions before
-  pub open : store_is_open after ≡ store_is_open before
+  pub stays_open : store_is_open after ≡ store_is_open before
   pub keys : store_keys after ≡ store_keys before
 
 -- The store is closed, or a handle is out. What nobody had taken is gone in both cases.
