@@ -34,6 +34,7 @@ fn seats(
             table: share,
             session,
             pass: Some(pass),
+            _apart: [0; 32],
         }))?;
     }
     Ok(seats)

@@ -19,7 +19,12 @@ pub struct Seated {
     pub(crate) session: Session,
     /// It is out only while a call runs.
     pub(crate) pass: Option<Pass<Posted<'static>>>,
+    pub(crate) _apart: Apart,
 }
+
+/// What lies at the end of a session's block of memory. Each call writes its pass, and reads the block's start. Without this the pass of one session and the
+/// start of the next one's block could share a cache line, and each call would wait for the other session's.
+pub(crate) type Apart = [u64; 32];
 
 impl Model for Seated {
     ghost use Rattle.std.specs.Prelude.{◌≡◌, true};
