@@ -1,5 +1,7 @@
 #include "cell.hpp"
 
+#include <sched.h>
+
 #include <chrono>
 #include <cstdio>
 #include <fstream>
@@ -34,6 +36,18 @@ double busy() {
     uint64_t user = 0, nice = 0, system = 0, idle = 0, wait = 0, hard = 0, soft = 0, stolen = 0;
     stat >> cpu >> user >> nice >> system >> idle >> wait >> hard >> soft >> stolen;
     return double(user + nice + system + hard + soft + stolen) / sysconf(_SC_CLK_TCK);
+}
+
+// Binds this thread to one of the processors that the program may use. On a machine that others use too, one processor may be half as fast as
+// another.
+void bind_to(unsigned place) {
+    cpu_set_t all, one;
+    if (sched_getaffinity(0, sizeof all, &all) != 0) fail("no processors are told");
+    unsigned left = place % CPU_COUNT(&all), processor = 0;
+    while (!CPU_ISSET(processor, &all) || left-- > 0) processor++;
+    CPU_ZERO(&one);
+    CPU_SET(processor, &one);
+    if (sched_setaffinity(0, sizeof one, &one) != 0) fail("a thread isn't bound");
 }
 
 // A commit each 50 ms until the cell's end, the first after 25 ms. One that takes longer is followed by the next at once.
@@ -75,7 +89,7 @@ void put_delays(std::ostringstream &out, const char *name, const Delays &delays,
 
 }  // namespace
 
-Outcome measure(Peer &peer, const Cell &cell, const Draws &draws, unsigned turn) {
+Outcome measure(Peer &peer, const Cell &cell, const Draws &draws, unsigned turn, unsigned round) {
     Outcome outcome;
     Gate gate;
     std::vector<Tally> tallies(cell.threads);
@@ -85,7 +99,10 @@ Outcome measure(Peer &peer, const Cell &cell, const Draws &draws, unsigned turn)
     for (unsigned n = 0; n < cell.threads; n++) {
         const uint64_t from = (Draws::count / 4 * n + 4096 * turn) % Draws::count;
         const Plan plan{&draws, cell.mix, from, cell.timed};
-        threads.emplace_back([&peer, &gate, &tallies, n, plan] { peer.run(n, plan, gate, tallies[n]); });
+        threads.emplace_back([&peer, &gate, &tallies, n, plan, round] {
+            bind_to(n + round);
+            peer.run(n, plan, gate, tallies[n]);
+        });
     }
     std::thread committer;
     if (cell.commits != Commits::none) committer = std::thread([&] { commit_on(peer, cell, gate, outcome); });

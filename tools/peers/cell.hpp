@@ -33,7 +33,8 @@ struct Outcome {
     Delays all, in_commit;   // in ticks
 };
 
-Outcome measure(Peer &peer, const Cell &cell, const Draws &draws, unsigned turn);
+// The threads run on processors by the round, so cells of a round run on the same ones. The turn says where the draws begin.
+Outcome measure(Peer &peer, const Cell &cell, const Draws &draws, unsigned turn, unsigned round);
 
 // As one line of JSON, behind the words that say which cell it is of.
 std::string spelled(const Outcome &outcome, const Cell &cell, double ticks_a_second);

@@ -204,7 +204,7 @@ class Run {
         peer.resume();
         const bool checked = cell.mix.updates == 1024 && cell.mix.update == Update::add && cell.keys <= least_checked;
         const uint64_t before = checked ? peer.sum(cell.keys) : 0;
-        const Outcome outcome = measure(peer, cell, board.draws[cell.zipf], turn_++);
+        const Outcome outcome = measure(peer, cell, board.draws[cell.zipf], turn_++, round);
         if (checked && peer.sum(cell.keys) != before + outcome.updates) fail(std::string(guest.kind->name) + ": an add is lost");
         peer.pause();
         std::cout << "{\"part\": \"" << part << "\", \"round\": " << round << ", \"peer\": \"" << guest.kind->name << "\", " << spelled(outcome, cell, ticks_) << "}" << std::endl;

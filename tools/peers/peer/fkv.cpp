@@ -41,7 +41,7 @@ struct Fkv {
             refresh();
         }
 
-        // Before each call: until all sessions have gone over to a commit's next version updates take long, so there each eighth
+        // Before each call: until all sessions have gone over to a commit's next version new records take long, so there each eighth
         // call has a refresh.
         void go_over() {
             if (seen.phase != FKV_REST && seen.phase != FKV_WAIT_FLUSH && ++calls % 8 == 0) [[unlikely]] refresh();

@@ -1,5 +1,6 @@
 // LevelDB: writes aren't synced, and a commit is an empty write that is.
 #include <leveldb/db.h>
+#include <leveldb/env.h>
 #include <leveldb/write_batch.h>
 
 #include <cstring>
@@ -48,6 +49,8 @@ struct Level {
         leveldb::DB *opened;
         must(leveldb::DB::Open(options, room.folder, &opened), "open");
         db.reset(opened);
+        // Its thread for work beside begins here. Else a bound thread would begin it, on its own processor alone.
+        leveldb::Env::Default()->Schedule([](void *) {}, nullptr);
     }
     std::unique_ptr<Session> session(unsigned) { return std::make_unique<Session>(*this); }
 
