@@ -29,7 +29,7 @@ use Rattle.fkv_ops.specs.Appending.{appending_ask, appending_next, reserve_ledto
 use Rattle.fkv_ops.specs.Trying.{TryState, trying_ask, trying_next, append_ledto, words_of, header_of, ends}
 use Rattle.fkv_ops.specs.Walking.{WalkState}
 use Rattle.fkv_session.specs.Sessions.{SessionState}
-use Rattle.fkv_straight.specs.Course.{Course, IsSettled, home_in, request_in}
+use Rattle.fkv_straight.specs.Course.{Course, IsSettled, home_in, request_in, shares}
 use Rattle.fkv_straight.specs.Met.{trying, append_at, IsAtReserve, IsAtFill, IsReserved, IsAtPublish}
 use Rattle.fkv_straight.specs.Standing.{asked, leads, next_try, IsDone, IsWaiting}
 use Rattle.fkv_straight.proofs.Moves.{asks_load, asks_store, asks_cas, led_on, steps, ends_done, ends_waiting}
@@ -90,25 +90,25 @@ take_comes c place entry old tail found s u at e won above fits = (
 )
 
 -- another session was quicker
-take_fails : (c : Course) (w : WalkState) (place entry : ℕ) (old : Option ℕ) (tail found : ℕ) → (found == tail) ≡ false → (next_try c (reserving c w place entry old (reserve.TakesTail tail)) found).step ≡ Ended (tried.Wait reason.Contended)
+take_fails : (c : Course) (w : WalkState) (place entry : ℕ) (old : Option ℕ) (tail found : ℕ) → shares c ≡ false → (found == tail) ≡ false → (next_try c (reserving c w place entry old (reserve.TakesTail tail)) found).step ≡ Ended (tried.Wait reason.Contended)
 unfolding trying_next append_ledto appending_ask appending_next reserve_ledto reserve_ask reserve_next reserve_next_ask ends passed
-take_fails c w place entry old tail found lost = rw lost refl
+take_fails c w place entry old tail found calm lost = rw (lost, calm) refl
 
-take_leaves : (c : Course) (w : WalkState) (place entry : ℕ) (old : Option ℕ) (tail found : ℕ) → (found == tail) ≡ false → (next_try c (reserving c w place entry old (reserve.TakesTail tail)) found).spare ≡ c.lasts.spare
+take_leaves : (c : Course) (w : WalkState) (place entry : ℕ) (old : Option ℕ) (tail found : ℕ) → shares c ≡ false → (found == tail) ≡ false → (next_try c (reserving c w place entry old (reserve.TakesTail tail)) found).spare ≡ c.lasts.spare
 unfolding trying_next append_ledto appending_ask appending_next reserve_ledto reserve_ask reserve_next reserve_next_ask ends passed
-take_leaves c w place entry old tail found lost = rw lost refl
+take_leaves c w place entry old tail found calm lost = rw (lost, calm) refl
 
-take_free : (c : Course) (w : WalkState) (place entry : ℕ) (old : Option ℕ) (tail found : ℕ) → (found == tail) ≡ false → (next_try c (reserving c w place entry old (reserve.TakesTail tail)) found).has_shared ≡ false
+take_free : (c : Course) (w : WalkState) (place entry : ℕ) (old : Option ℕ) (tail found : ℕ) → shares c ≡ false → (found == tail) ≡ false → (next_try c (reserving c w place entry old (reserve.TakesTail tail)) found).has_shared ≡ false
 unfolding trying_next append_ledto appending_ask appending_next reserve_ledto reserve_ask reserve_next reserve_next_ask ends passed
-take_free c w place entry old tail found lost = rw lost refl
+take_free c w place entry old tail found calm lost = rw (lost, calm) refl
 
-pub take_lost : (c : Course) (place entry : ℕ) (old : Option ℕ) (tail found : ℕ) (s u : SessionState) → IsSettled c → is_read c.op ≡ false → IsAtReserve c place entry old (reserve.TakesTail tail) s → u ≡ leads c.seat s found → ¬ (found ≡ tail)
+pub take_lost : (c : Course) (place entry : ℕ) (old : Option ℕ) (tail found : ℕ) (s u : SessionState) → IsSettled c → shares c ≡ false → is_read c.op ≡ false → IsAtReserve c place entry old (reserve.TakesTail tail) s → u ≡ leads c.seat s found → ¬ (found ≡ tail)
     → IsWaiting c u
 unfolding IsAtReserve
-take_lost c place entry old tail found s u settled updates at e lost =
+take_lost c place entry old tail found s u settled calm updates at e lost =
     let t = reserving c at.0 place entry old (reserve.TakesTail tail) in
     let no = differs found tail lost in
-    ends_waiting c (next_try c t found) u settled (led_on c t found s u at.1 e) (take_fails c at.0 place entry old tail found no) (take_leaves c at.0 place entry old tail found no) (take_free c at.0 place entry old tail found no) updates
+    ends_waiting c (next_try c t found) u settled (led_on c t found s u at.1 e) (take_fails c at.0 place entry old tail found calm no) (take_leaves c at.0 place entry old tail found calm no) (take_free c at.0 place entry old tail found calm no) updates
 
 -- ---- its words are stored
 pub value_asks : (c : Course) (place entry : ℕ) (old : Option ℕ) (addr : ℕ) (s : SessionState) → IsReserved c place entry old addr s → asked c.seat s ≡ Store (record_place c.seat.places addr rec.Value) (word_of (value_applied old c.op))
@@ -174,16 +174,16 @@ pub publish_asks : (c : Course) (place entry : ℕ) (old : Option ℕ) (addr : �
 unfolding IsAtPublish trying_ask appending_ask publish_ask passed
 publish_asks c place entry old addr s at = asks_cas c (publishing c at.0 place entry old addr) place entry (new_entry addr (home_in c).tag) s at.1 refl
 
-published : (c : Course) (w : WalkState) (place entry : ℕ) (old : Option ℕ) (addr : ℕ) → (entry == entry) ≡ true → (next_try c (publishing c w place entry old addr) entry).step ≡ Ended (tried.Done (reply_from old c.op))
+published : (c : Course) (w : WalkState) (place entry : ℕ) (old : Option ℕ) (addr : ℕ) → shares c ≡ false → (entry == entry) ≡ true → (next_try c (publishing c w place entry old addr) entry).step ≡ Ended (tried.Done (reply_from old c.op))
 unfolding trying_next append_ledto appending_ask appending_next publish_ledto publish_ask publish_next publish_next_ask ends passed
-published c w place entry old addr won = rw won refl
+published c w place entry old addr calm won = rw (won, calm) refl
 
-publish_spares : (c : Course) (w : WalkState) (place entry : ℕ) (old : Option ℕ) (addr : ℕ) → (entry == entry) ≡ true → (next_try c (publishing c w place entry old addr) entry).spare ≡ c.lasts.spare
+publish_spares : (c : Course) (w : WalkState) (place entry : ℕ) (old : Option ℕ) (addr : ℕ) → shares c ≡ false → (entry == entry) ≡ true → (next_try c (publishing c w place entry old addr) entry).spare ≡ c.lasts.spare
 unfolding trying_next append_ledto appending_ask appending_next publish_ledto publish_ask publish_next publish_next_ask ends passed
-publish_spares c w place entry old addr won = rw won refl
+publish_spares c w place entry old addr calm won = rw (won, calm) refl
 
-pub publish_ends : (c : Course) (place entry : ℕ) (old : Option ℕ) (addr found : ℕ) (s u : SessionState) → IsSettled c → IsAtPublish c place entry old addr s → is_read c.op ≡ false → found ≡ entry → u ≡ leads c.seat s found → IsDone c (reply_from old c.op) u
+pub publish_ends : (c : Course) (place entry : ℕ) (old : Option ℕ) (addr found : ℕ) (s u : SessionState) → IsSettled c → shares c ≡ false → IsAtPublish c place entry old addr s → is_read c.op ≡ false → found ≡ entry → u ≡ leads c.seat s found → IsDone c (reply_from old c.op) u
 unfolding IsAtPublish
-publish_ends c place entry old addr found s u settled at updates won e =
+publish_ends c place entry old addr found s u settled calm at updates won e =
     ends_done c (next_try c (publishing c at.0 place entry old addr) entry) (reply_from old c.op) u settled (led_on c (publishing c at.0 place entry old addr) entry s u at.1 (e ∙ ap (λ (n : ℕ). leads c.seat s n) won))
-    (published c at.0 place entry old addr (same entry)) (publish_spares c at.0 place entry old addr (same entry)) updates
+    (published c at.0 place entry old addr calm (same entry)) (publish_spares c at.0 place entry old addr calm (same entry)) updates

@@ -1,8 +1,10 @@
 -- How an update changes its record in place.
-use Rattle.std.proofs.Common.{◌≡◌, ℕ, ◌≤◌, refl, sym, ap, ◌∙◌, subst, arith, true, false}
-use Rattle.std.specs.Prelude.{◌==◌, nat_lt, nat_le, None}
+use Rattle.std.proofs.Common.{◌≡◌, ℕ, ◌≤◌, refl, sym, ap, ◌∙◌, subst, arith, Bool, true, false}
+use Rattle.std.specs.Prelude.{◌==◌, ◌&&◌, nat_lt, nat_le, Option, None}
 use Rattle.std.proofs.lemmas.Bool.Decides.{nat_tests}
+use Rattle.fkv_base.specs.declared.numbers.Version.{Version}
 use Rattle.fkv_map.specs.declared.operations.Op.{Op}
+use Rattle.fkv_map.specs.declared.operations.Reply.{Reply}
 use Rattle.fkv_map.specs.Keys.{key_of, value_applied, reply_from}
 use Rattle.fkv_plane.specs.declared.asks.Ask.TheVariants.{Load, Swap, Cas}
 use Rattle.fkv_plane.specs.declared.places.RecordWord.TheVariants as rec
@@ -10,9 +12,11 @@ use Rattle.fkv_plane.specs.Passing.{passed}
 use Rattle.fkv_plane.specs.Places.{record_place}
 use Rattle.fkv_log.specs.declared.loading.Loading.TheVariants as load
 use Rattle.fkv_log.specs.Loading.{load_ask, load_next, load_next_ask, load_on}
+use Rattle.fkv_index.specs.Slots.{entry_addr}
 use Rattle.fkv_ops.specs.declared.answers.Reason.TheVariants as reason
 use Rattle.fkv_ops.specs.declared.answers.TryAnswer.TheVariants as tried
 use Rattle.fkv_ops.specs.declared.header_words.HeaderSaid.TheVariants.{Says}
+use Rattle.fkv_ops.specs.declared.trying.Trying.{Trying}
 use Rattle.fkv_ops.specs.declared.trying.Trying.TheVariants.{SwapsValue, LoadsCurrent, ChangesValue, Ended}
 use Rattle.fkv_ops.specs.declared.walking.WalkAnswer.TheVariants as walked
 use Rattle.fkv_ops.specs.declared.walking.Walking.TheVariants.{HasFound}
@@ -21,13 +25,13 @@ use Rattle.fkv_ops.specs.HeaderWords.{header_said}
 use Rattle.fkv_ops.specs.Requests.{is_read, is_blind}
 use Rattle.fkv_ops.specs.Values.{value_of, word_of}
 use Rattle.fkv_ops.specs.Appending.{append_rested}
-use Rattle.fkv_ops.specs.Trying.{TryState, trying_ask, trying_next, walk_ledto, current_ledto, ends}
-use Rattle.fkv_ops.specs.Walking.{WalkState, walking_ask, walking_next, load_ledto, value_ledto, walking_on}
+use Rattle.fkv_ops.specs.Trying.{TryState, trying_ask, trying_next, walk_ledto, current_ledto, ends, takes_effect, is_above}
+use Rattle.fkv_ops.specs.Walking.{WalkState, first_met, walking_ask, walking_next, load_ledto, value_ledto, walking_on}
 use Rattle.fkv_session.specs.Sessions.{Seat, SessionState}
 use Rattle.fkv_straight.specs.declared.going.Going.{Going}
 use Rattle.fkv_straight.specs.declared.searching.Record.{Record}
 use Rattle.fkv_straight.specs.Course.{Course, IsSettled, head_in, request_in, shares, Goes}
-use Rattle.fkv_straight.specs.Met.{Trail, trying, meeting, holding, walking, HasKey, IsMet, IsAtSwap, IsAtCurrent, IsAtChange}
+use Rattle.fkv_straight.specs.Met.{Trail, IsTrail, IsUnshifted, trying, meeting, holding, walking, HasKey, IsMet, IsAtSwap, IsAtCurrent, IsAtChange, HasChanged, HasLost}
 use Rattle.fkv_straight.specs.Standing.{asked, leads, IsLed, next_try, IsDone, IsWaiting}
 use Rattle.fkv_straight.proofs.Moves.{asks_load, asks_swap, asks_cas, led_on, stays, steps, ends_done, ends_waiting}
 use Rattle.fkv_straight.proofs.Tests.{differs, same, here}
@@ -38,19 +42,37 @@ pub record MetBy (c : Course) (r : Record) : Type 0 where
   pub said : header_said r.header ≡ Says (record { 0 = r.previous }) (record { 0 = r.version })
   pub below : nat_lt r.previous r.addr ≡ true
   pub mine : ((key_of c.op).0 == (key_of c.op).0) ≡ true
-  pub calm : shares c ≡ false
+  pub stays : IsUnshifted c r
   pub updates : is_read c.op ≡ false
   pub above : nat_lt r.addr (head_in c) ≡ false
 
-pub met_by : (c : Course) (r : Record) (s : SessionState) → IsMet c r s → shares c ≡ false → is_read c.op ≡ false → MetBy c r
-met_by c r s met calm updates = record {
+pub met_by : (c : Course) (r : Record) (s : SessionState) → IsMet c r s → IsUnshifted c r → is_read c.op ≡ false → MetBy c r
+met_by c r s met stays updates = record {
   said = met.said;
   below = (let h = met.below in grind (arith, nat_tests));
   mine = same (key_of c.op).0;
-  calm = calm;
+  stays = stays;
   updates = updates;
   above = (here c.seat.places.ring (head_in c) r.addr met.here).above;
 }
+
+-- an update that shares no latch stays at its version
+pub calm_stays : (c : Course) (r : Record) → shares c ≡ false → IsUnshifted c r
+calm_stays c r calm = λ trail at. rw calm refl
+
+and_not : (b d : Bool) → d ≡ false → (b && d) ≡ false
+and_not true d e = e
+and_not false d e = refl
+
+own_above : (version own : ℕ) → version ≡ own → nat_lt own version ≡ false
+own_above version own e = grind (arith, nat_tests)
+
+-- so does one that has met a record of its own version as the first of its chain
+pub first_stays : (c : Course) (r : Record) → r.addr ≡ entry_addr r.entry → r.version ≡ (request_in c).version.0 → IsUnshifted c r
+first_stays c r first own = λ trail at.
+    let none : trail.first ≡ None = at.fresh first in
+    and_not (shares c) (is_above (first_met trail.first (record { 0 = r.version })) (request_in c).version)
+    (ap (λ (o : Option Version). is_above (first_met o (record { 0 = r.version })) (request_in c).version) none ∙ own_above r.version (request_in c).version.0 own)
 
 -- and where the session may change it
 pub record MayChange (c : Course) (r : Record) : Type 0 where
@@ -68,46 +90,36 @@ abbrev at_record : Course → Trail → Record → WalkState
 at_record c trail r = walking c (past trail (record { 0 = r.version })) r.place r.entry (load.HasKey (record { 0 = r.addr }) r.header (key_of c.op).0) (HasFound (record { 0 = r.addr }) (record { 0 = r.version }))
 
 -- ---- by one Swap
-turns_to_swap : (c : Course) (trail : Trail) (r : Record) → MetBy c r → MayChange c r → is_blind c.op ≡ true
+turns_to_swap : (c : Course) (trail : Trail) (r : Record) → IsTrail trail r.entry r.addr → MetBy c r → MayChange c r → is_blind c.op ≡ true
     → next_try c (meeting c trail r.place r.entry r.addr (load.LoadsKey (record { 0 = r.addr }) r.header)) (key_of c.op).0 ≡ trying c (at_record c trail r) append_rested (SwapsValue (record { 0 = r.addr }))
 unfolding trying_next walk_ledto walking_ask walking_next load_ledto load_ask load_next load_next_ask passed
-turns_to_swap c trail r met may blind = rw (met.said, met.below, met.mine, met.calm, met.updates, met.above, may.mutable, may.own, blind) refl
+turns_to_swap c trail r walked met may blind = rw (met.said, met.below, met.mine, met.stays trail walked, met.updates, met.above, may.mutable, may.own, blind) refl
 
 pub met_swaps : (c : Course) (r : Record) (s : SessionState) → IsMet c r s → MetBy c r → MayChange c r → is_blind c.op ≡ true → IsAtSwap c r.addr s
 unfolding HasKey IsAtSwap trying_ask
 met_swaps c r s met by may blind =
     let has = met.key in
-    (at_record c has.0 r, stays c (trying c (at_record c has.0 r) append_rested (SwapsValue (record { 0 = r.addr }))) s (subst (λ (t : TryState). IsLed c t s) (turns_to_swap c has.0 r by may blind) has.1) refl refl)
+    (at_record c has.0 r, stays c (trying c (at_record c has.0 r) append_rested (SwapsValue (record { 0 = r.addr }))) s (subst (λ (t : TryState). IsLed c t s) (turns_to_swap c has.0 r has.1 by may blind) has.2) refl refl)
 
 pub swap_asks : (c : Course) (addr : ℕ) (s : SessionState) → IsAtSwap c addr s → asked c.seat s ≡ Swap (record_place c.seat.places addr rec.Value) (word_of (value_applied None c.op))
 unfolding IsAtSwap trying_ask
 swap_asks c addr s at = asks_swap c (trying c at.0 append_rested (SwapsValue (record { 0 = addr }))) (record_place c.seat.places addr rec.Value) (word_of (value_applied None c.op)) s at.1 refl
 
-swapped : (c : Course) (w : WalkState) (addr reply : ℕ) → (next_try c (trying c w append_rested (SwapsValue (record { 0 = addr }))) reply).step ≡ Ended (tried.Done (reply_from None c.op))
-unfolding trying_next ends
-swapped c w addr reply = refl
-
-swap_spares : (c : Course) (w : WalkState) (addr reply : ℕ) → (next_try c (trying c w append_rested (SwapsValue (record { 0 = addr }))) reply).spare ≡ c.lasts.spare
-unfolding trying_next ends
-swap_spares c w addr reply = refl
-
-pub swap_ends : (c : Course) (addr reply : ℕ) (s u : SessionState) → IsSettled c → IsAtSwap c addr s → is_read c.op ≡ false → u ≡ leads c.seat s reply → IsDone c (reply_from None c.op) u
-unfolding IsAtSwap
-swap_ends c addr reply s u settled at updates e =
-    let t = trying c at.0 append_rested (SwapsValue (record { 0 = addr })) in
-    ends_done c (next_try c t reply) (reply_from None c.op) u settled (led_on c t reply s u at.1 e) (swapped c at.0 addr reply) (swap_spares c at.0 addr reply) updates
+pub swap_changes : (c : Course) (addr reply : ℕ) (s u : SessionState) → IsAtSwap c addr s → u ≡ leads c.seat s reply → HasChanged c (reply_from None c.op) u
+unfolding IsAtSwap HasChanged trying_next
+swap_changes c addr reply s u at e = (at.0, SwapsValue (record { 0 = addr }), led_on c (trying c at.0 append_rested (SwapsValue (record { 0 = addr }))) reply s u at.1 e)
 
 -- ---- by a load and a Cas
-turns_to_load : (c : Course) (trail : Trail) (r : Record) → MetBy c r → MayChange c r → is_blind c.op ≡ false
+turns_to_load : (c : Course) (trail : Trail) (r : Record) → IsTrail trail r.entry r.addr → MetBy c r → MayChange c r → is_blind c.op ≡ false
     → next_try c (meeting c trail r.place r.entry r.addr (load.LoadsKey (record { 0 = r.addr }) r.header)) (key_of c.op).0 ≡ holding c (past trail (record { 0 = r.version })) r (LoadsCurrent (record { 0 = r.addr }))
 unfolding trying_next walk_ledto walking_ask walking_next load_ledto load_ask load_next load_next_ask load_on walking_on passed
-turns_to_load c trail r met may seeing = rw (met.said, met.below, met.mine, met.calm, met.updates, met.above, may.mutable, may.own, seeing) refl
+turns_to_load c trail r walked met may seeing = rw (met.said, met.below, met.mine, met.stays trail walked, met.updates, met.above, may.mutable, may.own, seeing) refl
 
 pub met_currents : (c : Course) (r : Record) (s : SessionState) → IsMet c r s → MetBy c r → MayChange c r → is_blind c.op ≡ false → IsAtCurrent c r s
 unfolding HasKey IsAtCurrent trying_ask walking_ask load_ask passed
 met_currents c r s met by may seeing =
     let has = met.key in
-    (past has.0 (record { 0 = r.version }), stays c (holding c (past has.0 (record { 0 = r.version })) r (LoadsCurrent (record { 0 = r.addr }))) s (subst (λ (t : TryState). IsLed c t s) (turns_to_load c has.0 r by may seeing) has.1) refl refl)
+    (past has.0 (record { 0 = r.version }), stays c (holding c (past has.0 (record { 0 = r.version })) r (LoadsCurrent (record { 0 = r.addr }))) s (subst (λ (t : TryState). IsLed c t s) (turns_to_load c has.0 r has.1 by may seeing) has.2) refl refl)
 
 pub current_asks : (c : Course) (r : Record) (s : SessionState) → IsAtCurrent c r s → asked c.seat s ≡ Load (record_place c.seat.places r.addr rec.Value)
 unfolding IsAtCurrent trying_ask walking_ask load_ask passed
@@ -131,36 +143,56 @@ pub change_asks : (c : Course) (addr old : ℕ) (s : SessionState) → IsAtChang
 unfolding IsAtChange trying_ask
 change_asks c addr old s at = asks_cas c (trying c at.0 append_rested (ChangesValue (record { 0 = addr }) old)) (record_place c.seat.places addr rec.Value) old (word_of (value_applied (value_of old) c.op)) s at.1 refl
 
-changed : (c : Course) (w : WalkState) (addr old : ℕ) → (old == old) ≡ true → (next_try c (trying c w append_rested (ChangesValue (record { 0 = addr }) old)) old).step ≡ Ended (tried.Done (reply_from (value_of old) c.op))
-unfolding trying_next ends
-changed c w addr old won = rw won refl
+won_changes : (c : Course) (w : WalkState) (addr old : ℕ) → (old == old) ≡ true
+    → next_try c (trying c w append_rested (ChangesValue (record { 0 = addr }) old)) old ≡ takes_effect c.seat.places (trying c w append_rested (ChangesValue (record { 0 = addr }) old)) (reply_from (value_of old) c.op)
+unfolding trying_next
+won_changes c w addr old won = rw won refl
 
-change_spares : (c : Course) (w : WalkState) (addr old : ℕ) → (old == old) ≡ true → (next_try c (trying c w append_rested (ChangesValue (record { 0 = addr }) old)) old).spare ≡ c.lasts.spare
-unfolding trying_next ends
-change_spares c w addr old won = rw won refl
-
-pub change_ends : (c : Course) (addr old found : ℕ) (s u : SessionState) → IsSettled c → IsAtChange c addr old s → is_read c.op ≡ false → found ≡ old → u ≡ leads c.seat s found → IsDone c (reply_from (value_of old) c.op) u
-unfolding IsAtChange
-change_ends c addr old found s u settled at updates won e =
+pub change_changes : (c : Course) (addr old found : ℕ) (s u : SessionState) → IsAtChange c addr old s → found ≡ old → u ≡ leads c.seat s found → HasChanged c (reply_from (value_of old) c.op) u
+unfolding IsAtChange HasChanged
+change_changes c addr old found s u at won e =
     let t = trying c at.0 append_rested (ChangesValue (record { 0 = addr }) old) in
-    ends_done c (next_try c t old) (reply_from (value_of old) c.op) u settled (led_on c t old s u at.1 (e ∙ ap (λ (n : ℕ). leads c.seat s n) won)) (changed c at.0 addr old (same old)) (change_spares c at.0 addr old (same old)) updates
+    (at.0, ChangesValue (record { 0 = addr }) old, subst (λ (x : TryState). IsLed c x u) (won_changes c at.0 addr old (same old)) (led_on c t old s u at.1 (e ∙ ap (λ (n : ℕ). leads c.seat s n) won)))
 
 -- another session was quicker
-change_fails : (c : Course) (w : WalkState) (addr old found : ℕ) → (found == old) ≡ false → (next_try c (trying c w append_rested (ChangesValue (record { 0 = addr }) old)) found).step ≡ Ended (tried.Wait reason.Contended)
-unfolding trying_next ends
-change_fails c w addr old found lost = rw lost refl
+lost_ends : (c : Course) (w : WalkState) (addr old found : ℕ) → (found == old) ≡ false
+    → next_try c (trying c w append_rested (ChangesValue (record { 0 = addr }) old)) found ≡ ends c.seat.places (trying c w append_rested (ChangesValue (record { 0 = addr }) old)) (tried.Wait reason.Contended)
+unfolding trying_next
+lost_ends c w addr old found lost = rw lost refl
 
-change_leaves : (c : Course) (w : WalkState) (addr old found : ℕ) → (found == old) ≡ false → (next_try c (trying c w append_rested (ChangesValue (record { 0 = addr }) old)) found).spare ≡ c.lasts.spare
-unfolding trying_next ends
-change_leaves c w addr old found lost = rw lost refl
-
-change_free : (c : Course) (w : WalkState) (addr old found : ℕ) → (found == old) ≡ false → (next_try c (trying c w append_rested (ChangesValue (record { 0 = addr }) old)) found).has_shared ≡ false
-unfolding trying_next ends
-change_free c w addr old found lost = rw lost refl
-
-pub change_lost : (c : Course) (addr old found : ℕ) (s u : SessionState) → IsSettled c → IsAtChange c addr old s → is_read c.op ≡ false → ¬ (found ≡ old) → u ≡ leads c.seat s found → IsWaiting c u
-unfolding IsAtChange
-change_lost c addr old found s u settled at updates lost e =
+pub change_loses : (c : Course) (addr old found : ℕ) (s u : SessionState) → IsAtChange c addr old s → ¬ (found ≡ old) → u ≡ leads c.seat s found → HasLost c u
+unfolding IsAtChange HasLost
+change_loses c addr old found s u at lost e =
     let t = trying c at.0 append_rested (ChangesValue (record { 0 = addr }) old) in
-    let no = differs found old lost in
-    ends_waiting c (next_try c t found) u settled (led_on c t found s u at.1 e) (change_fails c at.0 addr old found no) (change_leaves c at.0 addr old found no) (change_free c at.0 addr old found no) updates
+    (at.0, ChangesValue (record { 0 = addr }) old, subst (λ (x : TryState). IsLed c x u) (lost_ends c at.0 addr old found (differs found old lost)) (led_on c t found s u at.1 e))
+
+-- ---- with no latch the update has ended then
+ended_calm : (c : Course) (w : WalkState) (step : Trying) (its : Reply) → shares c ≡ false → (takes_effect c.seat.places (trying c w append_rested step) its).step ≡ Ended (tried.Done its)
+unfolding ends
+ended_calm c w step its calm = rw calm refl
+
+spare_calm : (c : Course) (w : WalkState) (step : Trying) (its : Reply) → shares c ≡ false → (takes_effect c.seat.places (trying c w append_rested step) its).spare ≡ c.lasts.spare
+unfolding ends
+spare_calm c w step its calm = rw calm refl
+
+pub changed_done : (c : Course) (its : Reply) (s : SessionState) → IsSettled c → shares c ≡ false → is_read c.op ≡ false → HasChanged c its s → IsDone c its s
+unfolding HasChanged
+changed_done c its s settled calm updates at =
+    ends_done c (takes_effect c.seat.places (trying c at.0 append_rested at.1) its) its s settled at.2 (ended_calm c at.0 at.1 its calm) (spare_calm c at.0 at.1 its calm) updates
+
+ended_lost : (c : Course) (w : WalkState) (step : Trying) → shares c ≡ false → (ends c.seat.places (trying c w append_rested step) (tried.Wait reason.Contended)).step ≡ Ended (tried.Wait reason.Contended)
+unfolding ends
+ended_lost c w step calm = rw calm refl
+
+spare_lost : (c : Course) (w : WalkState) (step : Trying) → shares c ≡ false → (ends c.seat.places (trying c w append_rested step) (tried.Wait reason.Contended)).spare ≡ c.lasts.spare
+unfolding ends
+spare_lost c w step calm = rw calm refl
+
+free_lost : (c : Course) (w : WalkState) (step : Trying) → shares c ≡ false → (ends c.seat.places (trying c w append_rested step) (tried.Wait reason.Contended)).has_shared ≡ false
+unfolding ends
+free_lost c w step calm = rw calm refl
+
+pub lost_waits : (c : Course) (s : SessionState) → IsSettled c → shares c ≡ false → is_read c.op ≡ false → HasLost c s → IsWaiting c s
+unfolding HasLost
+lost_waits c s settled calm updates at =
+    ends_waiting c (ends c.seat.places (trying c at.0 append_rested at.1) (tried.Wait reason.Contended)) s settled at.2 (ended_lost c at.0 at.1 calm) (spare_lost c at.0 at.1 calm) (free_lost c at.0 at.1 calm) updates

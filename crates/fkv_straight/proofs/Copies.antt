@@ -30,7 +30,7 @@ use Rattle.fkv_session.specs.Sessions.{Seat, SessionState}
 use Rattle.fkv_straight.specs.declared.going.Going.{Going}
 use Rattle.fkv_straight.specs.declared.searching.Record.{Record}
 use Rattle.fkv_straight.specs.Course.{Course, head_in, request_in, shares, Goes}
-use Rattle.fkv_straight.specs.Met.{Trail, meeting, holding, finding, walking, judged, HasKey, IsMet, IsReached, IsAtSafe, HasSafe, IsCopied, IsAtOld, IsAtReserve}
+use Rattle.fkv_straight.specs.Met.{Trail, IsTrail, meeting, holding, finding, walking, judged, HasKey, IsMet, IsReached, IsAtSafe, HasSafe, IsCopied, IsAtOld, IsAtReserve}
 use Rattle.fkv_straight.specs.Standing.{asked, leads, IsLed, next_try}
 use Rattle.fkv_straight.proofs.Appends.{reserving}
 use Rattle.fkv_straight.proofs.Changes.{MetBy, has_value}
@@ -39,23 +39,23 @@ use Rattle.fkv_straight.proofs.Tests.{and_false}
 use Rattle.fkv_straight.proofs.Walks.{past}
 
 -- ---- a record of another version, that the session could change
-turns_to_copy : (c : Course) (trail : Trail) (r : Record) → MetBy c r → nat_le c.lasts.seen.offsets.read_only.0 r.addr ≡ true → (r.version == (request_in c).version.0) ≡ false → is_moving_on c.lasts.seen.phase ≡ false
+turns_to_copy : (c : Course) (trail : Trail) (r : Record) → IsTrail trail r.entry r.addr → MetBy c r → nat_le c.lasts.seen.offsets.read_only.0 r.addr ≡ true → (r.version == (request_in c).version.0) ≡ false → is_moving_on c.lasts.seen.phase ≡ false
     → next_try c (meeting c trail r.place r.entry r.addr (load.LoadsKey (record { 0 = r.addr }) r.header)) (key_of c.op).0 ≡ copies_from (finding c (past trail (record { 0 = r.version })) r Walks) InMemory
 unfolding trying_next walk_ledto walking_ask walking_next load_ledto load_ask load_next load_next_ask copies passed
-turns_to_copy c trail r met mutable other still = rw (met.said, met.below, met.mine, met.calm, met.updates, met.above, mutable, other, still) refl
+turns_to_copy c trail r walked met mutable other still = rw (met.said, met.below, met.mine, met.stays trail walked, met.updates, met.above, mutable, other, still) refl
 
 pub later_copied : (c : Course) (r : Record) (s : SessionState) → IsMet c r s → MetBy c r → nat_le c.lasts.seen.offsets.read_only.0 r.addr ≡ true → (r.version == (request_in c).version.0) ≡ false → is_moving_on c.lasts.seen.phase ≡ false → IsCopied c r s
 unfolding HasKey IsCopied
 later_copied c r s met by mutable other still =
     let has = met.key in
-    (past has.0 (record { 0 = r.version }), Walks, subst (λ (t : TryState). IsLed c t s) (turns_to_copy c has.0 r by mutable other still) has.1)
+    (past has.0 (record { 0 = r.version }), Walks, subst (λ (t : TryState). IsLed c t s) (turns_to_copy c has.0 r has.1 by mutable other still) has.2)
 
 -- ---- a record below the read-only offset: the safe one is loaded
-turns_to_safe : (c : Course) (trail : Trail) (r : Record) → MetBy c r → nat_le c.lasts.seen.offsets.read_only.0 r.addr ≡ false
+turns_to_safe : (c : Course) (trail : Trail) (r : Record) → IsTrail trail r.entry r.addr → MetBy c r → nat_le c.lasts.seen.offsets.read_only.0 r.addr ≡ false
     → next_try c (meeting c trail r.place r.entry r.addr (load.LoadsKey (record { 0 = r.addr }) r.header)) (key_of c.op).0
     ≡ finding c (past trail (record { 0 = r.version })) r (LoadsSafe (record { 0 = r.addr }) (record { 0 = r.version }))
 unfolding trying_next walk_ledto walking_ask walking_next load_ledto load_ask load_next load_next_ask passed
-turns_to_safe c trail r met low = rw (met.said, met.below, met.mine, met.calm, met.updates, met.above, low) refl
+turns_to_safe c trail r walked met low = rw (met.said, met.below, met.mine, met.stays trail walked, met.updates, met.above, low) refl
 
 pub met_safe : (c : Course) (r : Record) (s : SessionState) → IsMet c r s → MetBy c r → nat_le c.lasts.seen.offsets.read_only.0 r.addr ≡ false → IsAtSafe c r s
 unfolding HasKey IsAtSafe trying_ask
@@ -63,7 +63,7 @@ met_safe c r s met by low =
     let has = met.key in (
       past has.0 (record { 0 = r.version }),
       stays c (finding c (past has.0 (record { 0 = r.version })) r (LoadsSafe (record { 0 = r.addr }) (record { 0 = r.version }))) s
-          (subst (λ (t : TryState). IsLed c t s) (turns_to_safe c has.0 r by low) has.1) refl refl,
+          (subst (λ (t : TryState). IsLed c t s) (turns_to_safe c has.0 r has.1 by low) has.2) refl refl,
     )
 
 pub safe_asks : (c : Course) (r : Record) (s : SessionState) → IsAtSafe c r s → asked c.seat s ≡ Load (shared_place one.SafeReadOnly)
@@ -139,8 +139,8 @@ ends_nowhere c trail place entry loading step calm updates still = rw (calm, upd
 pub nowhere_reserves : (c : Course) (place entry : ℕ) (s : SessionState) → IsReached c place entry 0 s → shares c ≡ false → is_read c.op ≡ false → is_moving_on c.lasts.seen.phase ≡ false → IsAtReserve c place entry None reserve.LoadsLimit s
 unfolding IsReached IsAtReserve trying_ask appending_ask reserve_ask passed
 nowhere_reserves c place entry s at calm updates still =
-    let w = ended_at c at.0 place entry at.1 walked.Nowhere in
-    (w, stays c (reserving c w place entry None reserve.LoadsLimit) s (subst (λ (t : TryState). IsLed c t s) (ends_nowhere c at.0 place entry at.1 at.2 calm updates still) at.3) refl refl)
+    let w = ended_at c at.0 place entry at.2 walked.Nowhere in
+    (w, stays c (reserving c w place entry None reserve.LoadsLimit) s (subst (λ (t : TryState). IsLed c t s) (ends_nowhere c at.0 place entry at.2 at.3 calm updates still) at.4) refl refl)
 
 -- ---- the chain leaves memory, and the new value doesn't depend on the old one
 leaves_memory : (c : Course) (trail : Trail) (place entry addr : ℕ) (loading : Loading) (step : Walking) → (addr == 0) ≡ false → nat_lt addr (head_in c) ≡ true → shares c ≡ false → is_read c.op ≡ false → is_blind c.op ≡ true
@@ -153,10 +153,10 @@ pub disk_reserves : (c : Course) (place entry addr : ℕ) (s : SessionState) →
     → IsAtReserve c place entry None reserve.LoadsLimit s
 unfolding IsReached IsAtReserve trying_ask appending_ask reserve_ask passed
 disk_reserves c place entry addr s at some low calm updates blind still =
-    let w = ended_at c at.0 place entry at.1 (walked.OnDisk (record { 0 = addr })) in (
+    let w = ended_at c at.0 place entry at.2 (walked.OnDisk (record { 0 = addr })) in (
       w,
       stays c (reserving c w place entry None reserve.LoadsLimit) s
-          (subst (λ (t : TryState). IsLed c t s) (leaves_memory c at.0 place entry addr at.1 at.2 (grind (arith, nat_tests)) (grind (arith, nat_tests)) calm updates blind still) at.3) refl refl,
+          (subst (λ (t : TryState). IsLed c t s) (leaves_memory c at.0 place entry addr at.2 at.3 (grind (arith, nat_tests)) (grind (arith, nat_tests)) calm updates blind still) at.4) refl refl,
     )
 
 -- ---- the tests, by the numbers that a call goes by

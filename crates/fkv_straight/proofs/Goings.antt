@@ -1,13 +1,11 @@
 -- The numbers that a call goes by, as those of its course.
 use Rattle.std.proofs.Common.{◌≡◌, ℕ, ◌<◌, ◌≤◌, refl, sym, ap, ◌∙◌, subst, arith, Bool, true, false}
-use Rattle.std.specs.Prelude.{◌==◌, ◌+◌, ◌&&◌, not, nat_le, nat_lt, Option, Some, None, IfSome}
+use Rattle.std.specs.Prelude.{◌+◌, ◌&&◌, not, nat_le, nat_lt, Option, Some, None, IfSome, IfNone}
 use Rattle.std.proofs.lemmas.Bool.Decides.{nat_tests}
 use Rattle.fkv_base.specs.Limits.{last_serial, last_version}
 use Rattle.fkv_base.specs.declared.numbers.Key.{Key}
 use Rattle.fkv_map.specs.declared.operations.Op.{Op}
-use Rattle.fkv_map.specs.declared.operations.Op.TheVariants.{Read}
 use Rattle.fkv_map.specs.Keys.{key_of}
-use Rattle.fkv_map.specs.Map.{is_reserved}
 use Rattle.fkv_plane.specs.declared.asks.Ask.{Ask}
 use Rattle.fkv_plane.specs.declared.places.Places.{Places}
 use Rattle.fkv_plane.specs.declared.places.RecordWord.{RecordWord}
@@ -21,13 +19,13 @@ use Rattle.fkv_ops.specs.Trying.{is_prepare, is_moving_on}
 use Rattle.fkv_session.specs.declared.answers.Told.{Told}
 use Rattle.fkv_session.specs.declared.answers.Told.TheVariants.{Slept}
 use Rattle.fkv_session.specs.declared.sessions.Sitting.TheVariants.{Idle}
-use Rattle.fkv_session.specs.Sessions.{Seat, SessionState, Sitter, refusal_of, bits_of, is_full, version_within}
-use Rattle.fkv_session.specs.Alike.{lasting}
+use Rattle.fkv_session.specs.Sessions.{Seat, SessionState, Sitter, is_full, version_within}
 use Rattle.fkv_straight.specs.declared.going.Going.{Going}
-use Rattle.fkv_straight.specs.Course.{Course, course_of, home_in, head_in, Goes, GoesBy}
+use Rattle.fkv_straight.specs.Course.{Course, home_in, head_in, shares, Goes, GoesBy}
 use Rattle.fkv_straight.specs.Memory.{is_in_memory}
-use Rattle.fkv_straight.specs.Met.{IsInMemory}
+use Rattle.fkv_straight.specs.Met.{IsInMemory, latch_in}
 use Rattle.fkv_straight.specs.Standing.{asked, leads}
+use Rattle.fkv_straight.proofs.Tests.{and_false}
 
 -- the seat of a line is that of the course
 pub asks_at : (c : Course) (q : Seat) (s : SessionState) (ask : Ask Told) → c.seat ≡ q → asked c.seat s ≡ ask → asked q s ≡ ask
@@ -45,6 +43,10 @@ home_is c k op g h key goes its e = e ∙ (ap (λ (x : Key). home_of g.bits x) (
 pub bucket_is : (c : Course) (k : Seat) (op : Op) (g : Going) (h : Home) (key : Key) (base : ℕ) → Goes c k op g → key ≡ key_of op → h ≡ home_of g.bits key → base ≡ bucket_place g.places h.bucket 0 → bucket_place c.seat.places (home_in c).bucket 0 ≡ base
 bucket_is c k op g h key base goes its e b =
     ap (λ (p : Places). bucket_place p (home_in c).bucket 0) goes.its_places ∙ (ap (λ (x : Home). bucket_place g.places x.bucket 0) (sym (home_is c k op g h key goes its e)) ∙ sym b)
+
+pub latch_is : (c : Course) (k : Seat) (op : Op) (g : Going) (place : ℕ) → Goes c k op g → place ≡ bucket_place g.places (home_of g.bits (key_of op)).bucket 7 → latch_in c ≡ place
+latch_is c k op g place goes e =
+    ap (λ (p : Places). bucket_place p (home_in c).bucket 7) goes.its_places ∙ (ap (λ (x : Home). bucket_place g.places x.bucket 7) (sym (home_is c k op g (home_of g.bits (key_of op)) (key_of op) goes refl refl)) ∙ sym e)
 
 pub record_is : (c : Course) (k : Seat) (op : Op) (g : Going) (addr at : ℕ) (word : RecordWord) → Goes c k op g → at ≡ record_place g.places addr word → record_place c.seat.places addr word ≡ at
 record_is c k op g addr at word goes e = ap (λ (p : Places). record_place p addr word) goes.its_places ∙ sym e
@@ -69,11 +71,27 @@ updates_in c k op g b goes e = ap (λ (x : Op). is_read x) goes.its_op ∙ e
 pub blind_in : (c : Course) (k : Seat) (op : Op) (g : Going) (b : Bool) → Goes c k op g → is_blind op ≡ b → is_blind c.op ≡ b
 blind_in c k op g b goes e = ap (λ (x : Op). is_blind x) goes.its_op ∙ e
 
+-- which updates share a latch
+pub calm_in : (c : Course) (k : Seat) (op : Op) (g : Going) → Goes c k op g → g.is_preparing ≡ false → shares c ≡ false
+calm_in c k op g goes calm = let e : is_prepare c.lasts.seen.phase ≡ false = goes.prepares ∙ calm in rw e refl
+
+pub reads_calm : (c : Course) (k : Seat) (op : Op) (g : Going) → Goes c k op g → is_read op ≡ true → shares c ≡ false
+reads_calm c k op g goes reads = let e : is_read c.op ≡ true = updates_in c k op g true goes reads in rw (e, and_false (is_prepare c.lasts.seen.phase)) refl
+
+pub shares_in : (c : Course) (k : Seat) (op : Op) (g : Going) → Goes c k op g → g.is_preparing ≡ true → is_read op ≡ false → shares c ≡ true
+shares_in c k op g goes prepares updates =
+    let e : is_prepare c.lasts.seen.phase ≡ true = goes.prepares ∙ prepares in
+    let f : is_read c.op ≡ false = updates_in c k op g false goes updates in
+    rw (e, f) refl
+
 pub goes_at : (c : Course) (k : Seat) (op : Op) (g : Going) (q : Seat) → Goes c k op g → q ≡ k → Goes c q op g
 goes_at c k op g q goes same = subst (λ (x : Seat). Goes c x op g) (sym same) goes
 
 pub some_of : {A : Type 0} (P : A → Type 0) (found : Option A) (x : A) → found ≡ Some x → IfSome found P → P x
 some_of P found x e h = subst (λ (o : Option _). IfSome o P) e h
+
+pub none_of : {A : Type 0} (P : Type 0) (found : Option A) → found ≡ None → IfNone found P → P
+none_of P found e h = subst (λ (o : Option _). IfNone o P) e h
 
 pub met_of : {A : Type 0} (P : A → Type 0) (found : Option A) (met x : A) → found ≡ Some met → met ≡ x → IfSome found P → P x
 met_of P found met x e f h = subst P f (some_of P found met e h)

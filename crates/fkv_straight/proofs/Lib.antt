@@ -10,5 +10,6 @@ mod ReadEnds
 mod Refreshes
 mod Replays
 mod Seeks
+mod Shares
 mod Tests
 mod Walks

@@ -1,6 +1,6 @@
 -- Which calls of an operation may go straight by what a session has seen.
 use Rattle.std.proofs.Common.{◌≡◌, ℕ, ◌<◌, ◌≤◌, refl, sym, ap, ◌∙◌, subst, arith, Bool, true, false}
-use Rattle.std.specs.Prelude.{◌==◌, ◌&&◌, if◌then◌else◌, not, nat_lt, Option, Some, None}
+use Rattle.std.specs.Prelude.{◌==◌, ◌&&◌, if◌then◌else◌, not, Option, Some, None}
 use Rattle.std.proofs.lemmas.Bool.Decides.{nat_tests}
 use Rattle.fkv_base.specs.Limits.{last_serial}
 use Rattle.fkv_base.specs.declared.faults.Fault.{Fault}
@@ -13,7 +13,6 @@ use Rattle.fkv_map.specs.Map.{is_reserved}
 use Rattle.fkv_plane.specs.declared.places.Places.{Places}
 use Rattle.fkv_ops.specs.declared.requests.Occasion.TheVariants.{Call as AtCall}
 use Rattle.fkv_ops.specs.Requests.{is_read}
-use Rattle.fkv_ops.specs.Trying.{is_prepare}
 use Rattle.fkv_session.specs.Alike.{Lasting, lasting}
 use Rattle.fkv_session.specs.Sessions.{Seat, SessionState, refusal_of, is_full, version_within}
 use Rattle.fkv_straight.specs.declared.going.Going.{Going}
@@ -22,9 +21,9 @@ use Rattle.fkv_straight.specs.Met.{Begins, MayGo}
 use Rattle.fkv_straight.proofs.Goings.{version_same}
 use Rattle.fkv_straight.proofs.Seeks.{begins_call}
 
-goes_call : (k : Seat) (s : SessionState) (op : Op) (g : Going) → GoesBy k s g → (is_prepare s.seen.phase && not (is_read op)) ≡ false → Goes (course_of k s op (call.Op op)) k op g
+goes_call : (k : Seat) (s : SessionState) (op : Op) (g : Going) → GoesBy k s g → Goes (course_of k s op (call.Op op)) k op g
 unfolding lasting
-goes_call k s op g by calm = record {
+goes_call k s op g by = record {
   its_seat = refl;
   its_op = refl;
   its_places = by.places;
@@ -33,7 +32,7 @@ goes_call k s op g by calm = record {
   its_read_only = by.read_only;
   its_version = ap (λ (v : ℕ). version_within v) by.version ∙ version_same g.version by.some_version by.version_fits;
   moves_on = by.moves_on;
-  unlatched = calm;
+  prepares = by.prepares;
   spare_fits = subst (λ (p : Places). s.spare ≤ p.overflow) (sym by.places) by.spare_fits;
   settled = record {
     own = ap (λ (v : ℕ). version_within v) by.version ∙ (version_same g.version by.some_version by.version_fits ∙ sym by.version);
@@ -46,25 +45,18 @@ spent_none : (b : Bool) (n : ℕ) → (b ≡ false → n < last_serial) → (not
 spent_none true n left = refl
 spent_none false n left = let h : n < last_serial = left refl in grind (arith, nat_tests, h)
 
-shares_none : (b prepares : Bool) → (b ≡ false → prepares ≡ false) → (prepares && not b) ≡ false
-shares_none true true calm = refl
-shares_none true false calm = refl
-shares_none false prepares calm = rw (calm refl) refl
-
 none_refused : (s : SessionState) (op : Op) → s.is_awake ≡ true → is_reserved op ≡ false → is_full s.requests ≡ false → (not (is_read op) && (s.serial == last_serial)) ≡ false → refusal_of s op ≡ None
 none_refused s op awake allowed room left = rw (awake, allowed, room, left) refl
 
-pub goes_for : (k : Seat) (s : SessionState) (op : Op) (g : Going) → GoesBy k s g → is_reserved op ≡ false → (is_read op ≡ false → s.serial < last_serial) → (is_read op ≡ false → is_prepare s.seen.phase ≡ false) → MayGo k s op g
-goes_for k s op g by allowed left calm =
-    let shares = shares_none (is_read op) (is_prepare s.seen.phase) calm in
-    record {
-      goes = goes_call k s op g by shares;
-      allowed = none_refused s op by.awake allowed by.room (spent_none (is_read op) s.serial left);
-      serial_left = left;
-    }
+pub goes_for : (k : Seat) (s : SessionState) (op : Op) (g : Going) → GoesBy k s g → is_reserved op ≡ false → (is_read op ≡ false → s.serial < last_serial) → MayGo k s op g
+goes_for k s op g by allowed left = record {
+  goes = goes_call k s op g by;
+  allowed = none_refused s op by.awake allowed by.room (spent_none (is_read op) s.serial left);
+  serial_left = left;
+}
 
 pub goes_for_read : (k : Seat) (s : SessionState) (op : Op) (key : Key) (g : Going) → op ≡ Read key → GoesBy k s g → MayGo k s op g
-goes_for_read k s op key g reads by = subst (λ (o : Op). MayGo k s o g) (sym reads) (goes_for k s (Read key) g by refl (λ h. absurd (cc h)) (λ h. absurd (cc h)))
+goes_for_read k s op key g reads by = subst (λ (o : Op). MayGo k s o g) (sym reads) (goes_for k s (Read key) g by refl (λ h. absurd (cc h)))
 
 -- ---- a session of which the same lasts may make it too, and begins it so
 abbrev course_by : Seat → Lasting → Op → Course
@@ -94,7 +86,7 @@ goes_alike k q r s op g may same alike = (may_alike k q r s op g may same alike)
 
 begins_may : (k : Seat) (s : SessionState) (op : Op) (g : Going) → MayGo k s op g → Begins (course_of k s op (call.Op op)) (call.Op op) s
 unfolding lasting
-begins_may k s op g may = begins_call k s op may.allowed may.goes.unlatched may.goes.spare_fits
+begins_may k s op g may = begins_call k s op may.allowed may.goes.spare_fits
 
 pub begins_alike : (k q : Seat) (r s : SessionState) (op : Op) (g : Going) → MayGo k r op g → k ≡ q → lasting r ≡ lasting s → Begins (course_of q s op (call.Op op)) (call.Op op) s
 begins_alike k q r s op g may same alike = begins_may q s op g (may_alike k q r s op g may same alike)

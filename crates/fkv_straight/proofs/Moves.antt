@@ -22,7 +22,7 @@ use Rattle.fkv_session.specs.declared.answers.Told.{Told}
 use Rattle.fkv_session.specs.declared.answers.Told.TheVariants as told
 use Rattle.fkv_session.specs.declared.sessions.Sitting.TheVariants.{Idle}
 use Rattle.fkv_session.specs.Alike.{lasting}
-use Rattle.fkv_session.specs.Sessions.{Seat, SessionState, sitting_ask, sitting_next, session_ask, accepts, attempt_ledto, finishes_request, keeps_request, poll_ledto, polls_at, asks_after, is_word_ask}
+use Rattle.fkv_session.specs.Sessions.{Seat, SessionState, sitting_ask, sitting_next, session_ask, accepts, attempt_ledto, finishes_request, keeps_request, poll_ledto, polls_at, asks_after, entry_of, is_word_ask}
 use Rattle.fkv_straight.specs.Course.{Course, pending_in, request_in, IsLone, IsSettled}
 use Rattle.fkv_straight.specs.Standing.{asked, leads, attempt_leads, attempting, sitting, led_attempt, resumed, Tries, IsLed, next_try, IsEnded, IsDone, IsWaiting, waiting_lasts, waiting_told}
 use Rattle.fkv_straight.proofs.Tests.{or_false}
@@ -51,6 +51,10 @@ asks_swap c t place new s at e = asks_passed c t s at ∙ ap (λ (x : Ask TryAns
 pub asks_cas : (c : Course) (t : TryState) (place old new : ℕ) (s : SessionState) → Tries c t s → try_ask c.seat.places t ≡ Cas place old new → asked c.seat s ≡ Cas place old new
 unfolding passed
 asks_cas c t place old new s at e = asks_passed c t s at ∙ ap (λ (x : Ask TryAnswer). passed (passed x tried.Shift) told.Slept) e
+
+pub asks_add : (c : Course) (t : TryState) (place number : ℕ) (s : SessionState) → Tries c t s → try_ask c.seat.places t ≡ Add place number → asked c.seat s ≡ Add place number
+unfolding passed
+asks_add c t place number s at e = asks_passed c t s at ∙ ap (λ (x : Ask TryAnswer). passed (passed x tried.Shift) told.Slept) e
 
 -- ---- a reply leads the try, and the session by where the try is then
 moves : (c : Course) (t : TryState) (reply : ℕ) (s : SessionState) (its : Occasion) → c.occasion ≡ its → Tries c t s → IsLed c (next_try c t reply) (leads c.seat s reply)
@@ -116,6 +120,52 @@ stays c t s led none word =
 -- the same where it is known to what try the reply leads
 pub steps : (c : Course) (t after : TryState) (reply : ℕ) (s u : SessionState) → Tries c t s → u ≡ leads c.seat s reply → next_try c t reply ≡ after → after.effect ≡ None → is_word_ask (try_ask c.seat.places after) ≡ true → Tries c after u
 steps c t after reply s u at e leads_to none word = stays c after u (subst (λ (x : TryState). IsLed c x u) leads_to (led_on c t reply s u at e)) none word
+
+-- ---- the same behind a step that made the effect: what it tells is told just there
+attempt_goes : (c : Course) (t : TryState) (ask : Ask TryAnswer) → try_ask c.seat.places t ≡ ask → is_word_ask ask ≡ true → led_attempt c t ≡ record (attempting c t) { effect = t.effect }
+unfolding try_ledto
+attempt_goes c t (Load place) e word = rw e refl
+attempt_goes c t (Store place new) e word = rw e refl
+attempt_goes c t (Swap place new) e word = rw e refl
+attempt_goes c t (Cas place old new) e word = rw e refl
+attempt_goes c t (Add place number) e word = rw e refl
+attempt_goes c t (Max place number) e word = rw e refl
+attempt_goes c t (Put slot action) e word = absurd (cc word)
+attempt_goes c t (Take slot) e word = absurd (cc word)
+attempt_goes c t (Done its) e word = absurd (cc word)
+
+-- the session that stands so, with what it tells of the effect
+abbrev told_effect : Course → ℕ → TryState → SessionState
+told_effect c asks t = record (sitting c asks (record (attempting c t) { effect = t.effect })) { effect = entry_of c.seat.number (pending_in c) c.name t.effect }
+
+session_goes : (c : Course) (asks : ℕ) (t : TryState) → is_word_ask (try_ask c.seat.places t) ≡ true → resumed c asks (record (attempting c t) { effect = t.effect }) ≡ told_effect c asks t
+unfolding attempting_ask
+session_goes c asks t word = leads_on c.occasion c.seat (told_effect c asks t) (passed (try_ask c.seat.places t) tried.Shift) (passed_word (try_ask c.seat.places t) word)
+
+stands_so : (c : Course) (t : TryState) (s : SessionState) (led : IsLed c t s) → is_word_ask (try_ask c.seat.places t) ≡ true → (asks : ℕ) × (s ≡ told_effect c asks t)
+unfolding IsLed
+stands_so c t s led word = (led.0, led.1 ∙ (ap (λ (a : AttemptState). resumed c led.0 a) (attempt_goes c t (try_ask c.seat.places t) refl word) ∙ session_goes c led.0 t word))
+
+asks_so : (c : Course) (t : TryState) (s : SessionState) (asks : ℕ) (its : Occasion) → c.occasion ≡ its → s ≡ told_effect c asks t → asked c.seat s ≡ passed (passed (try_ask c.seat.places t) tried.Shift) told.Slept
+unfolding asked sitting_ask attempting_ask
+asks_so c t s asks AtCall when e = rw (e, when) refl
+asks_so c t s asks AtPoll when e = rw (e, when) refl
+
+pub asks_behind : (c : Course) (t : TryState) (place number : ℕ) (s : SessionState) → IsLed c t s → try_ask c.seat.places t ≡ Add place number → asked c.seat s ≡ Add place number
+unfolding passed
+asks_behind c t place number s led e =
+    let so = stands_so c t s led (rw e refl) in
+    asks_so c t s so.0 c.occasion refl so.1 ∙ ap (λ (x : Ask TryAnswer). passed (passed x tried.Shift) told.Slept) e
+
+moves_so : (c : Course) (t : TryState) (reply : ℕ) (s : SessionState) (asks : ℕ) (its : Occasion) → c.occasion ≡ its → s ≡ told_effect c asks t → IsLed c (next_try c t reply) (leads c.seat s reply)
+unfolding IsLed leads sitting_next attempting_next
+moves_so c t reply s asks AtCall when e = (asks_after asks (is_word_ask (session_ask c.seat (told_effect c asks t))), rw (e, when) refl)
+moves_so c t reply s asks AtPoll when e = (asks_after asks (is_word_ask (session_ask c.seat (told_effect c asks t))), rw (e, when) refl)
+
+pub led_behind : (c : Course) (t : TryState) (reply : ℕ) (s u : SessionState) → IsLed c t s → is_word_ask (try_ask c.seat.places t) ≡ true → u ≡ leads c.seat s reply → IsLed c (next_try c t reply) u
+led_behind c t reply s u led word e =
+    let so = stands_so c t s led word in
+    subst (IsLed c (next_try c t reply)) (sym e) (moves_so c t reply s so.0 c.occasion refl so.1)
 
 -- ---- where the try ends the call is answered
 pub ends_found : (c : Course) (t : TryState) (value : Value) (s : SessionState) → c.occasion ≡ AtCall → IsLed c t s → t.step ≡ Ended (tried.Found value) → t.spare ≡ c.lasts.spare → IsEnded c.lasts (told.Found value) s

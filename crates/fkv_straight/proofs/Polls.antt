@@ -1,6 +1,6 @@
 -- When a poll may go straight, and what is behind one.
-use Rattle.std.proofs.Common.{◌≡◌, ℕ, ◌<◌, ◌≤◌, ◌^◌, refl, sym, ap, ◌∙◌, subst, Bool, true, false, List, [], ◌∷◌}
-use Rattle.std.specs.Prelude.{◌&&◌, not, Option, Some, None}
+use Rattle.std.proofs.Common.{◌≡◌, ℕ, ◌<◌, ◌≤◌, ◌^◌, refl, sym, ap, ◌∙◌, subst, true, false, List, [], ◌∷◌}
+use Rattle.std.specs.Prelude.{Option, Some, None}
 use Rattle.std.specs.Option.{is_some}
 use Rattle.std.proofs.Math.Bridge.{le_prop}
 use Rattle.fkv_base.specs.declared.numbers.Serial.{Serial}
@@ -68,7 +68,6 @@ pub may_poll : (k : Seat) (s : SessionState) (l : Lone) (g : Going) (its : Pendi
 unfolding lasting
 may_poll k s l g its by only plain calm none updates =
     let waits : s.requests ≡ its ∷ [] = only_is s.requests its (sym only) in
-    let prepares : is_prepare s.seen.phase ≡ false = by.prepares ∙ calm in
     record {
       goes = record {
         its_seat = refl;
@@ -79,7 +78,7 @@ may_poll k s l g its by only plain calm none updates =
         its_read_only = by.read_only;
         its_version = ap (λ (v : ℕ). version_within v) by.version ∙ version_same g.version by.some_version by.version_fits;
         moves_on = by.moves_on;
-        unlatched = rw prepares refl;
+        prepares = by.prepares;
         spare_fits = subst (λ (p : Places). s.spare ≤ p.overflow) (sym by.places) by.spare_fits;
         settled = record {
           own = ap (λ (v : ℕ). version_within v) by.version ∙ (version_same g.version by.some_version by.version_fits ∙ sym by.version);
@@ -89,6 +88,7 @@ may_poll k s l g its by only plain calm none updates =
       awake = by.awake;
       no_orphan = none;
       updates = updates;
+      calm = calm;
       named = ap first_name waits ∙ plain.name;
     }
 
@@ -98,16 +98,11 @@ begins_at : (k : Seat) (s : SessionState) (op : Op) (name : RequestName) → s.i
 unfolding begins poll_call polls_at lasting
 begins_at k s op name awake none waits updates calm spare = rw (awake, none, waits, updates, calm, spare) refl
 
-shares_not : (prepares reads : Bool) → (prepares && not reads) ≡ false → reads ≡ false → prepares ≡ false
-shares_not false reads h e = refl
-shares_not true false h e = h
-shares_not true true h e = absurd (cc e)
-
 begins_poll : (k : Seat) (s : SessionState) (l : Lone) (g : Going) → MayPoll k s l g → Begins (course_of k s l.op call.Poll) call.Poll s
 unfolding lasting
 begins_poll k s l g may =
     let c = course_of k s l.op call.Poll in
-    begins_at k s l.op (first_name s.requests) may.awake may.no_orphan (may.goes.settled.lone refl).waits may.updates (shares_not (is_prepare s.seen.phase) (is_read l.op) may.goes.unlatched may.updates) (spare_same k.places s.spare may.goes.spare_fits)
+    begins_at k s l.op (first_name s.requests) may.awake may.no_orphan (may.goes.settled.lone refl).waits may.updates (may.goes.prepares ∙ may.calm) (spare_same k.places s.spare may.goes.spare_fits)
 
 -- which operation the session has in hand no fact goes by
 abbrev poll_by : Seat → Lasting → Op → Op → Course
@@ -123,7 +118,7 @@ goes_hand k l op one other g goes = record {
   its_read_only = goes.its_read_only;
   its_version = goes.its_version;
   moves_on = goes.moves_on;
-  unlatched = goes.unlatched;
+  prepares = goes.prepares;
   spare_fits = goes.spare_fits;
   settled = record { own = goes.settled.own; lone = λ polls. record { waits = (goes.settled.lone polls).waits; none_told = (goes.settled.lone polls).none_told } };
 }
@@ -150,6 +145,7 @@ poll_alike k q r s l g may same alike = record {
   awake = sym (is_awake_in s) ∙ (ap (λ (x : Lasting). x.is_awake) (sym alike) ∙ (is_awake_in r ∙ may.awake));
   no_orphan = sym (is_orphaned_in s) ∙ (ap (λ (x : Lasting). x.is_orphaned) (sym alike) ∙ (is_orphaned_in r ∙ may.no_orphan));
   updates = may.updates;
+  calm = may.calm;
   named = sym (first_in s) ∙ (ap (λ (x : Lasting). first_name x.requests) (sym alike) ∙ (first_in r ∙ may.named));
 }
 

@@ -44,7 +44,7 @@ met_answers c r s met calm reads =
     let has = met.key in (
       past has.0 (record { 0 = r.version }),
       stays c (holding c (past has.0 (record { 0 = r.version })) r LoadsAnswer) s
-          (subst (λ (t : TryState). IsLed c t s) (reads_on c has.0 r met.said below (same (key_of c.op).0) calm reads) has.1) refl refl,
+          (subst (λ (t : TryState). IsLed c t s) (reads_on c has.0 r met.said below (same (key_of c.op).0) calm reads) has.2) refl refl,
     )
 
 pub answer_asks : (c : Course) (r : Record) (s : SessionState) → IsMet c r s → shares c ≡ false → is_read c.op ≡ true → asked c.seat s ≡ Load (record_place c.seat.places r.addr rec.Value)
@@ -54,29 +54,29 @@ answer_asks c r s met calm reads =
     asks_load c (holding c at.0 r LoadsAnswer) (record_place c.seat.places r.addr rec.Value) s at.1 refl
 
 -- ---- the value has come
-finds : (c : Course) (trail : Trail) (r : Record) (value : ℕ) → (value == absent_word) ≡ false → (next_try c (holding c trail r LoadsAnswer) value).step ≡ Ended (tried.Found (record { 0 = value }))
+finds : (c : Course) (trail : Trail) (r : Record) (value : ℕ) → shares c ≡ false → (value == absent_word) ≡ false → (next_try c (holding c trail r LoadsAnswer) value).step ≡ Ended (tried.Found (record { 0 = value }))
 unfolding trying_next walking_ask walking_next load_ask load_next load_next_ask value_ledto answer_ledto ends passed
-finds c trail r value some = rw some refl
+finds c trail r value calm some = rw (some, calm) refl
 
-finds_none : (c : Course) (trail : Trail) (r : Record) (value : ℕ) → (value == absent_word) ≡ true → (next_try c (holding c trail r LoadsAnswer) value).step ≡ Ended tried.Absent
+finds_none : (c : Course) (trail : Trail) (r : Record) (value : ℕ) → shares c ≡ false → (value == absent_word) ≡ true → (next_try c (holding c trail r LoadsAnswer) value).step ≡ Ended tried.Absent
 unfolding trying_next walking_ask walking_next load_ask load_next load_next_ask value_ledto answer_ledto ends passed
-finds_none c trail r value none = rw none refl
+finds_none c trail r value calm none = rw (none, calm) refl
 
-spares : (c : Course) (trail : Trail) (r : Record) (value : ℕ) → (next_try c (holding c trail r LoadsAnswer) value).spare ≡ c.lasts.spare
+spares : (c : Course) (trail : Trail) (r : Record) (value : ℕ) → shares c ≡ false → (next_try c (holding c trail r LoadsAnswer) value).spare ≡ c.lasts.spare
 unfolding trying_next walking_ask walking_next load_ask load_next load_next_ask value_ledto answer_ledto ends passed
-spares c trail r value = refl
+spares c trail r value calm = rw calm refl
 
 pub found_ends : (c : Course) (r : Record) (value : ℕ) (s u : SessionState) → c.occasion ≡ AtCall → IsMet c r s → shares c ≡ false → is_read c.op ≡ true → u ≡ leads c.seat s value → ¬ (value ≡ absent_word) → IsEnded c.lasts (told.Found (record { 0 = value })) u
 unfolding IsAtAnswer
 found_ends c r value s u calls met calm reads e some =
     let at = met_answers c r s met calm reads in
-    ends_found c (next_try c (holding c at.0 r LoadsAnswer) value) (record { 0 = value }) u calls (led_on c (holding c at.0 r LoadsAnswer) value s u at.1 e) (finds c at.0 r value (grind (arith, nat_tests))) (spares c at.0 r value)
+    ends_found c (next_try c (holding c at.0 r LoadsAnswer) value) (record { 0 = value }) u calls (led_on c (holding c at.0 r LoadsAnswer) value s u at.1 e) (finds c at.0 r value calm (grind (arith, nat_tests))) (spares c at.0 r value calm)
 
 pub absent_ends : (c : Course) (r : Record) (value : ℕ) (s u : SessionState) → c.occasion ≡ AtCall → IsMet c r s → shares c ≡ false → is_read c.op ≡ true → u ≡ leads c.seat s value → value ≡ absent_word → IsEnded c.lasts told.Absent u
 unfolding IsAtAnswer
 absent_ends c r value s u calls met calm reads e none =
     let at = met_answers c r s met calm reads in
-    ends_absent c (next_try c (holding c at.0 r LoadsAnswer) value) u calls (led_on c (holding c at.0 r LoadsAnswer) value s u at.1 e) (finds_none c at.0 r value (grind (arith, nat_tests))) (spares c at.0 r value)
+    ends_absent c (next_try c (holding c at.0 r LoadsAnswer) value) u calls (led_on c (holding c at.0 r LoadsAnswer) value s u at.1 e) (finds_none c at.0 r value calm (grind (arith, nat_tests))) (spares c at.0 r value calm)
 
 -- ---- the chain ends
 ends_chain : (c : Course) (trail : Trail) (place entry : ℕ) (loading : Loading) (step : Walking) → shares c ≡ false → is_read c.op ≡ true
@@ -92,4 +92,4 @@ chain_spares c trail place entry loading step calm reads = rw (calm, reads) refl
 pub nowhere_ends : (c : Course) (place entry : ℕ) (s : SessionState) → c.occasion ≡ AtCall → IsReached c place entry 0 s → shares c ≡ false → is_read c.op ≡ true → IsEnded c.lasts told.Absent s
 unfolding IsReached
 nowhere_ends c place entry s calls at calm reads =
-    ends_absent c (judged c (reached c.seat.places (walking c at.0 place entry at.1 at.2) 0)) s calls at.3 (ends_chain c at.0 place entry at.1 at.2 calm reads) (chain_spares c at.0 place entry at.1 at.2 calm reads)
+    ends_absent c (judged c (reached c.seat.places (walking c at.0 place entry at.2 at.3) 0)) s calls at.4 (ends_chain c at.0 place entry at.2 at.3 calm reads) (chain_spares c at.0 place entry at.2 at.3 calm reads)

@@ -1,5 +1,5 @@
 -- How the slot of a home is sought.
-use Rattle.std.proofs.Common.{◌≡◌, ℕ, ◌+◌, ◌-◌, ◌/◌, ◌^◌, ◌<◌, ◌≤◌, refl, sym, ap, ◌∙◌, subst, arith, true, false}
+use Rattle.std.proofs.Common.{◌≡◌, ℕ, ◌+◌, ◌-◌, ◌/◌, ◌^◌, ◌<◌, ◌≤◌, refl, sym, ap, ◌∙◌, subst, arith, Bool, true, false}
 use Rattle.std.specs.Prelude.{◌==◌, ◌&&◌, not, nat_lt, nat_le, None}
 use Rattle.std.proofs.lemmas.Bool.Decides.{nat_tests}
 use Rattle.fkv_base.specs.declared.numbers.Key.{Key}
@@ -24,31 +24,32 @@ use Rattle.fkv_session.specs.Alike.{lasting}
 use Rattle.fkv_session.specs.Sessions.{Seat, SessionState, op_begun, attempts, refusal_of}
 use Rattle.fkv_straight.specs.declared.going.Going.{Going}
 use Rattle.fkv_straight.specs.Course.{Course, course_of, home_in, shares, Goes}
-use Rattle.fkv_straight.specs.Met.{seeking, walking, judged, Begins, IsAtSlot, HasSlot, IsAtLink, HasLink, IsReached}
+use Rattle.fkv_straight.specs.Met.{IsTrail, seeking, walking, judged, Begins, IsAtFirst, IsAtSlot, HasSlot, IsAtLink, HasLink, IsReached}
 use Rattle.fkv_straight.specs.Standing.{asked, leads, begins, Tries, IsLed, next_try}
 use Rattle.fkv_straight.proofs.Goings.{spare_same, bucket_is, home_is}
 use Rattle.fkv_straight.proofs.Moves.{asks_load, led_on, stays}
 use Rattle.fkv_straight.proofs.Tests.{same}
 
--- ---- a call begins at the first slot of its home's bucket
-begins_at : (k : Seat) (s : SessionState) (op : Op) → refusal_of s op ≡ None → (is_prepare s.seen.phase && not (is_read op)) ≡ false → spare_of k.places s.spare ≡ s.spare → Begins (course_of k s op (call.Op op)) (call.Op op) s
+-- ---- a call begins with its share of the latch, or at the first slot of its home's bucket
+begins_by : (k : Seat) (s : SessionState) (op : Op) (b : Bool) → (is_prepare s.seen.phase && not (is_read op)) ≡ b → refusal_of s op ≡ None → spare_of k.places s.spare ≡ s.spare → Begins (course_of k s op (call.Op op)) (call.Op op) s
 unfolding begins op_begun attempts lasting
-begins_at k s op allowed calm spare = rw (allowed, calm, spare) refl
+begins_by k s op true e allowed spare = rw (allowed, e) refl
+begins_by k s op false e allowed spare = rw (allowed, e, spare) refl
 
-pub begins_call : (k : Seat) (s : SessionState) (op : Op) → refusal_of s op ≡ None → shares (course_of k s op (call.Op op)) ≡ false → s.spare ≤ k.places.overflow → Begins (course_of k s op (call.Op op)) (call.Op op) s
-unfolding lasting
-begins_call k s op allowed calm fits = begins_at k s op allowed calm (spare_same k.places s.spare fits)
+pub begins_call : (k : Seat) (s : SessionState) (op : Op) → refusal_of s op ≡ None → s.spare ≤ k.places.overflow → Begins (course_of k s op (call.Op op)) (call.Op op) s
+begins_call k s op allowed fits = begins_by k s op (is_prepare s.seen.phase && not (is_read op)) refl allowed (spare_same k.places s.spare fits)
 
-begun : (c : Course) (its : Call) (s : SessionState) → Begins c its s → IsAtSlot c (bucket_place c.seat.places (home_in c).bucket 0) c.seat.places.overflow 0 (begins c.seat s its)
+-- where it shares none
+pub begun_at : (c : Course) (its : Call) (s : SessionState) → Begins c its s → shares c ≡ false → IsAtFirst c (begins c.seat s its)
 unfolding IsAtSlot Tries
-begun c its s at = (0, at)
+begun_at c its s at calm = (0, at ∙ rw calm refl)
 
 -- the same by the numbers that the call goes by
-pub begun_at : (c : Course) (k : Seat) (op : Op) (its : Call) (s : SessionState) (g : Going) (h : Home) (key : Key) (base links : ℕ) → Goes c k op g → Begins c its s → key ≡ key_of op → h ≡ home_of g.bits key → base ≡ bucket_place g.places h.bucket 0
-    → links ≡ g.places.overflow → IsAtSlot c base links 0 (begins c.seat s its)
-begun_at c k op its s g h key base links goes at same e b l =
-    subst (λ (n : ℕ). IsAtSlot c base n 0 (begins c.seat s its)) (ap (λ (p : Places). p.overflow) goes.its_places ∙ sym l)
-    (subst (λ (n : ℕ). IsAtSlot c n c.seat.places.overflow 0 (begins c.seat s its)) (bucket_is c k op g h key base goes same e b) (begun c its s at))
+pub first_at : (c : Course) (k : Seat) (op : Op) (s : SessionState) (g : Going) (h : Home) (key : Key) (base links : ℕ) → Goes c k op g → IsAtFirst c s → key ≡ key_of op → h ≡ home_of g.bits key → base ≡ bucket_place g.places h.bucket 0
+    → links ≡ g.places.overflow → IsAtSlot c base links 0 s
+first_at c k op s g h key base links goes at same e b l =
+    subst (λ (n : ℕ). IsAtSlot c base n 0 s) (ap (λ (p : Places). p.overflow) goes.its_places ∙ sym l)
+    (subst (λ (n : ℕ). IsAtSlot c n c.seat.places.overflow 0 s) (bucket_is c k op g h key base goes same e b) at)
 
 -- ---- a slot is loaded
 pub slot_asks : (c : Course) (base links slot : ℕ) (s : SessionState) → IsAtSlot c base links slot s → asked c.seat s ≡ Load (base + slot)
@@ -115,16 +116,20 @@ finds_empty : (c : Course) (base links slot : ℕ)
 unfolding trying_next walking_next find_ledto find_led slot_word
 finds_empty c base links slot = refl
 
+-- no record was met yet
+fresh_at : (base links entry : ℕ) → IsTrail (record { base = base; links = links; first = None }) entry (entry_addr entry)
+fresh_at base links entry = record { falls = omega arith; fresh = λ e. refl }
+
 pub entry_found : (c : Course) (base links slot word : ℕ) (s : SessionState) → HasSlot c base links slot word s → is_entry word ≡ true → (word == 0) ≡ false → (entry_tag word == (home_in c).tag) ≡ true
     → IsReached c (base + slot) word (entry_addr word) s
 unfolding HasSlot IsReached
 entry_found c base links slot word s has its some mine =
-    (record { base = base; links = links; first = None }, load.AtRest, Finds, subst (λ (t : TryState). IsLed c t s) (finds_entry c base links slot word its some mine) has)
+    (record { base = base; links = links; first = None }, fresh_at base links word, load.AtRest, Finds, subst (λ (t : TryState). IsLed c t s) (finds_entry c base links slot word its some mine) has)
 
 empty_slot : (c : Course) (base links slot : ℕ) (s : SessionState) → HasSlot c base links slot 0 s → IsReached c (base + slot) 0 (entry_addr 0) s
 unfolding HasSlot IsReached
 empty_slot c base links slot s has =
-    (record { base = base; links = links; first = None }, load.AtRest, Finds, subst (λ (t : TryState). IsLed c t s) (finds_empty c base links slot) has)
+    (record { base = base; links = links; first = None }, fresh_at base links 0, load.AtRest, Finds, subst (λ (t : TryState). IsLed c t s) (finds_empty c base links slot) has)
 
 pub empty_found : (c : Course) (base links slot word : ℕ) (s : SessionState) → HasSlot c base links slot word s → word ≡ 0 → IsReached c (base + slot) word (entry_addr word) s
 empty_found c base links slot word s has zero =

@@ -20,7 +20,7 @@ use Rattle.fkv_ops.specs.Trying.{TryState, trying_ask, trying_next, walk_ledto}
 use Rattle.fkv_ops.specs.Walking.{reached, first_met, walking_ask, walking_next, load_ledto}
 use Rattle.fkv_session.specs.Sessions.{SessionState}
 use Rattle.fkv_straight.specs.Course.{Course, head_in}
-use Rattle.fkv_straight.specs.Met.{Trail, IsInMemory, meeting, walking, judged, IsReached, IsAtHeader, IsAtKey, HasKey}
+use Rattle.fkv_straight.specs.Met.{Trail, IsTrail, IsInMemory, meeting, walking, judged, IsReached, IsAtHeader, IsAtKey, HasKey}
 use Rattle.fkv_straight.specs.Standing.{asked, leads, IsLed, next_try}
 use Rattle.fkv_straight.proofs.Moves.{asks_load, led_on, stays, steps}
 use Rattle.fkv_straight.proofs.Tests.{Here, here}
@@ -39,13 +39,14 @@ pub reached_here : (c : Course) (place entry addr : ℕ) (s : SessionState) → 
 unfolding IsReached IsAtHeader trying_ask walking_ask load_ask passed
 reached_here c place entry addr s at in_memory = (
   at.0,
+  at.1,
   stays c (meeting c at.0 place entry addr (load.LoadsHeader (record { 0 = addr }))) s
-      (subst (λ (t : TryState). IsLed c t s) (meets c at.0 place entry addr at.1 at.2 (here c.seat.places.ring (head_in c) addr in_memory)) at.3) refl refl,
+      (subst (λ (t : TryState). IsLed c t s) (meets c at.0 place entry addr at.2 at.3 (here c.seat.places.ring (head_in c) addr in_memory)) at.4) refl refl,
 )
 
 pub header_asks : (c : Course) (place entry addr : ℕ) (s : SessionState) → IsAtHeader c place entry addr s → asked c.seat s ≡ Load (record_place c.seat.places addr rec.Header)
 unfolding IsAtHeader trying_ask walking_ask load_ask passed
-header_asks c place entry addr s at = asks_load c (meeting c at.0 place entry addr (load.LoadsHeader (record { 0 = addr }))) (record_place c.seat.places addr rec.Header) s at.1 refl
+header_asks c place entry addr s at = asks_load c (meeting c at.0 place entry addr (load.LoadsHeader (record { 0 = addr }))) (record_place c.seat.places addr rec.Header) s at.2 refl
 
 has_header : (c : Course) (trail : Trail) (place entry addr header : ℕ)
     → next_try c (meeting c trail place entry addr (load.LoadsHeader (record { 0 = addr }))) header ≡ meeting c trail place entry addr (load.LoadsKey (record { 0 = addr }) header)
@@ -55,15 +56,15 @@ has_header c trail place entry addr header = refl
 pub header_comes : (c : Course) (place entry addr header : ℕ) (s u : SessionState) → IsAtHeader c place entry addr s → u ≡ leads c.seat s header → IsAtKey c place entry addr header u
 unfolding IsAtHeader IsAtKey trying_ask walking_ask load_ask passed
 header_comes c place entry addr header s u at e =
-    (at.0, steps c (meeting c at.0 place entry addr (load.LoadsHeader (record { 0 = addr }))) (meeting c at.0 place entry addr (load.LoadsKey (record { 0 = addr }) header)) header s u at.1 e (has_header c at.0 place entry addr header) refl refl)
+    (at.0, at.1, steps c (meeting c at.0 place entry addr (load.LoadsHeader (record { 0 = addr }))) (meeting c at.0 place entry addr (load.LoadsKey (record { 0 = addr }) header)) header s u at.2 e (has_header c at.0 place entry addr header) refl refl)
 
 pub key_asks : (c : Course) (place entry addr header : ℕ) (s : SessionState) → IsAtKey c place entry addr header s → asked c.seat s ≡ Load (record_place c.seat.places addr rec.Key)
 unfolding IsAtKey trying_ask walking_ask load_ask passed
-key_asks c place entry addr header s at = asks_load c (meeting c at.0 place entry addr (load.LoadsKey (record { 0 = addr }) header)) (record_place c.seat.places addr rec.Key) s at.1 refl
+key_asks c place entry addr header s at = asks_load c (meeting c at.0 place entry addr (load.LoadsKey (record { 0 = addr }) header)) (record_place c.seat.places addr rec.Key) s at.2 refl
 
 pub key_comes : (c : Course) (place entry addr header key : ℕ) (s u : SessionState) → IsAtKey c place entry addr header s → u ≡ leads c.seat s key → HasKey c place entry addr header key u
 unfolding IsAtKey HasKey
-key_comes c place entry addr header key s u at e = (at.0, led_on c (meeting c at.0 place entry addr (load.LoadsKey (record { 0 = addr }) header)) key s u at.1 e)
+key_comes c place entry addr header key s u at e = (at.0, at.1, led_on c (meeting c at.0 place entry addr (load.LoadsKey (record { 0 = addr }) header)) key s u at.2 e)
 
 -- ---- another key's record: on to the one before it
 passes_record : (c : Course) (trail : Trail) (place entry addr header key : ℕ) (previous : Addr) (version : Version) → header_said header ≡ Says previous version → nat_lt previous.0 addr ≡ true → (key == (key_of c.op).0) ≡ false
@@ -72,12 +73,20 @@ passes_record : (c : Course) (trail : Trail) (place entry addr header key : ℕ)
 unfolding trying_next walking_next load_ledto load_ask load_next load_next_ask
 passes_record c trail place entry addr header key previous version said below other = rw (said, below, other) refl
 
+-- the record before it isn't the first one
+trail_on : (trail : Trail) (version : Version) (entry addr next : ℕ) → IsTrail trail entry addr → next < addr → IsTrail (past trail version) entry next
+trail_on trail version entry addr next its below = record {
+  falls = (let h = its.falls in omega (arith, h, below));
+  fresh = λ e. absurd (let h = its.falls in omega (arith, h, below, e));
+}
+
 pub key_passed : (c : Course) (place entry addr header key : ℕ) (previous : Addr) (version : Version) (s : SessionState) → HasKey c place entry addr header key s → header_said header ≡ Says previous version → previous.0 < addr
     → ¬ (key ≡ (key_of c.op).0) → IsReached c place entry previous.0 s
 unfolding HasKey IsReached
 key_passed c place entry addr header key previous version s has said below other = (
   past has.0 version,
+  trail_on has.0 version entry addr previous.0 has.1 below,
   load.HasKey (record { 0 = addr }) header key,
   Meets (record { 0 = addr }),
-  subst (λ (t : TryState). IsLed c t s) (passes_record c has.0 place entry addr header key previous version said (grind (arith, nat_tests)) (grind (arith, nat_tests))) has.1,
+  subst (λ (t : TryState). IsLed c t s) (passes_record c has.0 place entry addr header key previous version said (grind (arith, nat_tests)) (grind (arith, nat_tests))) has.2,
 )

@@ -1,5 +1,5 @@
 -- What a call goes by in which an operation is tried, from its begin to its end: a call of the operation, or a poll in which it alone waits.
-use Rattle.std.specs.Prelude.{◌≡◌, ℕ, ◌+◌, ◌==◌, ◌&&◌, ◌≤◌, not, if◌then◌else◌, Bool, true, false, Option, None, List, [], ◌∷◌}
+use Rattle.std.specs.Prelude.{◌≡◌, ℕ, ◌+◌, ◌&&◌, ◌≤◌, not, if◌then◌else◌, Bool, true, false, None, List, [], ◌∷◌}
 use Rattle.fkv_base.specs.Limits.{last_version}
 use Rattle.fkv_map.specs.declared.operations.Call.{Call}
 use Rattle.fkv_map.specs.declared.operations.Call.TheVariants.{Poll}
@@ -15,7 +15,6 @@ use Rattle.fkv_ops.specs.Trying.{is_prepare, is_moving_on}
 use Rattle.fkv_pending.specs.declared.pending_requests.PendingRequest.{PendingRequest}
 use Rattle.fkv_pending.specs.declared.pending_requests.RequestName.{RequestName}
 use Rattle.fkv_pending.specs.declared.pending_requests.RequestName.TheVariants.{Update, Read}
-use Rattle.fkv_session.specs.declared.answers.Finished.{Finished}
 use Rattle.fkv_session.specs.Alike.{Lasting, lasting}
 use Rattle.fkv_session.specs.Sessions.{Seat, SessionState, bits_of, request_of, is_full, ticket_after}
 use Rattle.fkv_straight.specs.declared.going.Going.{Going}
@@ -89,8 +88,8 @@ pub record IsSettled (c : Course) : Type 0 where
 abbrev pub shares : Course → Bool
 shares c = is_prepare c.lasts.seen.phase && not (is_read c.op)
 
--- The numbers that a straight call goes by are those of its course. The operation is one of the session's version and shares no latch, in a poll it
--- alone waits, and the session's spare bucket is one that there is.
+-- The numbers that a straight call goes by are those of its course. The operation is one of the session's version, in a poll it alone waits, and the
+-- session's spare bucket is one that there is.
 pub record Goes (c : Course) (k : Seat) (op : Op) (g : Going) : Type 0 where
   pub its_seat : c.seat ≡ k
   pub its_op : c.op ≡ op
@@ -100,7 +99,7 @@ pub record Goes (c : Course) (k : Seat) (op : Op) (g : Going) : Type 0 where
   pub its_read_only : c.lasts.seen.offsets.read_only.0 ≡ g.read_only
   pub its_version : (request_in c).version.0 ≡ g.version
   pub moves_on : is_moving_on c.lasts.seen.phase ≡ g.is_moving_on
-  pub unlatched : shares c ≡ false
+  pub prepares : is_prepare c.lasts.seen.phase ≡ g.is_preparing
   pub spare_fits : c.lasts.spare ≤ c.seat.places.overflow
   pub settled : IsSettled c
 

@@ -1,11 +1,12 @@
 -- Where a try stands on the ways of a straight call: along its bucket, along its chain, at the record that is changed, and at the record
 -- that is appended.
-use Rattle.std.specs.Prelude.{◌≡◌, ◌<◌, ℕ, true, false, Option, None}
+use Rattle.std.specs.Prelude.{◌≡◌, ◌<◌, ◌≤◌, ◌&&◌, if◌then◌else◌, ℕ, true, false, Option, None}
 use Rattle.fkv_base.specs.declared.numbers.Version.{Version}
 use Rattle.fkv_base.specs.Limits.{last_serial}
 use Rattle.fkv_map.specs.declared.operations.Call.{Call}
 use Rattle.fkv_map.specs.declared.operations.Call.TheVariants as call
 use Rattle.fkv_map.specs.declared.operations.Op.{Op}
+use Rattle.fkv_map.specs.declared.operations.Reply.{Reply}
 use Rattle.fkv_map.specs.Keys.{key_of, reply_from}
 use Rattle.fkv_plane.specs.Places.{bucket_place}
 use Rattle.fkv_latch.specs.declared.latching.Latching.TheVariants as latch
@@ -23,19 +24,22 @@ use Rattle.fkv_index.specs.declared.publishing.Publishing.{Publishing}
 use Rattle.fkv_index.specs.declared.publishing.Publishing.TheVariants as publish
 use Rattle.fkv_index.specs.Finding.{linking_for}
 use Rattle.fkv_index.specs.IndexWorld.{new_entry}
+use Rattle.fkv_index.specs.Slots.{entry_addr}
+use Rattle.fkv_ops.specs.declared.answers.Reason.TheVariants as reason
+use Rattle.fkv_ops.specs.declared.answers.TryAnswer.TheVariants as tried
 use Rattle.fkv_ops.specs.declared.appending.Appending.{Appending}
 use Rattle.fkv_ops.specs.declared.appending.Appending.TheVariants as append
 use Rattle.fkv_ops.specs.declared.header_words.HeaderSaid.TheVariants.{Says}
 use Rattle.fkv_ops.specs.declared.trying.OldValue.TheVariants.{InMemory}
 use Rattle.fkv_ops.specs.declared.trying.Trying.{Trying}
-use Rattle.fkv_ops.specs.declared.trying.Trying.TheVariants.{Walks, LoadsSafe, SwapsValue, LoadsCurrent, ChangesValue, LoadsAnswer, LoadsOld, Appends}
+use Rattle.fkv_ops.specs.declared.trying.Trying.TheVariants.{TakesShared, Walks, LoadsSafe, SwapsValue, LoadsCurrent, ChangesValue, LoadsAnswer, LoadsOld, Appends}
 use Rattle.fkv_ops.specs.declared.walking.Walking.{Walking}
 use Rattle.fkv_ops.specs.declared.walking.Walking.TheVariants.{Finds, Meets, HasFound, LoadsValue}
 use Rattle.fkv_ops.specs.HeaderWords.{header_said}
 use Rattle.fkv_ops.specs.Requests.{is_read, purpose_of}
-use Rattle.fkv_ops.specs.Walking.{WalkState, reached, walk_ask}
+use Rattle.fkv_ops.specs.Walking.{WalkState, first_met, reached, walk_ask, walk_rested}
 use Rattle.fkv_ops.specs.Appending.{AppendState, append_rested}
-use Rattle.fkv_ops.specs.Trying.{TryState, words_of, walk_ledto, copies_from}
+use Rattle.fkv_ops.specs.Trying.{TryState, words_of, walk_ledto, copies_from, ends, takes_effect, is_above}
 use Rattle.fkv_pending.specs.declared.pending_requests.RequestName.TheVariants.{Update}
 use Rattle.fkv_session.specs.Sessions.{Seat, SessionState, refusal_of}
 use Rattle.fkv_straight.specs.declared.searching.Met.{Met}
@@ -43,7 +47,7 @@ use Rattle.fkv_straight.specs.declared.searching.Met.TheVariants.{Found, Nowhere
 use Rattle.fkv_straight.specs.declared.searching.Record.{Record}
 use Rattle.fkv_straight.specs.declared.going.Going.{Going}
 use Rattle.fkv_straight.specs.declared.going.Lone.{Lone}
-use Rattle.fkv_straight.specs.Course.{Course, course_of, first_name, home_in, head_in, request_in, Goes}
+use Rattle.fkv_straight.specs.Course.{Course, course_of, first_name, home_in, head_in, request_in, shares, Goes}
 use Rattle.fkv_straight.specs.Memory.{is_in_memory}
 use Rattle.fkv_straight.specs.Standing.{Tries, IsLed, attempting, begins, next_try, sitting}
 
@@ -51,9 +55,9 @@ use Rattle.fkv_straight.specs.Standing.{Tries, IsLed, attempting, begins, next_t
 abbrev pub IsInMemory : Course → ℕ → Type 0
 IsInMemory c addr = is_in_memory c.seat.places.ring (head_in c) addr ≡ true
 
--- the try of the operation, with its walk and its append. No latch is held
+-- the try of the operation, with its walk and its append. It shares the latch of its bucket where it has to, and holds none alone
 abbrev pub trying : Course → WalkState → AppendState → Trying → TryState
-trying c walk a step = record { request = request_in c; seen = c.lasts.seen; occasion = c.occasion; home = home_in c; has_shared = false; has_exclusive = false; effect = None; spare = c.lasts.spare; walk = walk; latching = latch.AtRest; append = a; step = step }
+trying c walk a step = record { request = request_in c; seen = c.lasts.seen; occasion = c.occasion; home = home_in c; has_shared = shares c; has_exclusive = false; effect = None; spare = c.lasts.spare; walk = walk; latching = latch.AtRest; append = a; step = step }
 
 -- ---- along the bucket
 -- the search among the slots from this place on, which may still follow so many links
@@ -64,9 +68,21 @@ abbrev pub seeking : Course → ℕ → ℕ → FindStep → TryState
 seeking c base links step =
     trying c (record { key = key_of c.op; head = c.lasts.seen.offsets.head; place = 0; entry = 0; first = None; spare = c.lasts.spare; finding = finding_at c base links step; loading = load.AtRest; step = Finds }) append_rested Walks
 
--- the call begins at the first slot of its home's bucket
+-- ---- at its bucket's latch
+abbrev pub latch_in : Course → ℕ
+latch_in c = bucket_place c.seat.places (home_in c).bucket 7
+
+-- it takes a share of that
+abbrev pub sharing : Course → TryState
+sharing c = record { request = request_in c; seen = c.lasts.seen; occasion = c.occasion; home = home_in c; has_shared = false; has_exclusive = false; effect = None; spare = c.lasts.spare; walk = walk_rested; latching = latch.AddsShare (latch_in c); append = append_rested; step = TakesShared }
+
+-- or is at the bucket's first slot
+abbrev pub entering : Course → TryState
+entering c = seeking c (bucket_place c.seat.places (home_in c).bucket 0) c.seat.places.overflow (LoadsSlot 0)
+
+-- where the call begins
 abbrev pub begun_in : Course → SessionState
-begun_in c = sitting c 0 (attempting c (seeking c (bucket_place c.seat.places (home_in c).bucket 0) c.seat.places.overflow (LoadsSlot 0)))
+begun_in c = sitting c 0 (attempting c (if shares c then sharing c else entering c))
 
 abbrev pub Begins : Course → Call → SessionState → Type 0
 Begins c its s = begins c.seat s its ≡ begun_in c
@@ -77,17 +93,22 @@ pub record MayGo (k : Seat) (s : SessionState) (op : Op) (g : Going) : Type 0 wh
   pub allowed : refusal_of s op ≡ None
   pub serial_left : is_read op ≡ false → s.serial < last_serial
 
--- So may a poll in which this update alone waits. No record is on its way that nobody waits for.
+-- So may a poll in which this update alone waits. No record is on its way that nobody waits for, and the session isn't in prepare.
 pub record MayPoll (k : Seat) (s : SessionState) (l : Lone) (g : Going) : Type 0 where
   pub goes : Goes (course_of k s l.op call.Poll) k l.op g
   pub awake : s.is_awake ≡ true
   pub no_orphan : s.is_orphaned ≡ false
   pub updates : is_read l.op ≡ false
+  pub calm : g.is_preparing ≡ false
   pub named : first_name s.requests ≡ Update l.serial
 
 -- a slot is loaded; its word has come and isn't judged yet. The same of the word that leads to an overflow bucket
 unfoldable pub IsAtSlot : Course → ℕ → ℕ → ℕ → SessionState → Type 0
 IsAtSlot c base links slot s = Tries c (seeking c base links (LoadsSlot slot)) s
+
+-- the search begins
+abbrev pub IsAtFirst : Course → SessionState → Type 0
+IsAtFirst c s = IsAtSlot c (bucket_place c.seat.places (home_in c).bucket 0) c.seat.places.overflow 0 s
 
 unfoldable pub HasSlot : Course → ℕ → ℕ → ℕ → ℕ → SessionState → Type 0
 HasSlot c base links slot word s = IsLed c (next_try c (seeking c base links (LoadsSlot slot)) word) s
@@ -105,6 +126,11 @@ pub record Trail : Type 0 where
   pub links : ℕ
   pub first : Option Version
 
+-- The chain was walked to this address from the slot's entry. Addresses fall along it, and at the first record no version was met before.
+pub record IsTrail (trail : Trail) (entry addr : ℕ) : Type 0 where
+  pub falls : addr ≤ entry_addr entry
+  pub fresh : addr ≡ entry_addr entry → trail.first ≡ None
+
 abbrev pub walking : Course → Trail → ℕ → ℕ → Loading → Walking → WalkState
 walking c trail place entry loading step =
     record { key = key_of c.op; head = c.lasts.seen.offsets.head; place = place; entry = entry; first = trail.first; spare = c.lasts.spare; finding = finding_at c trail.base trail.links AtRest; loading = loading; step = step }
@@ -118,17 +144,17 @@ judged c walk = walk_ledto c.seat.places (trying c walk append_rested Walks) (wa
 
 -- The walk from the entry at this place has come to an address, which isn't judged yet.
 unfoldable pub IsReached : Course → ℕ → ℕ → ℕ → SessionState → Type 0
-IsReached c place entry addr s = (trail : Trail) × (loading : Loading) × (step : Walking) × IsLed c (judged c (reached c.seat.places (walking c trail place entry loading step) addr)) s
+IsReached c place entry addr s = (trail : Trail) × IsTrail trail entry addr × (loading : Loading) × (step : Walking) × IsLed c (judged c (reached c.seat.places (walking c trail place entry loading step) addr)) s
 
 -- the header of the record is loaded, then its key, and then both have come and aren't judged yet
 unfoldable pub IsAtHeader : Course → ℕ → ℕ → ℕ → SessionState → Type 0
-IsAtHeader c place entry addr s = (trail : Trail) × Tries c (meeting c trail place entry addr (load.LoadsHeader (record { 0 = addr }))) s
+IsAtHeader c place entry addr s = (trail : Trail) × IsTrail trail entry addr × Tries c (meeting c trail place entry addr (load.LoadsHeader (record { 0 = addr }))) s
 
 unfoldable pub IsAtKey : Course → ℕ → ℕ → ℕ → ℕ → SessionState → Type 0
-IsAtKey c place entry addr header s = (trail : Trail) × Tries c (meeting c trail place entry addr (load.LoadsKey (record { 0 = addr }) header)) s
+IsAtKey c place entry addr header s = (trail : Trail) × IsTrail trail entry addr × Tries c (meeting c trail place entry addr (load.LoadsKey (record { 0 = addr }) header)) s
 
 unfoldable pub HasKey : Course → ℕ → ℕ → ℕ → ℕ → ℕ → SessionState → Type 0
-HasKey c place entry addr header key s = (trail : Trail) × IsLed c (next_try c (meeting c trail place entry addr (load.LoadsKey (record { 0 = addr }) header)) key) s
+HasKey c place entry addr header key s = (trail : Trail) × IsTrail trail entry addr × IsLed c (next_try c (meeting c trail place entry addr (load.LoadsKey (record { 0 = addr }) header)) key) s
 
 -- the record of the operation's key was met in memory
 pub record IsMet (c : Course) (r : Record) (s : SessionState) : Type 0 where
@@ -136,6 +162,10 @@ pub record IsMet (c : Course) (r : Record) (s : SessionState) : Type 0 where
   pub said : header_said r.header ≡ Says (record { 0 = r.previous }) (record { 0 = r.version })
   pub below : r.previous < r.addr
   pub here : IsInMemory c r.addr
+
+-- by whatever trail it was met, the update stays at its version: in prepare the chain's first record is of no later one
+abbrev pub IsUnshifted : Course → Record → Type 0
+IsUnshifted c r = (trail : Trail) → IsTrail trail r.entry r.addr → (shares c && is_above (first_met trail.first (record { 0 = r.version })) (request_in c).version) ≡ false
 
 -- what a search has met: its key's record; the chain's end; or where the chain leaves memory
 abbrev pub HasMet : Course → Met → SessionState → Type 0
@@ -160,6 +190,14 @@ IsAtCurrent c r s = (trail : Trail) × Tries c (holding c trail r (LoadsCurrent 
 
 unfoldable pub IsAtChange : Course → ℕ → ℕ → SessionState → Type 0
 IsAtChange c addr old s = (walk : WalkState) × Tries c (trying c walk append_rested (ChangesValue (record { 0 = addr }) old)) s
+
+-- the value is changed, and the try tells this; it drops its share next, if it has one
+unfoldable pub HasChanged : Course → Reply → SessionState → Type 0
+HasChanged c its s = (walk : WalkState) × (step : Trying) × IsLed c (takes_effect c.seat.places (trying c walk append_rested step) its) s
+
+-- another session was quicker
+unfoldable pub HasLost : Course → SessionState → Type 0
+HasLost c s = (walk : WalkState) × (step : Trying) × IsLed c (ends c.seat.places (trying c walk append_rested step) (tried.Wait reason.Contended)) s
 
 -- the try that has found the record, and goes by neither its region nor its version yet
 abbrev pub finding : Course → Trail → Record → Trying → TryState

@@ -110,6 +110,7 @@ fn take_by_steps<L: Line>(
     requires at { (c : Course) × Goes c (L.seat line.old) op going.now × IsAtReserve c slot.place slot.entry (as_number old) (LoadsTail limit) (L.stands line.old) }
     requires room { L.kept line.old ≤ 51 }
     requires updates { is_read op ≡ false }
+    requires calm { going.now.is_preparing ≡ false }
     ensures seat { L.seat line.new ≡ L.seat line.old }
     ensures led { (start : L) (call : Call) → L.led start call line.old → L.led start call line.new }
     ensures kept { L.kept line.new ≤ 53 }
@@ -142,6 +143,7 @@ fn reserve<L: Line>(line: &mut L, going: &Going, op: Op, slot: Slot, old: Option
     requires at { (c : Course) × Goes c (L.seat line.old) op going.now × IsAtReserve c slot.place slot.entry (as_number old) LoadsLimit (L.stands line.old) }
     requires room { L.kept line.old ≤ 50 }
     requires updates { is_read op ≡ false }
+    requires calm { going.now.is_preparing ≡ false }
     ensures seat { L.seat line.new ≡ L.seat line.old }
     ensures led { (start : L) (call : Call) → L.led start call line.old → L.led start call line.new }
     ensures kept { L.kept line.new ≤ 53 }
@@ -195,6 +197,7 @@ pub(crate) fn append<L: Line>(
     requires at { (c : Course) × Goes c (L.seat line.old) op going.now × IsAtReserve c slot.place slot.entry (as_number old) LoadsLimit (L.stands line.old) }
     requires room { L.kept line.old ≤ 50 }
     requires updates { is_read op ≡ false }
+    requires calm { going.now.is_preparing ≡ false }
     ensures seat { L.seat line.new ≡ L.seat line.old }
     ensures led { (start : L) (call : Call) → L.led start call line.old → L.led start call line.new }
     ensures done { (c : Course) → Goes c (L.seat line.old) op going.now → IsAtReserve c slot.place slot.entry (as_number old) LoadsLimit (L.stands line.old)
@@ -225,6 +228,7 @@ pub(crate) fn append_first<L: Line>(line: &mut L, going: &Going, op: Op, slot: S
     requires at { (c : Course) × Goes c (L.seat line.old) op going.now × HasMet c (Nowhere slot) (L.stands line.old) }
     requires room { L.kept line.old ≤ 48 }
     requires updates { is_read op ≡ false }
+    requires calm { going.now.is_preparing ≡ false }
     ensures seat { L.seat line.new ≡ L.seat line.old }
     ensures led { (start : L) (call : Call) → L.led start call line.old → L.led start call line.new }
     ensures done { (c : Course) → Goes c (L.seat line.old) op going.now → HasMet c (Nowhere slot) (L.stands line.old) → ComesTo c result (L.stands line.new) }
@@ -241,6 +245,7 @@ pub(crate) fn append_past<L: Line>(line: &mut L, going: &Going, op: Op, slot: Sl
     requires at { (c : Course) × Goes c (L.seat line.old) op going.now × HasMet c (OnDisk slot) (L.stands line.old) }
     requires room { L.kept line.old ≤ 48 }
     requires updates { is_read op ≡ false }
+    requires calm { going.now.is_preparing ≡ false }
     ensures seat { L.seat line.new ≡ L.seat line.old }
     ensures led { (start : L) (call : Call) → L.led start call line.old → L.led start call line.new }
     ensures done { (c : Course) → Goes c (L.seat line.old) op going.now → HasMet c (OnDisk slot) (L.stands line.old) → ComesTo c result (L.stands line.new) }

@@ -12,11 +12,11 @@ ghost use Rattle.fkv_straight.specs.Met.{MayGo};
 ghost use Rattle.fkv_straight.specs.Standing.{IsCaughtUp};
 ghost use Rattle.fkv_straight.specs.declared.going.Going.{Going};
 
-use crate::changing::update;
 use crate::going::Going;
 use crate::lines::Line;
 use crate::outcomes::Outcome;
 use crate::reading::read;
+use crate::sharing::update_by_phase;
 use fkv_base::MAX_PENDING;
 use fkv_map::{Call, Op};
 use fkv_ops::Reason;
@@ -59,7 +59,7 @@ pub(crate) fn go_by<L: Line>(
     match op {
         Op::Read(_) => read(line, going, op),
         _ => {
-            let straight = update(line, going, op, Call::Op(op));
+            let straight = update_by_phase(line, going, op, Call::Op(op));
             match straight {
                 Outcome::Done(reply) => {
                     let serial = machine.take_serial();

@@ -1,11 +1,11 @@
 //! An update, straight: in place, or by a new record.
-ghost use Rattle.std.specs.Prelude.{◌≡◌, ◌<◌, ◌≤◌, true, false};
+ghost use Rattle.std.specs.Prelude.{◌≡◌, ◌<◌, ◌≤◌, ◌+◌, IfSome, IfNone, true, false};
 ghost use Rattle.fkv_map.specs.declared.operations.Call.{Call};
 ghost use Rattle.fkv_ops.specs.Requests.{is_read, is_blind};
 ghost use Rattle.fkv_session.specs.Sessions.{is_busy};
 ghost use Rattle.fkv_straight.specs.Course.{Course, course_of, Goes};
-ghost use Rattle.fkv_straight.specs.Met.{Begins, IsMet};
-ghost use Rattle.fkv_straight.specs.Standing.{ComesTo, IsDone};
+ghost use Rattle.fkv_straight.specs.Met.{Begins, HasChanged, HasLost, IsMet, IsUnshifted};
+ghost use Rattle.fkv_straight.specs.Standing.{ComesTo};
 
 use crate::appending::{append_first, append_past};
 use crate::copying::{copy_below, copy_later};
@@ -23,14 +23,16 @@ use fkv_plane::RecordWord;
 #[inline(always)]
 fn swap_value<L: Line>(line: &mut L, going: &Going, op: Op, its: Record) -> Reply
     requires at { (c : Course) × Goes c (L.seat line.old) op going.now × IsMet c its (L.stands line.old) }
-    requires room { L.kept line.old ≤ 48 }
+    requires stays { (c : Course) → Goes c (L.seat line.old) op going.now → IsUnshifted c its }
+    requires room { L.kept line.old ≤ 49 }
     requires updates { is_read op ≡ false }
     requires blind { is_blind op ≡ true }
     requires mutable { going.now.read_only ≤ its.addr }
     requires own { its.version ≡ going.now.version }
     ensures seat { L.seat line.new ≡ L.seat line.old }
     ensures led { (start : L) (call : Call) → L.led start call line.old → L.led start call line.new }
-    ensures done { (c : Course) → Goes c (L.seat line.old) op going.now → IsMet c its (L.stands line.old) → IsDone c result (L.stands line.new) }
+    ensures kept { L.kept line.new ≤ L.kept line.old + 2 }
+    ensures done { (c : Course) → Goes c (L.seat line.old) op going.now → IsMet c its (L.stands line.old) → HasChanged c result (L.stands line.new) }
 {
     let place = going.record(Addr(its.addr), RecordWord::Value);
     let made = op.value_applied(None);
@@ -39,18 +41,21 @@ fn swap_value<L: Line>(line: &mut L, going: &Going, op: Op, its: Record) -> Repl
     op.reply_from(None)
 }
 
-/// The value becomes what the operation makes of it, by one Cas, if no other is quicker.
+/// The value becomes what the operation makes of it, by one Cas. None if another session was quicker.
 #[inline(always)]
-fn change_value<L: Line>(line: &mut L, going: &Going, op: Op, its: Record) -> Outcome
+fn change_value<L: Line>(line: &mut L, going: &Going, op: Op, its: Record) -> Option<Reply>
     requires at { (c : Course) × Goes c (L.seat line.old) op going.now × IsMet c its (L.stands line.old) }
-    requires room { L.kept line.old ≤ 48 }
+    requires stays { (c : Course) → Goes c (L.seat line.old) op going.now → IsUnshifted c its }
+    requires room { L.kept line.old ≤ 49 }
     requires updates { is_read op ≡ false }
     requires seeing { is_blind op ≡ false }
     requires mutable { going.now.read_only ≤ its.addr }
     requires own { its.version ≡ going.now.version }
     ensures seat { L.seat line.new ≡ L.seat line.old }
     ensures led { (start : L) (call : Call) → L.led start call line.old → L.led start call line.new }
-    ensures done { (c : Course) → Goes c (L.seat line.old) op going.now → IsMet c its (L.stands line.old) → ComesTo c result (L.stands line.new) }
+    ensures kept { L.kept line.new ≤ L.kept line.old + 2 }
+    ensures done { (c : Course) → Goes c (L.seat line.old) op going.now → IsMet c its (L.stands line.old) → IfSome result (λ reply. HasChanged c reply (L.stands line.new)) }
+    ensures lost { (c : Course) → Goes c (L.seat line.old) op going.now → IsMet c its (L.stands line.old) → IfNone result (HasLost c (L.stands line.new)) }
 {
     let place = going.record(Addr(its.addr), RecordWord::Value);
     let old = line.load(place);
@@ -60,9 +65,33 @@ fn change_value<L: Line>(line: &mut L, going: &Going, op: Op, its: Record) -> Ou
     let found = line.cas(place, old, new);
     if found == old {
         let reply = op.reply_from(value);
-        Outcome::Done(reply)
+        Some(reply)
     } else {
-        Outcome::Contended
+        None
+    }
+}
+
+/// Changes the record that was met in place. None if another session was quicker.
+#[inline(always)]
+pub(crate) fn change<L: Line>(line: &mut L, going: &Going, op: Op, its: Record) -> Option<Reply>
+    requires at { (c : Course) × Goes c (L.seat line.old) op going.now × IsMet c its (L.stands line.old) }
+    requires stays { (c : Course) → Goes c (L.seat line.old) op going.now → IsUnshifted c its }
+    requires room { L.kept line.old ≤ 49 }
+    requires updates { is_read op ≡ false }
+    requires mutable { going.now.read_only ≤ its.addr }
+    requires own { its.version ≡ going.now.version }
+    ensures seat { L.seat line.new ≡ L.seat line.old }
+    ensures led { (start : L) (call : Call) → L.led start call line.old → L.led start call line.new }
+    ensures kept { L.kept line.new ≤ L.kept line.old + 2 }
+    ensures done { (c : Course) → Goes c (L.seat line.old) op going.now → IsMet c its (L.stands line.old) → IfSome result (λ reply. HasChanged c reply (L.stands line.new)) }
+    ensures lost { (c : Course) → Goes c (L.seat line.old) op going.now → IsMet c its (L.stands line.old) → IfNone result (HasLost c (L.stands line.new)) }
+{
+    let blind = is_blind(op);
+    if blind {
+        let reply = swap_value(line, going, op, its);
+        Some(reply)
+    } else {
+        change_value(line, going, op, its)
     }
 }
 
@@ -72,6 +101,7 @@ fn update_record<L: Line>(line: &mut L, going: &Going, op: Op, its: Record) -> O
     requires at { (c : Course) × Goes c (L.seat line.old) op going.now × IsMet c its (L.stands line.old) }
     requires room { L.kept line.old ≤ 48 }
     requires updates { is_read op ≡ false }
+    requires calm { going.now.is_preparing ≡ false }
     ensures seat { L.seat line.new ≡ L.seat line.old }
     ensures led { (start : L) (call : Call) → L.led start call line.old → L.led start call line.new }
     ensures done { (c : Course) → Goes c (L.seat line.old) op going.now → IsMet c its (L.stands line.old) → ComesTo c result (L.stands line.new) }
@@ -82,22 +112,21 @@ fn update_record<L: Line>(line: &mut L, going: &Going, op: Op, its: Record) -> O
     if its.version != going.version {
         return copy_later(line, going, op, its);
     }
-    let blind = is_blind(op);
-    if blind {
-        let reply = swap_value(line, going, op, its);
-        Outcome::Done(reply)
-    } else {
-        change_value(line, going, op, its)
+    let changed = change(line, going, op, its);
+    match changed {
+        Some(reply) => Outcome::Done(reply),
+        None => Outcome::Contended,
     }
 }
 
-/// Makes the steps of an update up to its answer, in a call of its own or in a poll.
+/// Makes the steps of an update up to its answer, in a call or a poll. The session isn't in prepare.
 #[inline(always)]
 pub(crate) fn update<L: Line>(line: &mut L, going: &Going, op: Op, call: Call) -> Outcome
     requires idle { is_busy (L.stands line.old).step ≡ false }
     requires goes { Goes (course_of (L.seat line.old) (L.stands line.old) op call) (L.seat line.old) op going.now }
     requires begins { Begins (course_of (L.seat line.old) (L.stands line.old) op call) call (L.stands line.old) }
     requires updates { is_read op ≡ false }
+    requires calm { going.now.is_preparing ≡ false }
     ensures seat { L.seat line.new ≡ L.seat line.old }
     ensures led { L.led line.old call line.new }
     ensures done { ComesTo (course_of (L.seat line.old) (L.stands line.old) op call) result (L.stands line.new) }

@@ -24,6 +24,7 @@ fn copy<L: Line>(line: &mut L, going: &Going, op: Op, its: Record) -> Outcome
     requires at { (c : Course) × Goes c (L.seat line.old) op going.now × IsCopied c its (L.stands line.old) }
     requires room { L.kept line.old ≤ 49 }
     requires updates { is_read op ≡ false }
+    requires calm { going.now.is_preparing ≡ false }
     ensures seat { L.seat line.new ≡ L.seat line.old }
     ensures led { (start : L) (call : Call) → L.led start call line.old → L.led start call line.new }
     ensures done { (c : Course) → Goes c (L.seat line.old) op going.now → IsCopied c its (L.stands line.old) → ComesTo c result (L.stands line.new) }
@@ -50,6 +51,7 @@ pub(crate) fn copy_below<L: Line>(line: &mut L, going: &Going, op: Op, its: Reco
     requires at { (c : Course) × Goes c (L.seat line.old) op going.now × IsMet c its (L.stands line.old) }
     requires room { L.kept line.old ≤ 48 }
     requires updates { is_read op ≡ false }
+    requires calm { going.now.is_preparing ≡ false }
     requires below { its.addr < going.now.read_only }
     ensures seat { L.seat line.new ≡ L.seat line.old }
     ensures led { (start : L) (call : Call) → L.led start call line.old → L.led start call line.new }
@@ -72,6 +74,7 @@ pub(crate) fn copy_later<L: Line>(line: &mut L, going: &Going, op: Op, its: Reco
     requires at { (c : Course) × Goes c (L.seat line.old) op going.now × IsMet c its (L.stands line.old) }
     requires room { L.kept line.old ≤ 48 }
     requires updates { is_read op ≡ false }
+    requires calm { going.now.is_preparing ≡ false }
     requires mutable { going.now.read_only ≤ its.addr }
     requires other { its.version ≡ going.now.version → ⊥ }
     ensures seat { L.seat line.new ≡ L.seat line.old }

@@ -79,7 +79,7 @@ impl Going {
         })
     }
 
-    /// What a call of this operation goes by, if it may go straight: the session doesn't refuse it, it shares no latch, and version and
+    /// What a call of this operation goes by, if it may go straight: the session doesn't refuse it, and version and
     /// spare bucket are ones that there are.
     pub fn of(machine: &Session, op: Op) -> Option<Going>
         ensures { IfSome result (λ its. MayGo machine.now.seat machine.now.state op its) }
@@ -92,7 +92,7 @@ impl Going {
         if lets { Some(its) } else { None }
     }
 
-    /// Whether a call of this operation may go straight by it: the session doesn't refuse it, and it shares no latch.
+    /// Whether a call of this operation may go straight by it: the session doesn't refuse it.
     #[inline(always)]
     pub(crate) fn lets(&self, machine: &Session, op: Op) -> bool
         ensures { result ≡ true → GoesBy machine.now.seat machine.now.state self.now → MayGo machine.now.seat machine.now.state op self.now }
@@ -102,7 +102,7 @@ impl Going {
             _ => {
                 let reserved = op.is_reserved();
                 let serial = machine.serial();
-                !self.is_preparing && !reserved && serial.0 < Serial::LAST
+                !reserved && serial.0 < Serial::LAST
             }
         }
     }

@@ -16,6 +16,7 @@ mod reading;
 mod refreshing;
 mod searching;
 mod sessions;
+mod sharing;
 mod words;
 
 pub use fetching::Start;

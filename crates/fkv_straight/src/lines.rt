@@ -1,7 +1,7 @@
 //! The words of a store, as one session steps at them.
 ghost use Rattle.std.specs.Prelude.{◌≡◌, ◌<◌, ◌+◌, ◌^◌, ℕ, false};
 ghost use Rattle.fkv_map.specs.declared.operations.Call.{Call};
-ghost use Rattle.fkv_plane.specs.declared.asks.Ask.TheVariants.{Load, Store, Swap, Cas};
+ghost use Rattle.fkv_plane.specs.declared.asks.Ask.TheVariants.{Load, Store, Swap, Cas, Add};
 ghost use Rattle.fkv_session.specs.Sessions.{Seat, SessionState, is_busy};
 ghost use Rattle.fkv_straight.specs.Standing.{asked, leads, begins, replayed};
 
@@ -26,6 +26,15 @@ pub trait Line {
     fn first(&mut self, call: Call, place: usize) -> u64
         requires idle { is_busy (stands self.old).step ≡ false }
         requires asked { asked (seat self.old) (begins (seat self.old) (stands self.old) call) ≡ Load place }
+        ensures next { stands self.new ≡ leads (seat self.old) (begins (seat self.old) (stands self.old) call) result }
+        ensures led { led self.old call self.new }
+        ensures kept { kept self.new ≡ 1 }
+        ensures seat { seat self.new ≡ seat self.old };
+
+    /// Begins a call whose first step adds to a word, as `add` does. The replies of the call before are kept no more.
+    fn first_add(&mut self, call: Call, place: usize, number: u64) -> u64
+        requires idle { is_busy (stands self.old).step ≡ false }
+        requires asked { asked (seat self.old) (begins (seat self.old) (stands self.old) call) ≡ Add place number }
         ensures next { stands self.new ≡ leads (seat self.old) (begins (seat self.old) (stands self.old) call) result }
         ensures led { led self.old call self.new }
         ensures kept { kept self.new ≡ 1 }
@@ -61,6 +70,15 @@ pub trait Line {
     /// Where the word is the expected one it becomes the new one.
     fn cas(&mut self, place: usize, expected: u64, new: u64) -> u64
         requires asked { asked (seat self.old) (stands self.old) ≡ Cas place expected new }
+        requires room { kept self.old < 64 }
+        ensures next { stands self.new ≡ leads (seat self.old) (stands self.old) result }
+        ensures led { (start : Self) (call : Call) → led start call self.old → led start call self.new }
+        ensures kept { kept self.new ≡ kept self.old + 1 }
+        ensures seat { seat self.new ≡ seat self.old };
+
+    /// The number is added to the word, modulo 2^64; gives the word as it was.
+    fn add(&mut self, place: usize, number: u64) -> u64
+        requires asked { asked (seat self.old) (stands self.old) ≡ Add place number }
         requires room { kept self.old < 64 }
         ensures next { stands self.new ≡ leads (seat self.old) (stands self.old) result }
         ensures led { (start : Self) (call : Call) → led start call self.old → led start call self.new }

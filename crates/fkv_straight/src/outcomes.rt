@@ -9,6 +9,6 @@ pub(crate) enum Outcome {
     Done(Reply),
     /// Another session was quicker, so it has to wait.
     Contended,
-    /// It has met something unusual, or another session was quicker and something is left to undo: the machine goes on.
+    /// It has met something unusual, or another session was quicker and more is left to do: the machine goes on.
     Unusual,
 }

@@ -1,10 +1,12 @@
 //! The search along bucket and chain, which all straight calls share.
-ghost use Rattle.std.specs.Prelude.{◌≡◌, ◌<◌, ◌≤◌, ◌+◌, IfSome, false};
+ghost use Rattle.std.specs.Prelude.{◌≡◌, ◌<◌, ◌≤◌, ◌+◌, ◌^◌, IfSome, false};
 ghost use Rattle.fkv_map.specs.declared.operations.Call.{Call};
-ghost use Rattle.fkv_index.specs.Slots.{entry_addr};
+ghost use Rattle.fkv_map.specs.Keys.{key_of};
+ghost use Rattle.fkv_plane.specs.Places.{bucket_place};
+ghost use Rattle.fkv_index.specs.Slots.{entry_addr, home_of};
 ghost use Rattle.fkv_session.specs.Sessions.{is_busy};
-ghost use Rattle.fkv_straight.specs.Course.{Course, course_of, Goes};
-ghost use Rattle.fkv_straight.specs.Met.{Begins, HasMet, IsReached};
+ghost use Rattle.fkv_straight.specs.Course.{Course, course_of, shares, Goes};
+ghost use Rattle.fkv_straight.specs.Met.{Begins, HasMet, HasSlot, IsAtFirst, IsReached};
 ghost use Rattle.fkv_straight.specs.Standing.{};
 
 use crate::going::Going;
@@ -49,22 +51,22 @@ const LINKS: usize = 3;
 
 const RECORDS: usize = 8;
 
-/// Finds the slot of the key's home: the first one with an entry of its tag, or the first empty one.
+/// Finds the slot of the key's home, from its bucket's first word on. It is the first one with an entry of its tag, or the first empty one.
 #[inline(always)]
-fn seek<L: Line>(line: &mut L, going: &Going, op: Op, call: Call) -> Option<Slot>
-    requires idle { is_busy (L.stands line.old).step ≡ false }
-    requires goes { Goes (course_of (L.seat line.old) (L.stands line.old) op call) (L.seat line.old) op going.now }
-    requires begins { Begins (course_of (L.seat line.old) (L.stands line.old) op call) call (L.stands line.old) }
+fn seek<L: Line>(line: &mut L, going: &Going, op: Op, first: usize, found: u64) -> Option<Slot>
+    requires at { (c : Course) × Goes c (L.seat line.old) op going.now × HasSlot c first going.now.places.overflow 0 found (L.stands line.old) }
+    requires fits { first + 8 ≤ 2 ^ 62 }
+    requires room { L.kept line.old ≤ 2 }
     ensures seat { L.seat line.new ≡ L.seat line.old }
-    ensures led { L.led line.old call line.new }
-    ensures kept { L.kept line.new ≤ 32 }
-    ensures found { IfSome result (λ its. IsReached (course_of (L.seat line.old) (L.stands line.old) op call) its.place its.entry (entry_addr its.entry) (L.stands line.new)) }
+    ensures led { (start : L) (call : Call) → L.led start call line.old → L.led start call line.new }
+    ensures kept { L.kept line.new ≤ L.kept line.old + 31 }
+    ensures found { (c : Course) → Goes c (L.seat line.old) op going.now → HasSlot c first going.now.places.overflow 0 found (L.stands line.old)
+        → IfSome result (λ its. IsReached c its.place its.entry (entry_addr its.entry) (L.stands line.new)) }
 {
     let key = op.key();
     let home = home_of(key, going.bits);
-    let first = going.places.bucket(home.bucket, 0);
     let mut base = first;
-    let mut word = line.first(call, first);
+    let mut word = found;
     let mut slot = 0;
     let mut links = 0;
     'slots: while word != 0 {
@@ -106,10 +108,10 @@ fn seek<L: Line>(line: &mut L, going: &Going, op: Op, call: Call) -> Option<Slot
 #[inline(always)]
 fn walk<L: Line>(line: &mut L, going: &Going, op: Op, slot: Slot) -> Option<Met>
     requires at { (c : Course) × Goes c (L.seat line.old) op going.now × IsReached c slot.place slot.entry (entry_addr slot.entry) (L.stands line.old) }
-    requires room { L.kept line.old ≤ 32 }
+    requires room { L.kept line.old ≤ 33 }
     ensures seat { L.seat line.new ≡ L.seat line.old }
     ensures led { (start : L) (call : Call) → L.led start call line.old → L.led start call line.new }
-    ensures kept { L.kept line.new ≤ 48 }
+    ensures kept { L.kept line.new ≤ L.kept line.old + 16 }
     ensures met { (c : Course) → Goes c (L.seat line.old) op going.now → IsReached c slot.place slot.entry (entry_addr slot.entry) (L.stands line.old)
         → IfSome result (λ its. HasMet c its (L.stands line.new)) }
 {
@@ -155,18 +157,51 @@ fn walk<L: Line>(line: &mut L, going: &Going, op: Op, slot: Slot) -> Option<Met>
     None
 }
 
+/// The place of the first slot of the key's home.
+#[inline(always)]
+fn first_slot_of(going: &Going, op: Op) -> usize
+    ensures place { result ≡ bucket_place going.now.places (home_of going.now.bits (key_of op)).bucket 0 }
+    ensures fits { result + 8 ≤ 2 ^ 62 }
+{
+    let key = op.key();
+    let home = home_of(key, going.bits);
+    going.places.bucket(home.bucket, 0)
+}
+
 /// Finds the slot of the key's home and walks its chain; nothing where that meets anything unusual.
 #[inline(always)]
 pub(crate) fn search<L: Line>(line: &mut L, going: &Going, op: Op, call: Call) -> Option<Met>
     requires idle { is_busy (L.stands line.old).step ≡ false }
     requires goes { Goes (course_of (L.seat line.old) (L.stands line.old) op call) (L.seat line.old) op going.now }
     requires begins { Begins (course_of (L.seat line.old) (L.stands line.old) op call) call (L.stands line.old) }
+    requires calm { shares (course_of (L.seat line.old) (L.stands line.old) op call) ≡ false }
     ensures seat { L.seat line.new ≡ L.seat line.old }
     ensures led { L.led line.old call line.new }
     ensures kept { L.kept line.new ≤ 48 }
     ensures met { IfSome result (λ its. HasMet (course_of (L.seat line.old) (L.stands line.old) op call) its (L.stands line.new)) }
 {
-    let slot = seek(line, going, op, call);
+    let first = first_slot_of(going, op);
+    let word = line.first(call, first);
+    let slot = seek(line, going, op, first, word);
+    match slot {
+        Some(its) => walk(line, going, op, its),
+        None => None,
+    }
+}
+
+/// The same in a call that has shared the latch of the bucket.
+#[inline(always)]
+pub(crate) fn search_on<L: Line>(line: &mut L, going: &Going, op: Op) -> Option<Met>
+    requires at { (c : Course) × Goes c (L.seat line.old) op going.now × IsAtFirst c (L.stands line.old) }
+    requires room { L.kept line.old ≤ 1 }
+    ensures seat { L.seat line.new ≡ L.seat line.old }
+    ensures led { (start : L) (call : Call) → L.led start call line.old → L.led start call line.new }
+    ensures kept { L.kept line.new ≤ 49 }
+    ensures met { (c : Course) → Goes c (L.seat line.old) op going.now → IsAtFirst c (L.stands line.old) → IfSome result (λ its. HasMet c its (L.stands line.new)) }
+{
+    let first = first_slot_of(going, op);
+    let word = line.load(first);
+    let slot = seek(line, going, op, first, word);
     match slot {
         Some(its) => walk(line, going, op, its),
         None => None,

@@ -220,7 +220,7 @@ impl StraightSession {
     }
 
     /// Makes the steps of a call, each the one that the machine's table asks for, up to its end or to where anything unusual is met. An operation goes straight
-    /// where the session doesn't refuse it and it shares no latch, a refresh where no request waits, and a poll where one update waits for nothing else.
+    /// where the session doesn't refuse it, a refresh where no request waits, and a poll where one update waits for nothing else.
     #[inline(always)]
     pub fn run<L: Line>(&mut self, line: &mut L, call: Call) -> Went
         requires idle { is_busy (L.stands line.old).step ≡ false }

@@ -18,6 +18,8 @@ pub(crate) enum Meeting {
     InProgress,
     WaitPending,
     WaitFlush,
+    /// An update of a session in prepare.
+    UpdateInPrepare,
     /// A bucket whose seven slots have entries of other tags.
     FullBucket,
     OverflowBucket,
@@ -35,7 +37,7 @@ pub(crate) enum Meeting {
     LostValue,
 }
 
-const MEETINGS: usize = 18;
+const MEETINGS: usize = 19;
 
 /// How many operations have met what.
 #[derive(Clone, Copy)]
@@ -71,6 +73,9 @@ impl Meetings {
         self.all = self.all.wrapping_add(1);
         self.count(kind_of(op));
         self.count(phase_of(seen.phase));
+        if matches!(seen.phase, Phase::Prepare) && !matches!(op, Op::Read(_)) {
+            self.count(Meeting::UpdateInPrepare);
+        }
         if matches!(told, Told::Pending(_, _) | Told::PendingRead(_)) {
             self.count(Meeting::Waits);
         }

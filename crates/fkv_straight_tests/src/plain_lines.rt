@@ -116,6 +116,17 @@ impl<'w, R: Abort> Line for PlainLine<'w, R> {
         self.step(&Ask::Load(place))
     }
 
+    /// The same where its first step adds to a word.
+    #[tactic(auto, using(crate::proofs::Led::stands_first, crate::proofs::Led::led_first))]
+    fn first_add(&mut self, call: Call, place: usize, number: u64) -> u64 {
+        if let Some(_) = self.call {
+            self.rt.abort();
+        }
+        self.call = Some(call);
+        self.replies.clear();
+        self.step(&Ask::Add(place, number))
+    }
+
     fn load(&mut self, place: usize) -> u64 {
         self.go_on(&Ask::Load(place))
     }
@@ -130,6 +141,10 @@ impl<'w, R: Abort> Line for PlainLine<'w, R> {
 
     fn cas(&mut self, place: usize, expected: u64, new: u64) -> u64 {
         self.go_on(&Ask::Cas(place, expected, new))
+    }
+
+    fn add(&mut self, place: usize, number: u64) -> u64 {
+        self.go_on(&Ask::Add(place, number))
     }
 
     /// Where a rival is about to be quicker it makes no step, so that the call makes the two one after the other.

@@ -1,5 +1,6 @@
 //! The way of a session to the words of its table, by which a call goes straight.
-ghost use Rattle.std.specs.Prelude.{◌≡◌, ◌+◌, ◌<◌, ◌≤◌, ◌++◌, ◌∷◌, [], ℕ, Some, length, take};
+ghost use Rattle.std.specs.Prelude.{◌≡◌, ◌+◌, ◌<◌, ◌≤◌, ◌++◌, ◌∷◌, [], ℕ, Some, false, length, take};
+ghost use Rattle.fkv_session.specs.Sessions.{is_busy};
 ghost use Rattle.fkv_table.specs.Said as said;
 
 use crate::happenings::{Happening, law_start_stands};
@@ -114,6 +115,28 @@ impl<'t, D: Device> SeatLine<'t, D> {
         seat
     }
 
+    /// Begins a call, makes its first step, and keeps the reply. Those of the call before are kept no more.
+    #[inline(always)]
+    fn start(&mut self, call: Call, ask: &Ask<Told>) -> u64
+        requires idle { is_busy (said.stands (said.opening_of D.seen) self.old).step ≡ false }
+        requires asked { said.asked self.old.machine.seat (said.begins self.old.machine.seat (said.stands (said.opening_of D.seen) self.old) call) ≡ ask.now }
+        requires word { (place : ℕ) × (said.asked_place ask.now ≡ Some place) }
+        ensures next { said.stands (said.opening_of D.seen) self.new ≡ said.leads self.old.machine.seat (said.begins self.old.machine.seat (said.stands (said.opening_of D.seen) self.old) call) result }
+        ensures led { said.HasLed (said.opening_of D.seen) self.old call self.new }
+        ensures kept { length self.new.replies ≡ 1 }
+        ensures machine { self.new.machine ≡ self.old.machine }
+    {
+        law_start_stands(call);
+        let start = Happening::Calls(self.number, call);
+        let _ = self
+            .words
+            .exchange(&mut self.seat, self.desk, Held::Desk(start));
+        let reply = perform::<D, Turn<First>, Told>(self.words, &mut self.seat, ask);
+        keep(self.replies, 0, reply);
+        self.kept = 1;
+        reply
+    }
+
     /// Makes a step of the call, and keeps its reply.
     #[inline(always)]
     fn step(&mut self, ask: &Ask<Told>) -> u64
@@ -146,16 +169,12 @@ impl<'t, D: Device> Line for SeatLine<'t, D> {
 
     #[inline(always)]
     fn first(&mut self, call: Call, place: usize) -> u64 {
-        law_start_stands(call);
-        let start = Happening::Calls(self.number, call);
-        let _ = self
-            .words
-            .exchange(&mut self.seat, self.desk, Held::Desk(start));
-        let ask = Ask::Load(place);
-        let reply = perform::<D, Turn<First>, Told>(self.words, &mut self.seat, &ask);
-        keep(self.replies, 0, reply);
-        self.kept = 1;
-        reply
+        self.start(call, &Ask::Load(place))
+    }
+
+    #[inline(always)]
+    fn first_add(&mut self, call: Call, place: usize, number: u64) -> u64 {
+        self.start(call, &Ask::Add(place, number))
     }
 
     #[inline(always)]
@@ -176,6 +195,11 @@ impl<'t, D: Device> Line for SeatLine<'t, D> {
     #[inline(always)]
     fn cas(&mut self, place: usize, expected: u64, new: u64) -> u64 {
         self.step(&Ask::Cas(place, expected, new))
+    }
+
+    #[inline(always)]
+    fn add(&mut self, place: usize, number: u64) -> u64 {
+        self.step(&Ask::Add(place, number))
     }
 
     /// One Cas of the table. It stands for the load that the machine asks for, and for the Cas behind that.

@@ -5,10 +5,9 @@ use Rattle.fkv_map.specs.declared.operations.Reply.{Reply}
 use Rattle.fkv_plane.specs.declared.asks.Ask.TheVariants.{Cas}
 use Rattle.fkv_index.specs.declared.homes.Home.{Home}
 use Rattle.fkv_index.specs.IndexWorld.{new_entry}
-use Rattle.fkv_straight.specs.Met.{IsReserved}
 use Rattle.fkv_straight.specs.Standing.{IsDone}
 use Rattle.fkv_straight.proofs.Appends.{publish_asks, publish_ends}
-use Rattle.fkv_straight.proofs.Goings.{goes_at, home_is, leads_on, place_asks, updates_in}
+use Rattle.fkv_straight.proofs.Goings.{calm_in, goes_at, home_is, leads_on, place_asks, updates_in}
 use Rattle.fkv_straight.proofs.appending.append.Goals as goal
 
 pub fill-requires-clause-at : goal.fill-requires-clause-at
@@ -49,5 +48,5 @@ returns-then-found-slot-clause-done g c = λ its goes reserves.
     let reserved = c.reserve-reserved.ensures.fills its goes reserves c.in-Taken.addr c.in-Taken.is in
     let at = c.fill.ensures.publishes its (goes_at its k c.args.op c.args.going.now q goes c.reserve-reserved.ensures.seat) reserved in
     subst (λ (x : Reply). IsDone its x w) (ap (λ (x : Op). reply_from old x) goes.its_op ∙ sym c.reply_from-reply.ensures)
-    (publish_ends its c.args.slot.place c.args.slot.entry old c.in-Taken.addr c.cas-found.result v w goes.settled at (updates_in its k c.args.op c.args.going.now _ goes c.requires.updates) c.if-found-slot.true
+    (publish_ends its c.args.slot.place c.args.slot.entry old c.in-Taken.addr c.cas-found.result v w goes.settled (calm_in its k c.args.op c.args.going.now goes c.requires.calm) at (updates_in its k c.args.op c.args.going.now _ goes c.requires.updates) c.if-found-slot.true
     (leads_on its k c.args.op c.args.going.now (g.L.Line.seat c.fill.new.line) v w c.cas-found.result goes (c.fill.ensures.seat ∙ c.reserve-reserved.ensures.seat) c.cas-found.ensures.next))

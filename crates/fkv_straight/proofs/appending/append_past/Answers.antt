@@ -1,6 +1,6 @@
 use Rattle.std.proofs.Common.{◌≡◌, sym, ◌∙◌, rules, true}
 use Rattle.fkv_straight.proofs.Copies.{disk_reserves}
-use Rattle.fkv_straight.proofs.Goings.{updates_in, blind_in}
+use Rattle.fkv_straight.proofs.Goings.{calm_in, updates_in, blind_in}
 use Rattle.fkv_straight.proofs.appending.append_past.Goals as goal
 
 pub append-requires-clause-at : goal.append-requires-clause-at
@@ -12,7 +12,7 @@ append-requires-clause-at g c =
     let so : c.is_blind-blind.result ≡ true = search rules in (
       its,
       goes,
-      disk_reserves its c.args.slot.place c.args.slot.entry at.0 (g.L.Line.stands c.args.line.now) at.3 at.1 at.2 goes.unlatched (updates_in its k c.args.op c.args.going.now _ goes c.requires.updates)
+      disk_reserves its c.args.slot.place c.args.slot.entry at.0 (g.L.Line.stands c.args.line.now) at.3 at.1 at.2 (calm_in its k c.args.op c.args.going.now goes c.requires.calm) (updates_in its k c.args.op c.args.going.now _ goes c.requires.updates)
           (blind_in its k c.args.op c.args.going.now _ goes (sym c.is_blind-blind.ensures ∙ so)) (goes.moves_on ∙ c.if-going.false),
     )
 
@@ -20,5 +20,5 @@ pub returns-clause-done : goal.returns-clause-done
 returns-clause-done g c = λ its goes at.
     let k = g.L.Line.seat c.args.line.now in
     let so : c.is_blind-blind.result ≡ true = search rules in
-    c.append.ensures.done its goes (disk_reserves its c.args.slot.place c.args.slot.entry at.0 (g.L.Line.stands c.args.line.now) at.3 at.1 at.2 goes.unlatched (updates_in its k c.args.op c.args.going.now _ goes c.requires.updates)
+    c.append.ensures.done its goes (disk_reserves its c.args.slot.place c.args.slot.entry at.0 (g.L.Line.stands c.args.line.now) at.3 at.1 at.2 (calm_in its k c.args.op c.args.going.now goes c.requires.calm) (updates_in its k c.args.op c.args.going.now _ goes c.requires.updates)
     (blind_in its k c.args.op c.args.going.now _ goes (sym c.is_blind-blind.ensures ∙ so)) (goes.moves_on ∙ c.if-going.false))

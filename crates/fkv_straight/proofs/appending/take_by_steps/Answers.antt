@@ -6,7 +6,7 @@ use Rattle.fkv_plane.specs.Places.{shared_place}
 use Rattle.fkv_index.specs.Slots.{entry_addr}
 use Rattle.fkv_straight.specs.Met.{IsReserved}
 use Rattle.fkv_straight.proofs.Appends.{tail_asks, tail_comes, take_asks, take_comes, take_lost}
-use Rattle.fkv_straight.proofs.Goings.{place_asks, leads_on, updates_in}
+use Rattle.fkv_straight.proofs.Goings.{calm_in, place_asks, leads_on, updates_in}
 use Rattle.fkv_straight.proofs.appending.take_by_steps.Goals as goal
 
 pub load-tail-requires-clause-asked : goal.load-tail-requires-clause-asked
@@ -54,6 +54,6 @@ returns-else-found-tail-clause-waits g c = λ its goes at lost.
     let old = as_number c.args.old in
     let then = tail_comes its c.args.slot.place c.args.slot.entry old c.args.limit c.load-tail.result u v at
     (leads_on its k c.args.op c.args.going.now k u v c.load-tail.result goes refl c.load-tail.ensures.next) c.if-tail-limit.false in
-    take_lost its c.args.slot.place c.args.slot.entry old c.load-tail.result c.cas-found.result v w goes.settled (updates_in its k c.args.op c.args.going.now _ goes c.requires.updates) then
+    take_lost its c.args.slot.place c.args.slot.entry old c.load-tail.result c.cas-found.result v w goes.settled (calm_in its k c.args.op c.args.going.now goes c.requires.calm) (updates_in its k c.args.op c.args.going.now _ goes c.requires.updates) then
     (leads_on its k c.args.op c.args.going.now (g.L.Line.seat c.load-tail.new.self) v w c.cas-found.result goes c.load-tail.ensures.seat c.cas-found.ensures.next)
     c.if-found-tail.false

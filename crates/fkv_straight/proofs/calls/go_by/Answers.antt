@@ -14,11 +14,11 @@ read-requires-clause-goes g c = goes_alike c.args.machine.now.seat (g.L.Line.sea
 pub read-requires-clause-begins : goal.read-requires-clause-begins
 read-requires-clause-begins g c = begins_alike c.args.machine.now.seat (g.L.Line.seat c.args.line.now) c.args.machine.now.state (g.L.Line.stands c.args.line.now) c.args.op c.args.going.now c.requires.may c.requires.seat c.requires.alike
 
-pub update-straight-requires-clause-goes : goal.update-straight-requires-clause-goes
-update-straight-requires-clause-goes g c = goes_alike c.args.machine.now.seat (g.L.Line.seat c.args.line.now) c.args.machine.now.state (g.L.Line.stands c.args.line.now) c.args.op c.args.going.now c.requires.may c.requires.seat c.requires.alike
+pub update_by_phase-straight-requires-clause-goes : goal.update_by_phase-straight-requires-clause-goes
+update_by_phase-straight-requires-clause-goes g c = goes_alike c.args.machine.now.seat (g.L.Line.seat c.args.line.now) c.args.machine.now.state (g.L.Line.stands c.args.line.now) c.args.op c.args.going.now c.requires.may c.requires.seat c.requires.alike
 
-pub update-straight-requires-clause-begins : goal.update-straight-requires-clause-begins
-update-straight-requires-clause-begins g c = begins_alike c.args.machine.now.seat (g.L.Line.seat c.args.line.now) c.args.machine.now.state (g.L.Line.stands c.args.line.now) c.args.op c.args.going.now c.requires.may c.requires.seat c.requires.alike
+pub update_by_phase-straight-requires-clause-begins : goal.update_by_phase-straight-requires-clause-begins
+update_by_phase-straight-requires-clause-begins g c = begins_alike c.args.machine.now.seat (g.L.Line.seat c.args.line.now) c.args.machine.now.state (g.L.Line.stands c.args.line.now) c.args.op c.args.going.now c.requires.may c.requires.seat c.requires.alike
 
 pub returns-in-Read : goal.returns-in-Read
 returns-in-Read g c =
@@ -39,11 +39,11 @@ returns-in-Done g c =
     let k = g.L.Line.seat c.args.line.now in
     let m = c.args.machine.now in
     let n = c.take_serial-serial.new.self in
-    let u = g.L.Line.stands c.update-straight.new.line in
+    let u = g.L.Line.stands c.update_by_phase-straight.new.line in
     let l = lasting (g.L.Line.stands c.args.line.now) in
     record {
-      seat = c.update-straight.ensures.seat;
-      led = c.update-straight.ensures.led;
+      seat = c.update_by_phase-straight.ensures.seat;
+      led = c.update_by_phase-straight.ensures.led;
       machine = ap (λ (x : Sitter). x.seat) c.take_serial-serial.ensures.next;
       goes_by = λ its by. goes_by_still m n its c.take_serial-serial.ensures.next by;
       ended = (
@@ -58,11 +58,11 @@ returns-in-Contended g c =
     let k = g.L.Line.seat c.args.line.now in
     let m = c.args.machine.now in
     let n = c.wait.new.machine in
-    let u = g.L.Line.stands c.update-straight.new.line in
+    let u = g.L.Line.stands c.update_by_phase-straight.new.line in
     let updates : is_read c.args.op ≡ false = search rules in
     record {
-      seat = c.update-straight.ensures.seat;
-      led = c.update-straight.ensures.led;
+      seat = c.update_by_phase-straight.ensures.seat;
+      led = c.update_by_phase-straight.ensures.led;
       machine = waiting_seat m n c.args.op c.wait.result c.wait.ensures.waits c.wait.ensures.full;
       goes_by = λ its by. waiting_goes m n c.args.op its c.wait.result c.wait.ensures.waits c.wait.ensures.full by;
       ended = waiting_ended k m n (g.L.Line.stands c.args.line.now) u c.args.op c.wait.result updates c.requires.alike c.wait.ensures.waits c.in-Contended.ensures.done;
@@ -73,8 +73,8 @@ pub returns-in-Unusual : goal.returns-in-Unusual
 returns-in-Unusual g c =
     let m = c.args.machine.now in
     record {
-      seat = c.update-straight.ensures.seat;
-      led = c.update-straight.ensures.led;
+      seat = c.update_by_phase-straight.ensures.seat;
+      led = c.update_by_phase-straight.ensures.led;
       machine = refl;
       goes_by = λ its by. by;
       ended = tt;

@@ -7,8 +7,8 @@ use Rattle.fkv_plane.specs.declared.asks.Ask.TheVariants.{Load, Cas}
 use Rattle.fkv_plane.specs.declared.places.RecordWord.TheVariants as rec
 use Rattle.fkv_plane.specs.Places.{record_place}
 use Rattle.fkv_ops.specs.Values.{value_of, word_of}
-use Rattle.fkv_straight.specs.Standing.{IsDone}
-use Rattle.fkv_straight.proofs.Changes.{met_by, may_change, met_currents, current_asks, current_comes, change_asks, change_ends, change_lost}
+use Rattle.fkv_straight.specs.Met.{HasChanged}
+use Rattle.fkv_straight.proofs.Changes.{met_by, may_change, met_currents, current_asks, current_comes, change_asks, change_changes, change_loses}
 use Rattle.fkv_straight.proofs.Goings.{record_asks, leads_on, updates_in, blind_in}
 use Rattle.fkv_straight.proofs.changing.change_value.Goals as goal
 
@@ -20,7 +20,7 @@ load-old-requires-clause-asked g c =
     let goes = c.requires.at.1 in
     let updates = updates_in its k c.args.op c.args.going.now _ goes c.requires.updates in
     let seeing = blind_in its k c.args.op c.args.going.now _ goes c.requires.seeing in
-    let at = met_currents its c.args.its s c.requires.at.2 (met_by its c.args.its s c.requires.at.2 goes.unlatched updates) (may_change its k c.args.op c.args.going.now c.args.its goes c.requires.mutable c.requires.own) seeing in
+    let at = met_currents its c.args.its s c.requires.at.2 (met_by its c.args.its s c.requires.at.2 (c.requires.stays its goes) updates) (may_change its k c.args.op c.args.going.now c.args.its goes c.requires.mutable c.requires.own) seeing in
     record_asks its k c.args.op c.args.going.now c.args.its.addr c.record-place.result rec.Value k s (λ (n : ℕ). Load n) goes refl c.record-place.ensures (current_asks its c.args.its s at)
 
 pub cas-found-requires-clause-asked : goal.cas-found-requires-clause-asked
@@ -32,7 +32,7 @@ cas-found-requires-clause-asked g c =
     let goes = c.requires.at.1 in
     let updates = updates_in its k c.args.op c.args.going.now _ goes c.requires.updates in
     let seeing = blind_in its k c.args.op c.args.going.now _ goes c.requires.seeing in
-    let at = met_currents its c.args.its s c.requires.at.2 (met_by its c.args.its s c.requires.at.2 goes.unlatched updates) (may_change its k c.args.op c.args.going.now c.args.its goes c.requires.mutable c.requires.own) seeing in
+    let at = met_currents its c.args.its s c.requires.at.2 (met_by its c.args.its s c.requires.at.2 (c.requires.stays its goes) updates) (may_change its k c.args.op c.args.going.now c.args.its goes c.requires.mutable c.requires.own) seeing in
     let comes = current_comes its c.args.its c.load-old.result s u at (leads_on its k c.args.op c.args.going.now k s u c.load-old.result goes refl c.load-old.ensures.next) in
     let new : word_of (value_applied (value_of c.load-old.result) its.op) ≡ c.word_of_value-new.result =
     ap (λ (x : Op). word_of (value_applied (value_of c.load-old.result) x)) goes.its_op
@@ -48,21 +48,21 @@ returns-then-found-old-clause-done g c = λ its goes met.
     let v = g.L.Line.stands c.cas-found.new.self in
     let updates = updates_in its k c.args.op c.args.going.now _ goes c.requires.updates in
     let seeing = blind_in its k c.args.op c.args.going.now _ goes c.requires.seeing in
-    let at = met_currents its c.args.its s met (met_by its c.args.its s met goes.unlatched updates) (may_change its k c.args.op c.args.going.now c.args.its goes c.requires.mutable c.requires.own) seeing in
+    let at = met_currents its c.args.its s met (met_by its c.args.its s met (c.requires.stays its goes) updates) (may_change its k c.args.op c.args.going.now c.args.its goes c.requires.mutable c.requires.own) seeing in
     let comes = current_comes its c.args.its c.load-old.result s u at (leads_on its k c.args.op c.args.going.now k s u c.load-old.result goes refl c.load-old.ensures.next) in
-    subst (λ (x : Reply). IsDone its x v) (ap (λ (x : Op). reply_from (value_of c.load-old.result) x) goes.its_op ∙ (ap (λ (w : Option ℕ). reply_from w c.args.op) (sym c.value_of_word-value.ensures) ∙ sym c.reply_from-reply.ensures))
-    (change_ends its c.args.its.addr c.load-old.result c.cas-found.result u v goes.settled comes updates c.if-found-old.true
+    subst (λ (x : Reply). HasChanged its x v) (ap (λ (x : Op). reply_from (value_of c.load-old.result) x) goes.its_op ∙ (ap (λ (w : Option ℕ). reply_from w c.args.op) (sym c.value_of_word-value.ensures) ∙ sym c.reply_from-reply.ensures))
+    (change_changes its c.args.its.addr c.load-old.result c.cas-found.result u v comes c.if-found-old.true
     (leads_on its k c.args.op c.args.going.now (g.L.Line.seat c.load-old.new.self) u v c.cas-found.result goes c.load-old.ensures.seat c.cas-found.ensures.next))
 
-pub returns-else-found-old-clause-done : goal.returns-else-found-old-clause-done
-returns-else-found-old-clause-done g c = λ its goes met.
+pub returns-else-found-old-clause-lost : goal.returns-else-found-old-clause-lost
+returns-else-found-old-clause-lost g c = λ its goes met.
     let k = g.L.Line.seat c.args.line.now in
     let s = g.L.Line.stands c.args.line.now in
     let u = g.L.Line.stands c.load-old.new.self in
     let v = g.L.Line.stands c.cas-found.new.self in
     let updates = updates_in its k c.args.op c.args.going.now _ goes c.requires.updates in
     let seeing = blind_in its k c.args.op c.args.going.now _ goes c.requires.seeing in
-    let at = met_currents its c.args.its s met (met_by its c.args.its s met goes.unlatched updates) (may_change its k c.args.op c.args.going.now c.args.its goes c.requires.mutable c.requires.own) seeing in
+    let at = met_currents its c.args.its s met (met_by its c.args.its s met (c.requires.stays its goes) updates) (may_change its k c.args.op c.args.going.now c.args.its goes c.requires.mutable c.requires.own) seeing in
     let comes = current_comes its c.args.its c.load-old.result s u at (leads_on its k c.args.op c.args.going.now k s u c.load-old.result goes refl c.load-old.ensures.next) in
-    change_lost its c.args.its.addr c.load-old.result c.cas-found.result u v goes.settled comes updates c.if-found-old.false
+    change_loses its c.args.its.addr c.load-old.result c.cas-found.result u v comes c.if-found-old.false
     (leads_on its k c.args.op c.args.going.now (g.L.Line.seat c.load-old.new.self) u v c.cas-found.result goes c.load-old.ensures.seat c.cas-found.ensures.next)

@@ -7,8 +7,8 @@ use Rattle.fkv_plane.specs.declared.asks.Ask.TheVariants.{Swap}
 use Rattle.fkv_plane.specs.declared.places.RecordWord.TheVariants as rec
 use Rattle.fkv_plane.specs.Places.{record_place}
 use Rattle.fkv_ops.specs.Values.{word_of}
-use Rattle.fkv_straight.specs.Standing.{IsDone}
-use Rattle.fkv_straight.proofs.Changes.{met_by, may_change, met_swaps, swap_asks, swap_ends}
+use Rattle.fkv_straight.specs.Met.{HasChanged}
+use Rattle.fkv_straight.proofs.Changes.{met_by, may_change, met_swaps, swap_asks, swap_changes}
 use Rattle.fkv_straight.proofs.Goings.{record_asks, leads_on, updates_in, blind_in}
 use Rattle.fkv_straight.proofs.changing.swap_value.Goals as goal
 
@@ -20,7 +20,7 @@ swap-requires-clause-asked g c =
     let goes = c.requires.at.1 in
     let updates = updates_in its k c.args.op c.args.going.now _ goes c.requires.updates in
     let blind = blind_in its k c.args.op c.args.going.now _ goes c.requires.blind in
-    let at = met_swaps its c.args.its s c.requires.at.2 (met_by its c.args.its s c.requires.at.2 goes.unlatched updates) (may_change its k c.args.op c.args.going.now c.args.its goes c.requires.mutable c.requires.own) blind in
+    let at = met_swaps its c.args.its s c.requires.at.2 (met_by its c.args.its s c.requires.at.2 (c.requires.stays its goes) updates) (may_change its k c.args.op c.args.going.now c.args.its goes c.requires.mutable c.requires.own) blind in
     let new : word_of (value_applied None its.op) ≡ c.word_of_value-new.result =
     ap (λ (x : Op). word_of (value_applied None x)) goes.its_op ∙ sym (c.word_of_value-new.ensures ∙ ap word_of c.value_applied-made.ensures) in
     record_asks its k c.args.op c.args.going.now c.args.its.addr c.record-place.result rec.Value k s (λ (n : ℕ). Swap n c.word_of_value-new.result) goes refl c.record-place.ensures
@@ -33,6 +33,6 @@ returns-clause-done g c = λ its goes met.
     let u = g.L.Line.stands c.swap.new.self in
     let updates = updates_in its k c.args.op c.args.going.now _ goes c.requires.updates in
     let blind = blind_in its k c.args.op c.args.going.now _ goes c.requires.blind in
-    let at = met_swaps its c.args.its s met (met_by its c.args.its s met goes.unlatched updates) (may_change its k c.args.op c.args.going.now c.args.its goes c.requires.mutable c.requires.own) blind in
-    subst (λ (x : Reply). IsDone its x u) (ap (λ (x : Op). reply_from None x) goes.its_op ∙ sym c.reply_from.ensures)
-    (swap_ends its c.args.its.addr c.swap.result s u goes.settled at updates (leads_on its k c.args.op c.args.going.now k s u c.swap.result goes refl c.swap.ensures.next))
+    let at = met_swaps its c.args.its s met (met_by its c.args.its s met (c.requires.stays its goes) updates) (may_change its k c.args.op c.args.going.now c.args.its goes c.requires.mutable c.requires.own) blind in
+    subst (λ (x : Reply). HasChanged its x u) (ap (λ (x : Op). reply_from None x) goes.its_op ∙ sym c.reply_from.ensures)
+    (swap_changes its c.args.its.addr c.swap.result s u at (leads_on its k c.args.op c.args.going.now k s u c.swap.result goes refl c.swap.ensures.next))

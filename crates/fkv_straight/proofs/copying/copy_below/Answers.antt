@@ -5,9 +5,9 @@ use Rattle.fkv_plane.specs.declared.asks.Ask.TheVariants.{Load}
 use Rattle.fkv_plane.specs.declared.places.SharedWord.TheVariants as one
 use Rattle.fkv_plane.specs.Places.{shared_place}
 use Rattle.fkv_straight.specs.Met.{IsCopied}
-use Rattle.fkv_straight.proofs.Changes.{met_by}
+use Rattle.fkv_straight.proofs.Changes.{calm_stays, met_by}
 use Rattle.fkv_straight.proofs.Copies.{met_safe, safe_asks, safe_comes, still_copied, own_copied, is_low, is_own}
-use Rattle.fkv_straight.proofs.Goings.{goes_at, leads_on, place_asks, updates_in}
+use Rattle.fkv_straight.proofs.Goings.{calm_in, goes_at, leads_on, place_asks, updates_in}
 use Rattle.fkv_straight.proofs.copying.copy_below.Goals.{else-going-via-then-going+else-its-going, else-going-via-else-going}
 use Rattle.fkv_straight.proofs.copying.copy_below.Goals as goal
 
@@ -17,7 +17,7 @@ load-safe-requires-clause-asked g c =
     let s = g.L.Line.stands c.args.line.now in
     let its = c.requires.at.0 in
     let goes = c.requires.at.1 in
-    let met = met_by its c.args.its s c.requires.at.2 goes.unlatched (updates_in its k c.args.op c.args.going.now _ goes c.requires.updates) in
+    let met = met_by its c.args.its s c.requires.at.2 (calm_stays its c.args.its (calm_in its k c.args.op c.args.going.now goes c.requires.calm)) (updates_in its k c.args.op c.args.going.now _ goes c.requires.updates) in
     place_asks its k c.args.op c.args.going.now (shared_place one.SafeReadOnly) c.place-place.result k s (λ (n : ℕ). Load n) goes refl (sym c.place-place.ensures)
     (safe_asks its c.args.its s (met_safe its c.args.its s c.requires.at.2 met (is_low its k c.args.op c.args.going.now c.args.its goes c.requires.below)))
 
@@ -28,7 +28,7 @@ copy-requires-clause-at g c =
     let u = g.L.Line.stands c.load-safe.new.self in
     let its = c.requires.at.0 in
     let goes = c.requires.at.1 in
-    let met = met_by its c.args.its s c.requires.at.2 goes.unlatched (updates_in its k c.args.op c.args.going.now _ goes c.requires.updates) in
+    let met = met_by its c.args.its s c.requires.at.2 (calm_stays its c.args.its (calm_in its k c.args.op c.args.going.now goes c.requires.calm)) (updates_in its k c.args.op c.args.going.now _ goes c.requires.updates) in
     let at = met_safe its c.args.its s c.requires.at.2 met (is_low its k c.args.op c.args.going.now c.args.its goes c.requires.below) in
     let has = safe_comes its c.args.its c.load-safe.result s u at (leads_on its k c.args.op c.args.going.now k s u c.load-safe.result goes refl c.load-safe.ensures.next) in
     let below : nat_le c.load-safe.result c.args.its.addr ≡ false = (let h = c.if-safe-its.false in grind (arith, nat_tests, h)) in
@@ -43,7 +43,7 @@ returns-clause-done g c = λ its goes met.
     let k = g.L.Line.seat c.args.line.now in
     let s = g.L.Line.stands c.args.line.now in
     let u = g.L.Line.stands c.load-safe.new.self in
-    let by = met_by its c.args.its s met goes.unlatched (updates_in its k c.args.op c.args.going.now _ goes c.requires.updates) in
+    let by = met_by its c.args.its s met (calm_stays its c.args.its (calm_in its k c.args.op c.args.going.now goes c.requires.calm)) (updates_in its k c.args.op c.args.going.now _ goes c.requires.updates) in
     let at = met_safe its c.args.its s met by (is_low its k c.args.op c.args.going.now c.args.its goes c.requires.below) in
     let has = safe_comes its c.args.its c.load-safe.result s u at (leads_on its k c.args.op c.args.going.now k s u c.load-safe.result goes refl c.load-safe.ensures.next) in
     let below : nat_le c.load-safe.result c.args.its.addr ≡ false = (let h = c.if-safe-its.false in grind (arith, nat_tests, h)) in

@@ -37,3 +37,6 @@ returns-in-Contended-clause-ended g c =
 
 pub returns-in-Contended-clause-goes_by : goal.returns-in-Contended-clause-goes_by
 returns-in-Contended-clause-goes_by g c = λ its by. unpolled_by c.args.machine.now c.take_unpolled.new.self its c.take_unpolled.ensures by
+
+pub update-straight-requires-clause-calm : goal.update-straight-requires-clause-calm
+update-straight-requires-clause-calm g c = c.requires.may.calm

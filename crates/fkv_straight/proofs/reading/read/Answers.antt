@@ -6,7 +6,7 @@ use Rattle.fkv_straight.specs.declared.searching.Met.{Met}
 use Rattle.fkv_straight.specs.declared.searching.Met.TheVariants.{Found, Nowhere}
 use Rattle.fkv_straight.specs.Course.{course_of}
 use Rattle.fkv_straight.specs.Met.{HasMet}
-use Rattle.fkv_straight.proofs.Goings.{leads_on, record_asks, met_of, updates_in}
+use Rattle.fkv_straight.proofs.Goings.{leads_on, reads_calm, record_asks, met_of, updates_in}
 use Rattle.fkv_straight.proofs.ReadEnds.{answer_asks, found_ends, absent_ends, nowhere_ends}
 use Rattle.fkv_straight.proofs.reading.read.Goals as goal
 
@@ -18,7 +18,7 @@ load-value-requires-clause-asked g c =
     let q = g.L.Line.seat c.search-met.new.line in
     let u = g.L.Line.stands c.search-met.new.line in
     record_asks its k c.args.op c.args.going.now c.in-Found.record.addr c.record-place.result rec.Value q u (λ (n : ℕ). Load n) goes c.search-met.ensures.seat c.record-place.ensures
-    (answer_asks its c.in-Found.record u (met_of (λ (m : Met). HasMet its m u) c.search-met.result c.in-Some.its (Found c.in-Found.record) c.in-Some.is c.in-Found.is c.search-met.ensures.met) goes.unlatched (updates_in its k c.args.op c.args.going.now _ goes c.requires.reads))
+    (answer_asks its c.in-Found.record u (met_of (λ (m : Met). HasMet its m u) c.search-met.result c.in-Some.its (Found c.in-Found.record) c.in-Some.is c.in-Found.is c.search-met.ensures.met) (reads_calm its k c.args.op c.args.going.now goes c.requires.reads) (updates_in its k c.args.op c.args.going.now _ goes c.requires.reads))
 
 pub returns-then-value-clause-ended : goal.returns-then-value-clause-ended
 returns-then-value-clause-ended g c =
@@ -28,7 +28,7 @@ returns-then-value-clause-ended g c =
     let q = g.L.Line.seat c.search-met.new.line in
     let u = g.L.Line.stands c.search-met.new.line in
     let v = g.L.Line.stands c.load-value.new.self in
-    absent_ends its c.in-Found.record c.load-value.result u v refl (met_of (λ (m : Met). HasMet its m u) c.search-met.result c.in-Some.its (Found c.in-Found.record) c.in-Some.is c.in-Found.is c.search-met.ensures.met) goes.unlatched (updates_in its k c.args.op c.args.going.now _ goes c.requires.reads)
+    absent_ends its c.in-Found.record c.load-value.result u v refl (met_of (λ (m : Met). HasMet its m u) c.search-met.result c.in-Some.its (Found c.in-Found.record) c.in-Some.is c.in-Found.is c.search-met.ensures.met) (reads_calm its k c.args.op c.args.going.now goes c.requires.reads) (updates_in its k c.args.op c.args.going.now _ goes c.requires.reads)
     (leads_on its k c.args.op c.args.going.now q u v c.load-value.result goes c.search-met.ensures.seat c.load-value.ensures.next) c.if-value.true
 
 pub returns-else-value-clause-ended : goal.returns-else-value-clause-ended
@@ -39,7 +39,7 @@ returns-else-value-clause-ended g c =
     let q = g.L.Line.seat c.search-met.new.line in
     let u = g.L.Line.stands c.search-met.new.line in
     let v = g.L.Line.stands c.load-value.new.self in
-    found_ends its c.in-Found.record c.load-value.result u v refl (met_of (λ (m : Met). HasMet its m u) c.search-met.result c.in-Some.its (Found c.in-Found.record) c.in-Some.is c.in-Found.is c.search-met.ensures.met) goes.unlatched (updates_in its k c.args.op c.args.going.now _ goes c.requires.reads)
+    found_ends its c.in-Found.record c.load-value.result u v refl (met_of (λ (m : Met). HasMet its m u) c.search-met.result c.in-Some.its (Found c.in-Found.record) c.in-Some.is c.in-Found.is c.search-met.ensures.met) (reads_calm its k c.args.op c.args.going.now goes c.requires.reads) (updates_in its k c.args.op c.args.going.now _ goes c.requires.reads)
     (leads_on its k c.args.op c.args.going.now q u v c.load-value.result goes c.search-met.ensures.seat c.load-value.ensures.next) c.if-value.false
 
 pub returns-in-Nowhere-clause-ended : goal.returns-in-Nowhere-clause-ended
@@ -49,4 +49,7 @@ returns-in-Nowhere-clause-ended g c =
     let goes = c.requires.goes in
     let u = g.L.Line.stands c.search-met.new.line in
     let slot = c.in-Nowhere.field-0 in
-    nowhere_ends its slot.place slot.entry u refl (met_of (λ (m : Met). HasMet its m u) c.search-met.result c.in-Some.its (Nowhere slot) c.in-Some.is c.in-Nowhere.is c.search-met.ensures.met) goes.unlatched (updates_in its k c.args.op c.args.going.now _ goes c.requires.reads)
+    nowhere_ends its slot.place slot.entry u refl (met_of (λ (m : Met). HasMet its m u) c.search-met.result c.in-Some.its (Nowhere slot) c.in-Some.is c.in-Nowhere.is c.search-met.ensures.met) (reads_calm its k c.args.op c.args.going.now goes c.requires.reads) (updates_in its k c.args.op c.args.going.now _ goes c.requires.reads)
+
+pub search-met-requires-clause-calm : goal.search-met-requires-clause-calm
+search-met-requires-clause-calm g c = reads_calm (course_of (g.L.Line.seat c.args.line.now) (g.L.Line.stands c.args.line.now) c.args.op (call.Op c.args.op)) (g.L.Line.seat c.args.line.now) c.args.op c.args.going.now c.requires.goes c.requires.reads
