@@ -56,8 +56,18 @@ enum Reserved {
     Unusual,
 }
 
-/// So often a raise of the tail is tried, the first look included.
+/// So often a raise of the tail is tried, the guess included.
 const TRIES: usize = 8;
+
+/// The guess, if the tail may stand there. Else the last address below the limit, where it seldom does.
+#[inline(always)]
+fn guess_between(guess: u64, previous: u64, limit: u64) -> u64 {
+    if guess > previous && guess < limit {
+        guess
+    } else {
+        limit.wrapping_sub(1)
+    }
+}
 
 /// Takes the address at the tail: loads the tail and raises it, at one moment, so that nobody can be quicker in between. None if the tail went on each
 /// time, or stands where it may not; then no step was made.
@@ -82,8 +92,9 @@ fn take_at_once<L: Line>(
 {
     let place = SharedWord::Tail.place();
     let previous = addr_of(slot.entry);
-    // The tail seldom stands there: this call tells where it does, and fetches its cache line for writing.
-    let mut tail = limit.wrapping_sub(1);
+    // A guess that misses tells where the tail stands, and fetches its cache line for writing.
+    let guess = line.guess();
+    let mut tail = guess_between(guess, previous, limit);
     'tries: for _ in 0..TRIES {
         if tail >= limit || tail <= previous || tail >= 1 << 48 {
             return None;

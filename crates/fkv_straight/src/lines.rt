@@ -98,6 +98,9 @@ pub trait Line {
         ensures still { (result ≡ expected → ⊥) → self.new ≡ self.old }
         ensures seat { seat self.new ≡ seat self.old };
 
+    /// A guess at the word that the next `raise` finds. It may be any number.
+    fn guess(&self) -> u64;
+
     /// The replies that are kept, in order.
     fn replies(&self) -> &[u64]
         ensures led { (start : Self) (call : Call) → led start call self.now → stands self.now ≡ replayed (seat self.now) (begins (seat start) (stands start) call) result.now };

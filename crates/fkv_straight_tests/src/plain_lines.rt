@@ -8,7 +8,7 @@ ghost use Rattle.fkv_straight_tests.specs.Lines.{standing};
 use crate::rivals::{Rival, be_quicker};
 use arrayvec::ArrayVec;
 use fkv_map::Call;
-use fkv_plane::{Ask, PlainWords};
+use fkv_plane::{Ask, PlainWords, SharedWord};
 use fkv_session::Told;
 use fkv_straight::{Line, StraightSession};
 use std::process::Abort;
@@ -161,6 +161,12 @@ impl<'w, R: Abort> Line for PlainLine<'w, R> {
         self.keep(expected);
         self.keep(expected);
         expected
+    }
+
+    /// Right if the tail is even.
+    fn guess(&self) -> u64 {
+        let tail = self.words.word(SharedWord::Tail.place());
+        tail - tail % 2
     }
 
     fn replies(&self) -> &[u64] {

@@ -6,6 +6,7 @@ mod closing;
 mod crossing;
 mod desks;
 mod fetching;
+mod guessing;
 mod happenings;
 mod joining;
 mod keepers;

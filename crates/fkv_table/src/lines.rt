@@ -3,6 +3,7 @@ ghost use Rattle.std.specs.Prelude.{◌≡◌, ◌+◌, ◌<◌, ◌≤◌, ◌+
 ghost use Rattle.fkv_session.specs.Sessions.{is_busy};
 ghost use Rattle.fkv_table.specs.Said as said;
 
+use crate::guessing::TailGuess;
 use crate::happenings::{Happening, law_start_stands};
 use crate::performing::perform;
 use crate::plays::{First, Next, Raises, Turn};
@@ -30,6 +31,7 @@ pub(crate) struct SeatLine<'t, D: Device> {
     /// The replies of the call in hand, so many of them, and what was there before. An array of the call's own would have to be cleared first.
     replies: &'t mut Room,
     kept: usize,
+    tail: &'t mut TailGuess,
     /// The machine, as the line began.
     machine: Snapshot<StraightSession>,
 }
@@ -87,6 +89,7 @@ impl<'t, D: Device> SeatLine<'t, D> {
         machine: &StraightSession,
         desk: usize,
         replies: &'t mut Room,
+        tail: &'t mut TailGuess,
     ) -> SeatLine<'t, D>
         requires ready { said.IsReady (said.opening_of D.seen) words.now.key words.now.table_id seat.table_id seat.me machine.now desk }
         ensures value { result ≡ record { key = words.now.key; table = words.now.table_id; me = seat.me; machine = machine.now; desk = desk; replies = [] } }
@@ -100,6 +103,7 @@ impl<'t, D: Device> SeatLine<'t, D> {
             number: own,
             replies,
             kept: 0,
+            tail,
             machine: from,
         }
     }
@@ -211,8 +215,14 @@ impl<'t, D: Device> Line for SeatLine<'t, D> {
         if found == expected {
             keep_twice(self.replies, self.kept, expected);
             self.kept += 2;
+            self.tail.add(expected);
         }
         found
+    }
+
+    #[inline(always)]
+    fn guess(&self) -> u64 {
+        self.tail.next()
     }
 
     #[inline(always)]

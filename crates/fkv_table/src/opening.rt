@@ -3,6 +3,7 @@ ghost use Rattle.std.specs.Prelude.{◌≡◌, ◌<◌, ◌≤◌, ◌+◌, ◌^
 ghost use Rattle.fkv_table.specs.Said as said;
 
 use crate::desks::{desk_slot, sit_down};
+use crate::guessing::TailGuess;
 use crate::joining::Meeting;
 use crate::keepers::{Keeper, KeeperPass};
 use crate::rule::{Engine, Knows, Opening, Pass, Place, Slot, Table, Words};
@@ -180,6 +181,7 @@ fn seat_sessions<D: Device>(
             machine: StraightSession::new(machine),
             desk,
             replies: [0; 64],
+            tail: TailGuess::none(),
         };
         seated.push((session, Pass { seat }))?;
     }

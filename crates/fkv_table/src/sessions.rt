@@ -3,6 +3,7 @@ ghost use Rattle.std.specs.Prelude.{◌≡◌, ◌<◌, ◌≤◌, ℕ, List, So
 ghost use Rattle.fkv_map.specs.declared.operations.Call.TheVariants as call;
 ghost use Rattle.fkv_table.specs.Said as said;
 
+use crate::guessing::TailGuess;
 use crate::happenings::{Happening, law_start_stands};
 use crate::lines::{Room, SeatLine};
 use crate::performing::perform;
@@ -24,6 +25,7 @@ pub struct Session {
     pub(crate) desk: usize,
     /// Where a straight call keeps its replies.
     pub(crate) replies: Room,
+    pub(crate) tail: TailGuess,
 }
 
 /// Makes the ask of a word that the machine stands at, and goes on with the reply.
@@ -225,6 +227,7 @@ fn run_call<D: Device>(
     machine: &mut StraightSession,
     desk: usize,
     replies: &mut Room,
+    tail: &mut TailGuess,
     call: Call,
 ) -> (Pass<D>, Told)
     requires ready { said.IsReady (said.opening_of D.seen) words.now.key words.now.table_id pass.seat.table_id pass.seat.me machine.old desk }
@@ -234,7 +237,7 @@ fn run_call<D: Device>(
     ensures told { said.IsToldLast (said.led (said.plane (said.opening_of D.seen)) (said.opening_of D.seen words.now.key) result.0.seat.me.0.seen) machine.new.seat.number (said.telling result.1 machine.new.state.finished) }
 {
     let Pass { seat } = pass;
-    let mut line = SeatLine::new(words, seat, machine, desk, replies);
+    let mut line = SeatLine::new(words, seat, machine, desk, replies, tail);
     let went = machine.run(&mut line, call);
     // What the machine tells is bound first: else both ways would tell it in one place of memory, and a straight call would read it back from there.
     match went {
@@ -275,6 +278,7 @@ impl Session {
             &mut self.machine,
             self.desk,
             &mut self.replies,
+            &mut self.tail,
             call,
         );
         let answer = answer_of(told, self.machine.finished());
@@ -301,6 +305,7 @@ impl Session {
             &mut self.machine,
             self.desk,
             &mut self.replies,
+            &mut self.tail,
             call,
         )
     }
@@ -339,6 +344,7 @@ impl Session {
             &mut self.machine,
             self.desk,
             &mut self.replies,
+            &mut self.tail,
             Call::Op(op),
         )
     }
