@@ -13,7 +13,7 @@
 # make large   plays scripts of 2^20 keys over a large store, in a file and in memory, and compares with a plain map
 # make bench   times the proved program on scripts of up to 65,536 lines, and recovery of images of up to 2^20 records
 # make bench-peers  plays the same calls over the library of `make face` and over other maps and stores, and writes docs/BENCH.md with
-#              pictures, in twenty minutes; with QUICK=1 fewer of them, in a minute
+#              pictures, in twenty-five minutes; with QUICK=1 fewer of them, in a minute
 # make hammer  runs lives of stores that four threads share, each ended by a crash, for a minute or SECONDS
 # make gate    runs the gate, and writes the processor time of each crate into docs/GATE.md
 # make audit   tries the wrong bodies that the gate leaves out, those of crates/*/audit, or of the crates in CRATES

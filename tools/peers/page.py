@@ -234,9 +234,10 @@ def alone(figures):
     """Where fkv's cells with commits have a process of their own."""
     if figures.told["how"] != "whole":
         return ""
+    pair, timed = (1 + max(it["round"] for it in figures.cells if (it["part"], it["keys"]) == (part, 4096)) for part in ("pair", "timed"))
     return (
         " A cell lasts 30 ms, and is played three times. With 4,096 and 65,536 keys fkv's cells with commits and of timed calls are played by a process that has no "
-        "other store. Those with commits last 100 ms there, as the one beside each, and are played twenty times; timed ones last 150 ms, nine times. Elsewhere both last 130 ms, three times."
+        f"other store. Those with commits last 100 ms there, as the one beside each, and are played {pair} times; timed ones last 150 ms, {timed} times. Elsewhere both last 130 ms, three times."
     )
 
 
