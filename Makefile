@@ -1,7 +1,7 @@
 # make run     runs a script and prints its answers: the stored one, or SCRIPT=path, by the words of WORDS. The program is built
 #              without proof, and stays in build/unproved
-# make test    the gate: whether generated pages are up to date, what crates name of each other, every proof from nothing, the
-#              must-fail edits, the tests and the program; then tools/openings, what `make rows`, `make memory` and `make large` do, and
+# make test    the gate: whether generated pages are up to date, and links and examples of all pages hold; what crates name of each other,
+#              every proof from nothing, the must-fail edits, the tests and the program; then tools/openings, what `make rows`, `make memory` and `make large` do, and
 #              the library from C, C++ and Rust
 # make fkv     proves the program, says at which crate it is, and leaves it at build/fkv
 # make face    proves the library for C, C++ and Rust, and leaves it at build/libfkv.a, with build/fkv.h and build/fkv_posix.h
@@ -17,7 +17,7 @@
 # make hammer  runs lives of stores that four threads share, each ended by a crash, for a minute or SECONDS
 # make gate    runs the gate, and writes the processor time of each crate into docs/GATE.md
 # make audit   tries the wrong bodies that the gate leaves out, those of crates/*/audit, or of the crates in CRATES
-# make docs    writes docs/CRATES.md, docs/LAWS.md and docs/STATEMENT.md anew, from crates.txt, the comments of crates and laws, and the specs
+# make docs    writes docs/CRATES.md and docs/STATEMENT.md anew, from crates.txt, the heads of the crates and the specs
 #
 # Each of them but `make docs` needs the Rattle toolchain, the command rt. Where the program ends with a status other than 0 make run fails,
 # and says which it was.
@@ -110,4 +110,4 @@ audit: toolchain
 	tools/audit/serial
 
 toolchain:
-	@command -v rt > /dev/null || { echo "the Rattle toolchain is missing: there is no command rt (README.md, Try it)" >&2; exit 1; }
+	@command -v rt > /dev/null || { echo "the Rattle toolchain is missing: there is no command rt (README.md, Quick start)" >&2; exit 1; }

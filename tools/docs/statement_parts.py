@@ -3,7 +3,7 @@
 INTRODUCTION = """
 # The statement
 
-What is proved of `fkv`, from the claim down to the last definition. [README](../README.md#what-it-is-today) has the headline as a sentence. This page has the
+What is proved of `fkv`, from the claim down to the last definition. [README](../README.md#what-is-proved) has the headline as a sentence. This page has the
 definitions that the sentence means, with their comments. Who has read them knows what is claimed, and need read no proof: the prover has checked those.
 
 `make docs` writes this page from the sources, and `make test` refuses it if they say something else. So it has each definition that a claim rests on, but for
