@@ -4,7 +4,8 @@
 #              must-fail edits, the tests and the program; then tools/openings, what `make rows`, `make memory` and `make large` do, and
 #              the library from C, C++ and Rust
 # make fkv     proves the program, says at which crate it is, and leaves it at build/fkv
-# make face    proves the library for C, C++ and Rust, and leaves it at build/libfkv.a, with build/fkv.h and build/fkv_posix.h
+# make face    proves the library for C, C++ and Rust, says at which crate it is, and leaves it at build/libfkv.a and build/libfkv.so.0, with
+#              build/fkv.h and build/fkv_posix.h. With QUICK=1 it builds the same without proof, in a minute, and leaves it in build/unproved
 # make fkv_renew  proves the program that renews a store, and leaves it at build/fkv_renew
 # make fkv_look  proves the program that shows what a store's file holds, and leaves it at build/fkv_look
 # make rows    runs the built program on whole scripts, and compares what it writes
@@ -30,7 +31,7 @@ SECONDS ?= 60
 # The crates whose wrong bodies `make audit` tries, as CRATES="fkv_log fkv_ops"; all where nothing is said.
 CRATES ?=
 
-.PHONY: run test fkv face fkv_renew fkv_look rows renewing memory large bench bench-peers hammer gate audit docs toolchain
+.PHONY: run test fkv face face-proved fkv_renew fkv_look rows renewing memory large bench bench-peers hammer gate audit docs toolchain
 
 run: toolchain
 	@tools/script/run "$(SCRIPT)" $(WORDS)
@@ -58,6 +59,9 @@ fkv: toolchain
 	@tools/script/prove
 
 face: toolchain
+	@tools/face/make $(if $(QUICK),--quick)
+
+face-proved: toolchain
 	@tools/face/make
 
 fkv_renew: toolchain
@@ -93,7 +97,7 @@ bench: fkv
 	tools/bench/straight
 	tools/bench/recovery
 
-bench-peers: face
+bench-peers: face-proved
 	tools/peers/run $(if $(QUICK),--quick)
 
 hammer: toolchain
