@@ -6,6 +6,8 @@
 # make fkv     proves the program, says at which crate it is, and leaves it at build/fkv
 # make face    proves the library for C, C++ and Rust, says at which crate it is, and leaves it at build/libfkv.a and build/libfkv.so.0, with
 #              build/fkv.h and build/fkv_posix.h. With QUICK=1 it builds the same without proof, in a minute, and leaves it in build/unproved
+# make install PREFIX=/usr/local DESTDIR=   installs what is built: the library of `make face`, or with QUICK=1 that without proof, its headers,
+#              its packages for pkg-config and CMake, man pages, and those of the three programs that are in build/
 # make fkv_renew  proves the program that renews a store, and leaves it at build/fkv_renew
 # make fkv_look  proves the program that shows what a store's file holds, and leaves it at build/fkv_look
 # make rows    runs the built program on whole scripts, and compares what it writes
@@ -20,7 +22,7 @@
 # make audit   tries the wrong bodies that the gate leaves out, those of crates/*/audit, or of the crates in CRATES
 # make docs    writes docs/CRATES.md and docs/LAWS.md anew, from crates.txt and the comments of crates and laws
 #
-# Each of them but `make docs` needs the Rattle toolchain, the command rt. Where the program ends with a status other than 0 make run fails,
+# Each of them but `make docs` and `make install` needs the Rattle toolchain, the command rt. Where the program ends with a status other than 0 make run fails,
 # and says which it was.
 
 SCRIPT ?= crates/fkv/stdin
@@ -28,10 +30,13 @@ SCRIPT ?= crates/fkv/stdin
 WORDS ?=
 # How long `make hammer` runs.
 SECONDS ?= 60
+# Where `make install` puts what is built.
+PREFIX ?= /usr/local
+DESTDIR ?=
 # The crates whose wrong bodies `make audit` tries, as CRATES="fkv_log fkv_ops"; all where nothing is said.
 CRATES ?=
 
-.PHONY: run test fkv face face-proved fkv_renew fkv_look rows renewing memory large bench bench-peers hammer gate audit docs toolchain
+.PHONY: run test fkv face face-proved install fkv_renew fkv_look rows renewing memory large bench bench-peers hammer gate audit docs toolchain
 
 run: toolchain
 	@tools/script/run "$(SCRIPT)" $(WORDS)
@@ -96,6 +101,9 @@ bench: fkv
 	tools/bench/threads build/fkv
 	tools/bench/straight
 	tools/bench/recovery
+
+install:
+	@tools/face/install $(if $(QUICK),build/unproved,build) "$(PREFIX)" "$(DESTDIR)"
 
 bench-peers: face-proved
 	tools/peers/run $(if $(QUICK),--quick)

@@ -1,7 +1,8 @@
 /*
  * fkv.h: a key-value store of 64-bit words, whose engine is proved, for C and C++.
  *
- * Link build/libfkv.a, which holds this library and fkv_posix.h's part, with -pthread. docs/EMBED.md shows whole programs.
+ * Link libfkv.a, which holds this library and fkv_posix.h's part, with -pthread; or the shared library, libfkv.so.0. docs/EMBED.md shows
+ * whole programs.
  *
  * Two layers. This header has the store itself: it touches no file, starts no thread, takes no lock, never waits, and keeps
  * nothing in globals. fkv_posix.h puts it into a file and runs its keeper in a thread. Most programs want that one, and of this
