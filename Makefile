@@ -4,7 +4,10 @@
 #              every proof from nothing, the must-fail edits, the tests and the program; then tools/openings, what `make rows`, `make memory` and `make large` do, and
 #              the library from C, C++ and Rust
 # make fkv     proves the program, says at which crate it is, and leaves it at build/fkv
-# make face    proves the library for C, C++ and Rust, and leaves it at build/libfkv.a, with build/fkv.h and build/fkv_posix.h
+# make face    proves the library for C, C++ and Rust, says at which crate it is, and leaves it at build/libfkv.a and build/libfkv.so.0, with
+#              build/fkv.h and build/fkv_posix.h. With QUICK=1 it builds the same without proof, in a minute, and leaves it in build/unproved
+# make install PREFIX=/usr/local DESTDIR=   installs what is built: the library of `make face`, or with QUICK=1 that without proof, its headers,
+#              its packages for pkg-config and CMake, man pages, and those of the three programs that are in build/
 # make fkv_renew  proves the program that renews a store, and leaves it at build/fkv_renew
 # make fkv_look  proves the program that shows what a store's file holds, and leaves it at build/fkv_look
 # make rows    runs the built program on whole scripts, and compares what it writes
@@ -19,7 +22,7 @@
 # make audit   tries the wrong bodies that the gate leaves out, those of crates/*/audit, or of the crates in CRATES
 # make docs    writes docs/CRATES.md and docs/STATEMENT.md anew, from crates.txt, the heads of the crates and the specs
 #
-# Each of them but `make docs` needs the Rattle toolchain, the command rt. Where the program ends with a status other than 0 make run fails,
+# Each of them but `make docs` and `make install` needs the Rattle toolchain, the command rt. Where the program ends with a status other than 0 make run fails,
 # and says which it was.
 
 SCRIPT ?= crates/fkv/stdin
@@ -27,10 +30,13 @@ SCRIPT ?= crates/fkv/stdin
 WORDS ?=
 # How long `make hammer` runs.
 SECONDS ?= 60
+# Where `make install` puts what is built.
+PREFIX ?= /usr/local
+DESTDIR ?=
 # The crates whose wrong bodies `make audit` tries, as CRATES="fkv_log fkv_ops"; all where nothing is said.
 CRATES ?=
 
-.PHONY: run test fkv face fkv_renew fkv_look rows renewing memory large bench bench-peers hammer gate audit docs toolchain
+.PHONY: run test fkv face face-proved install fkv_renew fkv_look rows renewing memory large bench bench-peers hammer gate audit docs toolchain
 
 run: toolchain
 	@tools/script/run "$(SCRIPT)" $(WORDS)
@@ -58,6 +64,9 @@ fkv: toolchain
 	@tools/script/prove
 
 face: toolchain
+	@tools/face/make $(if $(QUICK),--quick)
+
+face-proved: toolchain
 	@tools/face/make
 
 fkv_renew: toolchain
@@ -93,7 +102,10 @@ bench: fkv
 	tools/bench/straight
 	tools/bench/recovery
 
-bench-peers: face
+install:
+	@tools/face/install $(if $(QUICK),build/unproved,build) "$(PREFIX)" "$(DESTDIR)"
+
+bench-peers: face-proved
 	tools/peers/run $(if $(QUICK),--quick)
 
 hammer: toolchain

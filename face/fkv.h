@@ -1,7 +1,8 @@
 /*
  * fkv.h: a key-value store of 64-bit words, whose engine is proved, for C and C++.
  *
- * Link build/libfkv.a, which holds this library and fkv_posix.h's part, with -pthread. docs/EMBED.md shows whole programs.
+ * Link libfkv.a, which holds this library and fkv_posix.h's part, with -pthread; or the shared library, libfkv.so.0. docs/EMBED.md shows
+ * whole programs.
  *
  * Two layers. This header has the store itself: it touches no file, starts no thread, takes no lock, never waits, and keeps
  * nothing in globals. fkv_posix.h puts it into a file and runs its keeper in a thread. Most programs want that one, and of this
@@ -40,6 +41,11 @@
 #ifdef __cplusplus
 extern "C" {
 #endif
+
+/* This header's version. While the first number is 0, a new second number may change calls and files. */
+#define FKV_VERSION_MAJOR 0
+#define FKV_VERSION_MINOR 1
+#define FKV_VERSION_PATCH 0
 
 #define FKV_ABSENT UINT64_MAX
 
@@ -195,6 +201,19 @@ enum {
 
 /* The name of the fault of a result, as "Asleep" of -12 or of 12; "Done" of 0, and "Unknown" of any other number. Never NULL. */
 const char *fkv_name_of(int32_t result);
+
+/*
+ * The library's version: its three numbers, and whether its engine was proved as it was built. "0.1.0 proved", or "0.1.0 without
+ * proof, built from commit 4b7e9713". If the library is shared, its numbers may be later than those of this header. Never NULL.
+ */
+const char *fkv_version(void);
+
+/*
+ * The formats of files that this library opens, with a blank between two: "FKVSTOR1 FKVSTOR2". A store's file begins with the name of
+ * its format, 8 bytes. The first is of small stores, and the second of large ones. Of each, all three kinds of commits' slots are read.
+ * Any other file is FKV_NOT_A_STORE. Never NULL.
+ */
+const char *fkv_formats(void);
 
 /* ---- The store ------------------------------------------------------------------------------------------------------------ */
 

@@ -24,9 +24,11 @@ mod raw;
 mod renewal;
 mod session;
 mod store;
+mod versions;
 
 pub use errors::{Damage, Error};
 pub use keeper::{Keeper, Keeping, Ticket};
 pub use renewal::{RenewedKeys, renew};
 pub use session::{Finished, Phase, Read, ReadTicket, Reason, Seen, Session, Update};
 pub use store::{Commit, How, Progress, Shape, Store, Work, spread, spread_back};
+pub use versions::{formats, version};

@@ -133,6 +133,8 @@ pub const PENDING: i32 = 3;
 
 unsafe extern "C" {
     pub fn fkv_name_of(result: i32) -> *const c_char;
+    pub fn fkv_version() -> *const c_char;
+    pub fn fkv_formats() -> *const c_char;
     pub fn fkv_renew(
         bytes: *const u8,
         size: usize,

@@ -1,7 +1,7 @@
 //! The crate over real files: each call once, and what it refuses.
 use fkv::{
     Error, Finished, How, Keeper, Keeping, Phase, Read, RenewedKeys, Shape, Store, Update, Work,
-    renew, spread, spread_back,
+    formats, renew, spread, spread_back, version,
 };
 use std::io::ErrorKind;
 use std::path::PathBuf;
@@ -425,6 +425,17 @@ fn sessions_go_to_other_threads_and_the_rest_is_shared() {
     impl<T> IsAlone<()> for T {}
     impl<T: Sync> IsAlone<u8> for T {}
     <fkv::Session as IsAlone<_>>::is_alone();
+}
+
+#[test]
+fn the_library_says_its_version_and_formats() {
+    let (numbers, built) = version().split_once(' ').unwrap();
+    assert_eq!(numbers, env!("CARGO_PKG_VERSION"));
+    assert!(built == "proved" || built.starts_with("without proof, built from "));
+    let path = Path::new("formats");
+    Store::make(&path.0, &SHAPE).unwrap();
+    let bytes = fs::read(&path.0).unwrap();
+    assert!(formats().any(|it| bytes.starts_with(it.as_bytes())));
 }
 
 #[test]

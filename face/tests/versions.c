@@ -1,0 +1,48 @@
+/* The library's version and the formats that it opens, which it prints: a store of each is made and opened, and any other refused. */
+#include "fkv.h"
+#include "tests.h"
+
+#include <string.h>
+
+enum { TEXT = 8 };
+
+static const fkv_shape SMALL = {3, 4, 4, 2, 2, 2, 64};
+static const fkv_shape LARGE = {11, 4, 4, 2, 2, 2, 64};
+
+static int32_t open_image(const uint8_t *image) {
+    uint64_t points[FKV_MOST_SESSIONS];
+    fkv_store store;
+    fkv_shape shape;
+    fkv_opened told;
+    int32_t result = fkv_open(image, FKV_IMAGE_SIZE, FKV_SPREAD, &store.at, &shape, &told, points, FKV_MOST_SESSIONS);
+    if (result < 0) return result;
+    WANTS("closing", fkv_close(&store), 0);
+    fkv_free_store(store);
+    return 0;
+}
+
+/* A store of this shape has this format, and opens. With another text it doesn't. */
+static void opens(const fkv_shape *shape, const char *format) {
+    uint8_t image[FKV_IMAGE_SIZE];
+    WANTS("an image", fkv_image(shape, image, sizeof image), 0);
+    WANTS("its text", memcmp(image, format, TEXT), 0);
+    WANTS("opening it", open_image(image), 0);
+    for (size_t i = 0; i < TEXT; i++) {
+        image[i] ^= 4;
+        WANTS("opening another format", open_image(image), -FKV_NOT_A_STORE);
+        image[i] ^= 4;
+    }
+}
+
+int main(void) {
+    char numbers[40];
+    const char *version = fkv_version(), *formats = fkv_formats();
+    snprintf(numbers, sizeof numbers, "%d.%d.%d ", FKV_VERSION_MAJOR, FKV_VERSION_MINOR, FKV_VERSION_PATCH);
+    WANTS("whether the version begins with its numbers", strncmp(version, numbers, strlen(numbers)), 0);
+    WANTS("the length of two formats", strlen(formats), 2 * TEXT + 1);
+    WANTS("what parts them", formats[TEXT], ' ');
+    opens(&SMALL, formats);
+    opens(&LARGE, formats + TEXT + 1);
+    printf("%s\n%s\n", version, formats);
+    return 0;
+}
