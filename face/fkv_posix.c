@@ -4,6 +4,7 @@
 
 #include <errno.h>
 #include <fcntl.h>
+#include <inttypes.h>
 #include <limits.h>
 #include <stdio.h>
 #include <stdlib.h>
@@ -11,13 +12,20 @@
 #include <sys/file.h>
 #include <sys/mman.h>
 #include <sys/stat.h>
+#include <time.h>
 #include <unistd.h>
 
 /* A file is read in pieces of so many bytes, each of which is told as progress. */
 enum { PIECE = 1 << 20 };
 
-/* Another name is sought so many times, where files of a making that was cut short stand in the way. */
+/* A name that is free is sought so many times. It goes by the time, so nearly always the first is. */
 enum { MOST_NAMES = 100 };
+
+/* Both slots in which commits are told, as bytes of a store's file. */
+enum { SLOTS_PLACE = 512, SLOTS_SIZE = 1024 };
+
+/* Bytes of a format's name. */
+enum { FORMAT_SIZE = 8 };
 
 /* ---- Calls of the file ---------------------------------------------------------------------------------------------------- */
 
@@ -108,10 +116,18 @@ static int put_in_place(const char *from, const char *to) {
     return 0;
 }
 
+/* A number that goes by the time and the process: another making, also one that was cut short, hardly has the same. */
+static uint32_t number_of_making(void) {
+    struct timespec time;
+    clock_gettime(CLOCK_REALTIME, &time);
+    uint64_t nanoseconds = (uint64_t)time.tv_sec * 1000000000 + (uint64_t)time.tv_nsec;
+    return (uint32_t)((nanoseconds ^ (uint64_t)getpid() << 32) * UINT64_C(0x9e3779b97f4a7c15) >> 32);
+}
+
 /* A new file beside the path, open for writing. Its name is put into `name`. */
 static int open_beside(const char *path, char *name, size_t room) {
     for (int i = 0; i < MOST_NAMES; i++) {
-        int length = snprintf(name, room, "%s.new%d", path, i);
+        int length = snprintf(name, room, "%s.new%08" PRIx32, path, number_of_making());
         if (length < 0 || (size_t)length >= room) {
             errno = ENAMETOOLONG;
             return -1;
@@ -221,12 +237,35 @@ static int open_locked(const char *path) {
     return -1;
 }
 
+/* Whether a file begins with a format that fkv_open takes: the last byte of its name says which. */
+static bool begins_as_store(const uint8_t *bytes) {
+    const char *formats = fkv_formats();
+    for (const char *at = formats; *at; at += at[FORMAT_SIZE] ? FORMAT_SIZE + 1 : FORMAT_SIZE) {
+        if (memcmp(bytes, at, FORMAT_SIZE) == 0) return true;
+    }
+    return false;
+}
+
+/*
+ * Writes the slots of a store's file anew, as they read, so that the next sync brings them to the disk. After a sync that has failed,
+ * Linux may go on showing what the disk hasn't, and takes it for written. A commit that was told by such a slot would be lost later.
+ * All else that a slot names was synced before the slot was written. A file of anything else stays as it is.
+ */
+static int write_slots_anew(int fd) {
+    uint8_t front[FKV_IMAGE_SIZE];
+    struct stat known;
+    if (fstat(fd, &known)) return -1;
+    if (!S_ISREG(known.st_mode) || known.st_size < FKV_IMAGE_SIZE) return 0;
+    if (read_at(fd, 0, front, sizeof front)) return -1;
+    return begins_as_store(front) ? write_at(fd, SLOTS_PLACE, front + SLOTS_PLACE, SLOTS_SIZE) : 0;
+}
+
 /* Opens the store of a file's bytes. */
 static int32_t open_store(fkv_file *file, const char *path, const fkv_how *how) {
     fkv_opened opened = {0, 0, 0};
     struct bytes shown = {NULL, 0};
     /* A process that was killed may have written what no sync has kept, or made the file and not synced its name. */
-    if (fsync(file->fd) || sync_folder_of(path)) return -FKV_DEVICE;
+    if (write_slots_anew(file->fd) || fsync(file->fd) || sync_folder_of(path)) return -FKV_DEVICE;
     int32_t result = show(file->fd, how, &shown);
     if (result == 0) {
         result = fkv_open(shown.at, shown.size, how->keys, &file->store.at, &file->shape, &opened, file->points, FKV_MOST_SESSIONS);

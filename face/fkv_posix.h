@@ -49,8 +49,8 @@ typedef void fkv_finished_fn(void *user, const fkv_finished *finished);
 
 /*
  * Makes the file of a new store of this shape. It is written under another name in the same folder, synced, and put in place by a
- * rename that replaces nothing; then the folder is synced. So a crash leaves the whole file or none of this name. It isn't open
- * after the call.
+ * rename that replaces nothing; then the folder is synced. So a crash leaves the whole file or none of this name. It may leave one of
+ * another name, `path` with ".new" and eight digits, which no store needs. The file isn't open after the call.
  * 0; -FKV_BAD_SHAPE, -FKV_MEMORY, -FKV_DEVICE (errno EEXIST: there is a file of this name, and it stays as it is). If the folder's
  * sync alone has failed, the new file stays in place, and the next call tells EEXIST. An opening syncs the folder again.
  */
@@ -72,7 +72,9 @@ typedef struct {
  * the process. If that has forked children, it ends with the last of them that has called no exec.
  *
  * The file is synced first, and so is the folder of `path`: no commit is told of a file whose name a crash may take. A folder that can't be
- * read can't be synced. If `path` is a link, the folder of the link is synced, and that of the file isn't.
+ * read can't be synced. If `path` is a link, the folder of the link is synced, and that of the file isn't. Before that sync the bytes by
+ * which commits are told are written anew, as they read: so the disk has the commit that is told, also after a life whose sync has
+ * failed. If the system takes no write, as of a full disk it may, the opening is refused.
  * 0; -FKV_NOT_A_STORE, -FKV_DAMAGED, -FKV_MEMORY, -FKV_DEVICE (errno EWOULDBLOCK: it is open already; EACCES: no right to read or write
  * the file, or to read its folder).
  */
