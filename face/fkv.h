@@ -47,6 +47,19 @@ extern "C" {
 #define FKV_VERSION_MINOR 1
 #define FKV_VERSION_PATCH 0
 
+/*
+ * The library's version: its three numbers, and whether its engine was proved as it was built. "0.1.0 proved", or "0.1.0 without
+ * proof, built from commit 4b7e9713". If the library is shared, its numbers may be later than those of this header. Never NULL.
+ */
+const char *fkv_version(void);
+
+/*
+ * The formats of files that this library opens, with a blank between two: "FKVSTOR1 FKVSTOR2". A store's file begins with the name of
+ * its format, 8 bytes. The first is of small stores, and the second of large ones. Of each, all three kinds of commits' slots are read.
+ * Any other file is FKV_NOT_A_STORE. Never NULL.
+ */
+const char *fkv_formats(void);
+
 #define FKV_ABSENT UINT64_MAX
 
 /* Bytes of a new store's file. */
@@ -201,19 +214,6 @@ enum {
 
 /* The name of the fault of a result, as "Asleep" of -12 or of 12; "Done" of 0, and "Unknown" of any other number. Never NULL. */
 const char *fkv_name_of(int32_t result);
-
-/*
- * The library's version: its three numbers, and whether its engine was proved as it was built. "0.1.0 proved", or "0.1.0 without
- * proof, built from commit 4b7e9713". If the library is shared, its numbers may be later than those of this header. Never NULL.
- */
-const char *fkv_version(void);
-
-/*
- * The formats of files that this library opens, with a blank between two: "FKVSTOR1 FKVSTOR2". A store's file begins with the name of
- * its format, 8 bytes. The first is of small stores, and the second of large ones. Of each, all three kinds of commits' slots are read.
- * Any other file is FKV_NOT_A_STORE. Never NULL.
- */
-const char *fkv_formats(void);
 
 /* ---- The store ------------------------------------------------------------------------------------------------------------ */
 

@@ -21,12 +21,6 @@ enum { PIECE = 1 << 20 };
 /* A name that is free is sought so many times. It goes by the time, so nearly always the first is. */
 enum { MOST_NAMES = 100 };
 
-/* Both slots in which commits are told, as bytes of a store's file. */
-enum { SLOTS_PLACE = 512, SLOTS_SIZE = 1024 };
-
-/* Bytes of a format's name. */
-enum { FORMAT_SIZE = 8 };
-
 /* ---- Calls of the file ---------------------------------------------------------------------------------------------------- */
 
 static bool fits_file(uint64_t place, uint64_t length) {
@@ -236,6 +230,9 @@ static int open_locked(const char *path) {
     errno = why;
     return -1;
 }
+
+/* Bytes of a format's name, and both slots in which a store's file tells of its commits. */
+enum { FORMAT_SIZE = 8, SLOTS_PLACE = 512, SLOTS_SIZE = 1024 };
 
 /* Whether a file begins with a format that fkv_open takes: the last byte of its name says which. */
 static bool begins_as_store(const uint8_t *bytes) {

@@ -133,8 +133,6 @@ pub const PENDING: i32 = 3;
 
 unsafe extern "C" {
     pub fn fkv_name_of(result: i32) -> *const c_char;
-    pub fn fkv_version() -> *const c_char;
-    pub fn fkv_formats() -> *const c_char;
     pub fn fkv_renew(
         bytes: *const u8,
         size: usize,
@@ -187,6 +185,8 @@ unsafe extern "C" {
     pub fn fkv_serial(session: *mut Session, serial: *mut u64) -> i32;
     pub fn fkv_spread(key: u64) -> u64;
     pub fn fkv_spread_back(word: u64) -> u64;
+    pub fn fkv_version() -> *const c_char;
+    pub fn fkv_formats() -> *const c_char;
 
     pub fn fkv_make_file(path: *const c_char, shape: *const Shape) -> i32;
     pub fn fkv_open_file(path: *const c_char, how: *const How, out: *mut *mut File) -> i32;
