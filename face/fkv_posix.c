@@ -4,6 +4,7 @@
 
 #include <errno.h>
 #include <fcntl.h>
+#include <inttypes.h>
 #include <limits.h>
 #include <stdio.h>
 #include <stdlib.h>
@@ -11,13 +12,17 @@
 #include <sys/file.h>
 #include <sys/mman.h>
 #include <sys/stat.h>
+#include <time.h>
 #include <unistd.h>
 
 /* A file is read in pieces of so many bytes, each of which is told as progress. */
 enum { PIECE = 1 << 20 };
 
-/* Another name is sought so many times, where files of a making that was cut short stand in the way. */
+/* A name that is free is sought so many times. It goes by the time, so nearly always the first is. */
 enum { MOST_NAMES = 100 };
+
+/* Bytes of the file before the index, and of a slot of the index: it has two places, of 16 bytes each. */
+enum { INDEX_PLACE = 1536, SLOT_SIZE = 32, BUCKET_SLOTS = 7 };
 
 /* ---- Calls of the file ---------------------------------------------------------------------------------------------------- */
 
@@ -76,7 +81,7 @@ int32_t fkv_turn_file(int fd, fkv_keeper *keeper, fkv_turned *turned, uint64_t *
     while (call > FKV_OVER) {
         int failed = fkv_call_file(fd, call, turned, into);
         if (!failed && call == FKV_WRITE && written) *written += turned->length;
-        call = fkv_told(keeper, failed != 0, into, call == FKV_READ ? FKV_READ_SIZE : 0, turned, points, room);
+        call = fkv_io_done(keeper, failed != 0, into, call == FKV_READ ? FKV_READ_SIZE : 0, turned, points, room);
     }
     return call;
 }
@@ -108,10 +113,18 @@ static int put_in_place(const char *from, const char *to) {
     return 0;
 }
 
+/* A number that goes by the time and the process: another making, also one that was cut short, hardly has the same. */
+static uint32_t number_of_making(void) {
+    struct timespec time;
+    clock_gettime(CLOCK_REALTIME, &time);
+    uint64_t nanoseconds = (uint64_t)time.tv_sec * 1000000000 + (uint64_t)time.tv_nsec;
+    return (uint32_t)((nanoseconds ^ (uint64_t)getpid() << 32) * UINT64_C(0x9e3779b97f4a7c15) >> 32);
+}
+
 /* A new file beside the path, open for writing. Its name is put into `name`. */
 static int open_beside(const char *path, char *name, size_t room) {
     for (int i = 0; i < MOST_NAMES; i++) {
-        int length = snprintf(name, room, "%s.new%d", path, i);
+        int length = snprintf(name, room, "%s.new%08" PRIx32, path, number_of_making());
         if (length < 0 || (size_t)length >= room) {
             errno = ENAMETOOLONG;
             return -1;
@@ -221,12 +234,38 @@ static int open_locked(const char *path) {
     return -1;
 }
 
+/* Bytes of a format's name, and both slots in which a store's file tells of its commits. */
+enum { FORMAT_SIZE = 8, SLOTS_PLACE = 512, SLOTS_SIZE = 1024 };
+
+/* Whether a file begins with a format that fkv_open takes: the last byte of its name says which. */
+static bool begins_as_store(const uint8_t *bytes) {
+    const char *formats = fkv_formats();
+    for (const char *at = formats; *at; at += at[FORMAT_SIZE] ? FORMAT_SIZE + 1 : FORMAT_SIZE) {
+        if (memcmp(bytes, at, FORMAT_SIZE) == 0) return true;
+    }
+    return false;
+}
+
+/*
+ * Writes the slots of a store's file anew, as they read, so that the next sync brings them to the disk. After a sync that has failed,
+ * Linux may go on showing what the disk hasn't, and takes it for written. A commit that was told by such a slot would be lost later.
+ * All else that a slot names was synced before the slot was written. A file of anything else stays as it is.
+ */
+static int write_slots_anew(int fd) {
+    uint8_t front[FKV_IMAGE_SIZE];
+    struct stat known;
+    if (fstat(fd, &known)) return -1;
+    if (!S_ISREG(known.st_mode) || known.st_size < FKV_IMAGE_SIZE) return 0;
+    if (read_at(fd, 0, front, sizeof front)) return -1;
+    return begins_as_store(front) ? write_at(fd, SLOTS_PLACE, front + SLOTS_PLACE, SLOTS_SIZE) : 0;
+}
+
 /* Opens the store of a file's bytes. */
 static int32_t open_store(fkv_file *file, const char *path, const fkv_how *how) {
     fkv_opened opened = {0, 0, 0};
     struct bytes shown = {NULL, 0};
     /* A process that was killed may have written what no sync has kept, or made the file and not synced its name. */
-    if (fsync(file->fd) || sync_folder_of(path)) return -FKV_DEVICE;
+    if (write_slots_anew(file->fd) || fsync(file->fd) || sync_folder_of(path)) return -FKV_DEVICE;
     int32_t result = show(file->fd, how, &shown);
     if (result == 0) {
         result = fkv_open(shown.at, shown.size, how->keys, &file->store.at, &file->shape, &opened, file->points, FKV_MOST_SESSIONS);
@@ -239,6 +278,10 @@ static int32_t open_store(fkv_file *file, const char *path, const fkv_how *how) 
     return result;
 }
 
+uint64_t fkv_log_place(const fkv_shape *shape) {
+    return INDEX_PLACE + SLOT_SIZE * BUCKET_SLOTS * ((UINT64_C(1) << shape->bucket_bits) + shape->overflow);
+}
+
 /* Takes all handles of an open store, and puts its sessions to sleep. */
 static int32_t take_handles(fkv_file *file) {
     int32_t result = fkv_take_keeper(&file->store, &file->keeper.at);
@@ -248,6 +291,12 @@ static int32_t take_handles(fkv_file *file) {
         if (result == 0) fkv_sleep(&file->sessions[i]);
     }
     return result;
+}
+
+enum { CONDITIONS = 4 };
+
+static void conditions_of(fkv_file *file, pthread_cond_t *all[CONDITIONS]) {
+    all[0] = &file->work, all[1] = &file->over, all[2] = &file->served, all[3] = &file->news;
 }
 
 /*
@@ -269,8 +318,9 @@ static void give_up(fkv_file *file) {
         flock(file->fd, LOCK_UN);
         close(file->fd);
     }
-    pthread_cond_destroy(&file->news);
-    pthread_cond_destroy(&file->work);
+    pthread_cond_t *all[CONDITIONS];
+    conditions_of(file, all);
+    for (int i = 0; i < CONDITIONS; i++) pthread_cond_destroy(all[i]);
     pthread_mutex_destroy(&file->lock);
     free(file);
     errno = why;
@@ -279,19 +329,22 @@ static void give_up(fkv_file *file) {
 /* A file that isn't open yet. NULL where memory was refused. */
 static fkv_file *new_file(void) {
     fkv_file *file = calloc(1, sizeof *file);
+    pthread_condattr_t by_clock;
+    pthread_cond_t *all[CONDITIONS];
+    int made = 0;
     if (!file) return NULL;
     file->fd = -1;
-    pthread_condattr_t by_clock;
+    atomic_store(&file->ends, -FKV_NO_KEEPER);
+    conditions_of(file, all);
     if (pthread_condattr_init(&by_clock)) goto no_clock;
     pthread_condattr_setclock(&by_clock, CLOCK_MONOTONIC);
     if (pthread_mutex_init(&file->lock, NULL)) goto no_lock;
-    if (pthread_cond_init(&file->news, &by_clock)) goto no_news;
-    if (pthread_cond_init(&file->work, &by_clock)) goto no_work;
+    while (made < CONDITIONS && pthread_cond_init(all[made], &by_clock) == 0) made++;
+    if (made < CONDITIONS) goto no_condition;
     pthread_condattr_destroy(&by_clock);
     return file;
-no_work:
-    pthread_cond_destroy(&file->news);
-no_news:
+no_condition:
+    while (made > 0) pthread_cond_destroy(all[--made]);
     pthread_mutex_destroy(&file->lock);
 no_lock:
     pthread_condattr_destroy(&by_clock);
@@ -311,21 +364,30 @@ int32_t fkv_open_file(const char *path, const fkv_how *how, fkv_file **out) {
         give_up(file);
         return result;
     }
+    off_t end = lseek(file->fd, 0, SEEK_END);
+    file->log_end = end > 0 ? (uint64_t)end : 0;
     *out = file;
     return 0;
 }
 
-int32_t fkv_close_file(fkv_file *file) {
+/* Ends the keeper's thread, and closes the file behind that. The answer is that of the end, but for one that leaves the file open. */
+static int32_t close_behind(fkv_file *file, uint32_t how) {
     pthread_mutex_lock(&file->lock);
     bool is_out = file->joined != 0;
     pthread_mutex_unlock(&file->lock);
     if (is_out) return -FKV_HANDLE_OUT;
-    int32_t result = fkv_stop(file, 0);
-    if (result < 0) return result;
+    int32_t result = fkv_stop(file, how);
+    if (result == -FKV_HANDLE_OUT) return result;
+    int why = errno;
     fkv_end_abandoned(file);
     give_up(file);
-    return 0;
+    errno = why;
+    return result;
 }
+
+int32_t fkv_close_file(fkv_file *file) { return close_behind(file, FKV_STOP_KEEP); }
+
+int32_t fkv_drop_file(fkv_file *file) { return close_behind(file, FKV_STOP_NOW); }
 
 fkv_shape fkv_shape_of(const fkv_file *file) {
     return file->shape;
@@ -369,7 +431,10 @@ int32_t fkv_join(fkv_file *file, uint64_t number, fkv_session **out) {
     if (result == 0) result = fkv_wake(&file->sessions[found], &seen);
     if (result == 0) {
         file->joined |= UINT32_C(1) << found;
-        file->was_joined = true;
+        file->was_joined = file->nudged = true;
+        file->seats[found].ticks = 0;
+        file->seats[found].phase = (uint32_t)seen.phase;
+        atomic_store(&file->seats[found].begun, atomic_load(&file->begun));
         *out = &file->sessions[found];
         pthread_cond_signal(&file->work);
     }

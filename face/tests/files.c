@@ -15,7 +15,7 @@
 #include <sys/wait.h>
 #include <unistd.h>
 
-enum { KEYS = 1000, PATH_ROOM = 500 };
+enum { KEYS = 1000, PATH_ROOM = 500, LEFTOVERS = 150 };
 
 /* A call that the system has refused for this reason, maybe in another thread. */
 #define WANTS_DEVICE(what, call, why) (errno = 0, wants_device(__FILE__, __LINE__, what, call, why))
@@ -24,11 +24,12 @@ enum { KEYS = 1000, PATH_ROOM = 500 };
 static const fkv_shape SHAPE = {10, 16, 8, 4, 3, 64, 4096};
 static const char *folder;
 static uint64_t told_commits, told_progress, folder_syncs;
-static bool folders_fail;
+static bool folders_fail, process_dies;
 
-/* The library's syncs come here, before those of the C library: folders are counted, or fail. */
+/* The library's syncs come here, before those of the C library: folders are counted, or fail; or the process dies. */
 int fsync(int fd) {
     struct stat known;
+    if (process_dies) _exit(0);
     if (fstat(fd, &known) == 0 && S_ISDIR(known.st_mode)) {
         folder_syncs++;
         errno = EIO;
@@ -129,6 +130,23 @@ static void naming(void) {
     WANTS("closing it", fkv_close_file(file), 0);
 }
 
+/* Makings that were cut short leave files, and a later one doesn't mind. */
+static void leftovers(void) {
+    const char *path = path_of("leftovers");
+    for (int i = 0; i < LEFTOVERS; i++) {
+        pid_t child = fork();
+        if (child == 0) {
+            process_dies = true;
+            fkv_make_file(path, &SHAPE);
+            _exit(1);
+        }
+        int status = 1;
+        WANTS("a making that is cut short", waitpid(child, &status, 0), child);
+        WANTS("its status", status, 0);
+    }
+    WANTS("making a file", fkv_make_file(path, &SHAPE), 0);
+}
+
 /* A child that was forked has the file's descriptor, and not its lock once that is given back. */
 static void forking(void) {
     fkv_file *file;
@@ -185,7 +203,7 @@ static void committing(void) {
     uint64_t points[FKV_MOST_SESSIONS], ticket, serial;
     WANTS("making a file", fkv_make_file(path, &SHAPE), 0);
     WANTS("opening it", fkv_open_file(path, NULL, &file), 0);
-    WANTS("a commit without a keeper", fkv_ask_commit(file, &ticket), -FKV_BROKEN);
+    WANTS("a commit without a keeper", fkv_ask_commit(file, &ticket), -FKV_NO_KEEPER);
     WANTS("starting the keeper", fkv_start(file, &keeping), 0);
     WANTS("starting it again", fkv_start(file, &keeping), -FKV_HANDLE_TAKEN);
     WANTS("joining", fkv_join(file, 0, &session), 0);
@@ -288,6 +306,7 @@ int main(int count, char **words) {
     folder = words[1];
     making();
     naming();
+    leftovers();
     forking();
     joining();
     committing();
