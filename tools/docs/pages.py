@@ -1,6 +1,7 @@
 """What holds of the pages that people read, whoever wrote them: README.md, CONTRIBUTING.md, docs/*.md and the READMEs of crates.
 
 - Each relative link leads to a file that is there, and its anchor to a heading of that page.
+- Each law that a page names is there, or a crate of laws, or a wrong body; and so is each file below tools/, face/ and docs/.
 - Each fenced block is run by the gate: scripts and programs with their output on the pages of RUN, by the tool that it names. Every other
   block names the file that it quotes, as "```rust crates/fkv_example/src/main.rt", and each of its lines stands there, in their order.
 """
@@ -94,11 +95,31 @@ def block_faults(root, page, text):
             at = found + len(wanted)
 
 
+def known_laws(root):
+    """What a name law_.. may be: a law, a crate, or an edit that must fail."""
+    found = set(os.listdir(f"{root}/crates"))
+    found |= {os.path.basename(it)[: -len(".edit")] for kind in ("must-fail", "audit") for it in glob.glob(f"{root}/crates/*/{kind}/*.edit")}
+    for path in glob.glob(f"{root}/crates/*/src/**/*.rt", recursive=True):
+        found |= set(re.findall(r"\bfn (law_\w+)", read(path)))
+    return found
+
+
+def name_faults(root, page, text, laws):
+    """What a page names that isn't there."""
+    for name in sorted(set(re.findall(r"\blaw_\w+", text)) - laws):
+        yield f"{page}: there is no {name}"
+    for path in sorted(set(re.findall(r"`((?:tools|face|docs)/[\w./]*\w)`", text))):
+        if not os.path.exists(f"{root}/{path}"):
+            yield f"{page}: there is no {path}"
+
+
 def faults_of(root):
     """Each fault of a page, as a line."""
     texts = {page: read(f"{root}/{page}") for page in pages_in(root)}
     anchors = {page: anchors_in(text) for page, text in texts.items()}
+    laws = known_laws(root)
     for page, text in texts.items():
         yield from link_faults(root, page, texts, anchors)
+        yield from name_faults(root, page, text, laws)
         if page not in MADE:
             yield from block_faults(root, page, text)
