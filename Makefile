@@ -17,7 +17,9 @@
 # make hammer  runs lives of stores that four threads share, each ended by a crash, for a minute or SECONDS
 # make gate    runs the gate, and writes the processor time of each crate into docs/GATE.md
 # make audit   tries the wrong bodies that the gate leaves out, those of crates/*/audit, or of the crates in CRATES
-# make docs    writes docs/CRATES.md and docs/LAWS.md anew, from crates.txt and the comments of crates and laws
+# make warm    gives the libraries that the gate's `rt ci` has left the stamps by which `rt check` takes them; FROM=clone takes those of another clone
+# make docs    writes docs/CRATES.md and docs/LAWS.md anew, from crates.txt and the comments of crates and laws, and the longest chain of checks
+#              into docs/GATE.md, from its table
 #
 # Each of them but `make docs` needs the Rattle toolchain, the command rt. Where the program ends with a status other than 0 make run fails,
 # and says which it was.
@@ -27,16 +29,19 @@ SCRIPT ?= crates/fkv/stdin
 WORDS ?=
 # How long `make hammer` runs.
 SECONDS ?= 60
+# Another clone, whose libraries `make warm` takes where they are of the same sources.
+FROM ?=
 # The crates whose wrong bodies `make audit` tries, as CRATES="fkv_log fkv_ops"; all where nothing is said.
 CRATES ?=
 
-.PHONY: run test fkv face fkv_renew fkv_look rows renewing memory large bench bench-peers hammer gate audit docs toolchain
+.PHONY: run test fkv face fkv_renew fkv_look rows renewing memory large bench bench-peers hammer gate warm audit docs toolchain
 
 run: toolchain
 	@tools/script/run "$(SCRIPT)" $(WORDS)
 
 test: toolchain
 	tools/docs/make --check
+	tools/gate/chain --check
 	tools/names/check
 	@tools/script/check > /dev/null
 	rt ci
@@ -102,8 +107,12 @@ hammer: toolchain
 gate: toolchain
 	tools/gate/measure
 
+warm: toolchain
+	tools/gate/warm $(FROM)
+
 docs:
 	tools/docs/make
+	tools/gate/chain --write
 
 audit: toolchain
 	tools/audit/run $(CRATES)
