@@ -21,8 +21,8 @@
 #              tests and the program without proof. It ends with what the gate will take for them
 # make impact  says what other crates can see of what differs from the last commit, or from BASE, and which of their files name it
 # make warm    gives the libraries that the gate's `rt ci` has left the stamps by which `rt check` takes them; FROM=clone takes those of another clone
-# make docs    writes docs/CRATES.md and docs/LAWS.md anew, from crates.txt and the comments of crates and laws, and the longest chain of checks
-#              into docs/GATE.md, from its table
+# make docs    writes docs/CRATES.md and docs/LAWS.md anew, from crates.txt and the comments of crates and laws; and from docs/GATE.md's table the
+#              longest chain of checks there, and what a change costs into CONTRIBUTING.md
 #
 # Each of them but `make docs` and `make impact` needs the Rattle toolchain, the command rt. Where the program ends with a status other than 0 make run fails,
 # and says which it was.

@@ -79,6 +79,11 @@ def measured_last(root):
     return {(name, kind): float(it) for name, *row in rows for kind, it in zip(KINDS, row) if has(root, name, kind)}
 
 
+def total(minutes, names, *kinds):
+    """The minutes of these crates, of these kinds of work."""
+    return round(sum(minutes.get((name, kind), 0) for name in sorted(names) for kind in kinds), 1)
+
+
 def longest(crates, minutes):
     """The longest chain of checks of these crates, lowest first, and its minutes: each stands on the one before, so that its check waits for it."""
     best = {}
@@ -86,4 +91,4 @@ def longest(crates, minutes):
         below = max((best[dep] for dep in crates[it] if dep in crates), key=lambda chain: chain[0], default=(0, ()))
         best[it] = below[0] + minutes.get((it, "check"), 0), (*below[1], it)
     length, chain = max(best.values(), key=lambda it: it[0], default=(0, ()))
-    return chain, length
+    return chain, round(length, 1)
