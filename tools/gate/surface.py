@@ -57,7 +57,7 @@ class Item:
         self.is_test = any(re.match(r"#\[\s*(cfg\s*\(\s*)?test\b", it) for it in attributes)
         bare = re.sub(r"^pub(\s*\([^)]*\))?\s+", "", self.head)
         self.is_pub = self.head.startswith("pub ")
-        bare = re.sub(r"^((?:const|unsafe|async|final|extern(?:\s*\"[^\"]*\")?)\s+)*(?=fn\b)", "", bare)
+        bare = re.sub(r"^((?:const|unsafe|async|final|extern(?:\s*\"[^\"]*\")?)\s+)*(?=(fn|impl|trait)\b)", "", bare)
         found = re.match(r"(ghost use|ghost|use|mod|fn|struct|enum|trait|impl|const|static|type|macro_rules)\b\W*(\w*)", bare)
         self.kind, self.name = (found[1], found[2]) if found else ("", "")
 
@@ -141,7 +141,7 @@ class Source:
             if it.kind in ("use", "ghost use"):
                 for name, path in imports_of(it.head):
                     self.paths.setdefault(name, set()).add(path)
-            elif it.kind in ("impl", "trait") and it.block:
+            elif it.kind in ("impl", "trait", "mod") and it.block:
                 self.read_imports([*items_in(it.block)])
 
     def add(self, what, text, *words):
@@ -149,10 +149,13 @@ class Source:
         self.parts.append(Part(what, self.file, "\n".join([text, *paths]), *words))
 
     def read(self, item):
-        if item.is_test or item.kind in ("use", "ghost use", "mod", ""):
+        if item.is_test or item.kind in ("use", "ghost use"):
             if item.kind == "use" and item.is_pub:
                 for name, path in imports_of(item.head):
                     self.add(f"{name}, which it shows", path, name)
+        elif item.kind == "mod":
+            for it in items_in(item.block or ""):
+                self.read(it)
         elif item.kind == "fn":
             if item.is_pub and item.name in self.crate.items:
                 self.add(f"{item.name}, its signature or clauses", self.function(item), item.name)
@@ -160,7 +163,8 @@ class Source:
             self.read_impl(item)
         else:
             whole = f"{item.shown()} {one_line(item.block or '')}"
-            self.add(f"{item.name}, {'a' if item.kind[0] not in 'aeiou' else 'an'} {item.kind}", whole, item.name)
+            kind = item.kind or "item"
+            self.add(f"{item.name}, {'an' if kind[0] in 'aeiou' else 'a'} {kind}", whole, item.name)
 
     def function(self, item):
         """What others see of a function."""
@@ -275,6 +279,9 @@ class Crate:
     def read_logic(self, begun):
         """Keeps the definitions that can be seen, from those that src names and those of the modules that the table lists."""
         left, done = [*begun], set()
+        for lib in (self.modules[it] for it in ("specs.Lib", "proofs.Lib") if it in self.modules):
+            for name, path in lib.shows:
+                self.keep(Part(f"{name}, a module", lib.file, path, name))
         for part, names in (("specs", self.shown.modules), ("proofs", self.shown.proofs)):
             left += [(it, "*") for it in self.modules for name in names if it == f"{part}.{name}" or it.startswith(f"{part}.{name}.")]
         while left:
