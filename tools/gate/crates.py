@@ -13,13 +13,13 @@ def read(path):
 
 
 def crates_in(root):
-    """What crates.txt says: each crate, and what it stands on."""
+    """What crates.txt says: each crate, and what it uses."""
     lines = [it.split("#")[0].partition(":") for it in read(f"{root}/crates.txt").splitlines() if it.split("#")[0].strip()]
     return {name.split()[0]: below.split() for name, _, below in lines}
 
 
 def standing_on(crates, names):
-    """These crates and all that they stand on."""
+    """These crates and all below them."""
     found, left = set(), list(names)
     while left:
         name = left.pop()
@@ -30,12 +30,12 @@ def standing_on(crates, names):
 
 
 def above(crates, names):
-    """The crates that stand on one of these, without these."""
+    """The crates that use one of these, or use one that does, without these."""
     return {it for it in crates if it not in names and standing_on(crates, [it]) & set(names)}
 
 
 def in_order(crates, names=None):
-    """These crates, each after those that it stands on, and else in the order of crates.txt; all where none is named."""
+    """These crates, each after those that it uses, and else in the order of crates.txt; all of them if no names are given."""
     found = {}
 
     def add(name):
@@ -85,7 +85,7 @@ def total(minutes, names, *kinds):
 
 
 def longest(crates, minutes):
-    """The longest chain of checks of these crates, lowest first, and its minutes: each stands on the one before, so that its check waits for it."""
+    """The longest chain of checks of these crates, lowest first, and its minutes: each check waits for the one before."""
     best = {}
     for it in in_order(crates):
         below = max((best[dep] for dep in crates[it] if dep in crates), key=lambda chain: chain[0], default=(0, ()))

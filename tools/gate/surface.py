@@ -39,7 +39,7 @@ def one_line(text):
 
 
 def end_of(text, at):
-    """Where the bracket that opens at this place closes, behind it."""
+    """The place after the bracket that closes the one here."""
     depth = 0
     for found in re.finditer(r'"(?:\\.|[^"\\])*"|\'[{}]\'|[()\[\]{}]', text[at:]):
         if found[0] in OPENING or found[0] in CLOSING:
@@ -65,9 +65,9 @@ class Item:
         return one_line(" ".join([it for it in self.attributes if not UNSEEN.match(it)] + [self.head]))
 
 
-def is_body(before, head):
-    """Whether a brace behind this text opens a body: a clause's stands behind its word."""
-    return not re.search(r"\b(requires|ensures|decreases)(\s*\*)?(\s*\w+)?\s*$", before) if re.search(r"\bfn\b", head) else True
+def opens_body(before):
+    """Whether a brace after this text opens a body: that of a clause follows its word."""
+    return not (re.search(r"\bfn\b", before) and re.search(r"\b(requires|ensures|decreases)(\s*\*)?(\s*\w+)?\s*$", before))
 
 
 def items_in(text):
@@ -95,7 +95,7 @@ def items_in(text):
                 at = found.end()
                 continue
             end = end_of(text, found.start())
-            if found[0] == "{" and not ends_by_line and is_body(text[begun : found.start()], text[begun : found.start()]):
+            if found[0] == "{" and not ends_by_line and opens_body(text[begun : found.start()]):
                 head, block, at = text[begun : found.start()], text[found.start() + 1 : end - 1], end
                 break
             at = end
@@ -183,7 +183,8 @@ class Source:
             if it.kind == "fn" and (trait or it.is_pub):
                 self.add(f"{owner}::{it.name}, its signature or clauses", f"{head} {self.function(it)}", owner, it.name)
             elif it.kind != "fn":
-                self.add(f"{owner}::{it.name or it.kind}, a {it.kind} item{' of ' + trait.strip() if trait else ''}", f"{head} {it.shown()} {one_line(it.block or '')}", owner)
+                whole = f"{head} {it.shown()} {one_line(it.block or '')}"
+                self.add(f"{owner}::{it.name or it.kind}, a {it.kind} item{' of ' + trait.strip() if trait else ''}", whole, owner)
 
 
 class Module:
