@@ -20,9 +20,14 @@
 # make hammer  runs lives of stores that four threads share, each ended by a crash, for a minute or SECONDS
 # make gate    runs the gate, and writes the processor time of each crate into docs/GATE.md
 # make audit   tries the wrong bodies that the gate leaves out, those of crates/*/audit, or of the crates in CRATES
-# make docs    writes docs/CRATES.md and docs/STATEMENT.md anew, from crates.txt, the heads of the crates and the specs
+# make near    tries a change of the crates in CRATES, or of those that differ from the last commit, in minutes: their proof, their wrong bodies,
+#              tests and the program without proof. It ends with what the gate will take for them
+# make impact  says what other crates can see of what differs from the last commit, or from BASE, and which of their files name it
+# make warm    gives the libraries that the gate's `rt ci` has left the stamps by which `rt check` takes them; FROM=clone takes those of another clone
+# make docs    writes docs/CRATES.md and docs/STATEMENT.md anew, from crates.txt, the heads of the crates and the specs; and from docs/GATE.md's
+#              table the longest chain of checks there, and what a change costs into CONTRIBUTING.md
 #
-# Each of them but `make docs` and `make install` needs the Rattle toolchain, the command rt. Where the program ends with a status other than 0 make run fails,
+# Each of them but `make docs`, `make impact` and `make install` needs the Rattle toolchain, the command rt. Where the program ends with a status other than 0 make run fails,
 # and says which it was.
 
 SCRIPT ?= crates/fkv/stdin
@@ -33,18 +38,25 @@ SECONDS ?= 60
 # Where `make install` puts what is built.
 PREFIX ?= /usr/local
 DESTDIR ?=
-# The crates whose wrong bodies `make audit` tries, as CRATES="fkv_log fkv_ops"; all where nothing is said.
+# Another clone, whose libraries `make warm` takes where they are of the same sources.
+FROM ?=
+# The crates that `make near` tries, and whose wrong bodies `make audit` tries, as CRATES="fkv_log fkv_ops"; where nothing is said, those that
+# differ, and all.
 CRATES ?=
+# The commit that `make impact` compares with.
+BASE ?=
 
-.PHONY: run test fkv face face-proved install fkv_renew fkv_look rows renewing memory large bench bench-peers hammer gate audit docs toolchain
+.PHONY: run test fkv face face-proved install fkv_renew fkv_look rows renewing memory large bench bench-peers hammer gate near impact warm audit docs toolchain
 
 run: toolchain
 	@tools/script/run "$(SCRIPT)" $(WORDS)
 
 test: toolchain
 	tools/docs/make --check
+	tools/gate/chain --check
 	tools/names/check
 	@tools/script/check > /dev/null
+	@tools/gate/check > /dev/null
 	rt ci
 	@tools/rows/run crates/fkv/out/fkv > /dev/null
 	@tools/openings/run > /dev/null
@@ -114,8 +126,18 @@ hammer: toolchain
 gate: toolchain
 	tools/gate/measure
 
+near: toolchain
+	@tools/gate/near $(CRATES)
+
+impact:
+	@tools/gate/impact $(BASE)
+
+warm: toolchain
+	tools/gate/warm $(FROM)
+
 docs:
 	tools/docs/make
+	tools/gate/chain --write
 
 audit: toolchain
 	tools/audit/run $(CRATES)

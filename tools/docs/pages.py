@@ -17,8 +17,6 @@ RUN = {
 }
 # Pages that are made of the sources, blocks and all.
 MADE = {"docs/STATEMENT.md"}
-# Pages that other branches bring. Nothing is said of links to them until they are there.
-COMING = {"CONTRIBUTING.md"}
 
 FENCED = re.compile(r"^```([^\n]*)\n(.*?)^```$", re.M | re.S)
 
@@ -60,8 +58,6 @@ def link_faults(root, page, texts, anchors):
     """What is wrong with the links of a page. `anchors` are those of each page."""
     for path, anchor in links_in(texts[page]):
         target = os.path.normpath(os.path.join(os.path.dirname(page), path)) if path else page
-        if target in COMING and not os.path.exists(f"{root}/{target}"):
-            continue
         if not os.path.exists(f"{root}/{target}"):
             yield f"{page}: there is no {target}"
         elif anchor and target not in anchors:
