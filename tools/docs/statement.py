@@ -243,7 +243,7 @@ class Statement:
 
     def uses(self, it, linked):
         """A line that links what a definition or a type names of other modules, each name once in a module."""
-        is_near = lambda one: isinstance(one, Definition) and isinstance(it, Definition) and one.module is it.module
+        is_near = lambda one: isinstance(one, Definition) and isinstance(it, Definition) and one.module is it.module and one.key in self.titles
         named = [one for one in it.uses if not isinstance(one, Kit) and one.key not in linked and not is_near(one)]
         linked |= {one.key for one in named}
         shown = [(one.key, f"`{one.name}`") for one in named if one.key in self.titles]

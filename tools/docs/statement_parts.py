@@ -239,12 +239,12 @@ No law says what a commit's entry in the list means. If it took a log commit for
             ("law_threads", "lib.rt", "law_threads"),
             ("fkv_threads", "opening.rt", "open"),
             ("fkv_threads", "calls.rt", "run"),
-            ("fkv_threads", "calls.rt", "run_told"),
             ("fkv_threads", "many.rt", "run_ops"),
             ("fkv_threads", "keepers.rt", "turn"),
             ("fkv_threads", "passes.rt", "join"),
         ],
         "also": [
+            ("fkv_threads", "calls.rt", "run_told"),
             ("fkv_threads", "calls.rt", "run_op"),
             ("fkv_threads", "keepers.rt", "ask_commit"),
             ("fkv_threads", "pieces.rt", "start_turn"),
