@@ -16,8 +16,8 @@
  *     fkv_keeper    turns, in a loop: they write the log, read back what lies on the file alone, and carry commits on
  *
  * Without fkv_posix.h a program runs the keeper itself, in an event loop or over io_uring. fkv_image gives the bytes of a new store,
- * and fkv_open takes all bytes of a file. fkv_turn tells which read, write or sync of the file comes next, and fkv_told takes how it has
- * gone. fkv_posix.h's fkv_turn_file is such a loop, over a descriptor.
+ * and fkv_open takes all bytes of a file. fkv_turn says which read, write or sync of the file comes next, and fkv_io_done takes how that
+ * has gone. fkv_posix.h's fkv_turn_file is such a loop, over a descriptor.
  *
  * Threads. One call at a time on one handle. Different handles of one store may be used by different threads at the same time.
  * A handle may move to another thread if something orders the two threads' calls: a mutex, the start or the join of a thread, an
@@ -169,7 +169,8 @@ enum {
     FKV_LATCH = 3,     /* a commit holds its bucket */
     FKV_CONTENDED = 4, /* another session was quicker: poll at once */
     FKV_NO_ROOM = 5,   /* the next page isn't open yet: the keeper is behind */
-    FKV_FULL = 6       /* the index or the log is full */
+    FKV_FULL = 6       /* never told: an update that finds the index or the log full at its call is refused. One that finds it full at a
+                          later poll stays pending, and a poll gives no reason. fkv_settle of fkv_posix.h finds that out */
 };
 
 /* Kinds of a finished request. */
@@ -198,7 +199,7 @@ enum {
     FKV_COMMIT_RUNNING = 10, /* a commit: another one runs, or a turn is in hand */
     FKV_PENDING_LEFT = 11,   /* the session has pending requests: poll until none is left */
     FKV_ASLEEP = 12,         /* the session sleeps */
-    FKV_BROKEN = 13,         /* a call of the device has failed before: the store commits no more. Open it anew. Or the keeper was ended */
+    FKV_BROKEN = 13,         /* a call of the device has failed before: the store commits no more. Open it anew. Or the handle was ended */
     FKV_DEVICE = 14,         /* a call of the device has failed. Of fkv_posix.h: the system refused; errno says why */
     FKV_NOT_A_STORE = 15,    /* the bytes are no store's */
     FKV_DAMAGED = 16,        /* the bytes are a store's, and damaged */
@@ -209,11 +210,15 @@ enum {
     FKV_LOST_FULL = 21,      /* a log commit: more than eight ranges of lost records are in hand; a full commit clears them */
     FKV_HANDLE_OUT = 22,     /* a handle of the store is out still; of fkv_stop: the thread that it would end calls it */
     FKV_HANDLE_TAKEN = 23,   /* the handle was taken before; of fkv_start: the keeper's thread runs already */
-    FKV_ROOM_SMALL = 24      /* the caller's room is too small */
+    FKV_ROOM_SMALL = 24,     /* the caller's room is too small */
+    FKV_NO_KEEPER = 25       /* of fkv_posix.h: no keeper's thread runs. fkv_start comes first */
 };
 
 /* The name of the fault of a result, as "Asleep" of -12 or of 12; "Done" of 0, and "Unknown" of any other number. Never NULL. */
 const char *fkv_name_of(int32_t result);
+
+/* The same as a sentence for people: what was refused, and what helps. "Done." of 0, "Unknown fault." of any other number. Never NULL. */
+const char *fkv_text_of(int32_t result);
 
 /* ---- The store ------------------------------------------------------------------------------------------------------------ */
 
@@ -295,6 +300,10 @@ int32_t fkv_get(fkv_session *session, uint64_t key, uint64_t *value);
  * Updates of a key. FKV_DONE, or FKV_PENDING: it is accepted, and takes effect at a later poll. Either way `told->serial` is its
  * serial. -FKV_ASLEEP, -FKV_VALUE_RESERVED, -FKV_PENDING_FULL, -FKV_SERIALS_SPENT, -FKV_INDEX_FULL, -FKV_LOG_FULL.
  *
+ * A session's pending updates take effect in any order. If it updates the same key again meanwhile, the later update may take effect
+ * first, and the earlier one then wins. A read doesn't see what is pending. So poll until nothing is left before the next call of that
+ * key; fkv_put, fkv_increment, fkv_raise and fkv_remove of fkv_posix.h do so.
+ *
  *   fkv_upsert   gives the key this value
  *   fkv_add      adds to its value, up to 2^64 - 2; a key without a value gets the number
  *   fkv_max      raises its value to the number; a key without a value gets the number
@@ -343,8 +352,8 @@ int32_t fkv_sleep(fkv_session *session);
 int32_t fkv_wake(fkv_session *session, fkv_seen *seen);
 
 /*
- * The serial up to which this session's updates are in a commit that is whole in the file: a crash from now on keeps them. 0;
- * -FKV_ASLEEP.
+ * The serial up to which this session's updates are in a commit that is whole in the file: a crash from now on keeps them. It is told of a
+ * session that sleeps too. 0; -FKV_NO_SESSION after fkv_end_session.
  */
 int32_t fkv_durable(fkv_session *session, uint64_t *serial);
 
@@ -372,13 +381,13 @@ int32_t fkv_commit(fkv_keeper *keeper, uint32_t log_only, uint64_t *number);
 /*
  * Begins a turn, or asks again what the turn in hand has posted. The answer says what the caller does next:
  *
- *   FKV_READ    reads `length` bytes (24) of the file at `place`, with zeros past its end, and tells them by fkv_told
+ *   FKV_READ    reads `length` bytes (24) of the file at `place`, with zeros past its end, and gives them to fkv_io_done
  *   FKV_WRITE   writes the `length` bytes at `bytes` to `place`, all of them. It may lie past the end of the file, which then grows
  *   FKV_SYNC    syncs the file (fdatasync)
  *   FKV_OVER    the turn is over. If it has finished a commit, `finished` is 1, `number` is its number, and `points` has each
  *               session's last serial that it keeps, as many as fit into `room`. `points` isn't NULL, though that may be 0
  *
- * A refusal ends the turn: -FKV_DEVICE (what was told has failed), -FKV_BROKEN (an earlier call has failed: the keeper is dead for
+ * A refusal ends the turn: -FKV_DEVICE (the call of the file has failed), -FKV_BROKEN (an earlier call has failed: the keeper is dead for
  * good), -FKV_MEMORY (the next turn tries again), -FKV_EPOCHS_SPENT.
  *
  * That a read tells what was written last, and that a sync tells the truth, is what the library rests on. Nobody else writes to
@@ -387,11 +396,17 @@ int32_t fkv_commit(fkv_keeper *keeper, uint32_t log_only, uint64_t *number);
 int32_t fkv_turn(fkv_keeper *keeper, fkv_turned *turned, uint64_t *points, size_t room);
 
 /*
- * Tells how the posted call has gone, and goes on with the turn, as fkv_turn does. `failed` isn't 0 where it has failed. After a
+ * Takes how the posted call has gone, and goes on with the turn, as fkv_turn does. `failed` isn't 0 where it has failed. After a
  * read `bytes` are what was read, `size` of them, and else `size` is 0. `bytes` isn't NULL, and `points` neither.
+ *
+ * fkv_told is the same call by its older name.
  */
 int32_t fkv_told(fkv_keeper *keeper, uint32_t failed, const uint8_t *bytes, size_t size, fkv_turned *turned, uint64_t *points,
                  size_t room);
+static inline int32_t fkv_io_done(fkv_keeper *keeper, uint32_t failed, const uint8_t *bytes, size_t size, fkv_turned *turned,
+                                  uint64_t *points, size_t room) {
+    return fkv_told(keeper, failed, bytes, size, turned, points, room);
+}
 
 /* Gives the handle up. What a commit in hand has not finished is lost. After it, fkv_free_keeper. */
 void fkv_end_keeper(fkv_keeper *keeper);

@@ -1,44 +1,162 @@
-/* An open store in a file, as the two halves of fkv_posix.h share it. No header of users. */
+/* An open store in a file, as the parts of fkv_posix.h share it. No header of users. */
 #ifndef FKV_FILE_H
 #define FKV_FILE_H
 
 #include "fkv_posix.h"
+#include "fkv_time.h"
 
 #include <pthread.h>
+#include <stdatomic.h>
 #include <stdbool.h>
+
+/* What is noted of a joined session. It is its thread's, but for `begun`. */
+struct seat {
+    uint32_t ticks;      /* since the last refresh */
+    uint32_t phase;      /* that the last refresh has seen */
+    atomic_ullong begun; /* how many commits had begun by the last refresh that this library made */
+    char apart[48];      /* each seat has a cache line of its own */
+};
+
+/* A turn of the keeper: what it has done so far. */
+struct turn {
+    fkv_turned turned;
+    uint64_t points[FKV_MOST_SESSIONS];
+    uint64_t written; /* bytes */
+    uint64_t end;     /* the furthest place that was written */
+    uint64_t reads;   /* records that were read back */
+    int why;          /* errno of the call of the file that has failed */
+    bool has_called;  /* it has called the file, so the next turn may have something to do */
+};
+
+/* How long a session waits already, with nothing of it finished. */
+struct patience {
+    struct timespec begun;
+    uint64_t turns; /* how many had been made by then */
+    uint32_t of;    /* a bit for each session that waits */
+};
 
 struct fkv_file {
     int fd;
     fkv_shape shape;
     fkv_store store;
-    fkv_keeper keeper; /* the keeper's thread's while one runs */
+    fkv_keeper keeper; /* of whoever has the turn */
     /* A joined session is its thread's, an abandoned one the keeper's thread's, and the others are whoever's has the lock. */
     fkv_session sessions[FKV_MOST_SESSIONS];
+    struct seat seats[FKV_MOST_SESSIONS];
     /* Each call of a session reads its word, and what follows is written at each turn: not on one cache line. */
     char apart[64];
 
-    pthread_mutex_t lock; /* of all that follows */
-    pthread_cond_t work;  /* the keeper's thread waits for it: something is asked */
-    pthread_cond_t news;  /* others wait for it: a commit has ended, or the thread */
-    uint32_t joined;      /* a bit for each session that is joined */
-    uint32_t abandoned;   /* and for each that was abandoned, and has requests pending */
-    bool was_joined;      /* some session was, since the last commit began */
-    uint64_t number;      /* the last finished commit, and its points */
+    /* These are written under the lock, and read without it too. */
+    atomic_bool turning;     /* somebody has the turn: makes one, or begins a commit */
+    atomic_bool in_hand;     /* a commit has begun and isn't finished */
+    atomic_int ends;         /* what fkv_tick answers */
+    atomic_int why;          /* errno of a fault that is -FKV_DEVICE. It is written before `ends` */
+    atomic_ullong begun;     /* how many commits have begun since the opening */
+
+    pthread_mutex_t lock;  /* of all that follows */
+    pthread_cond_t work;   /* the keeper's thread waits for it: something is asked */
+    pthread_cond_t over;   /* who wants the turn and can't do without waits for it: a turn is over */
+    pthread_cond_t served; /* sessions wait for it: a turn has called the file */
+    pthread_cond_t news;   /* others wait for it: a commit has ended, or the thread */
+    bool is_wanted;        /* somebody waits for the turn, so nobody else takes it before */
+    uint32_t waiting;      /* how many sessions wait to be served */
+    uint32_t joined;       /* a bit for each session that is joined */
+    uint32_t abandoned;    /* and for each that was abandoned, and has requests pending */
+    bool was_joined;       /* some session was, since the last commit began */
+    uint64_t number;       /* the last finished commit, and its points */
     uint64_t points[FKV_MOST_SESSIONS];
 
     pthread_t thread;
-    uint64_t run; /* how many threads were started: who ends one ends no later one */
-    bool runs;    /* the thread itself resets it as it ends */
-    bool stops;   /* it is to end */
-    bool nudged;
-    bool in_hand;      /* a commit has begun and isn't finished */
+    uint64_t run;      /* how many threads were started: who ends one ends no later one */
+    bool runs;         /* the thread itself resets it as it ends */
+    bool stops;        /* it is to end */
+    bool nudged;       /* a turn is wanted at once */
+    bool is_stirred;   /* something was asked or done since the keeper's last turn */
     uint64_t asked;    /* the last ticket that was given */
     uint64_t covers;   /* tickets up to this one are served by the commit in hand */
     uint64_t finished; /* and up to this one they are served */
     int32_t fault;     /* 0 while there are turns and commits */
-    int why;           /* errno of a fault that is -FKV_DEVICE */
+    int32_t full;      /* -FKV_LOG_FULL once the log is known to be full */
+    bool index_full;   /* an update has found no room in the index */
+    int32_t stuck;     /* an update waits for ever: -FKV_LOG_FULL or -FKV_INDEX_FULL. So no commit is finished any more */
     fkv_keeping keeping;
+
+    uint64_t turns;        /* that have ended well, since the opening */
+    uint64_t helped;       /* turns that sessions' threads made */
+    uint64_t cold_reads;   /* records that were read back */
+    uint64_t log_end;      /* the furthest place of the file that was written */
+    uint64_t commit_us;    /* how long the last finished commit took */
+    uint64_t commit_bytes; /* and what it has written */
+    struct timespec commit_begun;
 };
+
+/* The bytes of the file before the log's record of address 0, which there is none of. */
+uint64_t fkv_log_place(const fkv_shape *shape);
+
+/* ---- Of turns. The lock is held, but for the next two. -------------------------------------------------------------------------- */
+
+typedef void tell_turn_fn(void *user, const struct turn *turn);
+
+/* Makes a turn, which the caller has, with its calls of the file. `tell`, if it isn't NULL, hears of each. FKV_OVER or a refusal. */
+int32_t fkv_make_turn(fkv_file *file, struct turn *turn, tell_turn_fn *tell, void *user);
+
+/*
+ * A turn in the thread of a session that waits. 1 where it was made; 0 where another thread has the turn, or has to make it; why nobody
+ * serves requests.
+ */
+int32_t fkv_help(fkv_file *file);
+
+/* Takes the turn, and waits for it. */
+void fkv_take_turn(fkv_file *file);
+
+/* Gives it back without having made one. */
+void fkv_give_turn(fkv_file *file);
+
+/* Notes what a turn has come to, and gives it back. */
+void fkv_end_turn(fkv_file *file, const struct turn *turn, int32_t result);
+
+/* ---- Of what a store has come to. The lock is held. ----------------------------------------------------------------------------- */
+
+/* Where commits are spent turns go on; where turns are refused they are refused for good. */
+bool fkv_has_turns(const fkv_file *file);
+
+/* From now on there are no commits, or no turns either, and nobody waits for one. The commit in hand is never finished. */
+void fkv_note_fault(fkv_file *file, int32_t fault, int why);
+
+/* The log has no room and will have none, or an update has found none in the index. */
+void fkv_note_full(fkv_file *file, int32_t fault);
+
+/* Finds out anew what fkv_tick answers. */
+void fkv_find_end(fkv_file *file);
+
+/* The wait begins, or begins anew: something was finished. */
+void fkv_begin_patience(const fkv_file *file, struct patience *its, uint32_t of);
+
+/* Whether what waits will wait for ever: -FKV_LOG_FULL or -FKV_INDEX_FULL, or 0. */
+int32_t fkv_never_room(const fkv_file *file, const struct patience *its);
+
+/* An update waits for ever, for this fault. 0 says nothing. */
+void fkv_note_stuck(fkv_file *file, int32_t fault);
+
+/* Why nobody serves a commit, or 0. */
+int32_t fkv_refusal(const fkv_file *file);
+
+/* Why nobody serves requests, or 0: they are served too where commits alone are spent. */
+int32_t fkv_unserved(const fkv_file *file);
+
+/* ---- The lock isn't held. ------------------------------------------------------------------------------------------------------- */
+
+/*
+ * A result of a call that another thread may have made, with that call's errno: each thread has its own. Who has seen -FKV_DEVICE under
+ * the lock sees this errno too, which stays.
+ */
+int32_t fkv_with_errno(const fkv_file *file, int32_t result);
+
+/* Polls until nothing is pending, up to a time if there is one. If requests are left then, the answer is FKV_PENDING. */
+int32_t fkv_settle_until(fkv_file *file, fkv_session *session, const struct timespec *until, fkv_finished_fn *told, void *user);
+
+/* Refreshes a session, and notes what it has seen. */
+int32_t fkv_refresh_seat(fkv_file *file, fkv_session *session);
 
 /* Makes turns until nothing of what was abandoned is pending, or that can't be, or a second has passed. No thread runs, and none begins. */
 void fkv_end_abandoned(fkv_file *file);

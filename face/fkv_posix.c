@@ -21,6 +21,9 @@ enum { PIECE = 1 << 20 };
 /* A name that is free is sought so many times. It goes by the time, so nearly always the first is. */
 enum { MOST_NAMES = 100 };
 
+/* Bytes of the file before the index, and of a slot of the index: it has two places, of 16 bytes each. */
+enum { INDEX_PLACE = 1536, SLOT_SIZE = 32, BUCKET_SLOTS = 7 };
+
 /* ---- Calls of the file ---------------------------------------------------------------------------------------------------- */
 
 static bool fits_file(uint64_t place, uint64_t length) {
@@ -78,7 +81,7 @@ int32_t fkv_turn_file(int fd, fkv_keeper *keeper, fkv_turned *turned, uint64_t *
     while (call > FKV_OVER) {
         int failed = fkv_call_file(fd, call, turned, into);
         if (!failed && call == FKV_WRITE && written) *written += turned->length;
-        call = fkv_told(keeper, failed != 0, into, call == FKV_READ ? FKV_READ_SIZE : 0, turned, points, room);
+        call = fkv_io_done(keeper, failed != 0, into, call == FKV_READ ? FKV_READ_SIZE : 0, turned, points, room);
     }
     return call;
 }
@@ -275,6 +278,10 @@ static int32_t open_store(fkv_file *file, const char *path, const fkv_how *how) 
     return result;
 }
 
+uint64_t fkv_log_place(const fkv_shape *shape) {
+    return INDEX_PLACE + SLOT_SIZE * BUCKET_SLOTS * ((UINT64_C(1) << shape->bucket_bits) + shape->overflow);
+}
+
 /* Takes all handles of an open store, and puts its sessions to sleep. */
 static int32_t take_handles(fkv_file *file) {
     int32_t result = fkv_take_keeper(&file->store, &file->keeper.at);
@@ -284,6 +291,12 @@ static int32_t take_handles(fkv_file *file) {
         if (result == 0) fkv_sleep(&file->sessions[i]);
     }
     return result;
+}
+
+enum { CONDITIONS = 4 };
+
+static void conditions_of(fkv_file *file, pthread_cond_t *all[CONDITIONS]) {
+    all[0] = &file->work, all[1] = &file->over, all[2] = &file->served, all[3] = &file->news;
 }
 
 /*
@@ -305,8 +318,9 @@ static void give_up(fkv_file *file) {
         flock(file->fd, LOCK_UN);
         close(file->fd);
     }
-    pthread_cond_destroy(&file->news);
-    pthread_cond_destroy(&file->work);
+    pthread_cond_t *all[CONDITIONS];
+    conditions_of(file, all);
+    for (int i = 0; i < CONDITIONS; i++) pthread_cond_destroy(all[i]);
     pthread_mutex_destroy(&file->lock);
     free(file);
     errno = why;
@@ -315,19 +329,22 @@ static void give_up(fkv_file *file) {
 /* A file that isn't open yet. NULL where memory was refused. */
 static fkv_file *new_file(void) {
     fkv_file *file = calloc(1, sizeof *file);
+    pthread_condattr_t by_clock;
+    pthread_cond_t *all[CONDITIONS];
+    int made = 0;
     if (!file) return NULL;
     file->fd = -1;
-    pthread_condattr_t by_clock;
+    atomic_store(&file->ends, -FKV_NO_KEEPER);
+    conditions_of(file, all);
     if (pthread_condattr_init(&by_clock)) goto no_clock;
     pthread_condattr_setclock(&by_clock, CLOCK_MONOTONIC);
     if (pthread_mutex_init(&file->lock, NULL)) goto no_lock;
-    if (pthread_cond_init(&file->news, &by_clock)) goto no_news;
-    if (pthread_cond_init(&file->work, &by_clock)) goto no_work;
+    while (made < CONDITIONS && pthread_cond_init(all[made], &by_clock) == 0) made++;
+    if (made < CONDITIONS) goto no_condition;
     pthread_condattr_destroy(&by_clock);
     return file;
-no_work:
-    pthread_cond_destroy(&file->news);
-no_news:
+no_condition:
+    while (made > 0) pthread_cond_destroy(all[--made]);
     pthread_mutex_destroy(&file->lock);
 no_lock:
     pthread_condattr_destroy(&by_clock);
@@ -347,21 +364,30 @@ int32_t fkv_open_file(const char *path, const fkv_how *how, fkv_file **out) {
         give_up(file);
         return result;
     }
+    off_t end = lseek(file->fd, 0, SEEK_END);
+    file->log_end = end > 0 ? (uint64_t)end : 0;
     *out = file;
     return 0;
 }
 
-int32_t fkv_close_file(fkv_file *file) {
+/* Ends the keeper's thread, and closes the file behind that. The answer is that of the end, but for one that leaves the file open. */
+static int32_t close_behind(fkv_file *file, uint32_t how) {
     pthread_mutex_lock(&file->lock);
     bool is_out = file->joined != 0;
     pthread_mutex_unlock(&file->lock);
     if (is_out) return -FKV_HANDLE_OUT;
-    int32_t result = fkv_stop(file, 0);
-    if (result < 0) return result;
+    int32_t result = fkv_stop(file, how);
+    if (result == -FKV_HANDLE_OUT) return result;
+    int why = errno;
     fkv_end_abandoned(file);
     give_up(file);
-    return 0;
+    errno = why;
+    return result;
 }
+
+int32_t fkv_close_file(fkv_file *file) { return close_behind(file, FKV_STOP_KEEP); }
+
+int32_t fkv_drop_file(fkv_file *file) { return close_behind(file, FKV_STOP_NOW); }
 
 fkv_shape fkv_shape_of(const fkv_file *file) {
     return file->shape;
@@ -405,7 +431,10 @@ int32_t fkv_join(fkv_file *file, uint64_t number, fkv_session **out) {
     if (result == 0) result = fkv_wake(&file->sessions[found], &seen);
     if (result == 0) {
         file->joined |= UINT32_C(1) << found;
-        file->was_joined = true;
+        file->was_joined = file->nudged = true;
+        file->seats[found].ticks = 0;
+        file->seats[found].phase = (uint32_t)seen.phase;
+        atomic_store(&file->seats[found].begun, atomic_load(&file->begun));
         *out = &file->sessions[found];
         pthread_cond_signal(&file->work);
     }

@@ -2,19 +2,28 @@
  * fkv_posix.h: a store in a file, for Linux. It makes the calls that fkv.h leaves to its caller: of the file, and in a thread of its
  * own the keeper's turns and commits.
  *
- *     fkv_make_file     makes the file of a new store
- *     fkv_open_file     opens it, for this process alone
- *     fkv_start         starts the keeper's thread
- *     fkv_join          gives a thread a session; fkv.h's calls go by it
- *     fkv_wait_commit   waits until a commit is finished
- *     fkv_leave, fkv_stop, fkv_close_file
+ *     fkv_open_or_make                       opens the store in a file, and makes it for what you wish if there is none
+ *     fkv_start                              starts the keeper's thread
+ *     fkv_join                               gives a thread a session
+ *     fkv_put, fkv_increment, fkv_raise,     calls of a key that wait where they have to
+ *     fkv_remove, fkv_read
+ *     fkv_tick                               between calls: lets the store go on, and says whether it does
+ *     fkv_commit_and_wait                    all that the session has done survives a crash from then on
+ *     fkv_leave, fkv_close_file
  *
- * Threads. The calls that take an fkv_file may be called by any thread at any time, up to fkv_close_file, which is the last. One call
- * at a time on one session. It may move to another thread, as a handle of fkv.h may.
+ * Threads. The calls that take an fkv_file may be called by any thread at any time, up to fkv_close_file or fkv_drop_file, which is the
+ * last. One call at a time on one session. It may move to another thread, as a handle of fkv.h may. A session that waits makes turns of
+ * the keeper in its own thread, with their calls of the file, while no commit is in hand.
  *
  * Results are those of fkv.h, and so is what it says of pointers. A call that waits may have done a part of its work before it is refused.
  * Where a result is -FKV_DEVICE, errno says what the system has refused: ENOENT no such file, EEXIST there is one already, EWOULDBLOCK
- * it is open already, ENOSPC no room. That holds too if the keeper's thread made the call.
+ * it is open already, ENOSPC no room. That holds too if another thread made the call.
+ *
+ * Who waits is refused by the keeper's fault (fkv_keeper_fault) where that can't go on, by -FKV_NO_KEEPER where fkv_start was forgotten
+ * or fkv_stop came, and by -FKV_LOG_FULL or -FKV_INDEX_FULL where an update will never find room. The last two are found out within
+ * about a second, by what the library sees from outside: nothing of the session was finished for so long, and either the log is known
+ * to be full or its last pages are in use, or no other session is awake. The update stays pending then, and no commit finishes past it.
+ * Renew the store (fkv_renew).
  */
 #ifndef FKV_POSIX_H
 #define FKV_POSIX_H
@@ -45,6 +54,42 @@ typedef void fkv_committed_fn(void *user, uint64_t number, const uint64_t *point
 /* A request that was pending and is finished. */
 typedef void fkv_finished_fn(void *user, const fkv_finished *finished);
 
+/* There are no commits any more, or no room: what fkv_tick answers from now on. */
+typedef void fkv_stopped_fn(void *user, int32_t fault);
+
+/* ---- Sizes ---------------------------------------------------------------------------------------------------------------- */
+
+/* What a program wants of a new store. A 0 stands for the default. */
+typedef struct {
+    uint64_t keys;                   /* keys that it will have; 65,536 */
+    uint64_t sessions;               /* threads that use it at once, at most 32; 8. A turn takes 0.1 microseconds for each */
+    uint64_t memory_bytes;           /* memory that it may take, at most; as much as its keys want, some 250 bytes for each */
+    uint64_t updates_between_commits; /* keys that are updated between two commits; all of them */
+    uint64_t log_bytes;              /* not used yet: kept for how long the log may grow */
+} fkv_wish;
+
+/* What a store of a shape takes, and holds. */
+typedef struct {
+    uint64_t memory_bytes;  /* while it is open, with the copy that a full commit makes */
+    uint64_t opening_bytes; /* at the height of an opening of a store with so many keys; beside it the file's bytes, unless they are mapped */
+    uint64_t file_bytes;    /* of its file, at most. It grows as the log does: 24 bytes a record */
+    uint64_t keys;          /* that fit, all but surely: by buckets, overflow buckets, and one spare of these for each session but one */
+    uint64_t records;       /* that the log takes in all the store's life */
+} fkv_size;
+
+/*
+ * The shape of a store for what a program wants. `wish` may be NULL.
+ *
+ * Two rules make a store fast. Memory holds all records between two touches of a key: a key's first update after a commit appends a record,
+ * so a key that is touched at random wants memory for several records of each key. With less memory each touch reads the file first. And
+ * the index has buckets for all keys: seven fit each, and the overflow buckets take the rest.
+ * 0; -FKV_BAD_SHAPE: there are more keys or sessions than any store has, or memory is too small for the index.
+ */
+int32_t fkv_shape_for(const fkv_wish *wish, fkv_shape *shape);
+
+/* What a store of this shape takes, and holds. 0; -FKV_BAD_SHAPE, -FKV_MEMORY. */
+int32_t fkv_size_of(const fkv_shape *shape, fkv_size *size);
+
 /* ---- The file ------------------------------------------------------------------------------------------------------------- */
 
 /*
@@ -66,6 +111,12 @@ typedef struct {
 } fkv_how;
 
 /*
+ * Opens the store in this file, or makes the file first if there is none. `wish` says how large it is to be, and may be NULL. A store that
+ * is there keeps its own shape. The refusals are those of fkv_open_file, fkv_shape_for and fkv_make_file.
+ */
+int32_t fkv_open_or_make(const char *path, const fkv_wish *wish, fkv_file **out);
+
+/*
  * Opens the store in this file. All sessions sleep. No commit is made before fkv_start.
  *
  * The file is locked (flock), so that neither this process nor another one opens it meanwhile. The lock ends with fkv_close_file, or with
@@ -81,12 +132,16 @@ typedef struct {
 int32_t fkv_open_file(const char *path, const fkv_how *how, fkv_file **out);
 
 /*
- * Ends the keeper's thread, if one runs, and closes the file. What no commit has kept is lost: fkv_stop makes a last one. If an
- * abandoned session has requests pending, it takes up to a second. Those that can't be finished hold the store's memory until the
- * process ends: a call of the file has failed, or the index or the log is full.
- * 0; -FKV_HANDLE_OUT while a session is joined, and in a hook of the keeper's thread. Then the file stays open.
+ * Closes the file. If the keeper's thread runs, and a session has done something that no commit keeps, a last commit is made first. Then
+ * the thread ends. Without the thread, what no commit has kept is lost. Requests of an abandoned session that can't be finished hold the
+ * store's memory until the process ends: a call of the file has failed, or the index or the log is full. Then it takes a second or two.
+ * 0; the fault of the last commit (-FKV_DEVICE, -FKV_VERSIONS_SPENT, -FKV_LOG_FULL ..). The file is closed then too.
+ * -FKV_HANDLE_OUT while a session is joined, and in a hook of the keeper's thread. Then the file stays open.
  */
 int32_t fkv_close_file(fkv_file *file);
+
+/* Closes the file without a last commit: what no commit has kept is lost. 0; -FKV_HANDLE_OUT as of fkv_close_file. */
+int32_t fkv_drop_file(fkv_file *file);
 
 /* The store's shape. */
 fkv_shape fkv_shape_of(const fkv_file *file);
@@ -117,10 +172,9 @@ int32_t fkv_leave(fkv_file *file, fkv_session *session);
 void fkv_abandon(fkv_file *file, fkv_session *session);
 
 /*
- * Polls a session until none of its requests is pending, with a refresh between two polls, and tells each that is finished; `told` may be
- * NULL. It wants the keeper's thread. An update that finds the index or the log full (FKV_FULL) may wait for ever, and so does this call:
- * fkv_settle_for doesn't.
- * 0; -FKV_ASLEEP; the fault of the keeper's thread where that can't go on (fkv_keeper_fault); -FKV_BROKEN where it doesn't run.
+ * Polls a session until none of its requests is pending, with refreshes between, and tells each that is finished; `told` may be NULL. Its
+ * thread makes the turns of the keeper that it waits for.
+ * 0; -FKV_ASLEEP; the refusals of who waits, see above. What is left stays pending then.
  */
 int32_t fkv_settle(fkv_file *file, fkv_session *session, fkv_finished_fn *told, void *user);
 
@@ -131,11 +185,51 @@ int32_t fkv_settle(fkv_file *file, fkv_session *session, fkv_finished_fn *told, 
 int32_t fkv_settle_for(fkv_file *file, fkv_session *session, uint32_t ms, fkv_finished_fn *told, void *user);
 
 /*
- * Reads a key, and waits where it lies in the file alone: FKV_FOUND (`*value`) or FKV_NONE. It settles the session then, so what else
- * of its requests was pending is finished, and isn't told. It may wait for ever as fkv_settle does, for an update of this session. The
- * refusals are those of fkv_get and fkv_settle.
+ * Lets the store go on: call it between a session's calls, as often as you like. Each 64th tick, or each 8th while a commit waits for the
+ * session, polls and refreshes it. The others take a few instructions. What a poll of it has finished isn't told.
+ * 0 while commits go on; -FKV_ASLEEP; and why none is finished any more: the keeper's fault, -FKV_VERSIONS_SPENT once the store has taken
+ * its last commit, -FKV_LOG_FULL once an update has found the log full, -FKV_NO_KEEPER. Calls of the session go on meanwhile, as far as
+ * they can, and what they do is lost with the process.
+ */
+int32_t fkv_tick(fkv_file *file, fkv_session *session);
+
+/* ---- Calls of a key that wait ----------------------------------------------------------------------------------------------- */
+
+/*
+ * These do what fkv_get and the updates of fkv.h do. Where one of those would be pending, these settle the session at once. So a session
+ * that makes no other calls reads what it wrote, and its updates take effect in their order. Without waiting they take no longer. They
+ * want the keeper's thread, as fkv_settle does.
+ *
+ * Requests that the session's other calls have left pending may take effect later than these calls, and before they return: then a key
+ * may end with the earlier value. What was pending is finished by a call that waits, and isn't told.
+ *
+ * The updates answer FKV_DONE. `told` may be NULL; `told->serial` is 0 if the call was refused before it was accepted, and else its
+ * serial. If waiting is refused, the update is accepted and stays pending.
+ * The refusals are those of fkv_upsert but -FKV_PENDING_FULL, and those of fkv_settle.
+ *
+ *   fkv_put         gives the key this value
+ *   fkv_increment   adds to its value, up to 2^64 - 2; a key without a value gets the number. `told->value` is what it has left
+ *   fkv_raise       raises its value to the number; a key without a value gets the number. `told->value` is what it has left
+ *   fkv_remove      takes its value away
+ */
+int32_t fkv_put(fkv_file *file, fkv_session *session, uint64_t key, uint64_t value, fkv_update *told);
+int32_t fkv_increment(fkv_file *file, fkv_session *session, uint64_t key, uint64_t number, fkv_update *told);
+int32_t fkv_raise(fkv_file *file, fkv_session *session, uint64_t key, uint64_t number, fkv_update *told);
+int32_t fkv_remove(fkv_file *file, fkv_session *session, uint64_t key, fkv_update *told);
+
+/*
+ * Reads a key, and waits where its record lies in the file alone: FKV_FOUND (`*value`) or FKV_NONE.
+ * The refusals are those of fkv_get but -FKV_PENDING_FULL, and those of fkv_settle. If waiting is refused, the read stays pending: nothing
+ * takes a request back. It is one of the 64 until a poll or the next call that waits finishes it, and fkv_abandon leaves it to the keeper.
  */
 int32_t fkv_read(fkv_file *file, fkv_session *session, uint64_t key, uint64_t *value);
+
+/*
+ * fkv_read of `count` keys: the answers stand in their places in `told`, which has `room` of them. A few keys are asked for at once.
+ * 0; -FKV_ROOM_SMALL where `room` is below `count`, and the refusals of fkv_settle. After these a `result` of FKV_PENDING is that of a read
+ * that stays so, and the places behind weren't read.
+ */
+int32_t fkv_read_many(fkv_file *file, fkv_session *session, const uint64_t *keys, size_t count, fkv_each_read *told, size_t room);
 
 /* ---- The keeper's thread -------------------------------------------------------------------------------------------------- */
 
@@ -146,28 +240,38 @@ typedef struct {
     uint32_t turn_us;            /* microseconds between two turns when nothing is to be done; 0: 500. See below */
     fkv_committed_fn *committed; /* called after each finished commit, or NULL */
     fkv_progress_fn *progress;   /* called as a commit begins and after each of its calls of the file, or NULL */
-    void *user;                  /* handed to both hooks. The keeper's thread calls them: make them short, and call no fkv_file there */
+    void *user;                  /* handed to all hooks. The keeper's thread calls them: make them short, and call no fkv_file there */
+    fkv_stopped_fn *stopped;     /* called once, as commits end for good or the log is found full, or NULL. See fkv_tick */
 } fkv_keeping;
 
 /*
- * Starts the keeper's thread. `turn_us` is how long it rests while a session is joined and no commit is in hand. While none is
- * joined it rests 100 milliseconds, or `turn_us` if that is longer. In a commit it rests at most 50 microseconds, and 20 as that begins.
+ * Starts the keeper's thread. `turn_us` is how long it rests while a session is joined and no commit is in hand. Where it is 0, and nothing
+ * happens for 30 milliseconds, rests grow to 20 milliseconds. Whoever waits by a call of this header makes his turns himself, or has them
+ * made; who polls by himself calls fkv_nudge. While no session is joined it rests 100 milliseconds, or `turn_us` if that is longer. In a
+ * commit it rests at most 50 microseconds, and 20 as that begins.
  * 0; -FKV_HANDLE_TAKEN where it runs already, -FKV_DEVICE (errno) where the system starts none.
  */
 int32_t fkv_start(fkv_file *file, const fkv_keeping *keeping);
 
+/* Whether a last commit is made as the keeper's thread ends. */
+enum {
+    FKV_STOP_NOW = 0,    /* none */
+    FKV_STOP_COMMIT = 1, /* one, in any case */
+    FKV_STOP_KEEP = 2    /* one, if a session has done something that no commit keeps, and none is joined */
+};
+
 /*
- * Ends the keeper's thread, after a last commit if `with_commit` isn't 0. Nothing is committed after it, until the next fkv_start. A
+ * Ends the keeper's thread, after a last commit if `with_commit` says so. Nothing is committed after it, until the next fkv_start. A
  * thread that another caller starts meanwhile goes on. Sessions that are joined have to refresh meanwhile, as for each commit. With a
  * last commit it may wait for ever as fkv_commit_and_wait does.
- * 0; the fault of the last commit, or -FKV_BROKEN where one is wanted and no thread runs. The thread has ended then too.
+ * 0; the fault of the last commit, or -FKV_NO_KEEPER where one is wanted and no thread runs. The thread has ended then too.
  * -FKV_HANDLE_OUT in a hook of that thread, which goes on.
  */
 int32_t fkv_stop(fkv_file *file, uint32_t with_commit);
 
 /*
  * Asks for a commit that begins from now on, and tells the ticket by which fkv_wait_commit waits for it.
- * 0; the keeper's fault (fkv_keeper_fault); -FKV_BROKEN: no thread runs.
+ * 0; the keeper's fault (fkv_keeper_fault); -FKV_NO_KEEPER.
  */
 int32_t fkv_ask_commit(fkv_file *file, uint64_t *ticket);
 
@@ -175,7 +279,8 @@ int32_t fkv_ask_commit(fkv_file *file, uint64_t *ticket);
  * Waits until that commit is finished: what sessions had done when it was asked for survives a crash. `ticket` is of this file.
  * `session` is that of the calling thread. It sleeps meanwhile, so that the commit doesn't wait for its refresh. It is NULL if the thread
  * has none, or its session sleeps. The call may wait for ever as fkv_commit_and_wait does.
- * 0; -FKV_PENDING_LEFT: fkv_settle comes first; the fault of the commit; -FKV_BROKEN where no thread runs any more.
+ * 0; -FKV_PENDING_LEFT: fkv_settle comes first; the fault of the commit; -FKV_NO_KEEPER where no thread runs any more; -FKV_LOG_FULL or
+ * -FKV_INDEX_FULL where an update of some session was found to wait for ever, and the commit isn't finished within a second.
  */
 int32_t fkv_wait_commit(fkv_file *file, uint64_t ticket, fkv_session *session);
 
@@ -189,12 +294,11 @@ int32_t fkv_wait_commit_for(fkv_file *file, uint64_t ticket, fkv_session *sessio
  * Settles the session, asks for a commit, and waits until it is finished: all that the session has done survives a crash. What was
  * pending isn't told. `session` may be NULL. The refusals are those of fkv_settle, fkv_ask_commit and fkv_wait_commit.
  *
- * It may wait for ever as fkv_settle does. No commit finishes while an update of any session waits for a full index or log. None
- * finishes past a session that is awake and doesn't refresh.
+ * It may wait for ever: no commit finishes past a session that is awake and doesn't refresh.
  */
 int32_t fkv_commit_and_wait(fkv_file *file, fkv_session *session);
 
-/* Asks the keeper for its next turn at once: for who waits for a pending request. fkv_settle and fkv_read do so. */
+/* Asks the keeper for its next turn at once: for who polls a pending request by fkv_poll. The calls that wait do so by themselves. */
 void fkv_nudge(fkv_file *file);
 
 /*
@@ -203,10 +307,34 @@ void fkv_nudge(fkv_file *file);
  */
 int32_t fkv_keeper_fault(fkv_file *file);
 
+/* How a store fares since its opening, as far as it is seen from outside of the engine. */
+typedef struct {
+    uint64_t commits;       /* the number of the last finished commit */
+    uint64_t commits_left;  /* so many more the store takes */
+    uint64_t commit_us;     /* how long the last one took, in microseconds; 0 before the first since the opening */
+    uint64_t commit_bytes;  /* bytes that were written meanwhile */
+    uint64_t in_hand_us;    /* how long the commit in hand goes on already, and at least 1; 0 if there is none */
+    uint64_t late;          /* a bit for each joined session that fkv_tick and the calls that wait haven't refreshed since it began */
+    uint64_t joined;        /* a bit for each session that is joined */
+    uint64_t abandoned;     /* a bit for each that was abandoned, and has requests pending */
+    uint64_t turns;         /* turns of the keeper */
+    uint64_t helped;        /* of which so many were made by threads of sessions that waited */
+    uint64_t cold_reads;    /* records that were read back from the file */
+    uint64_t file_bytes;    /* bytes of the file */
+    int32_t stopped;        /* what fkv_tick answers of the store, 0 while commits go on */
+} fkv_stats;
+
+/*
+ * Tells how a store fares. A session of `late` may hold the commit in hand up: if it is awake, and its thread makes neither calls that
+ * wait nor fkv_refresh. Who calls fkv_refresh or sleeps is told as late too.
+ * 0; -FKV_DEVICE where the system doesn't tell the file's size.
+ */
+int32_t fkv_stats_of(fkv_file *file, fkv_stats *stats);
+
 /* ---- For who runs the keeper without a thread of this library --------------------------------------------------------------- */
 
 /*
- * Makes the call that a turn has posted, over a descriptor: `call` is what fkv_turn or fkv_told has answered. A read goes into `into`.
+ * Makes the call that a turn has posted, over a descriptor: `call` is what fkv_turn or fkv_io_done has answered. A read goes into `into`.
  * 0, or -1 where it has failed, with errno.
  */
 int fkv_call_file(int fd, int32_t call, const fkv_turned *turned, uint8_t into[FKV_READ_SIZE]);

@@ -5,7 +5,7 @@
  *     counter FILE check      opens it and tells what it holds
  *
  * Each add is of 1, so in every opened store the values' sum is that of the points: the sum line says whether it is. Each thread
- * writes out which of its adds are durable: no crash behind that line may lose one of them.
+ * writes out which of its adds are durable: no crash after that line may lose one of them. It ends when the store takes no more.
  */
 #include "fkv_posix.h"
 
@@ -18,7 +18,7 @@
 #include <string.h>
 #include <unistd.h>
 
-enum { WORKERS = 4, KEYS = 256, REFRESH_EACH = 64, LINE = 200 };
+enum { WORKERS = 4, KEYS = 256, TOLD_EACH = 64, LINE = 200 };
 
 static fkv_file *file;
 
@@ -34,7 +34,7 @@ static void say(const char *format, ...) {
 
 static int32_t must(int32_t result, const char *what) {
     if (result >= 0) return result;
-    fprintf(stderr, "%s: %s: %s\n", what, fkv_name_of(result), result == -FKV_DEVICE ? strerror(errno) : "");
+    fprintf(stderr, "%s: %s %s\n", what, fkv_text_of(result), result == -FKV_DEVICE ? strerror(errno) : "");
     exit(1);
 }
 
@@ -72,21 +72,13 @@ static void *work(void *its_number) {
     uint64_t number = (uint64_t)(uintptr_t)its_number, random = number, durable, told;
     fkv_session *session;
     fkv_update update;
-    fkv_seen seen;
     must(fkv_join(file, number, &session), "join");
     must(fkv_durable(session, &told), "durable");
     for (uint64_t i = 1;; i++) {
         random = random * 6364136223846793005u + 1442695040888963407u;
-        int32_t result = fkv_add(session, random >> 56, 1, &update);
-        while (result == -FKV_PENDING_FULL) {
-            must(fkv_settle(file, session, NULL, NULL), "settle");
-            result = fkv_add(session, random >> 56, 1, &update);
-        }
-        must(result, "add");
-        if (i % REFRESH_EACH) continue;
-        /* Where nothing is pending a refresh takes no longer than an update. */
-        must(fkv_settle(file, session, NULL, NULL), "settle");
-        must(fkv_refresh(session, &seen), "refresh");
+        must(fkv_increment(file, session, random >> 56, 1, &update), "increment");
+        must(fkv_tick(file, session), "tick");
+        if (i % TOLD_EACH) continue;
         must(fkv_durable(session, &durable), "durable");
         if (durable > told) say("told %lu durable %lu of %lu\n", number, told = durable, update.serial);
     }
@@ -95,10 +87,8 @@ static void *work(void *its_number) {
 
 int main(int count, char **words) {
     if (count < 2) return 2;
-    fkv_shape shape = {.bucket_bits = 8, .page = 64, .frames = 16, .mutable_pages = 8, .sessions = WORKERS, .overflow = 64, .disk_pages = 65536};
-    int32_t made = fkv_make_file(words[1], &shape);
-    if (made < 0 && errno != EEXIST) must(made, "make");
-    must(fkv_open_file(words[1], NULL, &file), "open");
+    fkv_wish wish = {.keys = KEYS, .sessions = WORKERS};
+    must(fkv_open_or_make(words[1], &wish, &file), "open");
     must(fkv_start(file, NULL), "start");
     check();
     must(fkv_stop(file, 0), "stop");

@@ -6,6 +6,7 @@
 #include "fkv_posix.h"
 #include "tests.h"
 
+#include <errno.h>
 #include <pthread.h>
 #include <signal.h>
 #include <stdbool.h>
@@ -84,8 +85,11 @@ static void failed(void) {
     setrlimit(RLIMIT_FSIZE, &before);
     int64_t taken = taken_meanwhile();
     WANTS("whether the keeper rests behind a call that failed", taken < 2, true);
+    WANTS("closing while a session is joined", fkv_close_file(file), -FKV_HANDLE_OUT);
     WANTS("leaving", fkv_leave(file, session), 0);
-    WANTS("closing", fkv_close_file(file), 0);
+    errno = 0;
+    WANTS("closing, with an add that no commit keeps", fkv_close_file(file), -FKV_DEVICE);
+    WANTS("why", errno, EFBIG);
 }
 
 /* A session that the keeper gives back in time, or any. */
@@ -146,23 +150,31 @@ static void count_finished(void *its, const fkv_finished *finished) {
     ++*(uint64_t *)its;
 }
 
-/* Updates wait for a log that is full, and for good. Who settles them for a while goes on, and no commit finishes. */
+/* A hook that is told why commits end. */
+static void note_stopped(void *its, int32_t fault) { *(_Atomic int32_t *)its = fault; }
+
+/* Updates wait for a log that is full, and for good: who waits for them is told so. Then no commit finishes, and who waits for one hears it too. */
 static void full(void) {
     enum { ROOM = 11, MORE = 5 }; /* of the log: no record has address 0 */
-    static const fkv_shape small = {4, 4, 2, 1, 1, 0, (ROOM + 1) / 4};
+    static const fkv_shape small = {4, 4, 2, 1, 2, 0, (ROOM + 1) / 4};
     fkv_file *file = opened_with("full", &small);
-    fkv_session *session;
+    fkv_session *session, *other;
     fkv_update told;
-    uint64_t done = 0, ticket, serial;
+    uint64_t done = 0, ticket, serial, value;
+    _Atomic int32_t stopped = 0;
+    fkv_keeping keeping = {.stopped = note_stopped, .user = &stopped};
     WANTS("joining", fkv_join(file, 0, &session), 0);
+    WANTS("joining another", fkv_join(file, 1, &other), 0);
     for (uint64_t key = 0; key < ROOM + MORE; key++) {
         int32_t result = fkv_upsert(session, key, key, &told);
         if (result == FKV_DONE) done++;
         else WANTS("whether an update waits", result, FKV_PENDING);
     }
-    WANTS("settling without a keeper", fkv_settle_for(file, session, WAIT_MS, NULL, NULL), -FKV_BROKEN);
-    WANTS("settling for no time without one", fkv_settle_for(file, session, 0, NULL, NULL), -FKV_BROKEN);
-    WANTS("starting the keeper", fkv_start(file, NULL), 0);
+    WANTS("settling without a keeper", fkv_settle_for(file, session, WAIT_MS, NULL, NULL), -FKV_NO_KEEPER);
+    WANTS("settling for no time without one", fkv_settle_for(file, session, 0, NULL, NULL), -FKV_NO_KEEPER);
+    WANTS("a tick without one", fkv_tick(file, session), -FKV_NO_KEEPER);
+    WANTS("starting the keeper", fkv_start(file, &keeping), 0);
+    WANTS("the other one's sleep", fkv_sleep(other), 0);
     int64_t begun = microseconds(CLOCK_MONOTONIC);
     WANTS("settling for a while", fkv_settle_for(file, session, WAIT_MS, count_finished, &done), FKV_PENDING);
     WANTS("whether that took so long", microseconds(CLOCK_MONOTONIC) - begun >= 1000 * WAIT_MS, true);
@@ -170,11 +182,36 @@ static void full(void) {
     WANTS("the last serial", fkv_serial(session, &serial), 0);
     WANTS("that serial", serial, ROOM + MORE);
     WANTS("polling once", fkv_settle_for(file, session, 0, count_finished, &done), FKV_PENDING);
+    WANTS("a tick before it is found out", fkv_tick(file, session), 0);
+    WANTS("settling", fkv_settle(file, session, count_finished, &done), -FKV_LOG_FULL);
+    WANTS("a tick", fkv_tick(file, session), -FKV_LOG_FULL);
+    WANTS("how many updates are done", done, ROOM);
+    WANTS("a read meanwhile", fkv_get(session, ROOM - 1, &value), FKV_FOUND);
+    fkv_seen seen;
+    WANTS("the other one wakes", fkv_wake(other, &seen), 0);
+    WANTS("an update", fkv_put(file, other, 1000, 1, &told), -FKV_LOG_FULL);
+    WANTS("its serial", told.serial, 0);
+    WANTS("the other one leaves", fkv_leave(file, other), 0);
     WANTS("asking for a commit", fkv_ask_commit(file, &ticket), 0);
     WANTS("waiting while requests are pending", fkv_wait_commit_for(file, ticket, session, 1), -FKV_PENDING_LEFT);
     fkv_abandon(file, session);
     WANTS("waiting for a while", fkv_wait_commit_for(file, ticket, NULL, WAIT_MS), FKV_PENDING);
-    WANTS("closing", fkv_close_file(file), 0);
+    WANTS("waiting", fkv_wait_commit(file, ticket, NULL), -FKV_LOG_FULL);
+    WANTS("what the hook was told", stopped, -FKV_LOG_FULL);
+    WANTS("closing", fkv_close_file(file), -FKV_LOG_FULL);
+}
+
+/* Nobody has found out that what was abandoned waits for ever. The last commit tells it, and doesn't wait for ever. */
+static void full_and_abandoned(void) {
+    static const fkv_shape small = {4, 4, 2, 1, 1, 0, 3};
+    fkv_file *file = opened_with("full_and_abandoned", &small);
+    fkv_session *session;
+    fkv_update told;
+    WANTS("joining", fkv_join(file, 0, &session), 0);
+    for (uint64_t key = 0; key < 16; key++) WANTS("whether an update is accepted", fkv_upsert(session, key, key, &told) >= 0, true);
+    WANTS("starting the keeper", fkv_start(file, NULL), 0);
+    fkv_abandon(file, session);
+    WANTS("closing", fkv_close_file(file), -FKV_LOG_FULL);
 }
 
 /* A commit is held up by a session that doesn't refresh, and goes on behind that. */
@@ -275,6 +312,7 @@ int main(int count, char **words) {
     abandoned();
     abandoned_in_turn();
     full();
+    full_and_abandoned();
     waited_for();
     ended_by_itself();
     ended_by_two();

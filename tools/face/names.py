@@ -2,8 +2,9 @@
 import re
 import sys
 
-# The face's own, beside those of the engine.
+# The face's own, beside those of the engine; and those of its C alone.
 OWN = {22: "HandleOut", 23: "HandleTaken", 24: "RoomSmall"}
+OF_C = {25: "NoKeeper"}
 
 
 def of_engine(path):
@@ -33,11 +34,12 @@ def compare(what, got, wanted):
 
 def names(engine, header, printed):
     """`printed` is what tests/names.c prints: a number, its name, that of minus it, and the library's, if it has one."""
-    wanted = {**of_engine(engine), **OWN}
+    of_library = {**of_engine(engine), **OWN}
+    wanted = {**of_library, **OF_C}
     compare("fkv.h", {number: name.upper().replace("_", "") for number, name in of_header(header).items()}, {number: name.upper() for number, name in wanted.items()})
     rows = [line.split() for line in printed.splitlines()]
     known = {int(it[0]): it for it in rows if it[1] != "Unknown"}
     compare("fkv_name_of", {number: it[1] for number, it in known.items()}, wanted)
     compare("fkv_name_of, below 0", {number: it[2] for number, it in known.items()}, wanted)
-    compare("fkv_fault_name", {int(it[0]): it[3] for it in rows if len(it) > 3}, wanted)
+    compare("fkv_fault_name", {int(it[0]): it[3] for it in rows if len(it) > 3}, of_library)
     return f"{len(wanted)} faults have one name and number each"

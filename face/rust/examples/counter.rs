@@ -4,15 +4,15 @@
 //!     counter FILE check      opens it and tells what it holds
 //!
 //! Each add is of 1, so in every opened store the values' sum is that of the points: the sum line says whether it is. Each thread
-//! writes out which of its adds are durable: no crash behind that line may lose one of them.
-use fkv::{Error, Keeping, Session, Shape, Store};
-use std::io::{ErrorKind, Write, stdout};
+//! writes out which of its adds are durable: no crash after that line may lose one of them. It ends when the store takes no more.
+use fkv::{Error, Keeping, Session, Store, Wish};
+use std::io::{Write, stdout};
 use std::time::Duration;
 use std::{env, fmt, thread};
 
 const WORKERS: u64 = 4;
 const KEYS: u64 = 256;
-const REFRESH_EACH: u64 = 64;
+const TOLD_EACH: u64 = 64;
 
 /// Writes a line at once: what is written out stays so when the process is killed.
 fn say(line: fmt::Arguments<'_>) {
@@ -53,16 +53,6 @@ fn check(store: &Store) -> Result<(), Error> {
     Ok(())
 }
 
-fn add(session: &mut Session, key: u64) -> Result<u64, Error> {
-    loop {
-        match session.add(key, 1) {
-            Ok(update) => return Ok(update.serial()),
-            Err(Error::PendingFull) => session.settle(|_| {})?,
-            Err(why) => return Err(why),
-        }
-    }
-}
-
 /// One thread, with one session.
 fn work(mut session: Session, number: u64) -> Result<(), Error> {
     let mut random = number;
@@ -71,13 +61,11 @@ fn work(mut session: Session, number: u64) -> Result<(), Error> {
         random = random
             .wrapping_mul(6364136223846793005)
             .wrapping_add(1442695040888963407);
-        let serial = add(&mut session, random >> 56)?;
-        if i % REFRESH_EACH != 0 {
+        let serial = session.increment(random >> 56, 1)?.serial;
+        session.tick()?;
+        if i % TOLD_EACH != 0 {
             continue;
         }
-        // Where nothing is pending a refresh takes no longer than an update.
-        session.settle(|_| {})?;
-        session.refresh()?;
         let durable = session.durable()?;
         if durable > told {
             told = durable;
@@ -92,20 +80,8 @@ fn main() -> Result<(), Error> {
     let Some(path) = words.get(1) else {
         panic!("counter FILE [check]")
     };
-    let shape = Shape {
-        bucket_bits: 8,
-        page: 64,
-        frames: 16,
-        mutable_pages: 8,
-        sessions: WORKERS,
-        overflow: 64,
-        disk_pages: 65536,
-    };
-    match Store::make(path, &shape) {
-        Err(Error::Device(why)) if why.kind() == ErrorKind::AlreadyExists => {}
-        made => made?,
-    }
-    let store = Store::open(path)?;
+    let wish = Wish::default().keys(KEYS).sessions(WORKERS);
+    let store = Store::open_or_make(path, &wish)?;
     let keeper = store.start(Keeping::default())?;
     check(&store)?;
     drop(keeper);

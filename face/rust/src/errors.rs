@@ -29,7 +29,7 @@ pub enum Error {
     PendingLeft,
     /// The session sleeps.
     Asleep,
-    /// The store commits no more, since the file has failed before; or no keeper runs.
+    /// The store commits no more, since the file has failed before.
     Broken,
     /// The system has refused a call of the file, for this reason.
     Device(io::Error),
@@ -51,6 +51,8 @@ pub enum Error {
     HandleTaken,
     /// A room is too small.
     RoomSmall,
+    /// No keeper's thread runs: start it first.
+    NoKeeper,
     /// A number that this crate doesn't know.
     Unknown(i32),
 }
@@ -109,6 +111,7 @@ impl Error {
             22 => Error::HandleOut,
             23 => Error::HandleTaken,
             24 => Error::RoomSmall,
+            25 => Error::NoKeeper,
             _ => Error::Unknown(result),
         }
     }
@@ -139,6 +142,7 @@ impl Error {
             Error::HandleOut => 22,
             Error::HandleTaken => 23,
             Error::RoomSmall => 24,
+            Error::NoKeeper => 25,
             Error::Unknown(result) => -result,
         }
     }
@@ -148,6 +152,13 @@ impl Error {
         // It gives a text that ends with a 0, stays for good, and is ASCII.
         let name = unsafe { CStr::from_ptr(raw::fkv_name_of(self.number())) };
         name.to_str().unwrap_or("Unknown")
+    }
+
+    /// What it says to people, as a sentence: what was refused, and what helps.
+    pub fn text(&self) -> &'static str {
+        // As of the name.
+        let text = unsafe { CStr::from_ptr(raw::fkv_text_of(self.number())) };
+        text.to_str().unwrap_or("Unknown fault.")
     }
 }
 

@@ -10,6 +10,7 @@ use std::{mem, ptr, slice};
 
 type TellCommitted = Box<dyn FnMut(u64, &[u64]) + Send>;
 type TellProgress = Box<dyn FnMut(Progress) + Send>;
+type TellStopped = Box<dyn FnMut(Error) + Send>;
 
 /// How the keeper's thread goes. By default it commits on request alone.
 ///
@@ -28,6 +29,7 @@ pub struct Keeping {
 struct Hooks {
     committed: Option<TellCommitted>,
     progress: Option<TellProgress>,
+    stopped: Option<TellStopped>,
 }
 
 impl Keeping {
@@ -43,8 +45,8 @@ impl Keeping {
         self
     }
 
-    /// Rests so long between two turns when nothing is to be done, rounded up to microseconds; by default 500. While no session is out
-    /// it rests at least 100 milliseconds, and in a commit at most 50 microseconds.
+    /// Rests so long between two turns when nothing is to be done, rounded up to microseconds; by default 500, and up to 20 milliseconds while
+    /// nothing happens. While no session is out it rests at least 100 milliseconds, and in a commit at most 50 microseconds.
     pub fn turn_each(mut self, time: Duration) -> Keeping {
         self.turn_each = time;
         self
@@ -60,6 +62,13 @@ impl Keeping {
     /// This is called as a commit begins, and after each of its calls of the file, in the keeper's thread.
     pub fn progress(mut self, tell: impl FnMut(Progress) + Send + 'static) -> Keeping {
         self.hooks.progress = Some(Box::new(tell));
+        self
+    }
+
+    /// This is called once, in the keeper's thread, as commits end for good or the log is found full: with what [`Session::tick`] is refused
+    /// by from then on.
+    pub fn stopped(mut self, tell: impl FnMut(Error) + Send + 'static) -> Keeping {
+        self.hooks.stopped = Some(Box::new(tell));
         self
     }
 }
@@ -83,6 +92,13 @@ extern "C" fn tell_progress(user: *mut c_void, progress: *const raw::Progress) {
     }
 }
 
+extern "C" fn tell_stopped(user: *mut c_void, fault: i32) {
+    let hooks = unsafe { hooks_of(user) };
+    if let (Some(tell), Err(why)) = (&mut hooks.stopped, answer(fault)) {
+        tell(why);
+    }
+}
+
 /// A time in units of so many nanoseconds, rounded up, so that no time but 0 becomes 0.
 pub(crate) fn whole(time: Duration, unit: u128) -> u32 {
     u32::try_from(time.as_nanos().div_ceil(unit)).unwrap_or(u32::MAX)
@@ -95,8 +111,9 @@ pub struct Ticket {
     number: u64,
 }
 
-/// The thread that writes the log, reads back what lies in the file alone, and carries commits on. It ends as this is dropped, and makes
-/// no last commit then: [`Keeper::stop`] does.
+/// The thread that writes the log, reads back what lies in the file alone, and carries commits on. It ends as this is dropped. If no session
+/// is out then, and one has done something that no commit keeps, it makes a last commit first. Nobody is told how that has gone:
+/// [`Keeper::stop`] tells it.
 ///
 /// A thread can't wait for its own end. If one of its hooks drops or stops this, then the thread goes on, and the file stays open, until
 /// the process ends.
@@ -120,6 +137,7 @@ impl Keeper {
             committed: Some(tell_committed),
             progress: Some(tell_progress),
             user: hooks.cast(),
+            stopped: Some(tell_stopped),
         };
         let result = answer(unsafe { raw::fkv_start(file.at, &its) });
         if let Err(why) = result {
@@ -188,7 +206,7 @@ impl Keeper {
     /// Ends the thread after a last commit, and tells how that has gone. Sessions that are out have to refresh or sleep meanwhile.
     /// `HandleOut` in a hook of the thread.
     pub fn stop(mut self) -> Result<(), Error> {
-        self.end(1)
+        self.end(raw::STOP_COMMIT)
     }
 
     /// Ends the thread and drops its hooks, once: another keeper may have been started by the second time.
@@ -212,6 +230,6 @@ impl Keeper {
 impl Drop for Keeper {
     fn drop(&mut self) {
         // Nobody is told how it has gone.
-        let _ = self.end(0);
+        let _ = self.end(raw::STOP_KEEP);
     }
 }

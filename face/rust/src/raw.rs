@@ -101,6 +101,44 @@ pub type UpdateMany = unsafe extern "C" fn(
 pub type TellProgress = extern "C" fn(*mut c_void, *const Progress);
 pub type TellCommitted = extern "C" fn(*mut c_void, u64, *const u64, usize);
 pub type TellFinished = extern "C" fn(*mut c_void, *const Finished);
+pub type TellStopped = extern "C" fn(*mut c_void, i32);
+
+#[repr(C)]
+pub struct Wish {
+    pub keys: u64,
+    pub sessions: u64,
+    pub memory_bytes: u64,
+    pub updates_between_commits: u64,
+    pub log_bytes: u64,
+}
+
+#[repr(C)]
+#[derive(Default)]
+pub struct Size {
+    pub memory_bytes: u64,
+    pub opening_bytes: u64,
+    pub file_bytes: u64,
+    pub keys: u64,
+    pub records: u64,
+}
+
+#[repr(C)]
+#[derive(Default)]
+pub struct Stats {
+    pub commits: u64,
+    pub commits_left: u64,
+    pub commit_us: u64,
+    pub commit_bytes: u64,
+    pub in_hand_us: u64,
+    pub late: u64,
+    pub joined: u64,
+    pub abandoned: u64,
+    pub turns: u64,
+    pub helped: u64,
+    pub cold_reads: u64,
+    pub file_bytes: u64,
+    pub stopped: i32,
+}
 
 #[repr(C)]
 pub struct How {
@@ -119,6 +157,7 @@ pub struct Keeping {
     pub committed: Option<TellCommitted>,
     pub progress: Option<TellProgress>,
     pub user: *mut c_void,
+    pub stopped: Option<TellStopped>,
 }
 
 pub const MOST_SESSIONS: usize = 32;
@@ -131,8 +170,16 @@ pub const FOUND: i32 = 1;
 pub const NONE: i32 = 2;
 pub const PENDING: i32 = 3;
 
+pub const STOP_COMMIT: u32 = 1;
+pub const STOP_KEEP: u32 = 2;
+
 unsafe extern "C" {
     pub fn fkv_name_of(result: i32) -> *const c_char;
+    pub fn fkv_text_of(result: i32) -> *const c_char;
+    pub fn fkv_shape_for(wish: *const Wish, shape: *mut Shape) -> i32;
+    pub fn fkv_size_of(shape: *const Shape, size: *mut Size) -> i32;
+    pub fn fkv_open_or_make(path: *const c_char, wish: *const Wish, out: *mut *mut File) -> i32;
+    pub fn fkv_stats_of(file: *mut File, stats: *mut Stats) -> i32;
     pub fn fkv_renew(
         bytes: *const u8,
         size: usize,
@@ -209,7 +256,38 @@ unsafe extern "C" {
         told: Option<TellFinished>,
         user: *mut c_void,
     ) -> i32;
+    pub fn fkv_tick(file: *mut File, session: *mut Session) -> i32;
+    pub fn fkv_put(
+        file: *mut File,
+        session: *mut Session,
+        key: u64,
+        value: u64,
+        told: *mut Update,
+    ) -> i32;
+    pub fn fkv_increment(
+        file: *mut File,
+        session: *mut Session,
+        key: u64,
+        number: u64,
+        told: *mut Update,
+    ) -> i32;
+    pub fn fkv_raise(
+        file: *mut File,
+        session: *mut Session,
+        key: u64,
+        number: u64,
+        told: *mut Update,
+    ) -> i32;
+    pub fn fkv_remove(file: *mut File, session: *mut Session, key: u64, told: *mut Update) -> i32;
     pub fn fkv_read(file: *mut File, session: *mut Session, key: u64, value: *mut u64) -> i32;
+    pub fn fkv_read_many(
+        file: *mut File,
+        session: *mut Session,
+        keys: *const u64,
+        count: usize,
+        told: *mut EachRead,
+        room: usize,
+    ) -> i32;
     pub fn fkv_start(file: *mut File, keeping: *const Keeping) -> i32;
     pub fn fkv_stop(file: *mut File, with_commit: u32) -> i32;
     pub fn fkv_ask_commit(file: *mut File, ticket: *mut u64) -> i32;

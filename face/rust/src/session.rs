@@ -74,6 +74,15 @@ impl Update {
     }
 }
 
+/// What an update has left.
+#[derive(Clone, Copy, Debug, PartialEq, Eq)]
+pub struct Made {
+    /// Its serial says whether a commit keeps it: [`Session::durable`].
+    pub serial: u64,
+    /// What an increment or a raise has left; of the others it is 0.
+    pub value: u64,
+}
+
 /// Why an update is pending.
 #[derive(Clone, Copy, Debug, PartialEq, Eq)]
 pub enum Reason {
@@ -87,7 +96,7 @@ pub enum Reason {
     Contended,
     /// The next page isn't open yet: the keeper is behind.
     NoRoom,
-    /// The index or the log is full.
+    /// Never told: what finds the index or the log full at its call is refused, and what finds it so at a poll gives no reason.
     Full,
 }
 
@@ -240,8 +249,64 @@ impl Session {
         answers
     }
 
+    /// Lets the store go on: call it between calls, as often as you like. Each 64th tick, or each 8th while a commit waits for the session,
+    /// polls and refreshes it. What a poll of it has finished isn't told. `Asleep`, and why no commit is finished any more: the keeper's
+    /// fault, `VersionsSpent` once the store has taken its last commit, `LogFull` once an update has found the log full, `NoKeeper`.
+    pub fn tick(&mut self) -> Result<(), Error> {
+        answer(unsafe { raw::fkv_tick(self.file.at, self.at) })?;
+        Ok(())
+    }
+
+    fn update_now(
+        &mut self,
+        call: impl FnOnce(*mut raw::File, *mut raw::Session, *mut raw::Update) -> i32,
+    ) -> Result<Made, Error> {
+        let mut its = raw::Update::default();
+        answer(call(self.file.at, self.at, &mut its))?;
+        let (serial, value) = (its.serial, its.value);
+        Ok(Made { serial, value })
+    }
+
+    /// Gives the key this value, 0 to 2^64 - 2, and waits where [`Session::upsert`] would be pending.
+    ///
+    /// A session that makes no other calls than this, [`Session::increment`], [`Session::raise`], [`Session::remove`] and [`Session::read`]
+    /// reads what it wrote, and its updates take effect in their order. They want a keeper. What other calls have left pending may take
+    /// effect later than these: then a key may end with the earlier value. It is finished by a call that waits, and isn't told.
+    ///
+    /// Refused as [`Session::upsert`], but for `PendingFull`, and as [`Session::settle`]: then the update was accepted, and stays pending.
+    pub fn put(&mut self, key: u64, value: u64) -> Result<Made, Error> {
+        self.update_now(|file, at, told| unsafe { raw::fkv_put(file, at, key, value, told) })
+    }
+
+    /// Adds to the key's value, up to 2^64 - 2, and waits as [`Session::put`] does. A key without a value gets the number.
+    pub fn increment(&mut self, key: u64, number: u64) -> Result<Made, Error> {
+        self.update_now(|file, at, told| unsafe { raw::fkv_increment(file, at, key, number, told) })
+    }
+
+    /// Raises the key's value to the number, and waits as [`Session::put`] does. A key without a value gets it.
+    pub fn raise(&mut self, key: u64, number: u64) -> Result<Made, Error> {
+        self.update_now(|file, at, told| unsafe { raw::fkv_raise(file, at, key, number, told) })
+    }
+
+    /// Takes the key's value away, and waits as [`Session::put`] does.
+    pub fn remove(&mut self, key: u64) -> Result<Made, Error> {
+        self.update_now(|file, at, told| unsafe { raw::fkv_remove(file, at, key, told) })
+    }
+
+    /// [`Session::read`] of many keys: a few are asked for at once.
+    pub fn read_many(&mut self, keys: &[u64]) -> Result<Vec<Option<u64>>, Error> {
+        let mut told = vec![raw::EachRead::default(); keys.len()];
+        let (at, count) = (told.as_mut_ptr(), keys.len());
+        answer(unsafe {
+            raw::fkv_read_many(self.file.at, self.at, keys.as_ptr(), count, at, count)
+        })?;
+        let found =
+            |its: &raw::EachRead| Ok((answer(its.result)? == raw::FOUND).then_some(its.value));
+        told.iter().map(found).collect()
+    }
+
     /// Reads a key, and waits where it lies in the file alone. Then the session settles, and what else was pending isn't told. Refused as
-    /// [`Session::get`] and [`Session::settle`] are, and may wait for ever as the latter does.
+    /// [`Session::get`] and [`Session::settle`] are. If waiting is refused, the read stays pending.
     pub fn read(&mut self, key: u64) -> Result<Option<u64>, Error> {
         let mut value = 0;
         let told = answer(unsafe { raw::fkv_read(self.file.at, self.at, key, &mut value) })?;
@@ -345,9 +410,9 @@ impl Session {
         Ok(left as usize)
     }
 
-    /// Polls until nothing is pending, with a refresh between two polls, and tells what is finished. It wants a keeper: `Broken` where
-    /// none runs, and the keeper's fault where that can't go on. `Asleep`. An update that finds the index or the log full may wait for ever,
-    /// and so does this call: [`Session::settle_for`] doesn't. If `tell` panics, then the process is aborted.
+    /// Polls until nothing is pending, with refreshes between, and tells what is finished. It wants a keeper, whose turns this thread makes
+    /// as it waits. `Asleep`; `NoKeeper` where none runs; the keeper's fault where that can't go on; `LogFull` or `IndexFull`, within about a
+    /// second, where an update will never find room. If `tell` panics, then the process is aborted.
     pub fn settle(&mut self, mut tell: impl FnMut(Finished)) -> Result<(), Error> {
         let mut tell: &mut dyn FnMut(Finished) = &mut tell;
         let user = ptr::from_mut(&mut tell).cast();
@@ -384,7 +449,7 @@ impl Session {
         Ok(Seen::of_raw(&seen))
     }
 
-    /// The serial up to which its updates are in a commit that is whole in the file: a crash from now on keeps them. `Asleep`.
+    /// The serial up to which its updates are in a commit that is whole in the file: a crash from now on keeps them.
     pub fn durable(&mut self) -> Result<u64, Error> {
         let mut serial = 0;
         answer(unsafe { raw::fkv_durable(self.at, &mut serial) })?;
@@ -399,7 +464,8 @@ impl Session {
     }
 
     /// Settles, asks for a commit, and sleeps until it is finished: a crash from then on keeps all that it has done. What was pending
-    /// isn't told. Refused as [`Session::settle`], and by the fault of the commit. It may wait for ever as `settle` does.
+    /// isn't told. Refused as [`Session::settle`], and by the fault of the commit. No commit finishes past a session that is awake and doesn't
+    /// refresh.
     pub fn commit(&mut self) -> Result<(), Error> {
         answer(unsafe { raw::fkv_commit_and_wait(self.file.at, self.at) })?;
         Ok(())

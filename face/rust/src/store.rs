@@ -3,6 +3,7 @@ use crate::errors::{Error, answer};
 use crate::keeper::{Keeper, Keeping};
 use crate::raw;
 use crate::session::Session;
+use crate::sizes::Wish;
 use std::ffi::{CString, c_void};
 use std::os::unix::ffi::OsStrExt;
 use std::path::Path;
@@ -52,7 +53,7 @@ impl Shape {
         }
     }
 
-    fn of_raw(its: raw::Shape) -> Shape {
+    pub(crate) fn of_raw(its: raw::Shape) -> Shape {
         let raw::Shape {
             bucket_bits,
             page,
@@ -199,6 +200,26 @@ impl Store {
         Ok(())
     }
 
+    /// Opens the store in this file, or makes the file first if there is none. `wish` says how large it is to be. A store that is there keeps
+    /// its own shape. Refused as [`Store::open`], [`Shape::for_wish`] and [`Store::make`].
+    pub fn open_or_make(path: impl AsRef<Path>, wish: &Wish) -> Result<Store, Error> {
+        let path = path_for_c(path.as_ref())?;
+        let mut at = ptr::null_mut();
+        answer(unsafe { raw::fkv_open_or_make(path.as_ptr(), &wish.to_raw(), &mut at) })?;
+        Ok(Store::of_opened(at))
+    }
+
+    fn of_opened(at: *mut raw::File) -> Store {
+        let opening = OPENINGS.fetch_add(1, Ordering::Relaxed);
+        Store {
+            file: Arc::new(OpenFile { at, opening }),
+        }
+    }
+
+    pub(crate) fn raw(&self) -> *mut raw::File {
+        self.file.at
+    }
+
     /// Opens the store in this file, in the usual way.
     ///
     /// `NotAStore`, `Damaged`, `Memory`, or `Device`: with `WouldBlock` it is open already, in this process or another one.
@@ -230,10 +251,7 @@ impl Store {
         if result < 0 {
             return Err(Error::of(result, &opened));
         }
-        let opening = OPENINGS.fetch_add(1, Ordering::Relaxed);
-        Ok(Store {
-            file: Arc::new(OpenFile { at, opening }),
-        })
+        Ok(Store::of_opened(at))
     }
 
     /// The store's shape.

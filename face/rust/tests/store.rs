@@ -109,7 +109,7 @@ fn calls_answer_as_a_map() {
     session.sleep().unwrap();
     assert!(matches!(session.get(7), Err(Error::Asleep)));
     session.wake().unwrap();
-    assert!(matches!(session.commit(), Err(Error::Broken)));
+    assert!(matches!(session.commit(), Err(Error::NoKeeper)));
 }
 
 /// The answers of calls, with the numbers of their errors.

@@ -1,0 +1,143 @@
+/* Calls that wait where a request would be pending, so that a session reads what it wrote; and the tick between calls. */
+#define _POSIX_C_SOURCE 200809L
+#include "fkv_file.h"
+
+enum {
+    /* A session refreshes at each of so many ticks, and of so many while a commit waits for it. */
+    TICKS = 64,
+    COMMIT_TICKS = 8,
+    /* Keys that fkv_read_many asks for at once. Each poll tries all that are pending, so more of them take longer. */
+    MANY = 16
+};
+
+/* ---- Updates -------------------------------------------------------------------------------------------------------------------- */
+
+/* A call that updates a key. All such calls wait in one way. */
+typedef int32_t update_fn(fkv_session *session, uint64_t key, uint64_t number, fkv_update *told);
+
+static int32_t delete_key(fkv_session *session, uint64_t key, uint64_t number, fkv_update *told) {
+    (void)number;
+    return fkv_delete(session, key, told);
+}
+
+static void take_update(void *its, const fkv_finished *finished) {
+    fkv_update *told = its;
+    if (finished->kind == FKV_UPDATED && finished->name == told->serial) told->value = finished->value;
+}
+
+static void note_full(fkv_file *file, int32_t result) {
+    if (result != -FKV_LOG_FULL && result != -FKV_INDEX_FULL) return;
+    pthread_mutex_lock(&file->lock);
+    fkv_note_full(file, result);
+    pthread_mutex_unlock(&file->lock);
+}
+
+static int32_t update_now(fkv_file *file, fkv_session *session, update_fn *update, uint64_t key, uint64_t number, fkv_update *told) {
+    fkv_update own;
+    if (!told) told = &own;
+    told->serial = 0;
+    int32_t result = update(session, key, number, told);
+    if (result == FKV_DONE) return result;
+    if (result == -FKV_PENDING_FULL) {
+        /* Other calls have left so many. */
+        result = fkv_settle(file, session, NULL, NULL);
+        if (result == 0) result = update(session, key, number, told);
+    }
+    note_full(file, result);
+    return result == FKV_PENDING ? fkv_settle(file, session, take_update, told) : result;
+}
+
+int32_t fkv_put(fkv_file *file, fkv_session *session, uint64_t key, uint64_t value, fkv_update *told) {
+    return update_now(file, session, fkv_upsert, key, value, told);
+}
+
+int32_t fkv_increment(fkv_file *file, fkv_session *session, uint64_t key, uint64_t number, fkv_update *told) {
+    return update_now(file, session, fkv_add, key, number, told);
+}
+
+int32_t fkv_raise(fkv_file *file, fkv_session *session, uint64_t key, uint64_t number, fkv_update *told) {
+    return update_now(file, session, fkv_max, key, number, told);
+}
+
+int32_t fkv_remove(fkv_file *file, fkv_session *session, uint64_t key, fkv_update *told) {
+    return update_now(file, session, delete_key, key, 0, told);
+}
+
+/* ---- Reads ---------------------------------------------------------------------------------------------------------------------- */
+
+/* Reads that are waited for. */
+struct awaited {
+    fkv_each_read *told;
+    size_t count;
+    size_t left; /* of them, so many are pending */
+};
+
+static void take_read(void *its, const fkv_finished *finished) {
+    struct awaited *awaited = its;
+    if (finished->kind == FKV_UPDATED) return;
+    for (size_t i = 0; i < awaited->count; i++) {
+        fkv_each_read *told = &awaited->told[i];
+        if (told->result != FKV_PENDING || told->value != finished->name) continue;
+        told->result = finished->kind == FKV_READ_FOUND ? FKV_FOUND : FKV_NONE;
+        told->value = finished->value;
+        awaited->left--;
+        return;
+    }
+}
+
+int32_t fkv_read(fkv_file *file, fkv_session *session, uint64_t key, uint64_t *value) {
+    int32_t result = fkv_get(session, key, value);
+    if (result == -FKV_PENDING_FULL) {
+        result = fkv_settle(file, session, NULL, NULL);
+        if (result == 0) result = fkv_get(session, key, value);
+    }
+    if (result != FKV_PENDING) return result;
+    fkv_each_read told = {.value = *value, .result = FKV_PENDING};
+    struct awaited awaited = {&told, 1, 1};
+    /* It has asked already, so a turn comes before the first poll. */
+    fkv_help(file);
+    result = fkv_settle(file, session, take_read, &awaited);
+    if (result < 0) return result;
+    *value = told.value;
+    return told.result;
+}
+
+/* Reads so many keys at once, at most MANY. What other requests of the session leave no room for is read one by one. */
+static int32_t read_batch(fkv_file *file, fkv_session *session, const uint64_t *keys, size_t count, fkv_each_read *told) {
+    struct awaited awaited = {told, count, 0};
+    int32_t result = fkv_get_many(session, keys, count, told, count);
+    for (size_t i = 0; i < count && result == 0; i++) awaited.left += told[i].result == FKV_PENDING;
+    if (awaited.left) {
+        fkv_help(file);
+        result = fkv_settle(file, session, take_read, &awaited);
+    }
+    for (size_t i = 0; i < count && result == 0; i++) {
+        if (told[i].result == -FKV_PENDING_FULL) told[i].result = fkv_read(file, session, keys[i], &told[i].value);
+    }
+    return result;
+}
+
+int32_t fkv_read_many(fkv_file *file, fkv_session *session, const uint64_t *keys, size_t count, fkv_each_read *told, size_t room) {
+    if (room < count) return -FKV_ROOM_SMALL;
+    for (size_t at = 0; at < count; at += MANY) {
+        int32_t result = read_batch(file, session, keys + at, count - at < MANY ? count - at : MANY, told + at);
+        if (result == 0 && at % TICKS == 0) result = fkv_refresh_seat(file, session);
+        if (result < 0) return result;
+    }
+    return 0;
+}
+
+/* ---- Between calls -------------------------------------------------------------------------------------------------------------- */
+
+int32_t fkv_tick(fkv_file *file, fkv_session *session) {
+    struct seat *seat = &file->seats[session - file->sessions];
+    bool is_awaited = atomic_load_explicit(&file->in_hand, memory_order_relaxed) && seat->phase != FKV_WAIT_FLUSH;
+    if (++seat->ticks >= (is_awaited ? COMMIT_TICKS : TICKS)) {
+        fkv_finished finished[FKV_MOST_PENDING];
+        uint64_t count;
+        int32_t result = fkv_poll(session, finished, FKV_MOST_PENDING, &count);
+        if (result >= 0) result = fkv_refresh_seat(file, session);
+        if (result < 0) return result;
+    }
+    return fkv_with_errno(file, atomic_load(&file->ends));
+}

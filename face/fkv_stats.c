@@ -1,0 +1,41 @@
+/* How a store fares. */
+#define _POSIX_C_SOURCE 200809L
+#include "fkv_file.h"
+
+#include <errno.h>
+#include <sys/stat.h>
+
+/* The joined sessions that haven't been refreshed since the commit in hand began, as far as this library has done so. */
+static uint64_t late_sessions(const fkv_file *file) {
+    uint64_t late = 0;
+    unsigned long long begun = atomic_load(&file->begun);
+    for (int i = 0; i < FKV_MOST_SESSIONS; i++) {
+        bool is_late = file->joined >> i & 1 && atomic_load(&file->seats[i].begun) < begun;
+        late |= (uint64_t)is_late << i;
+    }
+    return late;
+}
+
+int32_t fkv_stats_of(fkv_file *file, fkv_stats *stats) {
+    struct stat known;
+    if (fstat(file->fd, &known)) return -FKV_DEVICE;
+    pthread_mutex_lock(&file->lock);
+    bool is_in_hand = atomic_load(&file->in_hand);
+    *stats = (fkv_stats){
+        .commits = file->number,
+        .commits_left = file->number < FKV_MOST_COMMITS ? FKV_MOST_COMMITS - file->number : 0,
+        .commit_us = file->commit_us,
+        .commit_bytes = file->commit_bytes,
+        .in_hand_us = is_in_hand ? fkv_since(file->commit_begun) + 1 : 0,
+        .late = is_in_hand ? late_sessions(file) : 0,
+        .joined = file->joined,
+        .abandoned = file->abandoned,
+        .turns = file->turns,
+        .helped = file->helped,
+        .cold_reads = file->cold_reads,
+        .file_bytes = (uint64_t)known.st_size,
+        .stopped = atomic_load(&file->ends),
+    };
+    pthread_mutex_unlock(&file->lock);
+    return 0;
+}

@@ -1,0 +1,170 @@
+/* Turns of the keeper, by its own thread or by that of a session that waits; and what a store has come to. */
+#define _POSIX_C_SOURCE 200809L
+#include "fkv_file.h"
+
+#include <errno.h>
+
+enum {
+    /* What has waited so long and for so many turns waits for ever: where the log is known to be full, and where it isn't. */
+    KNOWN_FULL_US = 50000,
+    FULL_US = 1000000,
+    FULL_TURNS = 200
+};
+
+/* ---- What a store has come to. The lock is held. -------------------------------------------------------------------------------- */
+
+bool fkv_has_turns(const fkv_file *file) {
+    return !file->fault || file->fault == -FKV_VERSIONS_SPENT;
+}
+
+int32_t fkv_refusal(const fkv_file *file) {
+    if (file->fault) return file->fault;
+    return file->runs && !file->stops ? 0 : -FKV_NO_KEEPER;
+}
+
+int32_t fkv_unserved(const fkv_file *file) {
+    if (!fkv_has_turns(file)) return file->fault;
+    return file->runs && !file->stops ? 0 : -FKV_NO_KEEPER;
+}
+
+void fkv_find_end(fkv_file *file) {
+    int32_t end = fkv_refusal(file);
+    atomic_store(&file->ends, end ? end : file->full);
+}
+
+void fkv_note_fault(fkv_file *file, int32_t fault, int why) {
+    if (fkv_has_turns(file)) {
+        file->fault = fault;
+        atomic_store(&file->why, why);
+    }
+    atomic_store(&file->in_hand, false);
+    fkv_find_end(file);
+    pthread_cond_broadcast(&file->news);
+    pthread_cond_broadcast(&file->served);
+    pthread_cond_signal(&file->work);
+}
+
+void fkv_note_full(fkv_file *file, int32_t fault) {
+    if (fault == -FKV_INDEX_FULL) file->index_full = true;
+    if (fault != -FKV_LOG_FULL || file->full) return;
+    file->full = fault;
+    fkv_find_end(file);
+    pthread_cond_signal(&file->work);
+}
+
+/* Whether the log's last page may be in use, as far as the file's writes say so. */
+static bool is_near_end(const fkv_file *file) {
+    const fkv_shape *shape = &file->shape;
+    uint64_t base = fkv_log_place(shape);
+    uint64_t records = file->log_end > base ? (file->log_end - base) / FKV_READ_SIZE : 0;
+    /* The mutable pages aren't written yet, nor is the one in which updates become read-only, nor the one that is opened ahead. */
+    return records / shape->page + shape->mutable_pages + 2 >= shape->disk_pages;
+}
+
+void fkv_begin_patience(const fkv_file *file, struct patience *its, uint32_t of) {
+    *its = (struct patience){fkv_now(), file->turns, of};
+}
+
+/*
+ * The library tells no reason at a poll, so this goes by what else is known. Behind so many turns each read is served. A session that is
+ * awake alone waits for nobody's refresh. So what is left then waits for room. Where others are joined one of them may hold it up: there
+ * the log has to be known as full, or to be near its end.
+ */
+int32_t fkv_never_room(const fkv_file *file, const struct patience *its) {
+    if (file->turns - its->turns < FULL_TURNS || fkv_unserved(file)) return 0;
+    uint64_t waited = fkv_since(its->begun);
+    if (waited >= KNOWN_FULL_US && file->full) return file->full;
+    if (waited < FULL_US) return 0;
+    if (is_near_end(file)) return -FKV_LOG_FULL;
+    bool is_alone = !((file->joined | file->abandoned) & ~its->of);
+    return is_alone || file->index_full ? -FKV_INDEX_FULL : 0;
+}
+
+void fkv_note_stuck(fkv_file *file, int32_t fault) {
+    if (!fault || file->stuck) return;
+    file->stuck = fault;
+    fkv_note_full(file, fault);
+    pthread_cond_broadcast(&file->news);
+}
+
+int32_t fkv_with_errno(const fkv_file *file, int32_t result) {
+    if (result == -FKV_DEVICE) errno = atomic_load(&file->why);
+    return result;
+}
+
+/* ---- Turns ---------------------------------------------------------------------------------------------------------------------- */
+
+static void note_call(struct turn *turn, int32_t call) {
+    uint64_t end = turn->turned.place + turn->turned.length;
+    if (call == FKV_READ) turn->reads++;
+    if (call != FKV_WRITE) return;
+    turn->written += turn->turned.length;
+    if (end > turn->end) turn->end = end;
+}
+
+int32_t fkv_make_turn(fkv_file *file, struct turn *turn, tell_turn_fn *tell, void *user) {
+    uint8_t into[FKV_READ_SIZE] = {0};
+    int32_t call = fkv_turn(&file->keeper, &turn->turned, turn->points, FKV_MOST_SESSIONS);
+    bool has_called = call > FKV_OVER;
+    while (call > FKV_OVER) {
+        int failed = fkv_call_file(file->fd, call, &turn->turned, into);
+        if (failed) turn->why = errno;
+        else note_call(turn, call);
+        if (tell) tell(user, turn);
+        size_t size = call == FKV_READ ? FKV_READ_SIZE : 0;
+        call = fkv_io_done(&file->keeper, failed != 0, into, size, &turn->turned, turn->points, FKV_MOST_SESSIONS);
+    }
+    /* Where memory was refused, the next turn would at once be refused it again. */
+    turn->has_called = has_called && call == FKV_OVER;
+    return call;
+}
+
+void fkv_take_turn(fkv_file *file) {
+    while (atomic_load(&file->turning)) {
+        file->is_wanted = true;
+        pthread_cond_wait(&file->over, &file->lock);
+    }
+    file->is_wanted = false;
+    atomic_store(&file->turning, true);
+}
+
+void fkv_give_turn(fkv_file *file) {
+    atomic_store(&file->turning, false);
+    if (file->is_wanted) pthread_cond_broadcast(&file->over);
+}
+
+void fkv_end_turn(fkv_file *file, const struct turn *turn, int32_t result) {
+    file->turns += result == FKV_OVER;
+    file->cold_reads += turn->reads;
+    if (turn->end > file->log_end) file->log_end = turn->end;
+    if (turn->has_called) file->is_stirred = true;
+    /* Memory that was refused may come; the other refusals stay. */
+    if (result < 0 && result != -FKV_MEMORY) fkv_note_fault(file, result, turn->why);
+    if (file->waiting && turn->has_called) pthread_cond_broadcast(&file->served);
+    fkv_give_turn(file);
+}
+
+int32_t fkv_help(fkv_file *file) {
+    struct turn turn;
+    if (atomic_load_explicit(&file->turning, memory_order_relaxed)) return 0;
+    pthread_mutex_lock(&file->lock);
+    int32_t why = fkv_unserved(file);
+    bool is_free = why == 0 && !atomic_load(&file->turning) && !file->is_wanted;
+    /* A commit's turns sync: these are the keeper's thread's. It makes them one after the other as long as somebody waits. */
+    bool is_own = is_free && !atomic_load(&file->in_hand);
+    if (is_own) atomic_store(&file->turning, true);
+    else if (is_free && !file->nudged) {
+        file->nudged = true;
+        pthread_cond_signal(&file->work);
+    }
+    pthread_mutex_unlock(&file->lock);
+    if (!is_own) return fkv_with_errno(file, why);
+    turn.written = turn.end = turn.reads = 0;
+    turn.why = 0;
+    int32_t result = fkv_make_turn(file, &turn, NULL, NULL);
+    pthread_mutex_lock(&file->lock);
+    file->helped++;
+    fkv_end_turn(file, &turn, result);
+    pthread_mutex_unlock(&file->lock);
+    return 1;
+}

@@ -1,0 +1,61 @@
+//! How a store fares.
+use crate::errors::{Error, answer};
+use crate::raw;
+use crate::store::Store;
+use std::time::Duration;
+
+/// How a store fares since its opening, as far as it is seen from outside of the engine.
+#[derive(Clone, Copy, Debug, PartialEq, Eq)]
+pub struct Stats {
+    /// The number of the last finished commit.
+    pub commits: u64,
+    /// So many more the store takes.
+    pub commits_left: u64,
+    /// How long the last one took; none before the first since the opening.
+    pub commit_time: Option<Duration>,
+    /// Bytes that were written meanwhile.
+    pub commit_bytes: u64,
+    /// How long the commit in hand goes on already, if there is one.
+    pub in_hand: Option<Duration>,
+    /// A bit for each session that may hold it up: [`Session::tick`](crate::Session::tick) and the calls that wait haven't refreshed it since
+    /// that began.
+    pub late: u64,
+    /// A bit for each session that is out.
+    pub joined: u64,
+    /// A bit for each that was dropped, and has requests pending.
+    pub abandoned: u64,
+    /// Turns of the keeper.
+    pub turns: u64,
+    /// Of which so many were made by threads of sessions that waited.
+    pub helped: u64,
+    /// Records that were read back from the file.
+    pub cold_reads: u64,
+    /// Bytes of the file.
+    pub file_bytes: u64,
+    /// The number of the fault for which no commit is finished any more; 0 while commits go on.
+    pub stopped: i32,
+}
+
+impl Store {
+    /// How the store fares. `Device` where the system doesn't tell the file's size.
+    pub fn stats(&self) -> Result<Stats, Error> {
+        let mut its = raw::Stats::default();
+        answer(unsafe { raw::fkv_stats_of(self.raw(), &mut its) })?;
+        let time = |us: u64| (us > 0).then(|| Duration::from_micros(us));
+        Ok(Stats {
+            commits: its.commits,
+            commits_left: its.commits_left,
+            commit_time: time(its.commit_us),
+            commit_bytes: its.commit_bytes,
+            in_hand: time(its.in_hand_us),
+            late: its.late,
+            joined: its.joined,
+            abandoned: its.abandoned,
+            turns: its.turns,
+            helped: its.helped,
+            cold_reads: its.cold_reads,
+            file_bytes: its.file_bytes,
+            stopped: -its.stopped,
+        })
+    }
+}

@@ -1,0 +1,202 @@
+//! The calls that just work: a session's own order beside commits, a tick that says why commits end, sizes for a wish, a keeper that keeps
+//! what was done.
+use fkv::{Error, Keeping, Made, Shape, Stats, Store, Wish};
+use std::path::PathBuf;
+use std::sync::mpsc;
+use std::time::{Duration, Instant};
+use std::{env, fs, process, thread};
+
+/// The library's syncs come here, so that a test of thousands of commits takes a second.
+#[unsafe(no_mangle)]
+pub extern "C" fn fdatasync(_file: i32) -> i32 {
+    0
+}
+
+/// A path of a test's own, at which no file is.
+struct Path(PathBuf);
+
+impl Path {
+    fn new(name: &str) -> Path {
+        let path = env::temp_dir().join(format!("fkv-easy-{}-{name}", process::id()));
+        let _ = fs::remove_file(&path);
+        Path(path)
+    }
+
+    fn store(&self, keys: u64) -> Store {
+        Store::open_or_make(&self.0, &Wish::default().keys(keys).sessions(3)).unwrap()
+    }
+}
+
+impl Drop for Path {
+    fn drop(&mut self) {
+        let _ = fs::remove_file(&self.0);
+    }
+}
+
+#[test]
+fn a_session_reads_what_it_wrote_beside_commits() {
+    const OWN_KEYS: u64 = 8;
+    let path = Path::new("order");
+    let store = path.store(64);
+    let _keeper = store
+        .start(Keeping::default().commit_each(Duration::from_millis(5)))
+        .unwrap();
+    thread::scope(|scope| {
+        for number in 0..3 {
+            let mut session = store.join(number).unwrap();
+            scope.spawn(move || {
+                let begun = Instant::now();
+                for i in 0.. {
+                    if begun.elapsed() > Duration::from_millis(500) {
+                        break;
+                    }
+                    let key = number * OWN_KEYS + i % OWN_KEYS;
+                    assert_eq!(session.put(key, i).unwrap().serial, 3 * i + 1);
+                    let made = session.increment(key, 2).unwrap();
+                    assert_eq!(made.value, i + 2);
+                    let made = session.raise(key, i + 1).unwrap();
+                    assert_eq!(
+                        made,
+                        Made {
+                            serial: 3 * i + 3,
+                            value: i + 2
+                        }
+                    );
+                    assert_eq!(session.read(key).unwrap(), Some(i + 2));
+                    session.tick().unwrap();
+                }
+                let key = number * OWN_KEYS;
+                session.remove(key).unwrap();
+                assert_eq!(session.read(key).unwrap(), None);
+            });
+        }
+    });
+    assert!(store.last_commit().number > 1);
+}
+
+#[test]
+fn the_last_commit_is_told() {
+    let path = Path::new("spent");
+    let store = path.store(10);
+    let (send, receive) = mpsc::channel();
+    let keeping = Keeping::default().log_commits(100).stopped(move |why| {
+        let _ = send.send(why.number());
+    });
+    let keeper = store.start(keeping).unwrap();
+    let mut session = store.join_any().unwrap();
+    for _ in 0..8190 {
+        session.increment(7, 1).unwrap();
+        session.tick().unwrap();
+        session.commit().unwrap();
+    }
+    assert!(matches!(session.tick(), Err(Error::VersionsSpent)));
+    assert!(matches!(session.commit(), Err(Error::VersionsSpent)));
+    let long = Duration::from_secs(60);
+    let number = Error::VersionsSpent.number();
+    assert_eq!(receive.recv_timeout(long), Ok(number));
+    let stats = store.stats().unwrap();
+    assert_eq!(
+        (stats.commits, stats.commits_left, stats.stopped),
+        (8190, 0, number)
+    );
+    drop(session);
+    assert!(matches!(keeper.stop(), Err(Error::VersionsSpent)));
+}
+
+#[test]
+fn a_full_log_is_told() {
+    let path = Path::new("full");
+    let small = Shape {
+        bucket_bits: 4,
+        page: 4,
+        frames: 4,
+        mutable_pages: 1,
+        sessions: 1,
+        overflow: 64,
+        disk_pages: 8,
+    };
+    Store::make(&path.0, &small).unwrap();
+    let store = Store::open(&path.0).unwrap();
+    let (send, receive) = mpsc::channel();
+    let keeping = Keeping::default().stopped(move |why| {
+        let _ = send.send(why.number());
+    });
+    let _keeper = store.start(keeping).unwrap();
+    let mut session = store.join(0).unwrap();
+    let refused = (0..100).find_map(|key| session.put(key, key).err());
+    assert!(matches!(refused, Some(Error::LogFull)));
+    assert!(matches!(session.tick(), Err(Error::LogFull)));
+    let long = Duration::from_secs(60);
+    assert_eq!(receive.recv_timeout(long), Ok(Error::LogFull.number()));
+}
+
+#[test]
+fn a_keeper_that_was_forgotten_is_told() {
+    let path = Path::new("forgotten");
+    let store = path.store(10);
+    let mut session = store.join_any().unwrap();
+    session.put(7, 1).unwrap();
+    assert!(matches!(session.tick(), Err(Error::NoKeeper)));
+    assert!(matches!(session.commit(), Err(Error::NoKeeper)));
+    assert_eq!(Error::NoKeeper.name(), "NoKeeper");
+    assert_eq!(
+        Error::NoKeeper.text(),
+        "No keeper's thread runs: start it first."
+    );
+}
+
+#[test]
+fn what_is_done_is_kept_as_the_keeper_is_dropped() {
+    let path = Path::new("kept");
+    let store = path.store(1000);
+    let keeper = store.start(Keeping::default()).unwrap();
+    let mut session = store.join_any().unwrap();
+    for key in 0..1000 {
+        session.put(key, key + 1).unwrap();
+        session.tick().unwrap();
+    }
+    drop((session, keeper, store));
+    let store = path.store(0);
+    assert_eq!(store.last_commit().number, 1);
+    let keeper = store.start(Keeping::default()).unwrap();
+    let mut session = store.join_any().unwrap();
+    let keys: Vec<u64> = (0..1100).collect();
+    let found = session.read_many(&keys).unwrap();
+    for key in 0..1100 {
+        assert_eq!(found[key as usize], (key < 1000).then_some(key + 1));
+    }
+    assert!(session.read_many(&[]).unwrap().is_empty());
+    let stats = store.stats().unwrap();
+    assert!(stats.cold_reads >= 1000 && stats.helped > 0 && stats.turns >= stats.helped);
+    let Stats {
+        joined, stopped, ..
+    } = stats;
+    assert_eq!((joined, stopped), (1, 0));
+    assert!(stats.in_hand.is_none() && stats.commit_time.is_none());
+    session.put(7, 1).unwrap();
+    // A session is out, so no last commit waits for it.
+    drop(keeper);
+    drop((session, store));
+    assert_eq!(path.store(0).last_commit().number, 1);
+}
+
+#[test]
+fn sizes_follow_from_a_wish() {
+    let shape = Shape::for_wish(&Wish::default().keys(1000).sessions(32)).unwrap();
+    let size = shape.size().unwrap();
+    assert!(size.keys >= 1000 && size.memory_bytes > 24_000 && size.file_bytes > 24 * size.records);
+    assert_eq!(shape.sessions, 32);
+    let most = 16 << 20;
+    let wish = Wish::default().keys(100_000).memory_bytes(most);
+    let small = Shape::for_wish(&wish).unwrap().size().unwrap();
+    assert!(small.memory_bytes <= most && small.opening_bytes > small.memory_bytes);
+    let few = wish.updates_between_commits(100);
+    let few = Shape::for_wish(&few).unwrap().size().unwrap();
+    assert!(few.file_bytes < small.file_bytes);
+    let refused = Shape::for_wish(&Wish::default().sessions(33));
+    assert!(matches!(refused, Err(Error::BadShape)));
+    assert!(matches!(
+        Shape { page: 5, ..shape }.size(),
+        Err(Error::BadShape)
+    ));
+}
