@@ -98,7 +98,7 @@ static int32_t live(void) {
     for (uint64_t key = 0; key < KEYS; key++) WANTS("an add", fkv_add(session, key, 1, &told) >= 0, true);
     int32_t result = fkv_commit_and_wait(file, session);
     fkv_abandon(file, session);
-    WANTS("closing", fkv_close_file(file), 0);
+    WANTS("dropping", fkv_drop_file(file), 0);
     return result;
 }
 
