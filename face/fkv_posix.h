@@ -225,7 +225,7 @@ int32_t fkv_remove(fkv_file *file, fkv_session *session, uint64_t key, fkv_updat
 int32_t fkv_read(fkv_file *file, fkv_session *session, uint64_t key, uint64_t *value);
 
 /*
- * fkv_read of `count` keys: the answers stand in their places in `told`, which has `room` of them. A few keys are asked for at once.
+ * fkv_read of `count` keys: the answers stand in their places in `told`, which has `room` of them. Keys in memory are read many at once.
  * 0; -FKV_ROOM_SMALL where `room` is below `count`, and the refusals of fkv_settle. After these a `result` of FKV_PENDING is that of a read
  * that stays so, and the places behind weren't read.
  */

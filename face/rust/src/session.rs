@@ -293,7 +293,7 @@ impl Session {
         self.update_now(|file, at, told| unsafe { raw::fkv_remove(file, at, key, told) })
     }
 
-    /// [`Session::read`] of many keys: a few are asked for at once.
+    /// [`Session::read`] of many keys. Those in memory are read many at once.
     pub fn read_many(&mut self, keys: &[u64]) -> Result<Vec<Option<u64>>, Error> {
         let mut told = vec![raw::EachRead::default(); keys.len()];
         let (at, count) = (told.as_mut_ptr(), keys.len());
