@@ -63,15 +63,15 @@ typedef void fkv_stopped_fn(void *user, int32_t fault);
 typedef struct {
     uint64_t keys;                   /* keys that it will have; 65,536 */
     uint64_t sessions;               /* threads that use it at once, at most 32; 8. A turn takes 0.1 microseconds for each */
-    uint64_t memory_bytes;           /* memory that it may take, at most; as much as its keys want, some 250 bytes for each */
-    uint64_t updates_between_commits; /* keys that are updated between two commits; all of them */
+    uint64_t memory_bytes;           /* memory that it may take once it is open, at most; as its keys want: some 250 bytes for each */
+    uint64_t updates_between_commits; /* keys that are updated between two commits; all of them. The page and the log go by it */
     uint64_t log_bytes;              /* not used yet: kept for how long the log may grow */
 } fkv_wish;
 
 /* What a store of a shape takes, and holds. */
 typedef struct {
     uint64_t memory_bytes;  /* while it is open, with the copy that a full commit makes */
-    uint64_t opening_bytes; /* at the height of an opening of a store with so many keys; beside it the file's bytes, unless they are mapped */
+    uint64_t opening_bytes; /* about: at the height of an opening, where all these keys are there. The file's bytes come on top */
     uint64_t file_bytes;    /* of its file, at most. It grows as the log does: 24 bytes a record */
     uint64_t keys;          /* that fit, all but surely: by buckets, overflow buckets, and one spare of these for each session but one */
     uint64_t records;       /* that the log takes in all the store's life */
@@ -188,8 +188,8 @@ int32_t fkv_settle_for(fkv_file *file, fkv_session *session, uint32_t ms, fkv_fi
  * Lets the store go on: call it between a session's calls, as often as you like. Each 64th tick, or each 8th while a commit waits for the
  * session, polls and refreshes it. The others take a few instructions. What a poll of it has finished isn't told.
  * 0 while commits go on; -FKV_ASLEEP; and why none is finished any more: the keeper's fault, -FKV_VERSIONS_SPENT once the store has taken
- * its last commit, -FKV_LOG_FULL once an update has found the log full, -FKV_NO_KEEPER. Calls of the session go on meanwhile, as far as
- * they can, and what they do is lost with the process.
+ * its last commit, -FKV_NO_KEEPER; -FKV_LOG_FULL once a call of this header has found the log full, and -FKV_INDEX_FULL once an update was
+ * found to wait for ever. Calls of the session go on meanwhile, as far as they can, and what no commit keeps is lost with the process.
  */
 int32_t fkv_tick(fkv_file *file, fkv_session *session);
 
