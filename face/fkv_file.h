@@ -90,6 +90,12 @@ struct fkv_file {
     struct timespec commit_begun;
 };
 
+/* Writes what a new file is to have into its descriptor. 0, or -1 with errno. */
+typedef int fill_fn(void *its, int fd);
+
+/* Makes a file: it is filled and synced under another name, and then put in place, where no file may be. 0, or -1 with errno. */
+int fkv_make_beside(const char *path, fill_fn *fill, void *its);
+
 /* The bytes of the file before the log's record of address 0, which there is none of. */
 uint64_t fkv_log_place(const fkv_shape *shape);
 

@@ -39,12 +39,12 @@ typedef struct fkv_file fkv_file;
 
 /* Long work, and how far it has come. */
 typedef struct {
-    uint32_t work;  /* FKV_OPENING, FKV_COMMITTING */
-    uint64_t done;  /* bytes that were read; bytes that were written since the commit began */
+    uint32_t work;  /* FKV_OPENING, FKV_COMMITTING, FKV_SAVING */
+    uint64_t done;  /* bytes that were read, or copied; bytes that were written since the commit began */
     uint64_t total; /* bytes of the file; 0 of a commit, since nobody knows how many it takes */
 } fkv_progress;
 
-enum { FKV_OPENING = 0, FKV_COMMITTING = 1 };
+enum { FKV_OPENING = 0, FKV_COMMITTING = 1, FKV_SAVING = 2 };
 
 typedef void fkv_progress_fn(void *user, const fkv_progress *progress);
 
@@ -142,6 +142,20 @@ int32_t fkv_close_file(fkv_file *file);
 
 /* Closes the file without a last commit: what no commit has kept is lost. 0; -FKV_HANDLE_OUT as of fkv_close_file. */
 int32_t fkv_drop_file(fkv_file *file);
+
+/*
+ * Makes a backup of an open store: a new file at `path`, written under another name in the same folder, synced, and put in place by a
+ * rename that replaces nothing. It has the last finished commit, or the one that is just being finished. Sessions go on in memory
+ * meanwhile. Turns of the keeper wait until the file is copied: so do commits, reads of what lies in the file alone, and updates that want
+ * another page. Where the file system can share the bytes of two files (btrfs, XFS) that takes no time.
+ *
+ * The copy is made between two turns, and so the file reads as a crash at that place would leave it, with all writes kept. A copy that `cp`
+ * makes of an open store is none: its parts are of different times.
+ *
+ * `progress` is called as bytes are copied, or NULL; `user` is handed to it.
+ * 0; -FKV_MEMORY; -FKV_DEVICE (errno EEXIST: there is a file of this name, and it stays as it is; ENOSPC ..).
+ */
+int32_t fkv_save(fkv_file *file, const char *path, fkv_progress_fn *progress, void *user);
 
 /* The store's shape. */
 fkv_shape fkv_shape_of(const fkv_file *file);
