@@ -135,15 +135,12 @@ static int open_beside(const char *path, char *name, size_t room) {
     return -1;
 }
 
-/*
- * Writes the bytes to a new file, syncs it, and puts it in place. There it stays if the folder's sync fails: another process may have
- * opened it already.
- */
-static int write_file(const char *path, const uint8_t *bytes, size_t length) {
+/* (There it stays if the folder's sync fails: another process may have opened it already.) */
+int fkv_make_beside(const char *path, fill_fn *fill, void *its) {
     char name[PATH_MAX];
     int fd = open_beside(path, name, sizeof name);
     if (fd < 0) return -1;
-    int failed = write_at(fd, 0, bytes, length) || fsync(fd);
+    int failed = fill(its, fd) || fsync(fd);
     int why = errno;
     if (close(fd) && !failed) failed = 1, why = errno;
     if (!failed && put_in_place(name, path)) failed = 1, why = errno;
@@ -155,6 +152,8 @@ static int write_file(const char *path, const uint8_t *bytes, size_t length) {
     return sync_folder_of(path);
 }
 
+static int write_image(void *image, int fd) { return write_at(fd, 0, image, FKV_IMAGE_SIZE); }
+
 int32_t fkv_make_file(const char *path, const fkv_shape *shape) {
     uint8_t image[FKV_IMAGE_SIZE];
     int32_t result = fkv_image(shape, image, sizeof image);
@@ -164,7 +163,7 @@ int32_t fkv_make_file(const char *path, const fkv_shape *shape) {
         errno = EEXIST;
         return -FKV_DEVICE;
     }
-    return write_file(path, image, sizeof image) ? -FKV_DEVICE : 0;
+    return fkv_make_beside(path, write_image, image) ? -FKV_DEVICE : 0;
 }
 
 /* ---- Opening -------------------------------------------------------------------------------------------------------------- */

@@ -29,7 +29,8 @@ int32_t fkv_unserved(const fkv_file *file) {
 
 void fkv_find_end(fkv_file *file) {
     int32_t end = fkv_refusal(file);
-    atomic_store(&file->ends, end ? end : file->full);
+    if (!end) end = file->full ? file->full : file->stuck;
+    atomic_store(&file->ends, end);
 }
 
 void fkv_note_fault(fkv_file *file, int32_t fault, int why) {
@@ -83,8 +84,9 @@ int32_t fkv_never_room(const fkv_file *file, const struct patience *its) {
 void fkv_note_stuck(fkv_file *file, int32_t fault) {
     if (!fault || file->stuck) return;
     file->stuck = fault;
-    fkv_note_full(file, fault);
+    fkv_find_end(file);
     pthread_cond_broadcast(&file->news);
+    pthread_cond_signal(&file->work);
 }
 
 int32_t fkv_with_errno(const fkv_file *file, int32_t result) {

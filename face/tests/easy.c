@@ -262,7 +262,7 @@ static void idle(void) {
     WANTS("how it fares", fkv_stats_of(file, &before), 0);
     nanosleep(&(struct timespec){0, 300000000}, NULL);
     WANTS("how it fares", fkv_stats_of(file, &after), 0);
-    WANTS("whether few turns were made", after.turns - before.turns <= 30, true);
+    WANTS("whether few turns were made", after.turns - before.turns <= 100, true);
     WANTS("leaving", fkv_leave(file, session), 0);
     WANTS("closing", fkv_close_file(file), 0);
 }
@@ -379,9 +379,14 @@ static void late(void) {
     fkv_session *session = joined(0), *other = joined(2);
     WANTS("asking for a commit", fkv_ask_commit(file, &ticket), 0);
     WANTS("waiting for it", fkv_wait_commit_for(file, ticket, NULL, 20), FKV_PENDING);
+    do {
+        nanosleep(&(struct timespec){0, 1000000}, NULL);
+        WANTS("how it fares", fkv_stats_of(file, &stats), 0);
+    } while (stats.in_hand_us < 1000);
+    WANTS("who is late", stats.late, 5);
     for (int i = 0; i < 100; i++) WANTS("a tick", fkv_tick(file, session), 0);
     WANTS("how it fares", fkv_stats_of(file, &stats), 0);
-    WANTS("who is late", stats.late, 4);
+    WANTS("who is late then", stats.late, 4);
     WANTS("whether the commit goes on", stats.in_hand_us > 1000, true);
     WANTS("leaving", fkv_leave(file, other), 0);
     WANTS("waiting for it", fkv_wait_commit(file, ticket, session), 0);

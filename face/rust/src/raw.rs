@@ -238,6 +238,12 @@ unsafe extern "C" {
     pub fn fkv_make_file(path: *const c_char, shape: *const Shape) -> i32;
     pub fn fkv_open_file(path: *const c_char, how: *const How, out: *mut *mut File) -> i32;
     pub fn fkv_close_file(file: *mut File) -> i32;
+    pub fn fkv_save(
+        file: *mut File,
+        path: *const c_char,
+        progress: Option<TellProgress>,
+        user: *mut c_void,
+    ) -> i32;
     pub fn fkv_shape_of(file: *const File) -> Shape;
     pub fn fkv_last_commit(file: *mut File, points: *mut u64) -> u64;
     pub fn fkv_join(file: *mut File, number: u64, out: *mut *mut Session) -> i32;

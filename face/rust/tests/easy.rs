@@ -1,7 +1,9 @@
 //! The calls that just work: a session's own order beside commits, a tick that says why commits end, sizes for a wish, a keeper that keeps
 //! what was done.
-use fkv::{Error, Keeping, Made, Shape, Stats, Store, Wish};
+use fkv::{Error, Keeping, Made, Shape, Stats, Store, Wish, Work};
+use std::io::ErrorKind;
 use std::path::PathBuf;
+use std::sync::atomic::{AtomicBool, Ordering};
 use std::sync::mpsc;
 use std::time::{Duration, Instant};
 use std::{env, fs, process, thread};
@@ -178,6 +180,48 @@ fn what_is_done_is_kept_as_the_keeper_is_dropped() {
     drop(keeper);
     drop((session, store));
     assert_eq!(path.store(0).last_commit().number, 1);
+}
+
+#[test]
+fn a_backup_is_a_store() {
+    const KEYS: u64 = 200;
+    let (path, copy) = (Path::new("saved"), Path::new("copy"));
+    let store = path.store(KEYS);
+    let _keeper = store
+        .start(Keeping::default().commit_each(Duration::from_millis(5)))
+        .unwrap();
+    let ends = AtomicBool::new(false);
+    thread::scope(|scope| {
+        let (mut session, ends) = (store.join(0).unwrap(), &ends);
+        scope.spawn(move || {
+            for i in (0..).take_while(|_| !ends.load(Ordering::SeqCst)) {
+                session.increment(i % KEYS, 1).unwrap();
+                session.tick().unwrap();
+            }
+        });
+        for _ in 0..5 {
+            let _ = fs::remove_file(&copy.0);
+            let (before, mut told) = (store.last_commit().number, None);
+            store
+                .save(&copy.0, |progress| told = Some(progress))
+                .unwrap();
+            let told = told.unwrap();
+            assert_eq!((told.work, Some(told.done)), (Work::Saving, told.total));
+            let backup = Store::open(&copy.0).unwrap();
+            let _keeper = backup.start(Keeping::default()).unwrap();
+            let mut session = backup.join(1).unwrap();
+            let keys: Vec<u64> = (0..KEYS).collect();
+            let found = session.read_many(&keys).unwrap();
+            let commit = backup.last_commit();
+            assert!(commit.number >= before);
+            assert_eq!(found.iter().flatten().sum::<u64>(), commit.points[0]);
+        }
+        ends.store(true, Ordering::SeqCst);
+    });
+    assert!(matches!(
+        store.save(&copy.0, |_| {}),
+        Err(Error::Device(why)) if why.kind() == ErrorKind::AlreadyExists
+    ));
 }
 
 #[test]
