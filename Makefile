@@ -59,6 +59,8 @@ test: toolchain
 	@tools/renewing/run crates/fkv/out/fkv crates/fkv_renew/out/fkv_renew > /dev/null
 	@tools/face/make
 	@tools/face/run > /dev/null
+	@tools/face/make --quick
+	@tools/face/run --page build/unproved > /dev/null
 
 fkv: toolchain
 	@tools/script/prove
