@@ -37,6 +37,7 @@ struct patience {
 
 struct fkv_file {
     int fd;
+    uint32_t keys; /* how they are placed: see fkv_open */
     fkv_shape shape;
     fkv_store store;
     fkv_keeper keeper; /* of whoever has the turn */
@@ -89,6 +90,18 @@ struct fkv_file {
     uint64_t commit_bytes; /* and what it has written */
     struct timespec commit_begun;
 };
+
+/* All bytes of a file, in memory of their own or mapped: for munmap. */
+struct bytes {
+    uint8_t *at;
+    size_t size;
+};
+
+/* Shows all bytes of a file as they are now. Who wants those that a crash leaves syncs it before. 0; -FKV_NOT_A_STORE, -FKV_MEMORY, -FKV_DEVICE. */
+int32_t fkv_show_bytes(int fd, const fkv_how *how, struct bytes *shown);
+
+/* Opens and locks a file. Its descriptor, or -1 with errno. */
+int fkv_open_locked(const char *path);
 
 /* Writes what a new file is to have into its descriptor. 0, or -1 with errno. */
 typedef int fill_fn(void *its, int fd);

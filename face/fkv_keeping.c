@@ -21,7 +21,7 @@ enum {
     HASTE_TURN_US = 20,
     /* While no session is joined, which is told at once. */
     IDLE_TURN_US = 100000,
-    /* While sessions are joined and nothing happens, rests grow behind so many turns, up to so long. Who waits for a turn makes it. */
+    /* While sessions are joined and nothing happens, rests grow after so many turns, up to so long. Who waits for a turn makes it. */
     IDLE_TURNS = 64,
     IDLE_SESSION_US = 20000,
     /* Between two turns for what was abandoned, as a file is closed. */

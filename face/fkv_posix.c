@@ -168,12 +168,6 @@ int32_t fkv_make_file(const char *path, const fkv_shape *shape) {
 
 /* ---- Opening -------------------------------------------------------------------------------------------------------------- */
 
-/* All bytes of a file, in memory of their own or mapped. */
-struct bytes {
-    uint8_t *at;
-    size_t size;
-};
-
 static void tell_progress(const fkv_how *how, uint64_t done, uint64_t total) {
     fkv_progress progress = {FKV_OPENING, done, total};
     if (how->progress) how->progress(how->user, &progress);
@@ -196,8 +190,7 @@ static int read_whole(int fd, const fkv_how *how, struct bytes to) {
     return 0;
 }
 
-/* Shows all bytes of a file, which were synced. */
-static int32_t show(int fd, const fkv_how *how, struct bytes *shown) {
+int32_t fkv_show_bytes(int fd, const fkv_how *how, struct bytes *shown) {
     struct stat known;
     if (fstat(fd, &known)) return -FKV_DEVICE;
     if (!S_ISREG(known.st_mode)) {
@@ -215,8 +208,8 @@ static int32_t show(int fd, const fkv_how *how, struct bytes *shown) {
     return how->mapped || !read_whole(fd, how, *shown) ? 0 : -FKV_DEVICE;
 }
 
-/* Opens and locks a file. Its number isn't that of a standard stream, though one may be closed. */
-static int open_locked(const char *path) {
+/* Its number isn't that of a standard stream, though one may be closed. */
+int fkv_open_locked(const char *path) {
     int fd = open(path, O_RDWR | O_CLOEXEC | O_NOCTTY);
     if (fd >= 0 && fd <= STDERR_FILENO) {
         int low = fd;
@@ -265,7 +258,7 @@ static int32_t open_store(fkv_file *file, const char *path, const fkv_how *how) 
     struct bytes shown = {NULL, 0};
     /* A process that was killed may have written what no sync has kept, or made the file and not synced its name. */
     if (write_slots_anew(file->fd) || fsync(file->fd) || sync_folder_of(path)) return -FKV_DEVICE;
-    int32_t result = show(file->fd, how, &shown);
+    int32_t result = fkv_show_bytes(file->fd, how, &shown);
     if (result == 0) {
         result = fkv_open(shown.at, shown.size, how->keys, &file->store.at, &file->shape, &opened, file->points, FKV_MOST_SESSIONS);
     }
@@ -273,6 +266,7 @@ static int32_t open_store(fkv_file *file, const char *path, const fkv_how *how) 
     if (shown.at) munmap(shown.at, shown.size);
     errno = why;
     file->number = opened.number;
+    file->keys = how->keys;
     if (how->opened) *how->opened = opened;
     return result;
 }
@@ -356,7 +350,7 @@ int32_t fkv_open_file(const char *path, const fkv_how *how, fkv_file **out) {
     static const fkv_how usual;
     fkv_file *file = new_file();
     if (!file) return -FKV_MEMORY;
-    file->fd = open_locked(path);
+    file->fd = fkv_open_locked(path);
     int32_t result = file->fd < 0 ? -FKV_DEVICE : open_store(file, path, how ? how : &usual);
     if (result == 0) result = take_handles(file);
     if (result < 0) {

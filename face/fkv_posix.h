@@ -59,7 +59,7 @@ typedef void fkv_stopped_fn(void *user, int32_t fault);
 
 /* ---- Sizes ---------------------------------------------------------------------------------------------------------------- */
 
-/* What a program wants of a new store. A 0 stands for the default. */
+/* What a program wants of a new store. A 0 takes the default, which each comment ends with. */
 typedef struct {
     uint64_t keys;                   /* keys that it will have; 65,536 */
     uint64_t sessions;               /* threads that use it at once, at most 32; 8. A turn takes 0.1 microseconds for each */
@@ -146,7 +146,7 @@ int32_t fkv_drop_file(fkv_file *file);
 /*
  * Makes a backup of an open store: a new file at `path`, written under another name in the same folder, synced, and put in place by a
  * rename that replaces nothing. It has the last finished commit, or the one that is just being finished. Sessions go on in memory
- * meanwhile. Turns of the keeper wait until the file is copied: so do commits, reads of what lies in the file alone, and updates that want
+ * meanwhile. Turns of the keeper wait until the file is copied: so do commits, reads of records that only the file has, and updates that want
  * another page. Where the file system can share the bytes of two files (btrfs, XFS) that takes no time.
  *
  * The copy is made between two turns, and so the file reads as a crash at that place would leave it, with all writes kept. A copy that `cp`
@@ -156,6 +156,25 @@ int32_t fkv_drop_file(fkv_file *file);
  * 0; -FKV_MEMORY; -FKV_DEVICE (errno EEXIST: there is a file of this name, and it stays as it is; ENOSPC ..).
  */
 int32_t fkv_save(fkv_file *file, const char *path, fkv_progress_fn *progress, void *user);
+
+/* A pair of a store, with the key as the user knows it. 0 to go on; what else it answers ends the call, which answers it too. */
+typedef int32_t fkv_pair_fn(void *user, uint64_t key, uint64_t value);
+
+/*
+ * Calls `each` for each pair of a store: those of the last finished commit, or of the one that is just being finished, each key once, in no
+ * order. Sessions go on meanwhile. Turns of the keeper wait until the file is read; `each` is called after that. It takes memory for the
+ * file, for its renewal, and for an opening.
+ * 0, or what `each` has answered; -FKV_MEMORY, -FKV_DEVICE.
+ */
+int32_t fkv_each(fkv_file *file, fkv_pair_fn *each, void *user);
+
+/*
+ * Renews the store of the old file in a new one, as fkv_renew does, and puts that in place as fkv_make_file does. The old one is locked
+ * meanwhile, and stays as it is. `shape` is NULL or all zeros for its own; `told` may be NULL.
+ * The refusals are those of fkv_renew but -FKV_ROOM_SMALL; -FKV_DEVICE (errno EWOULDBLOCK: the old store is open; EEXIST: there is a file
+ * of the new name).
+ */
+int32_t fkv_renew_file(const char *old_path, const char *new_path, const fkv_shape *shape, uint32_t keys, fkv_renewed *told);
 
 /* The store's shape. */
 fkv_shape fkv_shape_of(const fkv_file *file);
@@ -186,8 +205,8 @@ int32_t fkv_leave(fkv_file *file, fkv_session *session);
 void fkv_abandon(fkv_file *file, fkv_session *session);
 
 /*
- * Polls a session until none of its requests is pending, with refreshes between, and tells each that is finished; `told` may be NULL. Its
- * thread makes the turns of the keeper that it waits for.
+ * Polls a session until none of its requests is pending, with refreshes between, and gives each that is finished to `told`, which may be
+ * NULL. Its thread makes the keeper's turns meanwhile.
  * 0; -FKV_ASLEEP; the refusals of who waits, see above. What is left stays pending then.
  */
 int32_t fkv_settle(fkv_file *file, fkv_session *session, fkv_finished_fn *told, void *user);
@@ -232,7 +251,7 @@ int32_t fkv_raise(fkv_file *file, fkv_session *session, uint64_t key, uint64_t n
 int32_t fkv_remove(fkv_file *file, fkv_session *session, uint64_t key, fkv_update *told);
 
 /*
- * Reads a key, and waits where its record lies in the file alone: FKV_FOUND (`*value`) or FKV_NONE.
+ * Reads a key, and waits if only the file has its record: FKV_FOUND (`*value`) or FKV_NONE.
  * The refusals are those of fkv_get but -FKV_PENDING_FULL, and those of fkv_settle. If waiting is refused, the read stays pending: nothing
  * takes a request back. It is one of the 64 until a poll or the next call that waits finishes it, and fkv_abandon leaves it to the keeper.
  */
@@ -241,7 +260,7 @@ int32_t fkv_read(fkv_file *file, fkv_session *session, uint64_t key, uint64_t *v
 /*
  * fkv_read of `count` keys: the answers stand in their places in `told`, which has `room` of them. Keys in memory are read many at once.
  * 0; -FKV_ROOM_SMALL where `room` is below `count`, and the refusals of fkv_settle. After these a `result` of FKV_PENDING is that of a read
- * that stays so, and the places behind weren't read.
+ * that stays so, and the keys after it weren't read.
  */
 int32_t fkv_read_many(fkv_file *file, fkv_session *session, const uint64_t *keys, size_t count, fkv_each_read *told, size_t room);
 

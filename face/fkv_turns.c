@@ -67,9 +67,9 @@ void fkv_begin_patience(const fkv_file *file, struct patience *its, uint32_t of)
 }
 
 /*
- * The library tells no reason at a poll, so this goes by what else is known. Behind so many turns each read is served. A session that is
- * awake alone waits for nobody's refresh. So what is left then waits for room. Where others are joined one of them may hold it up: there
- * the log has to be known as full, or to be near its end.
+ * A poll gives no reason, so this goes by what else is known. After so many turns each read is served. A session that is awake alone waits
+ * for nobody's refresh. So what is left then waits for room. If others are joined, then one of them may hold it up: so the log has to be
+ * known as full, or to be near its end.
  */
 int32_t fkv_never_room(const fkv_file *file, const struct patience *its) {
     if (file->turns - its->turns < FULL_TURNS || fkv_unserved(file)) return 0;

@@ -1,6 +1,6 @@
 /*
- * Backups of an open store: saving FOLDER. Threads add 1 to keys, and commits run. Each backup is a store whose values are those of its
- * points, and it has the last commit that was finished before.
+ * Backups of an open store, its pairs, and renewals: saving FOLDER. Threads add 1 to keys, and commits run. Each backup is a store whose
+ * values are those of its points, and it has the last commit that was finished before. So are the pairs. A renewal has both.
  */
 #define _POSIX_C_SOURCE 200809L
 #include "fkv_posix.h"
@@ -19,6 +19,11 @@ static const fkv_shape SHAPE = {10, 64, 8, 4, WORKERS, 256, 65536};
 static fkv_file *file;
 static atomic_bool ends;
 static uint64_t told_progress;
+
+/* The library's syncs come here: no power is cut, and disks take long. */
+int fsync(int fd) { return fd < 0; }
+
+int fdatasync(int fd) { return fd < 0; }
 
 static void *add(void *its_number) {
     uint64_t random = (uint64_t)(uintptr_t)its_number + 1;
@@ -57,6 +62,74 @@ static uint64_t checked(const char *path) {
     return number;
 }
 
+/* ---- Pairs and renewals --------------------------------------------------------------------------------------------------------- */
+
+struct pairs {
+    uint64_t count;
+    uint64_t sum;
+    uint64_t most; /* so many, and then it ends */
+    bool seen[KEYS];
+};
+
+static int32_t note_pair(void *its, uint64_t key, uint64_t value) {
+    struct pairs *pairs = its;
+    WANTS("whether a key is one of those", key < KEYS, true);
+    WANTS("whether it comes again", pairs->seen[key], false);
+    pairs->seen[key] = true;
+    pairs->sum += value;
+    return ++pairs->count == pairs->most ? 7 : 0;
+}
+
+static uint64_t sum_of_points(uint64_t *number) {
+    uint64_t points[FKV_MOST_SESSIONS], sum = 0;
+    *number = fkv_last_commit(file, points);
+    for (int i = 0; i < WORKERS; i++) sum += points[i];
+    return sum;
+}
+
+/* The pairs that are told while others add are those of some commit in between. */
+static void pairs_meanwhile(void) {
+    static struct pairs pairs;
+    uint64_t number;
+    pairs = (struct pairs){0};
+    uint64_t before = sum_of_points(&number);
+    WANTS("pairs", fkv_each(file, note_pair, &pairs), 0);
+    WANTS("whether they have the last commit", pairs.sum >= before, true);
+}
+
+static void pairs_at_rest(void) {
+    static struct pairs pairs;
+    uint64_t number, all = sum_of_points(&number);
+    pairs = (struct pairs){0};
+    WANTS("pairs", fkv_each(file, note_pair, &pairs), 0);
+    WANTS("their sum", pairs.sum, all);
+    WANTS("whether there are so many", pairs.count > 5 && pairs.count <= KEYS, true);
+    pairs = (struct pairs){.most = 5};
+    WANTS("some pairs", fkv_each(file, note_pair, &pairs), 7);
+    WANTS("how many they are", pairs.count, 5);
+}
+
+static void renewals(const char *path, const char *copy) {
+    static const fkv_shape large = {12, 64, 8, 4, WORKERS, 1024, 65536}, small = {2, 4, 8, 4, WORKERS, 0, 4096};
+    fkv_renewed told;
+    unlink(copy);
+    WANTS("renewing a store", fkv_renew_file(path, copy, NULL, FKV_AS_THEY_LIE, NULL), 0);
+    WANTS("the commit of a renewed store", checked(copy), 1);
+    WANTS("renewing it again", fkv_renew_file(path, copy, NULL, FKV_AS_THEY_LIE, NULL), -FKV_DEVICE);
+    WANTS("why", errno, EEXIST);
+    unlink(copy);
+    WANTS("renewing it larger", fkv_renew_file(path, copy, &large, FKV_AS_THEY_LIE, &told), 0);
+    WANTS("whether a size was told", told.size > 0, true);
+    WANTS("the commit of a renewed store", checked(copy), 1);
+    unlink(copy);
+    WANTS("renewing it too small", fkv_renew_file(path, copy, &small, FKV_AS_THEY_LIE, &told), -FKV_INDEX_FULL);
+    WANTS("whether a file is left", access(copy, F_OK), -1);
+    WANTS("opening a store", fkv_open_file(path, NULL, &file), 0);
+    WANTS("renewing it while it is open", fkv_renew_file(path, copy, NULL, FKV_AS_THEY_LIE, &told), -FKV_DEVICE);
+    WANTS("why", errno, EWOULDBLOCK);
+    WANTS("closing it", fkv_close_file(file), 0);
+}
+
 int main(int count, char **words) {
     char path[PATH_ROOM], copy[PATH_ROOM];
     uint64_t points[FKV_MOST_SESSIONS];
@@ -86,10 +159,14 @@ int main(int count, char **words) {
         WANTS("whether progress was told", told_progress > 0, true);
         uint64_t number = checked(copy);
         WANTS("whether the last commit is there", number >= before && number <= after + 1, true);
+        if (i % 5 == 0) pairs_meanwhile();
     }
     atomic_store(&ends, true);
     for (int i = 0; i < WORKERS; i++) pthread_join(workers[i], NULL);
+    WANTS("a last commit", fkv_commit_and_wait(file, NULL), 0);
+    pairs_at_rest();
     WANTS("closing", fkv_close_file(file), 0);
     WANTS("whether commits went on", checked(path) > 1, true);
+    renewals(path, copy);
     return 0;
 }

@@ -164,6 +164,13 @@ extern "C" fn tell_work(user: *mut c_void, progress: *const raw::Progress) {
     tell(Progress::of_raw(unsafe { &*progress }));
 }
 
+extern "C" fn tell_pair(user: *mut c_void, key: u64, value: u64) -> i32 {
+    // `each` hands it out, and it lives as long as that call.
+    let tell = unsafe { &mut *user.cast::<&mut dyn FnMut(u64, u64)>() };
+    tell(key, value);
+    0
+}
+
 /// How many files this process has opened.
 static OPENINGS: AtomicU64 = AtomicU64::new(0);
 
@@ -191,7 +198,7 @@ pub struct Store {
     file: Arc<OpenFile>,
 }
 
-fn path_for_c(path: &Path) -> Result<CString, Error> {
+pub(crate) fn path_for_c(path: &Path) -> Result<CString, Error> {
     CString::new(path.as_os_str().as_bytes())
         .map_err(|_| Error::Device(io::ErrorKind::InvalidInput.into()))
 }
@@ -279,6 +286,16 @@ impl Store {
         let mut tell: &mut dyn FnMut(Progress) = &mut tell;
         let user = ptr::from_mut(&mut tell).cast();
         answer(unsafe { raw::fkv_save(self.file.at, path.as_ptr(), Some(tell_work), user) })?;
+        Ok(())
+    }
+
+    /// Calls `tell` for each pair: those of the last finished commit, or of the one that is just being finished, each key once, in no order.
+    /// Sessions go on meanwhile, and turns of the keeper wait until the file is read. It takes memory for the file, for its renewal, and for
+    /// an opening. If `tell` panics, then the process is aborted. `Memory`, `Device`.
+    pub fn each(&self, mut tell: impl FnMut(u64, u64)) -> Result<(), Error> {
+        let mut tell: &mut dyn FnMut(u64, u64) = &mut tell;
+        let user = ptr::from_mut(&mut tell).cast();
+        answer(unsafe { raw::fkv_each(self.file.at, tell_pair, user) })?;
         Ok(())
     }
 

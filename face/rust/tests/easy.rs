@@ -1,6 +1,6 @@
 //! The calls that just work: a session's own order beside commits, a tick that says why commits end, sizes for a wish, a keeper that keeps
 //! what was done.
-use fkv::{Error, Keeping, Made, Shape, Stats, Store, Wish, Work};
+use fkv::{Error, Keeping, Made, RenewedKeys, Shape, Stats, Store, Wish, Work, renew_file};
 use std::io::ErrorKind;
 use std::path::PathBuf;
 use std::sync::atomic::{AtomicBool, Ordering};
@@ -222,6 +222,35 @@ fn a_backup_is_a_store() {
         store.save(&copy.0, |_| {}),
         Err(Error::Device(why)) if why.kind() == ErrorKind::AlreadyExists
     ));
+}
+
+#[test]
+fn pairs_and_a_renewed_file_have_the_last_commit() {
+    let (path, copy) = (Path::new("pairs"), Path::new("renewed"));
+    let store = path.store(1000);
+    let keeper = store.start(Keeping::default()).unwrap();
+    let mut session = store.join(1).unwrap();
+    for key in 0..1000 {
+        session.put(key << 20, key).unwrap();
+    }
+    session.remove(0).unwrap();
+    session.commit().unwrap();
+    session.put(7, 7).unwrap();
+    let mut pairs = Vec::new();
+    store.each(|key, value| pairs.push((key, value))).unwrap();
+    pairs.sort_unstable();
+    let wanted: Vec<(u64, u64)> = (1..1000).map(|key| (key << 20, key)).collect();
+    assert_eq!(pairs, wanted);
+    let busy = renew_file(&path.0, &copy.0, None, RenewedKeys::AsTheyLie);
+    assert!(matches!(busy, Err(Error::Device(why)) if why.kind() == ErrorKind::WouldBlock));
+    drop((session, keeper, store));
+    renew_file(&path.0, &copy.0, None, RenewedKeys::AsTheyLie).unwrap();
+    let renewed = Store::open(&copy.0).unwrap();
+    let commit = renewed.last_commit();
+    assert_eq!((commit.number, commit.points), (1, vec![0, 1002, 0]));
+    let mut count = 0;
+    renewed.each(|_, _| count += 1).unwrap();
+    assert_eq!(count, 1000);
 }
 
 #[test]
