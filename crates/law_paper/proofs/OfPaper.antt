@@ -8,4 +8,5 @@ pub mod Opened
 mod Reach
 pub mod Room
 pub mod Sound
+pub mod Stored
 mod Values

@@ -10,6 +10,7 @@ pub use apart::law_apart;
 pub use kept::law_kept;
 pub use paper::{
     law_kept_paper_is_sound, law_old_paper_is_sound, law_opened_paper_is_sound, law_paper_is_sound,
+    law_sound_is_store,
 };
 pub use phases::law_phases_are_seen;
 

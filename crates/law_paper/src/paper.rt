@@ -3,7 +3,7 @@ ghost use Rattle.std.specs.Prelude.{◌↔◌, ◌≤◌, ℕ, List, Option};
 ghost use Rattle.fkv_chains.specs.Chains.{HasChains};
 ghost use Rattle.fkv_chains.specs.Entries.{Counts};
 ghost use Rattle.fkv_newest.specs.declared.newest_slots.Newest.{Newest};
-ghost use Rattle.fkv_opening.specs.Faults.{HasCheckpoint, log_of};
+ghost use Rattle.fkv_opening.specs.Faults.{HasCheckpoint, IsSound, log_of};
 ghost use Rattle.fkv_opening.specs.Alike.{Agree, ShareLog};
 ghost use Rattle.fkv_opening.specs.Opened.{IsStoreOf};
 ghost use Rattle.fkv_opening.specs.declared.opened_store.Opened.{Opened};
@@ -15,7 +15,7 @@ ghost use Rattle.fkv_record.specs.declared.triples.Triple.{Triple};
 ghost use Rattle.fkv_room.specs.Room.{HasRoom};
 ghost use Rattle.fkv_scan.specs.Log as scan;
 ghost use Rattle.fkv_scan.specs.Scan.{Has, HasScan};
-ghost use Rattle.law_paper.specs.Paper.Named.{HoldsCommit};
+ghost use Rattle.law_paper.specs.Paper.Named.{HoldsCommit, HoldsStore};
 ghost use Rattle.law_paper.specs.Paper.Old.{StandsOnOld};
 ghost use Rattle.law_paper.specs.Paper.Opened.{StandsAsOpened, with_numbers};
 ghost use Rattle.law_paper.specs.Paper.Slots.{HasSlots};
@@ -24,9 +24,16 @@ ghost use Rattle.law_paper.specs.Paper.Values.{ShowsUpto};
 
 use fkv_record::{law_formats_apart, law_spellings_apart};
 
+/// An image in which no stage of recovery finds a fault holds a store: its newest slot, the entries of its log, and the lost ranges in hand make one.
+pub fn law_sound_is_store()
+    ensures { (bytes : List ℕ) (n : Newest) (triples : List Triple) → HasCheckpoint bytes n triples → IsSound (log_of bytes n triples) → HoldsStore bytes }
+{
+    law_spellings_apart();
+}
+
 /// A commit is in force that uses a checkpoint of the same life. Then recovery finds no fault in the scan and in the chains. What counts is what the log has
 /// of versions up to the commit's, and each key has the value that the log shows of these. If each home has a slot of the live index, recovery's index has
-/// room for all. So an image whose newest slot names the commit has no fault. Any store that it holds is of that commit, with its points and these values.
+/// room for all. So an image whose newest slot names the commit has no fault, and holds a store. Any store that it holds is of that commit, with its points and these values.
 pub fn law_paper_is_sound()
     ensures scan { (home : ℕ → ℕ) (image : scan.Log) (g : Log) → StandsOnPaper home image g → HasScan image }
     ensures chains { (home : ℕ → ℕ) (image : scan.Log) (g : Log) → StandsOnPaper home image g → HasChains image }
@@ -53,8 +60,8 @@ pub fn law_old_paper_is_sound()
     law_formats_apart();
 }
 
-/// While the commit with which the store was opened is in force, an image that agrees with the opened bytes on what recovery reads has no fault. Any store
-/// that it holds is of that commit, with the values that the log shows of versions up to the commit's.
+/// While the commit with which the store was opened is in force, an image that agrees with the opened bytes on what recovery reads has no fault, and holds
+/// a store. Any store that it holds is of that commit, with the values that the log shows of versions up to the commit's.
 pub fn law_opened_paper_is_sound()
     ensures { (home : ℕ → ℕ) (bytes image : List ℕ) (o : Opened) (store : IsStoreOf bytes o) (g : Log) → Agree bytes image → StandsAsOpened home (log_of_store bytes o store) g → HoldsCommit home image store.newest g }
 {

@@ -15,12 +15,14 @@ use Rattle.law_paper.specs.Paper.Named.{HoldsCommit}
 use Rattle.law_paper.specs.Paper.Slots.{HasSlots}
 use Rattle.law_paper.specs.Paper.Values.{CountsAsLog, ShowsUpto}
 use Rattle.law_paper.proofs.OfPaper.Room.{has_room}
+use Rattle.law_paper.proofs.OfPaper.Stored.{is_store, opened}
 use Rattle.law_paper.proofs.OfPaper.Values.{shows_upto}
 
 module _ (apart : Apart) (bytes : List ℕ) (n : Newest) (xs : List Triple) (has : HasCheckpoint bytes n xs) where
   named_alone : (home : ℕ → ℕ) (g : Log) → IsSound (log_of bytes n xs) → ShowsUpto home (log_of bytes n xs) g → HoldsCommit home bytes n g
   named_alone home g sound shows = record {
     faultless = no_fault apart bytes n xs has sound;
+    store = record { opened = opened apart.records bytes n xs has sound; is = is_store apart.records bytes n xs has sound };
     each = λ r store.
         let m = store.newest in
         let its = store.checkpoint in

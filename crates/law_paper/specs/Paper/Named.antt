@@ -17,7 +17,13 @@ pub record IsOfCommit (home : ℕ → ℕ) (bytes : List ℕ) (n : Newest) (g : 
   pub points : r.points.items ≡ n.slot.points.serials.items
   pub values : (key : Key) (value : Value) → (shown_upto home g n.slot.number key.0 ≡ Some value.0) ↔ HasValue (log_of_store bytes r store) key value
 
--- No fault stands in the image, and any store that it holds is of that commit.
+-- An image holds a store.
+pub record HoldsStore (bytes : List ℕ) : Type 0 where
+  pub opened : Opened
+  pub is : IsStoreOf bytes opened
+
+-- The image has no fault and holds a store. Any store that it holds is of that commit.
 pub record HoldsCommit (home : ℕ → ℕ) (bytes : List ℕ) (n : Newest) (g : Log) : Type 0 where
   pub faultless : (fault : Fault) → IsFaultOf bytes fault → ⊥
+  pub store : HoldsStore bytes
   pub each : (r : Opened) (store : IsStoreOf bytes r) → IsOfCommit home bytes n g r store

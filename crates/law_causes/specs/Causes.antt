@@ -1,0 +1,68 @@
+-- Why the keeper refuses a commit, and why it ends a turn early.
+use Rattle.std.specs.Prelude.{◌≡◌, ℕ, List, [], ◌∷◌, Bool, false, length, Option, Some, None}
+use Rattle.fkv_base.specs.declared.commits.CommitKind.{CommitKind}
+use Rattle.fkv_base.specs.declared.faults.Fault.{Fault}
+use Rattle.fkv_base.specs.declared.faults.Fault.TheVariants as fault
+use Rattle.fkv_base.specs.declared.shapes.Shape.{Shape}
+use Rattle.fkv_plane.specs.declared.places.Places.{Places}
+use Rattle.fkv_commit.specs.Exchanges.{AreIdle, Exchange, WasEpochLast}
+use Rattle.fkv_commit.specs.Phases.{IsRefusalTrue}
+use Rattle.fkv_epoch.specs.Once.{Among}
+use Rattle.fkv_keeper.specs.KeeperRun.{BeginsCommit, Calls, KeeperEvent, Replies, is_in_hand, keeper_run}
+use Rattle.fkv_keeper.specs.Keeping.{KeeperState}
+use Rattle.fkv_keeper.specs.declared.keepers.Keeping.TheVariants.{LoadsPhase}
+use Rattle.fkv_commit.specs.declared.commits.Commit.{Commit}
+
+-- ---- what was asked for
+-- the kind of the commit that was asked for last, where no call was in hand
+abbrev pub kind_after : Bool → KeeperEvent → Option CommitKind → Option CommitKind
+kind_after false (BeginsCommit kind) was = Some kind
+kind_after in_hand event was = was
+
+unfoldable pub kind_asked : Shape → Places → KeeperState → List KeeperEvent → Option CommitKind
+kind_asked shape p opening [] = None
+kind_asked shape p opening (event ∷ before) = kind_after (is_in_hand (keeper_run shape p opening before).step) event (kind_asked shape p opening before)
+
+-- how many lost ranges the keeper has in hand
+abbrev pub lost_in_hand : KeeperState → ℕ
+lost_in_hand s = length s.lost
+
+-- a call of the device has failed
+abbrev pub HasFailed : List KeeperEvent → Type 0
+HasFailed events = (bytes : List ℕ) × Among (Calls false bytes) events
+
+-- ---- a commit that is refused
+-- The call has changed no word. By what it was replied the cause holds, of a commit of this kind with so many lost ranges in hand.
+pub record IsShown (asked : Option CommitKind) (lost : ℕ) (why : Fault) (told : List Exchange) : Type 0 where
+  pub kind : CommitKind
+  pub its_kind : asked ≡ Some kind
+  pub idle : AreIdle told
+  pub shown : IsRefusalTrue kind lost why told
+
+-- It is refused as broken only if a call of the device has failed before. Any other cause is shown by what this call has asked and was replied.
+abbrev pub HasCommitCause : List KeeperEvent → Option CommitKind → ℕ → List Exchange → Fault → Type 0
+HasCommitCause before asked lost told fault.Broken = HasFailed before
+HasCommitCause before asked lost told why = IsShown asked lost why told
+
+-- ---- a turn that ends early
+-- This event is a call of the device, and it failed.
+abbrev pub IsFailure : KeeperEvent → Type 0
+IsFailure event = (bytes : List ℕ) × (event ≡ Calls false bytes)
+
+-- The phase was loaded, and memory was refused for a copy of the index by the commit in hand, which isn't copied.
+pub record IsMemoryRefusal (s : KeeperState) (event : KeeperEvent) : Type 0 where
+  pub reply : ℕ
+  pub refused : event ≡ Replies reply false
+  pub loads : s.step ≡ LoadsPhase
+  pub commit : Commit
+  pub in_hand : s.commit ≡ Some commit
+  pub not_copied : (let c = commit in c.is_copied ≡ false)
+
+-- It ends as broken only if a call of the device has failed before, and for the device only at its own call, if that failed. It ends for the epochs only if
+-- the epoch's word that it has loaded is the last. It ends for memory only where that was refused.
+abbrev pub HasTurnCause : List KeeperEvent → KeeperState → KeeperEvent → List Exchange → Fault → Type 0
+HasTurnCause before s event told fault.Broken = HasFailed before
+HasTurnCause before s event told fault.Device = IsFailure event
+HasTurnCause before s event told fault.EpochsSpent = WasEpochLast told
+HasTurnCause before s event told fault.Memory = IsMemoryRefusal s event
+HasTurnCause before s event told why = ⊥
