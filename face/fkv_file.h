@@ -37,6 +37,7 @@ struct patience {
 
 struct fkv_file {
     int fd;
+    uint32_t keys; /* how they are placed: see fkv_open */
     fkv_shape shape;
     fkv_store store;
     fkv_keeper keeper; /* of whoever has the turn */
@@ -76,9 +77,9 @@ struct fkv_file {
     uint64_t covers;   /* tickets up to this one are served by the commit in hand */
     uint64_t finished; /* and up to this one they are served */
     int32_t fault;     /* 0 while there are turns and commits */
-    int32_t full;      /* -FKV_LOG_FULL once the log is known to be full */
-    bool index_full;   /* an update has found no room in the index */
-    int32_t stuck;     /* an update waits for ever: -FKV_LOG_FULL or -FKV_INDEX_FULL. So no commit is finished any more */
+    int32_t full;      /* -FKV_LOG_FULL once an update was refused by it */
+    bool index_full;   /* an update was refused by the index */
+    int32_t stuck;     /* an update seems to wait for ever: -FKV_LOG_FULL or -FKV_INDEX_FULL. Then no commit is finished; else it was wrong */
     fkv_keeping keeping;
 
     uint64_t turns;        /* that have ended well, since the opening */
@@ -89,6 +90,24 @@ struct fkv_file {
     uint64_t commit_bytes; /* and what it has written */
     struct timespec commit_begun;
 };
+
+/* All bytes of a file, in memory of their own or mapped: for munmap. */
+struct bytes {
+    uint8_t *at;
+    size_t size;
+};
+
+/* Shows all bytes of a file as they are now. Who wants those that a crash leaves syncs it before. 0; -FKV_NOT_A_STORE, -FKV_MEMORY, -FKV_DEVICE. */
+int32_t fkv_show_bytes(int fd, const fkv_how *how, struct bytes *shown);
+
+/* Opens and locks a file. Its descriptor, or -1 with errno. */
+int fkv_open_locked(const char *path);
+
+/* Writes what a new file is to have into its descriptor. 0, or -1 with errno. */
+typedef int fill_fn(void *its, int fd);
+
+/* Makes a file: it is filled and synced under another name, and then put in place, where no file may be. 0, or -1 with errno. */
+int fkv_make_beside(const char *path, fill_fn *fill, void *its);
 
 /* The bytes of the file before the log's record of address 0, which there is none of. */
 uint64_t fkv_log_place(const fkv_shape *shape);
@@ -135,7 +154,7 @@ void fkv_begin_patience(const fkv_file *file, struct patience *its, uint32_t of)
 /* Whether what waits will wait for ever: -FKV_LOG_FULL or -FKV_INDEX_FULL, or 0. */
 int32_t fkv_never_room(const fkv_file *file, const struct patience *its);
 
-/* An update waits for ever, for this fault. 0 says nothing. */
+/* An update seems to wait for ever, for this fault. 0 says nothing. */
 void fkv_note_stuck(fkv_file *file, int32_t fault);
 
 /* Why nobody serves a commit, or 0. */

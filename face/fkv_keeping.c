@@ -21,7 +21,7 @@ enum {
     HASTE_TURN_US = 20,
     /* While no session is joined, which is told at once. */
     IDLE_TURN_US = 100000,
-    /* While sessions are joined and nothing happens, rests grow behind so many turns, up to so long. Who waits for a turn makes it. */
+    /* While sessions are joined and nothing happens, rests grow after so many turns, up to so long. Who waits for a turn makes it. */
     IDLE_TURNS = 64,
     IDLE_SESSION_US = 20000,
     /* Between two turns for what was abandoned, as a file is closed. */
@@ -102,6 +102,8 @@ static void note_finished(const struct run *run, const struct turn *turn) {
     file->commit_us = fkv_since(file->commit_begun);
     file->commit_bytes = run->written;
     memcpy(file->points, turn->points, sizeof file->points);
+    file->stuck = 0;
+    fkv_find_end(file);
     pthread_cond_broadcast(&file->news);
     if (file->number >= FKV_MOST_COMMITS) fkv_note_fault(file, -FKV_VERSIONS_SPENT, 0);
 }
@@ -238,8 +240,8 @@ static void wake_in_time(void) {
 static void tell_stopped(struct run *run) {
     fkv_file *file = run->file;
     const fkv_keeping *keeping = &file->keeping;
-    int32_t fault = file->fault ? file->fault : file->full;
-    if (!fault || run->has_told) return;
+    int32_t fault = atomic_load(&file->ends);
+    if (!fault || fault == -FKV_NO_KEEPER || run->has_told) return;
     run->has_told = true;
     pthread_mutex_unlock(&file->lock);
     if (keeping->stopped) keeping->stopped(keeping->user, fkv_with_errno(file, fault));

@@ -135,15 +135,12 @@ static int open_beside(const char *path, char *name, size_t room) {
     return -1;
 }
 
-/*
- * Writes the bytes to a new file, syncs it, and puts it in place. There it stays if the folder's sync fails: another process may have
- * opened it already.
- */
-static int write_file(const char *path, const uint8_t *bytes, size_t length) {
+/* (There it stays if the folder's sync fails: another process may have opened it already.) */
+int fkv_make_beside(const char *path, fill_fn *fill, void *its) {
     char name[PATH_MAX];
     int fd = open_beside(path, name, sizeof name);
     if (fd < 0) return -1;
-    int failed = write_at(fd, 0, bytes, length) || fsync(fd);
+    int failed = fill(its, fd) || fsync(fd);
     int why = errno;
     if (close(fd) && !failed) failed = 1, why = errno;
     if (!failed && put_in_place(name, path)) failed = 1, why = errno;
@@ -155,6 +152,8 @@ static int write_file(const char *path, const uint8_t *bytes, size_t length) {
     return sync_folder_of(path);
 }
 
+static int write_image(void *image, int fd) { return write_at(fd, 0, image, FKV_IMAGE_SIZE); }
+
 int32_t fkv_make_file(const char *path, const fkv_shape *shape) {
     uint8_t image[FKV_IMAGE_SIZE];
     int32_t result = fkv_image(shape, image, sizeof image);
@@ -164,16 +163,10 @@ int32_t fkv_make_file(const char *path, const fkv_shape *shape) {
         errno = EEXIST;
         return -FKV_DEVICE;
     }
-    return write_file(path, image, sizeof image) ? -FKV_DEVICE : 0;
+    return fkv_make_beside(path, write_image, image) ? -FKV_DEVICE : 0;
 }
 
 /* ---- Opening -------------------------------------------------------------------------------------------------------------- */
-
-/* All bytes of a file, in memory of their own or mapped. */
-struct bytes {
-    uint8_t *at;
-    size_t size;
-};
 
 static void tell_progress(const fkv_how *how, uint64_t done, uint64_t total) {
     fkv_progress progress = {FKV_OPENING, done, total};
@@ -197,8 +190,7 @@ static int read_whole(int fd, const fkv_how *how, struct bytes to) {
     return 0;
 }
 
-/* Shows all bytes of a file, which were synced. */
-static int32_t show(int fd, const fkv_how *how, struct bytes *shown) {
+int32_t fkv_show_bytes(int fd, const fkv_how *how, struct bytes *shown) {
     struct stat known;
     if (fstat(fd, &known)) return -FKV_DEVICE;
     if (!S_ISREG(known.st_mode)) {
@@ -216,8 +208,8 @@ static int32_t show(int fd, const fkv_how *how, struct bytes *shown) {
     return how->mapped || !read_whole(fd, how, *shown) ? 0 : -FKV_DEVICE;
 }
 
-/* Opens and locks a file. Its number isn't that of a standard stream, though one may be closed. */
-static int open_locked(const char *path) {
+/* Its number isn't that of a standard stream, though one may be closed. */
+int fkv_open_locked(const char *path) {
     int fd = open(path, O_RDWR | O_CLOEXEC | O_NOCTTY);
     if (fd >= 0 && fd <= STDERR_FILENO) {
         int low = fd;
@@ -266,7 +258,7 @@ static int32_t open_store(fkv_file *file, const char *path, const fkv_how *how) 
     struct bytes shown = {NULL, 0};
     /* A process that was killed may have written what no sync has kept, or made the file and not synced its name. */
     if (write_slots_anew(file->fd) || fsync(file->fd) || sync_folder_of(path)) return -FKV_DEVICE;
-    int32_t result = show(file->fd, how, &shown);
+    int32_t result = fkv_show_bytes(file->fd, how, &shown);
     if (result == 0) {
         result = fkv_open(shown.at, shown.size, how->keys, &file->store.at, &file->shape, &opened, file->points, FKV_MOST_SESSIONS);
     }
@@ -274,6 +266,7 @@ static int32_t open_store(fkv_file *file, const char *path, const fkv_how *how) 
     if (shown.at) munmap(shown.at, shown.size);
     errno = why;
     file->number = opened.number;
+    file->keys = how->keys;
     if (how->opened) *how->opened = opened;
     return result;
 }
@@ -357,7 +350,7 @@ int32_t fkv_open_file(const char *path, const fkv_how *how, fkv_file **out) {
     static const fkv_how usual;
     fkv_file *file = new_file();
     if (!file) return -FKV_MEMORY;
-    file->fd = open_locked(path);
+    file->fd = fkv_open_locked(path);
     int32_t result = file->fd < 0 ? -FKV_DEVICE : open_store(file, path, how ? how : &usual);
     if (result == 0) result = take_handles(file);
     if (result < 0) {

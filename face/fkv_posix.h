@@ -39,12 +39,12 @@ typedef struct fkv_file fkv_file;
 
 /* Long work, and how far it has come. */
 typedef struct {
-    uint32_t work;  /* FKV_OPENING, FKV_COMMITTING */
-    uint64_t done;  /* bytes that were read; bytes that were written since the commit began */
+    uint32_t work;  /* FKV_OPENING, FKV_COMMITTING, FKV_SAVING */
+    uint64_t done;  /* bytes that were read, or copied; bytes that were written since the commit began */
     uint64_t total; /* bytes of the file; 0 of a commit, since nobody knows how many it takes */
 } fkv_progress;
 
-enum { FKV_OPENING = 0, FKV_COMMITTING = 1 };
+enum { FKV_OPENING = 0, FKV_COMMITTING = 1, FKV_SAVING = 2 };
 
 typedef void fkv_progress_fn(void *user, const fkv_progress *progress);
 
@@ -59,19 +59,19 @@ typedef void fkv_stopped_fn(void *user, int32_t fault);
 
 /* ---- Sizes ---------------------------------------------------------------------------------------------------------------- */
 
-/* What a program wants of a new store. A 0 stands for the default. */
+/* What a program wants of a new store. A 0 takes the default, which each comment ends with. */
 typedef struct {
     uint64_t keys;                   /* keys that it will have; 65,536 */
     uint64_t sessions;               /* threads that use it at once, at most 32; 8. A turn takes 0.1 microseconds for each */
-    uint64_t memory_bytes;           /* memory that it may take, at most; as much as its keys want, some 250 bytes for each */
-    uint64_t updates_between_commits; /* keys that are updated between two commits; all of them */
+    uint64_t memory_bytes;           /* memory that it may take once it is open, at most; as its keys want: some 250 bytes for each */
+    uint64_t updates_between_commits; /* keys that are updated between two commits; all of them. The page and the log go by it */
     uint64_t log_bytes;              /* not used yet: kept for how long the log may grow */
 } fkv_wish;
 
 /* What a store of a shape takes, and holds. */
 typedef struct {
     uint64_t memory_bytes;  /* while it is open, with the copy that a full commit makes */
-    uint64_t opening_bytes; /* at the height of an opening of a store with so many keys; beside it the file's bytes, unless they are mapped */
+    uint64_t opening_bytes; /* about: at the height of an opening, where all these keys are there. The file's bytes come on top */
     uint64_t file_bytes;    /* of its file, at most. It grows as the log does: 24 bytes a record */
     uint64_t keys;          /* that fit, all but surely: by buckets, overflow buckets, and one spare of these for each session but one */
     uint64_t records;       /* that the log takes in all the store's life */
@@ -143,6 +143,39 @@ int32_t fkv_close_file(fkv_file *file);
 /* Closes the file without a last commit: what no commit has kept is lost. 0; -FKV_HANDLE_OUT as of fkv_close_file. */
 int32_t fkv_drop_file(fkv_file *file);
 
+/*
+ * Makes a backup of an open store: a new file at `path`, written under another name in the same folder, synced, and put in place by a
+ * rename that replaces nothing. It has the last finished commit, or the one that is just being finished. Sessions go on in memory
+ * meanwhile. Turns of the keeper wait until the file is copied: so do commits, reads of records that only the file has, and updates that want
+ * another page. Where the file system can share the bytes of two files (btrfs, XFS) that takes no time.
+ *
+ * The copy is made between two turns, and so the file reads as a crash at that place would leave it, with all writes kept. A copy that `cp`
+ * makes of an open store is none: its parts are of different times.
+ *
+ * `progress` is called as bytes are copied, or NULL; `user` is handed to it.
+ * 0; -FKV_MEMORY; -FKV_DEVICE (errno EEXIST: there is a file of this name, and it stays as it is; ENOSPC ..).
+ */
+int32_t fkv_save(fkv_file *file, const char *path, fkv_progress_fn *progress, void *user);
+
+/* A pair of a store, with the key as the user knows it. 0 to go on; what else it answers ends the call, which answers it too. */
+typedef int32_t fkv_pair_fn(void *user, uint64_t key, uint64_t value);
+
+/*
+ * Calls `each` for each pair of a store: those of the last finished commit, or of the one that is just being finished, each key once, in no
+ * order. Sessions go on meanwhile. Turns of the keeper wait until the file is read; `each` is called after that. It takes memory for the
+ * file, for its renewal, and for an opening.
+ * 0, or what `each` has answered; -FKV_MEMORY, -FKV_DEVICE.
+ */
+int32_t fkv_each(fkv_file *file, fkv_pair_fn *each, void *user);
+
+/*
+ * Renews the store of the old file in a new one, as fkv_renew does, and puts that in place as fkv_make_file does. The old one is locked
+ * meanwhile, and stays as it is. `shape` is NULL or all zeros for its own; `told` may be NULL.
+ * The refusals are those of fkv_renew but -FKV_ROOM_SMALL; -FKV_DEVICE (errno EWOULDBLOCK: the old store is open; EEXIST: there is a file
+ * of the new name).
+ */
+int32_t fkv_renew_file(const char *old_path, const char *new_path, const fkv_shape *shape, uint32_t keys, fkv_renewed *told);
+
 /* The store's shape. */
 fkv_shape fkv_shape_of(const fkv_file *file);
 
@@ -172,8 +205,8 @@ int32_t fkv_leave(fkv_file *file, fkv_session *session);
 void fkv_abandon(fkv_file *file, fkv_session *session);
 
 /*
- * Polls a session until none of its requests is pending, with refreshes between, and tells each that is finished; `told` may be NULL. Its
- * thread makes the turns of the keeper that it waits for.
+ * Polls a session until none of its requests is pending, with refreshes between, and gives each that is finished to `told`, which may be
+ * NULL. Its thread makes the keeper's turns meanwhile.
  * 0; -FKV_ASLEEP; the refusals of who waits, see above. What is left stays pending then.
  */
 int32_t fkv_settle(fkv_file *file, fkv_session *session, fkv_finished_fn *told, void *user);
@@ -188,8 +221,8 @@ int32_t fkv_settle_for(fkv_file *file, fkv_session *session, uint32_t ms, fkv_fi
  * Lets the store go on: call it between a session's calls, as often as you like. Each 64th tick, or each 8th while a commit waits for the
  * session, polls and refreshes it. The others take a few instructions. What a poll of it has finished isn't told.
  * 0 while commits go on; -FKV_ASLEEP; and why none is finished any more: the keeper's fault, -FKV_VERSIONS_SPENT once the store has taken
- * its last commit, -FKV_LOG_FULL once an update has found the log full, -FKV_NO_KEEPER. Calls of the session go on meanwhile, as far as
- * they can, and what they do is lost with the process.
+ * its last commit, -FKV_NO_KEEPER; -FKV_LOG_FULL once a call of this header has found the log full, and -FKV_INDEX_FULL once an update was
+ * found to wait for ever. Calls of the session go on meanwhile, as far as they can, and what no commit keeps is lost with the process.
  */
 int32_t fkv_tick(fkv_file *file, fkv_session *session);
 
@@ -218,7 +251,7 @@ int32_t fkv_raise(fkv_file *file, fkv_session *session, uint64_t key, uint64_t n
 int32_t fkv_remove(fkv_file *file, fkv_session *session, uint64_t key, fkv_update *told);
 
 /*
- * Reads a key, and waits where its record lies in the file alone: FKV_FOUND (`*value`) or FKV_NONE.
+ * Reads a key, and waits if only the file has its record: FKV_FOUND (`*value`) or FKV_NONE.
  * The refusals are those of fkv_get but -FKV_PENDING_FULL, and those of fkv_settle. If waiting is refused, the read stays pending: nothing
  * takes a request back. It is one of the 64 until a poll or the next call that waits finishes it, and fkv_abandon leaves it to the keeper.
  */
@@ -227,7 +260,7 @@ int32_t fkv_read(fkv_file *file, fkv_session *session, uint64_t key, uint64_t *v
 /*
  * fkv_read of `count` keys: the answers stand in their places in `told`, which has `room` of them. Keys in memory are read many at once.
  * 0; -FKV_ROOM_SMALL where `room` is below `count`, and the refusals of fkv_settle. After these a `result` of FKV_PENDING is that of a read
- * that stays so, and the places behind weren't read.
+ * that stays so, and the keys after it weren't read.
  */
 int32_t fkv_read_many(fkv_file *file, fkv_session *session, const uint64_t *keys, size_t count, fkv_each_read *told, size_t room);
 

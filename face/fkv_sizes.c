@@ -29,8 +29,8 @@ enum {
     RECORD_WORDS = 3,
     /* Bytes that the copy of a full commit takes for each bucket. */
     COPY_SIZE = 112,
-    /* Bytes that an opening takes for each entry and record that it reads. */
-    OPENED_SIZE = 100
+    /* An opening has the store's words twice for a moment, and so many bytes for each key. (measured: 170 to 230) */
+    OPENED_SIZE = 200
 };
 
 static const uint64_t MOST_DISK_PAGES = UINT64_C(1) << 30;
@@ -48,10 +48,11 @@ static uint64_t power_for(uint64_t number) {
 
 static uint64_t buckets_of(const fkv_shape *shape) { return (UINT64_C(1) << shape->bucket_bits) + shape->overflow; }
 
-static uint64_t memory_of(const fkv_shape *shape) {
-    uint64_t words = STORE_WORDS + SESSION_WORDS * shape->sessions + BUCKET_WORDS * buckets_of(shape) + RECORD_WORDS * shape->page * shape->frames;
-    return 8 * words + COPY_SIZE * buckets_of(shape);
+static uint64_t words_of(const fkv_shape *shape) {
+    return STORE_WORDS + SESSION_WORDS * shape->sessions + BUCKET_WORDS * buckets_of(shape) + RECORD_WORDS * shape->page * shape->frames;
 }
+
+static uint64_t memory_of(const fkv_shape *shape) { return 8 * words_of(shape) + COPY_SIZE * buckets_of(shape); }
 
 /* ---- How many keys fit ---------------------------------------------------------------------------------------------------------- */
 
@@ -146,12 +147,12 @@ int32_t fkv_size_of(const fkv_shape *shape, fkv_size *size) {
     uint8_t image[FKV_IMAGE_SIZE];
     int32_t result = fkv_image(shape, image, sizeof image);
     if (result < 0) return result;
-    uint64_t memory = memory_of(shape);
+    uint64_t keys = keys_of(shape);
     *size = (fkv_size){
-        .memory_bytes = memory,
-        .opening_bytes = memory + OPENED_SIZE * keys_of(shape),
+        .memory_bytes = memory_of(shape),
+        .opening_bytes = 2 * 8 * words_of(shape) + OPENED_SIZE * keys,
         .file_bytes = fkv_log_place(shape) + RECORD_SIZE * shape->page * shape->disk_pages,
-        .keys = keys_of(shape),
+        .keys = keys,
         .records = shape->page * shape->disk_pages - 1,
     };
     return 0;

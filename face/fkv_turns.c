@@ -29,7 +29,8 @@ int32_t fkv_unserved(const fkv_file *file) {
 
 void fkv_find_end(fkv_file *file) {
     int32_t end = fkv_refusal(file);
-    atomic_store(&file->ends, end ? end : file->full);
+    if (!end) end = file->full ? file->full : file->stuck;
+    atomic_store(&file->ends, end);
 }
 
 void fkv_note_fault(fkv_file *file, int32_t fault, int why) {
@@ -66,9 +67,9 @@ void fkv_begin_patience(const fkv_file *file, struct patience *its, uint32_t of)
 }
 
 /*
- * The library tells no reason at a poll, so this goes by what else is known. Behind so many turns each read is served. A session that is
- * awake alone waits for nobody's refresh. So what is left then waits for room. Where others are joined one of them may hold it up: there
- * the log has to be known as full, or to be near its end.
+ * A poll gives no reason, so this goes by what else is known. After so many turns each read is served. A session that is awake alone waits
+ * for nobody's refresh. So what is left then waits for room. If others are joined, then one of them may hold it up: so the log has to be
+ * known as full, or to be near its end.
  */
 int32_t fkv_never_room(const fkv_file *file, const struct patience *its) {
     if (file->turns - its->turns < FULL_TURNS || fkv_unserved(file)) return 0;
@@ -83,8 +84,9 @@ int32_t fkv_never_room(const fkv_file *file, const struct patience *its) {
 void fkv_note_stuck(fkv_file *file, int32_t fault) {
     if (!fault || file->stuck) return;
     file->stuck = fault;
-    fkv_note_full(file, fault);
+    fkv_find_end(file);
     pthread_cond_broadcast(&file->news);
+    pthread_cond_signal(&file->work);
 }
 
 int32_t fkv_with_errno(const fkv_file *file, int32_t result) {

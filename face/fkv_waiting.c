@@ -144,7 +144,7 @@ static int32_t wait_commit(fkv_file *file, uint64_t ticket, fkv_session *session
     if (slept < 0 && slept != -FKV_ASLEEP) return slept;
     pthread_mutex_lock(&file->lock);
     while (file->finished < ticket && (result = commit_refusal(file, begun, until)) == 0) {
-        /* (that an update is stuck counts behind a while, so it looks again) */
+        /* (that an update is stuck counts after a while, so it looks again) */
         struct timespec look = fkv_later(fkv_now(), STUCK_US);
         if (until && fkv_is_before(*until, look)) look = *until;
         pthread_cond_timedwait(&file->news, &file->lock, &look);

@@ -59,6 +59,11 @@ struct worker {
     double until;
 };
 
+static bool commits_ran(void) {
+    uint64_t points[FKV_MOST_SESSIONS];
+    return fkv_last_commit(file, points) > 1;
+}
+
 /* Each call sees what the one before it has done, though commits run. */
 static void *keep_order(void *its) {
     struct worker *worker = its;
@@ -66,7 +71,7 @@ static void *keep_order(void *its) {
     uint64_t values[OWN_KEYS] = {0}, value, last = 0;
     bool is_there[OWN_KEYS] = {false};
     fkv_update told;
-    for (uint64_t i = 0; seconds(CLOCK_MONOTONIC) < worker->until; i++) {
+    for (uint64_t i = 0; seconds(CLOCK_MONOTONIC) < worker->until || !commits_ran(); i++) {
         uint64_t at = i * 5 % OWN_KEYS, key = worker->number * OWN_KEYS + at;
         int32_t result = FKV_DONE;
         switch (i / OWN_KEYS % 8) {
@@ -107,14 +112,13 @@ static void *keep_order(void *its) {
 static void order(double time) {
     static struct worker workers[WORKERS];
     fkv_keeping keeping = {.commit_ms = 5, .log_commits = 20};
-    uint64_t points[FKV_MOST_SESSIONS];
     open_at("order", &(fkv_wish){.keys = 64, .sessions = WORKERS}, &keeping);
     for (uint64_t i = 0; i < WORKERS; i++) {
         workers[i] = (struct worker){.number = i, .until = seconds(CLOCK_MONOTONIC) + time};
         WANTS("a thread", pthread_create(&workers[i].thread, NULL, keep_order, &workers[i]), 0);
     }
     for (int i = 0; i < WORKERS; i++) pthread_join(workers[i].thread, NULL);
-    WANTS("whether commits ran", fkv_last_commit(file, points) > 1, true);
+    WANTS("whether commits ran", commits_ran(), true);
     WANTS("closing", fkv_close_file(file), 0);
 }
 
@@ -262,7 +266,7 @@ static void idle(void) {
     WANTS("how it fares", fkv_stats_of(file, &before), 0);
     nanosleep(&(struct timespec){0, 300000000}, NULL);
     WANTS("how it fares", fkv_stats_of(file, &after), 0);
-    WANTS("whether few turns were made", after.turns - before.turns <= 30, true);
+    WANTS("whether few turns were made", after.turns - before.turns <= 100, true);
     WANTS("leaving", fkv_leave(file, session), 0);
     WANTS("closing", fkv_close_file(file), 0);
 }
@@ -379,9 +383,14 @@ static void late(void) {
     fkv_session *session = joined(0), *other = joined(2);
     WANTS("asking for a commit", fkv_ask_commit(file, &ticket), 0);
     WANTS("waiting for it", fkv_wait_commit_for(file, ticket, NULL, 20), FKV_PENDING);
+    do {
+        nanosleep(&(struct timespec){0, 1000000}, NULL);
+        WANTS("how it fares", fkv_stats_of(file, &stats), 0);
+    } while (stats.in_hand_us < 1000);
+    WANTS("who is late", stats.late, 5);
     for (int i = 0; i < 100; i++) WANTS("a tick", fkv_tick(file, session), 0);
     WANTS("how it fares", fkv_stats_of(file, &stats), 0);
-    WANTS("who is late", stats.late, 4);
+    WANTS("who is late then", stats.late, 4);
     WANTS("whether the commit goes on", stats.in_hand_us > 1000, true);
     WANTS("leaving", fkv_leave(file, other), 0);
     WANTS("waiting for it", fkv_wait_commit(file, ticket, session), 0);

@@ -15,7 +15,7 @@
 #include <time.h>
 #include <unistd.h>
 
-enum { WORKERS = 4, KEYS = 300, ROUNDS = 3000, MANY = 40, STOPS = 200, MOST_SECONDS = 120, PATH_ROOM = 500 };
+enum { WORKERS = 4, KEYS = 300, ROUNDS = 3000, MANY = 40, TRIES = 50, STOPS = 200, MOST_SECONDS = 120, PATH_ROOM = 500 };
 
 /* Small pages and little memory, so that most records lie in the file alone. */
 static const fkv_shape SHAPE = {10, 16, 8, 4, WORKERS + 1, 64, 16384};
@@ -23,6 +23,7 @@ static const char *folder;
 static fkv_file *file;
 static atomic_bool reads_fail, ends;
 static atomic_int failed_in_workers, failed_elsewhere;
+static pthread_barrier_t all_joined;
 static _Thread_local bool is_worker;
 
 /* The library's reads of the file come here, before those of the C library: from some time on they fail. */
@@ -156,6 +157,7 @@ static void *read_on(void *its) {
     fkv_session *session = joined(worker->number);
     uint64_t value;
     is_worker = true;
+    pthread_barrier_wait(&all_joined);
     for (uint64_t reads = 0;; reads++) {
         if (worker->number == 0 && reads == MANY) atomic_store(&reads_fail, true);
         errno = 0;
@@ -180,22 +182,30 @@ static void note_stopped(void *its, int32_t fault) {
     atomic_fetch_add(told, 1);
 }
 
-static void tell_a_failure(const char *path) {
+/* The read that fails is made by a thread that helps, or by the keeper's thread, if that was just asked for a turn. True where it was the first. */
+static bool tell_a_failure(const char *path) {
     atomic_int told = 0;
     fkv_keeping keeping = {.turn_us = 60000000, .stopped = note_stopped, .user = &told};
+    failed_in_workers = failed_elsewhere = 0;
     WANTS("opening", fkv_open_file(path, NULL, &file), 0);
     WANTS("starting the keeper", fkv_start(file, &keeping), 0);
     run_workers(read_on);
-    WANTS("how many reads failed in threads that help", failed_in_workers, 1);
-    WANTS("how many failed elsewhere", failed_elsewhere, 0);
+    WANTS("how many reads failed", failed_in_workers + failed_elsewhere, 1);
     errno = 0;
     WANTS("the keeper's fault", fkv_keeper_fault(file), -FKV_DEVICE);
     WANTS("why", errno, EIO);
     for (int i = 0; i < 1000 && !told; i++) nanosleep(&(struct timespec){0, 10000000}, NULL);
     WANTS("how often the hook was called", told, 1);
-    /* (what is pending isn't kept, and was an abandoned read alone) */
     WANTS("dropping", fkv_drop_file(file), 0);
     atomic_store(&reads_fail, false);
+    return failed_in_workers == 1;
+}
+
+static void tell_failures(const char *path) {
+    int tries = 1;
+    pthread_barrier_init(&all_joined, NULL, WORKERS);
+    while (!tell_a_failure(path)) WANTS("whether a thread that helps fails in time", tries++ < TRIES, true);
+    pthread_barrier_destroy(&all_joined);
 }
 
 /* Reads on, while the keeper's thread is ended and started. A read that is refused meanwhile stays pending. */
@@ -242,7 +252,7 @@ int main(int count, char **words) {
     alarm(MOST_SECONDS);
     snprintf(path, sizeof path, "%s/helping", folder);
     lose_nothing(path);
-    tell_a_failure(path);
+    tell_failures(path);
     stop_beside(path);
     return 0;
 }

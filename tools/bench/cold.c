@@ -18,9 +18,9 @@ static int32_t must(int32_t result, const char *what) {
     exit(1);
 }
 
-static double seconds(void) {
+static double seconds(clockid_t clock) {
     struct timespec now;
-    clock_gettime(CLOCK_MONOTONIC, &now);
+    clock_gettime(clock, &now);
     return (double)now.tv_sec + (double)now.tv_nsec / 1e9;
 }
 
@@ -67,13 +67,15 @@ static void time_round(int threads) {
     pthread_t all[MOST_THREADS];
     uint64_t states[MOST_THREADS];
     static uint64_t seed = 88172645463325252u;
-    double begin = seconds();
+    double begin = seconds(CLOCK_MONOTONIC), taken = seconds(CLOCK_PROCESS_CPUTIME_ID);
     for (int i = 0; i < threads; i++) {
         states[i] = seed += 0x9e3779b97f4a7c15u;
         pthread_create(&all[i], NULL, read_blocks, &states[i]);
     }
     for (int i = 0; i < threads; i++) pthread_join(all[i], NULL);
-    printf("%s %d %.3f\n", is_many ? "many" : "single", threads, (seconds() - begin) * 1e6 / (BLOCK * BLOCKS));
+    double count = BLOCK * BLOCKS, real = seconds(CLOCK_MONOTONIC) - begin;
+    taken = seconds(CLOCK_PROCESS_CPUTIME_ID) - taken;
+    printf("%s %d %.3f %.3f\n", is_many ? "many" : "single", threads, real * 1e6 / count, taken * 1e6 / count / threads);
 }
 
 static void make(const char *path) {

@@ -74,9 +74,11 @@ def squeezed(text):
 
 def block_faults(root, page, text):
     """What is wrong with the fenced blocks of a page: who runs each, or where it is quoted from."""
+    run = []
     for words, block in FENCED.findall(text):
         language, _, rest = words.partition(" ")
-        if language in RUN.get(page, ()):
+        if language in RUN.get(page, ()) and not os.path.isfile(f"{root}/{rest}"):
+            run.append(language)
             continue
         if not os.path.isfile(f"{root}/{rest}"):
             yield f"{page}: nothing runs a block of '{words}', and it names no file that it quotes"
@@ -89,6 +91,8 @@ def block_faults(root, page, text):
                 yield f"{page}: the block of '{words}' isn't as that file has it, from here on: {line}"
                 break
             at = found + len(wanted)
+    if "output" in run[::2] or any(it != "output" for it in run[1::2]) or len(run) % 2:
+        yield f"{page}: each script and each program has its output right below it"
 
 
 def known_laws(root):

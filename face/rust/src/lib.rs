@@ -30,7 +30,7 @@ mod versions;
 
 pub use errors::{Damage, Error};
 pub use keeper::{Keeper, Keeping, Ticket};
-pub use renewal::{RenewedKeys, renew};
+pub use renewal::{RenewedKeys, renew, renew_file};
 pub use session::{Finished, Made, Phase, Read, ReadTicket, Reason, Seen, Session, Update};
 pub use sizes::{Size, Wish};
 pub use stats::Stats;

@@ -102,6 +102,7 @@ pub type TellProgress = extern "C" fn(*mut c_void, *const Progress);
 pub type TellCommitted = extern "C" fn(*mut c_void, u64, *const u64, usize);
 pub type TellFinished = extern "C" fn(*mut c_void, *const Finished);
 pub type TellStopped = extern "C" fn(*mut c_void, i32);
+pub type TellPair = extern "C" fn(*mut c_void, u64, u64) -> i32;
 
 #[repr(C)]
 pub struct Wish {
@@ -238,6 +239,20 @@ unsafe extern "C" {
     pub fn fkv_make_file(path: *const c_char, shape: *const Shape) -> i32;
     pub fn fkv_open_file(path: *const c_char, how: *const How, out: *mut *mut File) -> i32;
     pub fn fkv_close_file(file: *mut File) -> i32;
+    pub fn fkv_save(
+        file: *mut File,
+        path: *const c_char,
+        progress: Option<TellProgress>,
+        user: *mut c_void,
+    ) -> i32;
+    pub fn fkv_each(file: *mut File, each: TellPair, user: *mut c_void) -> i32;
+    pub fn fkv_renew_file(
+        old_path: *const c_char,
+        new_path: *const c_char,
+        shape: *const Shape,
+        keys: u32,
+        told: *mut Renewed,
+    ) -> i32;
     pub fn fkv_shape_of(file: *const File) -> Shape;
     pub fn fkv_last_commit(file: *mut File, points: *mut u64) -> u64;
     pub fn fkv_join(file: *mut File, number: u64, out: *mut *mut Session) -> i32;

@@ -1,7 +1,8 @@
 //! A new store's bytes, of an old one's.
 use crate::errors::Error;
 use crate::raw;
-use crate::store::Shape;
+use crate::store::{Shape, path_for_c};
+use std::path::Path;
 
 /// How a renewal places the old store's keys.
 #[derive(Clone, Copy, Debug, PartialEq, Eq)]
@@ -29,14 +30,38 @@ pub fn renew(bytes: &[u8], shape: Option<&Shape>, keys: RenewedKeys) -> Result<V
         result = renew_into(bytes, &shape, keys, &mut told, &mut room);
     }
     if result < 0 {
-        let opened = raw::Opened {
-            damage: told.damage,
-            damaged_at: told.damaged_at,
-            ..raw::Opened::default()
-        };
-        return Err(Error::of(result, &opened));
+        return Err(refusal(result, &told));
     }
     Ok(room)
+}
+
+/// Renews the store of one file in a new one, as [`renew`] does, and puts that in place whole. The old file is locked meanwhile, and stays as it
+/// is. Refused as [`renew`], and by `Device`: with `WouldBlock` the old store is open, with `AlreadyExists` there is a file of the new name.
+pub fn renew_file(
+    old: impl AsRef<Path>,
+    new: impl AsRef<Path>,
+    shape: Option<&Shape>,
+    keys: RenewedKeys,
+) -> Result<(), Error> {
+    let (old, new) = (path_for_c(old.as_ref())?, path_for_c(new.as_ref())?);
+    let shape = shape.map_or(raw::Shape::default(), |its| its.to_raw());
+    let mut told = raw::Renewed::default();
+    let keys = u32::from(keys == RenewedKeys::SpreadNow);
+    let result =
+        unsafe { raw::fkv_renew_file(old.as_ptr(), new.as_ptr(), &shape, keys, &mut told) };
+    if result < 0 {
+        return Err(refusal(result, &told));
+    }
+    Ok(())
+}
+
+fn refusal(result: i32, told: &raw::Renewed) -> Error {
+    let opened = raw::Opened {
+        damage: told.damage,
+        damaged_at: told.damaged_at,
+        ..raw::Opened::default()
+    };
+    Error::of(result, &opened)
 }
 
 fn renew_into(

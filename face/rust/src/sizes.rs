@@ -28,7 +28,7 @@ impl Wish {
         self
     }
 
-    /// Memory that it may take, at most.
+    /// Memory that it may take once it is open, at most.
     pub fn memory_bytes(mut self, count: u64) -> Wish {
         self.memory_bytes = count;
         self
@@ -56,7 +56,7 @@ impl Wish {
 pub struct Size {
     /// Bytes of memory while it is open, with the copy that a full commit makes.
     pub memory_bytes: u64,
-    /// Bytes at the height of an opening of a store with so many keys. Beside it the file's bytes, unless they are mapped.
+    /// About so many bytes at the height of an opening, where all these keys are there. The file's bytes come on top.
     pub opening_bytes: u64,
     /// Bytes of its file, at most. It grows as the log does: 24 bytes a record.
     pub file_bytes: u64,

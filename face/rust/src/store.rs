@@ -91,6 +91,8 @@ pub enum Work {
     Opening,
     /// A commit is written.
     Committing,
+    /// A backup is copied.
+    Saving,
 }
 
 /// How far long work has come.
@@ -98,7 +100,7 @@ pub enum Work {
 pub struct Progress {
     /// Which work it is.
     pub work: Work,
-    /// Bytes that were read, or written since the commit began.
+    /// Bytes that were read or copied, or written since the commit began.
     pub done: u64,
     /// Bytes of the file. None of a commit, since nobody knows how many it takes.
     pub total: Option<u64>,
@@ -113,10 +115,15 @@ impl Progress {
                 done: its.done,
                 total: Some(its.total),
             },
-            _ => Progress {
+            1 => Progress {
                 work: Work::Committing,
                 done: its.done,
                 total: None,
+            },
+            _ => Progress {
+                work: Work::Saving,
+                done: its.done,
+                total: Some(its.total),
             },
         }
     }
@@ -151,10 +158,17 @@ impl<'a> How<'a> {
     }
 }
 
-extern "C" fn tell_opening(user: *mut c_void, progress: *const raw::Progress) {
-    // `open_with` hands both out, and they live as long as its call.
+extern "C" fn tell_work(user: *mut c_void, progress: *const raw::Progress) {
+    // `open_with` and `save` hand both out, and they live as long as their call.
     let tell = unsafe { &mut *user.cast::<&mut dyn FnMut(Progress)>() };
     tell(Progress::of_raw(unsafe { &*progress }));
+}
+
+extern "C" fn tell_pair(user: *mut c_void, key: u64, value: u64) -> i32 {
+    // `each` hands it out, and it lives as long as that call.
+    let tell = unsafe { &mut *user.cast::<&mut dyn FnMut(u64, u64)>() };
+    tell(key, value);
+    0
 }
 
 /// How many files this process has opened.
@@ -184,7 +198,7 @@ pub struct Store {
     file: Arc<OpenFile>,
 }
 
-fn path_for_c(path: &Path) -> Result<CString, Error> {
+pub(crate) fn path_for_c(path: &Path) -> Result<CString, Error> {
     CString::new(path.as_os_str().as_bytes())
         .map_err(|_| Error::Device(io::ErrorKind::InvalidInput.into()))
 }
@@ -242,7 +256,7 @@ impl Store {
             progress: if user.is_null() {
                 None
             } else {
-                Some(tell_opening)
+                Some(tell_work)
             },
             user,
             opened: &mut opened,
@@ -257,6 +271,32 @@ impl Store {
     /// The store's shape.
     pub fn shape(&self) -> Shape {
         Shape::of_raw(unsafe { raw::fkv_shape_of(self.file.at) })
+    }
+
+    /// Makes a backup of the open store: a new file, put in place whole, with the last finished commit or the one that is just being
+    /// finished. Sessions go on in memory meanwhile, and turns of the keeper wait until the file is copied. `tell` is called as bytes are; if
+    /// it panics, then the process is aborted. `Memory`, or `Device`: with `AlreadyExists` there is a file of this name, and it stays as it
+    /// is.
+    pub fn save(
+        &self,
+        path: impl AsRef<Path>,
+        mut tell: impl FnMut(Progress),
+    ) -> Result<(), Error> {
+        let path = path_for_c(path.as_ref())?;
+        let mut tell: &mut dyn FnMut(Progress) = &mut tell;
+        let user = ptr::from_mut(&mut tell).cast();
+        answer(unsafe { raw::fkv_save(self.file.at, path.as_ptr(), Some(tell_work), user) })?;
+        Ok(())
+    }
+
+    /// Calls `tell` for each pair: those of the last finished commit, or of the one that is just being finished, each key once, in no order.
+    /// Sessions go on meanwhile, and turns of the keeper wait until the file is read. It takes memory for the file, for its renewal, and for
+    /// an opening. If `tell` panics, then the process is aborted. `Memory`, `Device`.
+    pub fn each(&self, mut tell: impl FnMut(u64, u64)) -> Result<(), Error> {
+        let mut tell: &mut dyn FnMut(u64, u64) = &mut tell;
+        let user = ptr::from_mut(&mut tell).cast();
+        answer(unsafe { raw::fkv_each(self.file.at, tell_pair, user) })?;
+        Ok(())
     }
 
     /// The last finished commit.

@@ -1,7 +1,9 @@
 //! The calls that just work: a session's own order beside commits, a tick that says why commits end, sizes for a wish, a keeper that keeps
 //! what was done.
-use fkv::{Error, Keeping, Made, Shape, Stats, Store, Wish};
+use fkv::{Error, Keeping, Made, RenewedKeys, Shape, Stats, Store, Wish, Work, renew_file};
+use std::io::ErrorKind;
 use std::path::PathBuf;
+use std::sync::atomic::{AtomicBool, Ordering};
 use std::sync::mpsc;
 use std::time::{Duration, Instant};
 use std::{env, fs, process, thread};
@@ -178,6 +180,77 @@ fn what_is_done_is_kept_as_the_keeper_is_dropped() {
     drop(keeper);
     drop((session, store));
     assert_eq!(path.store(0).last_commit().number, 1);
+}
+
+#[test]
+fn a_backup_is_a_store() {
+    const KEYS: u64 = 200;
+    let (path, copy) = (Path::new("saved"), Path::new("copy"));
+    let store = path.store(KEYS);
+    let _keeper = store
+        .start(Keeping::default().commit_each(Duration::from_millis(5)))
+        .unwrap();
+    let ends = AtomicBool::new(false);
+    thread::scope(|scope| {
+        let (mut session, ends) = (store.join(0).unwrap(), &ends);
+        scope.spawn(move || {
+            for i in (0..).take_while(|_| !ends.load(Ordering::SeqCst)) {
+                session.increment(i % KEYS, 1).unwrap();
+                session.tick().unwrap();
+            }
+        });
+        for _ in 0..5 {
+            let _ = fs::remove_file(&copy.0);
+            let (before, mut told) = (store.last_commit().number, None);
+            store
+                .save(&copy.0, |progress| told = Some(progress))
+                .unwrap();
+            let told = told.unwrap();
+            assert_eq!((told.work, Some(told.done)), (Work::Saving, told.total));
+            let backup = Store::open(&copy.0).unwrap();
+            let _keeper = backup.start(Keeping::default()).unwrap();
+            let mut session = backup.join(1).unwrap();
+            let keys: Vec<u64> = (0..KEYS).collect();
+            let found = session.read_many(&keys).unwrap();
+            let commit = backup.last_commit();
+            assert!(commit.number >= before);
+            assert_eq!(found.iter().flatten().sum::<u64>(), commit.points[0]);
+        }
+        ends.store(true, Ordering::SeqCst);
+    });
+    assert!(matches!(
+        store.save(&copy.0, |_| {}),
+        Err(Error::Device(why)) if why.kind() == ErrorKind::AlreadyExists
+    ));
+}
+
+#[test]
+fn pairs_and_a_renewed_file_have_the_last_commit() {
+    let (path, copy) = (Path::new("pairs"), Path::new("renewed"));
+    let store = path.store(1000);
+    let keeper = store.start(Keeping::default()).unwrap();
+    let mut session = store.join(1).unwrap();
+    for key in 0..1000 {
+        session.put(key << 20, key).unwrap();
+    }
+    session.remove(0).unwrap();
+    session.commit().unwrap();
+    session.put(7, 7).unwrap();
+    let mut pairs = Vec::new();
+    store.each(|key, value| pairs.push((key, value))).unwrap();
+    pairs.sort_unstable();
+    let wanted: Vec<(u64, u64)> = (1..1000).map(|key| (key << 20, key)).collect();
+    assert_eq!(pairs, wanted);
+    let busy = renew_file(&path.0, &copy.0, None, RenewedKeys::AsTheyLie);
+    assert!(matches!(busy, Err(Error::Device(why)) if why.kind() == ErrorKind::WouldBlock));
+    drop((session, keeper, store));
+    renew_file(&path.0, &copy.0, None, RenewedKeys::AsTheyLie).unwrap();
+    let renewed = Store::open(&copy.0).unwrap();
+    let commit = renewed.last_commit();
+    assert_eq!((commit.number, commit.points), (1, vec![0, 1002, 0]));
+    let mut count = 0;
+    renewed.each(|_, _| count += 1).unwrap();
+    assert_eq!(count, 1000);
 }
 
 #[test]
