@@ -7,7 +7,7 @@ mod prefix;
 mod shows;
 mod uses;
 
-pub use crashed::law_crash_keeps_first;
+pub use crashed::{law_crash_keeps_first, law_life_after_crash};
 pub use holds::{law_images_hold, law_named_hold};
 pub use points::law_points_keep;
 pub use prefix::{law_images_recovered, law_prefix};

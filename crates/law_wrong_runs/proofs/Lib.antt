@@ -2,3 +2,4 @@ mod Computed
 mod OfGuard
 mod Lives
 mod OfCommits
+mod OfPrefixes

@@ -2,3 +2,4 @@ pub mod Said
 pub mod Tables
 pub mod WrongCommits
 pub mod WrongLives
+pub mod WrongPrefixes

@@ -8,7 +8,11 @@ use Rattle.fkv_epoch.specs.declared.claiming.Claiming.{Claiming}
 use Rattle.fkv_epoch.specs.declared.claiming.Claiming.TheVariants.{LoadsSafe, MeetsSlot, TakesSlot}
 use Rattle.law_order.specs.Below.fkv_flush.GuardWorld as guard
 use Rattle.law_order.specs.Below.fkv_flush.GuardWorld.{Actor, GuardEvent, GuardNow, GuardWorld, guard_happens}
-use Rattle.law_order.specs.Below.fkv_keeper.Keeping.{KeeperState}
+use Rattle.fkv_base.specs.declared.shapes.Shape.{Shape}
+use Rattle.law_order.specs.Below.fkv_keeper.Keeping.{KeeperState, writes_begun}
+use Rattle.law_order.specs.Below.fkv_keeper.KeeperTold.TheVariants.{Begun, Turned}
+use Rattle.law_order.specs.Below.fkv_keeper.TheKeeping.{Keeping}
+use Rattle.law_order.specs.Below.fkv_keeper.TheKeeping.TheVariants as keeping
 use Rattle.law_order.specs.Below.fkv_log.TheTurning.{Turning}
 use Rattle.law_order.specs.Below.fkv_log.TheTurning.TheVariants.{LoadsClosed, RaisesLimit}
 use Rattle.law_order.specs.Below.fkv_maintain.TheMaintaining.{Maintaining}
@@ -182,6 +186,34 @@ with_no_points s (Some c) = record s { has_points = true; seek = record s.seek {
 
 abbrev pub commit_keeps_nothing : Tables
 commit_keeps_nothing = of_keeper (λ was s. with_no_points s s.commit)
+
+-- a turn that ends tells that it has finished a commit
+abbrev pub tells_finish : Keeping → Keeping
+tells_finish (keeping.Ended (Turned done full)) = keeping.Ended (Turned true full)
+tells_finish step = step
+
+abbrev pub each_turn_tells_a_finish : Tables
+each_turn_tells_a_finish = of_keeper (λ was s. record s { step = tells_finish s.step })
+
+-- a commit is written as soon as it begins, without its phases, and keeps nothing
+abbrev pub written_at_once : Shape → KeeperState → Keeping → KeeperState
+written_at_once shape s (keeping.Ended (Begun number)) = writes_begun shape s s.commit
+written_at_once shape s step = s
+
+abbrev pub commit_is_written_at_once : Shape → Tables
+commit_is_written_at_once shape = of_keeper (λ was s. written_at_once shape (with_no_points s s.commit) s.step)
+
+-- so it is of one whose number is one more
+abbrev pub with_next_number : Option Commit → Option Commit
+with_next_number None = None
+with_next_number (Some c) = Some (record c { number = record { 0 = c.number.0 + 1 } })
+
+abbrev pub skipped_at_once : Shape → KeeperState → Keeping → KeeperState
+skipped_at_once shape s (keeping.Ended (Begun number)) = writes_begun shape (record s { commit = with_next_number s.commit }) (with_next_number s.commit)
+skipped_at_once shape s step = s
+
+abbrev pub commit_skips_a_number : Shape → Tables
+commit_skips_a_number shape = of_keeper (λ was s. skipped_at_once shape s s.step)
 
 -- the right ones
 abbrev pub right_tables : Tables

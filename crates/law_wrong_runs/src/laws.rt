@@ -19,3 +19,10 @@ pub fn law_of_wrong_lives()
 pub fn law_of_wrong_commits()
     ensures { (keeper : said.KeeperState) (one other : said.SessionState) → said.AreWrongCommits keeper one other }
 {}
+
+/// Two sessions of the same store, whose opening's commit keeps one update. If each turn tells that it has finished a commit, what was told isn't what has finished; by the
+/// right table it is. If a commit takes the number after the next one, the numbers aren't in turn. If a commit is written that keeps nothing, a point falls. If a
+/// read is told what the store was opened with, its key had another value from the call to the answer; by the right table it is told that.
+pub fn law_of_wrong_prefixes()
+    ensures { (keeper : said.KeeperState) (one other : said.SessionState) → said.AreWrongPrefixes keeper one other }
+{}

@@ -3,4 +3,4 @@
 
 mod laws;
 
-pub use laws::{law_of_wrong_commits, law_of_wrong_lives};
+pub use laws::{law_of_wrong_commits, law_of_wrong_lives, law_of_wrong_prefixes};

@@ -21,6 +21,7 @@ use Rattle.law_commit.specs.BegunCommits.{AreInTurn, BegunCommit}
 use Rattle.law_commit.specs.FinishedCommits.{commits_finished, commits_told, told_of}
 use Rattle.law_commit.specs.PrefixPast.{PrefixPast, prefix_past}
 use Rattle.law_commit.specs.ToldPoints.{ToldPoint}
+use Rattle.law_commit.specs.Below.law_paper.Paper.Named.{HoldsStore}
 use Rattle.law_log.specs.Trace.{IsIn, history_of}
 use Rattle.law_opening.specs.Lives.Reaching.{ReachesFar}
 use Rattle.law_opening.specs.Log.Maps.{opening_map}
@@ -77,13 +78,14 @@ pub record NamesCommit (image : List ℕ) (c : BegunCommit) : Type 0 where
   pub number : (let n = newest in let s = n.slot in s.number ≡ c.number.0)
   pub points : (let n = newest in let s = n.slot in (session : ℕ) → point_of s.points.serials.items session ≡ point_of c.points session)
 
--- An image holds a prefix of a life. It names a current commit, no fault stands in it, and any store that it holds is what the commit keeps. So `recover` refuses
--- it for the device or want of memory alone, and `content` answers this map. It reaches as far as the next life asks.
+-- An image holds a prefix of a life. It names a current commit, has no fault, and holds a store. Any store that it holds is what the commit keeps. So `recover`
+-- refuses it for the device or want of memory alone, and `content` answers this map. It reaches as far as the next life asks.
 pub record HoldsPrefix (o : Opened) (n : Now) (bytes : List ℕ) (events : List Event) (image : List ℕ) : Type 0 where
   pub commit : BegunCommit
   pub current : IsCurrent (past_so_far n bytes events) commit
   pub named : (let c = commit in NamesCommit image c)
   pub faultless : (fault : Fault) → IsFaultOf image fault → ⊥
+  pub store : HoldsStore image
   pub each : (r : Opened) → IsStoreOf image r → IsKeptOf o n bytes events commit image r
   pub reaches : ReachesFar image
 

@@ -1,5 +1,5 @@
 //! A worked crash.
-ghost use Rattle.law_order.specs.Recovered.Crashed.{CrashKeepsFirst};
+ghost use Rattle.law_order.specs.Recovered.Crashed.{CrashGoesOn, CrashKeepsFirst};
 
 use crate::recovered::prefix::law_prefix;
 use crate::{law_life_begins, law_life_exists};
@@ -17,5 +17,16 @@ pub fn law_crash_keeps_first()
     law_long_opens();
     law_life_begins();
     law_life_exists();
+    law_prefix();
+}
+
+/// A life follows that one: it begins with an image that the crash left. It opens as the first commit, with all that this kept, and goes on by any events. So two
+/// lives that follow one another exist, and what the law of prefixes says of such lives isn't vacuous.
+pub fn law_life_after_crash()
+    ensures { CrashGoesOn }
+{
+    law_long_opens();
+    law_life_exists();
+    law_crash_keeps_first();
     law_prefix();
 }

@@ -9,8 +9,8 @@ use crate::{
 };
 use law_opening::law_lives_change_published;
 
-/// If a life began with an image that reaches far, each image that a crash may leave of it holds a prefix of it. The image's newest slot names a commit, and no fault
-/// stands in the image, so recovery finds that commit. It is the newest finished one, or the one that is being finished. Its points are no less than what sessions were told as durable. The store's map is
+/// If a life began with an image that reaches far, each image that a crash may leave of it holds a prefix of it. The image's newest slot names a commit. It has no
+/// fault and holds a store, so recovery finds that commit. It is the newest finished one, or the one that is being finished. Its points are no less than what sessions were told as durable. The store's map is
 /// the one with which the life began, behind a replay of just the updates up to each session's point. The replay is legal, with the replies that were given.
 pub fn law_images_recovered()
     ensures { said.InEachLife said.RecoversPrefix }

@@ -63,6 +63,7 @@ returns c = λ its is reaches image left.
       };
       named = record { newest = held.newest; its = held.its; number = held.number; points = held.points };
       faultless = held.holds.faultless;
+      store = held.holds.store;
       each = λ r store.
           let of = held.holds.each r store in
           let same : (session : ℕ) → point_of r.points.items session ≡ point_of it.points session = λ session. ap (λ (items : List Serial). point_of items session) of.points ∙ held.points session in
