@@ -4,7 +4,7 @@ ghost use Rattle.fkv_map.specs.declared.operations.Call.{Call};
 ghost use Rattle.fkv_ops.specs.Requests.{is_read, is_blind};
 ghost use Rattle.fkv_session.specs.Sessions.{is_busy};
 ghost use Rattle.fkv_straight.specs.Course.{Course, course_of, Goes};
-ghost use Rattle.fkv_straight.specs.Met.{Begins, HasChanged, HasLost, IsMet, IsUnshifted};
+ghost use Rattle.fkv_straight.specs.Met.{Begins, HasChanged, HasLost, HasMet, IsMet, IsUnshifted};
 ghost use Rattle.fkv_straight.specs.Standing.{ComesTo};
 
 use crate::appending::{append_first, append_past};
@@ -119,6 +119,24 @@ fn update_record<L: Line>(line: &mut L, going: &Going, op: Op, its: Record) -> O
     }
 }
 
+/// Makes the steps of an update whose search has met this, up to its answer. The session isn't in prepare.
+#[inline(always)]
+pub(crate) fn update_met<L: Line>(line: &mut L, going: &Going, op: Op, met: Met) -> Outcome
+    requires at { (c : Course) × Goes c (L.seat line.old) op going.now × HasMet c met (L.stands line.old) }
+    requires room { L.kept line.old ≤ 48 }
+    requires updates { is_read op ≡ false }
+    requires calm { going.now.is_preparing ≡ false }
+    ensures seat { L.seat line.new ≡ L.seat line.old }
+    ensures led { (start : L) (call : Call) → L.led start call line.old → L.led start call line.new }
+    ensures done { (c : Course) → Goes c (L.seat line.old) op going.now → HasMet c met (L.stands line.old) → ComesTo c result (L.stands line.new) }
+{
+    match met {
+        Met::Found(record) => update_record(line, going, op, record),
+        Met::Nowhere(slot) => append_first(line, going, op, slot),
+        Met::OnDisk(slot) => append_past(line, going, op, slot),
+    }
+}
+
 /// Makes the steps of an update up to its answer, in a call or a poll. The session isn't in prepare.
 #[inline(always)]
 pub(crate) fn update<L: Line>(line: &mut L, going: &Going, op: Op, call: Call) -> Outcome
@@ -132,12 +150,8 @@ pub(crate) fn update<L: Line>(line: &mut L, going: &Going, op: Op, call: Call) -
     ensures done { ComesTo (course_of (L.seat line.old) (L.stands line.old) op call) result (L.stands line.new) }
 {
     let met = search(line, going, op, call);
-    let Some(its) = met else {
-        return Outcome::Unusual;
-    };
-    match its {
-        Met::Found(record) => update_record(line, going, op, record),
-        Met::Nowhere(slot) => append_first(line, going, op, slot),
-        Met::OnDisk(slot) => append_past(line, going, op, slot),
+    match met {
+        Some(its) => update_met(line, going, op, its),
+        None => Outcome::Unusual,
     }
 }

@@ -20,14 +20,14 @@ use fkv_plane::RecordWord;
 
 /// The slot of a home: its place, and the word that was found there, 0 where it is empty.
 #[derive(Clone, Copy)]
-pub(crate) struct Slot {
+pub struct Slot {
     pub place: usize,
     pub entry: u64,
 }
 
 /// The record of a key that was met in memory, and the slot from whose entry the walk to it began.
 #[derive(Clone, Copy)]
-pub(crate) struct Record {
+pub struct Record {
     pub place: usize,
     pub entry: u64,
     pub addr: u64,
@@ -38,7 +38,7 @@ pub(crate) struct Record {
 
 /// What a search has met.
 #[derive(Clone, Copy)]
-pub(crate) enum Met {
+pub enum Met {
     Found(Record),
     /// The chain ends, and has no record of the key.
     Nowhere(Slot),
