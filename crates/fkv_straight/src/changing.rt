@@ -14,10 +14,8 @@ use crate::lines::Line;
 use crate::outcomes::Outcome;
 use crate::searching::{Met, Record, search};
 use crate::words::is_blind;
-use fkv_base::Addr;
 use fkv_map::{Call, Op, Reply};
 use fkv_ops::{value_of_word, word_of_value};
-use fkv_plane::RecordWord;
 
 /// The value becomes one that doesn't depend on it, by one Swap.
 #[inline(always)]
@@ -34,7 +32,7 @@ fn swap_value<L: Line>(line: &mut L, going: &Going, op: Op, its: Record) -> Repl
     ensures kept { L.kept line.new ≤ L.kept line.old + 2 }
     ensures done { (c : Course) → Goes c (L.seat line.old) op going.now → IsMet c its (L.stands line.old) → HasChanged c result (L.stands line.new) }
 {
-    let place = going.record(Addr(its.addr), RecordWord::Value);
+    let place = its.at + 2;
     let made = op.value_applied(None);
     let new = word_of_value(made);
     let _ = line.swap(place, new);
@@ -57,7 +55,7 @@ fn change_value<L: Line>(line: &mut L, going: &Going, op: Op, its: Record) -> Op
     ensures done { (c : Course) → Goes c (L.seat line.old) op going.now → IsMet c its (L.stands line.old) → IfSome result (λ reply. HasChanged c reply (L.stands line.new)) }
     ensures lost { (c : Course) → Goes c (L.seat line.old) op going.now → IsMet c its (L.stands line.old) → IfNone result (HasLost c (L.stands line.new)) }
 {
-    let place = going.record(Addr(its.addr), RecordWord::Value);
+    let place = its.at + 2;
     let old = line.load(place);
     let value = value_of_word(old);
     let made = op.value_applied(value);
