@@ -31,7 +31,7 @@ pub use Rattle.fkv_table.specs.Desks.{Slot, noted, noting, turned}
 pub use Rattle.fkv_table.specs.Events.{may_stand}
 pub use Rattle.fkv_table.specs.KeeperCalls.{HasGoneOn, HasKept, IsBeginning}
 pub use Rattle.fkv_table.specs.Keeps.{IsAfterSeen, IsFreshKeeper, IsKeeperAtWork, IsKeeperReady, IsKeeping, IsLeftWithin, IsNoted, KeeperIsAsked, KeeperReplied, KeeperSettled, LeavesDevice, Spares, adding}
-pub use Rattle.fkv_table.specs.Lines.{HasLed, IsAlong, IsBegun, LineModel, line_of, stands}
+pub use Rattle.fkv_table.specs.Lines.{HasLed, IsAlong, IsBegun, IsLeft, LineModel, Origin, line_of, stands}
 pub use Rattle.fkv_table.specs.Meets.{AreTwoReady, HaveMet, StaysReady}
 pub use Rattle.fkv_table.specs.Openings.{IsTableOf}
 pub use Rattle.fkv_table.specs.Planes.{opening_of, plane}

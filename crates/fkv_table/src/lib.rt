@@ -8,6 +8,7 @@ mod desks;
 mod fetching;
 mod guessing;
 mod happenings;
+mod hot;
 mod joining;
 mod keepers;
 mod lines;

@@ -5,6 +5,7 @@ ghost use Rattle.fkv_table.specs.Said as said;
 
 use crate::guessing::TailGuess;
 use crate::happenings::{Happening, law_start_stands};
+use crate::hot::{Handover, run_hot};
 use crate::lines::{Room, SeatLine};
 use crate::performing::perform;
 use crate::plays::{Adds, First, Next, Notes, Turn};
@@ -27,6 +28,7 @@ pub struct Session {
     /// Where a straight call keeps its replies.
     pub(crate) replies: Room,
     pub(crate) tail: TailGuess,
+    pub(crate) over: Handover,
 }
 
 /// Makes the ask of a word that the machine stands at, and goes on with the reply.
@@ -206,7 +208,7 @@ fn run_by_machine<D: Device>(
 
 /// Goes on by the machine with a call that went straight as far as the line has come.
 #[inline(never)]
-fn go_on<D: Device>(
+pub(crate) fn go_on<D: Device>(
     words: &Words<D>,
     line: SeatLine<'_, D>,
     machine: &mut StraightSession,
@@ -233,7 +235,7 @@ fn go_on<D: Device>(
 
 /// Runs a call straight. Where it meets anything unusual the machine goes on, and where it may not go straight the machine runs it.
 #[inline(always)]
-fn run_call<D: Device>(
+pub(crate) fn run_call<D: Device>(
     words: &Words<D>,
     seat: Place<D>,
     machine: &mut StraightSession,
@@ -331,14 +333,15 @@ impl Session {
     {
         let words = &table.table.shared;
         let seat = take_seat(words, &mut pass.seat);
-        let (seat, told) = run_call(
+        let (seat, told) = run_hot(
             words,
             seat,
             &mut self.machine,
             self.desk,
             &mut self.replies,
             &mut self.tail,
-            Call::Op(op),
+            &mut self.over,
+            op,
         );
         pass.seat = seat;
         told
