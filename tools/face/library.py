@@ -39,7 +39,9 @@ def compile_parts(room, words):
 
 
 def merge(room, archives, objects):
-    """Makes libfkv.a in the room. The script takes no path, only names of files there."""
+    """Makes libfkv.a in the room. The script takes no path, only names of files there. The kit's memory calls `fkv_malloc` of
+    face/fkv_memory.c where it calls `malloc`."""
+    subprocess.run(["objcopy", "--redefine-sym", "malloc=fkv_malloc", f"{room}/kit.a"], check=True)
     lines = ["CREATE libfkv.a", *(f"ADDLIB {it}" for it in archives), *(f"ADDMOD {it}" for it in objects), "SAVE", "END", ""]
     subprocess.run(["ar", "-M"], input="\n".join(lines), text=True, check=True, cwd=room)
 
