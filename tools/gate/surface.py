@@ -30,7 +30,7 @@ MARKS = WHOLE | {"pub", "opaque"}
 
 def plain(text, mark):
     """A text without comments, its strings kept, in one layout."""
-    kept = re.sub(rf'("(?:\\.|[^"\\])*"|\'[{{}}]\')|{mark}[^\n]*', lambda it: it[1] or "", text)
+    kept = re.sub(rf'("(?:\\[\s\S]|[^"\\])*"|\'[{{}}]\')|{mark}[^\n]*', lambda it: it[1] or "", text)
     return kept if mark == "--" else re.sub(r"(?s)/\*.*?\*/", "", kept)
 
 
@@ -41,7 +41,7 @@ def one_line(text):
 def end_of(text, at):
     """The place after the bracket that closes the one here."""
     depth = 0
-    for found in re.finditer(r'"(?:\\.|[^"\\])*"|\'[{}]\'|[()\[\]{}]', text[at:]):
+    for found in re.finditer(r'"(?:\\[\s\S]|[^"\\])*"|\'[{}]\'|[()\[\]{}]', text[at:]):
         if found[0] in OPENING or found[0] in CLOSING:
             depth += 1 if found[0] in OPENING else -1
             if depth == 0:
@@ -85,7 +85,7 @@ def items_in(text):
         begun, block = at, None
         ends_by_line = re.match(r"(pub(\s*\([^)]*\))?\s+)?(use|const(?!\s+fn)|static|type|ghost|mod\s+\w+\s*;)", text[at:])
         while True:
-            found = re.compile(r'"(?:\\.|[^"\\])*"|\'[{}]\'|[()\[\]{};]').search(text, at)
+            found = re.compile(r'"(?:\\[\s\S]|[^"\\])*"|\'[{}]\'|[()\[\]{};]').search(text, at)
             if not found:
                 raise ValueError("an item doesn't end")
             if found[0] == ";":
