@@ -45,11 +45,13 @@ fn a_session_reads_what_it_wrote_beside_commits() {
         .unwrap();
     thread::scope(|scope| {
         for number in 0..3 {
-            let mut session = store.join(number).unwrap();
+            let (mut session, store) = (store.join(number).unwrap(), &store);
             scope.spawn(move || {
                 let begun = Instant::now();
                 for i in 0.. {
-                    if begun.elapsed() > Duration::from_millis(500) {
+                    if begun.elapsed() > Duration::from_millis(500)
+                        && store.last_commit().number > 1
+                    {
                         break;
                     }
                     let key = number * OWN_KEYS + i % OWN_KEYS;
