@@ -47,11 +47,15 @@ fn run_due<D: Device>(
 ) -> Place<D>
     requires table { seat.table_id ≡ words.now.table_id }
     requires room { (kept ≤ 64) × (length replies.old ≡ 64) }
-    requires left { (first : said.Origin (said.Snapshot (said.WorldModel D))) × said.IsLeft (said.opening_of D.seen) words.now.key words.now.table_id machine.old desk over.old.op over.old.due first seat.me (take kept replies.old) }
+    requires left { (first : said.Origin (said.Snapshot (said.WorldModel D))) × said.IsLeft (said.opening_of D.seen) words.now.key words.now.table_id
+        machine.old desk over.old.op over.old.due first seat.me (take kept replies.old) }
     ensures ready { said.IsReady (said.opening_of D.seen) words.now.key words.now.table_id result.table_id result.me machine.new desk }
     ensures number { machine.new.seat.number ≡ machine.old.seat.number }
-    ensures called { (first : said.Origin (said.Snapshot (said.WorldModel D))) → said.IsLeft (said.opening_of D.seen) words.now.key words.now.table_id machine.old desk over.old.op over.old.due first seat.me (take kept replies.old) → said.HasCalled machine.old.seat.number (call.Op over.old.op) first.me.0.seen result.me.0.seen }
-    ensures told { said.IsToldLast (said.led (said.plane (said.opening_of D.seen)) (said.opening_of D.seen words.now.key) result.me.0.seen) machine.new.seat.number (said.telling over.new.told machine.new.state.finished) }
+    ensures called { (first : said.Origin (said.Snapshot (said.WorldModel D)))
+        → said.IsLeft (said.opening_of D.seen) words.now.key words.now.table_id machine.old desk over.old.op over.old.due first seat.me (take kept
+        replies.old) → said.HasCalled machine.old.seat.number (call.Op over.old.op) first.me.0.seen result.me.0.seen }
+    ensures told { said.IsToldLast (said.led (said.plane (said.opening_of D.seen)) (said.opening_of D.seen words.now.key) result.me.0.seen)
+        machine.new.seat.number (said.telling over.new.told machine.new.state.finished) }
 {
     let op = over.op;
     let mut line = SeatLine::resume(words, seat, machine, desk, replies, tail, kept);
@@ -84,7 +88,8 @@ fn run_cold<D: Device>(
     ensures ready { said.IsReady (said.opening_of D.seen) words.now.key words.now.table_id result.table_id result.me machine.new desk }
     ensures number { machine.new.seat.number ≡ machine.old.seat.number }
     ensures called { said.HasCalled machine.old.seat.number (call.Op over.old.op) seat.me.0.seen result.me.0.seen }
-    ensures told { said.IsToldLast (said.led (said.plane (said.opening_of D.seen)) (said.opening_of D.seen words.now.key) result.me.0.seen) machine.new.seat.number (said.telling over.new.told machine.new.state.finished) }
+    ensures told { said.IsToldLast (said.led (said.plane (said.opening_of D.seen)) (said.opening_of D.seen words.now.key) result.me.0.seen)
+        machine.new.seat.number (said.telling over.new.told machine.new.state.finished) }
 {
     let call = Call::Op(over.op);
     let (seat, told) = run_call(words, seat, machine, desk, replies, tail, call);
@@ -108,7 +113,8 @@ pub(crate) fn run_hot<D: Device>(
     ensures ready { said.IsReady (said.opening_of D.seen) words.now.key words.now.table_id result.0.table_id result.0.me machine.new desk }
     ensures number { machine.new.seat.number ≡ machine.old.seat.number }
     ensures called { said.HasCalled machine.old.seat.number (call.Op op) seat.me.0.seen result.0.me.0.seen }
-    ensures told { said.IsToldLast (said.led (said.plane (said.opening_of D.seen)) (said.opening_of D.seen words.now.key) result.0.me.0.seen) machine.new.seat.number (said.telling result.1 machine.new.state.finished) }
+    ensures told { said.IsToldLast (said.led (said.plane (said.opening_of D.seen)) (said.opening_of D.seen words.now.key) result.0.me.0.seen)
+        machine.new.seat.number (said.telling result.1 machine.new.state.finished) }
 {
     let mut line = SeatLine::new(words, seat, machine, desk, replies, tail);
     let went = machine.run_hot(&mut line, op);

@@ -129,7 +129,8 @@ impl<'t, D: Device> SeatLine<'t, D> {
     ) -> SeatLine<'t, D>
         requires table { seat.table_id ≡ words.now.table_id }
         requires room { (kept ≤ 64) × (length replies.old ≡ 64) }
-        requires along { said.IsAlong (said.opening_of D.seen) (said.line_of words.now.key words.now.table_id seat.me machine.now desk (take kept replies.old)) }
+        requires along { said.IsAlong (said.opening_of D.seen) (said.line_of words.now.key words.now.table_id seat.me machine.now desk (take kept
+            replies.old)) }
         ensures value { result ≡ said.line_of words.now.key words.now.table_id seat.me machine.now desk (take kept replies.old) }
     {
         let own = machine.number();

@@ -57,7 +57,9 @@ pub(crate) fn perform_first<D: Device, O: Adds>(
 ) -> u64
     requires table { seat.old.table_id ≡ words.now.table_id }
     requires word { (place : ℕ) × (said.asked_place ask.now ≡ Some place) × (said.position place < words.now.table_id.words) × (place < 2 ^ 62) }
-    requires allows { (place : ℕ) → said.asked_place ask.now ≡ Some place → said.Allows (said.Ruled (said.plane (said.opening_of D.seen)) words.now.key) words.now.table_id.slots seat.old.id seat.old.me (said.position place) (asked ask.now) (said.turned (said.opening_of D.seen) O.own (said.step_of words.now.table_id.slots ask.now) seat.old.me) }
+    requires allows { (place : ℕ) → said.asked_place ask.now ≡ Some place
+        → said.Allows (said.Ruled (said.plane (said.opening_of D.seen)) words.now.key) words.now.table_id.slots seat.old.id seat.old.me (said.position place)
+        (asked ask.now) (said.turned (said.opening_of D.seen) O.own (said.step_of words.now.table_id.slots ask.now) seat.old.me) }
     ensures seat { (seat.new.table_id ≡ seat.old.table_id) × (seat.new.id ≡ seat.old.id) }
     ensures told { said.turned (said.opening_of D.seen) O.own (said.step_of words.now.table_id.slots ask.now) seat.old.me result seat.new.me }
 {
