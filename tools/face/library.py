@@ -38,6 +38,12 @@ def compile_parts(room, words):
     return names
 
 
+def take_kit(room):
+    """Copies what the library calls of the kit into the room, as kit.a. Its memory calls fkv_malloc of face/fkv_memory.c in place of malloc."""
+    shutil.copy(f"{KIT}/c/liblibc_c.a", f"{room}/kit.a")
+    subprocess.run(["objcopy", "--redefine-sym", "malloc=fkv_malloc", f"{room}/kit.a"], check=True)
+
+
 def merge(room, archives, objects):
     """Makes libfkv.a in the room. The script takes no path, only names of files there."""
     lines = ["CREATE libfkv.a", *(f"ADDLIB {it}" for it in archives), *(f"ADDMOD {it}" for it in objects), "SAVE", "END", ""]

@@ -2,6 +2,7 @@
    requests there were into the file that the variable REQUESTS names, if it is set. */
 #define _GNU_SOURCE
 #include <dlfcn.h>
+#include <errno.h>
 #include <fcntl.h>
 #include <stdio.h>
 #include <stdlib.h>
@@ -28,6 +29,13 @@ void *malloc(size_t size) {
     static void *(*next)(size_t);
     if (!next) next = (void *(*)(size_t))dlsym(RTLD_NEXT, "malloc");
     return ++count == refused ? NULL : next(size);
+}
+
+/* (the library of C asks so for large blocks) */
+int posix_memalign(void **at, size_t alignment, size_t size) {
+    static int (*next)(void **, size_t, size_t);
+    if (!next) next = (int (*)(void **, size_t, size_t))dlsym(RTLD_NEXT, "posix_memalign");
+    return ++count == refused ? ENOMEM : next(at, alignment, size);
 }
 
 void *realloc(void *old, size_t size) {

@@ -98,7 +98,7 @@ Outcome measure(Peer &peer, const Cell &cell, const Draws &draws, unsigned turn,
     if (cell.commits != Commits::none) peer.commit(cell.commits == Commits::full);
     for (unsigned n = 0; n < cell.threads; n++) {
         const uint64_t from = (Draws::count / 4 * n + 4096 * turn) % Draws::count;
-        const Plan plan{&draws, cell.mix, from, cell.timed};
+        const Plan plan{&draws, cell.mix, from, cell.timed, cell.cold ? 0 : cell.keys};
         threads.emplace_back([&peer, &gate, &tallies, n, plan, round] {
             bind_to(n + round);
             peer.run(n, plan, gate, tallies[n]);

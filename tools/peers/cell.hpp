@@ -16,6 +16,7 @@ struct Cell {
     Commits commits;
     bool timed;
     double seconds;
+    bool cold = false;  // no key is touched before the calls begin
 };
 
 // What came of a cell. Times are in seconds.

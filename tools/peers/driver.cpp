@@ -46,6 +46,7 @@ struct Settings {
     Words timed_mixes = mixes, timed_threads = threads;    // cells of single calls, of fkv
     Words beside_mixes{"A"}, beside_threads{"2"};          // and of the others
     Words own_sizes;                                       // sizes of which fkv's cells with commits, and of single calls, are played; all where nothing is said
+    Words cold_mixes{"get", "upsert"}, cold_threads{"1"};  // cells that begin cold, in the first round
     Words only;                                            // the peers that take part; all where nothing is said
     double cell = 0.03, commit_cell = 0.13, timed_cell = 0.13, until = 470;
     unsigned rounds = 3, commit_rounds = 3, timed_rounds = 3;
@@ -66,6 +67,7 @@ Settings read(const Words &words) {
         {"sizes", &settings.sizes}, {"mixes", &settings.mixes}, {"spreads", &settings.spreads}, {"threads", &settings.threads}, {"commit_threads", &settings.commit_threads},
         {"commit_mixes", &settings.commit_mixes}, {"full_mixes", &settings.full_mixes}, {"full_threads", &settings.full_threads}, {"timed_mixes", &settings.timed_mixes},
         {"timed_threads", &settings.timed_threads}, {"beside_mixes", &settings.beside_mixes}, {"beside_threads", &settings.beside_threads}, {"own_sizes", &settings.own_sizes},
+        {"cold_mixes", &settings.cold_mixes}, {"cold_threads", &settings.cold_threads},
         {"only", &settings.only}};
     std::map<std::string, double *> numbers{{"cell", &settings.cell}, {"commit_cell", &settings.commit_cell}, {"timed_cell", &settings.timed_cell}, {"until", &settings.until}};
     std::map<std::string, unsigned *> counts{{"rounds", &settings.rounds}, {"commit_rounds", &settings.commit_rounds}, {"timed_rounds", &settings.timed_rounds}};
@@ -148,6 +150,7 @@ class Run {
 
     void play(Board &board, bool zipf, unsigned round) {
         if (round < settings_.rounds) play_plain(board, zipf, round);
+        if (round == 0 && settings_.rounds > 0 && !zipf) play_cold(board);
         if (round < settings_.commit_rounds) play_committed(board, zipf, round);
         if (round < settings_.timed_rounds) play_timed(board, zipf, round);
     }
@@ -164,6 +167,13 @@ class Run {
                 const Guest &guest = board.guests[(i + round) % board.guests.size()];
                 cell("plain", guest, *guest.plain, {board.keys, zipf, mix, threads, Commits::none, false, settings_.cell}, board, round);
             }
+        });
+    }
+
+    // Cells of which no key is touched before the calls begin. Behind another peer's cells each key is far from the processor.
+    void play_cold(Board &board) {
+        each(settings_.cold_mixes, settings_.cold_threads, [&](const Mix &mix, unsigned threads) {
+            for (const Guest &guest : board.guests) cell("cold", guest, *guest.plain, {board.keys, false, mix, threads, Commits::none, false, settings_.cell, true}, board, 0);
         });
     }
 
@@ -225,7 +235,7 @@ void fill(const Kind &kind, uint64_t keys, uint64_t calls, const std::string &fo
     peer->load(keys);
     const Draws draws(keys, true);
     for (unsigned part = 0; part < 4; part++) {
-        peer->play({&draws, mix_of("add"), Draws::count / 4 * part, false}, calls / 4);
+        peer->play({&draws, mix_of("add"), Draws::count / 4 * part, false, 0}, calls / 4);
         peer->commit(full);
     }
     std::_Exit(0);

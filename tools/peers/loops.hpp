@@ -70,6 +70,7 @@ class PeerOf final : public Peer {
     void run(unsigned n, const Plan &plan, Gate &gate, Tally &tally) override {
         Session &session = *sessions_[n];
         session.enter();
+        touch(session, plan.touched);
         gate.ready++;
         while (!gate.open) {
         }
@@ -106,6 +107,15 @@ class PeerOf final : public Peer {
   private:
     using Session = typename Store::Session;
     static constexpr unsigned block = 64;
+
+    // Gets each key once, so that a cell of many keys doesn't time the first call of each.
+    static void touch(Session &session, uint64_t keys) {
+        for (uint64_t number = 0; number < keys; number++) {
+            uint64_t value;
+            session.get(key_of(number), value);
+            if (number % block == block - 1) session.idle();
+        }
+    }
 
     // Calls, in blocks, until it is to stop or so many are made; at least a block, however busy the machine is. It tells the first
     // draw that it left.

@@ -111,6 +111,26 @@ def judged(figures, by, words):
     return f"{text} It is behind here:\n\n" + table(["peer", "cells", "times the peer's calls in these", "least"], rows)
 
 
+def cold(figures):
+    """The cells that begin cold, of one mix and number of threads a row, beside those that don't."""
+    its = [it for it in figures.cells if it["part"] == "cold"]
+    if not its:
+        return ""
+    rows = []
+    for keys in figures.sizes:
+        for mix in figures.mixes:
+            for n in sorted({it["threads"] for it in its if it["mix"] == mix}):
+                for part, words in (("plain", "touched"), ("cold", "cold")):
+                    found = [figures.value(by_processor, part, peer, keys, False, mix, n) for peer in (OWN, *figures.peers)]
+                    if any(found):
+                        rows.append([thousands(keys), MIXES[mix], str(n), words] + ["-" if it is None else f"{1e9 / it:.0f}" for it in found])
+    return (
+        "The same cells cold: no key is touched before the calls begin, behind cells of other peers. Uniform keys, ns of processor a call:\n\n"
+        + table(["keys", "calls", "threads", "begun", OWN, *figures.peers], rows)
+        + "\n"
+    )
+
+
 def own(figures):
     rows = []
     for keys in figures.sizes:
@@ -254,7 +274,7 @@ def beginning(figures):
 {conditions(figures)}
 
 - **Keys** are 64-bit words in no order, and so are values. Each call's key is drawn before anything is timed, the same for all. Zipf has the exponent 0.99, and its ranks are scattered over the keys, as those of YCSB are.
-- **Calls.** YCSB A has half upserts and half gets, B one upsert in twenty calls. F has an add in half of its calls, in place of a read and a write. A thread that calls is bound to a processor, by its number and the round: the cells of a round run on the same ones. No other thread is bound. A cell with commits begins after one. Before the first of them fkv's log has gone round memory once, as it has after some seconds.{alone(figures)}
+- **Calls.** YCSB A has half upserts and half gets, B one upsert in twenty calls. F has an add in half of its calls, in place of a read and a write. A thread that calls is bound to a processor, by its number and the round: the cells of a round run on the same ones. No other thread is bound. Before the clock runs each thread gets each key once, and then calls for an eighth of the cell. All peers have huge pages for large blocks of memory (`glibc.malloc.hugetlb=1`). A cell with commits begins after one. Before the first of them fkv's log has gone round memory once, as it has after some seconds.{alone(figures)}
 - **fkv** spreads the keys itself. Each session refreshes after 256 calls; after 64 while it sees a commit, and after 8 until all have gone over to its version. An update that lost to another session is polled at once. Memory has room for eight records of each key, and for 2^20 of each thread at least, in pages of 65,536 records. The index has a bucket for each four keys.
 - **Maps** are `std::unordered_map` behind one mutex and in 64 shards, libcuckoo, TBB and dashmap. dashmap comes twice: as it is, and with 512 shards and each key as its own hash.
 - **LMDB** has one transaction behind a mutex, which a commit ends. By call each update is a transaction, gets wait for nobody, and a commit syncs.
@@ -286,7 +306,8 @@ By processor time of the threads that call:
 The library's own figures, with {threads}:
 
 {own(figures)}
-"""
+
+{cold(figures)}"""
 
 
 def committed(figures, pictures):

@@ -29,6 +29,7 @@ struct Plan {
     Mix mix;
     uint64_t from;  // the first draw, the first of a block
     bool timed;     // each call by itself
+    uint64_t touched;  // so many keys are got once before the calls begin, 0 in a cell that begins cold
 };
 
 // What one thread has done in a cell.

@@ -1,6 +1,6 @@
 -- The numbers that a call goes by, as those of its course.
 use Rattle.std.proofs.Common.{◌≡◌, ℕ, ◌<◌, ◌≤◌, refl, sym, ap, ◌∙◌, subst, arith, Bool, true, false}
-use Rattle.std.specs.Prelude.{◌+◌, ◌&&◌, not, nat_le, nat_lt, Option, Some, None, IfSome, IfNone}
+use Rattle.std.specs.Prelude.{◌+◌, ◌*◌, ◌%◌, ◌&&◌, not, nat_le, nat_lt, Option, Some, None, IfSome, IfNone}
 use Rattle.std.proofs.lemmas.Bool.Decides.{nat_tests}
 use Rattle.fkv_base.specs.Limits.{last_serial, last_version}
 use Rattle.fkv_base.specs.declared.numbers.Key.{Key}
@@ -9,7 +9,8 @@ use Rattle.fkv_map.specs.Keys.{key_of}
 use Rattle.fkv_plane.specs.declared.asks.Ask.{Ask}
 use Rattle.fkv_plane.specs.declared.places.Places.{Places}
 use Rattle.fkv_plane.specs.declared.places.RecordWord.{RecordWord}
-use Rattle.fkv_plane.specs.Places.{bucket_place, record_place}
+use Rattle.fkv_plane.specs.declared.places.RecordWord.TheVariants as rec
+use Rattle.fkv_plane.specs.Places.{bucket_place, frames_start, record_place}
 use Rattle.fkv_index.specs.declared.homes.Home.{Home}
 use Rattle.fkv_index.specs.Finding.{spare_of}
 use Rattle.fkv_index.specs.Slots.{home_of}
@@ -50,6 +51,20 @@ latch_is c k op g place goes e =
 
 pub record_is : (c : Course) (k : Seat) (op : Op) (g : Going) (addr at : ℕ) (word : RecordWord) → Goes c k op g → at ≡ record_place g.places addr word → record_place c.seat.places addr word ≡ at
 record_is c k op g addr at word goes e = ap (λ (p : Places). record_place p addr word) goes.its_places ∙ sym e
+
+-- the words of a record follow one another
+key_after : (start index : ℕ) → start + 3 * index + 0 + 1 ≡ start + 3 * index + 1
+key_after start index = omega arith
+
+value_after : (start index : ℕ) → start + 3 * index + 0 + 2 ≡ start + 3 * index + 2
+value_after start index = omega arith
+
+pub key_at : (p : Places) (addr at : ℕ) → at ≡ record_place p addr rec.Header → at + 1 ≡ record_place p addr rec.Key
+key_at p addr at e = ap (λ (n : ℕ). n + 1) e ∙ key_after (frames_start p) (addr % p.ring)
+
+pub value_at : (c : Course) (k : Seat) (op : Op) (g : Going) (addr at : ℕ) → Goes c k op g → at ≡ record_place c.seat.places addr rec.Header → at + 2 ≡ record_place g.places addr rec.Value
+value_at c k op g addr at goes e =
+    ap (λ (n : ℕ). n + 2) (e ∙ ap (λ (p : Places). record_place p addr rec.Header) goes.its_places) ∙ value_after (frames_start g.places) (addr % g.places.ring)
 
 pub memory_is : (c : Course) (k : Seat) (op : Op) (g : Going) (addr : ℕ) (b : Bool) → Goes c k op g → b ≡ is_in_memory g.places.ring g.head addr → b ≡ true → IsInMemory c addr
 memory_is c k op g addr b goes e holds = ap (λ (p : Places). is_in_memory p.ring (head_in c) addr) goes.its_places ∙ (ap (λ (n : ℕ). is_in_memory g.places.ring n addr) goes.its_head ∙ (sym e ∙ holds))

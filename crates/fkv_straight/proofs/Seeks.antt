@@ -1,5 +1,5 @@
 -- How the slot of a home is sought.
-use Rattle.std.proofs.Common.{◌≡◌, ℕ, ◌+◌, ◌-◌, ◌/◌, ◌^◌, ◌<◌, ◌≤◌, refl, sym, ap, ◌∙◌, subst, arith, Bool, true, false}
+use Rattle.std.proofs.Common.{◌≡◌, ℕ, ◌+◌, ◌-◌, ◌/◌, ◌^◌, ◌<◌, ◌≤◌, ◌⊎◌, inl, inr, refl, sym, ap, ◌∙◌, subst, arith, Bool, true, false}
 use Rattle.std.specs.Prelude.{◌==◌, ◌&&◌, not, nat_lt, nat_le, None}
 use Rattle.std.proofs.lemmas.Bool.Decides.{nat_tests}
 use Rattle.fkv_base.specs.declared.numbers.Key.{Key}
@@ -132,8 +132,8 @@ empty_slot c base links slot s has =
     (record { base = base; links = links; first = None }, fresh_at base links 0, load.AtRest, Finds, subst (λ (t : TryState). IsLed c t s) (finds_empty c base links slot) has)
 
 pub empty_found : (c : Course) (base links slot word : ℕ) (s : SessionState) → HasSlot c base links slot word s → word ≡ 0 → IsReached c (base + slot) word (entry_addr word) s
-empty_found c base links slot word s has zero =
-    subst (λ (n : ℕ). IsReached c (base + slot) n (entry_addr n) s) (sym zero) (empty_slot c base links slot s (subst (λ (n : ℕ). HasSlot c base links slot n s) zero has))
+empty_found c base links slot word s has none =
+    subst (λ (n : ℕ). IsReached c (base + slot) n (entry_addr n) s) (sym none) (empty_slot c base links slot s (subst (λ (n : ℕ). HasSlot c base links slot n s) none has))
 
 -- ---- the tests, by the numbers that the call goes by
 pub is_some : (word : ℕ) → ¬ (word ≡ 0) → (word == 0) ≡ false
@@ -148,6 +148,30 @@ pub is_mine : (c : Course) (k : Seat) (op : Op) (g : Going) (h : Home) (key : Ke
 is_mine c k op g h key word goes its e mine =
     let t : word / 2 ^ 48 ≡ (home_in c).tag = mine ∙ ap (λ (x : Home). x.tag) (home_is c k op g h key goes its e) in
     grind (arith, nat_tests, t)
+
+-- by the tag alone
+other_tag : (c : Course) (k : Seat) (op : Op) (g : Going) (tag word : ℕ) → Goes c k op g → tag ≡ (home_of g.bits (key_of op)).tag → ¬ (word / 2 ^ 48 ≡ tag) → (entry_tag word == (home_in c).tag) ≡ false
+other_tag c k op g tag word goes its other = is_other c k op g (home_of g.bits (key_of op)) (key_of op) word goes refl refl (λ same. other (same ∙ sym its))
+
+mine_tag : (c : Course) (k : Seat) (op : Op) (g : Going) (tag word : ℕ) → Goes c k op g → tag ≡ (home_of g.bits (key_of op)).tag → word / 2 ^ 48 ≡ tag → (entry_tag word == (home_in c).tag) ≡ true
+mine_tag c k op g tag word goes its mine = is_mine c k op g (home_of g.bits (key_of op)) (key_of op) word goes refl refl (mine ∙ its)
+
+some_entry : (word : ℕ) → is_entry word ≡ true → (word == 0) ≡ false
+some_entry word its = is_some word (λ none. absurd (let e : false ≡ true = subst (λ (n : ℕ). is_entry n ≡ true) none its in cc e))
+
+-- where the search ends at a slot, and where it goes on behind it
+pub ends_here : (c : Course) (k : Seat) (op : Op) (g : Going) (tag base links slot word : ℕ) (s : SessionState) → Goes c k op g → tag ≡ (home_of g.bits (key_of op)).tag → HasSlot c base links slot word s
+    → (word ≡ 0) ⊎ ((is_entry word ≡ true) × (word / 2 ^ 48 ≡ tag)) → IsReached c (base + slot) word (entry_addr word) s
+ends_here c k op g tag base links slot word s goes its has (inl none) = empty_found c base links slot word s has none
+ends_here c k op g tag base links slot word s goes its has (inr (entry, mine)) = entry_found c base links slot word s has entry (some_entry word entry) (mine_tag c k op g tag word goes its mine)
+
+pub other_passed : (c : Course) (k : Seat) (op : Op) (g : Going) (tag base links slot word : ℕ) (s : SessionState) → Goes c k op g → tag ≡ (home_of g.bits (key_of op)).tag → HasSlot c base links slot word s
+    → (is_entry word ≡ true) × ¬ (word / 2 ^ 48 ≡ tag) → slot < 6 → IsAtSlot c base links (slot + 1) s
+other_passed c k op g tag base links slot word s goes its has other few = slot_passed c base links slot word s has other.0 (some_entry word other.0) (other_tag c k op g tag word goes its other.1) few
+
+pub all_passed : (c : Course) (k : Seat) (op : Op) (g : Going) (tag base links word : ℕ) (s : SessionState) → Goes c k op g → tag ≡ (home_of g.bits (key_of op)).tag → HasSlot c base links 6 word s
+    → (is_entry word ≡ true) × ¬ (word / 2 ^ 48 ≡ tag) → IsAtLink c base links s
+all_passed c k op g tag base links word s goes its has other = last_passed c base links 6 word s has other.0 (some_entry word other.0) (other_tag c k op g tag word goes its other.1) (omega arith)
 
 -- a link that is followed, by the number of the bucket
 pub link_goes_on : (c : Course) (k : Seat) (op : Op) (g : Going) (base links word number next : ℕ) (s : SessionState) → Goes c k op g → HasLink c base (g.places.overflow - links) word s → number ≡ entry_addr word → ¬ (number ≡ 0) → number ≤ g.places.overflow → links < g.places.overflow

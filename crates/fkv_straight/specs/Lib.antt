@@ -1,5 +1,6 @@
 pub mod Course
 pub mod Fetching
+pub mod Hot
 pub mod Memory
 pub mod Met
 pub mod Refreshes

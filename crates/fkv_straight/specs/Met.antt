@@ -8,7 +8,8 @@ use Rattle.fkv_map.specs.declared.operations.Call.TheVariants as call
 use Rattle.fkv_map.specs.declared.operations.Op.{Op}
 use Rattle.fkv_map.specs.declared.operations.Reply.{Reply}
 use Rattle.fkv_map.specs.Keys.{key_of, reply_from}
-use Rattle.fkv_plane.specs.Places.{bucket_place}
+use Rattle.fkv_plane.specs.declared.places.RecordWord.TheVariants.{Header}
+use Rattle.fkv_plane.specs.Places.{bucket_place, record_place}
 use Rattle.fkv_latch.specs.declared.latching.Latching.TheVariants as latch
 use Rattle.fkv_log.specs.declared.filling.Filling.{Filling}
 use Rattle.fkv_log.specs.declared.filling.Filling.TheVariants as fill
@@ -162,6 +163,7 @@ pub record IsMet (c : Course) (r : Record) (s : SessionState) : Type 0 where
   pub said : header_said r.header ≡ Says (record { 0 = r.previous }) (record { 0 = r.version })
   pub below : r.previous < r.addr
   pub here : IsInMemory c r.addr
+  pub at : r.at ≡ record_place c.seat.places r.addr Header
 
 -- by whatever trail it was met, the update stays at its version: in prepare the chain's first record is of no later one
 abbrev pub IsUnshifted : Course → Record → Type 0

@@ -4,7 +4,7 @@ ghost use Rattle.fkv_map.specs.declared.operations.Call.{Call};
 ghost use Rattle.fkv_ops.specs.Requests.{is_read, is_blind};
 ghost use Rattle.fkv_session.specs.Sessions.{is_busy};
 ghost use Rattle.fkv_straight.specs.Course.{Course, course_of, Goes};
-ghost use Rattle.fkv_straight.specs.Met.{Begins, HasChanged, HasLost, IsMet, IsUnshifted};
+ghost use Rattle.fkv_straight.specs.Met.{Begins, HasChanged, HasLost, HasMet, IsMet, IsUnshifted};
 ghost use Rattle.fkv_straight.specs.Standing.{ComesTo};
 
 use crate::appending::{append_first, append_past};
@@ -14,10 +14,8 @@ use crate::lines::Line;
 use crate::outcomes::Outcome;
 use crate::searching::{Met, Record, search};
 use crate::words::is_blind;
-use fkv_base::Addr;
 use fkv_map::{Call, Op, Reply};
 use fkv_ops::{value_of_word, word_of_value};
-use fkv_plane::RecordWord;
 
 /// The value becomes one that doesn't depend on it, by one Swap.
 #[inline(always)]
@@ -34,7 +32,7 @@ fn swap_value<L: Line>(line: &mut L, going: &Going, op: Op, its: Record) -> Repl
     ensures kept { L.kept line.new ≤ L.kept line.old + 2 }
     ensures done { (c : Course) → Goes c (L.seat line.old) op going.now → IsMet c its (L.stands line.old) → HasChanged c result (L.stands line.new) }
 {
-    let place = going.record(Addr(its.addr), RecordWord::Value);
+    let place = its.at + 2;
     let made = op.value_applied(None);
     let new = word_of_value(made);
     let _ = line.swap(place, new);
@@ -57,7 +55,7 @@ fn change_value<L: Line>(line: &mut L, going: &Going, op: Op, its: Record) -> Op
     ensures done { (c : Course) → Goes c (L.seat line.old) op going.now → IsMet c its (L.stands line.old) → IfSome result (λ reply. HasChanged c reply (L.stands line.new)) }
     ensures lost { (c : Course) → Goes c (L.seat line.old) op going.now → IsMet c its (L.stands line.old) → IfNone result (HasLost c (L.stands line.new)) }
 {
-    let place = going.record(Addr(its.addr), RecordWord::Value);
+    let place = its.at + 2;
     let old = line.load(place);
     let value = value_of_word(old);
     let made = op.value_applied(value);
@@ -119,6 +117,24 @@ fn update_record<L: Line>(line: &mut L, going: &Going, op: Op, its: Record) -> O
     }
 }
 
+/// Makes the steps of an update whose search has met this, up to its answer. The session isn't in prepare.
+#[inline(always)]
+pub(crate) fn update_met<L: Line>(line: &mut L, going: &Going, op: Op, met: Met) -> Outcome
+    requires at { (c : Course) × Goes c (L.seat line.old) op going.now × HasMet c met (L.stands line.old) }
+    requires room { L.kept line.old ≤ 48 }
+    requires updates { is_read op ≡ false }
+    requires calm { going.now.is_preparing ≡ false }
+    ensures seat { L.seat line.new ≡ L.seat line.old }
+    ensures led { (start : L) (call : Call) → L.led start call line.old → L.led start call line.new }
+    ensures done { (c : Course) → Goes c (L.seat line.old) op going.now → HasMet c met (L.stands line.old) → ComesTo c result (L.stands line.new) }
+{
+    match met {
+        Met::Found(record) => update_record(line, going, op, record),
+        Met::Nowhere(slot) => append_first(line, going, op, slot),
+        Met::OnDisk(slot) => append_past(line, going, op, slot),
+    }
+}
+
 /// Makes the steps of an update up to its answer, in a call or a poll. The session isn't in prepare.
 #[inline(always)]
 pub(crate) fn update<L: Line>(line: &mut L, going: &Going, op: Op, call: Call) -> Outcome
@@ -132,12 +148,8 @@ pub(crate) fn update<L: Line>(line: &mut L, going: &Going, op: Op, call: Call) -
     ensures done { ComesTo (course_of (L.seat line.old) (L.stands line.old) op call) result (L.stands line.new) }
 {
     let met = search(line, going, op, call);
-    let Some(its) = met else {
-        return Outcome::Unusual;
-    };
-    match its {
-        Met::Found(record) => update_record(line, going, op, record),
-        Met::Nowhere(slot) => append_first(line, going, op, slot),
-        Met::OnDisk(slot) => append_past(line, going, op, slot),
+    match met {
+        Some(its) => update_met(line, going, op, its),
+        None => Outcome::Unusual,
     }
 }

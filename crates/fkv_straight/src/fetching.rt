@@ -7,7 +7,6 @@ ghost use Rattle.fkv_straight.specs.Fetching.{record_led_to};
 use crate::going::Going;
 use crate::words::addr_of;
 use fkv_base::{Addr, Key};
-use fkv_index::home_of;
 use fkv_plane::RecordWord;
 
 /// Where the search for a key's entry begins.
@@ -19,6 +18,9 @@ pub struct Start {
     pub tag: u64,
 }
 
+/// A tag has fifteen bits.
+const TAG_MASK: u64 = (1 << 15) - 1;
+
 impl Going {
     /// Where the search for the key's entry begins.
     #[inline(always)]
@@ -27,12 +29,9 @@ impl Going {
         ensures tag { result.tag ≡ (home_of self.now.bits key).tag }
         ensures fits { result.bucket + 8 ≤ 2 ^ 62 }
     {
-        let home = home_of(key, self.bits);
-        let bucket = self.places.bucket(home.bucket, 0);
-        Start {
-            bucket,
-            tag: home.tag as u64,
-        }
+        let bucket = self.first_bucket + 8 * (key.0 & self.bucket_mask) as usize;
+        let tag = (key.0 >> self.bits) & TAG_MASK;
+        Start { bucket, tag }
     }
 
     /// The place of the header of the record to which the word of a slot leads, if the word has this tag and the record's address lies in

@@ -1,6 +1,7 @@
 //! What a straight call goes by.
-ghost use Rattle.std.specs.Prelude.{◌≡◌, ◌^◌, ◌<◌};
-ghost use Rattle.fkv_plane.specs.Places.{frames_start};
+ghost use Rattle.std.specs.Prelude.{◌≡◌, ◌%◌, ◌^◌, ◌<◌, ℕ};
+ghost use Rattle.std.specs.Int.Bits.{bit_and};
+ghost use Rattle.fkv_plane.specs.Places.{bucket_place, frames_start};
 
 use crate::words::{is_moving_on, is_preparing, is_read};
 use fkv_base::{Addr, Serial, Version};
@@ -13,10 +14,14 @@ use fkv_session::Session;
 #[derive(Clone, Copy)]
 pub struct Going {
     pub places: Places,
+    /// Where the buckets start.
+    pub first_bucket: usize,
     /// Where the frames start.
     pub frames: usize,
     /// The index has 2^bits buckets.
     pub bits: u64,
+    /// Their count less one: a key masked by it is its bucket.
+    pub bucket_mask: u64,
     pub head: u64,
     pub read_only: u64,
     /// The session's version, which is that of each record that it makes.
@@ -28,6 +33,11 @@ pub struct Going {
     pub ghost buckets: { places.buckets ≡ 2 ^ bits },
     pub ghost version_fits: { version < 2 ^ 13 },
     pub ghost starts: { frames ≡ frames_start places },
+    pub ghost starts_first: { first_bucket ≡ bucket_place places 0 0 },
+    pub ghost masks: { (n : ℕ) → bit_and n bucket_mask ≡ n % 2 ^ bits },
+    pub ghost few_bits: { bits < 64 },
+    pub ghost some_head: { 0 < head },
+    pub ghost low_head: { head < 2 ^ 62 },
 }
 
 /// An update that alone waits.
@@ -64,14 +74,21 @@ impl Going {
         if spare > places.overflow as u64 {
             return None;
         }
+        let head = seen.offsets.head.0;
+        if head == 0 || head >= 1 << 62 {
+            return None;
+        }
         let moves_on = is_moving_on(seen.phase);
         let prepares = is_preparing(seen.phase);
+        let first_bucket = places.bucket(0, 0);
         let frames = places.record(Addr(0), RecordWord::Header);
         Some(Going {
             places,
+            first_bucket,
             frames,
             bits: shape.bucket_bits,
-            head: seen.offsets.head.0,
+            bucket_mask: places.buckets as u64 - 1,
+            head,
             read_only: seen.offsets.read_only.0,
             version,
             is_moving_on: moves_on,
@@ -151,12 +168,12 @@ impl Going {
         self.frames + 3 * (addr.0 as usize & self.places.ring_mask) + number
     }
 
-    /// Whether the address of a chain lies within a ring from the head on.
+    /// Whether the address of a chain lies within a ring from the head on. One below the head, as 0 is, wraps round to more than a ring.
     #[inline(always)]
     #[tactic(auto, unfolding(crate::specs::Memory::is_in_memory))]
     pub(crate) fn is_in_memory(&self, addr: u64) -> bool
         ensures { result ≡ is_in_memory self.now.places.ring self.now.head addr }
     {
-        addr != 0 && addr >= self.head && addr - self.head < self.places.ring as u64
+        addr.wrapping_sub(self.head) < self.places.ring as u64
     }
 }

@@ -9,6 +9,7 @@ mod copying;
 mod fetching;
 mod going;
 mod handing;
+mod hot;
 mod lines;
 mod outcomes;
 mod polling;
@@ -21,5 +22,7 @@ mod words;
 
 pub use fetching::Start;
 pub use going::Going;
+pub use hot::Due;
 pub use lines::Line;
-pub use sessions::{StraightSession, Went};
+pub use searching::{Met, Record, Slot};
+pub use sessions::{Hot, StraightSession, Went};

@@ -11,9 +11,8 @@ ghost use Rattle.fkv_straight.specs.Standing.{IsEnded};
 use crate::going::Going;
 use crate::lines::Line;
 use crate::searching::{Met, search};
-use fkv_base::{Addr, Value};
+use fkv_base::Value;
 use fkv_map::{Call, Op};
-use fkv_plane::RecordWord;
 use fkv_session::Told;
 
 /// What a read is told whose key's record, or chain's end, is in memory.
@@ -33,7 +32,7 @@ pub(crate) fn read<L: Line>(line: &mut L, going: &Going, op: Op) -> Option<Told>
     };
     match its {
         Met::Found(record) => {
-            let place = going.record(Addr(record.addr), RecordWord::Value);
+            let place = record.at + 2;
             let value = line.load(place);
             if value == Value::ABSENT {
                 Some(Told::Absent)

@@ -1,44 +1,48 @@
 //! The search along bucket and chain, which all straight calls share.
-ghost use Rattle.std.specs.Prelude.{◌≡◌, ◌<◌, ◌≤◌, ◌+◌, ◌^◌, IfSome, false};
+ghost use Rattle.std.specs.Prelude.{◌≡◌, ◌⊎◌, ◌<◌, ◌≤◌, ◌+◌, ◌-◌, ◌/◌, ◌^◌, IfSome, false, true};
 ghost use Rattle.fkv_map.specs.declared.operations.Call.{Call};
 ghost use Rattle.fkv_map.specs.Keys.{key_of};
 ghost use Rattle.fkv_plane.specs.Places.{bucket_place};
-ghost use Rattle.fkv_index.specs.Slots.{entry_addr, home_of};
+ghost use Rattle.fkv_index.specs.Slots.{entry_addr, home_of, is_entry};
 ghost use Rattle.fkv_session.specs.Sessions.{is_busy};
 ghost use Rattle.fkv_straight.specs.Course.{Course, course_of, shares, Goes};
-ghost use Rattle.fkv_straight.specs.Met.{Begins, HasMet, HasSlot, IsAtFirst, IsReached};
+ghost use Rattle.fkv_straight.specs.Met.{Begins, HasMet, HasSlot, IsAtFirst, IsAtLink, IsReached};
+ghost use Rattle.fkv_straight.specs.declared.searching.Judged.TheVariants.{Here, Other};
+ghost use Rattle.fkv_straight.specs.declared.searching.Slot.{Slot};
+ghost use Rattle.fkv_straight.specs.declared.searching.Sought.TheVariants.{At, Passed};
 ghost use Rattle.fkv_straight.specs.Standing.{};
 
 use crate::going::Going;
 use crate::lines::Line;
 use crate::words::{addr_of, header_said, is_entry};
 use fkv_base::Addr;
-use fkv_index::home_of;
 use fkv_map::{Call, Op};
 use fkv_ops::HeaderSaid;
 use fkv_plane::RecordWord;
 
 /// The slot of a home: its place, and the word that was found there, 0 where it is empty.
 #[derive(Clone, Copy)]
-pub(crate) struct Slot {
+pub struct Slot {
     pub place: usize,
     pub entry: u64,
 }
 
 /// The record of a key that was met in memory, and the slot from whose entry the walk to it began.
 #[derive(Clone, Copy)]
-pub(crate) struct Record {
+pub struct Record {
     pub place: usize,
     pub entry: u64,
     pub addr: u64,
     pub header: u64,
     pub previous: u64,
     pub version: u64,
+    /// The place of its header.
+    pub at: usize,
 }
 
 /// What a search has met.
 #[derive(Clone, Copy)]
-pub(crate) enum Met {
+pub enum Met {
     Found(Record),
     /// The chain ends, and has no record of the key.
     Nowhere(Slot),
@@ -50,6 +54,93 @@ pub(crate) enum Met {
 const LINKS: usize = 3;
 
 const RECORDS: usize = 8;
+
+/// What the word of a slot is to the search for a tag.
+enum Judged {
+    /// The search ends here: the slot is empty, or has an entry of the tag.
+    Here,
+    /// An entry of another tag.
+    Other,
+    Spoiled,
+}
+
+/// What a word is to the search.
+#[inline(always)]
+fn judge(word: u64, tag: u64) -> Judged
+    ensures here { result ≡ Here → (word ≡ 0) ⊎ ((is_entry word ≡ true) × (word / 2 ^ 48 ≡ tag)) }
+    ensures other { result ≡ Other → (is_entry word ≡ true) × ¬ (word / 2 ^ 48 ≡ tag) }
+{
+    if word == 0 {
+        return Judged::Here;
+    }
+    let entry = is_entry(word);
+    if !entry {
+        return Judged::Spoiled;
+    }
+    if word >> 48 == tag {
+        Judged::Here
+    } else {
+        Judged::Other
+    }
+}
+
+/// What the search along a bucket's slots has come to.
+enum Sought {
+    At(Slot),
+    /// Each slot has an entry of another tag.
+    Passed,
+    /// A word is none that a slot may have.
+    Spoiled,
+}
+
+/// Searches the seven slots of a bucket, of which the first has this word. So many buckets were passed before it.
+#[inline(always)]
+fn seek_in<L: Line>(
+    line: &mut L,
+    going: &Going,
+    op: Op,
+    tag: u64,
+    base: usize,
+    first: u64,
+    _passed: usize,
+) -> Sought
+    requires at { (c : Course) × Goes c (L.seat line.old) op going.now × HasSlot c base (going.now.places.overflow - _passed) 0 first (L.stands line.old) }
+    requires tag { tag ≡ (home_of going.now.bits (key_of op)).tag }
+    requires fits { base + 8 ≤ 2 ^ 62 }
+    requires room { L.kept line.old ≤ 57 }
+    ensures seat { L.seat line.new ≡ L.seat line.old }
+    ensures led { (start : L) (call : Call) → L.led start call line.old → L.led start call line.new }
+    ensures kept { L.kept line.new ≤ L.kept line.old + 6 }
+    ensures found { (its : Slot) → result ≡ At its → (c : Course) → Goes c (L.seat line.old) op going.now → HasSlot c base (going.now.places.overflow - _passed) 0 first (L.stands line.old)
+        → IsReached c its.place its.entry (entry_addr its.entry) (L.stands line.new) }
+    ensures passed { result ≡ Passed → (c : Course) → Goes c (L.seat line.old) op going.now → HasSlot c base (going.now.places.overflow - _passed) 0 first (L.stands line.old)
+        → IsAtLink c base (going.now.places.overflow - _passed) (L.stands line.new) }
+{
+    let mut word = first;
+    'slots: for slot in 0..6 {
+        let judged = judge(word, tag);
+        match judged {
+            Judged::Here => {
+                return Sought::At(Slot {
+                    place: base + slot,
+                    entry: word,
+                });
+            }
+            Judged::Spoiled => return Sought::Spoiled,
+            Judged::Other => {}
+        }
+        word = line.load(base + slot + 1);
+    }
+    let judged = judge(word, tag);
+    match judged {
+        Judged::Here => Sought::At(Slot {
+            place: base + 6,
+            entry: word,
+        }),
+        Judged::Spoiled => Sought::Spoiled,
+        Judged::Other => Sought::Passed,
+    }
+}
 
 /// Finds the slot of the key's home, from its bucket's first word on. It is the first one with an entry of its tag, or the first empty one.
 #[inline(always)]
@@ -63,45 +154,28 @@ fn seek<L: Line>(line: &mut L, going: &Going, op: Op, first: usize, found: u64) 
     ensures found { (c : Course) → Goes c (L.seat line.old) op going.now → HasSlot c first going.now.places.overflow 0 found (L.stands line.old)
         → IfSome result (λ its. IsReached c its.place its.entry (entry_addr its.entry) (L.stands line.new)) }
 {
-    let key = op.key();
-    let home = home_of(key, going.bits);
+    let start = going.start(op.key());
     let mut base = first;
     let mut word = found;
-    let mut slot = 0;
-    let mut links = 0;
-    'slots: while word != 0 {
-        let entry = is_entry(word);
-        if !entry {
+    'buckets: for links in 0..LINKS + 1 {
+        let sought = seek_in(line, going, op, start.tag, base, word, links);
+        match sought {
+            Sought::At(slot) => return Some(slot),
+            Sought::Spoiled => return None,
+            Sought::Passed => {}
+        }
+        if links >= LINKS || links >= going.places.overflow {
             return None;
         }
-        if word >> 48 == home.tag as u64 {
-            return Some(Slot {
-                place: base + slot,
-                entry: word,
-            });
+        let link = line.load(base + 7);
+        let number = addr_of(link) as usize;
+        if number == 0 || number > going.places.overflow {
+            return None;
         }
-        if slot < 6 {
-            slot += 1;
-            word = line.load(base + slot);
-        } else {
-            if links >= LINKS || links >= going.places.overflow {
-                return None;
-            }
-            let link = line.load(base + 7);
-            let number = addr_of(link) as usize;
-            if number == 0 || number > going.places.overflow {
-                return None;
-            }
-            base = going.places.overflow(number, 0);
-            links += 1;
-            slot = 0;
-            word = line.load(base);
-        }
+        base = going.places.overflow(number, 0);
+        word = line.load(base);
     }
-    Some(Slot {
-        place: base + slot,
-        entry: word,
-    })
+    None
 }
 
 /// Walks from the slot's entry to the record of the key, as far as the chain lies in memory.
@@ -120,10 +194,9 @@ fn walk<L: Line>(line: &mut L, going: &Going, op: Op, slot: Slot) -> Option<Met>
     let mut is_here = going.is_in_memory(addr);
     let mut met = 0;
     'records: while is_here {
-        let header_place = going.record(Addr(addr), RecordWord::Header);
-        let header = line.load(header_place);
-        let key_place = going.record(Addr(addr), RecordWord::Key);
-        let found = line.load(key_place);
+        let at = going.record(Addr(addr), RecordWord::Header);
+        let header = line.load(at);
+        let found = line.load(at + 1);
         let said = header_said(header);
         let HeaderSaid::Says(previous, version) = said else {
             return None;
@@ -139,6 +212,7 @@ fn walk<L: Line>(line: &mut L, going: &Going, op: Op, slot: Slot) -> Option<Met>
                 header,
                 previous: previous.0,
                 version: version.0,
+                at,
             }));
         }
         addr = previous.0;
@@ -163,9 +237,8 @@ fn first_slot_of(going: &Going, op: Op) -> usize
     ensures place { result ≡ bucket_place going.now.places (home_of going.now.bits (key_of op)).bucket 0 }
     ensures fits { result + 8 ≤ 2 ^ 62 }
 {
-    let key = op.key();
-    let home = home_of(key, going.bits);
-    going.places.bucket(home.bucket, 0)
+    let start = going.start(op.key());
+    start.bucket
 }
 
 /// Finds the slot of the key's home and walks its chain; nothing where that meets anything unusual.

@@ -1,6 +1,7 @@
 //! A session's machine, with what its straight calls go by.
-ghost use Rattle.std.specs.Prelude.{◌≡◌, ◌<◌, ◌≤◌, ℕ, IfSome, false, true, length};
+ghost use Rattle.std.specs.Prelude.{◌≡◌, ◌<◌, ◌≤◌, ℕ, IfSome, IfNone, false, true, length};
 ghost use Rattle.fkv_base.specs.Limits.{last_serial, max_pending, max_sessions};
+ghost use Rattle.fkv_map.specs.declared.operations.Call.{Call};
 ghost use Rattle.fkv_map.specs.declared.operations.Call.TheVariants as call;
 ghost use Rattle.fkv_epoch.specs.Claiming.{takes_action};
 ghost use Rattle.fkv_plane.specs.declared.asks.Ask.TheVariants.{Done};
@@ -11,11 +12,15 @@ ghost use Rattle.fkv_session.specs.AsksLeft.{session_asks_left};
 ghost use Rattle.fkv_session.specs.Sessions.{is_busy, session_ask, session_begun, session_given, session_next};
 ghost use Rattle.fkv_straight.specs.Course.{GoesBy};
 ghost use Rattle.fkv_straight.specs.Standing.{IsCaughtUp, begins};
+ghost use Rattle.fkv_straight.specs.Hot.{HasLeft};
+ghost use Rattle.fkv_straight.specs.declared.hot.Due.{Due};
+ghost use Rattle.fkv_straight.specs.declared.sessions.Hot.TheVariants.{Ended as HasEnded, Left, Stayed as HasStayed};
 ghost use Rattle.fkv_straight.specs.declared.sessions.Went.TheVariants.{Ended, Stopped, Stayed};
 
 use crate::calls::go_by;
 use crate::going::Going;
 use crate::handing::catch_up;
+use crate::hot::{Due, go_due, go_hot};
 use crate::lines::Line;
 use crate::polling::poll_by;
 use crate::refreshing::refresh;
@@ -33,6 +38,17 @@ pub enum Went {
     /// It has met something unusual: the machine has to catch up with the line.
     Stopped,
     /// It may not go straight, and has made no step.
+    Stayed,
+}
+
+/// What has come of the hot part of a call.
+#[derive(Clone, Copy)]
+pub enum Hot {
+    /// The call has gone to its end, and is told this.
+    Ended(Told),
+    /// This is left of it.
+    Left(Due),
+    /// It has none, and no step was made.
     Stayed,
 }
 
@@ -238,6 +254,59 @@ impl StraightSession {
             Call::Poll => self.poll(line),
             _ => Went::Stayed,
         }
+    }
+
+    /// Makes the hot part of an operation's call: each of its steps is the one that the machine's table asks for. In prepare a call has none, nor has it where it may
+    /// not go straight, or what it goes by isn't looked up.
+    #[inline(always)]
+    pub fn run_hot<L: Line>(&mut self, line: &mut L, op: Op) -> Hot
+        requires idle { is_busy (L.stands line.old).step ≡ false }
+        requires seat { self.old.seat ≡ L.seat line.old }
+        requires alike { lasting self.old.state ≡ lasting (L.stands line.old) }
+        ensures seat { L.seat line.new ≡ L.seat line.old }
+        ensures machine { self.new.seat ≡ self.old.seat }
+        ensures ended { (told : Told) → result ≡ HasEnded told → L.led line.old (call.Op op) line.new × (Done told ≡ session_ask (L.seat line.old) (L.stands line.new)) × IsCaughtUp self.new.state (L.stands line.new) }
+        ensures left { (due : Due) → result ≡ Left due → L.led line.old (call.Op op) line.new × (self.new ≡ self.old) × HasLeft self.old.seat self.old.state op due (L.kept line.new) (L.stands line.new) }
+        ensures begins { (due : Due) → result ≡ Left due → StandAlike (begins self.old.seat self.old.state (call.Op op)) (begins (L.seat line.old) (L.stands line.old) (call.Op op)) }
+        ensures stayed { result ≡ HasStayed → (line.new ≡ line.old) × (self.new ≡ self.old) }
+    {
+        let Some(going) = &self.going else {
+            return Hot::Stayed;
+        };
+        let lets = going.lets(&self.machine, op);
+        if !lets || going.is_preparing {
+            return Hot::Stayed;
+        }
+        let straight = go_hot(line, &mut self.machine, going, op);
+        let told = match straight {
+            Ok(its) => its,
+            Err(due) => {
+                law_of_standing();
+                return Hot::Left(due);
+            }
+        };
+        Hot::Ended(told)
+    }
+
+    /// Makes the steps that are left of an operation's call, up to its answer. None where anything unusual is met: the machine has to catch up with the line then.
+    #[inline(always)]
+    pub fn run_due<L: Line>(&mut self, line: &mut L, op: Op, due: Due) -> Option<Told>
+        requires seat { self.old.seat ≡ L.seat line.old }
+        requires left { HasLeft self.old.seat self.old.state op due (L.kept line.old) (L.stands line.old) }
+        ensures seat { L.seat line.new ≡ L.seat line.old }
+        ensures led { (start : L) (call : Call) → L.led start call line.old → L.led start call line.new }
+        ensures machine { self.new.seat ≡ self.old.seat }
+        ensures ended { IfSome result (λ told. (Done told ≡ session_ask (L.seat line.old) (L.stands line.new)) × IsCaughtUp self.new.state (L.stands line.new)) }
+        ensures stopped { IfNone result (self.new ≡ self.old) }
+    {
+        let Some(going) = &self.going else {
+            return None;
+        };
+        let lets = going.lets(&self.machine, op);
+        if !lets {
+            return None;
+        }
+        go_due(line, &mut self.machine, going, op, due)
     }
 
     /// Begins the call anew by the machine and tells it the replies that have come, with no step on a word: then it stands like the line.

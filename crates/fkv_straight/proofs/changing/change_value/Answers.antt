@@ -1,4 +1,4 @@
-use Rattle.std.proofs.Common.{◌≡◌, ℕ, refl, sym, ap, ◌∙◌, subst}
+use Rattle.std.proofs.Common.{◌≡◌, ◌+◌, ℕ, refl, sym, ap, ◌∙◌, subst}
 use Rattle.std.specs.Prelude.{Option}
 use Rattle.fkv_map.specs.Keys.{value_applied, reply_from}
 use Rattle.fkv_map.specs.declared.operations.Op.{Op}
@@ -9,7 +9,7 @@ use Rattle.fkv_plane.specs.Places.{record_place}
 use Rattle.fkv_ops.specs.Values.{value_of, word_of}
 use Rattle.fkv_straight.specs.Met.{HasChanged}
 use Rattle.fkv_straight.proofs.Changes.{met_by, may_change, met_currents, current_asks, current_comes, change_asks, change_changes, change_loses}
-use Rattle.fkv_straight.proofs.Goings.{record_asks, leads_on, updates_in, blind_in}
+use Rattle.fkv_straight.proofs.Goings.{record_asks, leads_on, updates_in, blind_in, value_at}
 use Rattle.fkv_straight.proofs.changing.change_value.Goals as goal
 
 pub load-old-requires-clause-asked : goal.load-old-requires-clause-asked
@@ -21,7 +21,7 @@ load-old-requires-clause-asked g c =
     let updates = updates_in its k c.args.op c.args.going.now _ goes c.requires.updates in
     let seeing = blind_in its k c.args.op c.args.going.now _ goes c.requires.seeing in
     let at = met_currents its c.args.its s c.requires.at.2 (met_by its c.args.its s c.requires.at.2 (c.requires.stays its goes) updates) (may_change its k c.args.op c.args.going.now c.args.its goes c.requires.mutable c.requires.own) seeing in
-    record_asks its k c.args.op c.args.going.now c.args.its.addr c.record-place.result rec.Value k s (λ (n : ℕ). Load n) goes refl c.record-place.ensures (current_asks its c.args.its s at)
+    record_asks its k c.args.op c.args.going.now c.args.its.addr (c.args.its.at + 2) rec.Value k s (λ (n : ℕ). Load n) goes refl (value_at its k c.args.op c.args.going.now c.args.its.addr c.args.its.at goes c.requires.at.2.at) (current_asks its c.args.its s at)
 
 pub cas-found-requires-clause-asked : goal.cas-found-requires-clause-asked
 cas-found-requires-clause-asked g c =
@@ -37,7 +37,7 @@ cas-found-requires-clause-asked g c =
     let new : word_of (value_applied (value_of c.load-old.result) its.op) ≡ c.word_of_value-new.result =
     ap (λ (x : Op). word_of (value_applied (value_of c.load-old.result) x)) goes.its_op
     ∙ sym (c.word_of_value-new.ensures ∙ ap word_of (c.value_applied-made.ensures ∙ ap (λ (v : Option ℕ). value_applied v c.args.op) c.value_of_word-value.ensures)) in
-    record_asks its k c.args.op c.args.going.now c.args.its.addr c.record-place.result rec.Value (g.L.Line.seat c.load-old.new.self) u (λ (n : ℕ). Cas n c.load-old.result c.word_of_value-new.result) goes c.load-old.ensures.seat c.record-place.ensures
+    record_asks its k c.args.op c.args.going.now c.args.its.addr (c.args.its.at + 2) rec.Value (g.L.Line.seat c.load-old.new.self) u (λ (n : ℕ). Cas n c.load-old.result c.word_of_value-new.result) goes c.load-old.ensures.seat (value_at its k c.args.op c.args.going.now c.args.its.addr c.args.its.at goes c.requires.at.2.at)
     (change_asks its c.args.its.addr c.load-old.result u comes ∙ ap (λ (n : ℕ). Cas (record_place its.seat.places c.args.its.addr rec.Value) c.load-old.result n) new)
 
 pub returns-then-found-old-clause-done : goal.returns-then-found-old-clause-done

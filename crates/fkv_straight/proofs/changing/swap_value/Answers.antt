@@ -1,4 +1,4 @@
-use Rattle.std.proofs.Common.{◌≡◌, ℕ, refl, sym, ap, ◌∙◌, subst}
+use Rattle.std.proofs.Common.{◌+◌, ◌≡◌, ℕ, refl, sym, ap, ◌∙◌, subst}
 use Rattle.std.specs.Prelude.{None}
 use Rattle.fkv_map.specs.Keys.{value_applied, reply_from}
 use Rattle.fkv_map.specs.declared.operations.Op.{Op}
@@ -9,7 +9,7 @@ use Rattle.fkv_plane.specs.Places.{record_place}
 use Rattle.fkv_ops.specs.Values.{word_of}
 use Rattle.fkv_straight.specs.Met.{HasChanged}
 use Rattle.fkv_straight.proofs.Changes.{met_by, may_change, met_swaps, swap_asks, swap_changes}
-use Rattle.fkv_straight.proofs.Goings.{record_asks, leads_on, updates_in, blind_in}
+use Rattle.fkv_straight.proofs.Goings.{record_asks, leads_on, updates_in, blind_in, value_at}
 use Rattle.fkv_straight.proofs.changing.swap_value.Goals as goal
 
 pub swap-requires-clause-asked : goal.swap-requires-clause-asked
@@ -23,7 +23,7 @@ swap-requires-clause-asked g c =
     let at = met_swaps its c.args.its s c.requires.at.2 (met_by its c.args.its s c.requires.at.2 (c.requires.stays its goes) updates) (may_change its k c.args.op c.args.going.now c.args.its goes c.requires.mutable c.requires.own) blind in
     let new : word_of (value_applied None its.op) ≡ c.word_of_value-new.result =
     ap (λ (x : Op). word_of (value_applied None x)) goes.its_op ∙ sym (c.word_of_value-new.ensures ∙ ap word_of c.value_applied-made.ensures) in
-    record_asks its k c.args.op c.args.going.now c.args.its.addr c.record-place.result rec.Value k s (λ (n : ℕ). Swap n c.word_of_value-new.result) goes refl c.record-place.ensures
+    record_asks its k c.args.op c.args.going.now c.args.its.addr (c.args.its.at + 2) rec.Value k s (λ (n : ℕ). Swap n c.word_of_value-new.result) goes refl (value_at its k c.args.op c.args.going.now c.args.its.addr c.args.its.at goes c.requires.at.2.at)
     (swap_asks its c.args.its.addr s at ∙ ap (λ (n : ℕ). Swap (record_place its.seat.places c.args.its.addr rec.Value) n) new)
 
 pub returns-clause-done : goal.returns-clause-done

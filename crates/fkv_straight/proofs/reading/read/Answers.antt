@@ -1,4 +1,4 @@
-use Rattle.std.proofs.Common.{ℕ, refl}
+use Rattle.std.proofs.Common.{ℕ, ◌+◌, refl}
 use Rattle.fkv_map.specs.declared.operations.Call.TheVariants as call
 use Rattle.fkv_plane.specs.declared.asks.Ask.TheVariants.{Load}
 use Rattle.fkv_plane.specs.declared.places.RecordWord.TheVariants as rec
@@ -6,7 +6,7 @@ use Rattle.fkv_straight.specs.declared.searching.Met.{Met}
 use Rattle.fkv_straight.specs.declared.searching.Met.TheVariants.{Found, Nowhere}
 use Rattle.fkv_straight.specs.Course.{course_of}
 use Rattle.fkv_straight.specs.Met.{HasMet}
-use Rattle.fkv_straight.proofs.Goings.{leads_on, reads_calm, record_asks, met_of, updates_in}
+use Rattle.fkv_straight.proofs.Goings.{leads_on, reads_calm, record_asks, met_of, updates_in, value_at}
 use Rattle.fkv_straight.proofs.ReadEnds.{answer_asks, found_ends, absent_ends, nowhere_ends}
 use Rattle.fkv_straight.proofs.reading.read.Goals as goal
 
@@ -17,8 +17,10 @@ load-value-requires-clause-asked g c =
     let goes = c.requires.goes in
     let q = g.L.Line.seat c.search-met.new.line in
     let u = g.L.Line.stands c.search-met.new.line in
-    record_asks its k c.args.op c.args.going.now c.in-Found.record.addr c.record-place.result rec.Value q u (λ (n : ℕ). Load n) goes c.search-met.ensures.seat c.record-place.ensures
-    (answer_asks its c.in-Found.record u (met_of (λ (m : Met). HasMet its m u) c.search-met.result c.in-Some.its (Found c.in-Found.record) c.in-Some.is c.in-Found.is c.search-met.ensures.met) (reads_calm its k c.args.op c.args.going.now goes c.requires.reads) (updates_in its k c.args.op c.args.going.now _ goes c.requires.reads))
+    let met = met_of (λ (m : Met). HasMet its m u) c.search-met.result c.in-Some.its (Found c.in-Found.record) c.in-Some.is c.in-Found.is c.search-met.ensures.met in
+    record_asks its k c.args.op c.args.going.now c.in-Found.record.addr (c.in-Found.record.at + 2) rec.Value q u (λ (n : ℕ). Load n) goes c.search-met.ensures.seat
+    (value_at its k c.args.op c.args.going.now c.in-Found.record.addr c.in-Found.record.at goes met.at)
+    (answer_asks its c.in-Found.record u met (reads_calm its k c.args.op c.args.going.now goes c.requires.reads) (updates_in its k c.args.op c.args.going.now _ goes c.requires.reads))
 
 pub returns-then-value-clause-ended : goal.returns-then-value-clause-ended
 returns-then-value-clause-ended g c =

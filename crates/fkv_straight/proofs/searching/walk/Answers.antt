@@ -1,11 +1,11 @@
-use Rattle.std.proofs.Common.{◌≡◌, ℕ, sym, ap, ◌∙◌, subst, arith}
+use Rattle.std.proofs.Common.{◌≡◌, ◌+◌, ℕ, sym, ap, ◌∙◌, subst, arith}
 use Rattle.fkv_base.specs.declared.numbers.Key.{Key}
 use Rattle.fkv_map.specs.Keys.{key_of}
 use Rattle.fkv_map.specs.declared.operations.Op.{Op}
 use Rattle.fkv_plane.specs.declared.asks.Ask.TheVariants.{Load}
 use Rattle.fkv_plane.specs.declared.places.RecordWord.TheVariants as rec
 use Rattle.fkv_straight.specs.Met.{HasKey}
-use Rattle.fkv_straight.proofs.Goings.{record_asks, leads_on, memory_is}
+use Rattle.fkv_straight.proofs.Goings.{key_at, record_asks, record_is, leads_on, memory_is}
 use Rattle.fkv_straight.proofs.Walks.{reached_here, header_asks, header_comes, key_asks, key_comes, key_passed}
 use Rattle.fkv_straight.proofs.searching.walk.Goals as goal
 
@@ -19,7 +19,7 @@ load-header-requires-clause-asked g c =
     let now = g.L.Line.stands c.records.line in
     let here = memory_is its k c.args.op c.args.going.now c.records.addr c.records.is_here goes c.records.invariant.here c.records-test.true in
     let at = reached_here its place entry c.records.addr now (c.records.invariant.stands its goes c.requires.at.2) here in
-    record_asks its k c.args.op c.args.going.now c.records.addr c.record-header_place.result rec.Header (g.L.Line.seat c.records.line) now (λ (n : ℕ). Load n) goes c.records.invariant.seat c.record-header_place.ensures
+    record_asks its k c.args.op c.args.going.now c.records.addr c.record-at.result rec.Header (g.L.Line.seat c.records.line) now (λ (n : ℕ). Load n) goes c.records.invariant.seat c.record-at.ensures
     (header_asks its place entry c.records.addr now at)
 
 pub load-found-requires-clause-asked : goal.load-found-requires-clause-asked
@@ -34,7 +34,8 @@ load-found-requires-clause-asked g c =
     let at = reached_here its place entry c.records.addr now (c.records.invariant.stands its goes c.requires.at.2) here in
     let then = g.L.Line.stands c.load-header.new.self in
     let with_header = header_comes its place entry c.records.addr c.load-header.result now then at (leads_on its k c.args.op c.args.going.now (g.L.Line.seat c.records.line) now then c.load-header.result goes c.records.invariant.seat c.load-header.ensures.next) in
-    record_asks its k c.args.op c.args.going.now c.records.addr c.record-key_place.result rec.Key (g.L.Line.seat c.load-header.new.self) then (λ (n : ℕ). Load n) goes (c.load-header.ensures.seat ∙ c.records.invariant.seat) c.record-key_place.ensures
+    record_asks its k c.args.op c.args.going.now c.records.addr (c.record-at.result + 1) rec.Key (g.L.Line.seat c.load-header.new.self) then (λ (n : ℕ). Load n) goes (c.load-header.ensures.seat ∙ c.records.invariant.seat)
+    (key_at c.args.going.now.places c.records.addr c.record-at.result c.record-at.ensures)
     (key_asks its place entry c.records.addr c.load-header.result then with_header)
 
 pub returns-then-found-key-clause-met : goal.returns-then-found-key-clause-met
@@ -56,6 +57,7 @@ returns-then-found-key-clause-met g c = λ its goes reached.
       said = sym c.header_said-said.ensures ∙ c.in-Says.is;
       below = omega arith;
       here = here;
+      at = sym (record_is its k c.args.op c.args.going.now c.records.addr c.record-at.result rec.Header goes c.record-at.ensures);
     }
 
 pub records-preserved : goal.records-preserved
