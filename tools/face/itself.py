@@ -23,6 +23,8 @@ def versions(printed, folder):
     numbers, _, built = its.partition(" ")
     same("the version of fkv_version", numbers, version())
     same("the version of face/rust", found(r'^version = "(.*)"$', "face/rust/Cargo.toml"), [version()])
+    for file in ("fkv_look/src/options.rt", "fkv_renew/src/help.rt"):
+        same(f"the version of crates/{file}", found(r'^const VERSION: &str = "(?:\w+ )?([\d.]+)(?:\\n)?";$', f"crates/{file}"), [version()])
     is_unproved = built.startswith("without proof, built from ") and folder != f"{TOP}/build"
     same("how it is built", "without proof" if is_unproved else built, "without proof" if is_unproved else "proved")
     same("the formats of fkv_formats", formats.split(), found(r'^const \w+_TEXT: \[u8; 8\] = \*b"(\w+)";$', "crates/fkv_record/src/shape_bytes.rt"))

@@ -1,8 +1,9 @@
-"""Sizes that hold no more, words and files that are refused: the new file isn't there, and the old one is as it was."""
+"""Sizes that hold no more, words and files that are refused: the new file isn't there, and the old one is as it was. And what the
+program says of itself."""
 import fcntl
 import os
 
-from files import OPTIONS, Pair, held, need, renew
+from files import FKV_RENEW, OPTIONS, Pair, held, need, renew, run_of
 from samples import CROWD, TWO_HOMES
 
 # the sixteen pairs of CROWD have as many homes; the two points of TWO_HOMES are of two sessions
@@ -28,6 +29,7 @@ WORDS = [
     "--spread yes",
     "--spread --spread",
     "--help",
+    "--version",
 ]
 DEVICE = "refused 14 Device\n"
 
@@ -50,6 +52,14 @@ def by_words(folder):
     # no text: a byte that no UTF-8 has
     pair.need_refused("a word that is no text", renew(pair.old, b"\xff"), 2, OPTIONS)
     return len(WORDS) + 2
+
+
+def of_itself():
+    status, output, complaint = run_of([FKV_RENEW, "--version"])
+    need("the version", (status, output, complaint), (0, "fkv_renew 0.1.0\n", ""))
+    status, output, complaint = run_of([FKV_RENEW, "--help"])
+    need("the help", (status, output.count("Usage: fkv_renew OLD NEW "), complaint), (0, 1, ""))
+    return 2
 
 
 def by_files(folder):
@@ -92,4 +102,4 @@ def there_already(folder):
 
 def refused(folder):
     """How many of these there are; it ends the program where one goes wrong."""
-    return by_sizes(folder) + by_words(folder) + by_files(folder)
+    return by_sizes(folder) + by_words(folder) + of_itself() + by_files(folder)

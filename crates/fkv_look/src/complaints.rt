@@ -32,7 +32,7 @@ impl fmt::Display for Complaint<'_> {
         match self {
             Complaint::Words => {
                 f.write_str(
-                    "the words are to be FILE [--pairs] [--json] [--picture NEW], each once",
+                    "the words are to be FILE [--pairs] [--spread] [--json] [--picture NEW], each once; --help says more",
                 )
             }
             Complaint::File { path, trouble } => {

@@ -10,7 +10,7 @@ mod store_file;
 mod text;
 
 use complaints::{Complaint, complain};
-use options::{Options, options_of};
+use options::{Asked, options_of};
 use showing::show;
 use std::env;
 use std::io::{self, BufWriter, ErrorKind, Write};
@@ -32,7 +32,7 @@ fn main(rt: HostRuntime) -> ExitCode {
     }
 }
 
-/// Looks at the file that the words name. The status: 0, or 3 where the file holds no whole store or could not be read, or 2 where the
+/// Looks at the file that the words name, or writes the help or the version. The status: 0, or 3 where the file holds no whole store or could not be read, or 2 where the
 /// words are refused.
 fn looked(rt: &HostRuntime) -> io::Result<u8> {
     let mut output = BufWriter::new(rt.alloc(), io::writer(rt))?;
@@ -49,9 +49,17 @@ fn looked(rt: &HostRuntime) -> io::Result<u8> {
         words.push(word.as_str())?;
     }
     match options_of(rt.alloc(), words.as_slice())? {
-        Some(options) => show(rt, &options, &mut output),
-        None => refuse_words(rt, &mut output),
+        Asked::Look(options) => show(rt, &options, &mut output),
+        Asked::Text(text) => write_text(&mut output, text.as_str()),
+        Asked::Nothing => refuse_words(rt, &mut output),
     }
+}
+
+/// Writes what `--help` or `--version` asks for.
+fn write_text<W: Write>(output: &mut W, text: &str) -> io::Result<u8> {
+    output.write_all(text.as_bytes())?;
+    output.flush()?;
+    Ok(0)
 }
 
 /// Says that the words are refused.

@@ -12,6 +12,7 @@ use fkv_disk::{Device, PageSize, Pages, ReadAhead};
 use fkv_files::Trouble;
 use fkv_looking::{Found, Look, look};
 use fkv_pairs::content;
+use fkv_spread::spread_back;
 use std::alloc::Global;
 use std::io::{self, ErrorKind, Write};
 
@@ -119,6 +120,10 @@ fn looked_at(rt: &HostRuntime, options: &Options<'_>) -> Result<Shown, Trouble> 
     } else {
         None
     };
+    let pairs = match pairs {
+        Some(pairs) if options.spread => Some(gathered(rt.alloc(), &pairs)?),
+        pairs => pairs,
+    };
     Ok(Shown { look: seen, pairs })
 }
 
@@ -132,6 +137,21 @@ fn pairs_of<D: Device>(
         Found::Store(store) => Ok(Some(content(alloc, &store.opened, device)?)),
         _ => Ok(None),
     }
+}
+
+/// The pairs with their keys as the library's users know them, by ascending keys. The library spreads keys, so that keys that differ in
+/// few bits don't share a bucket.
+fn gathered(alloc: Global, pairs: &[(Key, Value)]) -> Result<Vec<(Key, Value)>, Fault> {
+    let mut numbers = Vec::new(alloc);
+    for (key, value) in pairs {
+        numbers.push((spread_back(key.0), value.0))?;
+    }
+    numbers.sort_unstable();
+    let mut gathered = Vec::new(alloc);
+    for (key, value) in &numbers {
+        gathered.push((Key(*key), Value(*value)))?;
+    }
+    Ok(gathered)
 }
 
 /// How many pages to keep of a file of so many bytes: all, if they aren't too many.

@@ -3,6 +3,7 @@
 
 mod answers;
 mod complaints;
+mod help;
 mod places;
 mod renewals;
 mod runs;
@@ -12,6 +13,7 @@ mod stores;
 mod telling;
 mod words;
 
+use help::text_asked_for;
 use runs::{refuse_unread, run};
 use std::env;
 use std::io::{self, BufWriter, ErrorKind, IsTerminal, Write};
@@ -47,6 +49,11 @@ fn answered<E: Write>(rt: &HostRuntime, teller: &mut Teller<E>) -> io::Result<u8
     let mut words = Vec::new(rt.alloc());
     for word in &owned {
         words.push(word.as_str())?;
+    }
+    if let Some(text) = text_asked_for(words.as_slice()) {
+        output.write_all(text.as_bytes())?;
+        output.flush()?;
+        return Ok(0);
     }
     let status = run(rt, rt.alloc(), words.as_slice(), &mut output, teller)?;
     output.flush()?;
