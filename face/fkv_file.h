@@ -37,6 +37,7 @@ struct patience {
 
 struct fkv_file {
     int fd;
+    char *path; /* without links; NULL where the system didn't say */
     uint32_t keys; /* how they are placed: see fkv_open */
     fkv_shape shape;
     fkv_store store;
@@ -64,6 +65,7 @@ struct fkv_file {
     uint32_t joined;       /* a bit for each session that is joined */
     uint32_t abandoned;    /* and for each that was abandoned, and has requests pending */
     bool was_joined;       /* some session was, since the last commit began */
+    bool is_renewed;       /* it is renewed in place: nobody joins meanwhile */
     uint64_t number;       /* the last finished commit, and its points */
     uint64_t points[FKV_MOST_SESSIONS];
 
@@ -108,6 +110,27 @@ typedef int fill_fn(void *its, int fd);
 
 /* Makes a file: it is filled and synced under another name, and then put in place, where no file may be. 0, or -1 with errno. */
 int fkv_make_beside(const char *path, fill_fn *fill, void *its);
+
+/* The same in place of the file that has the name. It is locked then: its descriptor, or -1 with errno. The folder isn't synced. */
+int fkv_make_over(const char *path, fill_fn *fill, void *its);
+
+/* Makes a name in a folder durable. A folder that can't be read can't be synced. 0, or -1 with errno. */
+int fkv_sync_folder_of(const char *path);
+
+/* Renews a store's bytes into `new`, of which `told->size` are the store's. 0, or the refusals of fkv_renew. */
+int32_t fkv_renew_bytes(struct bytes old, const fkv_shape *shape, uint32_t keys, fkv_renewed *told, struct bytes *new);
+
+/* Gives such bytes back, if there are some. errno stays. */
+void fkv_give_bytes(struct bytes *bytes);
+
+/* For fkv_make_beside: writes bytes, a struct of them. */
+int fkv_write_bytes(void *its, int fd);
+
+/* Opens the store of these bytes, which no file has yet. 0, or the refusals of fkv_open. */
+int32_t fkv_open_bytes(const struct bytes *bytes, uint32_t keys, fkv_file **out);
+
+/* Gives back what was taken and opened, and closes the file. */
+void fkv_give_up(fkv_file *file);
 
 /* The bytes of the file before the log's record of address 0, which there is none of. */
 uint64_t fkv_log_place(const fkv_shape *shape);
@@ -163,6 +186,15 @@ int32_t fkv_refusal(const fkv_file *file);
 /* Why nobody serves requests, or 0: they are served too where commits alone are spent. */
 int32_t fkv_unserved(const fkv_file *file);
 
+/* Starts the keeper's thread. 0, or why the system starts none. */
+int fkv_begin_run(fkv_file *file, const fkv_keeping *keeping);
+
+/* Whether the keeper's thread calls. */
+bool fkv_is_own_thread(const fkv_file *file);
+
+/* Whether a session that isn't joined has given serials that no commit keeps. */
+bool fkv_has_unkept(fkv_file *file);
+
 /* ---- The lock isn't held. ------------------------------------------------------------------------------------------------------- */
 
 /*
@@ -170,6 +202,9 @@ int32_t fkv_unserved(const fkv_file *file);
  * the lock sees this errno too, which stays.
  */
 int32_t fkv_with_errno(const fkv_file *file, int32_t result);
+
+/* fkv_stop, of another thread than the keeper's. */
+int32_t fkv_stop_thread(fkv_file *file, uint32_t with_commit);
 
 /* Polls until nothing is pending, up to a time if there is one. If requests are left then, the answer is FKV_PENDING. */
 int32_t fkv_settle_until(fkv_file *file, fkv_session *session, const struct timespec *until, fkv_finished_fn *told, void *user);

@@ -280,19 +280,23 @@ static int start_thread(fkv_file *file) {
     return failed;
 }
 
+int fkv_begin_run(fkv_file *file, const fkv_keeping *keeping) {
+    file->keeping = keeping ? *keeping : (fkv_keeping){0};
+    if (file->keeping.commit_ms > MOST_MS) file->keeping.commit_ms = MOST_MS;
+    file->stops = false;
+    int failed = start_thread(file);
+    file->runs = !failed;
+    file->run += !failed;
+    fkv_find_end(file);
+    return failed;
+}
+
 int32_t fkv_start(fkv_file *file, const fkv_keeping *keeping) {
     int failed = 0;
     pthread_mutex_lock(&file->lock);
+    while (file->is_renewed) pthread_cond_wait(&file->news, &file->lock);
     bool runs = file->runs;
-    if (!runs) {
-        file->keeping = keeping ? *keeping : (fkv_keeping){0};
-        if (file->keeping.commit_ms > MOST_MS) file->keeping.commit_ms = MOST_MS;
-        file->stops = false;
-        failed = start_thread(file);
-        file->runs = !failed;
-        file->run += !failed;
-        fkv_find_end(file);
-    }
+    if (!runs) failed = fkv_begin_run(file, keeping);
     pthread_mutex_unlock(&file->lock);
     if (runs) return -FKV_HANDLE_TAKEN;
     errno = failed ? failed : errno;
@@ -320,8 +324,7 @@ static void end_run(fkv_file *file, uint64_t run) {
     if (is_first) pthread_join(thread, NULL);
 }
 
-/* Whether a session that isn't joined has given serials that no commit keeps. The lock is held. */
-static bool has_unkept(fkv_file *file) {
+bool fkv_has_unkept(fkv_file *file) {
     for (uint64_t i = 0; i < file->shape.sessions; i++) {
         uint64_t serial = 0;
         if ((file->joined | file->abandoned) >> i & 1) continue;
@@ -330,16 +333,24 @@ static bool has_unkept(fkv_file *file) {
     return file->abandoned != 0;
 }
 
+bool fkv_is_own_thread(const fkv_file *file) { return file->runs && pthread_equal(file->thread, pthread_self()); }
+
 int32_t fkv_stop(fkv_file *file, uint32_t with_commit) {
+    pthread_mutex_lock(&file->lock);
+    /* A hook calls. Its thread can't wait for its own end. */
+    bool is_own = fkv_is_own_thread(file);
+    while (!is_own && file->is_renewed) pthread_cond_wait(&file->news, &file->lock);
+    pthread_mutex_unlock(&file->lock);
+    return is_own ? -FKV_HANDLE_OUT : fkv_stop_thread(file, with_commit);
+}
+
+int32_t fkv_stop_thread(fkv_file *file, uint32_t with_commit) {
     uint64_t ticket = 0;
     int32_t result = 0;
     pthread_mutex_lock(&file->lock);
-    bool is_own = file->runs && pthread_equal(file->thread, pthread_self());
-    bool keeps = with_commit == FKV_STOP_KEEP && file->runs && !file->joined && has_unkept(file);
+    bool keeps = with_commit == FKV_STOP_KEEP && file->runs && !file->joined && fkv_has_unkept(file);
     uint64_t run = file->run;
     pthread_mutex_unlock(&file->lock);
-    /* A hook calls. Its thread can't wait for its own end. */
-    if (is_own) return -FKV_HANDLE_OUT;
     if (keeps || (with_commit && with_commit != FKV_STOP_KEEP)) {
         result = fkv_ask_commit(file, &ticket);
         if (result == 0) result = fkv_wait_commit(file, ticket, NULL);

@@ -20,7 +20,7 @@ static int32_t take_room(size_t size, struct bytes *room) {
     return 0;
 }
 
-static void give_room(struct bytes *room) {
+void fkv_give_bytes(struct bytes *room) {
     int why = errno;
     if (room->at) munmap(room->at, room->size);
     room->at = NULL;
@@ -31,7 +31,7 @@ static void give_room(struct bytes *room) {
  * Renews a store's bytes. What is new has a record for each key, so it is hardly larger than the old one: the first call mostly has room
  * enough. It isn't where the new shape's index is larger.
  */
-static int32_t renew(struct bytes old, const fkv_shape *shape, uint32_t keys, fkv_renewed *told, struct bytes *new) {
+int32_t fkv_renew_bytes(struct bytes old, const fkv_shape *shape, uint32_t keys, fkv_renewed *told, struct bytes *new) {
     static const fkv_shape own;
     size_t room = old.size + FKV_IMAGE_SIZE;
     int32_t result = -FKV_ROOM_SMALL;
@@ -39,7 +39,7 @@ static int32_t renew(struct bytes old, const fkv_shape *shape, uint32_t keys, fk
         result = take_room(room, new);
         if (result < 0) return result;
         result = fkv_renew(old.at, old.size, shape ? shape : &own, keys, told, new->at, new->size);
-        if (result < 0) give_room(new);
+        if (result < 0) fkv_give_bytes(new);
         room = (size_t)told->size;
     }
     return result;
@@ -84,16 +84,16 @@ int32_t fkv_each(fkv_file *file, fkv_pair_fn *each, void *user) {
     struct bytes old = {NULL, 0}, new = {NULL, 0};
     fkv_renewed told = {0, 0, 0};
     int32_t result = show_between_turns(file, &old);
-    if (result == 0) result = renew(old, NULL, FKV_AS_THEY_LIE, &told, &new);
-    give_room(&old);
+    if (result == 0) result = fkv_renew_bytes(old, NULL, FKV_AS_THEY_LIE, &told, &new);
+    fkv_give_bytes(&old);
     if (result == 0) result = each_record(file, new.at, told.size, each, user);
-    give_room(&new);
+    fkv_give_bytes(&new);
     return result;
 }
 
 /* ---- Files ---------------------------------------------------------------------------------------------------------------------- */
 
-static int write_bytes(void *its, int fd) {
+int fkv_write_bytes(void *its, int fd) {
     const struct bytes *bytes = its;
     for (size_t done = 0; done < bytes->size;) {
         ssize_t put = pwrite(fd, bytes->at + done, bytes->size - done, (off_t)done);
@@ -112,10 +112,10 @@ int32_t fkv_renew_file(const char *old_path, const char *new_path, const fkv_sha
     int fd = fkv_open_locked(old_path);
     if (fd < 0) return -FKV_DEVICE;
     int32_t result = fsync(fd) ? -FKV_DEVICE : fkv_show_bytes(fd, &read_all, &old);
-    if (result == 0) result = renew(old, shape, keys, told, &new);
-    give_room(&old);
-    if (result == 0 && fkv_make_beside(new_path, write_bytes, &(struct bytes){new.at, (size_t)told->size})) result = -FKV_DEVICE;
-    give_room(&new);
+    if (result == 0) result = fkv_renew_bytes(old, shape, keys, told, &new);
+    fkv_give_bytes(&old);
+    if (result == 0 && fkv_make_beside(new_path, fkv_write_bytes, &(struct bytes){new.at, (size_t)told->size})) result = -FKV_DEVICE;
+    fkv_give_bytes(&new);
     int why = errno;
     close(fd);
     errno = why;

@@ -87,7 +87,7 @@ int32_t fkv_turn_file(int fd, fkv_keeper *keeper, fkv_turned *turned, uint64_t *
 }
 
 /* Makes a name in a folder durable. A folder that can't be read can't be synced. */
-static int sync_folder_of(const char *path) {
+int fkv_sync_folder_of(const char *path) {
     const char *slash = strrchr(path, '/');
     char *folder = slash ? strndup(path, slash == path ? 1 : (size_t)(slash - path)) : strdup(".");
     if (!folder) return -1;
@@ -149,7 +149,25 @@ int fkv_make_beside(const char *path, fill_fn *fill, void *its) {
         errno = why;
         return -1;
     }
-    return sync_folder_of(path);
+    return fkv_sync_folder_of(path);
+}
+
+/* (Of a rename that replaces a file a crash leaves the one or the other. The new one is locked before it has the name.) */
+int fkv_make_over(const char *path, fill_fn *fill, void *its) {
+    char name[PATH_MAX];
+    int fd = open_beside(path, name, sizeof name);
+    if (fd < 0) return -1;
+    int failed = fill(its, fd) || fsync(fd);
+    int why = errno;
+    if (close(fd) && !failed) failed = 1, why = errno;
+    int locked = failed ? -1 : fkv_open_locked(name);
+    if (locked < 0 && !failed) failed = 1, why = errno;
+    if (!failed && rename(name, path)) failed = 1, why = errno;
+    if (!failed) return locked;
+    if (locked >= 0) close(locked);
+    unlink(name);
+    errno = why;
+    return -1;
 }
 
 static int write_image(void *image, int fd) { return write_at(fd, 0, image, FKV_IMAGE_SIZE); }
@@ -208,22 +226,36 @@ int32_t fkv_show_bytes(int fd, const fkv_how *how, struct bytes *shown) {
     return how->mapped || !read_whole(fd, how, *shown) ? 0 : -FKV_DEVICE;
 }
 
-/* Its number isn't that of a standard stream, though one may be closed. */
-int fkv_open_locked(const char *path) {
+/* Opens a file. Its number isn't that of a standard stream, though one may be closed. */
+static int open_high(const char *path) {
     int fd = open(path, O_RDWR | O_CLOEXEC | O_NOCTTY);
-    if (fd >= 0 && fd <= STDERR_FILENO) {
-        int low = fd;
-        fd = fcntl(low, F_DUPFD_CLOEXEC, STDERR_FILENO + 1);
-        int why = errno;
-        close(low);
-        errno = why;
-    }
-    if (fd < 0) return -1;
-    if (flock(fd, LOCK_EX | LOCK_NB) == 0) return fd;
+    if (fd < 0 || fd > STDERR_FILENO) return fd;
+    int low = fd;
+    fd = fcntl(low, F_DUPFD_CLOEXEC, STDERR_FILENO + 1);
     int why = errno;
-    close(fd);
+    close(low);
     errno = why;
-    return -1;
+    return fd;
+}
+
+/* Whether the file of this descriptor still has this name: a renewal may have put another one there before the lock was given. */
+static bool has_name(int fd, const char *path) {
+    struct stat open_one, named;
+    if (fstat(fd, &open_one) || stat(path, &named)) return false;
+    return open_one.st_dev == named.st_dev && open_one.st_ino == named.st_ino;
+}
+
+int fkv_open_locked(const char *path) {
+    for (;;) {
+        int fd = open_high(path);
+        if (fd < 0) return -1;
+        bool is_locked = flock(fd, LOCK_EX | LOCK_NB) == 0;
+        if (is_locked && has_name(fd, path)) return fd;
+        int why = errno;
+        close(fd);
+        errno = why;
+        if (!is_locked) return -1;
+    }
 }
 
 /* Bytes of a format's name, and both slots in which a store's file tells of its commits. */
@@ -257,7 +289,7 @@ static int32_t open_store(fkv_file *file, const char *path, const fkv_how *how) 
     fkv_opened opened = {0, 0, 0};
     struct bytes shown = {NULL, 0};
     /* A process that was killed may have written what no sync has kept, or made the file and not synced its name. */
-    if (write_slots_anew(file->fd) || fsync(file->fd) || sync_folder_of(path)) return -FKV_DEVICE;
+    if (write_slots_anew(file->fd) || fsync(file->fd) || fkv_sync_folder_of(path)) return -FKV_DEVICE;
     int32_t result = fkv_show_bytes(file->fd, how, &shown);
     if (result == 0) {
         result = fkv_open(shown.at, shown.size, how->keys, &file->store.at, &file->shape, &opened, file->points, FKV_MOST_SESSIONS);
@@ -296,7 +328,7 @@ static void conditions_of(fkv_file *file, pthread_cond_t *all[CONDITIONS]) {
  * Gives back what was taken and opened. A session with requests that can't be finished isn't ended, and holds the store's table: both
  * stay until the process ends.
  */
-static void give_up(fkv_file *file) {
+void fkv_give_up(fkv_file *file) {
     for (int i = 0; i < FKV_MOST_SESSIONS; i++) {
         if (file->sessions[i].at && fkv_end_session(&file->sessions[i]) == 0) fkv_free_session(file->sessions[i]);
     }
@@ -315,6 +347,7 @@ static void give_up(fkv_file *file) {
     conditions_of(file, all);
     for (int i = 0; i < CONDITIONS; i++) pthread_cond_destroy(all[i]);
     pthread_mutex_destroy(&file->lock);
+    free(file->path);
     free(file);
     errno = why;
 }
@@ -346,15 +379,33 @@ no_clock:
     return NULL;
 }
 
+int32_t fkv_open_bytes(const struct bytes *bytes, uint32_t keys, fkv_file **out) {
+    fkv_file *file = new_file();
+    fkv_opened opened;
+    if (!file) return -FKV_MEMORY;
+    file->keys = keys;
+    int32_t result = fkv_open(bytes->at, bytes->size, keys, &file->store.at, &file->shape, &opened, file->points, FKV_MOST_SESSIONS);
+    if (result == 0) result = take_handles(file);
+    if (result < 0) {
+        fkv_give_up(file);
+        return result;
+    }
+    file->number = opened.number;
+    file->log_end = bytes->size;
+    *out = file;
+    return 0;
+}
+
 int32_t fkv_open_file(const char *path, const fkv_how *how, fkv_file **out) {
     static const fkv_how usual;
     fkv_file *file = new_file();
     if (!file) return -FKV_MEMORY;
     file->fd = fkv_open_locked(path);
+    if (file->fd >= 0) file->path = realpath(path, NULL);
     int32_t result = file->fd < 0 ? -FKV_DEVICE : open_store(file, path, how ? how : &usual);
     if (result == 0) result = take_handles(file);
     if (result < 0) {
-        give_up(file);
+        fkv_give_up(file);
         return result;
     }
     off_t end = lseek(file->fd, 0, SEEK_END);
@@ -373,7 +424,7 @@ static int32_t close_behind(fkv_file *file, uint32_t how) {
     if (result == -FKV_HANDLE_OUT) return result;
     int why = errno;
     fkv_end_abandoned(file);
-    give_up(file);
+    fkv_give_up(file);
     errno = why;
     return result;
 }
@@ -382,8 +433,13 @@ int32_t fkv_close_file(fkv_file *file) { return close_behind(file, FKV_STOP_KEEP
 
 int32_t fkv_drop_file(fkv_file *file) { return close_behind(file, FKV_STOP_NOW); }
 
-fkv_shape fkv_shape_of(const fkv_file *file) {
-    return file->shape;
+fkv_shape fkv_shape_of(const fkv_file *its) {
+    fkv_file *file = (fkv_file *)its;
+    /* (a renewal may give it another one) */
+    pthread_mutex_lock(&file->lock);
+    fkv_shape shape = file->shape;
+    pthread_mutex_unlock(&file->lock);
+    return shape;
 }
 
 uint64_t fkv_last_commit(fkv_file *file, uint64_t points[FKV_MOST_SESSIONS]) {
@@ -420,6 +476,7 @@ int32_t fkv_join(fkv_file *file, uint64_t number, fkv_session **out) {
     uint64_t found = 0;
     fkv_seen seen;
     pthread_mutex_lock(&file->lock);
+    while (file->is_renewed) pthread_cond_wait(&file->news, &file->lock);
     int32_t result = free_session(file, number, &found);
     if (result == 0) result = fkv_wake(&file->sessions[found], &seen);
     if (result == 0) {

@@ -176,6 +176,21 @@ int32_t fkv_each(fkv_file *file, fkv_pair_fn *each, void *user);
  */
 int32_t fkv_renew_file(const char *old_path, const char *new_path, const fkv_shape *shape, uint32_t keys, fkv_renewed *told);
 
+/*
+ * Renews an open store in place: what no room or no commits were left of lives on under its own name. Each session has left before. If the
+ * keeper's thread runs, a last commit is made if something isn't kept. Then the renewal is written to a new file, which takes the name of
+ * the old one, and the thread goes on. `shape` is NULL or all zeros for the store's own; `told` may be NULL. A crash leaves the old store
+ * or the new one, with the same pairs and points. Sessions that join then go on with their serials; who joins meanwhile waits. The new
+ * store's commits count from 1 again, since each store's file says its number itself.
+ *
+ * It takes the memory of fkv_each and that of the new store. Another name of the file (a link) stays the old store's.
+ * 0; -FKV_HANDLE_OUT while a session is joined or abandoned, and in a hook of the keeper's thread; -FKV_NO_KEEPER where something isn't kept
+ * and no thread runs; the fault of the last commit, and the refusals of fkv_renew: the store is the old one then, and goes on.
+ * -FKV_DEVICE: the same, but if the folder's sync alone has failed, the new store has the name, and has no turns and no commits: close it
+ * and open it anew.
+ */
+int32_t fkv_renew_here(fkv_file *file, const fkv_shape *shape, fkv_renewed *told);
+
 /* The store's shape. */
 fkv_shape fkv_shape_of(const fkv_file *file);
 

@@ -18,8 +18,8 @@ static uint64_t late_sessions(const fkv_file *file) {
 
 int32_t fkv_stats_of(fkv_file *file, fkv_stats *stats) {
     struct stat known;
-    if (fstat(file->fd, &known)) return -FKV_DEVICE;
     pthread_mutex_lock(&file->lock);
+    bool is_known = fstat(file->fd, &known) == 0;
     bool is_in_hand = atomic_load(&file->in_hand);
     *stats = (fkv_stats){
         .commits = file->number,
@@ -33,9 +33,9 @@ int32_t fkv_stats_of(fkv_file *file, fkv_stats *stats) {
         .turns = file->turns,
         .helped = file->helped,
         .cold_reads = file->cold_reads,
-        .file_bytes = (uint64_t)known.st_size,
+        .file_bytes = is_known ? (uint64_t)known.st_size : 0,
         .stopped = atomic_load(&file->ends),
     };
     pthread_mutex_unlock(&file->lock);
-    return 0;
+    return is_known ? 0 : -FKV_DEVICE;
 }

@@ -115,17 +115,9 @@ LEFT_OUT = {
         "`World::open` is proved to make just such words, and such a keeper.",
         ["fkv_core/OpeningWords AreWordsOfOpened", "fkv_keeper/NewKeepers IsNewKeeper"],
     ),
-    "What proofs keep beside the headline": (
-        "Records of the headline have fields of these for its proof. No clause reads them.",
-        [
-            "law_commit/Views Sight",
-            "law_commit/Views sight_of",
-            "law_commit/Raises Raises",
-            "law_commit/Raises life_raises",
-            "law_commit/Accepted versions_accepted",
-            "law_world/Standing/Standing standing_opened",
-            "fkv_keeper/Keeping lost_left",
-        ],
+    "What a commit writes beside its number and its points": (
+        "Its kind, where its log begins and ends, its triples, and the ranges that are lost. No clause of the headline reads them; its proof does.",
+        ["law_commit/CommitParts CommitParts", "law_commit/CommitParts parts_opening", "law_commit/CommitParts parts_opened"],
     ),
     "How the guard moves": (
         "[Part 2](@2. No step writes a flushed record) says what the guard is, and what its reader loses without these.",

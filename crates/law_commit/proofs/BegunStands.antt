@@ -26,7 +26,8 @@ use Rattle.law_refine.specs.Below.fkv_keeper.KeeperRun.{KeeperEvent, BeginsTurn,
 use Rattle.law_refine.specs.Below.fkv_keeper.LastCommits.{is_gate_open}
 use Rattle.law_refine.proofs.Below.fkv_keeper.Shown.{each_move}
 use Rattle.law_refine.proofs.Below.law_world.OfStanding.Runs.{happens_at, happens_so}
-use Rattle.law_commit.specs.BegunCommits.{BegunCommit, AtEnd, AtKeeping, HaveFinished, IsInHand, OneIsOpen, commit_opening, begun_at_end, begun_at_writes, begun_by, commits_begun}
+use Rattle.law_commit.specs.BegunCommits.{BegunCommit, commit_opening, begun_at_end, begun_at_writes, begun_by, commits_begun}
+use Rattle.law_commit.specs.HeldCommits.{AtEnd, AtKeeping, HaveFinished, IsInHand, OneIsOpen}
 
 -- as far as its writes have come
 abbrev pub IsFresh : Gating → Type 0

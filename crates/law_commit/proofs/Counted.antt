@@ -21,7 +21,8 @@ use Rattle.law_refine.specs.Below.fkv_world.OwnEvents.{session_events}
 use Rattle.law_refine.specs.Below.fkv_world.Runs.{World}
 use Rattle.law_refine.specs.Below.fkv_world.World.{Event, seat_at}
 use Rattle.law_refine.proofs.Below.law_world.OfSessions.OwnRun.{opened_so, of_run}
-use Rattle.law_commit.specs.Accepted.{serial_of, serial_at, versions_of, versions_found, versions_accepted, count_upto, point, NeverFall, HasRisingVersion}
+use Rattle.law_commit.specs.Accepted.{versions_of, versions_found, versions_accepted, count_upto, point, NeverFall, HasRisingVersion}
+use Rattle.law_commit.specs.LastSerials.{serial_of, serial_at}
 use Rattle.law_commit.proofs.Goes.{attempts_calm, call_calm, moves_on, given_on}
 
 -- a reply by which the next serial is taken, at a call's attempt

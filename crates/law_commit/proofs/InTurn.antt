@@ -17,7 +17,8 @@ use Rattle.law_refine.specs.Below.fkv_keeper.Keeping.{KeeperState}
 use Rattle.law_refine.specs.Below.fkv_keeper.KeeperRun.{KeeperEvent, BeginsTurn, BeginsCommit, Replies, Gets, Calls, IsOpened, keeper_happens, keeper_run}
 use Rattle.law_refine.proofs.Below.fkv_keeper.Shown.{each_move}
 use Rattle.law_refine.specs.Below.law_world.Standing.Opening.{AreNumbersInTurn, IsNumberInTurn}
-use Rattle.law_commit.specs.BegunCommits.{BegunCommit, AreInTurn, ComesNext, HaveFinished, begun_at_end, begun_at_gate, begun_at_writes, begun_by, commit_opening, commits_begun, with_finished, with_sealed}
+use Rattle.law_commit.specs.BegunCommits.{BegunCommit, AreInTurn, ComesNext, begun_at_end, begun_at_gate, begun_at_writes, begun_by, commit_opening, commits_begun, with_finished, with_sealed}
+use Rattle.law_commit.specs.HeldCommits.{HaveFinished}
 use Rattle.law_commit.proofs.BegunStands.{AtGate, AtWrites, StandsAt, run_stands}
 
 -- the commit in hand has the next number

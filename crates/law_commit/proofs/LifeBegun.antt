@@ -8,7 +8,8 @@ use Rattle.law_refine.specs.Below.fkv_world.OwnEvents.{keeper_events}
 use Rattle.law_refine.specs.Below.fkv_world.Runs.{World, run}
 use Rattle.law_refine.specs.Below.fkv_world.World.{Event}
 use Rattle.law_refine.proofs.Below.law_world.OfKeeper.OwnRun.{of_keeper}
-use Rattle.law_commit.specs.BegunCommits.{AreInTurn, AtKeeping, HaveFinished, commit_opened, life_begun}
+use Rattle.law_commit.specs.BegunCommits.{AreInTurn, commit_opened, life_begun}
+use Rattle.law_commit.specs.HeldCommits.{AtKeeping, HaveFinished}
 use Rattle.law_commit.proofs.BegunStands.{run_stands, said_so}
 use Rattle.law_commit.proofs.InTurn.{run_turn}
 

@@ -26,7 +26,8 @@ use Rattle.law_refine.specs.Below.fkv_world.OwnEvents.{keeper_events}
 use Rattle.law_refine.specs.Below.fkv_world.Runs.{World, run}
 use Rattle.law_refine.specs.Below.fkv_world.World.{Event}
 use Rattle.law_refine.proofs.Below.law_world.OfKeeper.OwnRun.{of_keeper}
-use Rattle.law_commit.specs.BegunCommits.{BegunCommit, HaveFinished, IsInHand, commit_opened, commits_begun, life_begun}
+use Rattle.law_commit.specs.BegunCommits.{BegunCommit, commit_opened, commits_begun, life_begun}
+use Rattle.law_commit.specs.HeldCommits.{HaveFinished, IsInHand}
 use Rattle.law_commit.specs.WrittenCommits.{NewestIsWritten, UsesAsKind, life_told}
 use Rattle.law_refine.specs.Below.law_world.Keeper.Lives.{life_writing}
 use Rattle.law_refine.proofs.Below.law_world.OfStanding.Runs.{happens_at}
@@ -139,15 +140,15 @@ run_same shape p opening (event ∷ before) opened =
 
 -- ---- what is said of the newest
 -- it says what the commit in hand says
-named_so : (shape : Shape) (s : KeeperState) (c : Commit) (newest : BegunCommit) → newest.number ≡ c.number → newest.end ≡ c.end → newest.checkpoint ≡ s.used → newest.points ≡ s.seek.points → newest.lost ≡ lost_left c.kind s.lost
-    → slot_written shape.sessions c.number c.end s.used s.seek.points (lost_left c.kind s.lost) ≡ slot_written shape.sessions newest.number newest.end newest.checkpoint newest.points newest.lost
+named_so : (shape : Shape) (s : KeeperState) (c : Commit) (newest : BegunCommit) → newest.number ≡ c.number → newest.parts.end ≡ c.end → newest.parts.checkpoint ≡ s.used → newest.points ≡ s.seek.points → newest.parts.lost ≡ lost_left c.kind s.lost
+    → slot_written shape.sessions c.number c.end s.used s.seek.points (lost_left c.kind s.lost) ≡ slot_written shape.sessions newest.number newest.parts.end newest.parts.checkpoint newest.points newest.parts.lost
 named_so shape s c newest number end checkpoint points lost = rw (number, end, checkpoint, points, lost) refl
 
-started_so : (told : Option BegunWith) (c : Commit) (newest : BegunCommit) → newest.kind ≡ c.kind → newest.number ≡ c.number → newest.first ≡ c.first → told ≡ Some (record { kind = c.kind; number = c.number; first = c.first })
-    → told ≡ Some (record { kind = newest.kind; number = newest.number; first = newest.first })
+started_so : (told : Option BegunWith) (c : Commit) (newest : BegunCommit) → newest.parts.kind ≡ c.kind → newest.number ≡ c.number → newest.parts.first ≡ c.first → told ≡ Some (record { kind = c.kind; number = c.number; first = c.first })
+    → told ≡ Some (record { kind = newest.parts.kind; number = newest.number; first = newest.parts.first })
 started_so told c newest kind number first begun = rw (kind, number, first) begun
 
-uses_so : (kind : CommitKind) (p : Places) (replies : List ℕ) (w : Writing) (s : KeeperState) (c : Commit) (newest : BegunCommit) → newest.number ≡ c.number → newest.first ≡ c.first → newest.checkpoint ≡ s.used → w.first.triples ≡ newest.triples
+uses_so : (kind : CommitKind) (p : Places) (replies : List ℕ) (w : Writing) (s : KeeperState) (c : Commit) (newest : BegunCommit) → newest.number ≡ c.number → newest.parts.first ≡ c.first → newest.parts.checkpoint ≡ s.used → w.first.triples ≡ newest.parts.triples
     → UsesAs kind p replies w s c → UsesAsKind kind newest s.last
 uses_so Full p replies w s c newest number first checkpoint triples uses =
     let its = checkpoint ∙ uses.used in
@@ -175,7 +176,7 @@ said_so shape p replies told w s begun c its one written two used three same = r
     other : its.commit ≡ written.commit
     other = one ∙ sym two
 
-    triples : w.first.triples ≡ its.newest.triples
+    triples : w.first.triples ≡ its.newest.parts.triples
     triples = sym same ∙ sym its.triples
 
 run_written : (shape : Shape) (p : Places) (opening : KeeperState) (first : List BegunCommit) (events : List KeeperEvent) → IsOpened opening → HaveFinished first opening.last → (keeper_run shape p opening events).step ≡ Finishes

@@ -33,7 +33,8 @@ use Rattle.law_refine.specs.Below.fkv_world.World as world
 use Rattle.law_refine.specs.Below.fkv_world.World.{Event, Now, near}
 use Rattle.law_refine.proofs.Below.fkv_world.Shown.{is_over, keeper_runs, places_stay, shape_stays}
 use Rattle.law_refine.proofs.Below.law_world.OfRuns.Added.{trace_so}
-use Rattle.law_commit.specs.BegunCommits.{BegunCommit, AtEnd, HaveFinished, IsAsLast, IsInHand, OneIsOpen, begun_at_end, begun_at_gate, begun_at_writes, begun_by, commit_opened, commits_begun, life_begun, with_finished, with_opening, with_sealed}
+use Rattle.law_commit.specs.BegunCommits.{BegunCommit, begun_at_end, begun_at_gate, begun_at_writes, begun_by, commit_opened, commits_begun, life_begun, with_finished, with_opening, with_sealed}
+use Rattle.law_commit.specs.HeldCommits.{AtEnd, HaveFinished, IsAsLast, IsInHand, OneIsOpen}
 use Rattle.law_commit.specs.FinishedCommits.{ToldCommit, commits_finished, commits_told, told_of, with_told}
 use Rattle.law_commit.proofs.BegunStands.{StandsAt, run_stands}
 use Rattle.law_commit.proofs.LifeBegun.{opening_finished}

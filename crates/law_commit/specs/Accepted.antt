@@ -5,15 +5,8 @@ use Rattle.law_refine.specs.Below.fkv_session.SessionRun.{SessionEvent, session_
 use Rattle.law_refine.specs.Below.fkv_session.Versions.{TakenAt, versions_taken}
 use Rattle.law_refine.specs.Below.fkv_world.OwnEvents.{session_events}
 use Rattle.law_refine.specs.Below.fkv_world.Runs.{World}
-use Rattle.law_refine.specs.Below.fkv_world.World.{Event, Now, seat_at}
-
--- the last serial that a session has given
-abbrev pub serial_of : Option SessionState → ℕ
-serial_of None = 0
-serial_of (Some s) = s.serial
-
-abbrev pub serial_at : Now → ℕ → ℕ
-serial_at n session = serial_of (slice_get n.sessions session)
+use Rattle.law_refine.specs.Below.fkv_world.World.{Event, seat_at}
+use Rattle.law_commit.specs.LastSerials.{serial_at}
 
 -- the versions of the serials that were taken
 abbrev pub versions_of : List TakenAt → List ℕ

@@ -1,11 +1,14 @@
 pub mod Accepted
 pub mod BegunCommits
 pub mod Below
+pub mod CommitParts
 pub mod Copied
 pub mod Cuts
 pub mod Decided
 pub mod FinishedCommits
 pub mod Floor
+pub mod HeldCommits
+pub mod LastSerials
 pub mod Laws
 pub mod Linked
 pub mod PhaseStores

@@ -12,7 +12,8 @@ use Rattle.law_refine.specs.Below.fkv_world.Opened.{HasBecome}
 use Rattle.law_refine.specs.Below.fkv_world.Runs.{World, run}
 use Rattle.law_refine.specs.Below.fkv_world.World.{Event}
 use Rattle.law_log.specs.Trace.{IsIn}
-use Rattle.law_commit.specs.Accepted.{point, serial_at}
+use Rattle.law_commit.specs.Accepted.{point}
+use Rattle.law_commit.specs.LastSerials.{serial_at}
 use Rattle.law_commit.specs.BegunCommits.{BegunCommit, life_begun}
 use Rattle.law_commit.specs.Cuts.{ShowCuts, word_now}
 use Rattle.law_commit.specs.PrefixPast.{serials_asked}

@@ -4,11 +4,9 @@ use Rattle.law_refine.specs.Below.fkv_commit.Commit.{Commit}
 use Rattle.law_refine.specs.Below.fkv_keeper.KeeperRun.{is_in_hand}
 use Rattle.law_refine.specs.Below.fkv_world.Runs.{World, run}
 use Rattle.law_refine.specs.Below.fkv_world.World.{Event, Commits, Now}
-use Rattle.law_commit.specs.Accepted.{serial_at, versions_accepted}
+use Rattle.law_commit.specs.LastSerials.{serial_at}
 use Rattle.law_commit.specs.BegunCommits.{BegunCommit, life_begun}
-use Rattle.law_commit.specs.Raises.{Raises, life_raises}
 use Rattle.law_commit.specs.ToldPoints.{ToldPoint, points_told}
-use Rattle.law_commit.specs.Views.{Sight, sight_of}
 
 -- A commit may begin where the keeper has neither a call nor a commit in hand. Where one is in hand its caller is refused, and what was asked stays.
 abbrev pub asked_where : Now → Option Commit → (ℕ → ℕ) → ℕ → ℕ
@@ -25,12 +23,8 @@ serials_asked opening [] = serial_at opening.now
 serials_asked opening (event ∷ before) = asked_by (run opening before).now event (serials_asked opening before)
 
 pub record PrefixPast : Type 0 where
-  -- by session: the versions of the updates that it has accepted, and what it has seen
-  pub versions : ℕ → List ℕ
-  pub sights : ℕ → Sight
-  -- the last serial that each had given as the commit in hand was asked for
+  -- by session: the last serial that it had given as the commit in hand was asked for
   pub asked : ℕ → ℕ
-  pub raised : Raises
   -- the newest first, with the opening's
   pub begun : List BegunCommit
   -- by session: what it was told as durable
@@ -39,10 +33,7 @@ pub record PrefixPast : Type 0 where
 -- after these events, the newest first
 abbrev pub prefix_past : World → List Event → PrefixPast
 prefix_past opening events = record {
-  versions = versions_accepted opening events;
-  sights = sight_of opening events;
   asked = serials_asked opening events;
-  raised = life_raises opening events;
   begun = life_begun opening events;
   told = λ session. points_told session (run opening events).past.trace;
 }

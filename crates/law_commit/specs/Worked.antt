@@ -21,8 +21,10 @@ use Rattle.law_refine.specs.Below.fkv_session.Sitting.TheVariants.{Idle, Catches
 use Rattle.law_refine.specs.Below.fkv_session.CatchingUp.{CatchState}
 use Rattle.law_refine.specs.Below.fkv_world.Past.{Traced, Called, Answered, TurnAsked, KeeperAnswered}
 use Rattle.law_refine.specs.Below.fkv_world.World.{Turns, Now}
-use Rattle.law_commit.specs.Accepted.{count_upto, serial_at}
-use Rattle.law_commit.specs.BegunCommits.{BegunCommit, commit_opened, commit_opening, begun_at_gate, begun_at_end, kind_opened, triples_opened}
+use Rattle.law_commit.specs.Accepted.{count_upto}
+use Rattle.law_commit.specs.LastSerials.{serial_at}
+use Rattle.law_commit.specs.BegunCommits.{BegunCommit, commit_opened, commit_opening, begun_at_gate, begun_at_end}
+use Rattle.law_commit.specs.CommitParts.{kind_opened, triples_opened}
 use Rattle.law_commit.specs.PrefixPast.{asked_where, asked_by}
 use Rattle.law_commit.specs.Raises.{Raises, no_raises, raises_with, raises_left}
 use Rattle.law_commit.specs.Ranks.{rank, version_at}
@@ -91,7 +93,7 @@ pub record OpenedWith : Type 0 where
   pub log : (last : Finality) (used : Checkpoint) → kind_opened (record last { number = record { 0 = 4 }; checkpoint = record used { number = record { 0 = 3 } } }) ≡ Log
   pub full_triples : triples_opened Full (7 ∷ 9 ∷ []) ≡ 7 ∷ 9 ∷ []
   pub log_triples : triples_opened Log (7 ∷ 9 ∷ []) ≡ []
-  pub end : (n : Now) (opened : List ℕ) → (commit_opened (record n { words = words_in_prepare }) opened).end ≡ record { 0 = 40 }
+  pub end : (n : Now) (opened : List ℕ) → (commit_opened (record n { words = words_in_prepare }) opened).parts.end ≡ record { 0 = 40 }
 
 -- What each session had accepted is asked where a commit may begin; a call that is refused for the one in hand leaves it.
 pub record AskedChanges : Type 0 where

@@ -25,10 +25,11 @@ use Rattle.law_refine.specs.Below.fkv_session.Sessions.{SessionState}
 use Rattle.law_refine.specs.Below.fkv_world.Opened.{IsOpenedWorld}
 use Rattle.law_refine.specs.Below.fkv_world.Runs.{World, run}
 use Rattle.law_refine.specs.Below.fkv_world.World.{Event, Calls, Moves, Commits, KeeperMoves}
-use Rattle.law_commit.specs.Accepted.{serial_at}
+use Rattle.law_commit.specs.Accepted.{versions_accepted}
+use Rattle.law_commit.specs.LastSerials.{serial_at}
 use Rattle.law_commit.specs.PrefixPast.{prefix_past}
-use Rattle.law_commit.specs.Raises.{no_raises, raises}
-use Rattle.law_commit.specs.Views.{View}
+use Rattle.law_commit.specs.Raises.{life_raises, no_raises, raises}
+use Rattle.law_commit.specs.Views.{View, sight_of}
 use Rattle.law_refine.specs.Events.Worked.{first_world}
 
 -- A keeper as its store was opened begins a commit. The phase is rest in version 1, the epoch is 7, slot 0 is free, prepare is stored over the phase, and
@@ -96,11 +97,11 @@ pub record IsWorkedPast (keeper : KeeperState) (one other : SessionState) : Type
   pub shape : Shape
   pub places : Places
   pub opened : IsOpenedWorld (worked_world shape places keeper one other)
-  pub refreshed : (prefix_past (worked_world shape places keeper one other) events_refreshed).sights 0 ≡ record { view = first_view; coming = None }
-  pub loaded : (prefix_past (worked_world shape places keeper one other) events_loaded).sights 0 ≡ record { view = first_view; coming = Some second_view }
-  pub caught_up : (prefix_past (worked_world shape places keeper one other) events_caught_up).sights 0 ≡ record { view = second_view; coming = None }
+  pub refreshed : sight_of (worked_world shape places keeper one other) events_refreshed 0 ≡ record { view = first_view; coming = None }
+  pub loaded : sight_of (worked_world shape places keeper one other) events_loaded 0 ≡ record { view = first_view; coming = Some second_view }
+  pub caught_up : sight_of (worked_world shape places keeper one other) events_caught_up 0 ≡ record { view = second_view; coming = None }
   pub tail : word_at (run (worked_world shape places keeper one other) events_caught_up).now.words (shared_place word.Tail) ≡ 3
   pub asked : (prefix_past (worked_world shape places keeper one other) events_loaded).asked 1 ≡ 1
   pub serial : serial_at (run (worked_world shape places keeper one other) events_loaded).now 1 ≡ 2
-  pub versions : (prefix_past (worked_world shape places keeper one other) events_loaded).versions 1 ≡ 1 ∷ 1 ∷ []
-  pub raised : (prefix_past (worked_world shape places keeper one other) events_loaded).raised ≡ record { in_progress = Some 1; wait_pending = None; read_only = None }
+  pub versions : versions_accepted (worked_world shape places keeper one other) events_loaded 1 ≡ 1 ∷ 1 ∷ []
+  pub raised : life_raises (worked_world shape places keeper one other) events_loaded ≡ record { in_progress = Some 1; wait_pending = None; read_only = None }

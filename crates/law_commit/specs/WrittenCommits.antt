@@ -15,8 +15,8 @@ use Rattle.law_commit.specs.BegunCommits.{BegunCommit}
 -- A full commit uses the checkpoint that it has made, which has its own number and first address. A log commit uses that of the newest finished
 -- commit, and writes no triples.
 abbrev pub UsesAsKind : CommitKind → BegunCommit → Finality → Type 0
-UsesAsKind Full c last = (c.checkpoint.number ≡ c.number) × (c.checkpoint.first ≡ c.first)
-UsesAsKind Log c last = (c.checkpoint ≡ last.checkpoint) × (c.triples ≡ [])
+UsesAsKind Full c last = (c.parts.checkpoint.number ≡ c.number) × (c.parts.checkpoint.first ≡ c.parts.first)
+UsesAsKind Log c last = (c.parts.checkpoint ≡ last.checkpoint) × (c.parts.triples ≡ [])
 
 -- The newest that has begun is of the kind that was asked for, with the number and the first address that its start has told. Its triples are those that
 -- are written, and the slot that is written names its number, its end and its points, the checkpoint that it uses, and its lost ranges.
@@ -24,10 +24,10 @@ pub record NewestIsWritten (shape : Shape) (told : Option BegunWith) (w : Writin
   pub newest : BegunCommit
   pub older : List BegunCommit
   pub its : begun ≡ newest ∷ older
-  pub started : told ≡ Some (record { kind = newest.kind; number = newest.number; first = newest.first })
-  pub triples : w.first.triples ≡ newest.triples
-  pub slot : w.first.gate.slot ≡ slot_written shape.sessions newest.number newest.end newest.checkpoint newest.points newest.lost
-  pub checkpoint : UsesAsKind newest.kind newest last
+  pub started : told ≡ Some (record { kind = newest.parts.kind; number = newest.number; first = newest.parts.first })
+  pub triples : w.first.triples ≡ newest.parts.triples
+  pub slot : w.first.gate.slot ≡ slot_written shape.sessions newest.number newest.parts.end newest.parts.checkpoint newest.points newest.parts.lost
+  pub checkpoint : UsesAsKind newest.parts.kind newest last
 
 -- in a life: what the start of the newest commit has told
 abbrev pub life_told : World → List Event → Option BegunWith

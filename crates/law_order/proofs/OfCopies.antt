@@ -20,7 +20,7 @@ use Rattle.law_commit.specs.Below.law_refine.Index.Shows as index
 use Rattle.law_order.specs.Opened.{HasWrittenCopy}
 
 module _ (held : CopiesAreInHand) (begun : CopiesBeginForCommits) (opening : World) (lists : ℕ → List ℕ) (in_order : index.IsOpened opening lists) where
-  written_at : (later moment : List Event) (c : BegunCommit) → LoadsEnd (span_of c) (run opening moment).now → c.kind ≡ Full → HasWrittenCopy opening lists (later ++ moment) c
+  written_at : (later moment : List Event) (c : BegunCommit) → LoadsEnd (span_of c) (run opening moment).now → c.parts.kind ≡ Full → HasWrittenCopy opening lists (later ++ moment) c
   written_at later moment c its full =
       let copy : CopyWorld = seen_by_copy opening lists moment in
       let commit : Commit = its.commit in
@@ -40,7 +40,7 @@ module _ (held : CopiesAreInHand) (begun : CopiesBeginForCommits) (opening : Wor
       }
 
 pub full_written : CommitsHaveEnded → CopiesAreInHand → CopiesBeginForCommits → (opening : World) (start : ℕ) (lists : ℕ → List ℕ) (events : List Event) → OpensQuiet opening start → index.IsOpened opening lists
-    → (c : BegunCommit) → IsIn c (life_begun opening events) → c.kind ≡ Full → HasWrittenCopy opening lists events c ⊎ (span_of c ≡ span_opened opening)
+    → (c : BegunCommit) → IsIn c (life_begun opening events) → c.parts.kind ≡ Full → HasWrittenCopy opening lists events c ⊎ (span_of c ≡ span_opened opening)
 full_written ended held begun opening start lists events quiet in_order c there full = elim (ended opening start events c quiet there) [
   | inl its ↦
       let had : HadMoment (LoadsEnd (span_of c)) opening events = its.end in

@@ -23,7 +23,8 @@ use Rattle.law_commit.specs.Below.fkv_world.Opened.{HasBecome}
 use Rattle.law_commit.specs.Below.fkv_world.OwnEvents.{keeper_events, session_events}
 use Rattle.law_commit.specs.Below.fkv_world.Runs.{World, run}
 use Rattle.law_commit.specs.Below.fkv_world.World.{Event, Now, seat_at}
-use Rattle.law_commit.specs.Accepted.{HasRisingVersion, NeverFall, point, serial_at}
+use Rattle.law_commit.specs.Accepted.{HasRisingVersion, NeverFall, point, versions_accepted}
+use Rattle.law_commit.specs.LastSerials.{serial_at}
 use Rattle.law_commit.specs.BegunCommits.{BegunCommit, life_begun}
 use Rattle.law_commit.specs.Copied.Covers.{CoverHeads, HasBegunFor, HasStoodSince, LeadIntoChains, MayBeCopied, before_copy}
 use Rattle.law_commit.specs.Copied.Runs.{IsCopyBy, KeepsCopy, WritesCopy, copy_events, opening_copy, seen_by_copy}
@@ -33,7 +34,6 @@ use Rattle.law_commit.specs.Linked.{HaveMetEmpty, MeetEmpty}
 use Rattle.law_commit.specs.PhaseVersions.{phase_version}
 use Rattle.law_commit.specs.Phases.Staged.{HasStage}
 use Rattle.law_commit.specs.Phases.Stamped.{SessionStamped, is_live}
-use Rattle.law_commit.specs.PrefixPast.{prefix_past}
 use Rattle.law_commit.specs.Views.{View, sight_of}
 use Rattle.law_commit.specs.Below.law_world.Guarded.Shows.{seen_by_guard}
 use Rattle.law_log.specs.Ghosts.{Ghosts}
@@ -105,11 +105,11 @@ ComesAboveSafe opening events session first its = (epoch : ℕ) (view : View) �
 -- ---- of versions and serials
 -- its serial counts its updates
 abbrev pub CountsItsUpdates : World → List Event → ℕ → SessionState → SessionState → Type 0
-CountsItsUpdates opening events session first its = its.serial ≡ serial_at opening.now session + length ((prefix_past opening events).versions session)
+CountsItsUpdates opening events session first its = its.serial ≡ serial_at opening.now session + length (versions_accepted opening events session)
 
 -- their versions never fall, and none is above its own
 abbrev pub UpdatesInOrder : World → List Event → ℕ → SessionState → SessionState → Type 0
-UpdatesInOrder opening events session first its = NeverFall its.seen.version.0 ((prefix_past opening events).versions session)
+UpdatesInOrder opening events session first its = NeverFall its.seen.version.0 (versions_accepted opening events session)
 
 -- its serial is its point of each version from its own on
 abbrev pub HasItsPoint : World → List Event → ℕ → SessionState → SessionState → Type 0
@@ -181,14 +181,14 @@ pub record HasWrittenCopy (opening : World) (lists : ℕ → List ℕ) (events :
   pub split : events ≡ later ++ moment
   pub commit : Commit
   pub in_hand : (run opening moment).now.keeper.commit ≡ Some commit
-  pub its : span_of c ≡ span_in commit c.end c.triples
+  pub its : span_of c ≡ span_in commit c.parts.end c.parts.triples
   pub begun : MayBeCopied (run opening (before_copy opening moment)).now commit
   pub finished : (let copy = seen_by_copy opening lists moment in copy.copying.step ≡ Ended)
-  pub written : (let copy = seen_by_copy opening lists moment in c.triples ≡ all_bytes copy.triples)
+  pub written : (let copy = seen_by_copy opening lists moment in c.parts.triples ≡ all_bytes copy.triples)
 
 -- so has each full commit that has begun, but the opening's
 abbrev pub CommitsWriteCopies : World → (ℕ → List ℕ) → Ghosts → List Event → Type 0
-CommitsWriteCopies opening lists ghosts events = (c : BegunCommit) → IsIn c (life_begun opening events) → c.kind ≡ Full → HasWrittenCopy opening lists events c ⊎ (span_of c ≡ span_opened opening)
+CommitsWriteCopies opening lists ghosts events = (c : BegunCommit) → IsIn c (life_begun opening events) → c.parts.kind ≡ Full → HasWrittenCopy opening lists events c ⊎ (span_of c ≡ span_opened opening)
 
 -- a search that loads an eighth word which leads nowhere meets an empty chain
 abbrev pub LinksWhereEmpty : World → (ℕ → List ℕ) → Ghosts → List Event → Type 0

@@ -16,7 +16,8 @@ use Rattle.law_log.specs.Trace.{IsIn}
 use Rattle.law_commit.specs.Below.law_refine.Events.Effects.{step_at}
 use Rattle.law_commit.specs.Below.law_refine.Events.GhostEvents.{ghost_events, home_in, life_ghosts, mapped, serials_in}
 use Rattle.law_commit.specs.Below.law_refine.Events.Reserved.{tail_at}
-use Rattle.law_commit.specs.Accepted.{point, serial_at}
+use Rattle.law_commit.specs.Accepted.{point}
+use Rattle.law_commit.specs.LastSerials.{serial_at}
 use Rattle.law_commit.specs.BegunCommits.{BegunCommit, life_begun}
 use Rattle.law_commit.specs.Cuts.{word_now}
 use Rattle.law_commit.specs.PhaseStores.{phase_at}

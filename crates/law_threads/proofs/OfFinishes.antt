@@ -22,7 +22,8 @@ use Rattle.law_order.specs.Below.fkv_world.Runs.{World, read_by_keeper, run}
 use Rattle.law_order.specs.Below.fkv_world.World as world
 use Rattle.law_order.specs.Below.fkv_world.World.{Event, near}
 use Rattle.law_order.proofs.Below.law_world.OfKeeper.OwnRun.{of_keeper, to_keeper}
-use Rattle.law_order.specs.Below.law_commit.BegunCommits.{AtKeeping, BegunCommit, IsInHand, begun_by, commit_opened, commits_begun, life_begun, with_finished}
+use Rattle.law_order.specs.Below.law_commit.BegunCommits.{BegunCommit, begun_by, commit_opened, commits_begun, life_begun, with_finished}
+use Rattle.law_order.specs.Below.law_commit.HeldCommits.{AtKeeping, IsInHand}
 use Rattle.law_order.proofs.Below.law_commit.Shown.{life_stands}
 
 -- ---- what an event of the world is for the keeper: one call of the device, or events that call no device

@@ -24,8 +24,9 @@ use Rattle.fkv_seats.specs.Rule.{AreAllowed, led}
 use Rattle.law_order.specs.Below.fkv_world.Opened.{IsOpenedWorld}
 use Rattle.law_order.specs.Below.fkv_world.Runs.{World, run}
 use Rattle.law_order.specs.Below.fkv_world.World.{Event, Now}
-use Rattle.law_order.specs.Below.law_commit.Accepted.{serial_at}
-use Rattle.law_order.specs.Below.law_commit.BegunCommits.{AtEnd, AtKeeping, BegunCommit, HaveFinished, IsAsLast, OneIsOpen, life_begun}
+use Rattle.law_order.specs.Below.law_commit.LastSerials.{serial_at}
+use Rattle.law_order.specs.Below.law_commit.BegunCommits.{BegunCommit, life_begun}
+use Rattle.law_order.specs.Below.law_commit.HeldCommits.{AtEnd, AtKeeping, HaveFinished, IsAsLast, OneIsOpen}
 use Rattle.law_order.proofs.Below.law_commit.Shown.{life_stands}
 use Rattle.law_log.specs.Trace.{IsIn}
 use Rattle.law_order.specs.OneHistory.EachLife.{IsLife}

@@ -11,7 +11,7 @@ use Rattle.fkv_map.specs.History.{point_of}
 use Rattle.law_order.specs.Below.fkv_opening.TheOpened.{Opened}
 use Rattle.law_order.specs.Below.fkv_world.Runs.{World}
 use Rattle.law_order.specs.Below.fkv_world.World.{Event, Now}
-use Rattle.law_order.specs.Below.law_commit.Accepted.{serial_at}
+use Rattle.law_order.specs.Below.law_commit.LastSerials.{serial_at}
 use Rattle.law_order.specs.Below.law_commit.BegunCommits.{BegunCommit}
 use Rattle.law_log.specs.Trace.{IsIn}
 use Rattle.law_order.specs.Prefix.Law.{IsFairPoint, IsInHandAsTaken, past_so_far}

@@ -246,6 +246,7 @@ unsafe extern "C" {
         user: *mut c_void,
     ) -> i32;
     pub fn fkv_each(file: *mut File, each: TellPair, user: *mut c_void) -> i32;
+    pub fn fkv_renew_here(file: *mut File, shape: *const Shape, told: *mut Renewed) -> i32;
     pub fn fkv_renew_file(
         old_path: *const c_char,
         new_path: *const c_char,

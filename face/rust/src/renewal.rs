@@ -1,7 +1,7 @@
 //! A new store's bytes, of an old one's.
 use crate::errors::Error;
 use crate::raw;
-use crate::store::{Shape, path_for_c};
+use crate::store::{Shape, Store, path_for_c};
 use std::path::Path;
 
 /// How a renewal places the old store's keys.
@@ -53,6 +53,26 @@ pub fn renew_file(
         return Err(refusal(result, &told));
     }
     Ok(())
+}
+
+impl Store {
+    /// Renews the open store in place, so that it lives on under its own name when it has no room or no commits left. Each session was dropped
+    /// before. If a keeper runs, a last commit is made if something isn't kept, and the keeper goes on afterwards. `shape` is the new
+    /// one, or `None` for its own. A crash leaves the old store or the new one, with the same pairs and points. Commits count from 1 again.
+    /// A session that is joined meanwhile waits.
+    ///
+    /// `HandleOut` while a session is out; `NoKeeper` where something isn't kept and no keeper runs; the fault of the last commit; refused as
+    /// [`renew`]. The store is the old one then, and goes on. `Device`: the same, but if the folder's sync alone has failed, the new store has
+    /// the name, and has to be opened anew.
+    pub fn renew(&self, shape: Option<&Shape>) -> Result<(), Error> {
+        let shape = shape.map_or(raw::Shape::default(), |its| its.to_raw());
+        let mut told = raw::Renewed::default();
+        let result = unsafe { raw::fkv_renew_here(self.raw(), &shape, &mut told) };
+        if result < 0 {
+            return Err(refusal(result, &told));
+        }
+        Ok(())
+    }
 }
 
 fn refusal(result: i32, told: &raw::Renewed) -> Error {

@@ -254,6 +254,39 @@ fn pairs_and_a_renewed_file_have_the_last_commit() {
 }
 
 #[test]
+fn a_store_is_renewed_in_place() {
+    let path = Path::new("in_place");
+    let store = path.store(100);
+    let (send, receive) = mpsc::channel();
+    let keeper = store
+        .start(Keeping::default().committed(move |number, _| {
+            let _ = send.send(number);
+        }))
+        .unwrap();
+    let mut session = store.join(1).unwrap();
+    for key in 0..100 {
+        session.put(key, key + 1).unwrap();
+    }
+    assert!(matches!(store.renew(None), Err(Error::HandleOut)));
+    drop(session);
+    let shape = Shape::for_wish(&Wish::default().keys(5000).sessions(3)).unwrap();
+    store.renew(Some(&shape)).unwrap();
+    assert_eq!(store.shape(), shape);
+    assert_eq!(store.last_commit().points, [0, 100, 0]);
+    let mut session = store.join(1).unwrap();
+    for key in 0..100 {
+        assert_eq!(session.read(key).unwrap(), Some(key + 1));
+    }
+    assert_eq!(session.put(7, 70).unwrap().serial, 101);
+    session.commit().unwrap();
+    // The hook of the same keeper has heard of the last commit of the old store, and of the second one of the new store.
+    assert_eq!(receive.try_iter().collect::<Vec<u64>>(), [1, 2]);
+    drop((session, keeper, store));
+    let store = path.store(0);
+    assert_eq!(store.last_commit().points, [0, 101, 0]);
+}
+
+#[test]
 fn sizes_follow_from_a_wish() {
     let shape = Shape::for_wish(&Wish::default().keys(1000).sessions(32)).unwrap();
     let size = shape.size().unwrap();

@@ -12,7 +12,8 @@ use Rattle.law_refine.specs.Below.fkv_world.OwnEvents.{session_events}
 use Rattle.law_refine.specs.Below.fkv_world.Runs.{World}
 use Rattle.law_refine.specs.Below.fkv_world.World.{Event, seat_at}
 use Rattle.law_refine.proofs.Below.law_world.OfSessions.OwnRun.{of_run, opened_so}
-use Rattle.law_commit.specs.Accepted.{HasRisingVersion, count_upto, point, serial_at, serial_of, versions_of}
+use Rattle.law_commit.specs.Accepted.{HasRisingVersion, count_upto, point, versions_of}
+use Rattle.law_commit.specs.LastSerials.{serial_at, serial_of}
 use Rattle.law_commit.specs.Cuts.{serial_before}
 use Rattle.law_commit.proofs.Counted.{Takes, all_upto, found_so, none_taken, one_taken, run_counted, run_moves, run_risen}
 

@@ -27,7 +27,8 @@ use Rattle.law_refine.specs.Below.fkv_keeper.KeeperRun.{BeginsCommit, BeginsTurn
 use Rattle.law_refine.specs.Below.fkv_world.OwnEvents.{keeper_events}
 use Rattle.law_refine.proofs.Below.law_world.OfKeeper.OwnRun.{of_keeper}
 use Rattle.law_refine.proofs.Below.law_world.OfStanding.Runs.{happens_at}
-use Rattle.law_commit.specs.BegunCommits.{AreFinished, BegunCommit, HaveFinished, begun_at_end, begun_at_gate, begun_at_writes, begun_by, commit_opened, commits_begun, with_finished, with_opening, with_sealed}
+use Rattle.law_commit.specs.BegunCommits.{BegunCommit, begun_at_end, begun_at_gate, begun_at_writes, begun_by, commit_opened, commits_begun, with_finished, with_opening, with_sealed}
+use Rattle.law_commit.specs.HeldCommits.{AreFinished, HaveFinished}
 use Rattle.law_commit.specs.Points.{BeginsAsTaken, BegunAreAsTaken, IsAsTaken}
 use Rattle.law_commit.proofs.BegunStands.{StandsAt, run_stands, there}
 use Rattle.law_commit.proofs.LifeBegun.{opening_finished}

@@ -32,7 +32,8 @@ use Rattle.law_refine.specs.Below.fkv_world.Opened.{HasBecome}
 use Rattle.law_refine.specs.Below.fkv_world.Runs.{World, happens, read_by_keeper, run}
 use Rattle.law_refine.specs.Below.fkv_world.World.{Event, Calls, Commits, Crashes, KeeperMoves, Moves, Now, Turns, keeper_asked, life_goes, session_calls, session_moves}
 use Rattle.law_refine.proofs.Below.fkv_world.Shown.{is_over, lives, session_runs}
-use Rattle.law_commit.specs.Accepted.{point, serial_at, serial_of}
+use Rattle.law_commit.specs.Accepted.{point}
+use Rattle.law_commit.specs.LastSerials.{serial_at, serial_of}
 use Rattle.law_commit.specs.PhaseVersions.{phase_version, version_said}
 use Rattle.law_commit.specs.Phases.Staged.{Stage}
 use Rattle.law_commit.specs.Points.{SinceAsked}

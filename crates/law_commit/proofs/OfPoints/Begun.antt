@@ -10,7 +10,8 @@ use Rattle.law_refine.specs.Below.fkv_world.OwnEvents.{session_events}
 use Rattle.law_refine.specs.Below.fkv_world.Runs.{World, run}
 use Rattle.law_refine.specs.Below.fkv_world.World.{Event}
 use Rattle.law_refine.proofs.Below.fkv_world.Shown.{session_runs}
-use Rattle.law_commit.specs.Accepted.{point, serial_at}
+use Rattle.law_commit.specs.Accepted.{point}
+use Rattle.law_commit.specs.LastSerials.{serial_at}
 use Rattle.law_commit.specs.BegunCommits.{life_begun}
 use Rattle.law_commit.specs.Decided.Ended.{Span}
 use Rattle.law_commit.specs.Floor.Stands.{PaperIsSound}

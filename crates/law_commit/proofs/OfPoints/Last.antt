@@ -9,7 +9,8 @@ use Rattle.fkv_map.specs.History.{point_of}
 use Rattle.law_refine.specs.Below.fkv_world.Runs.{run}
 use Rattle.law_log.specs.Trace.{IsIn}
 use Rattle.law_commit.specs.Accepted.{point}
-use Rattle.law_commit.specs.BegunCommits.{AreFinished, AtEnd, AtKeeping, BegunCommit, HaveFinished, IsAsLast, life_begun}
+use Rattle.law_commit.specs.BegunCommits.{BegunCommit, life_begun}
+use Rattle.law_commit.specs.HeldCommits.{AreFinished, AtEnd, AtKeeping, HaveFinished, IsAsLast}
 use Rattle.law_commit.specs.Points.{BegunHavePoints, LastHasPoints, RisesFromLast, TakesPoints}
 use Rattle.law_commit.proofs.LifeBegun.{life_stands}
 use Rattle.law_commit.proofs.OfPhases.LifeStages.{life_staged}

@@ -11,7 +11,8 @@ use Rattle.law_refine.specs.Below.fkv_world.OwnEvents.{session_events}
 use Rattle.law_refine.specs.Below.fkv_world.Runs.{World, run}
 use Rattle.law_refine.specs.Below.fkv_world.World.{Event, seat_at}
 use Rattle.law_refine.proofs.Below.fkv_world.Shown.{session_runs}
-use Rattle.law_commit.specs.Accepted.{count_upto, point, serial_at, serial_of, versions_accepted, versions_of}
+use Rattle.law_commit.specs.Accepted.{count_upto, point, versions_accepted, versions_of}
+use Rattle.law_commit.specs.LastSerials.{serial_at, serial_of}
 use Rattle.law_commit.specs.Points.{RisesByVersion, UpToGiven}
 use Rattle.law_commit.proofs.Counted.{found_so, life_counted}
 use Rattle.law_commit.proofs.OfVersions.Points.{count_low}

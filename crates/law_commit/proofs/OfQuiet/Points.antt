@@ -16,7 +16,8 @@ use Rattle.law_refine.specs.Below.fkv_world.Runs.{World, run}
 use Rattle.law_refine.specs.Below.fkv_world.World.{Event, seat_at}
 use Rattle.law_refine.proofs.Below.fkv_world.Shown.{session_runs}
 use Rattle.law_refine.proofs.Below.law_world.OfSessions.OwnRun.{opened_so}
-use Rattle.law_commit.specs.Accepted.{HasRisingVersion, NeverFall, count_upto, point, serial_at, serial_of, versions_of}
+use Rattle.law_commit.specs.Accepted.{HasRisingVersion, NeverFall, count_upto, point, versions_of}
+use Rattle.law_commit.specs.LastSerials.{serial_at, serial_of}
 use Rattle.law_commit.specs.Quiet.{LiveAreLater, OpensQuiet, PointSplitsAt, PointsAlwaysSplit, PointsStay, pending_rank, rank_now}
 use Rattle.law_commit.proofs.Counted.{Takes, found_so, life_counted, life_point, life_risen, none_taken, one_taken, run_moves}
 use Rattle.law_commit.proofs.OfPhases.LifeStages.{first_version, rising_version}

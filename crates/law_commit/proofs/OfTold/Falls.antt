@@ -17,7 +17,8 @@ use Rattle.law_refine.specs.Below.fkv_world.Past.{Traced}
 use Rattle.law_refine.specs.Below.fkv_world.Runs.{World, run}
 use Rattle.law_refine.specs.Below.fkv_world.World.{Event}
 use Rattle.law_log.specs.Trace.{IsIn}
-use Rattle.law_commit.specs.BegunCommits.{AtKeeping, BegunCommit, IsInHand, life_begun}
+use Rattle.law_commit.specs.BegunCommits.{BegunCommit, life_begun}
+use Rattle.law_commit.specs.HeldCommits.{AtKeeping, IsInHand}
 use Rattle.law_commit.specs.Cuts.{ShowsDurable, durable_at, durable_in, word_now}
 use Rattle.law_commit.specs.Laws.Cuts.{DurableWordsShowPoints}
 use Rattle.law_commit.specs.Points.{BegunHavePoints, LastHasPoints, OpensPointed}

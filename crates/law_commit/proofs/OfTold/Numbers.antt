@@ -7,7 +7,8 @@ use Rattle.law_refine.specs.Below.fkv_keeper.TheKeeping.{Keeping}
 use Rattle.law_refine.specs.Below.fkv_keeper.TheKeeping.TheVariants.{Ended, Starts, Maintains, LoadsPhase, Enters, Copies, Seeks, Waits, Writes, Finishes}
 use Rattle.law_refine.specs.Below.fkv_keeper.Keeping.{Finality, KeeperState}
 use Rattle.law_refine.specs.Below.fkv_world.Past.{Called, KeeperAnswered, TraceEvent, Traced}
-use Rattle.law_commit.specs.BegunCommits.{AreFinished, AreInTurn, AtEnd, AtKeeping, BegunCommit, HaveFinished}
+use Rattle.law_commit.specs.BegunCommits.{AreInTurn, BegunCommit}
+use Rattle.law_commit.specs.HeldCommits.{AreFinished, AtEnd, AtKeeping, HaveFinished}
 use Rattle.law_commit.specs.FinishedCommits.{ToldCommit, commits_finished, commits_told, told_of, with_told}
 use Rattle.law_commit.specs.ToldPoints.{and_one_finished, at_call_by, finishes_at_call, finishes_told}
 

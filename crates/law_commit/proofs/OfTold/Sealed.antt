@@ -24,7 +24,8 @@ use Rattle.law_refine.specs.Below.fkv_world.Past.{Traced}
 use Rattle.law_refine.specs.Below.fkv_world.Runs.{World, run}
 use Rattle.law_refine.specs.Below.fkv_world.World.{Event}
 use Rattle.law_log.specs.Trace.{IsIn}
-use Rattle.law_commit.specs.BegunCommits.{AtKeeping, BegunCommit, IsInHand, begun_at_end, begun_at_gate, begun_at_writes, begun_by, commit_opened, commit_opening, commits_begun, life_begun, with_finished, with_opening, with_sealed}
+use Rattle.law_commit.specs.BegunCommits.{BegunCommit, begun_at_end, begun_at_gate, begun_at_writes, begun_by, commit_opened, commit_opening, commits_begun, life_begun, with_finished, with_opening, with_sealed}
+use Rattle.law_commit.specs.HeldCommits.{AtKeeping, IsInHand}
 use Rattle.law_commit.specs.Cuts.{ShowsDurable, durable_at, durable_in}
 use Rattle.law_commit.specs.FinishedCommits.{told_of}
 use Rattle.law_commit.specs.Laws.Cuts.{DurableWordsShowPoints}

@@ -12,7 +12,8 @@ use Rattle.law_refine.specs.Below.fkv_world.Runs.{World}
 use Rattle.law_refine.specs.Below.fkv_world.World.{Event, seat_at}
 use Rattle.law_refine.specs.Below.law_world.Guarded.Shows as guard
 use Rattle.law_refine.proofs.Below.law_world.OfSessions.OwnRun.{opened_so}
-use Rattle.law_commit.specs.Accepted.{NeverFall, count_upto, serial_at, serial_of, versions_accepted, versions_of}
+use Rattle.law_commit.specs.Accepted.{NeverFall, count_upto, versions_accepted, versions_of}
+use Rattle.law_commit.specs.LastSerials.{serial_at, serial_of}
 use Rattle.law_commit.specs.Phases.Staged.{OpensAtRest}
 use Rattle.law_commit.specs.Versions.Effects.{IsTakenAt, PointSplits}
 use Rattle.law_commit.proofs.Counted.{Takes, all_upto, found_so, life_counted, life_risen, run_counted, run_moves}

@@ -67,7 +67,7 @@ IsOldBelowFirst opening x log = CellsBelow x.first.0 x.number.0 log
 abbrev pub EndsRise : Type 0
 EndsRise =
     (opening : World) (start : ℕ) (events : List Event) (older newer : BegunCommit) → OpensQuiet opening start → IsIn older (life_begun opening events) → IsIn newer (life_begun opening events) → older.number.0 < newer.number.0
-    → older.end.0 ≤ newer.end.0
+    → older.parts.end.0 ≤ newer.parts.end.0
 
 -- ---- the triples of a full commit
 -- These triples stand one after another in what the commit writes. Each is of a bucket of the index and leads into its home's chain, below the commit's end, and
@@ -89,5 +89,5 @@ pub record SpellsChains (p : Places) (opening : World) (ghosts : Ghosts) (events
 abbrev pub FullCommitsSpellChains : Type 0
 FullCommitsSpellChains =
     (opening : World) (start : ℕ) (lists : ℕ → List ℕ) (ghosts : Ghosts) (events : List Event) (c : BegunCommit) → OpensWhole opening start ghosts → index.IsOpened opening lists
-    → LeadToHeads opening.now lists ghosts.log → ChainsTaken ghosts.log → IsIn c (life_begun opening events) → c.kind ≡ Full
+    → LeadToHeads opening.now lists ghosts.log → ChainsTaken ghosts.log → IsIn c (life_begun opening events) → c.parts.kind ≡ Full
     → SpellsChains opening.now.places opening ghosts events (span_of c) ⊎ (span_of c ≡ span_opened opening)

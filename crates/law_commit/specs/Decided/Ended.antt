@@ -28,7 +28,7 @@ abbrev pub span_in : Commit → Addr → List ℕ → Span
 span_in c end triples = record { number = c.number; kind = c.kind; first = c.first; end = end; triples = triples }
 
 abbrev pub span_of : BegunCommit → Span
-span_of c = record { number = c.number; kind = c.kind; first = c.first; end = c.end; triples = c.triples }
+span_of c = record { number = c.number; kind = c.parts.kind; first = c.parts.first; end = c.parts.end; triples = c.parts.triples }
 
 -- It was so at a moment of the life.
 pub record HadMoment (P : Now → Type 0) (opening : World) (events : List Event) : Type 0 where

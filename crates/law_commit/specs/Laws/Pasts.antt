@@ -11,14 +11,16 @@ use Rattle.law_refine.specs.Below.fkv_world.OwnEvents.{keeper_events, session_ev
 use Rattle.law_refine.specs.Below.fkv_world.Runs.{World, run}
 use Rattle.law_refine.specs.Below.fkv_world.World.{Event, KeeperMoves, seat_at}
 use Rattle.law_refine.specs.Below.law_world.Guarded.Shows.{IsOpened}
-use Rattle.law_commit.specs.Accepted.{HasRisingVersion, NeverFall, point, serial_at}
-use Rattle.law_commit.specs.BegunCommits.{AreInTurn, AtKeeping}
+use Rattle.law_commit.specs.Accepted.{HasRisingVersion, NeverFall, point, versions_accepted}
+use Rattle.law_commit.specs.LastSerials.{serial_at}
+use Rattle.law_commit.specs.BegunCommits.{AreInTurn}
+use Rattle.law_commit.specs.HeldCommits.{AtKeeping}
 use Rattle.law_commit.specs.FinishedCommits.{commits_finished, commits_told, told_of}
 use Rattle.law_commit.specs.PhaseStores.{SparesPhase, StoresClaimed, StoresItsPhase, phase_at}
 use Rattle.law_commit.specs.PhaseVersions.{phase_version}
 use Rattle.law_commit.specs.Phases.Staged.{OpensAtRest}
 use Rattle.law_commit.specs.PrefixPast.{prefix_past}
-use Rattle.law_commit.specs.Views.{IsComing, IsSeenAs, IsSightAfter}
+use Rattle.law_commit.specs.Views.{IsComing, IsSeenAs, IsSightAfter, sight_of}
 use Rattle.law_commit.specs.WorkedRuns.{IsWorkedPast}
 use Rattle.law_commit.specs.WrittenCommits.{NewestIsWritten, life_told}
 use Rattle.law_refine.specs.Below.law_world.Keeper.Lives.{life_writing}
@@ -27,14 +29,14 @@ use Rattle.law_refine.specs.Below.law_world.Keeper.Lives.{life_writing}
 abbrev pub SerialsCountUpdates : Type 0
 SerialsCountUpdates =
     (opening : World) (events : List Event) (session : ℕ) (first its : SessionState) → HasBecome opening events session first its
-    → its.serial ≡ serial_at opening.now session + length ((prefix_past opening events).versions session)
+    → its.serial ≡ serial_at opening.now session + length (versions_accepted opening events session)
 
 -- their versions never fall, and none is above the session's
 abbrev pub VersionsNeverFall : Type 0
 VersionsNeverFall =
     (opening : World) (start : ℕ) (events : List Event) (session : ℕ) (first its : SessionState) → HasBecome opening events session first its
     → IsOpened opening.now start → OpensAtRest opening.now
-    → NeverFall its.seen.version.0 ((prefix_past opening events).versions session)
+    → NeverFall its.seen.version.0 (versions_accepted opening events session)
 
 -- a session's serial is its point of each version from its own on
 abbrev pub SerialIsThePoint : Type 0
@@ -62,19 +64,19 @@ ItsVersionIsNotAhead =
 abbrev pub GoesByItsView : Type 0
 GoesByItsView =
     (opening : World) (events : List Event) (session : ℕ) (first its : SessionState) → HasBecome opening events session first its
-    → IsSeenAs ((prefix_past opening events).sights session).view its.seen
+    → IsSeenAs (sight_of opening events session).view its.seen
 
 -- one that catches up takes up those of the view that is coming
 abbrev pub TakesUpWhatIsComing : Type 0
 TakesUpWhatIsComing =
     (opening : World) (events : List Event) (session : ℕ) (first its : SessionState) → HasBecome opening events session first its
-    → IsComing ((prefix_past opening events).sights session) its its.step
+    → IsComing (sight_of opening events session) its its.step
 
 -- a view has the epoch and the tail of the moment at which it came
 abbrev pub ViewsAreStamped : Type 0
 ViewsAreStamped =
     (opening : World) (events : List Event) (event : Event) (session : ℕ)
-    → IsSightAfter (run opening events).now.words ((prefix_past opening events).sights session) ((prefix_past opening (event ∷ events)).sights session)
+    → IsSightAfter (run opening events).now.words (sight_of opening events session) (sight_of opening (event ∷ events) session)
 
 -- the commits that have begun are as the keeper's step says
 abbrev pub BegunAreAsKept : Type 0

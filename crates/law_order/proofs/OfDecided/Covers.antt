@@ -59,14 +59,14 @@ module _ (o : Opened) (n : Now) (bytes : List ℕ) (events : List Event) (c : Be
   in_index : (i : ℕ) (x : Triple) → slice_get its.triples i ≡ Some x → x.bucket < 2 ^ n.shape.bucket_bits
   in_index i x there = let home = one_of (λ (e : CopiedEntry). IsHome n.places e.home) its.triples i x its.in_index there in subst (λ (most : ℕ). x.bucket < most) buckets home.few
 
-  below : scan.AreBelow c.end.0 its.triples
-  below i x there = one_of (λ (e : CopiedEntry). e.addr < c.end.0) its.triples i x its.below there
+  below : scan.AreBelow c.parts.end.0 its.triples
+  below i x there = one_of (λ (e : CopiedEntry). e.addr < c.parts.end.0) its.triples i x its.below there
 
   in_chain : (i : ℕ) (x : Triple) → slice_get its.triples i ≡ Some x → IsIn x.addr.0 (log.chains (home_number (copied_of x).home))
   in_chain i x there = one_of (λ (e : CopiedEntry). IsIn e.addr (log.chains (home_number e.home))) its.triples i x its.in_chains there
 
   -- the triple of the home of a record below the commit's first address
-  module _ (h a : ℕ) (is_in : IsIn a (log.chains h)) (low : a < c.first.0) where
+  module _ (h a : ℕ) (is_in : IsIn a (log.chains h)) (low : a < c.parts.first.0) where
     was : IsIn a (then_log.chains h)
     was = its.none_new h a is_in low
 
@@ -105,7 +105,7 @@ module _ (o : Opened) (n : Now) (bytes : List ℕ) (events : List Event) (c : Be
     apart = subst scan.AreApart (sym same) its.apart;
     covers = λ h a is_in low.
         let start = at.start in
-        let under : a < c.first.0 = omega (arith, low, start) in
+        let under : a < c.parts.first.0 = omega (arith, low, start) in
         let x = copied h a is_in under in
         let up = (high h a is_in under).0 in
         let more = x.high in (

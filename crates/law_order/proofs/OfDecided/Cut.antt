@@ -31,12 +31,12 @@ decided_so (Reserved entry cell) settled = absurd settled
 decided_so (Published cell) settled = inl (cell, refl)
 decided_so (Dropped cell) settled = inr (cell, refl)
 
-pub cut_so : (log : Log) (c : BegunCommit) (image : scan.Log) → NamesEnd image c → CellsFrom c.end.0 (c.number.0 + 1) log → CellsBelow c.end.0 (c.number.0 + 1) log → IsCut image log
+pub cut_so : (log : Log) (c : BegunCommit) (image : scan.Log) → NamesEnd image c → CellsFrom c.parts.end.0 (c.number.0 + 1) log → CellsBelow c.parts.end.0 (c.number.0 + 1) log → IsCut image log
 cut_so log c image names later young = record {
   covered = λ a cell is low.
       (let version = names.version in
       let tail = names.tail in
-      elim (cases_lt a c.end.0) [
+      elim (cases_lt a c.parts.end.0) [
         | inl below ↦ omega (arith, below, tail)
         | inr above ↦ (let high = later a cell.version above (made_of (log.cells a) cell is) in absurd (omega (arith, high, low, version)))
       ]);
@@ -47,7 +47,7 @@ cut_so log c image names later young = record {
       omega (arith, most, version));
 }
 
-pub old_so : (log : Log) (c : BegunCommit) (image : scan.Log) (a : ℕ) (cell : Cell) → StartsAt image c → CellsBelow c.first.0 c.number.0 log → log.cells a ≡ Published cell → a < image.start → cell.version ≤ image.version
+pub old_so : (log : Log) (c : BegunCommit) (image : scan.Log) (a : ℕ) (cell : Cell) → StartsAt image c → CellsBelow c.parts.first.0 c.number.0 log → log.cells a ≡ Published cell → a < image.start → cell.version ≤ image.version
 old_so log c image a cell at old is low =
     let start = at.start in
     let version = at.version in

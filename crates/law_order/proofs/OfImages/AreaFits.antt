@@ -20,7 +20,7 @@ use Rattle.law_order.proofs.OfImages.NamedNow.{AllGood}
 
 -- so it is of each full commit
 abbrev pub FitsArea : Shape → BegunCommit → Type 0
-FitsArea shape c = c.kind ≡ Full → c.checkpoint.triples ≤ most_triples shape
+FitsArea shape c = c.parts.kind ≡ Full → c.parts.checkpoint.triples ≤ most_triples shape
 
 few_copied : (shape : Shape) (p : Places) (replies : List ℕ) → p.buckets ≡ 2 ^ shape.bucket_bits → p.overflow ≡ shape.overflow → length (copied_after p replies) ≤ most_triples shape
 few_copied shape p replies buckets overflow = let few = copy_fits p replies in omega (arith, few, buckets, overflow)

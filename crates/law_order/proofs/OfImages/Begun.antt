@@ -20,7 +20,8 @@ use Rattle.law_commit.specs.Below.fkv_manifest.TheCommitting.TheVariants as comm
 use Rattle.law_commit.specs.Below.fkv_manifest.TheGating.{Gating}
 use Rattle.law_commit.specs.Below.fkv_manifest.TheGating.TheVariants as gate
 use Rattle.fkv_record.specs.Places.{area_place}
-use Rattle.law_commit.specs.BegunCommits.{BegunCommit, IsAsLast, begun_at_gate, begun_at_writes, commit_opening, with_opening, with_sealed}
+use Rattle.law_commit.specs.BegunCommits.{BegunCommit, begun_at_gate, begun_at_writes, commit_opening, with_opening, with_sealed}
+use Rattle.law_commit.specs.HeldCommits.{IsAsLast}
 use Rattle.law_order.specs.Images.Named.{AreTriplesOf, slot_of}
 use Rattle.law_log.specs.Trace.{IsIn}
 use Rattle.law_commit.specs.Below.law_world.Standing.Standing.{Standing}
@@ -32,20 +33,20 @@ plain c = record c { is_sealed = false; is_finished = false }
 
 -- a full commit uses its own checkpoint, and a log commit the last one's
 pub record UsesOwn (c : BegunCommit) : Type 0 where
-  pub number : c.checkpoint.number ≡ c.number
-  pub first : c.checkpoint.first ≡ c.first
-  pub whole : length c.triples ≡ 16 * c.checkpoint.triples
+  pub number : c.parts.checkpoint.number ≡ c.number
+  pub first : c.parts.checkpoint.first ≡ c.parts.first
+  pub whole : length c.parts.triples ≡ 16 * c.parts.checkpoint.triples
 
 abbrev pub Uses : CommitKind → Finality → BegunCommit → Type 0
 Uses Full last c = UsesOwn c
-Uses Log last c = c.checkpoint ≡ last.checkpoint
+Uses Log last c = c.parts.checkpoint ≡ last.checkpoint
 
 pub record AreWritesOf (shape : Shape) (last : Finality) (w : CommitWriter) (c : BegunCommit) : Type 0 where
   pub place : w.gate.place ≡ slot_place c.number
   pub slot : w.gate.slot ≡ slot_of shape c
-  pub area : w.area ≡ area_place shape (area_number c.checkpoint.area)
-  pub triples : w.triples ≡ c.triples
-  pub uses : Uses c.kind last c
+  pub area : w.area ≡ area_place shape (area_number c.parts.checkpoint.area)
+  pub triples : w.triples ≡ c.parts.triples
+  pub uses : Uses c.parts.kind last c
 
 -- they are under way since these calls
 pub record IsUnderWay (opened : List ℕ) (last : Finality) (w : Writing) (calls : List Call) : Type 0 where

@@ -219,7 +219,7 @@ module _ (shape : Shape) (opened : List ℕ) (first : BegunCommit) (Good : Begun
   ended_on p s was its w calls begun (Calls done bytes) told e is = still s was its w calls begun (Ended told) e (still_ended told s was its w calls begun is)
 
   -- ---- in the wait
-  uses_so : (s : KeeperState) (c : Commit) (b : BegunCommit) (kind : CommitKind) → b.checkpoint ≡ checkpoint_used c kind s.last s.copy → b.triples ≡ triples_written kind s.copy → b.number ≡ c.number → b.first ≡ c.first → Uses kind s.last b
+  uses_so : (s : KeeperState) (c : Commit) (b : BegunCommit) (kind : CommitKind) → b.parts.checkpoint ≡ checkpoint_used c kind s.last s.copy → b.parts.triples ≡ triples_written kind s.copy → b.number ≡ c.number → b.parts.first ≡ c.first → Uses kind s.last b
   uses_so s c b Full used triples number first_is = record {
     number = ap (λ (x : Checkpoint). x.number) used ∙ sym number;
     first = ap (λ (x : Checkpoint). x.first) used ∙ sym first_is;
@@ -317,23 +317,23 @@ module _ (shape : Shape) (opened : List ℕ) (first : BegunCommit) (Good : Begun
       → AreTriplesOf shape opened first (record newest { is_finished = true } ∷ rest) s.used (triples_used kind w.first.triples its.triples)
   uses_made s c l newest rest w its Full kind named same writes before =
       let there : plain newest ≡ commit_opening s c = same ∙ named in
-      let its_kind : l.kind ≡ Full = ap (λ (x : BegunCommit). x.kind) named ∙ kind in
+      let its_kind : l.parts.kind ≡ Full = ap (λ (x : BegunCommit). x.parts.kind) named ∙ kind in
       let own : UsesOwn l = subst (λ (k : CommitKind). Uses k s.last l) its_kind writes.uses in
       inl (
         record newest { is_finished = true },
         inl refl,
         record {
-          full = ap (λ (x : BegunCommit). x.kind) same ∙ its_kind;
-          own = ap (λ (x : BegunCommit). x.checkpoint.number) same ∙ (own.number ∙ ap (λ (x : BegunCommit). x.number) (sym same));
-          first = ap (λ (x : BegunCommit). x.checkpoint.first) same ∙ (own.first ∙ ap (λ (x : BegunCommit). x.first) (sym same));
-          checkpoint = ap (λ (x : BegunCommit). x.checkpoint) there;
-          triples = ap (λ (x : BegunCommit). x.triples) same ∙ sym writes.triples;
+          full = ap (λ (x : BegunCommit). x.parts.kind) same ∙ its_kind;
+          own = ap (λ (x : BegunCommit). x.parts.checkpoint.number) same ∙ (own.number ∙ ap (λ (x : BegunCommit). x.number) (sym same));
+          first = ap (λ (x : BegunCommit). x.parts.checkpoint.first) same ∙ (own.first ∙ ap (λ (x : BegunCommit). x.parts.first) (sym same));
+          checkpoint = ap (λ (x : BegunCommit). x.parts.checkpoint) there;
+          triples = ap (λ (x : BegunCommit). x.parts.triples) same ∙ sym writes.triples;
         },
       )
   uses_made s c l newest rest w its Log kind named same writes before =
-      let its_kind : l.kind ≡ Log = ap (λ (x : BegunCommit). x.kind) named ∙ kind in
-      let used : l.checkpoint ≡ s.last.checkpoint = subst (λ (k : CommitKind). Uses k s.last l) its_kind writes.uses in
-      more_made shape opened first (record newest { is_finished = true }) rest s.last.checkpoint s.used its.triples (ap (λ (x : BegunCommit). x.checkpoint) (sym named) ∙ used) before
+      let its_kind : l.parts.kind ≡ Log = ap (λ (x : BegunCommit). x.parts.kind) named ∙ kind in
+      let used : l.parts.checkpoint ≡ s.last.checkpoint = subst (λ (k : CommitKind). Uses k s.last l) its_kind writes.uses in
+      more_made shape opened first (record newest { is_finished = true }) rest s.last.checkpoint s.used its.triples (ap (λ (x : BegunCommit). x.parts.checkpoint) (sym named) ∙ used) before
 
   finished_last : (s : KeeperState) (c : Commit) (its : Standing) (w : Writing) (begun : List BegunCommit) (l : BegunCommit) (rest : List BegunCommit) → l ≡ commit_opening s c → Good l → AreWritesOf shape s.last w.first l → IsLast shape opened first Good s.last its rest
       → HasBegunFor begun rest l → (let a = finished s (Some c) in IsLast shape opened first Good a.last (record { slot = w.first.gate.slot; triples = triples_used c.kind w.first.triples its.triples }) (with_finished begun))
@@ -347,7 +347,7 @@ module _ (shape : Shape) (opened : List ℕ) (first : BegunCommit) (Good : Begun
         older = rest;
         list = list;
         finished = refl;
-        as_last = record { number = ap (λ (x : BegunCommit). x.number) there; points = ap (λ (x : BegunCommit). x.points) there; checkpoint = ap (λ (x : BegunCommit). x.checkpoint) there };
+        as_last = record { number = ap (λ (x : BegunCommit). x.number) there; points = ap (λ (x : BegunCommit). x.points) there; checkpoint = ap (λ (x : BegunCommit). x.parts.checkpoint) there };
         slot = inl (writes.slot ∙ ap (λ (x : BegunCommit). slot_of shape x) (sym has.same), subst Good (sym has.same) good);
         triples = subst (λ (x : List BegunCommit). AreTriplesOf shape opened first x s.used (triples_used c.kind w.first.triples its.triples)) (sym list)
             (uses_made s c l newest rest w its c.kind refl named has.same writes before.triples);

@@ -22,7 +22,7 @@ use Rattle.law_commit.specs.Below.law_world.Keeper.Lives.{keeper_after, replies_
 
 -- as each full commit does
 abbrev pub CopiesIfFull : World → List Event → BegunCommit → Type 0
-CopiesIfFull opening events c = c.kind ≡ Full → WritesItsCopy opening events c
+CopiesIfFull opening events c = c.parts.kind ≡ Full → WritesItsCopy opening events c
 
 module _ (opening : World) (events : List Event) (opened : IsOpened opening.now.keeper) where
   full_copied : (later moment : List Event) (event : KeeperEvent) (c : Commit) → events ≡ later ++ moment

@@ -67,10 +67,10 @@ lost_named o n a c few (inl none) = inl (record { none = none.0; newer = none.1 
 lost_named o n a c few (inr its) = inr (record { lost = its.0; checkpoint = its.1; few = few })
 
 -- one that uses the checkpoint with which the store was opened doesn't use a newer one
-pub lost_as_opened : (o : Opened) (n : Now) (c : BegunCommit) → n.keeper.last.checkpoint.number.0 ≤ o.number.0 → NamesItsLost o n c → c.checkpoint ≡ n.keeper.last.checkpoint → NamesLost n c
+pub lost_as_opened : (o : Opened) (n : Now) (c : BegunCommit) → n.keeper.last.checkpoint.number.0 ≤ o.number.0 → NamesItsLost o n c → c.parts.checkpoint ≡ n.keeper.last.checkpoint → NamesLost n c
 lost_as_opened o n c older (inr names) used = names
 lost_as_opened o n c older (inl none) used =
-    let same : c.checkpoint.number.0 ≡ n.keeper.last.checkpoint.number.0 = ap (λ (x : Checkpoint). x.number.0) used in
+    let same : c.parts.checkpoint.number.0 ≡ n.keeper.last.checkpoint.number.0 = ap (λ (x : Checkpoint). x.number.0) used in
     let newer = none.newer in
     absurd (omega (arith, same, newer, older))
 

@@ -7,7 +7,8 @@ use Rattle.fkv_record.specs.Places.{most_triples}
 use Rattle.law_commit.specs.Below.fkv_world.OwnEvents.{keeper_events}
 use Rattle.law_commit.specs.Below.fkv_world.Runs.{World, run}
 use Rattle.law_commit.specs.Below.fkv_world.World.{Event}
-use Rattle.law_commit.specs.BegunCommits.{BegunCommit, IsAsLast, commit_opened, life_begun}
+use Rattle.law_commit.specs.BegunCommits.{BegunCommit, commit_opened, life_begun}
+use Rattle.law_commit.specs.HeldCommits.{IsAsLast}
 use Rattle.law_log.specs.Trace.{IsIn}
 use Rattle.law_order.proofs.OfImages.NamedNow.{AllGood, Named, SealedStands, StandsUncalled, named_now, run_holds}
 use Rattle.law_order.proofs.OfImages.Begun.{plain}
@@ -26,7 +27,7 @@ abbrev pub AllOfLife : World → (BegunCommit → Type 0) → List Event → Typ
 AllOfLife opening Good events = AllGood opening.now.shape opening.now.places opening.now.keeper Good (keeper_events opening events)
 
 pub life_named : StandsUncalled → (opening : World) (Good : BegunCommit → Type 0) (events : List Event) (image : List ℕ) → IsLifeTold opening events → AllOfLife opening Good events
-    → ((c : BegunCommit) → Good c → c.kind ≡ Full → c.checkpoint.triples ≤ most_triples opening.now.shape)
+    → ((c : BegunCommit) → Good c → c.parts.kind ≡ Full → c.parts.checkpoint.triples ≤ most_triples opening.now.shape)
     → calls_made opening.now.shape opening.now.places opening.now.keeper (keeper_events opening events) ≡ (run opening events).past.calls → SealedStands (life_begun opening events) (life_writing opening events).first image
     → MayLeave opening.past.opened (run opening events).past.calls image
     → IsOneInForce (is_life_writing opening events) (run opening events).now.keeper.last (life_standing opening events) (life_writing opening events).first image

@@ -21,7 +21,8 @@ use Rattle.law_commit.specs.Below.fkv_manifest.Newest as manifest
 use Rattle.law_commit.specs.Below.fkv_manifest.Newest.{slot_in}
 use Rattle.fkv_plane.specs.declared.places.Places.{Places}
 use Rattle.fkv_record.specs.Places.{area_place, most_triples}
-use Rattle.law_commit.specs.BegunCommits.{AreInTurn, BegunCommit, IsAsLast, commit_opening, commits_begun}
+use Rattle.law_commit.specs.BegunCommits.{AreInTurn, BegunCommit, commit_opening, commits_begun}
+use Rattle.law_commit.specs.HeldCommits.{IsAsLast}
 use Rattle.law_order.specs.Images.Named.{AreTriplesOf, slot_of}
 use Rattle.law_order.proofs.OfImages.Begun.{AreWritesOf, HasBegunFor, HasSlot, IsLast, IsLeft, Lists, Uses, UsesOwn, is_called, plain}
 use Rattle.law_order.proofs.OfImages.BegunRun.{At, BeginsAt, Holds, each_begun, either, event_on, more_made}
@@ -60,9 +61,9 @@ module _ (shape : Shape) (opened : List ℕ) (first : BegunCommit) (Good : Begun
   pub record Has (begun : List BegunCommit) (c : BegunCommit) (image : List ℕ) : Type 0 where
     pub in_force : manifest.newest image ≡ Some (slot_place c.number)
     pub slot : HasSlot shape opened first Good c (slot_in image (slot_place c.number))
-    pub triples : AreTriplesOf shape opened first begun c.checkpoint (triples_in shape image c.checkpoint)
-    pub fit : c.checkpoint.triples ≤ most_triples shape
-    pub behind : IsBehind shape c.checkpoint (length image)
+    pub triples : AreTriplesOf shape opened first begun c.parts.checkpoint (triples_in shape image c.parts.checkpoint)
+    pub fit : c.parts.checkpoint.triples ≤ most_triples shape
+    pub behind : IsBehind shape c.parts.checkpoint (length image)
 
   pub record Named (begun : List BegunCommit) (image : List ℕ) : Type 0 where
     pub commit : BegunCommit
@@ -76,7 +77,7 @@ module _ (shape : Shape) (opened : List ℕ) (first : BegunCommit) (Good : Begun
   named_last last its begun image l force stand =
       let c : BegunCommit = l.newest in
       let number : c.number ≡ last.number = l.as_last.number in
-      let checkpoint : c.checkpoint ≡ last.checkpoint = l.as_last.checkpoint in
+      let checkpoint : c.parts.checkpoint ≡ last.checkpoint = l.as_last.checkpoint in
       let slot : slot_in image (slot_place c.number) ≡ its.slot = ap (λ (v : Version). slot_in image (slot_place v)) number ∙ force.slot in
       record {
         commit = c;
@@ -115,8 +116,8 @@ module _ (shape : Shape) (opened : List ℕ) (first : BegunCommit) (Good : Begun
         has = record {
           in_force = has.in_force;
           slot = has.slot;
-          triples = subst (λ (x : List BegunCommit). AreTriplesOf shape opened first x d.checkpoint (triples_in shape image d.checkpoint)) (sym later.its)
-              (more_made shape opened first later.newest rest d.checkpoint d.checkpoint (triples_in shape image d.checkpoint) refl has.triples);
+          triples = subst (λ (x : List BegunCommit). AreTriplesOf shape opened first x d.parts.checkpoint (triples_in shape image d.parts.checkpoint)) (sym later.its)
+              (more_made shape opened first later.newest rest d.parts.checkpoint d.parts.checkpoint (triples_in shape image d.parts.checkpoint) refl has.triples);
           fit = has.fit;
           behind = has.behind;
         };
@@ -125,53 +126,53 @@ module _ (shape : Shape) (opened : List ℕ) (first : BegunCommit) (Good : Begun
   -- ---- the one that is written
   -- its triples
   pub record HasTriples (begun : List BegunCommit) (c : BegunCommit) (image : List ℕ) : Type 0 where
-    pub triples : AreTriplesOf shape opened first begun c.checkpoint (triples_in shape image c.checkpoint)
-    pub fit : c.checkpoint.triples ≤ most_triples shape
-    pub behind : IsBehind shape c.checkpoint (length image)
+    pub triples : AreTriplesOf shape opened first begun c.parts.checkpoint (triples_in shape image c.parts.checkpoint)
+    pub fit : c.parts.checkpoint.triples ≤ most_triples shape
+    pub behind : IsBehind shape c.parts.checkpoint (length image)
 
-  triples_new : (w : CommitWriter) (last : Finality) (its : Standing) (rest : List BegunCommit) (c d : BegunCommit) (image : List ℕ) (kind : CommitKind) → c.kind ≡ kind → plain d ≡ c → AreWritesOf shape last w c → (c.kind ≡ Full → c.checkpoint.triples ≤ most_triples shape)
+  triples_new : (w : CommitWriter) (last : Finality) (its : Standing) (rest : List BegunCommit) (c d : BegunCommit) (image : List ℕ) (kind : CommitKind) → c.parts.kind ≡ kind → plain d ≡ c → AreWritesOf shape last w c → (c.parts.kind ≡ Full → c.parts.checkpoint.triples ≤ most_triples shape)
       → AreTriplesOf shape opened first rest last.checkpoint its.triples → NewStands w image → TriplesStand shape last.checkpoint its image → HasTriples (d ∷ rest) d image
   triples_new w last its rest c d image Full kind same writes few before new stand =
       let own : UsesOwn c = subst (λ (k : CommitKind). Uses k last c) kind writes.uses in
-      let size : length w.triples ≡ 16 * d.checkpoint.triples = ap (λ (t : List ℕ). length t) writes.triples ∙ (own.whole ∙ ap (λ (x : BegunCommit). 16 * x.checkpoint.triples) (sym same)) in
-      let area : w.area ≡ area_place shape (area_number d.checkpoint.area) = writes.area ∙ ap (λ (x : BegunCommit). area_place shape (area_number x.checkpoint.area)) (sym same) in
-      let there : triples_in shape image d.checkpoint ≡ w.triples =
-      ap (λ (at : ℕ). bytes_at image at (16 * d.checkpoint.triples)) (sym area) ∙ (ap (λ (m : ℕ). bytes_at image w.area m) (sym size) ∙ new.triples) in
+      let size : length w.triples ≡ 16 * d.parts.checkpoint.triples = ap (λ (t : List ℕ). length t) writes.triples ∙ (own.whole ∙ ap (λ (x : BegunCommit). 16 * x.parts.checkpoint.triples) (sym same)) in
+      let area : w.area ≡ area_place shape (area_number d.parts.checkpoint.area) = writes.area ∙ ap (λ (x : BegunCommit). area_place shape (area_number x.parts.checkpoint.area)) (sym same) in
+      let there : triples_in shape image d.parts.checkpoint ≡ w.triples =
+      ap (λ (at : ℕ). bytes_at image at (16 * d.parts.checkpoint.triples)) (sym area) ∙ (ap (λ (m : ℕ). bytes_at image w.area m) (sym size) ∙ new.triples) in
       record {
         triples = inl (
           d,
           inl refl,
           record {
-            full = ap (λ (x : BegunCommit). x.kind) same ∙ kind;
-            own = ap (λ (x : BegunCommit). x.checkpoint.number) same ∙ (own.number ∙ ap (λ (x : BegunCommit). x.number) (sym same));
-            first = ap (λ (x : BegunCommit). x.checkpoint.first) same ∙ (own.first ∙ ap (λ (x : BegunCommit). x.first) (sym same));
+            full = ap (λ (x : BegunCommit). x.parts.kind) same ∙ kind;
+            own = ap (λ (x : BegunCommit). x.parts.checkpoint.number) same ∙ (own.number ∙ ap (λ (x : BegunCommit). x.number) (sym same));
+            first = ap (λ (x : BegunCommit). x.parts.checkpoint.first) same ∙ (own.first ∙ ap (λ (x : BegunCommit). x.parts.first) (sym same));
             checkpoint = refl;
-            triples = ap (λ (x : BegunCommit). x.triples) same ∙ (sym writes.triples ∙ sym there);
+            triples = ap (λ (x : BegunCommit). x.parts.triples) same ∙ (sym writes.triples ∙ sym there);
           },
         );
-        fit = subst (λ (x : BegunCommit). x.checkpoint.triples ≤ most_triples shape) (sym same) (few kind);
+        fit = subst (λ (x : BegunCommit). x.parts.checkpoint.triples ≤ most_triples shape) (sym same) (few kind);
         behind = record {
           slots = stand.long.slots;
           triples = λ k low. (let reach = new.reaches k (omega (arith, low, size)) in omega (arith, reach, area));
         };
       }
   triples_new w last its rest c d image Log kind same writes few before new stand =
-      let used : d.checkpoint ≡ last.checkpoint = ap (λ (x : BegunCommit). x.checkpoint) same ∙ subst (λ (k : CommitKind). Uses k last c) kind writes.uses in
+      let used : d.parts.checkpoint ≡ last.checkpoint = ap (λ (x : BegunCommit). x.parts.checkpoint) same ∙ subst (λ (k : CommitKind). Uses k last c) kind writes.uses in
       record {
-        triples = more_made shape opened first d rest last.checkpoint d.checkpoint (triples_in shape image d.checkpoint) used
+        triples = more_made shape opened first d rest last.checkpoint d.parts.checkpoint (triples_in shape image d.parts.checkpoint) used
             (subst (λ (t : List ℕ). AreTriplesOf shape opened first rest last.checkpoint t) (sym stand.same ∙ ap (λ (x : Checkpoint). triples_in shape image x) (sym used)) before);
         fit = subst (λ (x : Checkpoint). x.triples ≤ most_triples shape) (sym used) stand.fit;
         behind = subst (λ (x : Checkpoint). IsBehind shape x (length image)) (sym used) stand.long;
       }
 
-  named_new : (last : Finality) (its : Standing) (w : Writing) (calls : List Call) (begun : List BegunCommit) (image : List ℕ) (l : IsLeft shape opened first Good last its w calls begun) → (let c = l.commit in c.kind ≡ Full → c.checkpoint.triples ≤ most_triples shape)
+  named_new : (last : Finality) (its : Standing) (w : Writing) (calls : List Call) (begun : List BegunCommit) (image : List ℕ) (l : IsLeft shape opened first Good last its w calls begun) → (let c = l.commit in c.parts.kind ≡ Full → c.parts.checkpoint.triples ≤ most_triples shape)
       → HasBegunFor begun l.rest l.commit → NewStands w.first image → TriplesStand shape last.checkpoint its image → Named begun image
   named_new last its w calls begun image l few later new stand =
       let c : BegunCommit = l.commit in
       let d : BegunCommit = later.newest in
       let place : w.first.gate.place ≡ slot_place d.number = l.writes.place ∙ ap (λ (x : BegunCommit). slot_place x.number) (sym later.same) in
       let slot : slot_in image (slot_place d.number) ≡ slot_of shape d = ap (λ (at : ℕ). slot_in image at) (sym place) ∙ (new.slot ∙ (l.writes.slot ∙ ap (λ (x : BegunCommit). slot_of shape x) (sym later.same))) in
-      let triples : HasTriples (d ∷ l.rest) d image = triples_new w.first last its l.rest c d image c.kind refl later.same l.writes few l.before.triples new stand in
+      let triples : HasTriples (d ∷ l.rest) d image = triples_new w.first last its l.rest c d image c.parts.kind refl later.same l.writes few l.before.triples new stand in
       record {
         commit = d;
         is_in = subst (λ (x : List BegunCommit). IsIn d x) (sym later.its) (inl refl);
@@ -180,7 +181,7 @@ module _ (shape : Shape) (opened : List ℕ) (first : BegunCommit) (Good : Begun
         has = record {
           in_force = new.in_force ∙ ap (λ (at : ℕ). Some at) place;
           slot = inl (slot, subst Good (sym later.same) l.good);
-          triples = subst (λ (x : List BegunCommit). AreTriplesOf shape opened first x d.checkpoint (triples_in shape image d.checkpoint)) (sym later.its) triples.triples;
+          triples = subst (λ (x : List BegunCommit). AreTriplesOf shape opened first x d.parts.checkpoint (triples_in shape image d.parts.checkpoint)) (sym later.its) triples.triples;
           fit = triples.fit;
           behind = triples.behind;
         };
@@ -188,7 +189,7 @@ module _ (shape : Shape) (opened : List ℕ) (first : BegunCommit) (Good : Begun
 
   -- ---- either
   named_written : StandsUncalled → (last : Finality) (its : Standing) (w : Writing) (calls : List Call) (begun : List BegunCommit) (image : List ℕ) (l : IsLeft shape opened first Good last its w calls begun)
-      → (let c = l.commit in c.kind ≡ Full → c.checkpoint.triples ≤ most_triples shape) → SealedStands begun w.first image → MayLeave opened calls image → IsInForce last its image ⊎ NewStands w.first image → TriplesStand shape last.checkpoint its image → Named begun image
+      → (let c = l.commit in c.parts.kind ≡ Full → c.parts.checkpoint.triples ≤ most_triples shape) → SealedStands begun w.first image → MayLeave opened calls image → IsInForce last its image ⊎ NewStands w.first image → TriplesStand shape last.checkpoint its image → Named begun image
   named_written gates last its w calls begun image l few seals left stands stand = by_called (is_called w) refl
     where
       later_or : (b : Bool) → is_called w ≡ b → Lists b begun l.rest l.commit
@@ -210,7 +211,7 @@ module _ (shape : Shape) (opened : List ℕ) (first : BegunCommit) (Good : Begun
             absurd (not_both (manifest.newest image) w.first.gate.place (slot_place last.number) l.way.begins.ready.slots new.in_force was.in_force)
       ]
 
-  pub named_now : StandsUncalled → ((c : BegunCommit) → Good c → c.kind ≡ Full → c.checkpoint.triples ≤ most_triples shape) → (was : Bool) (s : KeeperState) (its : Standing) (w : Writing) (calls : List Call) (begun : List BegunCommit) (image : List ℕ)
+  pub named_now : StandsUncalled → ((c : BegunCommit) → Good c → c.parts.kind ≡ Full → c.parts.checkpoint.triples ≤ most_triples shape) → (was : Bool) (s : KeeperState) (its : Standing) (w : Writing) (calls : List Call) (begun : List BegunCommit) (image : List ℕ)
       → Holds shape opened first Good was s its w calls begun → SealedStands begun w.first image → MayLeave opened calls image → IsOneInForce was s.last its w.first image → TriplesStand shape s.last.checkpoint its image → Named begun image
   named_now gates fits was s its w calls begun image holds seals left stands stand = elim (either shape opened first Good was s its w calls begun s.step holds) [
     | inl none ↦ named_last s.last its begun image none.1 (subst (λ (b : Bool). IsOneInForce b s.last its w.first image) none.0 stands) stand

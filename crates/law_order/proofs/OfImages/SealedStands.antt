@@ -5,7 +5,8 @@ use Rattle.law_commit.specs.Below.fkv_keeper.TheKeeping.{Keeping}
 use Rattle.law_commit.specs.Below.fkv_keeper.TheKeeping.TheVariants.{Ended, Starts, Maintains, LoadsPhase, Enters, Copies, Seeks, Waits, Writes, Finishes}
 use Rattle.law_commit.specs.Below.fkv_manifest.Committing.{CommitWriter}
 use Rattle.law_commit.specs.Below.fkv_manifest.Kept.{NewStands}
-use Rattle.law_commit.specs.BegunCommits.{AreFinished, AtEnd, AtKeeping, BegunCommit, HaveFinished, OneIsOpen}
+use Rattle.law_commit.specs.BegunCommits.{BegunCommit}
+use Rattle.law_commit.specs.HeldCommits.{AreFinished, AtEnd, AtKeeping, HaveFinished, OneIsOpen}
 use Rattle.law_order.proofs.OfImages.NamedNow.{SealedStands}
 
 clash : {X : Type 0} (b : Bool) → b ≡ true → b ≡ false → X

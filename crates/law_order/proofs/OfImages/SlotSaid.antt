@@ -67,52 +67,52 @@ pub few_triples : (s : Shape) (triples : ℕ) → triples ≤ most_triples s →
 few_triples s triples fit = let most = slots_few s.bucket_bits s.overflow s.limits.few_buckets s.limits.few_overflow in omega (arith, fit, most)
 
 module _ (o : Opened) (n : Now) (flushed : ℕ) (c : BegunCommit) (fits : FitsLife o n flushed c) (shape : n.shape ≡ o.shape) (held : n.keeper.lost ≡ o.lost.items) (used : n.keeper.last.checkpoint.number ≡ o.checkpoint.number) (begun : n.keeper.last.checkpoint.first ≡ o.checkpoint.first)
-    (fit : c.checkpoint.triples ≤ most_triples n.shape) (on_disk : flushed ≤ n.shape.disk_pages * n.shape.page) where
-  end_on_disk : c.end.0 ≤ n.shape.disk_pages * n.shape.page
+    (fit : c.parts.checkpoint.triples ≤ most_triples n.shape) (on_disk : flushed ≤ n.shape.disk_pages * n.shape.page) where
+  end_on_disk : c.parts.end.0 ≤ n.shape.disk_pages * n.shape.page
   end_on_disk = let a = fits.is_flushed in omega (arith, a, on_disk)
 
-  pub small_end : c.end.0 < 2 ^ 64
-  small_end = short_log n.shape c.end.0 end_on_disk
+  pub small_end : c.parts.end.0 < 2 ^ 64
+  small_end = short_log n.shape c.parts.end.0 end_on_disk
 
-  pub small_first : c.checkpoint.first.0 < 2 ^ 64
+  pub small_first : c.parts.checkpoint.first.0 < 2 ^ 64
   small_first = let a = fits.upwards in let b = small_end in omega (arith, a, b)
 
   pub small_number : c.number.0 < 2 ^ 64
   small_number = let a = fits.few in omega (arith, a)
 
-  pub small_checkpoint : c.checkpoint.number.0 < 2 ^ 64
+  pub small_checkpoint : c.parts.checkpoint.number.0 < 2 ^ 64
   small_checkpoint = let a = fits.few in let b = fits.no_newer in omega (arith, a, b)
 
-  pub small_area : area_number c.checkpoint.area < 2 ^ 64
-  small_area = let a = low_area c.checkpoint.area in omega (arith, a)
+  pub small_area : area_number c.parts.checkpoint.area < 2 ^ 64
+  small_area = let a = low_area c.parts.checkpoint.area in omega (arith, a)
 
   -- what it says, as a slot
   abbrev pub slot_read : ManifestSlot
   slot_read = record {
     number = c.number.0;
-    first = c.checkpoint.first;
-    end = c.end;
-    triples = c.checkpoint.triples;
-    area = area_number c.checkpoint.area;
+    first = c.parts.checkpoint.first;
+    end = c.parts.end;
+    triples = c.parts.checkpoint.triples;
+    area = area_number c.parts.checkpoint.area;
     points = points_in n.shape c.points;
-    checkpoint = c.checkpoint.number.0;
-    lost = lost_in c.lost;
+    checkpoint = c.parts.checkpoint.number.0;
+    lost = lost_in c.parts.lost;
     number_fits = small_number;
     first_fits = small_first;
     end_fits = small_end;
-    triples_fit = few_triples n.shape c.checkpoint.triples fit;
+    triples_fit = few_triples n.shape c.parts.checkpoint.triples fit;
     area_fits = small_area;
     checkpoint_fits = small_checkpoint;
   }
 
-  pub reads_so : said_in slot_read ≡ slot_said n.shape.sessions c.number c.end c.checkpoint c.points c.lost
+  pub reads_so : said_in slot_read ≡ slot_said n.shape.sessions c.number c.parts.end c.parts.checkpoint c.points c.parts.lost
   reads_so = refl
 
   -- its lost ranges lie in its log
-  range_in : (r : LostRange) → IsLostOpened o r → c.checkpoint ≡ n.keeper.last.checkpoint → IsLostIn slot_read r
+  range_in : (r : LostRange) → IsLostOpened o r → c.parts.checkpoint ≡ n.keeper.last.checkpoint → IsLostIn slot_read r
   range_in r is same =
-      let first : c.checkpoint.first.0 ≡ o.checkpoint.first.0 = ap (λ (x : Checkpoint). x.first.0) same ∙ ap (λ (x : Addr). x.0) begun in
-      let number : c.checkpoint.number.0 ≡ o.checkpoint.number.0 = ap (λ (x : Checkpoint). x.number.0) same ∙ ap (λ (x : Version). x.0) used in
+      let first : c.parts.checkpoint.first.0 ≡ o.checkpoint.first.0 = ap (λ (x : Checkpoint). x.first.0) same ∙ ap (λ (x : Addr). x.0) begun in
+      let number : c.parts.checkpoint.number.0 ≡ o.checkpoint.number.0 = ap (λ (x : Checkpoint). x.number.0) same ∙ ap (λ (x : Version). x.0) used in
       let a = is.some in
       let b = is.in_log in
       let d = is.after_checkpoint in
@@ -123,13 +123,13 @@ module _ (o : Opened) (n : Now) (flushed : ℕ) (c : BegunCommit) (fits : FitsLi
 
   lost_so : AreLostOpened o o.lost.items → NamesItsLost o n c → HasLost slot_read
   lost_so opened (inl none) =
-      let same : take 8 c.lost ≡ [] = ap (λ (x : List LostRange). take 8 x) none.none in
+      let same : take 8 c.parts.lost ≡ [] = ap (λ (x : List LostRange). take 8 x) none.none in
       record {
         each = subst (λ (x : List LostRange). All (IsLostIn slot_read) x) (sym same) (All-nil (IsLostIn slot_read));
         rising = subst (λ (x : List LostRange). AllPairs Follows x) (sym same) (λ i j d less low. absurd (omega (arith, low)));
       }
   lost_so opened (inr names) =
-      let same : take 8 c.lost ≡ o.lost.items = take_all 8 c.lost names.few ∙ (names.lost ∙ held) in
+      let same : take 8 c.parts.lost ≡ o.lost.items = take_all 8 c.parts.lost names.few ∙ (names.lost ∙ held) in
       record {
         each = subst (λ (x : List LostRange). All (IsLostIn slot_read) x) (sym same) (All-weaker (λ (r : LostRange). IsLostOpened o r) (IsLostIn slot_read) (λ r is. range_in r is names.checkpoint) o.lost.items opened.each);
         rising = subst (λ (x : List LostRange). AllPairs Follows x) (sym same) opened.rising;
@@ -143,7 +143,7 @@ module _ (o : Opened) (n : Now) (flushed : ℕ) (c : BegunCommit) (fits : FitsLi
   suits_so opened = record {
     number = record { few = fits.few; parity = refl };
     log = record { some = fits.some; upwards = fits.upwards; on_disk = end_on_disk };
-    checkpoint = record { few = fit; area = low_area c.checkpoint.area; own_area = λ first. absurd (third_only first); no_newer = fits.no_newer };
+    checkpoint = record { few = fit; area = low_area c.parts.checkpoint.area; own_area = λ first. absurd (third_only first); no_newer = fits.no_newer };
     sessions = many n.shape c.points;
     lost = lost_so opened fits.lost;
   }

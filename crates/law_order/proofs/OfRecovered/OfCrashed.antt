@@ -6,7 +6,8 @@ use Rattle.law_commit.specs.Below.fkv_keeper.KeeperTold.{KeeperTold}
 use Rattle.law_commit.specs.Below.fkv_keeper.TheKeeping.{Keeping}
 use Rattle.law_commit.specs.Below.fkv_keeper.TheKeeping.TheVariants.{Ended}
 use Rattle.law_opening.specs.Below.fkv_opening.TheOpened.{Opened}
-use Rattle.law_commit.specs.BegunCommits.{AreFinished, AreInTurn, AtEnd, AtKeeping, BegunCommit, HaveFinished, IsAsLast}
+use Rattle.law_commit.specs.BegunCommits.{AreInTurn, BegunCommit}
+use Rattle.law_commit.specs.HeldCommits.{AreFinished, AtEnd, AtKeeping, HaveFinished, IsAsLast}
 use Rattle.law_log.specs.Chains.{Unborn, first_such, has_key, value_at}
 use Rattle.law_log.specs.Ghosts.{shown}
 use Rattle.law_log.specs.Trace.{IsIn}

@@ -11,7 +11,7 @@ use Rattle.law_opening.specs.Below.fkv_opening.Opening as opening
 use Rattle.law_opening.specs.Below.fkv_opening.TheOpened.{Opened}
 use Rattle.law_commit.specs.Below.fkv_session.Sessions.{SessionState}
 use Rattle.law_commit.specs.Below.fkv_world.World.{Now}
-use Rattle.law_commit.specs.Accepted.{serial_at, serial_of}
+use Rattle.law_commit.specs.LastSerials.{serial_at, serial_of}
 use Rattle.law_commit.proofs.OfPoints.Taken.{none_past, point_past}
 
 -- a session's point, as the store says it

@@ -39,16 +39,16 @@ HasComeToItsEnd o n bytes events c = HasEnded (beginning n bytes) events (span_o
 
 -- from its end on each record is of a later version, one that was given up too
 abbrev pub IsLaterFromEnd : Opened → Now → List ℕ → List Event → BegunCommit → Type 0
-IsLaterFromEnd o n bytes events c = CellsFrom c.end.0 (c.number.0 + 1) (log_beside o n bytes events)
+IsLaterFromEnd o n bytes events c = CellsFrom c.parts.end.0 (c.number.0 + 1) (log_beside o n bytes events)
 
 -- below its end none is of a version past the next one
 abbrev pub IsYoungBelowEnd : Opened → Now → List ℕ → List Event → BegunCommit → Type 0
-IsYoungBelowEnd o n bytes events c = CellsBelow c.end.0 (c.number.0 + 1) (log_beside o n bytes events)
+IsYoungBelowEnd o n bytes events c = CellsBelow c.parts.end.0 (c.number.0 + 1) (log_beside o n bytes events)
 
 -- The image names the number and the end of a commit.
 pub record NamesEnd (image : scan.Log) (c : BegunCommit) : Type 0 where
   pub version : image.version ≡ c.number.0
-  pub tail : image.tail ≡ c.end.0
+  pub tail : image.tail ≡ c.parts.end.0
 
 -- then the commit cuts the log, and from the opened tail on all is decided below its end
 abbrev pub CutsItsLog : Opened → Now → List ℕ → List Event → BegunCommit → Type 0
@@ -61,14 +61,14 @@ DecidesItsLog o n bytes events c = (image : scan.Log) → NamesEnd image c → (
 abbrev pub EndsRise : Type 0
 EndsRise =
     (bytes : List ℕ) (o : Opened) (n : Now) (events : List Event) (older newer : BegunCommit) → IsStoreOf bytes o → IsOpeningWorld o n → IsIn older (life_begun (beginning n bytes) events) → IsIn newer (life_begun (beginning n bytes) events)
-    → older.number.0 < newer.number.0 → older.end.0 ≤ newer.end.0
+    → older.number.0 < newer.number.0 → older.parts.end.0 ≤ newer.parts.end.0
 
 -- ---- a checkpoint of this life
 -- The scan starts at the commit's first address, and the image is of its version or a later one.
 pub record StartsAt (image : scan.Log) (c : BegunCommit) : Type 0 where
-  pub start : image.start ≡ c.first.0
+  pub start : image.start ≡ c.parts.first.0
   pub version : c.number.0 ≤ image.version
-  pub tail : c.end.0 ≤ image.tail
+  pub tail : c.parts.end.0 ≤ image.tail
 
 -- what is published below that address is of no later version
 abbrev pub IsOldBelow : Opened → Now → List ℕ → List Event → BegunCommit → Type 0
@@ -79,11 +79,11 @@ IsOldBelow o n bytes events c =
 -- they cover the chains.
 pub record WritesCover (o : Opened) (n : Now) (bytes : List ℕ) (events : List Event) (c : BegunCommit) : Type 0 where
   pub triples : List Triple
-  pub spelled : flat_map triple_bytes triples ≡ c.triples
+  pub spelled : flat_map triple_bytes triples ≡ c.parts.triples
   pub in_index : (i : ℕ) (x : Triple) → slice_get triples i ≡ Some x → x.bucket < 2 ^ n.shape.bucket_bits
-  pub below : scan.AreBelow c.end.0 triples
+  pub below : scan.AreBelow c.parts.end.0 triples
   pub apart : scan.AreApart triples
   pub covers : (image : scan.Log) → image.triples ≡ triples → StartsAt image c → CoversChains image (log_beside o n bytes events)
 
 abbrev pub CoversItsChains : Opened → Now → List ℕ → List Event → BegunCommit → Type 0
-CoversItsChains o n bytes events c = c.kind ≡ Full → WritesCover o n bytes events c ⊎ IsOpenings n bytes c
+CoversItsChains o n bytes events c = c.parts.kind ≡ Full → WritesCover o n bytes events c ⊎ IsOpenings n bytes c

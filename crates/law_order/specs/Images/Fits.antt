@@ -15,14 +15,14 @@ use Rattle.law_log.specs.Trace.{IsIn}
 
 -- It names the lost ranges with which the store was opened, all of them, and uses the checkpoint of then.
 pub record NamesLost (n : Now) (c : BegunCommit) : Type 0 where
-  pub lost : c.lost ≡ n.keeper.lost
-  pub checkpoint : c.checkpoint ≡ n.keeper.last.checkpoint
-  pub few : length c.lost ≤ max_lost
+  pub lost : c.parts.lost ≡ n.keeper.lost
+  pub checkpoint : c.parts.checkpoint ≡ n.keeper.last.checkpoint
+  pub few : length c.parts.lost ≤ max_lost
 
 -- It names no lost range, and uses a checkpoint that is newer than the opening's commit.
 pub record NamesNone (o : Opened) (c : BegunCommit) : Type 0 where
-  pub none : c.lost ≡ []
-  pub newer : o.number.0 < c.checkpoint.number.0
+  pub none : c.parts.lost ≡ []
+  pub newer : o.number.0 < c.parts.checkpoint.number.0
 
 -- It uses the checkpoint of then and names all those, or a newer one and names none.
 abbrev pub NamesItsLost : Opened → Now → BegunCommit → Type 0
@@ -34,14 +34,14 @@ NamesItsLost o n c = NamesNone o c ⊎ NamesLost n c
 pub record FitsLife (o : Opened) (n : Now) (flushed : ℕ) (c : BegunCommit) : Type 0 where
   pub few : c.number.0 < last_version
   pub newer : o.number.0 < c.number.0
-  pub no_newer : c.checkpoint.number.0 ≤ c.number.0
-  pub some : 1 ≤ c.checkpoint.first.0
-  pub upwards : c.checkpoint.first.0 ≤ c.end.0
-  pub later : o.tail.0 ≤ c.end.0
-  pub is_flushed : c.end.0 ≤ flushed
-  pub room : c.kind ≡ Full → c.checkpoint.triples ≤ most_triples n.shape
+  pub no_newer : c.parts.checkpoint.number.0 ≤ c.number.0
+  pub some : 1 ≤ c.parts.checkpoint.first.0
+  pub upwards : c.parts.checkpoint.first.0 ≤ c.parts.end.0
+  pub later : o.tail.0 ≤ c.parts.end.0
+  pub is_flushed : c.parts.end.0 ≤ flushed
+  pub room : c.parts.kind ≡ Full → c.parts.checkpoint.triples ≤ most_triples n.shape
   pub lost : NamesItsLost o n c
-  pub as_opened : c.checkpoint ≡ n.keeper.last.checkpoint → c.lost ≡ n.keeper.lost
+  pub as_opened : c.parts.checkpoint ≡ n.keeper.last.checkpoint → c.parts.lost ≡ n.keeper.lost
 
 -- so does each that has begun, but the opening's
 abbrev pub AllFit : Opened → Now → List ℕ → List Event → Type 0

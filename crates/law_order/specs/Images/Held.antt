@@ -28,4 +28,4 @@ pub record SuitSlot (n : Newest) (triples : List Triple) : Type 0 where
 pub record HoldsTriples (o : Opened) (n : Now) (bytes : List ℕ) (events : List Event) (store : IsStoreOf bytes o) (image : List ℕ) : Type 0 where
   pub read : ReadsBack o n bytes events store image
   pub held : (let r = read in let names = r.names in let named = names.named in let c = named.commit in
-      ((d : BegunCommit) × IsIn d (begun_so_far n bytes events) × IsMadeBy d c.checkpoint (area_bytes image r.newest)) ⊎ HasCheckpoint image r.newest store.triples)
+      ((d : BegunCommit) × IsIn d (begun_so_far n bytes events) × IsMadeBy d c.parts.checkpoint (area_bytes image r.newest)) ⊎ HasCheckpoint image r.newest store.triples)

@@ -20,6 +20,6 @@ LosesNoneFrom from lost = (a : ℕ) (x : Record) → from ≤ a → losses lost 
 -- A commit's slot loses none of its life's records. If the commit uses the checkpoint with which the store was opened, it loses just what the opening left out.
 -- Else its checkpoint is newer than the opening's commit, and it loses nothing.
 pub record LosesAsOpened (o : Opened) (n : Now) (bytes : List ℕ) (store : IsStoreOf bytes o) (c : BegunCommit) : Type 0 where
-  pub none : LosesNoneFrom o.tail.0 (lost_written c.lost)
-  pub rest : c.checkpoint ≡ n.keeper.last.checkpoint → LosesTheRest (lost_written c.lost) (log_of_store bytes o store) (opening_log bytes o)
-  pub uses : (c.checkpoint ≡ n.keeper.last.checkpoint) ⊎ NamesNone o c
+  pub none : LosesNoneFrom o.tail.0 (lost_written c.parts.lost)
+  pub rest : c.parts.checkpoint ≡ n.keeper.last.checkpoint → LosesTheRest (lost_written c.parts.lost) (log_of_store bytes o store) (opening_log bytes o)
+  pub uses : (c.parts.checkpoint ≡ n.keeper.last.checkpoint) ⊎ NamesNone o c

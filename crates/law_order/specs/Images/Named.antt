@@ -19,7 +19,7 @@ begun_so_far n bytes events = life_begun (beginning n bytes) events
 
 -- the slot of a commit, as the keeper writes it
 abbrev pub slot_of : Shape → BegunCommit → List ℕ
-slot_of shape c = slot_written shape.sessions c.number c.end c.checkpoint c.points c.lost
+slot_of shape c = slot_written shape.sessions c.number c.parts.end c.parts.checkpoint c.points c.parts.lost
 
 -- these are the bytes of its slot: as they are written, or as the store was opened with them
 abbrev pub AreSlotOf : Shape → List ℕ → BegunCommit → BegunCommit → List ℕ → Type 0
@@ -27,15 +27,15 @@ AreSlotOf shape opened first c bytes = (bytes ≡ slot_of shape c) ⊎ ((c ≡ f
 
 -- a full commit has made this checkpoint, with its own number and first address, and these are the triples that it wrote
 pub record IsMadeBy (c : BegunCommit) (its : Checkpoint) (stored : List ℕ) : Type 0 where
-  pub full : c.kind ≡ Full
-  pub own : c.checkpoint.number ≡ c.number
-  pub first : c.checkpoint.first ≡ c.first
-  pub checkpoint : c.checkpoint ≡ its
-  pub triples : c.triples ≡ stored
+  pub full : c.parts.kind ≡ Full
+  pub own : c.parts.checkpoint.number ≡ c.number
+  pub first : c.parts.checkpoint.first ≡ c.parts.first
+  pub checkpoint : c.parts.checkpoint ≡ its
+  pub triples : c.parts.triples ≡ stored
 
 -- one of these commits has made it, or the store was opened with it
 abbrev pub AreTriplesOf : Shape → List ℕ → BegunCommit → List BegunCommit → Checkpoint → List ℕ → Type 0
-AreTriplesOf shape opened first begun its triples = ((c : BegunCommit) × IsIn c begun × IsMadeBy c its triples) ⊎ ((its ≡ first.checkpoint) × (triples ≡ triples_in shape opened its))
+AreTriplesOf shape opened first begun its triples = ((c : BegunCommit) × IsIn c begun × IsMadeBy c its triples) ⊎ ((its ≡ first.parts.checkpoint) × (triples ≡ triples_in shape opened its))
 
 -- The newest slot of an image is that of a commit that has begun. No finished commit is newer, nor one whose open gate is synced. The triples of the checkpoint
 -- that it uses stand, and the image reaches behind them.
@@ -46,6 +46,6 @@ pub record NamesBegun (n : Now) (bytes : List ℕ) (events : List Event) (image 
   pub sealed : (d : BegunCommit) → IsIn d (begun_so_far n bytes events) → d.is_sealed ≡ true → (let c = commit in d.number.0 ≤ c.number.0)
   pub in_force : (let c = commit in newest image ≡ Some (slot_place c.number))
   pub slot : (let c = commit in AreSlotOf n.shape bytes (commit_opened n bytes) c (slot_in image (slot_place c.number)))
-  pub triples : (let c = commit in AreTriplesOf n.shape bytes (commit_opened n bytes) (begun_so_far n bytes events) c.checkpoint (triples_in n.shape image c.checkpoint))
-  pub fit : (let c = commit in c.checkpoint.triples ≤ most_triples n.shape)
-  pub behind : (let c = commit in IsBehind n.shape c.checkpoint (length image))
+  pub triples : (let c = commit in AreTriplesOf n.shape bytes (commit_opened n bytes) (begun_so_far n bytes events) c.parts.checkpoint (triples_in n.shape image c.parts.checkpoint))
+  pub fit : (let c = commit in c.parts.checkpoint.triples ≤ most_triples n.shape)
+  pub behind : (let c = commit in IsBehind n.shape c.parts.checkpoint (length image))

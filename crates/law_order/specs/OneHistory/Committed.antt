@@ -12,7 +12,7 @@ use Rattle.fkv_map.specs.declared.operations.Reply.TheVariants.{Nothing, Number}
 use Rattle.fkv_record.specs.Points.{serial_numbers}
 use Rattle.law_commit.specs.Below.fkv_session.Sessions.{SessionState}
 use Rattle.law_commit.specs.Below.fkv_world.World.{Event, Calls, Moves, Commits, Turns, KeeperMoves, Now}
-use Rattle.law_commit.specs.BegunCommits.{kind_opened}
+use Rattle.law_commit.specs.CommitParts.{kind_opened}
 use Rattle.law_log.specs.Trace.{Effect}
 use Rattle.law_log.specs.Worked.{adds_5, entry_of, gives_70}
 use Rattle.law_order.specs.OneHistory.EachLife.{Life}

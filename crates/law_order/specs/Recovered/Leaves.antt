@@ -38,7 +38,7 @@ pub record NamesNew (o : Opened) (n : Now) (bytes : List ℕ) (events : List Eve
   pub its : IsNewestOf image newest
   pub shape : (let is = newest in is.shape ≡ n.shape)
   pub says : SaysCommit o n (flushed_so_far n bytes events) commit newest
-  pub made : (let c = commit in AreTriplesOf n.shape bytes (commit_opened n bytes) (begun_so_far n bytes events) c.checkpoint (triples_in n.shape image c.checkpoint))
+  pub made : (let c = commit in AreTriplesOf n.shape bytes (commit_opened n bytes) (begun_so_far n bytes events) c.parts.checkpoint (triples_in n.shape image c.parts.checkpoint))
 
 -- ---- what is said of an image that a life leaves, and of one that names a commit of its life
 abbrev pub SaidOfLeft : Type 1

@@ -23,12 +23,12 @@ ShowsItsLog o n bytes events image leaves names = (triples : List Triple) → Sh
 
 -- If its checkpoint is newer than the opening's commit, the scan begins at or above the opened tail.
 abbrev pub StartsAbove : SaidOfNamed
-StartsAbove o n bytes events image leaves names = (let c = names.commit in o.number.0 < c.checkpoint.number.0) → (triples : List Triple) → (let log = log_named names triples in o.tail.0 ≤ log.start)
+StartsAbove o n bytes events image leaves names = (let c = names.commit in o.number.0 < c.parts.checkpoint.number.0) → (triples : List Triple) → (let log = log_named names triples in o.tail.0 ≤ log.start)
 
 -- ---- the checkpoint's part
 -- The commit uses a checkpoint that this life has made. Its triples are read back, and cover the chains.
 pub record UsesNew (o : Opened) (n : Now) (bytes : List ℕ) (events : List Event) (image : List ℕ) (names : NamesNew o n bytes events image) : Type 0 where
-  pub newer : (let c = names.commit in o.number.0 < c.checkpoint.number.0)
+  pub newer : (let c = names.commit in o.number.0 < c.parts.checkpoint.number.0)
   pub triples : List Triple
   pub checkpoint : HasCheckpoint image names.newest triples
   pub covers : CoversChains (log_named names triples) (log_beside o n bytes events)
@@ -50,5 +50,5 @@ UsesItsCheckpoint o n bytes events image leaves names = UsesNew o n bytes events
 -- If the image names a commit that uses the checkpoint with which the store was opened, its triples are those of then.
 abbrev pub KeepsCheckpoint : SaidOfLeft
 KeepsCheckpoint o n bytes events image leaves =
-    (read : ReadsBack o n bytes events leaves.store image) → (let names = read.names in let named = names.named in let c = named.commit in c.checkpoint ≡ n.keeper.last.checkpoint)
+    (read : ReadsBack o n bytes events leaves.store image) → (let names = read.names in let named = names.named in let c = named.commit in c.parts.checkpoint ≡ n.keeper.last.checkpoint)
     → (let store = leaves.store in HasCheckpoint image read.newest store.triples)

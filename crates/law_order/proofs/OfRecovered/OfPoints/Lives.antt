@@ -20,7 +20,8 @@ use Rattle.law_commit.specs.Below.fkv_world.Past as world
 use Rattle.law_commit.specs.Below.fkv_world.Runs.{World, happens, run}
 use Rattle.law_commit.specs.Below.fkv_world.World.{Event, seat_at}
 use Rattle.law_commit.proofs.Below.fkv_world.Shown.{session_runs}
-use Rattle.law_commit.specs.Accepted.{point, serial_at, serial_of, versions_found}
+use Rattle.law_commit.specs.Accepted.{point, versions_found}
+use Rattle.law_commit.specs.LastSerials.{serial_at, serial_of}
 use Rattle.law_commit.specs.BegunCommits.{BegunCommit, life_begun}
 use Rattle.law_commit.specs.Points.{BegunHavePoints, OpensPointed, RisesByVersion, UpToGiven}
 use Rattle.law_commit.specs.Quiet.{BegunHaveFlushed, HasNoneUpto, NoneIsLeft, PointsAlwaysSplit, pending_rank, rank_now}

@@ -10,7 +10,8 @@ use Rattle.law_commit.specs.Below.fkv_world.OwnEvents.{session_events}
 use Rattle.law_commit.specs.Below.fkv_world.Past.{Effect}
 use Rattle.law_commit.specs.Below.fkv_world.Runs.{World, run}
 use Rattle.law_commit.specs.Below.fkv_world.World.{Event, seat_at}
-use Rattle.law_commit.specs.Accepted.{HasRisingVersion, NeverFall, count_upto, point, serial_at, serial_of, versions_accepted, versions_found, versions_of}
+use Rattle.law_commit.specs.Accepted.{HasRisingVersion, NeverFall, count_upto, point, versions_accepted, versions_found, versions_of}
+use Rattle.law_commit.specs.LastSerials.{serial_at, serial_of}
 use Rattle.law_commit.specs.Quiet.{HasNoneUpto, OpensQuiet}
 use Rattle.law_commit.specs.Versions.Effects.{HasEffectsOfItsVersions}
 use Rattle.law_commit.proofs.OfPhases.LifeStages.{first_version, rising_version}

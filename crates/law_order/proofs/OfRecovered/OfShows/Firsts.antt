@@ -24,7 +24,7 @@ unfolding run
 tail_since opening start moment opened = (life_rises opening start [] moment opened).tail
 
 -- and the first address was the tail at a moment
-pub first_above : (opening : World) (start : ℕ) (events : List Event) (c : BegunCommit) → guard.IsOpened opening.now start → HasEnded opening events (span_of c) → tail_at opening.now ≤ c.first.0
+pub first_above : (opening : World) (start : ℕ) (events : List Event) (c : BegunCommit) → guard.IsOpened opening.now start → HasEnded opening events (span_of c) → tail_at opening.now ≤ c.parts.first.0
 first_above opening start events c opened ended =
     let first = ended.first in
     let was = first.was in

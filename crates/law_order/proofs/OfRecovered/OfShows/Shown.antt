@@ -51,8 +51,8 @@ newer_commit o n bytes c begins newer same =
 abbrev DecidesTo : Opened → Now → List ℕ → List Event → scan.Log → Type 0
 DecidesTo o n bytes events image = (a : ℕ) → o.tail.0 ≤ a → a < image.tail → IsDecided ((let log = log_beside o n bytes events in log.cells) a)
 
-pub shows_log : (o : Opened) (n : Now) (bytes : List ℕ) (events : List Event) (image : scan.Log) (c : BegunCommit) → image.shape ≡ n.shape → NamesEnd image c → image.lost ≡ lost_written c.lost → FitsLife o n (flushed_so_far n bytes events) c
-    → ShowsFlushed o n bytes events image → DecidesTo o n bytes events image → CellsBelow c.end.0 (c.number.0 + 1) (log_beside o n bytes events) → LosesNoneFrom o.tail.0 (lost_written c.lost)
+pub shows_log : (o : Opened) (n : Now) (bytes : List ℕ) (events : List Event) (image : scan.Log) (c : BegunCommit) → image.shape ≡ n.shape → NamesEnd image c → image.lost ≡ lost_written c.parts.lost → FitsLife o n (flushed_so_far n bytes events) c
+    → ShowsFlushed o n bytes events image → DecidesTo o n bytes events image → CellsBelow c.parts.end.0 (c.number.0 + 1) (log_beside o n bytes events) → LosesNoneFrom o.tail.0 (lost_written c.parts.lost)
     → ShowsLog (home_in n.shape.bucket_bits) o.tail.0 image (log_beside o n bytes events)
 shows_log o n bytes events image c shape names lost fits shows decides young none =
     let end = names.tail in

@@ -29,10 +29,10 @@ use Rattle.law_commit.specs.Below.law_world.Standing.Standing.{triples_in}
 
 -- a newer commit ends no lower
 abbrev pub EndRises : List BegunCommit → Type 0
-EndRises begun = (older newer : BegunCommit) → IsIn older begun → IsIn newer begun → older.number.0 < newer.number.0 → older.end.0 ≤ newer.end.0
+EndRises begun = (older newer : BegunCommit) → IsIn older begun → IsIn newer begun → older.number.0 < newer.number.0 → older.parts.end.0 ≤ newer.parts.end.0
 
 module _ (o : Opened) (n : Now) (bytes : List ℕ) (events : List Event) (image : List ℕ) (names : NamesNew o n bytes events image) (begins : IsOpeningWorld o n) (none : NamesNone o names.commit)
-    (d : BegunCommit) (is : IsIn d (begun_so_far n bytes events)) (made : (let c = names.commit in IsMadeBy d c.checkpoint (triples_in n.shape image c.checkpoint))) where
+    (d : BegunCommit) (is : IsIn d (begun_so_far n bytes events)) (made : (let c = names.commit in IsMadeBy d c.parts.checkpoint (triples_in n.shape image c.parts.checkpoint))) where
   abbrev c : BegunCommit
   c = names.commit
 
@@ -42,7 +42,7 @@ module _ (o : Opened) (n : Now) (bytes : List ℕ) (events : List Event) (image 
   abbrev slot : ManifestSlot
   slot = (let found = names.newest in found.slot)
 
-  number : d.number.0 ≡ c.checkpoint.number.0
+  number : d.number.0 ≡ c.parts.checkpoint.number.0
   number = sym (ap (λ (v : Version). v.0) made.own) ∙ ap (λ (x : Checkpoint). x.number.0) made.checkpoint
 
   not_opened : IsOpenings n bytes d → ⊥
@@ -62,10 +62,10 @@ module _ (o : Opened) (n : Now) (bytes : List ℕ) (events : List Event) (image 
       omega (arith, most, its)
 
   module _ (turn : AreInTurn (begun_so_far n bytes events)) (rises : EndRises (begun_so_far n bytes events)) where
-    end_below : d.end.0 ≤ slot.end.0
+    end_below : d.parts.end.0 ≤ slot.end.0
     end_below =
         let says = names.says in
-        let end : slot.end.0 ≡ c.end.0 = ap (λ (x : SlotSaid). x.end.0) says.said in
+        let end : slot.end.0 ≡ c.parts.end.0 = ap (λ (x : SlotSaid). x.end.0) says.said in
         let low = ends_by (begun_so_far n bytes events) c d turn rises names.begun is not_newer in
         omega (arith, end, low)
 

@@ -30,12 +30,12 @@ one_number (e ∷ before) c d turn (inr is) (inl other) same =
 one_number (e ∷ before) c d turn (inr is) (inr also) same = one_number before c d turn.1 is also same
 
 pub ends_by : (begun : List BegunCommit) (c d : BegunCommit) → AreInTurn begun
-    → ((older newer : BegunCommit) → IsIn older begun → IsIn newer begun → older.number.0 < newer.number.0 → older.end.0 ≤ newer.end.0)
-    → IsIn c begun → IsIn d begun → d.number.0 ≤ c.number.0 → d.end.0 ≤ c.end.0
+    → ((older newer : BegunCommit) → IsIn older begun → IsIn newer begun → older.number.0 < newer.number.0 → older.parts.end.0 ≤ newer.parts.end.0)
+    → IsIn c begun → IsIn d begun → d.number.0 ≤ c.number.0 → d.parts.end.0 ≤ c.parts.end.0
 ends_by begun c d turn rises is also most = elim (cases_lt d.number.0 c.number.0) [
   | inl less ↦ rises d c also is less
   | inr more ↦
       let same = one_number begun c d turn is also (omega (arith, most, more)) in
-      let end : c.end.0 ≡ d.end.0 = ap (λ (x : BegunCommit). x.end.0) same in
+      let end : c.parts.end.0 ≡ d.parts.end.0 = ap (λ (x : BegunCommit). x.parts.end.0) same in
       omega (arith, end)
 ]

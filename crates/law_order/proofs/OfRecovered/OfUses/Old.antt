@@ -40,7 +40,7 @@ was_sound bytes o store =
       upwards = suits.log.upwards;
     }
 
-module _ (o : Opened) (n : Now) (bytes : List ℕ) (events : List Event) (image : List ℕ) (leaves : Leaves o n bytes events image) (names : NamesNew o n bytes events image) (used : (let c = names.commit in c.checkpoint ≡ n.keeper.last.checkpoint)) where
+module _ (o : Opened) (n : Now) (bytes : List ℕ) (events : List Event) (image : List ℕ) (leaves : Leaves o n bytes events image) (names : NamesNew o n bytes events image) (used : (let c = names.commit in c.parts.checkpoint ≡ n.keeper.last.checkpoint)) where
   abbrev store : IsStoreOf bytes o
   store = leaves.store
 
@@ -82,7 +82,7 @@ module _ (o : Opened) (n : Now) (bytes : List ℕ) (events : List Event) (image 
       let says = names.says in
       let fits = says.fits in
       let tail : o.tail.0 ≡ old.end.0 = ap (λ (x : Addr). x.0) store.tells.tail in
-      let end : slot.end.0 ≡ c.end.0 = ap (λ (x : SlotSaid). x.end.0) says.said in
+      let end : slot.end.0 ≡ c.parts.end.0 = ap (λ (x : SlotSaid). x.end.0) says.said in
       let number : slot.number ≡ c.number.0 = ap (λ (x : SlotSaid). x.number) says.said in
       let then = store.tells.number in
       let later = fits.later in
@@ -97,10 +97,10 @@ module _ (o : Opened) (n : Now) (bytes : List ℕ) (events : List Event) (image 
       }
 
   pub uses_old : KeepsOld o bytes image → HasCheckpoint image newest store.triples → HasWhatCounted (log_of_store bytes o store) (log_beside o n bytes events)
-      → LosesTheRest (lost_written c.lost) (log_of_store bytes o store) (log_beside o n bytes events) → UsesOld o n bytes events image leaves names
+      → LosesTheRest (lost_written c.parts.lost) (log_of_store bytes o store) (log_beside o n bytes events) → UsesOld o n bytes events image leaves names
   uses_old keeps checkpoint before loses =
       let says = names.says in
-      let lost : slot.lost.ranges.items ≡ lost_written c.lost = ap (λ (x : SlotSaid). x.lost) says.said in
+      let lost : slot.lost.ranges.items ≡ lost_written c.parts.lost = ap (λ (x : SlotSaid). x.lost) says.said in
       record {
         checkpoint = checkpoint;
         goes_on = goes_on keeps;

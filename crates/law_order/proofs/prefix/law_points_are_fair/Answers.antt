@@ -3,7 +3,7 @@ use Rattle.std.proofs.Common.{ℕ, ◌≤◌, List, [], ◌∷◌, sym, subst}
 use Rattle.law_opening.specs.Below.fkv_core.Openings.{beginning}
 use Rattle.law_commit.specs.Below.fkv_world.Runs.{World, run}
 use Rattle.law_commit.specs.Below.fkv_world.World.{Now}
-use Rattle.law_commit.specs.Accepted.{serial_at}
+use Rattle.law_commit.specs.LastSerials.{serial_at}
 use Rattle.law_commit.specs.BegunCommits.{BegunCommit, life_begun}
 use Rattle.law_commit.specs.Points.{BeginsAsTaken, OpensPointed}
 use Rattle.law_commit.specs.PrefixPast.{serials_asked}

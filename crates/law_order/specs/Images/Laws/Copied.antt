@@ -14,10 +14,10 @@ use Rattle.law_opening.specs.Lives.Reaching.{ReachesFar}
 -- each full commit that a life has begun has written its copy
 abbrev pub CommitsWriteTheirCopy : Type 0
 CommitsWriteTheirCopy =
-    (o : Opened) (n : Now) (bytes : List ℕ) (events : List Event) (c : BegunCommit) → IsStoreOf bytes o → IsOpeningWorld o n → ReachesFar bytes → IsIn c (begun_so_far n bytes events) → c.kind ≡ Full
+    (o : Opened) (n : Now) (bytes : List ℕ) (events : List Event) (c : BegunCommit) → IsStoreOf bytes o → IsOpeningWorld o n → ReachesFar bytes → IsIn c (begun_so_far n bytes events) → c.parts.kind ≡ Full
     → WritesItsCopy (beginning n bytes) events c ⊎ (c ≡ commit_opened n bytes)
 
 -- so its triples are of homes that are apart
 abbrev pub CommitsSpellTriples : Type 0
 CommitsSpellTriples =
-    (o : Opened) (n : Now) (bytes : List ℕ) (events : List Event) (c : BegunCommit) → IsStoreOf bytes o → IsOpeningWorld o n → ReachesFar bytes → IsIn c (begun_so_far n bytes events) → c.kind ≡ Full → SpellsTriples n.shape.bucket_bits c ⊎ (c ≡ commit_opened n bytes)
+    (o : Opened) (n : Now) (bytes : List ℕ) (events : List Event) (c : BegunCommit) → IsStoreOf bytes o → IsOpeningWorld o n → ReachesFar bytes → IsIn c (begun_so_far n bytes events) → c.parts.kind ≡ Full → SpellsTriples n.shape.bucket_bits c ⊎ (c ≡ commit_opened n bytes)

@@ -36,7 +36,7 @@ returns-clause-held c = λ o n bytes events image store begins long left.
     let slot : ManifestSlot = (let found = r.newest in found.slot) in
     let area : NamesArea it r.newest = elim r.says [
       | inl says ↦ said_area o n (flushed_so_far n bytes events) it r.newest says
-      | inr old ↦ opened_area o n bytes store it r.newest begins (ap (λ (x : BegunCommit). x.checkpoint) old.is) old.slot
+      | inr old ↦ opened_area o n bytes store it r.newest begins (ap (λ (x : BegunCommit). x.parts.checkpoint) old.is) old.slot
     ] in
     let later : o.tail.0 ≤ slot.end.0 = elim r.says [
       | inl says ↦ let fits = says.fits in let low = fits.later in let end = ap (λ x. x.end.0) says.said in omega (arith, low, end)

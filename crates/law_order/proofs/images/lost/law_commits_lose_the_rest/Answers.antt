@@ -38,19 +38,19 @@ none_lost a x (r ∷ ranges) low =
     let both = sum_by-cons (λ (s : LostRange). one_if (is_in a x s)) r ranges in
     omega (arith, both, here, rest)
 
-all_lost : (o : Opened) (n : Now) (c : BegunCommit) → IsOpeningWorld o n → NamesLost n c → lost_written c.lost ≡ o.lost.items
-all_lost o n c begins names = take_all 8 c.lost names.few ∙ (names.lost ∙ begins.its_keeper.in_hand)
+all_lost : (o : Opened) (n : Now) (c : BegunCommit) → IsOpeningWorld o n → NamesLost n c → lost_written c.parts.lost ≡ o.lost.items
+all_lost o n c begins names = take_all 8 c.parts.lost names.few ∙ (names.lost ∙ begins.its_keeper.in_hand)
 
 by_lost : (o : Opened) (n : Now) (bytes : List ℕ) (store : IsStoreOf bytes o) (c : BegunCommit) → IsOpeningWorld o n → LosesTheRest o.lost.items (log_of_store bytes o store) (opening_log bytes o) → NamesItsLost o n c → LosesAsOpened o n bytes store c
 by_lost o n bytes store c begins rest (inl none) =
-    let same : lost_written c.lost ≡ [] = ap (λ (x : List LostRange). take 8 x) none.none in
+    let same : lost_written c.parts.lost ≡ [] = ap (λ (x : List LostRange). take 8 x) none.none in
     record {
       none = subst (λ (x : List LostRange). LosesNoneFrom o.tail.0 x) (sym same) (λ a x from. none_lost a x [] (λ k d low. absurd (omega (arith, low))));
       rest = λ used. subst (λ (x : List LostRange). LosesTheRest x (log_of_store bytes o store) (opening_log bytes o)) (sym (all_lost o n c begins (lost_as_opened o n c (opened_older o n begins) (inl none) used))) rest;
       uses = inr none;
     }
 by_lost o n bytes store c begins rest (inr names) =
-    let same : lost_written c.lost ≡ o.lost.items = all_lost o n c begins names in
+    let same : lost_written c.parts.lost ≡ o.lost.items = all_lost o n c begins names in
     let opened = opened_lost bytes o store in
     record {
       none = subst (λ (x : List LostRange). LosesNoneFrom o.tail.0 x) (sym same) (λ a x from. none_lost a x o.lost.items

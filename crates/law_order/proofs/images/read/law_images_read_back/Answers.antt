@@ -91,10 +91,10 @@ returns-clause-far c = λ o n bytes events image store begins long left.
     let slot : ManifestSlot = (let found = r.newest in found.slot) in
     elim r.says [
       | inl says ↦
-          let behind : IsBehind n.shape it.checkpoint (length image) = named.behind in
-          let end : slot.end.0 ≡ it.end.0 = ap (λ x. x.end.0) says.said in
-          let triples : slot.triples ≡ it.checkpoint.triples = ap (λ x. x.triples) says.said in
-          let area : slot.area ≡ area_number it.checkpoint.area = ap (λ x. x.area) says.said in
+          let behind : IsBehind n.shape it.parts.checkpoint (length image) = named.behind in
+          let end : slot.end.0 ≡ it.parts.end.0 = ap (λ x. x.end.0) says.said in
+          let triples : slot.triples ≡ it.parts.checkpoint.triples = ap (λ x. x.triples) says.said in
+          let area : slot.area ≡ area_number it.parts.checkpoint.area = ap (λ x. x.area) says.said in
           let fits = says.fits in
           let low = fits.is_flushed in
           let its : IsLong image n.shape slot = record {
@@ -102,8 +102,8 @@ returns-clause-far c = λ o n bytes events image store begins long left.
             records = λ some. subst (λ (s : Shape). record_place s (slot.end.0 - 1) + 24 ≤ length image) (sym begins.its_shape)
                 (c.law_images_are_long.ensures.records o n bytes events image slot.end.0 store begins long left some (omega (arith, end, low)));
             triples = λ some. subst (λ (m : ℕ). area_place n.shape slot.area + 16 * m ≤ length image) (sym triples)
-                (subst (λ (a : ℕ). area_place n.shape a + 16 * it.checkpoint.triples ≤ length image) (sym area)
-                (triples_end (area_place n.shape (area_number it.checkpoint.area)) it.checkpoint.triples (length image) behind.triples (omega (arith, some, triples))));
+                (subst (λ (a : ℕ). area_place n.shape a + 16 * it.parts.checkpoint.triples ≤ length image) (sym area)
+                (triples_end (area_place n.shape (area_number it.parts.checkpoint.area)) it.parts.checkpoint.triples (length image) behind.triples (omega (arith, some, triples))));
           } in
           record { newest = r.newest; its = r.its; long = subst (λ (s : Shape). IsLong image s slot) (sym r.shape) its }
       | inr old ↦

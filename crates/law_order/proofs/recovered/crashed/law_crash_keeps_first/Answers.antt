@@ -10,7 +10,8 @@ use Rattle.fkv_map.specs.declared.history.HistoryEntry.{HistoryEntry}
 use Rattle.fkv_map.proofs.Shown.{kept_by_same_points}
 use Rattle.law_opening.specs.Below.fkv_opening.TheOpened.{Opened}
 use Rattle.law_commit.specs.Below.fkv_world.World.{Event, Now}
-use Rattle.law_commit.specs.BegunCommits.{BegunCommit, HaveFinished, IsAsLast}
+use Rattle.law_commit.specs.BegunCommits.{BegunCommit}
+use Rattle.law_commit.specs.HeldCommits.{HaveFinished, IsAsLast}
 use Rattle.law_log.specs.Trace.{Effect, history_of}
 use Rattle.law_opening.specs.Log.Maps.{opening_map}
 use Rattle.law_opening.specs.Lives.Reaching.{ReachesFar}

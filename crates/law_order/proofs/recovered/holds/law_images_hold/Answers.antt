@@ -55,7 +55,7 @@ returns c = λ o n bytes events image leaves.
           let number = ap (λ (s : ManifestSlot). s.number) old.slot ∙ sym store.tells.number in
           let opened = ap (λ (x : BegunCommit). x.number.0) old.is ∙ ap (λ (x : Finality). x.number.0) last in
           let kept : HasCheckpoint image (newest_in image store.newest) store.triples = subst (λ (x : Newest). HasCheckpoint image x store.triples) old.was
-          (c.law_images_keep_checkpoint.ensures o n bytes events image leaves read (ap (λ (x : BegunCommit). x.checkpoint) old.is)) in
+          (c.law_images_keep_checkpoint.ensures o n bytes events image leaves read (ap (λ (x : BegunCommit). x.parts.checkpoint) old.is)) in
           record {
             named = named;
             newest = read.newest;

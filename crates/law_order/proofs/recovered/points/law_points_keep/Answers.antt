@@ -7,7 +7,7 @@ use Rattle.law_commit.specs.Below.fkv_keeper.Keeping.{Finality}
 use Rattle.fkv_map.specs.History.{point_of}
 use Rattle.fkv_map.proofs.Shown.{whole_by_count}
 use Rattle.law_commit.specs.Below.fkv_world.Runs.{World}
-use Rattle.law_commit.specs.Accepted.{serial_at}
+use Rattle.law_commit.specs.LastSerials.{serial_at}
 use Rattle.law_commit.specs.Points.{OpensPointed}
 use Rattle.law_order.specs.Prefix.Law.{history_so_far}
 use Rattle.law_order.proofs.OfRecovered.OfPoints.Lives.{Given, count_so, fits_so, no_lower, rises_so, splits_so}

@@ -26,7 +26,7 @@ returns c = λ o n bytes events image leaves names triples.
       upto = log.upto;
     } in
     let end : NamesEnd its it = record { version = ap (λ (x : SlotSaid). x.number) says.said; tail = ap (λ (x : SlotSaid). x.end.0) says.said } in
-    let lost : its.lost ≡ lost_written it.lost = ap (λ (x : SlotSaid). x.lost) says.said in
+    let lost : its.lost ≡ lost_written it.parts.lost = ap (λ (x : SlotSaid). x.lost) says.said in
     let flushed = c.law_images_show_log.ensures o n bytes events its leaves.store leaves.begins leaves.far leaves.fits leaves.left (names.shape ∙ leaves.begins.its_shape) in
     let decides = c.law_cut_opens.ensures.decided bytes o n events it leaves.store leaves.begins names.begun its end in
     let young = c.law_commits_cut.ensures.young (beginning n bytes) o.tail.0 (opening_ghosts bytes o) events it opens names.begun in

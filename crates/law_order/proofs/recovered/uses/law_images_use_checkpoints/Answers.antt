@@ -46,8 +46,8 @@ returns c = λ o n bytes events image leaves names.
           let checkpoint : HasCheckpoint image newest store.triples =
           opened_triples o n bytes image store it newest store.checkpoint leaves.begins (said_area o n (flushed_so_far n bytes events) it newest says) names.shape its.checkpoint later
           (same_triples o n bytes events image it leaves.begins (c.law_commits_fit.ensures.each o n bytes events store leaves.begins leaves.far) its.checkpoint names.made) names.its in
-          let loses : LosesTheRest (lost_written it.lost) (log_of_store bytes o store) (log_beside o n bytes events) = elim (c.law_commits_lose_the_rest.ensures o n bytes events it store leaves.begins leaves.far names.begun) [
-            | inl by ↦ c.law_old_opens.ensures.loses bytes o n events store leaves.begins (lost_written it.lost) (by.rest its.checkpoint)
+          let loses : LosesTheRest (lost_written it.parts.lost) (log_of_store bytes o store) (log_beside o n bytes events) = elim (c.law_commits_lose_the_rest.ensures o n bytes events it store leaves.begins leaves.far names.begun) [
+            | inl by ↦ c.law_old_opens.ensures.loses bytes o n events store leaves.begins (lost_written it.parts.lost) (by.rest its.checkpoint)
             | inr first ↦
                 let same = ap (λ (x : BegunCommit). x.number.0) first in
                 let was = ap (λ (f : Finality). f.number.0) leaves.begins.its_keeper.newest in
