@@ -1,5 +1,5 @@
 pub mod OfChanges
-mod OfLives
+pub mod OfLives
 mod OfLog
 mod OfWorlds
 pub mod Below

@@ -5,7 +5,7 @@ pub mod LatchesOpen
 pub mod Led
 pub mod LongOpens
 pub mod MadeSteps
-mod SlotNamed
+pub mod SlotNamed
 pub mod ToldOpens
 mod Words
 pub mod WorldOpens

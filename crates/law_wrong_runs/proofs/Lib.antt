@@ -3,3 +3,4 @@ mod OfGuard
 mod Lives
 mod OfCommits
 mod OfPrefixes
+mod OfImages

@@ -1,5 +1,6 @@
 pub mod Said
 pub mod Tables
 pub mod WrongCommits
+pub mod WrongImages
 pub mod WrongLives
 pub mod WrongPrefixes

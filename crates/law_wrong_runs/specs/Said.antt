@@ -4,3 +4,4 @@ pub use Rattle.law_order.specs.Below.fkv_session.Sessions.{SessionState}
 pub use Rattle.law_wrong_runs.specs.WrongCommits.{AreWrongCommits}
 pub use Rattle.law_wrong_runs.specs.WrongLives.{AreWrongLives}
 pub use Rattle.law_wrong_runs.specs.WrongPrefixes.{AreWrongPrefixes}
+pub use Rattle.law_wrong_runs.specs.WrongImages.{AreWrongImages}

@@ -215,6 +215,21 @@ skipped_at_once shape s step = s
 abbrev pub commit_skips_a_number : Shape → Tables
 commit_skips_a_number shape = of_keeper (λ was s. skipped_at_once shape s s.step)
 
+-- a commit is written as soon as it begins, by a slot that says the number after its own
+abbrev pub with_next_slot : Shape → KeeperState → Option Commit → KeeperState
+with_next_slot shape s None = s
+with_next_slot shape s (Some c) =
+    let begun : KeeperState = writes_begun shape s (Some c) in
+    let next : KeeperState = writes_begun shape s (Some (record c { number = record { 0 = c.number.0 + 1 } })) in
+    record begun { writes = record begun.writes { gate = record begun.writes.gate { slot = next.writes.gate.slot } } }
+
+abbrev pub slotted_at_once : Shape → KeeperState → Keeping → KeeperState
+slotted_at_once shape s (keeping.Ended (Begun number)) = with_next_slot shape s s.commit
+slotted_at_once shape s step = s
+
+abbrev pub slot_says_next_number : Shape → Tables
+slot_says_next_number shape = of_keeper (λ was s. slotted_at_once shape (with_no_points s s.commit) s.step)
+
 -- the right ones
 abbrev pub right_tables : Tables
 right_tables = record { session = λ was s. s; keeper = λ was s. s }

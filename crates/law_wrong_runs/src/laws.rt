@@ -1,6 +1,8 @@
 //! What wrong tables lead to, computed.
 ghost use Rattle.law_wrong_runs.specs.Said as said;
 
+use fkv_manifest::{law_gates, law_slots_are_named};
+
 /// Two sessions of a store with one bucket, whose key has 70 by one record. A table by which a record that is fixed is changed in place leads to a
 /// history that isn't legal, as does one by which a record is copied while another session may still change it in place; the same events leave legal
 /// histories by the right table. And a table by which a read is told what the store was opened with leads to a read that isn't fresh. An update that is
@@ -26,3 +28,12 @@ pub fn law_of_wrong_commits()
 pub fn law_of_wrong_prefixes()
     ensures { (keeper : said.KeeperState) (one other : said.SessionState) → said.AreWrongPrefixes keeper one other }
 {}
+
+/// Two sessions of the same store. A commit is written by a slot that says the number after its own. So no image that the finished writes may leave names a
+/// commit that has begun, and each has a fault: its newest slot has the number of the other slot's parity.
+pub fn law_of_wrong_images()
+    ensures { (keeper : said.KeeperState) (one other : said.SessionState) → said.AreWrongImages keeper one other }
+{
+    law_gates();
+    law_slots_are_named();
+}

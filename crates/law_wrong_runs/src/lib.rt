@@ -3,4 +3,6 @@
 
 mod laws;
 
-pub use laws::{law_of_wrong_commits, law_of_wrong_lives, law_of_wrong_prefixes};
+pub use laws::{
+    law_of_wrong_commits, law_of_wrong_images, law_of_wrong_lives, law_of_wrong_prefixes,
+};
