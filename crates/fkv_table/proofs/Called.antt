@@ -106,19 +106,39 @@ module _ {K : Type 0} (at : K → World) where
         hand = subst (λ (h : Option ℕ). HandFits (plane at) (at key) me.0.seen h ((desk, Desk (Calls m.seat.number call)) ∷ rest me.1)) (sym empty) tt;
       }
 
+  -- so where the step itself adds the start
+  pub seated_begun : (key : K) (me : Me Slot (Knows K)) (m m1 : Sitter) (call : Call) → may_stand (Calls m.seat.number call) ≡ true → IsSeated at key me [] m → is_busy m.state.step ≡ false → m1 ≡ record m { state = session_begun m.seat m.state call }
+      → IsSeated at key me (Calls m.seat.number call ∷ []) m1
+  seated_begun key me m m1 call may sits idle is =
+      subst (λ (x : Sitter). IsSeated at key me (Calls m.seat.number call ∷ []) x) (sym is) record {
+        about = sits.about;
+        role = sits.role;
+        chair = sits.chair;
+        first = sits.first;
+        was = sits.was;
+        calls = ((call, refl), tt);
+        allowed = (may, sits.allowed);
+        state = sym (called_idle m.seat m.state call idle) ∙ ap (λ (s : SessionState). session_called m.seat s call) sits.state;
+        hand = sits.hand;
+      }
+
   pub noted_so : (desk : ℕ) (me me1 : Me Slot (Knows K)) (start : Happening) → me1 ≡ (me.0, (desk, Desk start) ∷ rest me.1) → noted me1.1 ≡ start ∷ []
   noted_so desk me me1 start e = ap (λ (x : Me Slot (Knows K)). noted x.1) e
 
   -- the call with all its steps
-  pub called : (number : ℕ) (call : Call) (me1 me2 : Me Slot (Knows K)) (seen' : List Happening) → me1.0.role ≡ Sits number → noted me1.1 ≡ Calls number call ∷ [] → Went at me1 (noted me1.1) number me2
+  pub called_by : (number : ℕ) (call : Call) (own : List Happening) (me1 me2 : Me Slot (Knows K)) (seen' : List Happening) → me1.0.role ≡ Sits number → own ≡ Calls number call ∷ [] → Went at me1 own number me2
       → HasStepped number me2.0.seen seen' → HasCalled number call me1.0.seen seen'
-  called number call me1 me2 seen' role note went so = record {
+  called_by number call own me1 me2 seen' role starts went so = record {
     steps = so.steps ++ Moves number ∷ [];
     only = only_both number so.steps (Moves number ∷ []) so.only (inl refl, tt);
     others = went.others;
     quiet = quiet_others number went.others (subst (λ (r : Role). Quiet (plane at) r went.others) role went.quiet);
-    so = so.so ∙ (ap (λ (es : List Happening). so.steps ++ es) (went.seen ∙ λ i. Moves number ∷ (note i ++ (went.others ++ me1.0.seen))) ∙ sym (append_assoc so.steps (Moves number ∷ []) (Calls number call ∷ (went.others ++ me1.0.seen))));
+    so = so.so ∙ (ap (λ (es : List Happening). so.steps ++ es) (went.seen ∙ λ i. Moves number ∷ (starts i ++ (went.others ++ me1.0.seen))) ∙ sym (append_assoc so.steps (Moves number ∷ []) (Calls number call ∷ (went.others ++ me1.0.seen))));
   }
+
+  pub called : (number : ℕ) (call : Call) (me1 me2 : Me Slot (Knows K)) (seen' : List Happening) → me1.0.role ≡ Sits number → noted me1.1 ≡ Calls number call ∷ [] → Went at me1 (noted me1.1) number me2
+      → HasStepped number me2.0.seen seen' → HasCalled number call me1.0.seen seen'
+  called number call me1 me2 seen' role note went so = called_by number call (noted me1.1) me1 me2 seen' role note went so
 
   -- A call that is over before its first ask: a load adds its start alone.
   same_head : (its other : Happening) → ◌≡◌ {A = List Happening} (its ∷ []) (other ∷ []) → its ≡ other

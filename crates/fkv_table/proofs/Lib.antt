@@ -13,6 +13,7 @@ pub mod Lives
 pub mod Meets
 pub mod Moved
 pub mod Opens
+mod Parting
 pub mod Raises
 pub mod Ready
 pub mod Seating

@@ -13,7 +13,6 @@ use Rattle.fkv_session.specs.Sessions.{Seat, SessionState, Sitter, is_busy, sess
 use Rattle.fkv_straight.specs.Standing.{asked, begins, leads, replayed}
 use Rattle.law_world.specs.Below.fkv_world.Actors.{slot_asked}
 use Rattle.law_world.specs.Below.fkv_world.Runs.{World}
-use Rattle.fkv_seats.specs.declared.held.Held.TheVariants.{Desk}
 use Rattle.fkv_seats.specs.declared.views.Role.TheVariants.{Sits}
 use Rattle.fkv_seats.specs.Rule.{Carries, base, led}
 use Rattle.fkv_seats.proofs.Keeps.{no_some}
@@ -21,13 +20,13 @@ use Rattle.fkv_table.specs.declared.happenings.Happening.{Happening}
 use Rattle.fkv_table.specs.declared.happenings.Happening.TheVariants.{Calls}
 use Rattle.fkv_table.specs.Asks.{step_of}
 use Rattle.fkv_table.specs.Calls.{HasCalled, HasStepped}
-use Rattle.fkv_table.specs.Desks.{Slot, Knows, noted, turned}
+use Rattle.fkv_table.specs.Desks.{Slot, Knows, turned}
 use Rattle.fkv_table.specs.Events.{may_stand}
 use Rattle.fkv_table.specs.Lines.{HasCome, HasLed, HasReplied, IsAlong, LineModel, come_to, session_in, session_or, sitter, stands}
 use Rattle.fkv_table.specs.Openings.{IsGuardedOpening}
 use Rattle.fkv_table.specs.Planes.{plane}
 use Rattle.fkv_table.specs.Sits.{IsSeated, Replied, Settled, Went}
-use Rattle.fkv_table.proofs.Called.{at_front, called, one_more, only_both, seated_first}
+use Rattle.fkv_table.proofs.Called.{called_by, one_more, only_both, seated_begun}
 use Rattle.fkv_table.proofs.Settled.{IsStepped, stepped_on}
 use Rattle.fkv_table.proofs.Steps.{replies, standing}
 
@@ -245,41 +244,30 @@ module _ {K : Type 0} (at : K → World) where
       pub empty_here : l.me.0.hand ≡ None
       empty_here = empty_there l.key l.me (sitter at l) opens along.come asks_none
 
-      pub front : (old : Slot) × (l.me.1 ≡ (l.desk, old) ∷ rest l.me.1)
-      front = at_front at l.desk l.me along.at_desk empty_here
+      module _ (call : Call) (fits : may_stand (Calls l.machine.seat.number call) ≡ true) where
+        -- the step adds the call's start, whatever the seat has in hand
+        abbrev start : List (ℕ × Slot) → List Happening
+        start = λ _. Calls l.machine.seat.number call ∷ []
 
-      module _ (call : Call) (fits : may_stand (Calls l.machine.seat.number call) ≡ true) (me1 : Me Slot (Knows K)) (e : me1 ≡ (l.me.0, (l.desk, Desk (Calls l.machine.seat.number call)) ∷ rest l.me.1)) where
-        abbrev start_note : Slot
-        start_note = Desk (Calls k.number call)
-
-        pub begun_here : IsSeated at l.key me1 (noted me1.1) (record l.machine { state = begins k (stands at l) call })
+        pub begun_here : IsSeated at l.key l.me (Calls l.machine.seat.number call ∷ []) (record l.machine { state = begins k (stands at l) call })
         unfolding begins
-        begun_here = seated_first at l.key l.desk l.me me1 (sitter at l) (record l.machine { state = begins k (stands at l) call }) call fits rests_here idle empty_here e refl
+        begun_here = seated_begun at l.key l.me (sitter at l) (record l.machine { state = begins k (stands at l) call }) call fits rests_here idle refl
 
-        alone_now : base (plane at) me1.0.hand me1.1 ≡ (l.desk, start_note) ∷ []
-        alone_now =
-            let was : l.me.1 ≡ (l.desk, along.at_desk.note) ∷ [] = ap (λ (h : Option ℕ). base (plane at) h l.me.1) (sym empty_here) ∙ along.at_desk.alone in
-            ap (λ (x : Me Slot (Knows K)). base (plane at) x.0.hand x.1) e ∙ (ap (λ (h : Option ℕ). base (plane at) h ((l.desk, start_note) ∷ rest l.me.1)) empty_here ∙ ap (λ (cs : List (ℕ × Slot)). (l.desk, start_note) ∷ rest cs) was)
-
-        flag_now : me1.0.desk ≡ true
-        flag_now = ap (λ (x : Me Slot (Knows K)). x.0.desk) e ∙ along.at_desk.sits
-
-        module _ (ask : Ask Told) (is : asked k (begins k (stands at l) call) ≡ ask) (word : (place : ℕ) × (asked_place ask ≡ Some place)) (slots reply : ℕ) (me' : Me Slot (Knows K)) (told : turned at noted (step_of slots ask) me1 reply me')
+        module _ (ask : Ask Told) (is : asked k (begins k (stands at l) call) ≡ ask) (word : (place : ℕ) × (asked_place ask ≡ Some place)) (slots reply : ℕ) (me' : Me Slot (Knows K)) (told : turned at start (step_of slots ask) l.me reply me')
             (replies' : List ℕ) (only : replies' ≡ reply ∷ []) where
           abbrev begun : LineModel K
           begun = record l { me = me'; replies = replies' }
 
           pub first_line : IsLineStep l begun reply (begins k (stands at l) call)
-          first_line = stepped_line me1 noted (begins k (stands at l) call) begun_here start_note alone_now flag_now slots ask is word reply me' told replies'
+          first_line = stepped_line l.me start (begins k (stands at l) call) begun_here along.at_desk.note along.at_desk.alone along.at_desk.sits slots ask is word reply me' told replies'
 
           pub led_first : HasLed at l call begun
           unfolding replayed
           led_first =
-              let did = went me1 noted (begins k (stands at l) call) begun_here start_note alone_now flag_now slots ask is word reply me' told replies' in
+              let did = went l.me start (begins k (stands at l) call) begun_here along.at_desk.note along.at_desk.alone along.at_desk.sits slots ask is word reply me' told replies' in
               record {
                 same = refl;
-                called = subst (λ (seen : List Happening). HasCalled k.number call seen me'.0.seen) (ap (λ (x : Me Slot (Knows K)). x.0.seen) e)
-                    (called at k.number call me1 me' me'.0.seen begun_here.role (ap (λ (x : Me Slot (Knows K)). noted x.1) e) did (record { steps = []; only = tt; so = refl }));
-                step = there me1 noted (begins k (stands at l) call) begun_here start_note alone_now flag_now slots ask is word reply me' told replies';
+                called = called_by at k.number call (Calls k.number call ∷ []) l.me me' me'.0.seen begun_here.role refl did (record { steps = []; only = tt; so = refl });
+                step = there l.me start (begins k (stands at l) call) begun_here along.at_desk.note along.at_desk.alone along.at_desk.sits slots ask is word reply me' told replies';
                 replayed = first_line.next ∙ ap (replayed k (begins k (stands at l) call)) (sym only);
               }

@@ -1,12 +1,16 @@
 -- The way of a session to the words of its table, by which a call goes straight.
-use Rattle.std.specs.Prelude.{◌≡◌, ◌⊎◌, ℕ, List, [], ◌∷◌, Option, Some, None, slice_get}
+use Rattle.std.specs.Prelude.{◌≡◌, ◌⊎◌, ℕ, List, [], ◌∷◌, length, Option, Some, None, slice_get}
 use Rattle.atomic_table.specs.Seated.{TableId}
 use Rattle.atomic_table.specs.Table.{Me}
 use Rattle.fkv_base.specs.Limits.{drain_slots}
 use Rattle.fkv_map.specs.declared.operations.Call.{Call}
+use Rattle.fkv_map.specs.declared.operations.Call.TheVariants as call
+use Rattle.fkv_map.specs.declared.operations.Op.{Op}
 use Rattle.fkv_plane.specs.Asked.{asked_place, reply_to}
 use Rattle.fkv_session.specs.Alike.{StandAlike}
 use Rattle.fkv_session.specs.Sessions.{SessionState, Sitter, session_ask, session_next}
+use Rattle.fkv_straight.specs.declared.hot.Due.{Due}
+use Rattle.fkv_straight.specs.Hot.{HasLeft}
 use Rattle.fkv_straight.specs.Standing.{begins, replayed}
 use Rattle.law_world.specs.Below.fkv_world.Runs.{World}
 use Rattle.fkv_seats.specs.Rule.{desk_slot, led}
@@ -28,6 +32,11 @@ pub record LineModel (K : Type 0) : Type 0 where
 
 abbrev pub line_of : {K : Type 0} → K → TableId → Me Slot (Knows K) → Sitter → ℕ → List ℕ → LineModel K
 line_of key table me machine desk replies = record { key = key; table = table; me = me; machine = machine; desk = desk; replies = replies }
+
+-- a pass as a call began: of which table its seat was, and what it knew and had in hand
+pub record Origin (K : Type 0) : Type 0 where
+  pub seat : TableId
+  pub me : Me Slot (Knows K)
 
 -- a session of a world, or another where there is none
 abbrev pub session_or : SessionState → Option SessionState → SessionState
@@ -89,3 +98,11 @@ module _ {K : Type 0} (at : K → World) where
     pub ready : IsReady at key table seat me m now.desk
     pub led : HasLed (line_of key table me m now.desk []) call now
     pub begins : StandAlike (begins m.seat m.state call) (begins m.seat (stands (line_of key table me m now.desk [])) call)
+
+  -- The hot part of an operation's call has left this: a session was ready for the call with that pass, has come so far with these replies, and the machine stands as it stood then.
+  pub record IsLeft (key : K) (table : TableId) (m : Sitter) (desk : ℕ) (op : Op) (due : Due) (first : Origin K) (me : Me Slot (Knows K)) (replies : List ℕ) : Type 0 where
+    pub ready : IsReady at key table first.seat first.me m desk
+    pub along : IsAlong (line_of key table me m desk replies)
+    pub led : HasLed (line_of key table first.me m desk []) (call.Op op) (line_of key table me m desk replies)
+    pub begins : StandAlike (begins m.seat m.state (call.Op op)) (begins m.seat (stands (line_of key table first.me m desk [])) (call.Op op))
+    pub left : HasLeft m.seat m.state op due (length replies) (stands (line_of key table me m desk replies))

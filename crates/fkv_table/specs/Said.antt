@@ -19,6 +19,7 @@ pub use Rattle.fkv_plane.specs.Asked.{asked_place, word_at, word_found}
 pub use Rattle.fkv_plane.specs.declared.asks.Ask.TheVariants.{Done}
 pub use Rattle.fkv_seats.specs.Rule.{GotUp, HandFits, Ruled, SatDown, Stepped, base, both_view, desk_of, desk_slot, first_view, led, left_view, right_view, spent_view}
 pub use Rattle.fkv_seats.specs.declared.held.Held.TheVariants.{Drain}
+pub use Rattle.fkv_seats.specs.declared.views.Role.TheVariants.{Sits}
 pub use Rattle.fkv_session.specs.AsksLeft.{session_asks_left}
 pub use Rattle.fkv_session.specs.SessionRun.{telling}
 pub use Rattle.fkv_session.specs.Sessions.{session_ask}
@@ -30,7 +31,7 @@ pub use Rattle.fkv_table.specs.Desks.{Slot, noted, noting, turned}
 pub use Rattle.fkv_table.specs.Events.{may_stand}
 pub use Rattle.fkv_table.specs.KeeperCalls.{HasGoneOn, HasKept, IsBeginning}
 pub use Rattle.fkv_table.specs.Keeps.{IsAfterSeen, IsFreshKeeper, IsKeeperAtWork, IsKeeperReady, IsKeeping, IsLeftWithin, IsNoted, KeeperIsAsked, KeeperReplied, KeeperSettled, LeavesDevice, Spares, adding}
-pub use Rattle.fkv_table.specs.Lines.{HasLed, IsAlong, IsBegun, LineModel, line_of, stands}
+pub use Rattle.fkv_table.specs.Lines.{HasLed, IsAlong, IsBegun, IsLeft, LineModel, Origin, line_of, stands}
 pub use Rattle.fkv_table.specs.Meets.{AreTwoReady, HaveMet, StaysReady}
 pub use Rattle.fkv_table.specs.Openings.{IsTableOf}
 pub use Rattle.fkv_table.specs.Planes.{opening_of, plane}

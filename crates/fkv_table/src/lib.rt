@@ -8,6 +8,7 @@ mod desks;
 mod fetching;
 mod guessing;
 mod happenings;
+mod hot;
 mod joining;
 mod keepers;
 mod lines;
@@ -17,6 +18,7 @@ mod plays;
 mod positions;
 mod rule;
 mod sessions;
+mod taking;
 mod turns;
 
 pub use crossing::crosses;

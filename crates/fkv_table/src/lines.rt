@@ -4,18 +4,17 @@ ghost use Rattle.fkv_session.specs.Sessions.{is_busy};
 ghost use Rattle.fkv_table.specs.Said as said;
 
 use crate::guessing::TailGuess;
-use crate::happenings::{Happening, law_start_stands};
-use crate::performing::perform;
-use crate::plays::{First, Next, Raises, Turn};
+use crate::happenings::law_start_stands;
+use crate::performing::{perform, perform_first};
+use crate::plays::{Next, Raises, Turn};
 use crate::positions::position;
 use crate::rule::{Place, Words};
 use fkv_disk::Device;
 use fkv_map::Call;
 use fkv_plane::Ask;
-use fkv_seats::Held;
 use fkv_session::Told;
 use fkv_straight::{Line, StraightSession};
-use std::marker::Model;
+use std::marker::{Brand, Model};
 use std::snapshot::Snapshot;
 
 /// The words of a table, for the session whose seat this is. Each of its steps is the one that the session's machine would ask for; `raise` makes
@@ -34,6 +33,15 @@ pub(crate) struct SeatLine<'t, D: Device> {
     tail: &'t mut TailGuess,
     /// The machine, as the line began.
     machine: Snapshot<StraightSession>,
+}
+
+/// What a line was made of, as it is given back.
+#[derive(Drop)]
+pub(crate) struct Parts<'t, D: Device> {
+    pub(crate) seat: Place<D>,
+    pub(crate) replies: &'t mut Room,
+    pub(crate) tail: &'t mut TailGuess,
+    pub(crate) kept: usize,
 }
 
 /// Room for the replies of a call.
@@ -108,6 +116,61 @@ impl<'t, D: Device> SeatLine<'t, D> {
         }
     }
 
+    /// The line of a session whose call is in hand, with so many of its replies.
+    #[inline(always)]
+    pub(crate) fn resume(
+        words: &'t Words<D>,
+        seat: Place<D>,
+        machine: &StraightSession,
+        desk: usize,
+        replies: &'t mut Room,
+        tail: &'t mut TailGuess,
+        kept: usize,
+    ) -> SeatLine<'t, D>
+        requires table { seat.table_id ≡ words.now.table_id }
+        requires room { (kept ≤ 64) × (length replies.old ≡ 64) }
+        requires along { said.IsAlong (said.opening_of D.seen) (said.line_of words.now.key words.now.table_id seat.me machine.now desk (take kept
+            replies.old)) }
+        ensures value { result ≡ said.line_of words.now.key words.now.table_id seat.me machine.now desk (take kept replies.old) }
+    {
+        let own = machine.number();
+        let from = Snapshot::of(machine);
+        SeatLine {
+            words,
+            seat,
+            desk,
+            number: own,
+            replies,
+            kept,
+            tail,
+            machine: from,
+        }
+    }
+
+    /// What the line was made of, with what is known of it.
+    #[inline(always)]
+    pub(crate) fn into_parts(self) -> Parts<'t, D>
+        ensures table { result.seat.table_id ≡ self.entry.table }
+        ensures me { result.seat.me ≡ self.entry.me }
+        ensures room { (result.kept ≤ 64) × (length result.replies.now ≡ 64) }
+        ensures replies { take result.kept result.replies.now ≡ self.entry.replies }
+        ensures along { said.IsAlong (said.opening_of D.seen) self.entry }
+    {
+        let SeatLine {
+            seat,
+            replies,
+            tail,
+            kept,
+            ..
+        } = self;
+        Parts {
+            seat,
+            replies,
+            tail,
+            kept,
+        }
+    }
+
     /// The seat, with what is known of it.
     #[inline(always)]
     pub(crate) fn into_seat(self) -> Place<D>
@@ -131,11 +194,7 @@ impl<'t, D: Device> SeatLine<'t, D> {
         ensures machine { self.new.machine ≡ self.old.machine }
     {
         law_start_stands(call);
-        let start = Happening::Calls(self.number, call);
-        let _ = self
-            .words
-            .exchange(&mut self.seat, self.desk, Held::Desk(start));
-        let reply = perform::<D, Turn<First>, Told>(self.words, &mut self.seat, ask);
+        let reply = perform_first::<D, Brand>(self.words, &mut self.seat, ask, self.number, call);
         keep(self.replies, 0, reply);
         self.kept = 1;
         reply

@@ -4,6 +4,7 @@ ghost use Rattle.fkv_table.specs.Said as said;
 
 use crate::desks::{desk_slot, sit_down};
 use crate::guessing::TailGuess;
+use crate::hot::Handover;
 use crate::joining::Meeting;
 use crate::keepers::{Keeper, KeeperPass};
 use crate::rule::{Engine, Knows, Opening, Pass, Place, Slot, Table, Words};
@@ -51,6 +52,8 @@ impl<D: Device + Drop> Table<D> {
         let about = Snapshot::of(&world);
         let (plane, machines, machine, device) = world.into_parts();
         let words = laid_words(alloc, &plane, count)?;
+        // The table copies the words, so those of the plane go before it is made: memory has them twice, and not three times.
+        drop(plane);
         let slots = empty_slots(alloc, desk_slot(machines.len() + 1))?;
         let (table, mut rest) = shared_table(alloc, &words, slots, &about)?;
         let sessions = seat_sessions(alloc, &table.shared, &mut rest, machines)?;
@@ -64,7 +67,7 @@ impl<D: Device + Drop> Table<D> {
     }
 }
 
-/// The words at their positions.
+/// The words at their positions. They take their memory once.
 #[tactic(auto, using(crate::proofs::LaidWords::laid_more), unfolding(crate::specs::Positions::laid_from))]
 fn laid_words(alloc: Global, plane: &PlainWords, count: usize) -> Result<Vec<u64>, Fault>
     requires count { count ≡ length plane.now.words }
@@ -72,7 +75,7 @@ fn laid_words(alloc: Global, plane: &PlainWords, count: usize) -> Result<Vec<u64
     ensures words { IfOk result (λ words. words.items ≡ said.laid plane.now.words) }
     ensures err { OnErr result (result ≡ Err said.Memory) }
 {
-    let mut words = Vec::new(alloc);
+    let mut words = Vec::with_capacity(alloc, count + GAPS)?;
     for at in 0..count + GAPS {
         words.push(word_laid(plane, at))?;
     }
@@ -182,6 +185,7 @@ fn seat_sessions<D: Device>(
             desk,
             replies: [0; 64],
             tail: TailGuess::none(),
+            over: Handover::none(),
         };
         seated.push((session, Pass { seat }))?;
     }

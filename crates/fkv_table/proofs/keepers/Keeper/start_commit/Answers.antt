@@ -6,14 +6,14 @@ use Rattle.fkv_table.specs.Keeps.{IsKeeping}
 use Rattle.fkv_table.specs.Planes.{opening_of}
 use Rattle.fkv_table.proofs.KeeperCalled.{kept_so, over_idle}
 use Rattle.fkv_table.proofs.KeeperCommits.{commit_calls, commit_over, leaves_device}
-use Rattle.fkv_table.proofs.keepers.Keeper.ask_commit.Goals as goal
+use Rattle.fkv_table.proofs.keepers.Keeper.start_commit.Goals as goal
 
-pub begin_told-answer-requires-clause-over : goal.begin_told-answer-requires-clause-over
-begin_told-answer-requires-clause-over g c =
+pub begin_told-requires-clause-over : goal.begin_told-requires-clause-over
+begin_told-requires-clause-over g c =
     commit_over c.word_steps.new.machine c.word_steps.result (c.word_steps.ensures.beginning c.begin_commit.ensures.beginning) c.word_steps.ensures.told
 
-pub begin_told-answer-requires-clause-idle : goal.begin_told-answer-requires-clause-idle
-begin_told-answer-requires-clause-idle g c =
+pub begin_told-requires-clause-idle : goal.begin_told-requires-clause-idle
+begin_told-requires-clause-idle g c =
     over_idle (opening_of g.D.Device.seen) _ _ _ c.requires.ready.opened.opening c.word_steps.ensures.keeping
     (commit_over c.word_steps.new.machine c.word_steps.result (c.word_steps.ensures.beginning c.begin_commit.ensures.beginning) c.word_steps.ensures.told)
 
@@ -29,7 +29,7 @@ returns-clause-device g c =
 pub returns-clause-ready : goal.returns-clause-ready
 returns-clause-ready g c =
     let r = c.requires.ready in
-    let same = c.begin_told-answer.ensures.same in
+    let same = c.begin_told.ensures.same in
     let over = commit_over c.word_steps.new.machine c.word_steps.result (c.word_steps.ensures.beginning c.begin_commit.ensures.beginning) c.word_steps.ensures.told in
     record {
       opened = r.opened;

@@ -3,7 +3,7 @@ use Rattle.fkv_table.specs.declared.happenings.Happening.TheVariants.{Turns}
 use Rattle.fkv_table.specs.Planes.{opening_of}
 use Rattle.fkv_table.proofs.KeeperCalled.{kept_on, leaves_after}
 use Rattle.fkv_table.proofs.KeeperMoments.{moments_on, moments_started, moments_stepped}
-use Rattle.fkv_table.proofs.keepers.Keeper.turn.Goals as goal
+use Rattle.fkv_table.proofs.keepers.Keeper.make_turn.Goals as goal
 
 pub pieces-init : goal.pieces-init
 pieces-init g c =

@@ -4,7 +4,7 @@ use Rattle.fkv_table.specs.declared.happenings.Happening.TheVariants.{Turns}
 use Rattle.fkv_table.specs.KeeperCalls.{HasKept}
 use Rattle.fkv_table.specs.Keeps.{IsAfterSeen, IsKeeperAtWork, IsLeftWithin}
 use Rattle.fkv_table.specs.Planes.{opening_of}
-use Rattle.fkv_table.proofs.keepers.Keeper.turn.Given as goal
+use Rattle.fkv_table.proofs.keepers.Keeper.make_turn.Given as goal
 
 abbrev pub invariant-pieces : goal.invariant-pieces
 invariant-pieces g l = record {
