@@ -38,10 +38,14 @@ def compile_parts(room, words):
     return names
 
 
-def merge(room, archives, objects):
-    """Makes libfkv.a in the room. The script takes no path, only names of files there. The kit's memory calls `fkv_malloc` of
-    face/fkv_memory.c where it calls `malloc`."""
+def take_kit(room):
+    """Copies what the library calls of the kit into the room, as kit.a. Its memory calls fkv_malloc of face/fkv_memory.c in place of malloc."""
+    shutil.copy(f"{KIT}/c/liblibc_c.a", f"{room}/kit.a")
     subprocess.run(["objcopy", "--redefine-sym", "malloc=fkv_malloc", f"{room}/kit.a"], check=True)
+
+
+def merge(room, archives, objects):
+    """Makes libfkv.a in the room. The script takes no path, only names of files there."""
     lines = ["CREATE libfkv.a", *(f"ADDLIB {it}" for it in archives), *(f"ADDMOD {it}" for it in objects), "SAVE", "END", ""]
     subprocess.run(["ar", "-M"], input="\n".join(lines), text=True, check=True, cwd=room)
 
