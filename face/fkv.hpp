@@ -309,6 +309,8 @@ public:
         auto *user = const_cast<std::function<void(const Progress &)> *>(&progress);
         check(fkv_save(get(), path.c_str(), progress ? detail::tell_progress : nullptr, user));
     }
+    /* Renews the store in place, in its own shape or another: no session is out meanwhile. */
+    void renew(const Shape &shape = Shape{}) { check(fkv_renew_here(get(), &shape, nullptr)); }
     /* Closes the file, and throws how its last commit went. FKV_HANDLE_OUT while a session or a keeper is out: then it stays open. */
     void close() {
         if (file_.use_count() > 1) throw Error(-FKV_HANDLE_OUT);

@@ -67,7 +67,13 @@ static void use_store(const std::string &path) {
     store.save(path + ".saved", [&](const fkv::Progress &its) { copied = its.done; });
     WANT(copied > 0 && refused([&] { store.save(path + ".saved"); }).system() == EEXIST);
     WANT(store.last_commit().points == (std::vector<std::uint64_t>{0, 7, 0, 0}) && keeper.fault() == 0);
-    store.join(2).put(9, 1);
+    store.renew();
+    WANT(store.join(1).serial() == 7);
+    {
+        fkv::Session session = store.join(2);
+        WANT(refused([&] { store.renew(); }).fault() == FKV_HANDLE_OUT && session.read(8) == 4u);
+        session.put(9, 1);
+    }
     keeper.stop();
     WANT(commits.back().number == store.last_commit().number && commits.back().points[2] == 1);
     store.close();

@@ -208,8 +208,16 @@ class Stores(OverFile):
             self.assertRaises(fkv.Full, session.tick)
             self.assertRaises(fkv.Full, session.put, 0, 2)
             self.assertEqual(session[0], 1)
+            self.assertRaises(fkv.InUse, store.renew)
             session.close()
             self.assertTrue(session.closed)
+            store.renew(SMALL)
+            self.assertEqual(store.shape.disk_pages, SMALL.disk_pages)
+            with store.join() as session:
+                session.put(0, 2)
+                session.commit()
+                self.assertEqual((session[0], session[1]), (2, 1))
+                self.assertEqual(session.durable, session.serial)
 
     def test_hooks(self):
         commits, progress, refused = [], [], []

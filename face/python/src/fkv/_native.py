@@ -88,6 +88,7 @@ CALLS = {
     "fkv_save": [c_void_p, c_char_p, PROGRESS, c_void_p],
     "fkv_each": [c_void_p, PAIR, c_void_p],
     "fkv_renew_file": [c_char_p, c_char_p, POINTER(CShape), c_uint32, POINTER(CRenewed)],
+    "fkv_renew_here": [c_void_p, POINTER(CShape), POINTER(CRenewed)],
     "fkv_shape_of": [c_void_p],
     "fkv_last_commit": [c_void_p, WORD],
     "fkv_start": [c_void_p, POINTER(CKeeping)],

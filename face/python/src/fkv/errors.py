@@ -86,11 +86,11 @@ class ValueReserved(Error, ValueError):
 
 
 class Full(Error):
-    """The index or the log has no room for another record, and never will have. Renew the store: `renew_file`."""
+    """The index or the log has no room for another record, and never will have. Renew the store: `Store.renew`, `renew_file`."""
 
 
 class Spent(Error):
-    """The store has taken its last commit, or the session its last serial. It stays readable. Renew it: `renew_file`."""
+    """The store has taken its last commit, or the session its last serial. It stays readable. Renew it: `Store.renew`, `renew_file`."""
 
 
 class Broken(Error):

@@ -266,6 +266,15 @@ class Store:
         with self._held() as at:
             check(lib.fkv_save(at, os.fsencode(path), _progress(_hook(self._thread, progress)), None), os.fspath(path))
 
+    def renew(self, shape: Optional[Shape] = None) -> None:
+        """Renews the store in place: it has room and commits anew, the same pairs and points, and its commits count from 1 again.
+
+        Close each session before: InUse else. `shape` is that of the new store, or None for its own. After an error the store is the old one,
+        and goes on; after a DeviceError it may have no commits, so open it anew. Full if the new shape is too small.
+        """
+        with self._held() as at:
+            check(lib.fkv_renew_here(at, shape.in_c() if shape else None, None))
+
     # ---- The end
 
     def close(self) -> None:
