@@ -79,6 +79,7 @@ class Keys(OverFile):
             self.assertIs(session.read_many(memoryview(keys).toreadonly(), into), into)
             self.assertEqual(into.tolist(), wanted)
             self.assertEqual(session.read_many(memoryview(keys)[::2]).tolist(), wanted[::2])
+            self.assertEqual(session.read_many(array.array("L", keys)).tolist(), wanted)
             self.assertEqual(session.read_many([]).tolist(), [])
             session.increment_many([])
             for call in (lambda: session.read_many(b"12345678"), lambda: session.read_many(array.array("q", [1]))):
