@@ -3,6 +3,7 @@ import array
 import errno
 import gc
 import os
+import signal
 import subprocess
 import sys
 import tempfile
@@ -256,6 +257,22 @@ class Stores(OverFile):
             self.assertIsNone(session.get(1))
             self.assertRaises(fkv.NoKeeper, store.ask_commit)
             store.start()
+
+    def test_a_wait_is_interrupted(self):
+        def interrupt(*_):
+            raise KeyboardInterrupt
+
+        before = signal.signal(signal.SIGALRM, interrupt)
+        self.addCleanup(signal.signal, signal.SIGALRM, before)
+        with self.open() as store, store.join() as idle, store.join() as session:
+            session.put(1, 1)
+            signal.setitimer(signal.ITIMER_REAL, 0.2)
+            # (no commit finishes past a session that makes no call)
+            self.assertRaises(KeyboardInterrupt, session.commit)
+            self.assertEqual(session.durable, 0)
+            with idle.asleep():
+                session.commit()
+            self.assertEqual(session.durable, 1)
 
     def test_threads(self):
         def add(number, session=None):
