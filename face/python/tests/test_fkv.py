@@ -320,9 +320,13 @@ class Stores(OverFile):
             session.put(1, 1)
             child = os.fork()
             if child == 0:
-                is_closed = store.closed and session.closed
-                del store, session
-                os._exit(0 if is_closed else 1)
+                try:
+                    is_closed = store.closed and session.closed
+                    session.close()
+                    store.close()
+                    os._exit(0 if is_closed else 1)
+                finally:
+                    os._exit(2)
             self.assertEqual(os.waitpid(child, 0)[1], 0)
             session.commit()
             self.assertEqual(session[1], 1)

@@ -394,11 +394,11 @@ def _close_all() -> None:
 
 
 def _forget_all() -> None:
-    """In a forked child no store is open."""
+    """In a forked child no store is open. A lock that another thread had as it was forked would stay shut for ever."""
     for store in list(_stores):
-        store._at = None
+        store._at, store._calls, store._running = None, threading.Condition(), 0
         for session in list(store._sessions):
-            session._at = None
+            session._at, session._lock = None, threading.RLock()
 
 
 atexit.register(_close_all)
