@@ -2,9 +2,9 @@
 #              without proof, and stays in build/unproved
 # make test    the gate: whether generated pages are up to date, and links and examples of all pages hold; what crates name of each other,
 #              every proof from nothing, the must-fail edits, the tests and the program; then tools/openings, what `make rows`, `make memory` and `make large` do, and
-#              the library from C, C++ and Rust
+#              the library from C, C++, Python and Rust
 # make fkv     proves the program, says at which crate it is, and leaves it at build/fkv
-# make face    proves the library for C, C++ and Rust, says at which crate it is, and leaves it at build/libfkv.a and build/libfkv.so.0, with
+# make face    proves the library for C, C++, Python and Rust, says at which crate it is, and leaves it at build/libfkv.a and build/libfkv.so.0, with
 #              build/fkv.h and build/fkv_posix.h. With QUICK=1 it builds the same without proof, in a minute, and leaves it in build/unproved
 # make install PREFIX=/usr/local DESTDIR=   installs what is built: the library of `make face`, or with QUICK=1 that without proof, its headers,
 #              its packages for pkg-config and CMake, man pages, and those of the three programs that are in build/

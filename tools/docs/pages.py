@@ -13,7 +13,7 @@ import re
 RUN = {
     "README.md": {"script", "output"},  # tools/rows/run
     "docs/SCRIPTS.md": {"script", "output"},  # tools/rows/run
-    "docs/EMBED.md": {"c", "rust", "output"},  # tools/face/run
+    "docs/EMBED.md": {"c", "cpp", "python", "rust", "output"},  # tools/face/run
 }
 # Pages that are made of the sources, blocks and all.
 MADE = {"docs/STATEMENT.md"}

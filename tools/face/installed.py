@@ -64,7 +64,7 @@ def files(room, folder, root):
             file.write("#!/bin/sh\n")
     install(folder, f"{room}/programs", PREFIX, f"{room}/root")
     pages = ["man1/fkv.1", "man1/fkv_look.1", "man3/fkv.3", *(f"man3/{it}.3" for it in calls())]
-    wanted = ["bin/fkv", "bin/fkv_look", "include/fkv.h", "include/fkv_posix.h", "lib/libfkv.a", "lib/libfkv.so", f"lib/{SONAME}"]
+    wanted = ["bin/fkv", "bin/fkv_look", "include/fkv.h", "include/fkv_posix.h", "include/fkv.hpp", "lib/libfkv.a", "lib/libfkv.so", f"lib/{SONAME}"]
     wanted += ["lib/cmake/fkv/fkvConfig.cmake", "lib/cmake/fkv/fkvConfigVersion.cmake", "lib/pkgconfig/fkv.pc", *(f"share/man/{it}" for it in pages)]
     got = [os.path.relpath(f"{at}/{it}", root) for at, _, names in os.walk(root) for it in names]
     wants("what is installed", sorted(got), sorted(wanted))

@@ -3,7 +3,7 @@ import os
 import shutil
 
 import manual
-from library import HEADERS, SONAME, TOP, version
+from library import COPIED, SONAME, TOP, version
 
 PARTS = f"{TOP}/face/install"
 PROGRAMS = ["fkv", "fkv_look", "fkv_renew"]
@@ -36,7 +36,7 @@ def put(made, path, mode):
 def install(folder, programs, prefix, dest=""):
     """Installs the folder's library, and those programs of the other folder that are there. Gives the paths below dest and prefix."""
     its = texts(prefix)
-    copies = {f"include/{name}": (f"{folder}/{name}", 0o644) for name in HEADERS}
+    copies = {f"include/{name}": (f"{folder}/{name}", 0o644) for name in COPIED}
     copies |= {"lib/libfkv.a": (f"{folder}/libfkv.a", 0o644), f"lib/{SONAME}": (f"{folder}/{SONAME}", 0o755)}
     for name in PROGRAMS:
         if os.path.isfile(f"{programs}/{name}"):

@@ -10,6 +10,8 @@ KIT = os.path.dirname(os.path.dirname(os.path.realpath(shutil.which("rt") or "/o
 CC = os.environ.get("CC", "cc")
 WORDS = ["-std=c11", "-O2", "-fPIC", "-Wall", "-Wextra", "-pedantic", "-Werror"]
 HEADERS = ["fkv.h", "fkv_posix.h"]
+# What is copied beside the library: that of C++ declares no call.
+COPIED = [*HEADERS, "fkv.hpp"]
 # Programs that were linked with a library of this name run with each later one of it.
 SONAME = "libfkv.so.0"
 
@@ -64,9 +66,9 @@ def leave(room, folder):
     os.makedirs(folder, exist_ok=True)
     link(room)
     os.symlink(SONAME, f"{room}/libfkv.so")
-    for name in HEADERS:
+    for name in COPIED:
         shutil.copy(f"{TOP}/face/{name}", room)
-    for name in ["libfkv.a", SONAME, "libfkv.so", *HEADERS]:
+    for name in ["libfkv.a", SONAME, "libfkv.so", *COPIED]:
         made = f"{folder}/.{name}.{os.getpid()}"
         if os.path.islink(f"{room}/{name}"):
             os.symlink(SONAME, made)

@@ -1,16 +1,20 @@
 //! A key-value store of 64-bit words in a file, whose engine is proved.
 //!
-//! ```no_run
+//! ```
 //! use fkv::{Keeping, Store, Wish};
 //! use std::time::Duration;
 //!
 //! fn main() -> Result<(), fkv::Error> {
+//!     # let folder = std::env::temp_dir().join(format!("fkv-doc-{}", std::process::id()));
+//!     # std::fs::create_dir(&folder).and_then(|()| std::env::set_current_dir(&folder)).expect("a folder of its own");
 //!     let store = Store::open_or_make("counts", &Wish::default().keys(1000))?;
 //!     let _keeper = store.start(Keeping::default().commit_each(Duration::from_millis(50)))?;
 //!     let mut session = store.join_any()?;
 //!     session.increment(7, 1)?;
 //!     session.tick()?; // between calls: lets the store go on, and says whether it does
 //!     session.commit()?; // a crash from now on keeps the add
+//!     # assert_eq!(session.read(7)?, Some(1));
+//!     # std::fs::remove_dir_all(&folder).expect("what the example has made");
 //!     Ok(())
 //! }
 //! ```
