@@ -18,6 +18,7 @@
 # make bench-peers  plays the same calls over the library of `make face` and over other maps and stores, and writes docs/BENCH.md with
 #              pictures, in twenty-five minutes; with QUICK=1 fewer of them, in a minute
 # make hammer  runs lives of stores that four threads share, each ended by a crash, for a minute or SECONDS
+# make stream  counts by key from partitions of a log, over Redis, with workers that are killed and partitions that move: docs/STREAM.md
 # make gate    runs the gate, and writes the processor time of each crate into docs/GATE.md
 # make audit   tries the wrong bodies that the gate leaves out, those of crates/*/audit, or of the crates in CRATES
 # make near    tries a change of the crates in CRATES, or of those that differ from the last commit, in minutes: their proof, their wrong bodies,
@@ -46,7 +47,7 @@ CRATES ?=
 # The commit that `make impact` compares with.
 BASE ?=
 
-.PHONY: run test fkv face face-proved install fkv_renew fkv_look rows renewing memory large bench bench-peers hammer gate near impact warm audit docs toolchain
+.PHONY: run test fkv face face-proved install fkv_renew fkv_look rows renewing memory large bench bench-peers hammer stream gate near impact warm audit docs toolchain
 
 run: toolchain
 	@tools/script/run "$(SCRIPT)" $(WORDS)
@@ -124,6 +125,9 @@ bench-peers: face-proved
 
 hammer: toolchain
 	tools/hammer/run $(SECONDS)
+
+stream:
+	face/examples/stream/run
 
 gate: toolchain
 	tools/gate/measure
