@@ -21,3 +21,4 @@ pub mod StandIns
 pub mod Starts
 pub mod Steps
 pub mod Straights
+mod Parting

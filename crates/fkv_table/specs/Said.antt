@@ -19,6 +19,7 @@ pub use Rattle.fkv_plane.specs.Asked.{asked_place, word_at, word_found}
 pub use Rattle.fkv_plane.specs.declared.asks.Ask.TheVariants.{Done}
 pub use Rattle.fkv_seats.specs.Rule.{GotUp, HandFits, Ruled, SatDown, Stepped, base, both_view, desk_of, desk_slot, first_view, led, left_view, right_view, spent_view}
 pub use Rattle.fkv_seats.specs.declared.held.Held.TheVariants.{Drain}
+pub use Rattle.fkv_seats.specs.declared.views.Role.TheVariants.{Sits}
 pub use Rattle.fkv_session.specs.AsksLeft.{session_asks_left}
 pub use Rattle.fkv_session.specs.SessionRun.{telling}
 pub use Rattle.fkv_session.specs.Sessions.{session_ask}

@@ -42,7 +42,8 @@ pub(crate) fn sit_down<D: Device>(words: &Words<D>, seat: &mut Place<D>)
     requires table { (seat.old.table_id ≡ words.now.table_id) × (0 < words.now.table_id.words) }
     requires free { said.MaySit words.now.table_id seat.old.me }
     ensures seat { (seat.new.table_id ≡ seat.old.table_id) × (seat.new.id ≡ seat.old.id) }
-    ensures sat { (number : ℕ) → said.desk_of seat.old.me.0.role ≡ Some number → said.SatDown (said.plane (said.opening_of D.seen)) number seat.old.me.0 seat.old.me.1 seat.new.me }
+    ensures sat { (number : ℕ) → said.desk_of seat.old.me.0.role ≡ Some number → said.SatDown (said.plane (said.opening_of D.seen)) number seat.old.me.0
+        seat.old.me.1 seat.new.me }
 {
     let _ = words.load::<SitsDown>(seat, 0);
 }

@@ -30,10 +30,13 @@ impl<D: Device> Join<Knows<D>> for Meeting {
 /// the other, and both have the longer one. Between the end of its own list and that of the longer one a session has no event. So it is ready
 /// for its next call as it was before. It makes four loads of the epoch's word, and waits for nobody.
 pub fn join<D: Device>(table: &Table<D>, first: Pass<D>, second: Pass<D>) -> (Pass<D>, Pass<D>)
-    requires ready { said.AreTwoReady (said.opening_of D.seen) table.now.table.shared.key table.now.table.shared.table_id first.seat.table_id second.seat.table_id first.seat.me second.seat.me }
+    requires ready { said.AreTwoReady (said.opening_of D.seen) table.now.table.shared.key table.now.table.shared.table_id first.seat.table_id
+        second.seat.table_id first.seat.me second.seat.me }
     ensures met { said.HaveMet (said.opening_of D.seen) first.seat.me second.seat.me result.0.seat.me result.1.seat.me }
-    ensures first { said.StaysReady (said.opening_of D.seen) table.now.table.shared.key table.now.table.shared.table_id first.seat.table_id result.0.seat.table_id first.seat.me result.0.seat.me }
-    ensures second { said.StaysReady (said.opening_of D.seen) table.now.table.shared.key table.now.table.shared.table_id second.seat.table_id result.1.seat.table_id second.seat.me result.1.seat.me }
+    ensures first { said.StaysReady (said.opening_of D.seen) table.now.table.shared.key table.now.table.shared.table_id first.seat.table_id
+        result.0.seat.table_id first.seat.me result.0.seat.me }
+    ensures second { said.StaysReady (said.opening_of D.seen) table.now.table.shared.key table.now.table.shared.table_id second.seat.table_id
+        result.1.seat.table_id second.seat.me result.1.seat.me }
 {
     let words = &table.table.shared;
     let Pass { seat: mut one } = first;

@@ -105,7 +105,8 @@ pub(crate) fn note<D: Device, E: OfKeeper>(words: &Words<D>, seat: &mut Place<D>
     requires table { (seat.old.table_id ≡ words.now.table_id) × said.IsTableOf (said.opening_of D.seen words.now.key) words.now.table_id }
     requires about { seat.old.me.0.about ≡ Some words.now.key }
     requires spares { said.Spares (said.opening_of D.seen) words.now.key seat.old.me E.its }
-    requires hand { said.HandFits (said.plane (said.opening_of D.seen)) (said.opening_of D.seen words.now.key) seat.old.me.0.seen seat.old.me.0.hand seat.old.me.1 }
+    requires hand { said.HandFits (said.plane (said.opening_of D.seen)) (said.opening_of D.seen words.now.key) seat.old.me.0.seen seat.old.me.0.hand
+        seat.old.me.1 }
     ensures seat { (seat.new.table_id ≡ seat.old.table_id) × (seat.new.id ≡ seat.old.id) }
     ensures noted { said.IsNoted (said.opening_of D.seen) words.now.key seat.old.me E.its seat.new.me }
 {
@@ -239,8 +240,10 @@ fn step<D: Device>(
     ensures seat { (seat.new.table_id ≡ seat.old.table_id) × (seat.new.id ≡ seat.old.id) }
     ensures keeping { said.IsKeeping (said.opening_of D.seen) words.now.key seat.new.me machine.new }
     ensures went { said.HasGoneOn seat.old.me.0.seen seat.new.me.0.seen }
-    ensures calls { (said.led (said.plane (said.opening_of D.seen)) (said.opening_of D.seen words.now.key) seat.new.me.0.seen).past.calls ≡ (said.led (said.plane (said.opening_of D.seen)) (said.opening_of D.seen words.now.key) seat.old.me.0.seen).past.calls }
-    ensures fewer { said.keeper_asks_left machine.new.shape machine.new.places machine.new.state < said.keeper_asks_left machine.old.shape machine.old.places machine.old.state }
+    ensures calls { (said.led (said.plane (said.opening_of D.seen)) (said.opening_of D.seen words.now.key) seat.new.me.0.seen).past.calls ≡
+        (said.led (said.plane (said.opening_of D.seen)) (said.opening_of D.seen words.now.key) seat.old.me.0.seen).past.calls }
+    ensures fewer { said.keeper_asks_left machine.new.shape machine.new.places machine.new.state < said.keeper_asks_left machine.old.shape machine.old.places
+        machine.old.state }
     ensures beginning { said.IsBeginning machine.old.state.step → said.IsBeginning machine.new.state.step }
     ensures ask { result ≡ said.keeper_ask machine.new.shape machine.new.places machine.new.state }
 {
@@ -263,8 +266,10 @@ fn load_word<D: Device>(
     ensures seat { (seat.new.table_id ≡ seat.old.table_id) × (seat.new.id ≡ seat.old.id) }
     ensures keeping { said.IsKeeping (said.opening_of D.seen) words.now.key seat.new.me machine.new }
     ensures went { said.HasGoneOn seat.old.me.0.seen seat.new.me.0.seen }
-    ensures calls { (said.led (said.plane (said.opening_of D.seen)) (said.opening_of D.seen words.now.key) seat.new.me.0.seen).past.calls ≡ (said.led (said.plane (said.opening_of D.seen)) (said.opening_of D.seen words.now.key) seat.old.me.0.seen).past.calls }
-    ensures fewer { said.keeper_asks_left machine.new.shape machine.new.places machine.new.state < said.keeper_asks_left machine.old.shape machine.old.places machine.old.state }
+    ensures calls { (said.led (said.plane (said.opening_of D.seen)) (said.opening_of D.seen words.now.key) seat.new.me.0.seen).past.calls ≡
+        (said.led (said.plane (said.opening_of D.seen)) (said.opening_of D.seen words.now.key) seat.old.me.0.seen).past.calls }
+    ensures fewer { said.keeper_asks_left machine.new.shape machine.new.places machine.new.state < said.keeper_asks_left machine.old.shape machine.old.places
+        machine.old.state }
     ensures beginning { said.IsBeginning machine.old.state.step → said.IsBeginning machine.new.state.step }
 {
     let ask: Ask<KeeperTold> = Ask::Load(place);
@@ -279,8 +284,10 @@ fn load_words<D: Device>(words: &Words<D>, seat: &mut Place<D>, machine: &mut fk
     ensures seat { (seat.new.table_id ≡ seat.old.table_id) × (seat.new.id ≡ seat.old.id) }
     ensures keeping { said.IsKeeping (said.opening_of D.seen) words.now.key seat.new.me machine.new }
     ensures went { said.HasGoneOn seat.old.me.0.seen seat.new.me.0.seen }
-    ensures calls { (said.led (said.plane (said.opening_of D.seen)) (said.opening_of D.seen words.now.key) seat.new.me.0.seen).past.calls ≡ (said.led (said.plane (said.opening_of D.seen)) (said.opening_of D.seen words.now.key) seat.old.me.0.seen).past.calls }
-    ensures left { said.keeper_asks_left machine.new.shape machine.new.places machine.new.state ≤ said.keeper_asks_left machine.old.shape machine.old.places machine.old.state }
+    ensures calls { (said.led (said.plane (said.opening_of D.seen)) (said.opening_of D.seen words.now.key) seat.new.me.0.seen).past.calls ≡
+        (said.led (said.plane (said.opening_of D.seen)) (said.opening_of D.seen words.now.key) seat.old.me.0.seen).past.calls }
+    ensures left { said.keeper_asks_left machine.new.shape machine.new.places machine.new.state ≤ said.keeper_asks_left machine.old.shape machine.old.places
+        machine.old.state }
     ensures over { said.keeper_word_due machine.new.places machine.new.state ≡ None }
     ensures beginning { said.IsBeginning machine.old.state.step → said.IsBeginning machine.new.state.step }
 {
@@ -309,9 +316,11 @@ pub(crate) fn call_device<D: Device>(
     ensures went { said.HasGoneOn seat.old.me.0.seen seat.new.me.0.seen }
     ensures honest { D.honest d.new }
     ensures after { said.IsAfterSeen (said.opening_of D.seen) words.now.key seat.new.me.0.seen (D.seen d.new) (D.may_leave d.new) }
-    ensures moments { said.AtEachMoment D.moment D.left_since d.old d.new (said.IsLeftWithin (said.opening_of D.seen) words.now.key seat.old.me.0.seen seat.new.me.0.seen) }
+    ensures moments { said.AtEachMoment D.moment D.left_since d.old d.new (said.IsLeftWithin (said.opening_of D.seen) words.now.key seat.old.me.0.seen
+        seat.new.me.0.seen) }
     ensures due { D.expects d.new ≡ said.kinds_by (said.keeper_due machine.old) (D.expects d.old) }
-    ensures fewer { said.keeper_asks_left machine.new.shape machine.new.places machine.new.state < said.keeper_asks_left machine.old.shape machine.old.places machine.old.state }
+    ensures fewer { said.keeper_asks_left machine.new.shape machine.new.places machine.new.state < said.keeper_asks_left machine.old.shape machine.old.places
+        machine.old.state }
 {
     match machine.call_device(d) {
         Ok(_) => note::<D, Granted>(words, seat),
@@ -331,9 +340,11 @@ pub(crate) fn word_steps<D: Device>(
     ensures seat { (seat.new.table_id ≡ seat.old.table_id) × (seat.new.id ≡ seat.old.id) }
     ensures keeping { said.IsKeeping (said.opening_of D.seen) words.now.key seat.new.me machine.new }
     ensures went { said.HasGoneOn seat.old.me.0.seen seat.new.me.0.seen }
-    ensures calls { (said.led (said.plane (said.opening_of D.seen)) (said.opening_of D.seen words.now.key) seat.new.me.0.seen).past.calls ≡ (said.led (said.plane (said.opening_of D.seen)) (said.opening_of D.seen words.now.key) seat.old.me.0.seen).past.calls }
+    ensures calls { (said.led (said.plane (said.opening_of D.seen)) (said.opening_of D.seen words.now.key) seat.new.me.0.seen).past.calls ≡
+        (said.led (said.plane (said.opening_of D.seen)) (said.opening_of D.seen words.now.key) seat.old.me.0.seen).past.calls }
     ensures told { said.keeper_ask machine.new.shape machine.new.places machine.new.state ≡ said.Done result }
-    ensures left { said.keeper_asks_left machine.new.shape machine.new.places machine.new.state ≤ said.keeper_asks_left machine.old.shape machine.old.places machine.old.state }
+    ensures left { said.keeper_asks_left machine.new.shape machine.new.places machine.new.state ≤ said.keeper_asks_left machine.old.shape machine.old.places
+        machine.old.state }
     ensures beginning { said.IsBeginning machine.old.state.step → said.IsBeginning machine.new.state.step }
 {
     let mut ask = machine.ask();
@@ -358,17 +369,37 @@ impl Keeper {
         mut pass: KeeperPass<D>,
         kind: CommitKind,
     ) -> (KeeperPass<D>, Result<Version, Fault>)
-        requires ready { said.IsKeeperReady (said.opening_of D.seen) table.now.table.shared.key table.now.table.shared.table_id pass.seat.table_id pass.seat.me self.old.machine }
-        ensures ready { said.IsKeeperReady (said.opening_of D.seen) table.now.table.shared.key table.now.table.shared.table_id result.0.seat.table_id result.0.seat.me self.new.machine }
+        requires ready { said.IsKeeperReady (said.opening_of D.seen) table.now.table.shared.key table.now.table.shared.table_id pass.seat.table_id
+            pass.seat.me self.old.machine }
+        ensures ready { said.IsKeeperReady (said.opening_of D.seen) table.now.table.shared.key table.now.table.shared.table_id result.0.seat.table_id
+            result.0.seat.me self.new.machine }
         ensures kept { said.HasKept (said.Commits kind) pass.seat.me.0.seen result.0.seat.me.0.seen }
         ensures device { said.LeavesDevice (said.opening_of D.seen) table.now.table.shared.key pass.seat.me.0.seen result.0.seat.me.0.seen }
         ensures told { said.IsBeginTold (said.keeper_ask self.new.machine.shape self.new.machine.places self.new.machine.state) result.1 }
     {
+        let answer = self.start_commit(table, &mut pass, kind);
+        (pass, answer)
+    }
+
+    /// Begins a commit, as `ask_commit` does.
+    pub fn start_commit<D: Device>(
+        &mut self,
+        table: &Table<D>,
+        pass: &mut KeeperPass<D>,
+        kind: CommitKind,
+    ) -> Result<Version, Fault>
+        requires ready { said.IsKeeperReady (said.opening_of D.seen) table.now.table.shared.key table.now.table.shared.table_id pass.old.seat.table_id
+            pass.old.seat.me self.old.machine }
+        ensures ready { said.IsKeeperReady (said.opening_of D.seen) table.now.table.shared.key table.now.table.shared.table_id pass.new.seat.table_id
+            pass.new.seat.me self.new.machine }
+        ensures kept { said.HasKept (said.Commits kind) pass.old.seat.me.0.seen pass.new.seat.me.0.seen }
+        ensures device { said.LeavesDevice (said.opening_of D.seen) table.now.table.shared.key pass.old.seat.me.0.seen pass.new.seat.me.0.seen }
+        ensures told { said.IsBeginTold (said.keeper_ask self.new.machine.shape self.new.machine.places self.new.machine.state) result }
+    {
         let words = &table.table.shared;
         begin_commit(words, &mut pass.seat, &mut self.machine, kind);
         word_steps(words, &mut pass.seat, &mut self.machine);
-        let answer = begin_told(&mut self.machine);
-        (pass, answer)
+        begin_told(&mut self.machine)
     }
 }
 

@@ -17,6 +17,7 @@ mod plays;
 mod positions;
 mod rule;
 mod sessions;
+mod taking;
 mod turns;
 
 pub use crossing::crosses;

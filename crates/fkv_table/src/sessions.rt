@@ -9,6 +9,7 @@ use crate::lines::{Room, SeatLine};
 use crate::performing::perform;
 use crate::plays::{Adds, First, Next, Notes, Turn};
 use crate::rule::{Pass, Place, Table, Words};
+use crate::taking::take_seat;
 use fkv_base::Serial;
 use fkv_disk::Device;
 use fkv_map::{Call, Op};
@@ -91,7 +92,9 @@ fn step<D: Device, O: Adds>(
     ensures went { said.Went (said.opening_of D.seen) seat.old.me (O.own seat.old.me.1) machine.old.seat.number seat.new.me }
     ensures seated { said.StandsIn (said.opening_of D.seen) words.now.key seat.new.me [] machine.new × (machine.new.seat ≡ machine.old.seat) }
     ensures idle { said.IsIdleEmpty (said.opening_of D.seen) machine.new seat.new.me }
-    ensures told { (its : said.Told) → said.session_ask machine.new.seat machine.new.state ≡ said.Done its → said.IsToldLast (said.led (said.plane (said.opening_of D.seen)) (said.opening_of D.seen words.now.key) seat.new.me.0.seen) machine.new.seat.number (said.telling its machine.new.state.finished) }
+    ensures told { (its : said.Told) → said.session_ask machine.new.seat machine.new.state ≡ said.Done its
+        → said.IsToldLast (said.led (said.plane (said.opening_of D.seen)) (said.opening_of D.seen words.now.key) seat.new.me.0.seen) machine.new.seat.number
+        (said.telling its machine.new.state.finished) }
     ensures fewer { said.session_asks_left machine.new.seat machine.new.state < said.session_asks_left machine.old.seat machine.old.state }
     ensures ask { result ≡ said.session_ask machine.new.seat machine.new.state }
 {
@@ -111,14 +114,18 @@ fn steps_on<D: Device>(
     requires table { (seat.old.table_id ≡ words.now.table_id) × said.IsTableOf (said.opening_of D.seen words.now.key) words.now.table_id }
     requires seated { said.StandsIn (said.opening_of D.seen) words.now.key seat.old.me [] machine.old }
     requires idle { said.IsIdleEmpty (said.opening_of D.seen) machine.old seat.old.me }
-    requires told { (its : said.Told) → said.session_ask machine.old.seat machine.old.state ≡ said.Done its → said.IsToldLast (said.led (said.plane (said.opening_of D.seen)) (said.opening_of D.seen words.now.key) seat.old.me.0.seen) machine.old.seat.number (said.telling its machine.old.state.finished) }
+    requires told { (its : said.Told) → said.session_ask machine.old.seat machine.old.state ≡ said.Done its
+        → said.IsToldLast (said.led (said.plane (said.opening_of D.seen)) (said.opening_of D.seen words.now.key) seat.old.me.0.seen) machine.old.seat.number
+        (said.telling its machine.old.state.finished) }
     requires ask { first ≡ said.session_ask machine.old.seat machine.old.state }
     ensures seat { (seat.new.table_id ≡ seat.old.table_id) × (seat.new.id ≡ seat.old.id) }
     ensures steps { said.HasStepped machine.old.seat.number seat.old.me.0.seen seat.new.me.0.seen }
-    ensures desk { (said.base (said.plane (said.opening_of D.seen)) seat.new.me.0.hand seat.new.me.1 ≡ said.base (said.plane (said.opening_of D.seen)) seat.old.me.0.hand seat.old.me.1) × (seat.new.me.0.desk ≡ seat.old.me.0.desk) }
+    ensures desk { (said.base (said.plane (said.opening_of D.seen)) seat.new.me.0.hand seat.new.me.1 ≡ said.base
+        (said.plane (said.opening_of D.seen)) seat.old.me.0.hand seat.old.me.1) × (seat.new.me.0.desk ≡ seat.old.me.0.desk) }
     ensures rests { said.Rests (said.opening_of D.seen) words.now.key seat.new.me machine.new × (machine.new.seat ≡ machine.old.seat) }
     ensures idle { seat.new.me.0.hand ≡ None }
-    ensures told { said.IsToldLast (said.led (said.plane (said.opening_of D.seen)) (said.opening_of D.seen words.now.key) seat.new.me.0.seen) machine.new.seat.number (said.telling result machine.new.state.finished) }
+    ensures told { said.IsToldLast (said.led (said.plane (said.opening_of D.seen)) (said.opening_of D.seen words.now.key) seat.new.me.0.seen)
+        machine.new.seat.number (said.telling result machine.new.state.finished) }
 {
     law_of_standing();
     let mut ask = first;
@@ -136,7 +143,8 @@ fn note<D: Device>(words: &Words<D>, seat: &mut Place<D>, _machine: &StraightSes
     requires seated { said.StandsIn (said.opening_of D.seen) words.now.key seat.old.me (said.noted seat.old.me.1) _machine.now }
     requires note { said.noted seat.old.me.1 ≡ said.Calls _machine.now.seat.number _call.now ∷ [] }
     ensures seat { (seat.new.table_id ≡ seat.old.table_id) × (seat.new.id ≡ seat.old.id) }
-    ensures told { (word : ℕ) × said.Stepped (said.plane (said.opening_of D.seen)) (said.opening_of D.seen words.now.key) seat.old.me.0 seat.old.me.1 0 [] (said.Calls _machine.now.seat.number _call.now) word seat.new.me }
+    ensures told { (word : ℕ) × said.Stepped (said.plane (said.opening_of D.seen)) (said.opening_of D.seen words.now.key) seat.old.me.0 seat.old.me.1 0 []
+        (said.Calls _machine.now.seat.number _call.now) word seat.new.me }
 {
     let _word = words.load::<Notes>(seat, 0);
 }
@@ -156,10 +164,12 @@ fn run_begun<D: Device>(
     requires ask { first ≡ said.session_ask machine.old.seat machine.old.state }
     ensures seat { (seat.new.table_id ≡ seat.old.table_id) × (seat.new.id ≡ seat.old.id) }
     ensures called { said.HasCalled machine.old.seat.number call.now seat.old.me.0.seen seat.new.me.0.seen }
-    ensures desk { (said.base (said.plane (said.opening_of D.seen)) seat.new.me.0.hand seat.new.me.1 ≡ said.base (said.plane (said.opening_of D.seen)) seat.old.me.0.hand seat.old.me.1) × (seat.new.me.0.desk ≡ seat.old.me.0.desk) }
+    ensures desk { (said.base (said.plane (said.opening_of D.seen)) seat.new.me.0.hand seat.new.me.1 ≡ said.base
+        (said.plane (said.opening_of D.seen)) seat.old.me.0.hand seat.old.me.1) × (seat.new.me.0.desk ≡ seat.old.me.0.desk) }
     ensures rests { said.Rests (said.opening_of D.seen) words.now.key seat.new.me machine.new × (machine.new.seat ≡ machine.old.seat) }
     ensures empty { seat.new.me.0.hand ≡ None }
-    ensures told { said.IsToldLast (said.led (said.plane (said.opening_of D.seen)) (said.opening_of D.seen words.now.key) seat.new.me.0.seen) machine.new.seat.number (said.telling result machine.new.state.finished) }
+    ensures told { said.IsToldLast (said.led (said.plane (said.opening_of D.seen)) (said.opening_of D.seen words.now.key) seat.new.me.0.seen)
+        machine.new.seat.number (said.telling result machine.new.state.finished) }
 {
     law_of_standing();
     if let Ask::Done(told) = first {
@@ -174,24 +184,24 @@ fn run_begun<D: Device>(
 #[inline(never)]
 fn run_by_machine<D: Device>(
     words: &Words<D>,
-    mut pass: Pass<D>,
+    seat: &mut Place<D>,
     machine: &mut StraightSession,
     desk: usize,
     call: &Call,
-) -> (Pass<D>, Told)
-    requires ready { said.IsReady (said.opening_of D.seen) words.now.key words.now.table_id pass.seat.table_id pass.seat.me machine.old desk }
-    ensures ready { said.IsReady (said.opening_of D.seen) words.now.key words.now.table_id result.0.seat.table_id result.0.seat.me machine.new desk }
+) -> Told
+    requires ready { said.IsReady (said.opening_of D.seen) words.now.key words.now.table_id seat.old.table_id seat.old.me machine.old desk }
+    ensures ready { said.IsReady (said.opening_of D.seen) words.now.key words.now.table_id seat.new.table_id seat.new.me machine.new desk }
     ensures number { machine.new.seat.number ≡ machine.old.seat.number }
-    ensures called { said.HasCalled machine.old.seat.number call.now pass.seat.me.0.seen result.0.seat.me.0.seen }
-    ensures told { said.IsToldLast (said.led (said.plane (said.opening_of D.seen)) (said.opening_of D.seen words.now.key) result.0.seat.me.0.seen) machine.new.seat.number (said.telling result.1 machine.new.state.finished) }
+    ensures called { said.HasCalled machine.old.seat.number call.now seat.old.me.0.seen seat.new.me.0.seen }
+    ensures told { said.IsToldLast (said.led (said.plane (said.opening_of D.seen)) (said.opening_of D.seen words.now.key) seat.new.me.0.seen)
+        machine.new.seat.number (said.telling result machine.new.state.finished) }
 {
     law_of_standing();
     law_start_stands(*call);
     let start = Happening::Calls(machine.number(), *call);
-    let _ = words.exchange(&mut pass.seat, desk, Held::Desk(start));
+    let _ = words.exchange(seat, desk, Held::Desk(start));
     let first = machine.begin(*call);
-    let told = run_begun(words, &mut pass.seat, machine, call, first);
-    (pass, told)
+    run_begun(words, seat, machine, call, first)
 }
 
 /// Goes on by the machine with a call that went straight as far as the line has come.
@@ -201,58 +211,60 @@ fn go_on<D: Device>(
     line: SeatLine<'_, D>,
     machine: &mut StraightSession,
     call: Call,
-) -> (Pass<D>, Told)
+) -> (Place<D>, Told)
     requires begun { said.IsBegun (said.opening_of D.seen) words.now.key words.now.table_id machine.old call line }
-    ensures ready { said.IsReady (said.opening_of D.seen) words.now.key words.now.table_id result.0.seat.table_id result.0.seat.me machine.new line.entry.desk }
+    ensures ready { said.IsReady (said.opening_of D.seen) words.now.key words.now.table_id result.0.table_id result.0.me machine.new line.entry.desk }
     ensures number { machine.new.seat.number ≡ machine.old.seat.number }
-    ensures called { (seen : List said.Happening) → said.HasCalled machine.old.seat.number call seen line.entry.me.0.seen → said.HasCalled machine.old.seat.number call seen result.0.seat.me.0.seen }
-    ensures told { said.IsToldLast (said.led (said.plane (said.opening_of D.seen)) (said.opening_of D.seen words.now.key) result.0.seat.me.0.seen) machine.new.seat.number (said.telling result.1 machine.new.state.finished) }
+    ensures called { (seen : List said.Happening) → said.HasCalled machine.old.seat.number call seen line.entry.me.0.seen
+        → said.HasCalled machine.old.seat.number call seen result.0.me.0.seen }
+    ensures told { said.IsToldLast (said.led (said.plane (said.opening_of D.seen)) (said.opening_of D.seen words.now.key) result.0.me.0.seen)
+        machine.new.seat.number (said.telling result.1 machine.new.state.finished) }
 {
     law_of_standing();
     let ask = machine.catch_up(&line, call);
     let mut seat = line.into_seat();
     if let Ask::Done(told) = ask {
-        return (Pass { seat }, told);
+        return (seat, told);
     }
     let next = settle(words, &mut seat, machine, ask);
     let told = steps_on(words, &mut seat, machine, next);
-    (Pass { seat }, told)
+    (seat, told)
 }
 
 /// Runs a call straight. Where it meets anything unusual the machine goes on, and where it may not go straight the machine runs it.
 #[inline(always)]
 fn run_call<D: Device>(
     words: &Words<D>,
-    pass: Pass<D>,
+    seat: Place<D>,
     machine: &mut StraightSession,
     desk: usize,
     replies: &mut Room,
     tail: &mut TailGuess,
     call: Call,
-) -> (Pass<D>, Told)
-    requires ready { said.IsReady (said.opening_of D.seen) words.now.key words.now.table_id pass.seat.table_id pass.seat.me machine.old desk }
-    ensures ready { said.IsReady (said.opening_of D.seen) words.now.key words.now.table_id result.0.seat.table_id result.0.seat.me machine.new desk }
+) -> (Place<D>, Told)
+    requires ready { said.IsReady (said.opening_of D.seen) words.now.key words.now.table_id seat.table_id seat.me machine.old desk }
+    ensures ready { said.IsReady (said.opening_of D.seen) words.now.key words.now.table_id result.0.table_id result.0.me machine.new desk }
     ensures number { machine.new.seat.number ≡ machine.old.seat.number }
-    ensures called { said.HasCalled machine.old.seat.number call pass.seat.me.0.seen result.0.seat.me.0.seen }
-    ensures told { said.IsToldLast (said.led (said.plane (said.opening_of D.seen)) (said.opening_of D.seen words.now.key) result.0.seat.me.0.seen) machine.new.seat.number (said.telling result.1 machine.new.state.finished) }
+    ensures called { said.HasCalled machine.old.seat.number call seat.me.0.seen result.0.me.0.seen }
+    ensures told { said.IsToldLast (said.led (said.plane (said.opening_of D.seen)) (said.opening_of D.seen words.now.key) result.0.me.0.seen)
+        machine.new.seat.number (said.telling result.1 machine.new.state.finished) }
 {
-    let Pass { seat } = pass;
     let mut line = SeatLine::new(words, seat, machine, desk, replies, tail);
     let went = machine.run(&mut line, call);
     // What the machine tells is bound first: else both ways would tell it in one place of memory, and a straight call would read it back from there.
     match went {
         Way::Ended(told) => {
             let seat = line.into_seat();
-            (Pass { seat }, told)
+            (seat, told)
         }
         Way::Stopped => {
-            let (pass, told) = go_on(words, line, machine, call);
-            (pass, told)
+            let (seat, told) = go_on(words, line, machine, call);
+            (seat, told)
         }
         Way::Stayed => {
-            let seat = line.into_seat();
-            let (pass, told) = run_by_machine(words, Pass { seat }, machine, desk, &call);
-            (pass, told)
+            let mut seat = line.into_seat();
+            let told = run_by_machine(words, &mut seat, machine, desk, &call);
+            (seat, told)
         }
     }
 }
@@ -262,52 +274,74 @@ impl Session {
     pub fn run<D: Device>(
         &mut self,
         table: &Table<D>,
-        pass: Pass<D>,
+        mut pass: Pass<D>,
         call: Call,
     ) -> (Pass<D>, Answer)
-        requires ready { said.IsReady (said.opening_of D.seen) table.now.table.shared.key table.now.table.shared.table_id pass.seat.table_id pass.seat.me self.old.machine self.old.desk }
-        ensures ready { said.IsReady (said.opening_of D.seen) table.now.table.shared.key table.now.table.shared.table_id result.0.seat.table_id result.0.seat.me self.new.machine self.new.desk }
+        requires ready { said.IsReady (said.opening_of D.seen) table.now.table.shared.key table.now.table.shared.table_id pass.seat.table_id pass.seat.me
+            self.old.machine self.old.desk }
+        ensures ready { said.IsReady (said.opening_of D.seen) table.now.table.shared.key table.now.table.shared.table_id result.0.seat.table_id
+            result.0.seat.me self.new.machine self.new.desk }
         ensures number { self.new.machine.seat.number ≡ self.old.machine.seat.number }
         ensures called { said.HasCalled self.old.machine.seat.number call pass.seat.me.0.seen result.0.seat.me.0.seen }
-        ensures answer { said.IsAnsweredLast (said.led (said.plane (said.opening_of D.seen)) (said.opening_of D.seen table.now.table.shared.key) result.0.seat.me.0.seen) self.new.machine.seat.number result.1 }
+        ensures answer { said.IsAnsweredLast (said.led (said.plane (said.opening_of D.seen)) (said.opening_of D.seen table.now.table.shared.key)
+            result.0.seat.me.0.seen) self.new.machine.seat.number result.1 }
+    {
+        let told = self.call(table, &mut pass, call);
+        let answer = answer_of(told, self.machine.finished());
+        (pass, answer)
+    }
+
+    /// Runs a call to its end, as `run` does, and gives what it was told: of a poll how many requests are left. `finished` tells those that it has finished.
+    pub fn call<D: Device>(&mut self, table: &Table<D>, pass: &mut Pass<D>, call: Call) -> Told
+        requires ready { said.IsReady (said.opening_of D.seen) table.now.table.shared.key table.now.table.shared.table_id pass.old.seat.table_id
+            pass.old.seat.me self.old.machine self.old.desk }
+        ensures ready { said.IsReady (said.opening_of D.seen) table.now.table.shared.key table.now.table.shared.table_id pass.new.seat.table_id
+            pass.new.seat.me self.new.machine self.new.desk }
+        ensures number { self.new.machine.seat.number ≡ self.old.machine.seat.number }
+        ensures called { said.HasCalled self.old.machine.seat.number call pass.old.seat.me.0.seen pass.new.seat.me.0.seen }
+        ensures told { said.IsToldLast (said.led (said.plane (said.opening_of D.seen)) (said.opening_of D.seen table.now.table.shared.key)
+            pass.new.seat.me.0.seen) self.new.machine.seat.number (said.telling result self.new.machine.state.finished) }
     {
         let words = &table.table.shared;
-        let (pass, told) = run_call(
+        let seat = take_seat(words, &mut pass.seat);
+        let (seat, told) = run_call(
             words,
-            pass,
+            seat,
             &mut self.machine,
             self.desk,
             &mut self.replies,
             &mut self.tail,
             call,
         );
-        let answer = answer_of(told, self.machine.finished());
-        (pass, answer)
+        pass.seat = seat;
+        told
     }
 
-    /// Runs a call to its end, as `run` does, and gives what it was told: of a poll how many requests are left. `finished` tells those that it has finished.
-    pub fn run_told<D: Device>(
-        &mut self,
-        table: &Table<D>,
-        pass: Pass<D>,
-        call: Call,
-    ) -> (Pass<D>, Told)
-        requires ready { said.IsReady (said.opening_of D.seen) table.now.table.shared.key table.now.table.shared.table_id pass.seat.table_id pass.seat.me self.old.machine self.old.desk }
-        ensures ready { said.IsReady (said.opening_of D.seen) table.now.table.shared.key table.now.table.shared.table_id result.0.seat.table_id result.0.seat.me self.new.machine self.new.desk }
+    /// Runs an operation to its end, as `call` does. It is inlined: a caller whose operation is always of one kind has none of the others' steps.
+    #[inline(always)]
+    pub fn op<D: Device>(&mut self, table: &Table<D>, pass: &mut Pass<D>, op: Op) -> Told
+        requires ready { said.IsReady (said.opening_of D.seen) table.now.table.shared.key table.now.table.shared.table_id pass.old.seat.table_id
+            pass.old.seat.me self.old.machine self.old.desk }
+        ensures ready { said.IsReady (said.opening_of D.seen) table.now.table.shared.key table.now.table.shared.table_id pass.new.seat.table_id
+            pass.new.seat.me self.new.machine self.new.desk }
         ensures number { self.new.machine.seat.number ≡ self.old.machine.seat.number }
-        ensures called { said.HasCalled self.old.machine.seat.number call pass.seat.me.0.seen result.0.seat.me.0.seen }
-        ensures told { said.IsToldLast (said.led (said.plane (said.opening_of D.seen)) (said.opening_of D.seen table.now.table.shared.key) result.0.seat.me.0.seen) self.new.machine.seat.number (said.telling result.1 self.new.machine.state.finished) }
+        ensures called { said.HasCalled self.old.machine.seat.number (call.Op op) pass.old.seat.me.0.seen pass.new.seat.me.0.seen }
+        ensures told { said.IsToldLast (said.led (said.plane (said.opening_of D.seen)) (said.opening_of D.seen table.now.table.shared.key)
+            pass.new.seat.me.0.seen) self.new.machine.seat.number (said.telling result self.new.machine.state.finished) }
     {
         let words = &table.table.shared;
-        run_call(
+        let seat = take_seat(words, &mut pass.seat);
+        let (seat, told) = run_call(
             words,
-            pass,
+            seat,
             &mut self.machine,
             self.desk,
             &mut self.replies,
             &mut self.tail,
-            call,
-        )
+            Call::Op(op),
+        );
+        pass.seat = seat;
+        told
     }
 
     /// What the last poll has finished, in the order of acceptance.
@@ -320,32 +354,52 @@ impl Session {
 
     /// The last serial that the session has given, by what its pass has seen, and 0 if it has given none. Behind an opening that is its point.
     pub fn serial<D: Device>(&self, _table: &Table<D>, _pass: &Pass<D>) -> Serial
-        requires ready { said.IsReady (said.opening_of D.seen) _table.now.table.shared.key _table.now.table.shared.table_id _pass.now.seat.table_id _pass.now.seat.me self.now.machine self.now.desk }
+        requires ready { said.IsReady (said.opening_of D.seen) _table.now.table.shared.key _table.now.table.shared.table_id _pass.now.seat.table_id
+            _pass.now.seat.me self.now.machine self.now.desk }
         ensures given { said.IsLastGiven (said.opening_of D.seen) _table.now.table.shared.key _pass.now.seat.me.0.seen self.now.machine.seat.number result.0 }
         ensures within { result.0 ≤ said.last_serial }
     {
         self.machine.serial()
     }
 
-    /// Runs an operation to its end, as `run` does, and gives what it was told. An `Answer` has room for the list of a poll, which is cleared and copied at
-    /// each call.
+    /// Runs a call to its end, as `call` does, by a pass that comes and goes.
+    pub fn run_told<D: Device>(
+        &mut self,
+        table: &Table<D>,
+        mut pass: Pass<D>,
+        call: Call,
+    ) -> (Pass<D>, Told)
+        requires ready { said.IsReady (said.opening_of D.seen) table.now.table.shared.key table.now.table.shared.table_id pass.seat.table_id pass.seat.me
+            self.old.machine self.old.desk }
+        ensures ready { said.IsReady (said.opening_of D.seen) table.now.table.shared.key table.now.table.shared.table_id result.0.seat.table_id
+            result.0.seat.me self.new.machine self.new.desk }
+        ensures number { self.new.machine.seat.number ≡ self.old.machine.seat.number }
+        ensures called { said.HasCalled self.old.machine.seat.number call pass.seat.me.0.seen result.0.seat.me.0.seen }
+        ensures told { said.IsToldLast (said.led (said.plane (said.opening_of D.seen)) (said.opening_of D.seen table.now.table.shared.key)
+            result.0.seat.me.0.seen) self.new.machine.seat.number (said.telling result.1 self.new.machine.state.finished) }
+    {
+        let told = self.call(table, &mut pass, call);
+        (pass, told)
+    }
+
+    /// Runs an operation to its end, as `op` does, by a pass that comes and goes.
     #[inline(always)]
-    pub fn run_op<D: Device>(&mut self, table: &Table<D>, pass: Pass<D>, op: Op) -> (Pass<D>, Told)
-        requires ready { said.IsReady (said.opening_of D.seen) table.now.table.shared.key table.now.table.shared.table_id pass.seat.table_id pass.seat.me self.old.machine self.old.desk }
-        ensures ready { said.IsReady (said.opening_of D.seen) table.now.table.shared.key table.now.table.shared.table_id result.0.seat.table_id result.0.seat.me self.new.machine self.new.desk }
+    pub fn run_op<D: Device>(
+        &mut self,
+        table: &Table<D>,
+        mut pass: Pass<D>,
+        op: Op,
+    ) -> (Pass<D>, Told)
+        requires ready { said.IsReady (said.opening_of D.seen) table.now.table.shared.key table.now.table.shared.table_id pass.seat.table_id pass.seat.me
+            self.old.machine self.old.desk }
+        ensures ready { said.IsReady (said.opening_of D.seen) table.now.table.shared.key table.now.table.shared.table_id result.0.seat.table_id
+            result.0.seat.me self.new.machine self.new.desk }
         ensures number { self.new.machine.seat.number ≡ self.old.machine.seat.number }
         ensures called { said.HasCalled self.old.machine.seat.number (call.Op op) pass.seat.me.0.seen result.0.seat.me.0.seen }
-        ensures told { said.IsToldLast (said.led (said.plane (said.opening_of D.seen)) (said.opening_of D.seen table.now.table.shared.key) result.0.seat.me.0.seen) self.new.machine.seat.number (said.telling result.1 self.new.machine.state.finished) }
+        ensures told { said.IsToldLast (said.led (said.plane (said.opening_of D.seen)) (said.opening_of D.seen table.now.table.shared.key)
+            result.0.seat.me.0.seen) self.new.machine.seat.number (said.telling result.1 self.new.machine.state.finished) }
     {
-        let words = &table.table.shared;
-        run_call(
-            words,
-            pass,
-            &mut self.machine,
-            self.desk,
-            &mut self.replies,
-            &mut self.tail,
-            Call::Op(op),
-        )
+        let told = self.op(table, &mut pass, op);
+        (pass, told)
     }
 }

@@ -21,8 +21,10 @@ pub enum TurnAsk {
 impl Keeper {
     /// Begins a turn. `drive` and `device_step` carry it on, by turns, until `drive` tells that it is over. The device isn't called.
     pub fn start_turn<D: Device>(&mut self, table: &Table<D>, pass: &mut KeeperPass<D>)
-        requires ready { said.IsKeeperReady (said.opening_of D.seen) table.now.table.shared.key table.now.table.shared.table_id pass.old.seat.table_id pass.old.seat.me self.old.machine }
-        ensures at_work { said.IsKeeperAtWork (said.opening_of D.seen) table.now.table.shared.key table.now.table.shared.table_id pass.new.seat.table_id pass.new.seat.me self.new.machine }
+        requires ready { said.IsKeeperReady (said.opening_of D.seen) table.now.table.shared.key table.now.table.shared.table_id pass.old.seat.table_id
+            pass.old.seat.me self.old.machine }
+        ensures at_work { said.IsKeeperAtWork (said.opening_of D.seen) table.now.table.shared.key table.now.table.shared.table_id pass.new.seat.table_id
+            pass.new.seat.me self.new.machine }
         ensures kept { said.HasKept said.Turns pass.old.seat.me.0.seen pass.new.seat.me.0.seen }
         ensures device { said.LeavesDevice (said.opening_of D.seen) table.now.table.shared.key pass.old.seat.me.0.seen pass.new.seat.me.0.seen }
     {
@@ -31,12 +33,15 @@ impl Keeper {
 
     /// Makes the turn's steps of words up to the next call of the device, or to the turn's end, and tells which. The device isn't called.
     pub fn drive<D: Device>(&mut self, table: &Table<D>, pass: &mut KeeperPass<D>) -> TurnAsk
-        requires at_work { said.IsKeeperAtWork (said.opening_of D.seen) table.now.table.shared.key table.now.table.shared.table_id pass.old.seat.table_id pass.old.seat.me self.old.machine }
-        ensures at_work { said.IsKeeperAtWork (said.opening_of D.seen) table.now.table.shared.key table.now.table.shared.table_id pass.new.seat.table_id pass.new.seat.me self.new.machine }
+        requires at_work { said.IsKeeperAtWork (said.opening_of D.seen) table.now.table.shared.key table.now.table.shared.table_id pass.old.seat.table_id
+            pass.old.seat.me self.old.machine }
+        ensures at_work { said.IsKeeperAtWork (said.opening_of D.seen) table.now.table.shared.key table.now.table.shared.table_id pass.new.seat.table_id
+            pass.new.seat.me self.new.machine }
         ensures went { said.HasGoneOn pass.old.seat.me.0.seen pass.new.seat.me.0.seen }
         ensures device { said.LeavesDevice (said.opening_of D.seen) table.now.table.shared.key pass.old.seat.me.0.seen pass.new.seat.me.0.seen }
         ensures told { said.IsTurnAsked self.new.machine result }
-        ensures left { said.keeper_asks_left self.new.machine.shape self.new.machine.places self.new.machine.state ≤ said.keeper_asks_left self.old.machine.shape self.old.machine.places self.old.machine.state }
+        ensures left { said.keeper_asks_left self.new.machine.shape self.new.machine.places self.new.machine.state ≤ said.keeper_asks_left
+            self.old.machine.shape self.old.machine.places self.old.machine.state }
     {
         match word_steps(&table.table.shared, &mut pass.seat, &mut self.machine) {
             KeeperTold::Device => TurnAsk::Device,
@@ -66,17 +71,21 @@ impl Keeper {
     /// Makes the one call of the device that `device_ask` tells. Where it fails the turn is over, with `Device`. The device is the one that the
     /// store was opened from, and it is honest. What a crash leaves in the middle of the call is what the life's calls may leave, with it or without it.
     pub fn device_step<D: Device>(&mut self, table: &Table<D>, pass: &mut KeeperPass<D>, d: &mut D)
-        requires at_work { said.IsKeeperAtWork (said.opening_of D.seen) table.now.table.shared.key table.now.table.shared.table_id pass.old.seat.table_id pass.old.seat.me self.old.machine }
+        requires at_work { said.IsKeeperAtWork (said.opening_of D.seen) table.now.table.shared.key table.now.table.shared.table_id pass.old.seat.table_id
+            pass.old.seat.me self.old.machine }
         requires asked { said.asks_device (said.keeper_ask self.old.machine.shape self.old.machine.places self.old.machine.state) ≡ true }
         requires honest { D.honest d.old }
         requires after { said.IsAfterSeen (said.opening_of D.seen) table.now.table.shared.key pass.old.seat.me.0.seen (D.seen d.old) (D.may_leave d.old) }
-        ensures at_work { said.IsKeeperAtWork (said.opening_of D.seen) table.now.table.shared.key table.now.table.shared.table_id pass.new.seat.table_id pass.new.seat.me self.new.machine }
+        ensures at_work { said.IsKeeperAtWork (said.opening_of D.seen) table.now.table.shared.key table.now.table.shared.table_id pass.new.seat.table_id
+            pass.new.seat.me self.new.machine }
         ensures went { said.HasGoneOn pass.old.seat.me.0.seen pass.new.seat.me.0.seen }
         ensures honest { D.honest d.new }
         ensures after { said.IsAfterSeen (said.opening_of D.seen) table.now.table.shared.key pass.new.seat.me.0.seen (D.seen d.new) (D.may_leave d.new) }
-        ensures moments { said.AtEachMoment D.moment D.left_since d.old d.new (said.IsLeftWithin (said.opening_of D.seen) table.now.table.shared.key pass.old.seat.me.0.seen pass.new.seat.me.0.seen) }
+        ensures moments { said.AtEachMoment D.moment D.left_since d.old d.new (said.IsLeftWithin (said.opening_of D.seen) table.now.table.shared.key
+            pass.old.seat.me.0.seen pass.new.seat.me.0.seen) }
         ensures due { D.expects d.new ≡ said.kinds_by (said.keeper_due self.old.machine) (D.expects d.old) }
-        ensures fewer { said.keeper_asks_left self.new.machine.shape self.new.machine.places self.new.machine.state < said.keeper_asks_left self.old.machine.shape self.old.machine.places self.old.machine.state }
+        ensures fewer { said.keeper_asks_left self.new.machine.shape self.new.machine.places self.new.machine.state < said.keeper_asks_left
+            self.old.machine.shape self.old.machine.places self.old.machine.state }
     {
         call_device(&table.table.shared, &mut pass.seat, &mut self.machine, d);
     }
@@ -90,21 +99,50 @@ impl Keeper {
         mut pass: KeeperPass<D>,
         d: &mut D,
     ) -> (KeeperPass<D>, Result<Turn, Fault>)
-        requires ready { said.IsKeeperReady (said.opening_of D.seen) table.now.table.shared.key table.now.table.shared.table_id pass.seat.table_id pass.seat.me self.old.machine }
+        requires ready { said.IsKeeperReady (said.opening_of D.seen) table.now.table.shared.key table.now.table.shared.table_id pass.seat.table_id
+            pass.seat.me self.old.machine }
         requires honest { D.honest d.old }
         requires after { said.IsAfterSeen (said.opening_of D.seen) table.now.table.shared.key pass.seat.me.0.seen (D.seen d.old) (D.may_leave d.old) }
-        ensures ready { said.IsKeeperReady (said.opening_of D.seen) table.now.table.shared.key table.now.table.shared.table_id result.0.seat.table_id result.0.seat.me self.new.machine }
+        ensures ready { said.IsKeeperReady (said.opening_of D.seen) table.now.table.shared.key table.now.table.shared.table_id result.0.seat.table_id
+            result.0.seat.me self.new.machine }
         ensures kept { said.HasKept said.Turns pass.seat.me.0.seen result.0.seat.me.0.seen }
         ensures honest { D.honest d.new }
         ensures after { said.IsAfterSeen (said.opening_of D.seen) table.now.table.shared.key result.0.seat.me.0.seen (D.seen d.new) (D.may_leave d.new) }
-        ensures moments { said.AtEachMoment D.moment D.left_since d.old d.new (said.IsLeftWithin (said.opening_of D.seen) table.now.table.shared.key pass.seat.me.0.seen result.0.seat.me.0.seen) }
-        ensures told { said.IsTurnTold self.new.machine.state.last (said.keeper_ask self.new.machine.shape self.new.machine.places self.new.machine.state) result.1 }
+        ensures moments { said.AtEachMoment D.moment D.left_since d.old d.new (said.IsLeftWithin (said.opening_of D.seen) table.now.table.shared.key
+            pass.seat.me.0.seen result.0.seat.me.0.seen) }
+        ensures told { said.IsTurnTold self.new.machine.state.last (said.keeper_ask self.new.machine.shape self.new.machine.places self.new.machine.state)
+            result.1 }
     {
-        self.start_turn(table, &mut pass);
+        let answer = self.make_turn(table, &mut pass, d);
+        (pass, answer)
+    }
+
+    /// Makes a turn to its end, as `turn` does.
+    pub fn make_turn<D: Device>(
+        &mut self,
+        table: &Table<D>,
+        pass: &mut KeeperPass<D>,
+        d: &mut D,
+    ) -> Result<Turn, Fault>
+        requires ready { said.IsKeeperReady (said.opening_of D.seen) table.now.table.shared.key table.now.table.shared.table_id pass.old.seat.table_id
+            pass.old.seat.me self.old.machine }
+        requires honest { D.honest d.old }
+        requires after { said.IsAfterSeen (said.opening_of D.seen) table.now.table.shared.key pass.old.seat.me.0.seen (D.seen d.old) (D.may_leave d.old) }
+        ensures ready { said.IsKeeperReady (said.opening_of D.seen) table.now.table.shared.key table.now.table.shared.table_id pass.new.seat.table_id
+            pass.new.seat.me self.new.machine }
+        ensures kept { said.HasKept said.Turns pass.old.seat.me.0.seen pass.new.seat.me.0.seen }
+        ensures honest { D.honest d.new }
+        ensures after { said.IsAfterSeen (said.opening_of D.seen) table.now.table.shared.key pass.new.seat.me.0.seen (D.seen d.new) (D.may_leave d.new) }
+        ensures moments { said.AtEachMoment D.moment D.left_since d.old d.new (said.IsLeftWithin (said.opening_of D.seen) table.now.table.shared.key
+            pass.old.seat.me.0.seen pass.new.seat.me.0.seen) }
+        ensures told { said.IsTurnTold self.new.machine.state.last (said.keeper_ask self.new.machine.shape self.new.machine.places self.new.machine.state)
+            result }
+    {
+        self.start_turn(table, pass);
         'pieces: loop {
-            match self.drive(table, &mut pass) {
-                TurnAsk::Device => self.device_step(table, &mut pass, d),
-                TurnAsk::Over(answer) => return (pass, answer),
+            match self.drive(table, pass) {
+                TurnAsk::Device => self.device_step(table, pass, d),
+                TurnAsk::Over(answer) => return answer,
             }
         }
     }
