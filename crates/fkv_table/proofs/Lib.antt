@@ -13,6 +13,7 @@ pub mod Lives
 pub mod Meets
 pub mod Moved
 pub mod Opens
+mod Parting
 pub mod Raises
 pub mod Ready
 pub mod Seating
@@ -21,4 +22,3 @@ pub mod StandIns
 pub mod Starts
 pub mod Steps
 pub mod Straights
-mod Parting

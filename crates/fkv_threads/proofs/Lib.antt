@@ -1,5 +1,6 @@
 pub mod Below
 mod Lawful
+mod OneMore
 mod Opens
 mod Shares
 mod Taken

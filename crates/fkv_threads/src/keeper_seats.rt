@@ -12,8 +12,9 @@ use std::marker::Model;
 use std::snapshot::Snapshot;
 use std::sync::Arc;
 
-/// The keeper with its pass, the device that the store was opened from, and its share of the table. In the middle of a turn it may wait for a call of the device
-/// that its caller makes. A contract sees it as the store and the table, what its pass has seen, the machine, the device, and whether a call of the device is due.
+/// The keeper with its pass, the device that the store was opened from, and its share of the table. In the middle of a turn it may wait for a call of the
+/// device that its caller makes. A contract sees it as the store and the table, what its pass has seen, the machine, the device, and whether a call of the
+/// device is due.
 #[derive(Drop)]
 pub struct KeeperSeat<D: Device + Drop> {
     table: Arc<Table<D>, Global>,
@@ -71,8 +72,8 @@ impl<D: Device + Drop> KeeperSeat<D> {
             .make_turn(&self.table, &mut self.pass, &mut self.device)
     }
 
-    /// Begins a turn, and carries it on up to its next call of the device, which isn't made, or to its end. Where a call of the device is due nothing changes, and
-    /// `Device` is answered again.
+    /// Begins a turn, and carries it on up to its next call of the device, which isn't made, or to its end. Where a call of the device is due nothing
+    /// changes, and `Device` is answered again.
     pub fn drive(&mut self) -> TurnAsk
         ensures driven { said.IsDriven D.Device self.old result self.new }
     {
