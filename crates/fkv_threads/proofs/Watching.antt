@@ -77,7 +77,7 @@ module _ {D : Type 0} (device : Ghosts D) where
     ready_over k me answer work told = record { opened = work.opened; same_table = work.same_table; keeping = work.keeping; idle = told.0 }
 
     -- what the turn tells as finished is so, where it is over
-    finished_over : (next : TurnAsk) (k : KeeperModel) (me : Me Slot (Knows (Opening D))) → OfEachTurn (opening device) → IsKeeperAtWork (opening device) key table pass me k → IsTurnAsked k next
+    pub finished_over : (next : TurnAsk) (k : KeeperModel) (me : Me Slot (Knows (Opening D))) → OfEachTurn (opening device) → IsKeeperAtWork (opening device) key table pass me k → IsTurnAsked k next
         → IfOver next (λ answer. TellsItsFinish (opening device) key me.0.seen answer)
     finished_over Device k me law work told = tt
     finished_over (Over answer) k me law work told = law key me.0.seen answer (record { table = table; seat = pass; me = me; machine = k; ready = ready_over k me answer work told; seen = refl; told = told.1 })

@@ -16,9 +16,10 @@ invariant_of-self g c =
 
 pub returns : goal.returns
 returns g c =
-    let at = opening_of g.D.Device.seen in let ran = c.call.ensures in let law = c.law_threads.ensures in
+    let at = opening_of g.D.Device.seen in let me = c.self.inside.pass.seat.me in let me' = c.call.new.pass.seat.me in let m = c.self.inside.session.machine in let m' = c.call.new.self.machine in
+    let ran = c.call.ensures in let law = c.law_threads.ensures in
     let here = ready_at at _ _ _ _ _ _ _ _ (λ i. (c.deref.ensures i).table.shared.key) (λ i. (c.deref.ensures i).table.shared.table_id) c.self.invariant in
     record {
-      called = told_there at _ _ _ _ _ _ _ _ _ _ _ (λ i. (c.deref.ensures i).table.shared.key) (λ i. (c.deref.ensures i).table.shared.table_id) c.self.view_is
-          (told_call at _ _ _ _ _ _ _ _ _ _ c.args.call _ here ran.ready ran.number ran.called ran.told (law.in_lives at) (law.durable at) (law.never_falls at) (law.recovered at));
+      called = told_there at _ _ _ _ me me' m m' _ _ _ (λ i. (c.deref.ensures i).table.shared.key) (λ i. (c.deref.ensures i).table.shared.table_id) c.self.view_is
+          (told_call at _ _ _ _ me me' m m' _ _ c.args.call _ here ran.ready ran.number ran.called ran.told (law.in_lives at) (law.durable at) (law.never_falls at) (law.recovered at));
     }

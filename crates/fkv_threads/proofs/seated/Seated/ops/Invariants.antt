@@ -2,7 +2,7 @@
 use Rattle.std.proofs.Common.{◌≡◌, length, take}
 use Rattle.fkv_threads.specs.Calling.{HaveRun}
 use Rattle.fkv_threads.specs.Models.{opening}
-use Rattle.fkv_threads.proofs.many.Seated.ops.Given as goal
+use Rattle.fkv_threads.proofs.seated.Seated.ops.Given as goal
 
 abbrev pub invariant-loop-at : goal.invariant-loop-at
 invariant-loop-at g l = record {

@@ -3,7 +3,7 @@ use Rattle.std.proofs.Common.{◌<◌, ◌∙◌, ℕ, sym, refl, subst}
 use Rattle.std.proofs.lemmas.List.{length-set, take_more_set}
 use Rattle.fkv_threads.specs.Models.{opening}
 use Rattle.fkv_threads.proofs.OneMore.{all_run, one_further}
-use Rattle.fkv_threads.proofs.many.Seated.ops.Goals as goal
+use Rattle.fkv_threads.proofs.seated.Seated.ops.Goals as goal
 
 pub loop-at-init : goal.loop-at-init
 loop-at-init g c = record { count = sym c.requires.room; ran = refl }
