@@ -83,9 +83,28 @@ class Type:
         above, item = r"(?m)((?:^ *(?:///|#\[).*\n)*)^(?:pub |pub\(\w+\) )?", rf"(?:struct|enum) {self.name}\b[^;{{]*(?:\{{(?s:.*?)^\}}|;)"
         found = re.search(rf"{above}(?:{item}|const {self.name}\b[^;]*;)", self.source)
         if not found:
+            found = re.search(rf"{above}trait {self.name}\b[^;{{]*\{{(?s:.*?)^\}}", self.source)
+            if found:
+                self.lines = self.ghosts_of(found[0].strip("\n").split("\n"))
+                return
             stop(f"{self.path} has no type {self.name}")
         lines = [it for it in found[0].strip("\n").split("\n") if not it.startswith("#[")]
         self.lines = [it for it in lines if not re.match(r" *(?:pub )?ghost ", it)]
+
+    @staticmethod
+    def ghosts_of(lines):
+        """Of a trait its ghost members, with their comments: what an implementation says of its values."""
+        kept, comment = [], []
+        for line in lines:
+            if line.startswith(("///", "pub trait", "trait", "}")):
+                kept.append(line)
+            elif line.lstrip().startswith("///"):
+                comment.append(line)
+            else:
+                if line.lstrip().startswith("ghost "):
+                    kept += [*comment, line]
+                comment = []
+        return kept
 
     def text(self):
         return self.lines

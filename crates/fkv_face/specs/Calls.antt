@@ -15,7 +15,7 @@ use Rattle.fkv_face.specs.declared.sessions.Update.{Update}
 use Rattle.fkv_face.specs.declared.told.Numbers.{Numbers}
 use Rattle.fkv_face.specs.Numbers.{fault_told}
 pub use Rattle.fkv_face.specs.Told.{IsToldIn, HasAnswered}
-pub use Rattle.fkv_handles.specs.Below.fkv_table.Planes.{opening_of}
+pub use Rattle.fkv_handles.specs.Below.fkv_threads.Models.{opening}
 pub use Rattle.fkv_map.specs.declared.operations.Call.TheVariants.{Op as Operation}
 
 abbrev pub upsert_of : ℕ → ℕ → Op

@@ -11,7 +11,7 @@ use Rattle.fkv_face.specs.declared.many.EachUpdate.{EachUpdate}
 use Rattle.fkv_face.specs.declared.many.Kind.{Kind}
 use Rattle.fkv_face.specs.declared.many.Kind.TheVariants as kind
 pub use Rattle.fkv_face.specs.Calls.{IsRead, IsUpdated, add_of, upsert_of}
-pub use Rattle.fkv_handles.specs.Below.fkv_table.Planes.{opening_of}
+pub use Rattle.fkv_handles.specs.Below.fkv_threads.Models.{opening}
 
 -- what an update of this kind makes of a key and a number
 abbrev pub making : Kind → ℕ → ℕ → Op

@@ -13,7 +13,7 @@ use Rattle.fkv_face.specs.Calls.{poll, sleep}
 use Rattle.fkv_face.specs.Numbers.{number_in}
 use Rattle.fkv_face.specs.Told.{HasAnswered, IsToldIn, numbers_of}
 pub use Rattle.std.specs.Prelude.{drop, length, map}
-pub use Rattle.fkv_handles.specs.Below.fkv_table.Planes.{opening_of}
+pub use Rattle.fkv_handles.specs.Below.fkv_threads.Models.{opening}
 
 abbrev pub request_of : Finished → FinishedRequest
 request_of (Update serial reply) = record { kind = 0; name = serial.0; value = number_in reply }

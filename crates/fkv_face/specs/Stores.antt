@@ -18,7 +18,7 @@ use Rattle.fkv_face.specs.Points.{ArePoints}
 use Rattle.fkv_face.specs.Sizes.{HasSizes, are_sizes, damaged_by}
 use Rattle.fkv_spread.specs.declared.keys.Keys.{Keys}
 use Rattle.fkv_spread.specs.declared.keys.Keys.TheVariants.{Spread, AsTheyAre}
-pub use Rattle.fkv_handles.specs.Below.fkv_table.Planes.{opening_of}
+pub use Rattle.fkv_handles.specs.Below.fkv_threads.Models.{opening}
 
 abbrev pub keys_told : ℕ → Keys
 keys_told zero = Spread

@@ -4,13 +4,13 @@ use Rattle.fkv_base.specs.declared.commits.CommitKind.{CommitKind}
 use Rattle.fkv_base.specs.declared.commits.CommitKind.TheVariants.{Full, Log}
 use Rattle.fkv_base.specs.declared.numbers.Version.{Version}
 use Rattle.fkv_base.specs.declared.faults.Fault.{Fault}
+use Rattle.fkv_disk.specs.declared.devices.Device.{Ghosts}
 use Rattle.fkv_disk.specs.Asks.{AskedCall, Reads, Writes, Syncs}
 use Rattle.fkv_keeper.specs.declared.answers.Finished.{Finished}
 use Rattle.fkv_keeper.specs.declared.answers.Turn.{Turn}
 use Rattle.fkv_posted.specs.declared.posted.Posted.{Posted}
 use Rattle.fkv_handles.specs.Below.fkv_table.TurnAsk.{TurnAsk}
 use Rattle.fkv_handles.specs.Below.fkv_table.TurnAsk.TheVariants.{Device, Over}
-use Rattle.fkv_handles.specs.Below.fkv_world.Runs.{World}
 use Rattle.fkv_handles.specs.declared.keepers.Keeper.{Keeper}
 use Rattle.fkv_handles.specs.Kept.{IsAskedBy, IsToldBy, IsTurnedBy}
 use Rattle.fkv_face.specs.declared.keepers.Turned.{Turned}
@@ -18,9 +18,8 @@ use Rattle.fkv_face.specs.Numbers.{fault_told}
 use Rattle.fkv_face.specs.Points.{ArePoints}
 pub use Rattle.std.specs.Prelude.{None}
 pub use Rattle.fkv_disk.specs.Asks.{asked_call}
-pub use Rattle.fkv_handles.specs.Handles.{IsToldHonestly, Opening, due_of, watch_of}
+pub use Rattle.fkv_handles.specs.Handles.{IsToldHonestly, due_of, watch_of}
 pub use Rattle.fkv_face.specs.Outcomes.{outcome_of}
-pub use Rattle.fkv_handles.specs.Below.fkv_table.Planes.{opening_of}
 
 -- Where the call lies that is posted. A write's bytes lie where the pointer says.
 abbrev pub IsPosted : Option AskedCall → ℤ → Turned → Turned → Type 0
@@ -55,19 +54,19 @@ abbrev pub IsBegun : Result Version Fault → ℤ → ℕ → ℕ → Type 0
 IsBegun (Ok version) result number number' = (result ≡ pos 0) × (number' ≡ version.0)
 IsBegun (Err why) result number number' = (result ≡ fault_told why) × (number' ≡ number)
 
-module _ (at : Opening → World) where
+module _ (device : Ghosts Posted) where
   -- The handle has made a turn's piece, and C is told what comes next.
   pub record IsTurned (before : Keeper) (result : ℤ) (t t' : Turned) (points points' : List ℕ) (after : Keeper) : Type 0 where
     pub next : TurnAsk
-    pub turned : IsTurnedBy at (watch_of before) next (watch_of after)
+    pub turned : IsTurnedBy device (watch_of before) next (watch_of after)
     pub code : ℤ
     pub is : result ≡ code
     pub told : IsNext next (due_of (watch_of after)) code t t' points points'
 
   -- So it has behind what it was told of the call that was posted.
-  pub record IsTold (moment : Posted → ℕ) (left_since : Posted → ℕ → List ℕ → Type 0) (failed : ℕ) (bytes : List ℕ) (before : Keeper) (result : ℤ) (t t' : Turned) (points points' : List ℕ) (after : Keeper) : Type 0 where
+  pub record IsTold (failed : ℕ) (bytes : List ℕ) (before : Keeper) (result : ℤ) (t t' : Turned) (points points' : List ℕ) (after : Keeper) : Type 0 where
     pub next : TurnAsk
-    pub turned : IsToldBy at moment left_since (outcome_of (due_of (watch_of before)) failed bytes) (watch_of before) next (watch_of after)
+    pub turned : IsToldBy device (outcome_of (due_of (watch_of before)) failed bytes) (watch_of before) next (watch_of after)
     pub code : ℤ
     pub is : result ≡ code
     pub told : IsNext next (due_of (watch_of after)) code t t' points points'
@@ -75,5 +74,5 @@ module _ (at : Opening → World) where
   -- A commit was asked for.
   pub record HasAsked (log_only : ℕ) (before : Keeper) (result : ℤ) (number number' : ℕ) (after : Keeper) : Type 0 where
     pub begun : Result Version Fault
-    pub asked : IsAskedBy at (kind_of log_only) (watch_of before) begun (watch_of after)
+    pub asked : IsAskedBy device (kind_of log_only) (watch_of before) begun (watch_of after)
     pub told : IsBegun begun result number number'

@@ -106,7 +106,7 @@ fn next(keeper: &mut HeldKeeper, ask: TurnAsk, turned: &mut Turned, points: &mut
 /// with `Broken`, `Device`, `EpochsSpent` or `Memory`.
 #[unsafe(no_mangle)]
 pub extern "C" fn fkv_turn(keeper: &mut HeldKeeper, turned: &mut Turned, points: &mut [u64]) -> i32
-    ensures { says.IsTurned (says.opening_of ⟦<Posted<'static> as Device>⟧.seen) keeper.old.value result turned.old turned.new points.old points.new keeper.new.value }
+    ensures { says.IsTurned ⟦<Posted<'static> as Device>⟧ keeper.old.value result turned.old turned.new points.old points.new keeper.new.value }
 {
     let ask = keeper.lent().turn();
     next(keeper, ask, turned, points).number
@@ -123,7 +123,7 @@ pub extern "C" fn fkv_told(
     points: &mut [u64],
 ) -> i32
     requires honest { says.IsToldHonestly (says.outcome_of (says.due_of (says.watch_of keeper.old.value)) failed bytes.now) (says.watch_of keeper.old.value) }
-    ensures { says.IsTold (says.opening_of ⟦<Posted<'static> as Device>⟧.seen) ⟦<Posted<'static> as Device>⟧.moment ⟦<Posted<'static> as Device>⟧.left_since failed bytes.now keeper.old.value result turned.old turned.new points.old points.new keeper.new.value }
+    ensures { says.IsTold ⟦<Posted<'static> as Device>⟧ failed bytes.now keeper.old.value result turned.old turned.new points.old points.new keeper.new.value }
 {
     let told = outcome_of(keeper.lent().posted(), failed, bytes);
     let ask = keeper.lent().tell(told);
@@ -144,7 +144,7 @@ fn kind_of(log_only: u32) -> CommitKind
 /// `VersionsSpent`, `LostFull`, `EpochsSpent`, `DrainFull`.
 #[unsafe(no_mangle)]
 pub extern "C" fn fkv_commit(keeper: &mut HeldKeeper, log_only: u32, number: &mut u64) -> i32
-    ensures { says.HasAsked (says.opening_of ⟦<Posted<'static> as Device>⟧.seen) log_only keeper.old.value result number.old number.new keeper.new.value }
+    ensures { says.HasAsked ⟦<Posted<'static> as Device>⟧ log_only keeper.old.value result number.old number.new keeper.new.value }
 {
     let kind = kind_of(log_only);
     match keeper.lent().ask_commit(kind) {

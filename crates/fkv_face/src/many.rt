@@ -67,7 +67,7 @@ fn fetch_ahead(session: &mut HeldSession, keys: &[u64], done: usize)
 
 #[inline(always)]
 fn read_one(session: &mut HeldSession, key: u64) -> EachRead
-    ensures { says.IsEachRead (says.opening_of ⟦<Posted<'static> as Device>⟧.seen) session.old.value key result session.new.value }
+    ensures { says.IsEachRead (says.opening ⟦<Posted<'static> as Device>⟧) session.old.value key result session.new.value }
 {
     let its = run_op(session, Op::Read(Key(key)));
     EachRead {
@@ -79,7 +79,7 @@ fn read_one(session: &mut HeldSession, key: u64) -> EachRead
 /// Reads each key, in order.
 fn read_each(session: &mut HeldSession, keys: &[u64], told: &mut [EachRead])
     requires { says.length keys.now ≤ says.length told.old }
-    ensures { says.AreCalled (says.IsEachRead (says.opening_of ⟦<Posted<'static> as Device>⟧.seen)) session.old.value keys.now told.old told.new session.new.value }
+    ensures { says.AreCalled (says.IsEachRead (says.opening ⟦<Posted<'static> as Device>⟧)) session.old.value keys.now told.old told.new session.new.value }
 {
     for i in 0..keys.len() {
         fetch_ahead(session, keys, i);
@@ -95,7 +95,7 @@ pub extern "C" fn fkv_get_many(
     keys: &[u64],
     told: &mut [EachRead],
 ) -> i32
-    ensures { says.AreRead (says.opening_of ⟦<Posted<'static> as Device>⟧.seen) session.old.value keys.now result told.old told.new session.new.value }
+    ensures { says.AreRead (says.opening ⟦<Posted<'static> as Device>⟧) session.old.value keys.now result told.old told.new session.new.value }
 {
     if told.len() < keys.len() {
         return ROOM_SMALL;
@@ -116,7 +116,7 @@ fn op_of(kind: Kind, key: u64, number: u64) -> Op
 
 #[inline(always)]
 fn update_one(session: &mut HeldSession, kind: Kind, key: u64, number: u64) -> EachUpdate
-    ensures { says.IsEachUpdate (says.opening_of ⟦<Posted<'static> as Device>⟧.seen) (says.making kind) session.old.value (key, number) result session.new.value }
+    ensures { says.IsEachUpdate (says.opening ⟦<Posted<'static> as Device>⟧) (says.making kind) session.old.value (key, number) result session.new.value }
 {
     let its = run_op(session, op_of(kind, key, number));
     EachUpdate {
@@ -138,7 +138,8 @@ fn update_each(
 )
     requires numbers { says.length numbers.now ≡ says.length keys.now }
     requires room { says.length keys.now ≤ says.length told.old }
-    ensures { says.AreCalled (says.IsEachUpdate (says.opening_of ⟦<Posted<'static> as Device>⟧.seen) (says.making kind)) session.old.value (says.zip keys.now numbers.now) told.old told.new session.new.value }
+    ensures { says.AreCalled (says.IsEachUpdate (says.opening ⟦<Posted<'static> as Device>⟧) (says.making kind)) session.old.value
+        (says.zip keys.now numbers.now) told.old told.new session.new.value }
 {
     for i in 0..keys.len() {
         fetch_ahead(session, keys, i);
@@ -154,7 +155,8 @@ fn update_many(
     numbers: &[u64],
     told: &mut [EachUpdate],
 ) -> i32
-    ensures { says.AreUpdated (says.opening_of ⟦<Posted<'static> as Device>⟧.seen) (says.making kind) session.old.value keys.now numbers.now result told.old told.new session.new.value }
+    ensures { says.AreUpdated (says.opening ⟦<Posted<'static> as Device>⟧) (says.making kind) session.old.value keys.now numbers.now result told.old told.new
+        session.new.value }
 {
     if numbers.len() != keys.len() || told.len() < keys.len() {
         return ROOM_SMALL;
@@ -172,7 +174,8 @@ pub extern "C" fn fkv_upsert_many(
     values: &[u64],
     told: &mut [EachUpdate],
 ) -> i32
-    ensures { says.AreUpdated (says.opening_of ⟦<Posted<'static> as Device>⟧.seen) says.upsert_of session.old.value keys.now values.now result told.old told.new session.new.value }
+    ensures { says.AreUpdated (says.opening ⟦<Posted<'static> as Device>⟧) says.upsert_of session.old.value keys.now values.now result told.old told.new
+        session.new.value }
 {
     update_many(session, Kind::Upsert, keys, values, told)
 }
@@ -185,7 +188,8 @@ pub extern "C" fn fkv_add_many(
     numbers: &[u64],
     told: &mut [EachUpdate],
 ) -> i32
-    ensures { says.AreUpdated (says.opening_of ⟦<Posted<'static> as Device>⟧.seen) says.add_of session.old.value keys.now numbers.now result told.old told.new session.new.value }
+    ensures { says.AreUpdated (says.opening ⟦<Posted<'static> as Device>⟧) says.add_of session.old.value keys.now numbers.now result told.old told.new
+        session.new.value }
 {
     update_many(session, Kind::Add, keys, numbers, told)
 }

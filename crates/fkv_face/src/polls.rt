@@ -62,7 +62,7 @@ pub extern "C" fn fkv_poll(
     into: &mut [FinishedRequest],
     count: &mut u64,
 ) -> i32
-    ensures { says.IsPolled (says.opening_of ⟦<Posted<'static> as Device>⟧.seen) session.old.value into.old result into.new count.new session.new.value }
+    ensures { says.IsPolled (says.opening ⟦<Posted<'static> as Device>⟧) session.old.value into.old result into.new count.new session.new.value }
 {
     *count = 0;
     if into.len() < MAX_PENDING {
@@ -82,7 +82,7 @@ pub extern "C" fn fkv_poll(
 /// block of the handle is left to the caller, who frees it.
 #[unsafe(no_mangle)]
 pub extern "C" fn fkv_end_session(session: &mut HeldSession) -> i32
-    ensures { says.IsEnded (says.opening_of ⟦<Posted<'static> as Device>⟧.seen) session.old.value result session.new.value }
+    ensures { says.IsEnded (says.opening ⟦<Posted<'static> as Device>⟧) session.old.value result session.new.value }
 {
     let slept = run(session, Call::Sleep);
     if slept.result == -11 {

@@ -26,7 +26,7 @@ pub struct Seen {
 }
 
 pub(crate) fn run(session: &mut HeldSession, call: Call) -> Numbers
-    ensures { says.IsToldIn (says.opening_of ⟦<Posted<'static> as Device>⟧.seen) session.old.value call result session.new.value }
+    ensures { says.IsToldIn (says.opening ⟦<Posted<'static> as Device>⟧) session.old.value call result session.new.value }
 {
     told_by(session.lent().tell(call))
 }
@@ -34,14 +34,14 @@ pub(crate) fn run(session: &mut HeldSession, call: Call) -> Numbers
 /// An operation by what it was told: it is called so often that no `Answer` is made for it.
 #[inline(always)]
 pub(crate) fn run_op(session: &mut HeldSession, op: Op) -> Numbers
-    ensures { says.IsToldIn (says.opening_of ⟦<Posted<'static> as Device>⟧.seen) session.old.value (says.Operation op) result session.new.value }
+    ensures { says.IsToldIn (says.opening ⟦<Posted<'static> as Device>⟧) session.old.value (says.Operation op) result session.new.value }
 {
     told_by(session.lent().op(op))
 }
 
 #[inline(always)]
 fn make_update(session: &mut HeldSession, op: Op, told: &mut Update) -> i32
-    ensures { says.IsUpdated (says.opening_of ⟦<Posted<'static> as Device>⟧.seen) session.old.value op result told.new session.new.value }
+    ensures { says.IsUpdated (says.opening ⟦<Posted<'static> as Device>⟧) session.old.value op result told.new session.new.value }
 {
     let its = run_op(session, op);
     told.serial = its.first;
@@ -53,7 +53,7 @@ fn make_update(session: &mut HeldSession, op: Op, told: &mut Update) -> i32
 /// Asks for the value of a key. `FOUND`, with the value; `NONE`; or `PENDING`, with the ticket by which a poll answers. `Asleep`, `PendingFull`.
 #[unsafe(no_mangle)]
 pub extern "C" fn fkv_get(session: &mut HeldSession, key: u64, value: &mut u64) -> i32
-    ensures { says.IsRead (says.opening_of ⟦<Posted<'static> as Device>⟧.seen) session.old.value key result value.new session.new.value }
+    ensures { says.IsRead (says.opening ⟦<Posted<'static> as Device>⟧) session.old.value key result value.new session.new.value }
 {
     let its = run_op(session, Op::Read(Key(key)));
     *value = its.first;
@@ -68,7 +68,7 @@ pub extern "C" fn fkv_upsert(
     value: u64,
     told: &mut Update,
 ) -> i32
-    ensures { says.IsUpdated (says.opening_of ⟦<Posted<'static> as Device>⟧.seen) session.old.value (says.upsert_of key value) result told.new session.new.value }
+    ensures { says.IsUpdated (says.opening ⟦<Posted<'static> as Device>⟧) session.old.value (says.upsert_of key value) result told.new session.new.value }
 {
     make_update(session, Op::Upsert(Key(key), Value(value)), told)
 }
@@ -81,7 +81,7 @@ pub extern "C" fn fkv_add(
     number: u64,
     told: &mut Update,
 ) -> i32
-    ensures { says.IsUpdated (says.opening_of ⟦<Posted<'static> as Device>⟧.seen) session.old.value (says.add_of key number) result told.new session.new.value }
+    ensures { says.IsUpdated (says.opening ⟦<Posted<'static> as Device>⟧) session.old.value (says.add_of key number) result told.new session.new.value }
 {
     make_update(session, Op::Add(Key(key), number), told)
 }
@@ -94,7 +94,7 @@ pub extern "C" fn fkv_max(
     number: u64,
     told: &mut Update,
 ) -> i32
-    ensures { says.IsUpdated (says.opening_of ⟦<Posted<'static> as Device>⟧.seen) session.old.value (says.max_of key number) result told.new session.new.value }
+    ensures { says.IsUpdated (says.opening ⟦<Posted<'static> as Device>⟧) session.old.value (says.max_of key number) result told.new session.new.value }
 {
     make_update(session, Op::Max(Key(key), number), told)
 }
@@ -102,7 +102,7 @@ pub extern "C" fn fkv_max(
 /// Takes the value of a key away. Answers and refusals are those of `fkv_upsert`, but for `ValueReserved`.
 #[unsafe(no_mangle)]
 pub extern "C" fn fkv_delete(session: &mut HeldSession, key: u64, told: &mut Update) -> i32
-    ensures { says.IsUpdated (says.opening_of ⟦<Posted<'static> as Device>⟧.seen) session.old.value (says.delete_of key) result told.new session.new.value }
+    ensures { says.IsUpdated (says.opening ⟦<Posted<'static> as Device>⟧) session.old.value (says.delete_of key) result told.new session.new.value }
 {
     make_update(session, Op::Delete(Key(key)), told)
 }
@@ -110,7 +110,7 @@ pub extern "C" fn fkv_delete(session: &mut HeldSession, key: u64, told: &mut Upd
 /// Tells the phase and the version that the session has seen from now on. `Asleep`.
 #[unsafe(no_mangle)]
 pub extern "C" fn fkv_refresh(session: &mut HeldSession, seen: &mut Seen) -> i32
-    ensures { says.IsSeen (says.opening_of ⟦<Posted<'static> as Device>⟧.seen) session.old.value says.refresh result seen.new session.new.value }
+    ensures { says.IsSeen (says.opening ⟦<Posted<'static> as Device>⟧) session.old.value says.refresh result seen.new session.new.value }
 {
     let its = run(session, Call::Refresh);
     seen.phase = its.first;
@@ -121,7 +121,7 @@ pub extern "C" fn fkv_refresh(session: &mut HeldSession, seen: &mut Seen) -> i32
 /// The session sleeps: it holds nobody up. `Asleep`, `PendingLeft`.
 #[unsafe(no_mangle)]
 pub extern "C" fn fkv_sleep(session: &mut HeldSession) -> i32
-    ensures { says.IsPlain (says.opening_of ⟦<Posted<'static> as Device>⟧.seen) session.old.value says.sleep result session.new.value }
+    ensures { says.IsPlain (says.opening ⟦<Posted<'static> as Device>⟧) session.old.value says.sleep result session.new.value }
 {
     run(session, Call::Sleep).result
 }
@@ -129,7 +129,7 @@ pub extern "C" fn fkv_sleep(session: &mut HeldSession) -> i32
 /// The session is awake again, and has seen this phase and version. `Awake`.
 #[unsafe(no_mangle)]
 pub extern "C" fn fkv_wake(session: &mut HeldSession, seen: &mut Seen) -> i32
-    ensures { says.IsSeen (says.opening_of ⟦<Posted<'static> as Device>⟧.seen) session.old.value says.wake result seen.new session.new.value }
+    ensures { says.IsSeen (says.opening ⟦<Posted<'static> as Device>⟧) session.old.value says.wake result seen.new session.new.value }
 {
     let its = run(session, Call::Wake);
     seen.phase = its.first;
@@ -141,7 +141,7 @@ pub extern "C" fn fkv_wake(session: &mut HeldSession, seen: &mut Seen) -> i32
 /// ended, and then 0.
 #[unsafe(no_mangle)]
 pub extern "C" fn fkv_serial(session: &mut HeldSession, serial: &mut u64) -> i32
-    ensures told { says.IsSerialTold (says.opening_of ⟦<Posted<'static> as Device>⟧.seen) session.old.value result serial.new }
+    ensures told { says.IsSerialTold (says.opening ⟦<Posted<'static> as Device>⟧) session.old.value result serial.new }
     ensures same { session.new.value ≡ session.old.value }
 {
     match session.lent().serial() {
@@ -159,7 +159,7 @@ pub extern "C" fn fkv_serial(session: &mut HeldSession, serial: &mut u64) -> i32
 /// The last serial of the session that a finished commit keeps: its updates up to there survive a crash from now on.
 #[unsafe(no_mangle)]
 pub extern "C" fn fkv_durable(session: &mut HeldSession, serial: &mut u64) -> i32
-    ensures { says.IsOneNumber (says.opening_of ⟦<Posted<'static> as Device>⟧.seen) session.old.value says.durable result serial.new session.new.value }
+    ensures { says.IsOneNumber (says.opening ⟦<Posted<'static> as Device>⟧) session.old.value says.durable result serial.new session.new.value }
 {
     let its = run(session, Call::Durable);
     *serial = its.first;

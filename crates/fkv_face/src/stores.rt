@@ -63,7 +63,8 @@ pub extern "C" fn fkv_open(
     image: &mut Image,
     points: &mut [u64],
 ) -> i32
-    ensures { says.IsOpening (says.opening_of ⟦<Posted<'static> as Device>⟧.seen) bytes.now keys result out.old out.new sizes.old sizes.new image.old image.new points.old points.new }
+    ensures { says.IsOpening (says.opening ⟦<Posted<'static> as Device>⟧) bytes.now keys result out.old out.new sizes.old sizes.new image.old image.new
+        points.old points.new }
 {
     match Store::open(alloc, bytes, keys_told(keys)) {
         Ok((store, recovered)) => {

@@ -2,10 +2,6 @@ pub mod Below
 pub mod Handles
 pub mod Kept
 pub mod Laid
-pub mod Models
 pub mod Opens
-pub mod Passes
-pub mod Posted
 pub mod Said
 pub mod Sittings
-pub mod Watches

@@ -7,12 +7,10 @@ pub use Rattle.fkv_disk.specs.Device.{LeavesOnly}
 pub use Rattle.fkv_handles.specs.Handles.{IsGiven, IsKeeperGiven, IsToldHonestly, due_of, keys_of, sitting_of, store_is_open, store_keeper, store_keys, store_sessions, watch_of}
 pub use Rattle.fkv_handles.specs.Kept.{IsAskedBy, IsToldBy, IsTurnedBy}
 pub use Rattle.fkv_handles.specs.Laid.{laid_call, laid_op}
-pub use Rattle.fkv_handles.specs.Opens.{AreFirst, IsFirst, IsOpenedFrom, IsOpeningRefused, IsRecovered, sitting_at}
-pub use Rattle.fkv_handles.specs.Sittings.{IsLastSerial, IsToldCall, IsToldCallOf, finished_in}
-pub use Rattle.fkv_handles.specs.Watches.{IsAskedToCommit, IsHonestlyTold, IsTold, IsTurned, keeper_due}
+pub use Rattle.fkv_handles.specs.Opens.{AreFirst, IsOpenedFrom, IsOpeningRefused, IsRecovered}
+pub use Rattle.fkv_handles.specs.Sittings.{IsLastSerial, IsToldCall, finished_in}
 pub use Rattle.fkv_handles.specs.declared.refusals.Refusal.TheVariants.{HandleOut}
 pub use Rattle.fkv_map.specs.declared.operations.Call.TheVariants.{Op}
 pub use Rattle.fkv_opening.specs.Opened.{IsStoreOf}
-pub use Rattle.fkv_threads.specs.Below.fkv_table.Planes.{opening_of}
-pub use Rattle.fkv_threads.specs.Said.{EachAt, HasBegun, IsAfterSeen, IsKeeperReady}
+pub use Rattle.fkv_threads.specs.Models.{opening}
 pub use Rattle.std.specs.Prelude.{Err, IfErr, IfOk, Ok, OnErr, OnOk, Some, length, map}

@@ -2,26 +2,25 @@
 ghost use Rattle.std.specs.Prelude.{◌≡◌, None};
 ghost use Rattle.fkv_handles.specs.Said as said;
 
-use crate::keeping::Keeping;
 use fkv_base::{CommitKind, Fault, Version};
 use fkv_disk::{Device, DeviceAsk};
 use fkv_posted::{Posted, Told};
-use fkv_threads::TurnAsk;
+use fkv_threads::{KeeperSeat, TurnAsk};
 
 /// The keeper's handle, until it is ended. It may go into any thread.
 #[derive(Drop)]
 pub struct Keeper {
-    pub(crate) keeping: Option<Keeping>,
+    pub(crate) seat: Option<KeeperSeat<Posted<'static>>>,
 }
 
 impl Keeper {
     /// Begins a turn, and carries it on up to its next call of the device or to its end. Where a call is posted that wasn't told yet nothing
-    /// changes, and `Device` is answered again. It ends early as `fkv_threads::turn` does; `Broken` once the handle is ended.
+    /// changes, and `Device` is answered again. It ends early as `KeeperSeat::turn` does; `Broken` once the handle is ended.
     pub fn turn(&mut self) -> TurnAsk
-        ensures turned { said.IsTurnedBy (said.opening_of ⟦<Posted<'static> as Device>⟧.seen) (said.watch_of self.old) result (said.watch_of self.new) }
+        ensures turned { said.IsTurnedBy ⟦<Posted<'static> as Device>⟧ (said.watch_of self.old) result (said.watch_of self.new) }
     {
-        match &mut self.keeping {
-            Some(keeping) => keeping.turn(),
+        match &mut self.seat {
+            Some(seat) => seat.drive(),
             None => TurnAsk::Over(Err(Fault::Broken)),
         }
     }
@@ -30,8 +29,8 @@ impl Keeper {
     pub fn posted(&self) -> Option<DeviceAsk<'_>>
         ensures { said.asked_call result ≡ said.due_of (said.watch_of self.now) }
     {
-        match &self.keeping {
-            Some(keeping) => keeping.posted(),
+        match &self.seat {
+            Some(seat) => seat.posted(),
             None => None,
         }
     }
@@ -40,21 +39,21 @@ impl Keeper {
     /// nothing is told, and this is `turn`.
     pub fn tell(&mut self, told: Told) -> TurnAsk
         requires honest { said.IsToldHonestly told (said.watch_of self.old) }
-        ensures told { said.IsToldBy (said.opening_of ⟦<Posted<'static> as Device>⟧.seen) ⟦<Posted<'static> as Device>⟧.moment ⟦<Posted<'static> as Device>⟧.left_since told (said.watch_of self.old) result (said.watch_of self.new) }
+        ensures told { said.IsToldBy ⟦<Posted<'static> as Device>⟧ told (said.watch_of self.old) result (said.watch_of self.new) }
     {
-        match &mut self.keeping {
-            Some(keeping) => keeping.tell(told),
+        match &mut self.seat {
+            Some(seat) => seat.told(told),
             None => TurnAsk::Over(Err(Fault::Broken)),
         }
     }
 
-    /// Begins a commit of this kind, and tells its number; later turns carry it through. It is refused as `fkv_threads::ask_commit` refuses it,
+    /// Begins a commit of this kind, and tells its number; later turns carry it through. It is refused as `KeeperSeat::ask_commit` refuses it,
     /// with `CommitRunning` in the middle of a turn too, and with `Broken` once the handle is ended.
     pub fn ask_commit(&mut self, kind: CommitKind) -> Result<Version, Fault>
-        ensures begun { said.IsAskedBy (said.opening_of ⟦<Posted<'static> as Device>⟧.seen) kind (said.watch_of self.old) result (said.watch_of self.new) }
+        ensures begun { said.IsAskedBy ⟦<Posted<'static> as Device>⟧ kind (said.watch_of self.old) result (said.watch_of self.new) }
     {
-        match &mut self.keeping {
-            Some(keeping) => keeping.ask_commit(kind),
+        match &mut self.seat {
+            Some(seat) => seat.ask_commit(kind),
             None => Err(Fault::Broken),
         }
     }
@@ -63,6 +62,6 @@ impl Keeper {
     pub fn end(&mut self)
         ensures { said.watch_of self.new ≡ None }
     {
-        self.keeping = None;
+        self.seat = None;
     }
 }

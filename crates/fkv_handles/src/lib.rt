@@ -3,20 +3,16 @@
 
 mod images;
 mod keepers;
-mod keeping;
 mod opening;
 mod refusals;
-mod seated;
 mod sessions;
 mod stores;
-mod views;
 
 pub use images::image_of;
 pub use keepers::Keeper;
 pub use refusals::Refusal;
 pub use sessions::Session;
 pub use stores::{Recovered, Store};
-pub use views::{Sitting, Watch};
 
 // What crates above name of the table.
 pub use fkv_threads::TurnAsk;

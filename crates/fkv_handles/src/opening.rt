@@ -1,43 +1,31 @@
 //! The parts of a store's opening.
-ghost use Rattle.std.specs.Prelude.{◌≡◌, length, Some, true};
+ghost use Rattle.std.specs.Prelude.{◌≡◌};
 ghost use Rattle.fkv_handles.specs.Said as said;
 
-use crate::keeping::Keeping;
-use crate::seated::Seated;
-use crate::stores::{Recovered, Store};
+use crate::stores::Recovered;
 use fkv_base::{Fault, Serial};
 use fkv_disk::Device;
 use fkv_opening::{Opened, recover};
 use fkv_posted::Posted;
-use fkv_spread::Keys;
-use fkv_threads::{KeeperPass, Pass, Table};
+use fkv_threads::Seated;
 use std::alloc::Global;
-use std::sync::Arc;
 
 /// What a store lies on whose caller makes the calls of the device.
 type Medium = Posted<'static>;
 
-/// Each session with its pass, and a share of the table.
-fn seats(
+/// The sessions, none of which is taken yet.
+pub(crate) fn untaken(
     alloc: Global,
-    table: &Arc<Table<Medium>, Global>,
-    sessions: Vec<(fkv_threads::Session, Pass<Medium>)>,
-) -> Result<Vec<Option<Seated>>, Fault>
-    requires ready { said.EachAt sessions.items (λ i x. said.HasBegun (said.opening_of ⟦<Posted<'static> as Device>⟧.seen) table.now.value.table.shared.key table.now.value.table.shared.table_id i x.0.machine x.0.desk x.1.seat.table_id x.1.seat.me) }
-    ensures same { said.IfOk result (λ seats. seats.items ≡ said.map (said.sitting_at table.now.value.table.shared.key) sessions.entry.items) }
+    sessions: Vec<Seated<Medium>>,
+) -> Result<Vec<Option<Seated<Medium>>>, Fault>
+    ensures same { said.IfOk result (λ places. places.items ≡ said.map said.Some sessions.entry.items) }
     ensures memory { said.OnErr result (result ≡ said.Err said.Memory) }
 {
-    let mut seats = Vec::new(alloc);
-    for (session, pass) in sessions {
-        let share = Arc::try_clone(table)?;
-        seats.push(Some(Seated {
-            table: share,
-            session,
-            pass: Some(pass),
-            _apart: [0; 32],
-        }))?;
+    let mut places = Vec::new(alloc);
+    for seated in sessions {
+        places.push(Some(seated))?;
     }
-    Ok(seats)
+    Ok(places)
 }
 
 fn copied(alloc: Global, points: &[Serial]) -> Result<Vec<Serial>, Fault>
@@ -77,50 +65,4 @@ pub(crate) fn opened_from(alloc: Global, bytes: &[u8]) -> Result<(Opened, Medium
         Ok(opened) => Ok((opened, shown.into_posted())),
         Err(why) => Err(why),
     }
-}
-
-/// The keeper with a share of the table.
-pub(crate) fn kept(
-    table: Arc<Table<Medium>, Global>,
-    keeper: fkv_threads::Keeper,
-    pass: KeeperPass<Medium>,
-    device: Medium,
-) -> Keeping
-    requires ready { said.IsKeeperReady (said.opening_of ⟦<Posted<'static> as Device>⟧.seen) table.value.table.shared.key table.value.table.shared.table_id pass.seat.table_id pass.seat.me keeper.machine }
-    requires honest { ⟦<Posted<'static> as Device>⟧.honest device }
-    requires after { said.IsAfterSeen (said.opening_of ⟦<Posted<'static> as Device>⟧.seen) table.value.table.shared.key pass.seat.me.0.seen (⟦<Posted<'static> as Device>⟧.seen device) (⟦<Posted<'static> as Device>⟧.may_leave device) }
-    ensures first { said.IsFirst table.entry.value.table.shared.key pass.entry.seat.me.0.seen keeper.machine device.entry result }
-{
-    Keeping {
-        table,
-        keeper,
-        pass: Some(pass),
-        device,
-        in_turn: false,
-    }
-}
-
-/// The handles of a table that was just opened, each with its share of it.
-pub(crate) fn handles_of(
-    alloc: Global,
-    table: Arc<Table<Medium>, Global>,
-    sessions: Vec<(fkv_threads::Session, Pass<Medium>)>,
-    keeping: Keeping,
-    keys: Keys,
-) -> Result<Store, Fault>
-    requires sessions { said.EachAt sessions.items (λ i x. said.HasBegun (said.opening_of ⟦<Posted<'static> as Device>⟧.seen) table.value.table.shared.key table.value.table.shared.table_id i x.0.machine x.0.desk x.1.seat.table_id x.1.seat.me) }
-    ensures count { said.IfOk result (λ store. length (said.store_sessions store) ≡ length sessions.entry.items) }
-    ensures first { said.IfOk result (λ store. said.AreFirst table.entry.value.table.shared.key (said.store_sessions store)) }
-    ensures keeper { said.IfOk result (λ store. said.store_keeper store ≡ Some keeping) }
-    ensures keys { said.IfOk result (λ store. said.store_keys store ≡ keys) }
-    ensures is_open { said.IfOk result (λ store. said.store_is_open store ≡ true) }
-    ensures memory { said.OnErr result (result ≡ said.Err said.Memory) }
-{
-    let sessions = seats(alloc, &table, sessions)?;
-    Ok(Store {
-        keys,
-        table: Some(table),
-        sessions,
-        keeper: Some(keeping),
-    })
 }

@@ -2,19 +2,19 @@
 ghost use Rattle.std.specs.Prelude.{◌≡◌, ◌≤◌, None};
 ghost use Rattle.fkv_handles.specs.Said as said;
 
-use crate::seated::Seated;
 use fkv_base::{Fault, Key, Serial};
 use fkv_disk::Device;
 use fkv_map::{Call, Op};
 use fkv_posted::Posted;
 use fkv_session::{Finished, Told};
 use fkv_spread::Keys;
+use fkv_threads::Seated;
 
 /// A session's handle, until it is ended. It may go into any thread.
 #[derive(Drop)]
 pub struct Session {
     pub(crate) keys: Keys,
-    pub(crate) seated: Option<Seated>,
+    pub(crate) seated: Option<Seated<Posted<'static>>>,
 }
 
 /// The operation on the key as it lies in the store.
@@ -43,16 +43,17 @@ fn laid_in(keys: Keys, call: Call) -> Call
 }
 
 impl Session {
-    /// Runs a call to its end, as `fkv_threads::run_told` does, and gives what it was told. It waits for no other thread, and a refusal is told too. The key
+    /// Runs a call to its end, as `Seated::call` does, and gives what it was told. It waits for no other thread, and a refusal is told too. The key
     /// of an operation is the caller's. A poll tells how many requests are left, and `finished` those that it has finished. `NoSession` once the
     /// handle is ended.
     pub fn tell(&mut self, call: Call) -> Told
-        ensures called { said.IsToldCall (said.opening_of ⟦<Posted<'static> as Device>⟧.seen) (said.sitting_of self.old) (said.laid_call (said.keys_of self.old) call) result (said.sitting_of self.new) }
+        ensures called { said.IsToldCall (said.opening ⟦<Posted<'static> as Device>⟧) (said.sitting_of self.old)
+            (said.laid_call (said.keys_of self.old) call) result (said.sitting_of self.new) }
         ensures keys { said.keys_of self.new ≡ said.keys_of self.old }
     {
         let its_call = laid_in(self.keys, call);
         match &mut self.seated {
-            Some(seated) => seated.tell(its_call),
+            Some(seated) => seated.call(its_call),
             None => Told::Refused(Fault::NoSession),
         }
     }
@@ -71,10 +72,10 @@ impl Session {
     /// The last serial that the session has given, 0 if it has given none. A commit keeps the session's updates up to one of its serials. `NoSession` once
     /// the handle is ended.
     pub fn serial(&self) -> Result<Serial, Fault>
-        ensures given { said.IsLastSerial (said.opening_of ⟦<Posted<'static> as Device>⟧.seen) (said.sitting_of self.now) result }
+        ensures given { said.IsLastSerial (said.opening ⟦<Posted<'static> as Device>⟧) (said.sitting_of self.now) result }
     {
         match &self.seated {
-            Some(seated) => seated.serial(),
+            Some(seated) => Ok(seated.serial()),
             None => Err(Fault::NoSession),
         }
     }
@@ -82,7 +83,8 @@ impl Session {
     /// Runs an operation to its end, as `tell` does a call.
     #[inline(always)]
     pub fn op(&mut self, op: Op) -> Told
-        ensures called { said.IsToldCall (said.opening_of ⟦<Posted<'static> as Device>⟧.seen) (said.sitting_of self.old) (said.Op (said.laid_op (said.keys_of self.old) op)) result (said.sitting_of self.new) }
+        ensures called { said.IsToldCall (said.opening ⟦<Posted<'static> as Device>⟧) (said.sitting_of self.old)
+            (said.Op (said.laid_op (said.keys_of self.old) op)) result (said.sitting_of self.new) }
         ensures keys { said.keys_of self.new ≡ said.keys_of self.old }
     {
         let op = laid(self.keys, op);

@@ -3,16 +3,14 @@ ghost use Rattle.std.specs.Prelude.{◌≡◌, [], None, true, false};
 ghost use Rattle.fkv_handles.specs.Said as said;
 
 use crate::keepers::Keeper;
-use crate::keeping::Keeping;
-use crate::opening::{handles_of, kept, opened_from, told_of};
+use crate::opening::{opened_from, told_of, untaken};
 use crate::refusals::Refusal;
-use crate::seated::Seated;
 use crate::sessions::Session;
 use fkv_base::{Fault, Serial, Shape, Version};
 use fkv_disk::Device;
 use fkv_posted::Posted;
 use fkv_spread::Keys;
-use fkv_threads::{OpenTable, Table};
+use fkv_threads::{KeeperSeat, OpenSeats, Seated, Table, open_seats};
 use std::alloc::Global;
 use std::sync::Arc;
 
@@ -22,8 +20,8 @@ pub struct Store {
     pub(crate) keys: Keys,
     /// None once the store is closed.
     pub(crate) table: Option<Arc<Table<Posted<'static>>, Global>>,
-    pub(crate) sessions: Vec<Option<Seated>>,
-    pub(crate) keeper: Option<Keeping>,
+    pub(crate) sessions: Vec<Option<Seated<Posted<'static>>>>,
+    pub(crate) keeper: Option<KeeperSeat<Posted<'static>>>,
 }
 
 /// What an image has told, as a store is opened from it.
@@ -40,22 +38,23 @@ impl Store {
     /// Opens the store of this image, as `recover` does. The bytes are those of the file, all of them synced. They aren't needed behind the call.
     /// `NotAStore`, `Damaged` or `Memory`.
     pub fn open(alloc: Global, bytes: &[u8], keys: Keys) -> Result<(Store, Recovered), Fault>
-        ensures opened { said.IfOk result (λ r. said.IsOpenedFrom (said.opening_of ⟦<Posted<'static> as Device>⟧.seen) bytes.now keys r.0 r.1) }
+        ensures opened { said.IfOk result (λ r. said.IsOpenedFrom (said.opening ⟦<Posted<'static> as Device>⟧) bytes.now keys r.0 r.1) }
         ensures refused { said.IfErr result (said.IsOpeningRefused bytes.now) }
     {
         let (opened, medium) = opened_from(alloc, bytes)?;
         let told = told_of(alloc, &opened)?;
-        let OpenTable {
+        let OpenSeats {
             table,
             sessions,
             keeper,
-            pass,
-            device,
-        } = fkv_threads::open(alloc, opened, medium)?;
-        let table = Arc::new(alloc, table)?;
-        let share = Arc::try_clone(&table)?;
-        let keeping = kept(share, keeper, pass, device);
-        let store = handles_of(alloc, table, sessions, keeping, keys)?;
+        } = open_seats(alloc, opened, medium)?;
+        let sessions = untaken(alloc, sessions)?;
+        let store = Store {
+            keys,
+            table: Some(table),
+            sessions,
+            keeper: Some(keeper),
+        };
         Ok((store, told))
     }
 
@@ -87,9 +86,7 @@ impl Store {
     {
         match self.keeper.take() {
             None => Err(Refusal::HandleTaken),
-            Some(keeping) => Ok(Keeper {
-                keeping: Some(keeping),
-            }),
+            Some(seat) => Ok(Keeper { seat: Some(seat) }),
         }
     }
 

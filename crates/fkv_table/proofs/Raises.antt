@@ -8,7 +8,7 @@ use Rattle.fkv_map.specs.declared.operations.Call.{Call}
 use Rattle.fkv_plane.specs.declared.asks.Ask.{Ask}
 use Rattle.fkv_plane.specs.declared.asks.Ask.TheVariants.{Load, Cas}
 use Rattle.fkv_session.specs.declared.answers.Told.{Told}
-use Rattle.fkv_session.specs.Sessions.{Seat, SessionState}
+use Rattle.fkv_session.specs.Sessions.{Seat}
 use Rattle.fkv_straight.specs.Standing.{asked, leads}
 use Rattle.law_world.specs.Below.fkv_world.Runs.{World}
 use Rattle.fkv_seats.specs.Rule.{Ruled}

@@ -1,5 +1,5 @@
 -- One step of the table that stands for two of a session: a load, and a Cas of the same word.
-use Rattle.std.specs.Prelude.{◌≡◌, ℕ, List, []}
+use Rattle.std.specs.Prelude.{◌≡◌, ℕ, []}
 use Rattle.atomic_table.specs.Table.{Me, Step}
 use Rattle.law_world.specs.Below.fkv_world.Runs.{World}
 use Rattle.fkv_table.specs.Desks.{Slot, Knows, turned}

@@ -11,6 +11,7 @@ use Rattle.std.specs.Vec.Iter.{into_iter_items, into_iter_len, into_iter_steps}
 use Rattle.std.specs.declared.vec.IntoIter.{IntoIter}
 use Rattle.fkv_base.specs.declared.faults.Fault.{Fault}
 use Rattle.fkv_base.specs.declared.numbers.Serial.{Serial}
+use Rattle.fkv_disk.specs.declared.devices.Device.{Ghosts}
 use Rattle.fkv_keeper.specs.declared.answers.Finished.{Finished}
 use Rattle.fkv_keeper.specs.declared.answers.Turn.{Turn}
 use Rattle.fkv_lines.specs.declared.scripts.Line.{Line}
@@ -21,16 +22,17 @@ use Rattle.fkv_seats.specs.Rule.{IsSeenBy}
 use Rattle.fkv_session.specs.declared.answers.Answer.{Answer}
 use Rattle.fkv_threads.specs.Below.fkv_table.Happening.{Happening}
 use Rattle.fkv_threads.specs.Below.fkv_table.KeeperCalls.{HasKept}
-use Rattle.fkv_threads.specs.Below.fkv_table.Keeps.{IsAfterSeen, LeavesDevice}
 use Rattle.fkv_threads.specs.Below.fkv_table.Planes.{plane}
 use Rattle.fkv_threads.specs.Below.fkv_table.Starts.{EachAt}
 use Rattle.fkv_threads.proofs.Below.fkv_table.Starts.{one_more}
 use Rattle.fkv_thread_scripts.specs.Calls.{calls_of}
 use Rattle.fkv_thread_scripts.specs.Logs.{accepted_by, durable_by, told_by}
 use Rattle.fkv_thread_scripts.specs.declared.logs.Log.{Log}
-use Rattle.fkv_threads.specs.Begun.{IsOverStore}
+use Rattle.fkv_threads.specs.Begun.{AreFirst, IsOverStore}
+use Rattle.fkv_threads.specs.Models.{IsWatching, Opening, Sitting, Watch, opening}
+use Rattle.fkv_threads.specs.Watches.{IsTurnOf}
 use Rattle.fkv_threads.specs.Runs.{run_of}
-use Rattle.fkv_threading.specs.Told.{AreLogs, AreTurns, HasMade, IsLogOf, IsNoted, IsPlayed, IsTold, Part, Seat, TurnRun, WasFinished, WasTold, WerePlayed, finish_by, is_full, is_own, part_at, part_of, point_at}
+use Rattle.fkv_threading.specs.Told.{AreLogs, AreTurns, HasMade, IsLogOf, IsNoted, IsPlayed, IsTold, Part, TurnRun, WasFinished, WasTold, WerePlayed, finish_by, is_full, is_own, part_at, part_of, point_at}
 use Rattle.fkv_threads.specs.Below.fkv_world.Runs.{World}
 use Rattle.fkv_threads.specs.Below.law_threads.Calls.{CallRun, HasRun}
 use Rattle.fkv_threads.specs.Below.law_threads.Turns.{HasTurned}
@@ -65,12 +67,12 @@ pub one_at : {X : Type 0} (holds : ℕ → X → Type 0) (xs all : List X) (more
 one_at holds xs all more pushed each its = (one_more holds (λ x. x) xs all more (map (λ x. x) xs) pushed refl each (subst (λ (n : ℕ). holds n more) (sym (length-map xs (λ x. x))) its)).1
 
 -- the part of the session at the next number, by equal numbers, points and calls
-pub seated_at : {K : Type 0} (key : K) (places number its_number : ℕ) (points : List Serial) (point : Serial) (lines : List Line) (calls : List Call) → its_number ≡ places → number ≡ places → point ≡ point_at points number → calls ≡ calls_of number lines
-    → (let part : Part K = record { key = key; number = its_number; point = point; calls = calls } in part ≡ part_at key points lines places)
-seated_at key places number its_number points point lines calls its_is is point_is calls_are =
+pub seated_at : {K : Type 0} (key its_key : K) (places number its_number : ℕ) (points : List Serial) (point : Serial) (lines : List Line) (calls : List Call) → its_key ≡ key → its_number ≡ places → number ≡ places → point ≡ point_at points number
+    → calls ≡ calls_of number lines → (let part : Part K = record { key = its_key; number = its_number; point = point; calls = calls } in part ≡ part_at key points lines places)
+seated_at key its_key places number its_number points point lines calls key_is its_is is point_is calls_are =
     let same_point : point ≡ point_at points places = point_is ∙ ap (λ (n : ℕ). point_at points n) is in
     let same_calls : calls ≡ calls_of places lines = calls_are ∙ ap (λ (n : ℕ). calls_of n lines) is in
-    λ i. record { key = key; number = its_is i; point = same_point i; calls = same_calls i }
+    λ i. record { key = key_is i; number = its_is i; point = same_point i; calls = same_calls i }
 
 pub promised_at : {K : Type 0} (key : K) (places number : ℕ) (points : List Serial) (point : Serial) (lines : List Line) → number ≡ places → point ≡ point_at points number → part_of key number point lines ≡ part_at key points lines places
 promised_at key places number points point lines is point_is =
@@ -107,7 +109,7 @@ module _ {K : Type 0} (at : K → World) where
       }
 
   -- a call of its own, by the session behind it
-  pub told_own : (seat seat' : Seat K) (point : Serial) (calls answered : List Call) (log log' : Log) (call : Call) (answer : Answer) → HasMade at seat seat' call answer log log' → is_own call ≡ true
+  pub told_own : (seat seat' : Sitting K) (point : Serial) (calls answered : List Call) (log log' : Log) (call : Call) (answer : Answer) → HasMade at seat seat' call answer log log' → is_own call ≡ true
       → WasTold at (record { key = seat.key; number = seat.number; point = point; calls = calls }) answered log seat.seen → WasTold at (record { key = seat'.key; number = seat'.number; point = point; calls = calls }) answered log' seat'.seen
   told_own seat seat' point calls answered log log' call answer made own was =
       subst (λ (part : Part K). WasTold at part answered log' seat'.seen) (same_part seat.key seat'.key seat.number seat'.number point calls made.key made.number)
@@ -125,7 +127,7 @@ module _ {K : Type 0} (at : K → World) where
       (told_answer part (take answered calls) log log' call answer before behind ran noted (sym full) was)
 
   -- the next call of its lines, or a try of it, by the session behind it
-  pub told_next : (seat seat' : Seat K) (point : Serial) (calls : List Call) (answered answered' : ℕ) (log log' : Log) (call : Call) (answer : Answer) (full is_answered : Bool) → HasMade at seat seat' call answer log log' → slice_get calls answered ≡ Some call → full ≡ is_full answer
+  pub told_next : (seat seat' : Sitting K) (point : Serial) (calls : List Call) (answered answered' : ℕ) (log log' : Log) (call : Call) (answer : Answer) (full is_answered : Bool) → HasMade at seat seat' call answer log log' → slice_get calls answered ≡ Some call → full ≡ is_full answer
       → is_answered ≡ not full → answered' ≡ (if is_answered then answered + 1 else answered) → WasTold at (record { key = seat.key; number = seat.number; point = point; calls = calls }) (take answered calls) log seat.seen
       → WasTold at (record { key = seat'.key; number = seat'.number; point = point; calls = calls }) (take answered' calls) log' seat'.seen
   told_next seat seat' point calls answered answered' log log' call answer full is_answered made found is_it answers next was =
@@ -161,10 +163,6 @@ module _ {K : Type 0} (at : K → World) where
   pub finished_on : (key : K) (start : Happening) (finished : Option Finished) (seen seen' : List Happening) → HasKept start seen seen' → WasFinished at key finished seen → WasFinished at key finished seen'
   finished_on key start finished seen seen' kept was = record { turns = was.turns; turned = turns_on key was.turns seen seen' (kept_seen start seen seen' kept) was.turned; last = was.last }
 
-  -- and where it calls no device, that stands behind the same calls
-  pub after_kept : (key : K) (seen seen' : List Happening) (shown : List ℕ) (may_leave : List ℕ → Type 0) → LeavesDevice at key seen seen' → IsAfterSeen at key seen shown may_leave → IsAfterSeen at key seen' shown may_leave
-  after_kept key seen seen' shown may_leave same after = rw (same.0, same.1) after
-
   -- a turn is one more
   pub finished_more : (key : K) (start : Happening) (finished finished' : Option Finished) (answer : Result Turn Fault) (seen behind : List Happening) → HasTurned at key behind answer → HasKept start seen behind → finished' ≡ finish_by finished answer
       → WasFinished at key finished seen → WasFinished at key finished' behind
@@ -183,17 +181,17 @@ module _ {K : Type 0} (at : K → World) where
       one_at (λ number l. IsTold at (part_at key points lines number) whole' l) logs all log pushed (λ i x found. told_less (part_at key points lines i) whole whole' x first (each i x found))
       (told_less (part_at key points lines (length logs)) its_whole whole' log this (subst (λ (p : Part K). IsTold at p its_whole log) part_is its))
 
-  -- what threads leave at the table of a store that was opened
-  pub is_played : {X E D : Type 0} (whole : X → Bool) (logs : X → List Log) (device : X → D) (finished : X → Option Finished) (r : Result X E) (key : K) (opened : Opened) (lines : List Line) (honest : D → Type 0) (shows : D → List ℕ) (may_leave : D → List ℕ → Type 0) (first : D) (points : List Serial) (sessions : ℕ)
-      → IsOverStore at key opened (shows first) → sessions ≡ opened.shape.sessions → points ≡ opened.points.items → IfOk r (λ x. WerePlayed at key points lines sessions honest shows may_leave (whole x) (logs x) (device x) (finished x))
-      → IfOk r (λ x. IsPlayed at opened lines honest shows may_leave first (whole x) (logs x) (device x) (finished x))
-  is_played whole logs device finished (Ok x) key opened lines honest shows may_leave first points sessions over count same played = record {
-    key = key;
-    over = over;
-    played = subst (λ (n : ℕ). WerePlayed at key opened.points.items lines n honest shows may_leave (whole x) (logs x) (device x) (finished x)) count
-        (subst (λ (ps : List Serial). WerePlayed at key ps lines sessions honest shows may_leave (whole x) (logs x) (device x) (finished x)) same played);
-  }
-  is_played whole logs device finished (Err e) key opened lines honest shows may_leave first points sessions over count same played = tt
+-- what threads leave at the table of a store that was opened
+pub is_played : {X E D : Type 0} (device : Ghosts D) (whole : X → Bool) (logs : X → List Log) (medium : X → D) (finished : X → Option Finished) (r : Result X E) (key : Opening D) (opened : Opened) (lines : List Line) (first : D) (points : List Serial) (sessions : ℕ)
+    → IsOverStore (opening device) key opened (device.seen first) → sessions ≡ opened.shape.sessions → points ≡ opened.points.items → IfOk r (λ x. WerePlayed device key points lines sessions (whole x) (logs x) (medium x) (finished x))
+    → IfOk r (λ x. IsPlayed device opened lines first (whole x) (logs x) (medium x) (finished x))
+is_played device whole logs medium finished (Ok x) key opened lines first points sessions over count same played = record {
+  key = key;
+  over = over;
+  played = subst (λ (n : ℕ). WerePlayed device key opened.points.items lines n (whole x) (logs x) (medium x) (finished x)) count
+      (subst (λ (ps : List Serial). WerePlayed device key ps lines sessions (whole x) (logs x) (medium x) (finished x)) same played);
+}
+is_played device whole logs medium finished (Err e) key opened lines first points sessions over count same played = tt
 
 -- as many as there were taken, and one more of each
 pub counted : {X Y : Type 0} (xs all : List X) (more : X) (ys : List Y) (next : Y) → all ≡ xs ++ more ∷ [] → length xs ≡ length ys → length all ≡ length (ys ++ next ∷ [])
@@ -204,3 +202,17 @@ pub next_at : {X Z : Type 0} (items given : List X) (first at behind : IntoIter 
 next_at items given first at behind next item held counted by is step =
     let turn = YieldsList-turn (YieldsList-from_vec {s = first} items held counted) given at by next behind item is step in
     slice_get_read items (length items) (length given) item refl turn.0 turn.1
+
+-- a turn of the keeper, as the thread law speaks of it
+pub has_turned : {D : Type 0} (device : Ghosts D) (w w' : Watch (Opening D) D) (answer : Result Turn Fault) → IsTurnOf device w answer w' → HasTurned (opening device) w.key w'.seen answer
+has_turned {D} device w w' answer turned =
+    subst (λ (key : Opening D). HasTurned (opening device) key w'.seen answer) turned.same.key
+    (let its = turned.watching in record {
+      table = w'.table;
+      seat = its.pass;
+      me = its.me;
+      machine = w'.machine;
+      ready = record { opened = its.its.work.opened; same_table = its.its.work.same_table; keeping = its.its.work.keeping; idle = its.its.so.idle turned.over };
+      seen = its.seen;
+      told = turned.told;
+    })

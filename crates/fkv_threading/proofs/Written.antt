@@ -5,6 +5,7 @@ use Rattle.fkv_base.specs.declared.faults.Fault.{Fault}
 use Rattle.fkv_base.specs.declared.numbers.Key.{Key}
 use Rattle.fkv_base.specs.declared.numbers.Value.{Value}
 use Rattle.fkv_base.specs.declared.shapes.Shape.{Shape}
+use Rattle.fkv_disk.specs.declared.devices.Device.{Ghosts}
 use Rattle.fkv_keeper.specs.declared.answers.Finished.{Finished}
 use Rattle.fkv_lines.specs.declared.scripts.Line.{Line}
 use Rattle.fkv_lines.specs.declared.scripts.Opening.{Opening}
@@ -21,7 +22,6 @@ use Rattle.fkv_thread_scripts.specs.declared.logs.Log.{Log}
 use Rattle.fkv_thread_scripts.specs.declared.reports.Report.{Report}
 use Rattle.fkv_threading.specs.Program.{IsTextOnThreads, WithSomeStatus}
 use Rattle.fkv_threading.specs.Written.{HasSizes, HoldsPairs, IsPlayedNew, IsReportOfRun, IsReportOn, IsRunOnThreads, reported_status, reported_text}
-use Rattle.fkv_threads.specs.Below.fkv_world.Runs.{World}
 
 -- the shape that a call gives has the sizes that were asked for
 pub sized : {E : Type 0} (sizes : Sizes) (r : Result Shape E) → IfOk r (λ shape. shape.bucket_bits ≡ sizes.bucket_bits) → IfOk r (λ shape. shape.page ≡ sizes.page) → IfOk r (λ shape. shape.frames ≡ sizes.frames) → IfOk r (λ shape. shape.mutable ≡ sizes.mutable)
@@ -37,18 +37,18 @@ held honest shows device device' recovered pairs store stays same are is =
     subst (λ (image : List ℕ). (its : IsStoreOf image recovered) → ArePairs (log_of_store image recovered its) pairs) (same is) (are (stays.0 is)) in
     record { store = store is; are_pairs = told (store is) }
 
-pub report_on : {D E : Type 0} (honest : D → Type 0) (shows : D → List ℕ) (lines : List Line) (logs : List Log) (finished : Option Finished) (device : D) (r : Result Report E) (recovered : Opened) (pairs : List (Key × Value)) → (honest device → HoldsPairs (shows device) recovered pairs)
+pub report_on : {D E : Type 0} (device : Ghosts D) (lines : List Line) (logs : List Log) (finished : Option Finished) (medium : D) (r : Result Report E) (recovered : Opened) (pairs : List (Key × Value)) → (device.honest medium → HoldsPairs (device.seen medium) recovered pairs)
     → IfOk r (λ report. report.number ≡ recovered.number) → IfOk r (λ report. (report.points_agree ≡ true) ↔ IsLastFinished finished recovered.number recovered.points.items) → IfOk r (λ report. IsKeysLine lines (told_map recovered.points.items logs) (map_of pairs) report.keys)
-    → IfOk r (IsReportOn honest shows lines logs finished device)
-report_on honest shows lines logs finished device (Ok report) recovered pairs holds number points keys = record { recovered = recovered; pairs = pairs; held = holds; number = number; points = points; keys = keys }
-report_on honest shows lines logs finished device (Err e) recovered pairs holds number points keys = tt
+    → IfOk r (IsReportOn device lines logs finished medium)
+report_on device lines logs finished medium (Ok report) recovered pairs holds number points keys = record { recovered = recovered; pairs = pairs; held = holds; number = number; points = points; keys = keys }
+report_on device lines logs finished medium (Err e) recovered pairs holds number points keys = tt
 
-pub report_of_run : {K D E F : Type 0} (at : K → World) (honest : D → Type 0) (shows : D → List ℕ) (may_leave : D → List ℕ → Type 0) (trusted : E → Type 0) (reads_as : E → List ℕ) (LeftBy : D → E → Type 0) (lines : List Line) (sizes : Sizes) (r : Result Report F) (shape : Shape) (logs logs' : List Log) (device : D)
-    (finished : Option Finished) (after : E) → logs' ≡ logs → HasSizes sizes shape → IsPlayedNew at shape lines honest shows may_leave logs device finished → LeftBy device after → IfOk r (IsReportOn trusted reads_as lines logs' finished after)
-    → IfOk r (IsReportOfRun at honest shows may_leave trusted reads_as LeftBy lines sizes)
-report_of_run at honest shows may_leave trusted reads_as LeftBy lines sizes (Ok report) shape logs logs' device finished after same sized played left says =
-    record { shape = shape; sized = sized; logs = logs; device = device; finished = finished; played = played; after = after; left = left; says = subst (λ (ls : List Log). IsReportOn trusted reads_as lines ls finished after report) same says }
-report_of_run at honest shows may_leave trusted reads_as LeftBy lines sizes (Err e) shape logs logs' device finished after same sized played left says = tt
+pub report_of_run : {D E F : Type 0} (device : Ghosts D) (other : Ghosts E) (LeftBy : D → E → Type 0) (lines : List Line) (sizes : Sizes) (r : Result Report F) (shape : Shape) (logs logs' : List Log) (medium : D)
+    (finished : Option Finished) (after : E) → logs' ≡ logs → HasSizes sizes shape → IsPlayedNew device shape lines logs medium finished → LeftBy medium after → IfOk r (IsReportOn other lines logs' finished after)
+    → IfOk r (IsReportOfRun device other LeftBy lines sizes)
+report_of_run device other LeftBy lines sizes (Ok report) shape logs logs' medium finished after same sized played left says =
+    record { shape = shape; sized = sized; logs = logs; medium = medium; finished = finished; played = played; after = after; left = left; says = subst (λ (ls : List Log). IsReportOn other lines ls finished after report) same says }
+report_of_run device other LeftBy lines sizes (Err e) shape logs logs' medium finished after same sized played left says = tt
 
 -- what is said of a report is said of it where it is passed on
 pub passed_on : {X E F : Type 0} (Says : X → Type 0) (r : Result X E) (r' : Result X F) → IfOk r' (λ x. r ≡ Ok x) → IfOk r Says → IfOk r' Says

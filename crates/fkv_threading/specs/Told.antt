@@ -3,6 +3,7 @@ use Rattle.std.specs.Prelude.{◌≡◌, ◌⊎◌, ⊤, ℕ, Bool, true, false,
 use Rattle.fkv_base.specs.declared.faults.Fault.{Fault}
 use Rattle.fkv_base.specs.declared.faults.Fault.TheVariants.{PendingFull}
 use Rattle.fkv_base.specs.declared.numbers.Serial.{Serial}
+use Rattle.fkv_disk.specs.declared.devices.Device.{Ghosts}
 use Rattle.fkv_keeper.specs.declared.answers.Finished.{Finished}
 use Rattle.fkv_keeper.specs.declared.answers.Turn.{Turn}
 use Rattle.fkv_lines.specs.declared.scripts.Line.{Line}
@@ -21,6 +22,7 @@ use Rattle.fkv_thread_scripts.specs.Calls.{calls_of}
 use Rattle.fkv_thread_scripts.specs.Logs.{accepted_by, durable_by, told_by}
 use Rattle.fkv_thread_scripts.specs.declared.logs.Log.{Log}
 use Rattle.fkv_threads.specs.Begun.{IsOverStore}
+use Rattle.fkv_threads.specs.Models.{Opening, Sitting, opening}
 use Rattle.fkv_threads.specs.Runs.{run_of}
 use Rattle.fkv_threads.specs.Below.fkv_world.Runs.{World}
 use Rattle.fkv_threads.specs.Below.law_threads.Calls.{CallRun, HasRun}
@@ -76,12 +78,6 @@ ArePlayed calls (its ∷ before) =
     (((is_own its.call || is_full its.answer) ≡ true) × ArePlayed calls before)
     ⊎ ((earlier : List Call) × (calls ≡ earlier ++ its.call ∷ []) × (is_full its.answer ≡ false) × ArePlayed earlier before)
 
--- a session at a table of this key, and what its pass has seen
-pub record Seat (K : Type 0) : Type 0 where
-  pub key : K
-  pub number : ℕ
-  pub seen : List Happening
-
 -- what a session has to do at a table: from which serial it goes on, and the calls of its lines
 pub record Part (K : Type 0) : Type 0 where
   pub key : K
@@ -133,7 +129,7 @@ module _ {K : Type 0} (at : K → World) where
   AreCalls key number (its ∷ before) seen = HasRun at key its × (its.number ≡ number) × (its.behind ≡ seen) × AreCalls key number before its.before
 
   -- A session has made one call more, and its answer is noted.
-  pub record HasMade (seat seat' : Seat K) (call : Call) (answer : Answer) (log log' : Log) : Type 0 where
+  pub record HasMade (seat seat' : Sitting K) (call : Call) (answer : Answer) (log log' : Log) : Type 0 where
     pub key : seat'.key ≡ seat.key
     pub number : seat'.number ≡ seat.number
     pub ran : HasRun at seat.key (run_of seat.number call answer seat.seen seat'.seen)
@@ -166,27 +162,28 @@ module _ {K : Type 0} (at : K → World) where
     pub turned : AreTurns key turns seen
     pub last : finished ≡ last_finish turns
 
-  -- The keeper's device is honest and stands behind the calls that the list of events gives, and this is the last commit that a turn has told as finished.
-  pub record IsKept {D : Type 0} (key : K) (honest : D → Type 0) (shows : D → List ℕ) (may_leave : D → List ℕ → Type 0) (device : D) (finished : Option Finished) : Type 0 where
-    pub seen : List Happening
-    pub is_honest : honest device
-    pub behind : IsAfterSeen at key seen (shows device) (may_leave device)
-    pub told : WasFinished key finished seen
-
-  -- ---- a run
   -- each log is what its session was told
   abbrev pub AreLogs : K → List Serial → List Line → Bool → List Log → Type 0
   AreLogs key points lines whole logs = EachAt logs (λ number log. IsTold (part_at key points lines number) whole log)
 
-  -- What threads leave that have played lines at a table: a log of each session, which is what it was told from its point on, and the keeper's device and
-  -- last commit.
-  pub record WerePlayed {D : Type 0} (key : K) (points : List Serial) (lines : List Line) (sessions : ℕ) (honest : D → Type 0) (shows : D → List ℕ) (may_leave : D → List ℕ → Type 0) (whole : Bool) (logs : List Log) (device : D) (finished : Option Finished) : Type 0 where
-    pub count : length logs ≡ sessions
-    pub each : AreLogs key points lines whole logs
-    pub kept : IsKept key honest shows may_leave device finished
+module _ {D : Type 0} (device : Ghosts D) where
+  -- The keeper's medium is honest and is as the calls leave it that the list of events gives, and this is the last commit that a turn has told as finished.
+  pub record IsKept (key : Opening D) (medium : D) (finished : Option Finished) : Type 0 where
+    pub seen : List Happening
+    pub is_honest : device.honest medium
+    pub behind : IsAfterSeen (opening device) key seen (device.seen medium) (device.may_leave medium)
+    pub told : WasFinished (opening device) key finished seen
 
-  -- So it is at the table of this store, which the device held as it was opened.
-  pub record IsPlayed {D : Type 0} (opened : Opened) (lines : List Line) (honest : D → Type 0) (shows : D → List ℕ) (may_leave : D → List ℕ → Type 0) (first : D) (whole : Bool) (logs : List Log) (device : D) (finished : Option Finished) : Type 0 where
-    pub key : K
-    pub over : IsOverStore at key opened (shows first)
-    pub played : WerePlayed key opened.points.items lines opened.shape.sessions honest shows may_leave whole logs device finished
+  -- ---- a run
+  -- What threads leave that have played lines at a table: a log of each session, which is what it was told from its point on, and the keeper's medium and
+  -- last commit.
+  pub record WerePlayed (key : Opening D) (points : List Serial) (lines : List Line) (sessions : ℕ) (whole : Bool) (logs : List Log) (medium : D) (finished : Option Finished) : Type 0 where
+    pub count : length logs ≡ sessions
+    pub each : AreLogs (opening device) key points lines whole logs
+    pub kept : IsKept key medium finished
+
+  -- So it is at the table of this store, which the medium held as it was opened.
+  pub record IsPlayed (opened : Opened) (lines : List Line) (first : D) (whole : Bool) (logs : List Log) (medium : D) (finished : Option Finished) : Type 0 where
+    pub key : Opening D
+    pub over : IsOverStore (opening device) key opened (device.seen first)
+    pub played : WerePlayed key opened.points.items lines opened.shape.sessions whole logs medium finished

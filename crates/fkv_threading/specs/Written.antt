@@ -6,6 +6,7 @@ use Rattle.fkv_base.specs.declared.numbers.Key.{Key}
 use Rattle.fkv_base.specs.declared.numbers.Value.{Value}
 use Rattle.fkv_base.specs.declared.shapes.Shape.{Shape}
 use Rattle.fkv_creating.specs.Created.{IsNewStore}
+use Rattle.fkv_disk.specs.declared.devices.Device.{Ghosts}
 use Rattle.fkv_keeper.specs.declared.answers.Finished.{Finished}
 use Rattle.fkv_lines.specs.declared.scripts.Line.{Line}
 use Rattle.fkv_lines.specs.declared.scripts.Opening.{Opening}
@@ -20,7 +21,6 @@ use Rattle.fkv_thread_scripts.specs.Reports.{IsLastFinished, agrees, threads_rep
 use Rattle.fkv_thread_scripts.specs.declared.logs.Log.{Log}
 use Rattle.fkv_thread_scripts.specs.declared.reports.Report.{Report}
 use Rattle.fkv_threading.specs.Told.{IsPlayed}
-use Rattle.fkv_threads.specs.Below.fkv_world.Runs.{World}
 
 -- ---- what is played
 -- the shape has the sizes of a script's first line
@@ -34,11 +34,11 @@ pub record HasSizes (sizes : Sizes) (shape : Shape) : Type 0 where
   pub disk_pages : shape.disk_pages ≡ sizes.disk_pages
 
 -- Threads have played lines over a new store of a shape, and each session has made all calls of its lines.
-pub record IsPlayedNew {K D : Type 0} (at : K → World) (shape : Shape) (lines : List Line) (honest : D → Type 0) (shows : D → List ℕ) (may_leave : D → List ℕ → Type 0) (logs : List Log) (device : D) (finished : Option Finished) : Type 0 where
+pub record IsPlayedNew {D : Type 0} (device : Ghosts D) (shape : Shape) (lines : List Line) (logs : List Log) (medium : D) (finished : Option Finished) : Type 0 where
   pub opened : Opened
   pub first : D
   pub new : IsNewStore shape opened
-  pub played : IsPlayed at opened lines honest shows may_leave first true logs device finished
+  pub played : IsPlayed device opened lines first true logs medium finished
 
 -- ---- what a report says
 -- bytes hold a store, with these pairs
@@ -48,30 +48,30 @@ pub record HoldsPairs (bytes : List ℕ) (opened : Opened) (pairs : List (Key ×
 
 -- The store that a device holds is recovered: the report has its commit's number, says whether that commit is the last that was told as finished, and compares
 -- its pairs with what logs have been told of lines up to its points.
-pub record IsReportOn {D : Type 0} (honest : D → Type 0) (shows : D → List ℕ) (lines : List Line) (logs : List Log) (finished : Option Finished) (device : D) (report : Report) : Type 0 where
+pub record IsReportOn {D : Type 0} (device : Ghosts D) (lines : List Line) (logs : List Log) (finished : Option Finished) (medium : D) (report : Report) : Type 0 where
   pub recovered : Opened
   pub pairs : List (Key × Value)
-  pub held : honest device → HoldsPairs (shows device) recovered pairs
+  pub held : device.honest medium → HoldsPairs (device.seen medium) recovered pairs
   pub number : report.number ≡ recovered.number
   pub points : (report.points_agree ≡ true) ↔ IsLastFinished finished recovered.number recovered.points.items
   pub keys : IsKeysLine lines (told_map recovered.points.items logs) (map_of pairs) report.keys
 
 -- A report is of lines that threads have played over a new store of these sizes. What it compares are their logs, and the last commit that they were told as
 -- finished. Behind them it is of a store that is recovered from a device of which this is so, beside their own.
-pub record IsReportOfRun {K D E : Type 0} (at : K → World) (honest : D → Type 0) (shows : D → List ℕ) (may_leave : D → List ℕ → Type 0) (trusted : E → Type 0) (reads_as : E → List ℕ) (LeftBy : D → E → Type 0) (lines : List Line) (sizes : Sizes) (report : Report) : Type 0 where
+pub record IsReportOfRun {D E : Type 0} (device : Ghosts D) (other : Ghosts E) (LeftBy : D → E → Type 0) (lines : List Line) (sizes : Sizes) (report : Report) : Type 0 where
   pub shape : Shape
   pub sized : HasSizes sizes shape
   pub logs : List Log
-  pub device : D
+  pub medium : D
   pub finished : Option Finished
-  pub played : IsPlayedNew at shape lines honest shows may_leave logs device finished
+  pub played : IsPlayedNew device shape lines logs medium finished
   pub after : E
-  pub left : LeftBy device after
-  pub says : IsReportOn trusted reads_as lines logs finished after report
+  pub left : LeftBy medium after
+  pub says : IsReportOn other lines logs finished after report
 
 -- a device holds what a crash may leave of another one
-abbrev pub HoldsLeft : {D E : Type 0} → (D → List ℕ → Type 0) → (E → List ℕ) → D → E → Type 0
-HoldsLeft may_leave shows device after = may_leave device (shows after)
+abbrev pub HoldsLeft : {D E : Type 0} → Ghosts D → Ghosts E → D → E → Type 0
+HoldsLeft device other medium after = device.may_leave medium (other.seen after)
 
 -- ---- what is written
 -- a report's lines, or the refusal that stands in their place

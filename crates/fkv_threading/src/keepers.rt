@@ -36,22 +36,22 @@ pub(crate) fn play_keeper<D: Device + Drop, R: Wait>(
     progress: &Progress,
     lines: &[Line],
     sessions: u64,
-    keeping: Keeping<'_, D>,
+    mut keeping: Keeping<D>,
 ) -> KeeperEnd<D>
-    ensures { said.IsKept (said.opening_of D.seen) keeping.entry D.honest D.seen D.may_leave result.device result.finished }
+    ensures { said.IsKept D.Device keeping result.device result.finished }
 {
     let mut told = Told {
         begun: None,
         fault: None,
     };
-    let played = play_lines(rt, progress, lines, keeping, &mut told);
+    play_lines(rt, progress, lines, &mut keeping, &mut told);
     progress.end_keeper_lines();
-    let ended = turn_until_ended(rt, progress, sessions, played, &mut told);
+    turn_until_ended(rt, progress, sessions, &mut keeping, &mut told);
     if told.fault.is_some() {
         progress.stop();
     }
     let Told { begun, fault } = told;
-    let (device, finished) = ended.end();
+    let (device, finished) = keeping.end();
     KeeperEnd {
         device,
         finished,
@@ -60,35 +60,29 @@ pub(crate) fn play_keeper<D: Device + Drop, R: Wait>(
     }
 }
 
-fn play_lines<'t, D: Device + Drop, R: Wait>(
+fn play_lines<D: Device + Drop, R: Wait>(
     rt: &R,
     progress: &Progress,
     lines: &[Line],
-    keeping: Keeping<'t, D>,
+    keeping: &mut Keeping<D>,
     told: &mut Told,
-) -> Keeping<'t, D>
-    ensures { result ≡ keeping.entry }
+)
+    ensures { keeping.new ≡ keeping.old }
 {
-    let mut at = keeping;
     let mut runs = false;
     for line in lines {
         if has_stopped(progress, told) {
             break;
         }
         match *line {
-            Line::Commit(kind) => {
-                let (next, begun) = begin(rt, progress, at, kind, told);
-                at = next;
-                runs = begun;
-            }
+            Line::Commit(kind) => runs = begin(rt, progress, keeping, kind, told),
             Line::Finish if runs => {
-                at = finish(rt, progress, at, told);
+                finish(rt, progress, keeping, told);
                 runs = false;
             }
             _ => {}
         }
     }
-    at
 }
 
 fn has_stopped(progress: &Progress, told: &Told) -> bool {
@@ -96,93 +90,79 @@ fn has_stopped(progress: &Progress, told: &Told) -> bool {
 }
 
 /// Begins a commit, and makes turns as long as no drain slot is free for it. Whether it runs: one that is refused for good is left out.
-fn begin<'t, D: Device + Drop, R: Wait>(
+fn begin<D: Device + Drop, R: Wait>(
     rt: &R,
     progress: &Progress,
-    keeping: Keeping<'t, D>,
+    keeping: &mut Keeping<D>,
     kind: CommitKind,
     told: &mut Told,
-) -> (Keeping<'t, D>, bool)
-    ensures { result.0 ≡ keeping.entry }
+) -> bool
+    ensures { keeping.new ≡ keeping.old }
 {
-    let mut at = keeping;
     for _ in rt.forever() {
-        let (next, answer) = at.ask_commit(kind);
-        at = next;
-        match answer {
+        match keeping.ask_commit(kind) {
             Ok(number) => {
                 told.begun = Some(number);
-                return (at, true);
+                return true;
             }
             Err(Fault::DrainFull) => {}
             Err(_) => break,
         }
-        let (next, _) = make_turn(at, told);
-        at = next;
+        make_turn(keeping, told);
         if has_stopped(progress, told) {
             break;
         }
         yield_now();
     }
-    (at, false)
+    false
 }
 
 /// Makes turns until the commit is finished.
-fn finish<'t, D: Device + Drop, R: Wait>(
+fn finish<D: Device + Drop, R: Wait>(
     rt: &R,
     progress: &Progress,
-    keeping: Keeping<'t, D>,
+    keeping: &mut Keeping<D>,
     told: &mut Told,
-) -> Keeping<'t, D>
-    ensures { result ≡ keeping.entry }
+)
+    ensures { keeping.new ≡ keeping.old }
 {
-    let mut at = keeping;
     for _ in rt.forever() {
-        let (next, is_finished) = make_turn(at, told);
-        at = next;
+        let is_finished = make_turn(keeping, told);
         if is_finished || has_stopped(progress, told) {
             break;
         }
         yield_now();
     }
-    at
 }
 
-fn turn_until_ended<'t, D: Device + Drop, R: Wait>(
+fn turn_until_ended<D: Device + Drop, R: Wait>(
     rt: &R,
     progress: &Progress,
     sessions: u64,
-    keeping: Keeping<'t, D>,
+    keeping: &mut Keeping<D>,
     told: &mut Told,
-) -> Keeping<'t, D>
-    ensures { result ≡ keeping.entry }
+)
+    ensures { keeping.new ≡ keeping.old }
 {
-    let mut at = keeping;
     for _ in rt.forever() {
         if has_stopped(progress, told) || progress.have_ended(sessions) {
             break;
         }
-        let (next, _) = make_turn(at, told);
-        at = next;
+        make_turn(keeping, told);
         yield_now();
     }
-    at
 }
 
 /// Makes a turn. Whether a commit is finished.
-fn make_turn<'t, D: Device + Drop>(
-    keeping: Keeping<'t, D>,
-    told: &mut Told,
-) -> (Keeping<'t, D>, bool)
-    ensures { result.0 ≡ keeping.entry }
+fn make_turn<D: Device + Drop>(keeping: &mut Keeping<D>, told: &mut Told) -> bool
+    ensures { keeping.new ≡ keeping.old }
 {
-    let (next, turned) = keeping.turn();
-    match turned {
-        Turned::Finished => (next, true),
-        Turned::Open => (next, false),
+    match keeping.turn() {
+        Turned::Finished => true,
+        Turned::Open => false,
         Turned::Refused(fault) => {
             told.fault = Some(fault);
-            (next, false)
+            false
         }
     }
 }

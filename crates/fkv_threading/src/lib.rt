@@ -12,7 +12,6 @@ mod progress;
 mod promises;
 mod runs;
 mod sessions;
-mod sitting;
 
 pub use gates::{Gate, Open};
 pub use keepers::KeeperEnd;

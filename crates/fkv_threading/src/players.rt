@@ -2,19 +2,19 @@
 ghost use Rattle.std.specs.Prelude.{◌≡◌, ◌<◌, ◌≤◌, ◌+◌, true, if◌then◌else◌, length};
 ghost use Rattle.fkv_threading.specs.Said as said;
 
-use crate::sitting::Sitting;
 use fkv_base::{Fault, Serial};
 use fkv_disk::Device;
 use fkv_map::Call;
-use fkv_session::Answer;
+use fkv_session::{Answer, answer_of};
 use fkv_thread_scripts::Log;
+use fkv_threads::Seated;
 use std::marker::Model;
 
 /// A session at a table, with the calls of its lines, how many of them are answered, and what it was told so far. A contract sees it as what stays the
 /// same: the table's key, the session's number, the point from which it goes on, and the calls of its lines.
 #[derive(Drop)]
-pub(crate) struct Player<'t, D: Device> {
-    pub(crate) seat: Sitting<'t, D>,
+pub(crate) struct Player<D: Device> {
+    pub(crate) seat: Seated<D>,
     pub(crate) point: Serial,
     pub(crate) calls: Vec<Call>,
     pub(crate) answered: usize,
@@ -29,17 +29,23 @@ pub(crate) struct SessionEnd {
     pub(crate) is_whole: bool,
 }
 
-impl<'t, D: Device> Model for Player<'t, D> {
+impl<D: Device> Model for Player<D> {
     ghost use Rattle.fkv_threading.specs.Said as said;
 
-    ghost Value = { said.Part (said.Snapshot (said.WorldModel D)) };
+    ghost Value = { said.Part (said.Opening D) };
 
     ghost view = { λ s. record { key = s.seat.key; number = s.seat.number; point = s.point; calls = s.calls.items } };
 
-    ghost invariant = { λ s. said.WasTold (said.opening_of D.seen) (record { key = s.seat.key; number = s.seat.number; point = s.point; calls = s.calls.items }) (said.take s.answered s.calls.items) s.log s.seat.seen };
+    ghost invariant = { λ s. said.WasTold (said.opening D.Device) (record {
+      key = s.seat.key;
+      number = s.seat.number;
+      point = s.point;
+      calls =
+          s.calls.items;
+    }) (said.take s.answered s.calls.items) s.log s.seat.seen };
 }
 
-impl<'t, D: Device> Player<'t, D> {
+impl<D: Device> Player<D> {
     /// How many calls its lines have that aren't answered yet.
     pub(crate) fn count_left(&self) -> usize {
         self.calls.len().saturating_sub(self.answered)
@@ -47,11 +53,11 @@ impl<'t, D: Device> Player<'t, D> {
 
     /// Makes the next call of its lines, and notes its answer. Whether it is answered, or none is left: else too many requests are pending, and it is to
     /// be made again. `Memory` where memory was refused.
-    pub(crate) fn call_next(self) -> Result<(Player<'t, D>, bool), Fault>
-        ensures { said.IfOk result (λ its. its.0 ≡ self.entry) }
+    pub(crate) fn call_next(self) -> Result<(Player<D>, bool), Fault>
+        ensures { said.IfOk result (λ its. its.0 ≡ self) }
     {
         let Player {
-            seat,
+            mut seat,
             point,
             calls,
             answered,
@@ -67,7 +73,7 @@ impl<'t, D: Device> Player<'t, D> {
             };
             return Ok((same, true));
         };
-        let (seat, answer) = make(seat, &mut log, call)?;
+        let answer = make(&mut seat, &mut log, call)?;
         let is_answered = !is_full(&answer);
         let answered = count_behind(answered, is_answered);
         let next = Player {
@@ -81,18 +87,18 @@ impl<'t, D: Device> Player<'t, D> {
     }
 
     /// Makes a call that is none of its lines, and notes its answer: a refresh, a poll, or that it sleeps. `Memory` where memory was refused.
-    pub(crate) fn call_own(self, call: Call) -> Result<(Player<'t, D>, Answer), Fault>
+    pub(crate) fn call_own(self, call: Call) -> Result<(Player<D>, Answer), Fault>
         requires { said.is_own call ≡ true }
-        ensures { said.IfOk result (λ its. its.0 ≡ self.entry) }
+        ensures { said.IfOk result (λ its. its.0 ≡ self) }
     {
         let Player {
-            seat,
+            mut seat,
             point,
             calls,
             answered,
             mut log,
         } = self;
-        let (seat, answer) = make(seat, &mut log, call)?;
+        let answer = make(&mut seat, &mut log, call)?;
         let next = Player {
             seat,
             point,
@@ -105,7 +111,7 @@ impl<'t, D: Device> Player<'t, D> {
 
     /// What it was told.
     pub(crate) fn end(self) -> SessionEnd
-        ensures { said.IsTold (said.opening_of D.seen) self.entry result.is_whole result.log }
+        ensures { said.IsTold (said.opening D.Device) self result.is_whole result.log }
     {
         let Player {
             calls,
@@ -141,16 +147,13 @@ fn are_all(calls: &[Call], answered: usize) -> bool
 }
 
 /// Makes a call, and notes its answer.
-fn make<'t, D: Device>(
-    seat: Sitting<'t, D>,
-    log: &mut Log,
-    call: Call,
-) -> Result<(Sitting<'t, D>, Answer), Fault>
-    ensures { said.IfOk result (λ its. said.HasMade (said.opening_of D.seen) seat.entry its.0 call its.1 log.old log.new) }
+fn make<D: Device>(seat: &mut Seated<D>, log: &mut Log, call: Call) -> Result<Answer, Fault>
+    ensures { said.IfOk result (λ answer. said.HasMade (said.opening D.Device) seat.old seat.new call answer log.old log.new) }
 {
-    let (seat, answer) = seat.call(call);
+    let told = seat.call(call);
+    let answer = answer_of(told, seat.finished());
     log.note(call, &answer)?;
-    Ok((seat, answer))
+    Ok(answer)
 }
 
 fn is_full(answer: &Answer) -> bool

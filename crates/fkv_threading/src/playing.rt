@@ -9,14 +9,13 @@ use crate::players::{Player, SessionEnd};
 use crate::progress::Progress;
 use crate::promises::SessionLog;
 use crate::sessions::play_session;
-use crate::sitting::Sitting;
 use fkv_base::{Fault, Serial};
 use fkv_disk::Device;
 use fkv_lines::Line;
 use fkv_map::Call;
 use fkv_opening::Opened;
 use fkv_thread_scripts::{Log, calls_of};
-use fkv_threads::{OpenTable, Pass, Session, Table, close, open};
+use fkv_threads::{OpenSeats, Seated, Table, open_seats};
 use std::alloc::Global;
 use std::sync::Wait;
 use std::thread::{self, PromisedHandle, Scope, Threads};
@@ -45,26 +44,19 @@ pub fn play<D: Device + Drop + Send, G: Gate + Sync, R: Threads + Wait + Sync>(
     requires store { said.IsStoreOf (D.seen device) opened }
     requires honest { D.honest device }
     requires leaves { said.LeavesOnly (D.seen device) (D.may_leave device) }
-    ensures { said.IfOk result (λ its. said.IsPlayed (said.opening_of D.seen) opened lines.now D.honest D.seen D.may_leave device its.is_whole its.logs.items its.keeper.device its.keeper.finished) }
+    ensures { said.IfOk result (λ its. said.IsPlayed D.Device opened lines.now device its.is_whole its.logs.items its.keeper.device its.keeper.finished) }
 {
     let points = copy_of(alloc, &opened.points)?;
-    let OpenTable {
+    let OpenSeats {
         table,
         sessions,
         keeper,
-        pass,
-        device,
-    } = open(alloc, opened, device)?;
+    } = open_seats(alloc, opened, device)?;
     let keeping = Keeping {
-        table: &table,
-        keeper,
-        pass,
-        device,
+        seat: keeper,
         finished: None,
     };
-    let played = play_over(rt, alloc, &table, sessions, keeping, &points, lines, gate);
-    close(table);
-    played
+    play_over(rt, alloc, &table, sessions, keeping, &points, lines, gate)
 }
 
 /// The same over a table, by sessions that go on from these points.
@@ -72,40 +64,36 @@ fn play_over<'t, D: Device + Drop + Send, G: Gate + Sync, R: Threads + Wait + Sy
     rt: &R,
     alloc: Global,
     table: &'t Table<D>,
-    sessions: Vec<(Session, Pass<D>)>,
-    keeping: Keeping<'t, D>,
+    sessions: Vec<Seated<D>>,
+    keeping: Keeping<D>,
     points: &[Serial],
     lines: &'t [Line],
     gate: &G,
 ) -> Result<Played<D>, Fault>
-    requires ready { said.EachAt sessions.items (λ i x. said.HasBegun (said.opening_of D.seen) table.now.table.shared.key table.now.table.shared.table_id i x.0.machine x.0.desk x.1.seat.table_id x.1.seat.me) }
+    requires first { said.AreFirst table.now.table.shared.key table.now.table.shared.table_id sessions.items }
     requires keeper { keeping ≡ table.now.table.shared.key }
-    ensures { said.IfOk result (λ its. said.WerePlayed (said.opening_of D.seen) table.now.table.shared.key points.now lines.now (length sessions.items) D.honest D.seen D.may_leave its.is_whole its.logs.items its.keeper.device its.keeper.finished) }
+    ensures { said.IfOk result (λ its. said.WerePlayed D.Device table.now.table.shared.key points.now lines.now
+        (length sessions.items) its.is_whole its.logs.items its.keeper.device its.keeper.finished) }
 {
     let players = seated(alloc, table, sessions, points, lines)?;
     play_seats(rt, alloc, table, players, keeping, points, lines, gate)
 }
 
 /// Each session with its pass, at the table, and with the calls of its lines.
-fn seated<'t, D: Device>(
+fn seated<D: Device>(
     alloc: Global,
-    table: &'t Table<D>,
-    sessions: Vec<(Session, Pass<D>)>,
+    table: &Table<D>,
+    sessions: Vec<Seated<D>>,
     points: &[Serial],
     lines: &[Line],
-) -> Result<Vec<Player<'t, D>>, Fault>
-    requires ready { said.EachAt sessions.items (λ i x. said.HasBegun (said.opening_of D.seen) table.now.table.shared.key table.now.table.shared.table_id i x.0.machine x.0.desk x.1.seat.table_id x.1.seat.me) }
+) -> Result<Vec<Player<D>>, Fault>
+    requires first { said.AreFirst table.now.table.shared.key table.now.table.shared.table_id sessions.items }
     ensures count { said.IfOk result (λ players. length players.items ≡ length sessions.items) }
     ensures players { said.IfOk result (λ players. said.AreSeated table.now.table.shared.key points.now lines.now players.items) }
 {
     let mut players = Vec::new(alloc);
-    for (session, pass) in sessions {
+    for seat in sessions {
         let number = players.len();
-        let seat = Sitting {
-            table,
-            session,
-            pass,
-        };
         let calls = calls_of(alloc, lines, number as u64)?;
         players.push(player_of(alloc, seat, point_of(points, number), calls))?;
     }
@@ -113,12 +101,12 @@ fn seated<'t, D: Device>(
 }
 
 /// A session before its first call.
-fn player_of<'t, D: Device>(
+fn player_of<D: Device>(
     alloc: Global,
-    seat: Sitting<'t, D>,
+    seat: Seated<D>,
     point: Serial,
     calls: Vec<Call>,
-) -> Player<'t, D>
+) -> Player<D>
     requires { seat.seen ≡ [] }
     ensures { result ≡ record { key = seat.entry.key; number = seat.entry.number; point = point; calls = calls.items } }
 {
@@ -136,15 +124,16 @@ fn play_seats<'t, D: Device + Drop + Send, G: Gate + Sync, R: Threads + Wait + S
     rt: &R,
     alloc: Global,
     table: &'t Table<D>,
-    players: Vec<Player<'t, D>>,
-    keeping: Keeping<'t, D>,
+    players: Vec<Player<D>>,
+    keeping: Keeping<D>,
     points: &[Serial],
     lines: &'t [Line],
     gate: &G,
 ) -> Result<Played<D>, Fault>
     requires seats { said.AreSeated table.now.table.shared.key points.now lines.now players.items }
     requires keeper { keeping ≡ table.now.table.shared.key }
-    ensures { said.IfOk result (λ its. said.WerePlayed (said.opening_of D.seen) table.now.table.shared.key points.now lines.now (length players.entry.items) D.honest D.seen D.may_leave its.is_whole its.logs.items its.keeper.device its.keeper.finished) }
+    ensures { said.IfOk result (λ its. said.WerePlayed D.Device table.now.table.shared.key points.now lines.now
+        (length players.items) its.is_whole its.logs.items its.keeper.device its.keeper.finished) }
 {
     let progress = Progress::new();
     let shared = &progress;
@@ -153,7 +142,8 @@ fn play_seats<'t, D: Device + Drop + Send, G: Gate + Sync, R: Threads + Wait + S
         rt,
         |scope| -> Result<Played<D>, Fault>
             requires { said.AreSeated table.now.table.shared.key points.now lines.now players.items × (keeping ≡ table.now.table.shared.key) }
-            ensures { said.IfOk result (λ its. said.WerePlayed (said.opening_of D.seen) table.entry.now.table.shared.key points.entry.now lines.entry.now (length players.entry.items) D.honest D.seen D.may_leave its.is_whole its.logs.items its.keeper.device its.keeper.finished) }
+            ensures { said.IfOk result (λ its. said.WerePlayed D.Device table.entry.now.table.shared.key points.entry.now lines.entry.now
+                (length players.items) its.is_whole its.logs.items its.keeper.device its.keeper.finished) }
         {
             let played = play_in(
                 scope, rt, alloc, shared, gate, lines, table, points, players, keeping,
@@ -176,12 +166,13 @@ fn play_in<'s, 't: 's, E, D: Device + Drop + Send, G: Gate + Sync, R: Threads + 
     lines: &'t [Line],
     table: &'t Table<D>,
     points: &[Serial],
-    players: Vec<Player<'t, D>>,
-    keeping: Keeping<'t, D>,
+    players: Vec<Player<D>>,
+    keeping: Keeping<D>,
 ) -> Result<Played<D>, Fault>
     requires seats { said.AreSeated table.now.table.shared.key points.now lines.now players.items }
     requires keeper { keeping ≡ table.now.table.shared.key }
-    ensures { said.IfOk result (λ its. said.WerePlayed (said.opening_of D.seen) table.now.table.shared.key points.now lines.now (length players.entry.items) D.honest D.seen D.may_leave its.is_whole its.logs.items its.keeper.device its.keeper.finished) }
+    ensures { said.IfOk result (λ its. said.WerePlayed D.Device table.now.table.shared.key points.now lines.now
+        (length players.items) its.is_whole its.logs.items its.keeper.device its.keeper.finished) }
 {
     let count = players.len() as u64;
     let handles = spawn_all(
@@ -206,11 +197,12 @@ fn spawn_all<'s, 't: 's, E, D: Device + Drop + Send, G: Gate + Sync, R: Threads 
     lines: &'t [Line],
     table: &'t Table<D>,
     points: &[Serial],
-    players: Vec<Player<'t, D>>,
+    players: Vec<Player<D>>,
 ) -> Result<Vec<PromisedHandle<Result<SessionEnd, Fault>, SessionLog<'t, D>>>, Fault>
     requires { said.AreSeated table.now.table.shared.key points.now lines.now players.items }
-    ensures count { said.IfOk result (λ handles. length handles.items ≡ length players.entry.items) }
-    ensures promised { said.IfOk result (λ handles. said.EachAt handles.items (λ i h. said.part_of h.promise.table.now.table.shared.key h.promise.number h.promise.point h.promise.lines.now ≡ said.part_at table.now.table.shared.key points.now lines.now i)) }
+    ensures count { said.IfOk result (λ handles. length handles.items ≡ length players.items) }
+    ensures promised { said.IfOk result (λ handles. said.EachAt handles.items (λ i h. said.part_of h.promise.table.now.table.shared.key h.promise.number
+        h.promise.point h.promise.lines.now ≡ said.part_at table.now.table.shared.key points.now lines.now i)) }
 {
     let mut handles = Vec::new(alloc);
     for player in players {
@@ -224,7 +216,7 @@ fn spawn_all<'s, 't: 's, E, D: Device + Drop + Send, G: Gate + Sync, R: Threads 
         let spawned = scope.spawn_with(
             promise,
             move || -> Result<SessionEnd, Fault>
-                ensures { said.IfOk result (λ end. said.IsTold (said.opening_of D.seen) player.entry end.is_whole end.log) }
+                ensures { said.IfOk result (λ end. said.IsTold (said.opening D.Device) player end.is_whole end.log) }
             { play_session(rt, progress, gate, number, player) },
         );
         let Ok(handle) = spawned else {
@@ -244,9 +236,10 @@ fn joined<'t, D: Device, R: Threads>(
     lines: &[Line],
     handles: Vec<PromisedHandle<Result<SessionEnd, Fault>, SessionLog<'t, D>>>,
 ) -> Result<(Vec<Log>, bool), Fault>
-    requires { said.EachAt handles.items (λ i h. said.part_of h.promise.table.now.table.shared.key h.promise.number h.promise.point h.promise.lines.now ≡ said.part_at table.now.table.shared.key points.now lines.now i) }
+    requires { said.EachAt handles.items (λ i h. said.part_of h.promise.table.now.table.shared.key h.promise.number h.promise.point h.promise.lines.now ≡
+        said.part_at table.now.table.shared.key points.now lines.now i) }
     ensures count { said.IfOk result (λ its. length its.0.items ≡ length handles.entry.items) }
-    ensures told { said.IfOk result (λ its. said.AreLogs (said.opening_of D.seen) table.now.table.shared.key points.now lines.now its.1 its.0.items) }
+    ensures told { said.IfOk result (λ its. said.AreLogs (said.opening D.Device) table.now.table.shared.key points.now lines.now its.1 its.0.items) }
 {
     let mut logs = Vec::new(alloc);
     let mut are_whole = true;

@@ -33,8 +33,12 @@ pub fn run_threads<G: Gate + Sync, W: Write, R: Threads + Wait + Sync>(
     output: &mut W,
     gate: &G,
 ) -> io::Result<u8>
-    ensures whole { said.IfOk result (said.IsRunOnThreads (said.IsReportOfRun (said.opening_of ⟦<Fuse<MemDisk> as Device>⟧.seen) ⟦<Fuse<MemDisk> as Device>⟧.honest ⟦<Fuse<MemDisk> as Device>⟧.seen ⟦<Fuse<MemDisk> as Device>⟧.may_leave ⟦<MemDisk as Device>⟧.honest ⟦<MemDisk as Device>⟧.seen (said.HoldsLeft ⟦<Fuse<MemDisk> as Device>⟧.may_leave ⟦<MemDisk as Device>⟧.seen) script.now.lines.items) script.now.opening (said.Appends (W.contents output.old) (W.contents output.new))) }
-    ensures part { said.OnErr result (said.BreaksOff (said.WithSomeStatus (said.IsTextOnThreads (said.IsReportOfRun (said.opening_of ⟦<Fuse<MemDisk> as Device>⟧.seen) ⟦<Fuse<MemDisk> as Device>⟧.honest ⟦<Fuse<MemDisk> as Device>⟧.seen ⟦<Fuse<MemDisk> as Device>⟧.may_leave ⟦<MemDisk as Device>⟧.honest ⟦<MemDisk as Device>⟧.seen (said.HoldsLeft ⟦<Fuse<MemDisk> as Device>⟧.may_leave ⟦<MemDisk as Device>⟧.seen) script.now.lines.items) script.now.opening)) (W.contents output.old) (W.contents output.new)) }
+    ensures whole { said.IfOk result (said.IsRunOnThreads (said.IsReportOfRun ⟦<Fuse<MemDisk> as Device>⟧ ⟦<MemDisk as Device>⟧
+        (said.HoldsLeft ⟦<Fuse<MemDisk> as Device>⟧ ⟦<MemDisk as Device>⟧) script.now.lines.items) script.now.opening
+        (said.Appends (W.contents output.old) (W.contents output.new))) }
+    ensures part { said.OnErr result (said.BreaksOff (said.WithSomeStatus (said.IsTextOnThreads
+        (said.IsReportOfRun ⟦<Fuse<MemDisk> as Device>⟧ ⟦<MemDisk as Device>⟧ (said.HoldsLeft ⟦<Fuse<MemDisk> as Device>⟧ ⟦<MemDisk as Device>⟧)
+        script.now.lines.items) script.now.opening)) (W.contents output.old) (W.contents output.new)) }
 {
     let sizes = match script.opening {
         Some(Opening::Shape(sizes)) => sizes,
@@ -58,8 +62,12 @@ pub fn run_threads_in_file<G: Gate + Sync, W: Write, R: Threads + Wait + Sync, H
 ) -> io::Result<(u8, Option<Trouble>)>
 where
     H::File: Lockable + Send,
-    ensures whole { said.IfOk result (λ end. said.IsRunOnThreads (said.IsReportOfRun (said.opening_of ⟦<Mirror<FileDisk<H::File>> as Device>⟧.seen) ⟦<Mirror<FileDisk<H::File>> as Device>⟧.honest ⟦<Mirror<FileDisk<H::File>> as Device>⟧.seen ⟦<Mirror<FileDisk<H::File>> as Device>⟧.may_leave ⟦<ReadAhead<FileDisk<H::File>> as Device>⟧.honest ⟦<ReadAhead<FileDisk<H::File>> as Device>⟧.seen (λ _ _. ⊤) script.now.lines.items) script.now.opening (said.Appends (W.contents output.old) (W.contents output.new)) end.0) }
-    ensures part { said.OnErr result (said.BreaksOff (said.WithSomeStatus (said.IsTextOnThreads (said.IsReportOfRun (said.opening_of ⟦<Mirror<FileDisk<H::File>> as Device>⟧.seen) ⟦<Mirror<FileDisk<H::File>> as Device>⟧.honest ⟦<Mirror<FileDisk<H::File>> as Device>⟧.seen ⟦<Mirror<FileDisk<H::File>> as Device>⟧.may_leave ⟦<ReadAhead<FileDisk<H::File>> as Device>⟧.honest ⟦<ReadAhead<FileDisk<H::File>> as Device>⟧.seen (λ _ _. ⊤) script.now.lines.items) script.now.opening)) (W.contents output.old) (W.contents output.new)) }
+    ensures whole { said.IfOk result (λ end. said.IsRunOnThreads (said.IsReportOfRun ⟦<Mirror<FileDisk<H::File>> as Device>⟧
+        ⟦<ReadAhead<FileDisk<H::File>> as Device>⟧ (λ _ _. ⊤) script.now.lines.items) script.now.opening
+        (said.Appends (W.contents output.old) (W.contents output.new)) end.0) }
+    ensures part { said.OnErr result (said.BreaksOff (said.WithSomeStatus (said.IsTextOnThreads
+        (said.IsReportOfRun ⟦<Mirror<FileDisk<H::File>> as Device>⟧ ⟦<ReadAhead<FileDisk<H::File>> as Device>⟧ (λ _ _. ⊤) script.now.lines.items)
+        script.now.opening)) (W.contents output.old) (W.contents output.new)) }
 {
     let sizes = match script.opening {
         Some(Opening::Shape(sizes)) => sizes,
@@ -134,7 +142,8 @@ fn report_in_memory<G: Gate + Sync, R: Threads + Wait + Sync>(
     lines: &[Line],
     gate: &G,
 ) -> Result<Report, Fault>
-    ensures { said.IfOk result (said.IsReportOfRun (said.opening_of ⟦<Fuse<MemDisk> as Device>⟧.seen) ⟦<Fuse<MemDisk> as Device>⟧.honest ⟦<Fuse<MemDisk> as Device>⟧.seen ⟦<Fuse<MemDisk> as Device>⟧.may_leave ⟦<MemDisk as Device>⟧.honest ⟦<MemDisk as Device>⟧.seen (said.HoldsLeft ⟦<Fuse<MemDisk> as Device>⟧.may_leave ⟦<MemDisk as Device>⟧.seen) lines.now sizes) }
+    ensures { said.IfOk result (said.IsReportOfRun ⟦<Fuse<MemDisk> as Device>⟧ ⟦<MemDisk as Device>⟧
+        (said.HoldsLeft ⟦<Fuse<MemDisk> as Device>⟧ ⟦<MemDisk as Device>⟧) lines.now sizes) }
 {
     let shape = shape_of(sizes)?;
     let device = Fuse::new(MemDisk::new(alloc));
@@ -163,7 +172,8 @@ fn report_in_file<G: Gate + Sync, R: Threads + Wait + Sync, H: Files>(
 ) -> Result<Report, Trouble>
 where
     H::File: Lockable + Send,
-    ensures { said.IfOk result (said.IsReportOfRun (said.opening_of ⟦<Mirror<FileDisk<H::File>> as Device>⟧.seen) ⟦<Mirror<FileDisk<H::File>> as Device>⟧.honest ⟦<Mirror<FileDisk<H::File>> as Device>⟧.seen ⟦<Mirror<FileDisk<H::File>> as Device>⟧.may_leave ⟦<ReadAhead<FileDisk<H::File>> as Device>⟧.honest ⟦<ReadAhead<FileDisk<H::File>> as Device>⟧.seen (λ _ _. ⊤) lines.now sizes) }
+    ensures { said.IfOk result (said.IsReportOfRun ⟦<Mirror<FileDisk<H::File>> as Device>⟧ ⟦<ReadAhead<FileDisk<H::File>> as Device>⟧
+        (λ _ _. ⊤) lines.now sizes) }
 {
     let shape = shape_of(sizes)?;
     let (file, length) = make_alone(files, path)?;
@@ -196,7 +206,7 @@ fn play_new<D: Device + Drop + Send, G: Gate + Sync, R: Threads + Wait + Sync>(
     gate: &G,
 ) -> Result<Played<D>, Fault>
     requires honest { D.honest device }
-    ensures { said.IfOk result (λ its. said.IsPlayedNew (said.opening_of D.seen) shape lines.now D.honest D.seen D.may_leave its.logs.items its.keeper.device its.keeper.finished) }
+    ensures { said.IfOk result (λ its. said.IsPlayedNew D.Device shape lines.now its.logs.items its.keeper.device its.keeper.finished) }
 {
     let mut device = device;
     let opened = create_opened(alloc, &mut device, shape)?;
@@ -216,7 +226,7 @@ fn report_on<D: Device>(
     finished: &Option<Finished>,
     device: &mut D,
 ) -> Result<Report, Fault>
-    ensures { said.IfOk result (said.IsReportOn D.honest D.seen lines.now logs.now finished.now device.old) }
+    ensures { said.IfOk result (said.IsReportOn D.Device lines.now logs.now finished.now device.old) }
 {
     let opened = recover(alloc, device)?;
     let pairs = content(alloc, &opened, device)?;

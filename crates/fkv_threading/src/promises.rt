@@ -19,5 +19,6 @@ pub(crate) struct SessionLog<'t, D: Device> {
 impl<'t, D: Device> Promise<Result<SessionEnd, Fault>> for SessionLog<'t, D> {
     ghost use Rattle.fkv_threading.specs.Said as said;
 
-    ghost kept_by = { λ its r. said.IfOk r (λ end. said.IsTold (said.opening_of D.seen) (said.part_of its.table.now.table.shared.key its.number its.point its.lines.now) end.is_whole end.log) };
+    ghost kept_by = { λ its r. said.IfOk r (λ end. said.IsTold (said.opening D.Device) (said.part_of its.table.now.table.shared.key its.number its.point
+        its.lines.now) end.is_whole end.log) };
 }

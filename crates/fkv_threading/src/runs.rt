@@ -35,8 +35,14 @@ pub fn run<R: Threads + Wait + Sync, H: Files, I: Read + Drop, W: Write, E: Writ
 ) -> io::Result<u8>
 where
     H::File: Lockable + Send,
-    ensures whole { said.IfOk result (λ status. said.Writes (said.IsRunOfInput (said.IsReportIn (said.IsReportOfRun (said.opening_of ⟦<Fuse<MemDisk> as Device>⟧.seen) ⟦<Fuse<MemDisk> as Device>⟧.honest ⟦<Fuse<MemDisk> as Device>⟧.seen ⟦<Fuse<MemDisk> as Device>⟧.may_leave ⟦<MemDisk as Device>⟧.honest ⟦<MemDisk as Device>⟧.seen (said.HoldsLeft ⟦<Fuse<MemDisk> as Device>⟧.may_leave ⟦<MemDisk as Device>⟧.seen)) (said.IsReportOfRun (said.opening_of ⟦<Mirror<FileDisk<H::File>> as Device>⟧.seen) ⟦<Mirror<FileDisk<H::File>> as Device>⟧.honest ⟦<Mirror<FileDisk<H::File>> as Device>⟧.seen ⟦<Mirror<FileDisk<H::File>> as Device>⟧.may_leave ⟦<ReadAhead<FileDisk<H::File>> as Device>⟧.honest ⟦<ReadAhead<FileDisk<H::File>> as Device>⟧.seen (λ _ _. ⊤)) (said.is_some file.entry)) (I.remaining input) status) (W.contents output.old) (W.contents output.new)) }
-    ensures part { said.OnErr result (said.BreaksOff (said.WithSomeStatus (said.IsRunOfInput (said.IsReportIn (said.IsReportOfRun (said.opening_of ⟦<Fuse<MemDisk> as Device>⟧.seen) ⟦<Fuse<MemDisk> as Device>⟧.honest ⟦<Fuse<MemDisk> as Device>⟧.seen ⟦<Fuse<MemDisk> as Device>⟧.may_leave ⟦<MemDisk as Device>⟧.honest ⟦<MemDisk as Device>⟧.seen (said.HoldsLeft ⟦<Fuse<MemDisk> as Device>⟧.may_leave ⟦<MemDisk as Device>⟧.seen)) (said.IsReportOfRun (said.opening_of ⟦<Mirror<FileDisk<H::File>> as Device>⟧.seen) ⟦<Mirror<FileDisk<H::File>> as Device>⟧.honest ⟦<Mirror<FileDisk<H::File>> as Device>⟧.seen ⟦<Mirror<FileDisk<H::File>> as Device>⟧.may_leave ⟦<ReadAhead<FileDisk<H::File>> as Device>⟧.honest ⟦<ReadAhead<FileDisk<H::File>> as Device>⟧.seen (λ _ _. ⊤)) (said.is_some file.entry)) (I.remaining input))) (W.contents output.old) (W.contents output.new)) }
+    ensures whole { said.IfOk result (λ status. said.Writes (said.IsRunOfInput (said.IsReportIn
+        (said.IsReportOfRun ⟦<Fuse<MemDisk> as Device>⟧ ⟦<MemDisk as Device>⟧ (said.HoldsLeft ⟦<Fuse<MemDisk> as Device>⟧ ⟦<MemDisk as Device>⟧))
+        (said.IsReportOfRun ⟦<Mirror<FileDisk<H::File>> as Device>⟧ ⟦<ReadAhead<FileDisk<H::File>> as Device>⟧ (λ _ _. ⊤)) (said.is_some file.entry))
+        (I.remaining input) status) (W.contents output.old) (W.contents output.new)) }
+    ensures part { said.OnErr result (said.BreaksOff (said.WithSomeStatus (said.IsRunOfInput (said.IsReportIn
+        (said.IsReportOfRun ⟦<Fuse<MemDisk> as Device>⟧ ⟦<MemDisk as Device>⟧ (said.HoldsLeft ⟦<Fuse<MemDisk> as Device>⟧ ⟦<MemDisk as Device>⟧))
+        (said.IsReportOfRun ⟦<Mirror<FileDisk<H::File>> as Device>⟧ ⟦<ReadAhead<FileDisk<H::File>> as Device>⟧ (λ _ _. ⊤)) (said.is_some file.entry))
+        (I.remaining input))) (W.contents output.old) (W.contents output.new)) }
 {
     match script_bytes(alloc, input) {
         Ok(bytes) => {
@@ -88,8 +94,14 @@ fn run_bytes<R: Threads + Wait + Sync, H: Files, W: Write, E: Write>(
 ) -> io::Result<u8>
 where
     H::File: Lockable + Send,
-    ensures whole { said.IfOk result (λ status. said.Writes (said.IsRunOfBytes (said.IsReportIn (said.IsReportOfRun (said.opening_of ⟦<Fuse<MemDisk> as Device>⟧.seen) ⟦<Fuse<MemDisk> as Device>⟧.honest ⟦<Fuse<MemDisk> as Device>⟧.seen ⟦<Fuse<MemDisk> as Device>⟧.may_leave ⟦<MemDisk as Device>⟧.honest ⟦<MemDisk as Device>⟧.seen (said.HoldsLeft ⟦<Fuse<MemDisk> as Device>⟧.may_leave ⟦<MemDisk as Device>⟧.seen)) (said.IsReportOfRun (said.opening_of ⟦<Mirror<FileDisk<H::File>> as Device>⟧.seen) ⟦<Mirror<FileDisk<H::File>> as Device>⟧.honest ⟦<Mirror<FileDisk<H::File>> as Device>⟧.seen ⟦<Mirror<FileDisk<H::File>> as Device>⟧.may_leave ⟦<ReadAhead<FileDisk<H::File>> as Device>⟧.honest ⟦<ReadAhead<FileDisk<H::File>> as Device>⟧.seen (λ _ _. ⊤)) (said.is_some file.entry)) bytes.now status) (W.contents output.old) (W.contents output.new)) }
-    ensures part { said.OnErr result (said.BreaksOff (said.WithSomeStatus (said.IsRunOfBytes (said.IsReportIn (said.IsReportOfRun (said.opening_of ⟦<Fuse<MemDisk> as Device>⟧.seen) ⟦<Fuse<MemDisk> as Device>⟧.honest ⟦<Fuse<MemDisk> as Device>⟧.seen ⟦<Fuse<MemDisk> as Device>⟧.may_leave ⟦<MemDisk as Device>⟧.honest ⟦<MemDisk as Device>⟧.seen (said.HoldsLeft ⟦<Fuse<MemDisk> as Device>⟧.may_leave ⟦<MemDisk as Device>⟧.seen)) (said.IsReportOfRun (said.opening_of ⟦<Mirror<FileDisk<H::File>> as Device>⟧.seen) ⟦<Mirror<FileDisk<H::File>> as Device>⟧.honest ⟦<Mirror<FileDisk<H::File>> as Device>⟧.seen ⟦<Mirror<FileDisk<H::File>> as Device>⟧.may_leave ⟦<ReadAhead<FileDisk<H::File>> as Device>⟧.honest ⟦<ReadAhead<FileDisk<H::File>> as Device>⟧.seen (λ _ _. ⊤)) (said.is_some file.entry)) bytes.now)) (W.contents output.old) (W.contents output.new)) }
+    ensures whole { said.IfOk result (λ status. said.Writes (said.IsRunOfBytes (said.IsReportIn
+        (said.IsReportOfRun ⟦<Fuse<MemDisk> as Device>⟧ ⟦<MemDisk as Device>⟧ (said.HoldsLeft ⟦<Fuse<MemDisk> as Device>⟧ ⟦<MemDisk as Device>⟧))
+        (said.IsReportOfRun ⟦<Mirror<FileDisk<H::File>> as Device>⟧ ⟦<ReadAhead<FileDisk<H::File>> as Device>⟧ (λ _ _. ⊤)) (said.is_some file.entry))
+        bytes.now status) (W.contents output.old) (W.contents output.new)) }
+    ensures part { said.OnErr result (said.BreaksOff (said.WithSomeStatus (said.IsRunOfBytes (said.IsReportIn
+        (said.IsReportOfRun ⟦<Fuse<MemDisk> as Device>⟧ ⟦<MemDisk as Device>⟧ (said.HoldsLeft ⟦<Fuse<MemDisk> as Device>⟧ ⟦<MemDisk as Device>⟧))
+        (said.IsReportOfRun ⟦<Mirror<FileDisk<H::File>> as Device>⟧ ⟦<ReadAhead<FileDisk<H::File>> as Device>⟧ (λ _ _. ⊤)) (said.is_some file.entry))
+        bytes.now)) (W.contents output.old) (W.contents output.new)) }
 {
     match threads_script_of(alloc, bytes) {
         Ok(script) => match file {
@@ -108,8 +120,12 @@ fn run_in_memory<R: Threads + Wait + Sync, W: Write, E: Write>(
     output: &mut W,
     complaints: &mut E,
 ) -> io::Result<u8>
-    ensures whole { said.IfOk result (said.IsRunOnThreads (said.IsReportOfRun (said.opening_of ⟦<Fuse<MemDisk> as Device>⟧.seen) ⟦<Fuse<MemDisk> as Device>⟧.honest ⟦<Fuse<MemDisk> as Device>⟧.seen ⟦<Fuse<MemDisk> as Device>⟧.may_leave ⟦<MemDisk as Device>⟧.honest ⟦<MemDisk as Device>⟧.seen (said.HoldsLeft ⟦<Fuse<MemDisk> as Device>⟧.may_leave ⟦<MemDisk as Device>⟧.seen) script.now.lines.items) script.now.opening (said.Appends (W.contents output.old) (W.contents output.new))) }
-    ensures part { said.OnErr result (said.BreaksOff (said.WithSomeStatus (said.IsTextOnThreads (said.IsReportOfRun (said.opening_of ⟦<Fuse<MemDisk> as Device>⟧.seen) ⟦<Fuse<MemDisk> as Device>⟧.honest ⟦<Fuse<MemDisk> as Device>⟧.seen ⟦<Fuse<MemDisk> as Device>⟧.may_leave ⟦<MemDisk as Device>⟧.honest ⟦<MemDisk as Device>⟧.seen (said.HoldsLeft ⟦<Fuse<MemDisk> as Device>⟧.may_leave ⟦<MemDisk as Device>⟧.seen) script.now.lines.items) script.now.opening)) (W.contents output.old) (W.contents output.new)) }
+    ensures whole { said.IfOk result (said.IsRunOnThreads (said.IsReportOfRun ⟦<Fuse<MemDisk> as Device>⟧ ⟦<MemDisk as Device>⟧
+        (said.HoldsLeft ⟦<Fuse<MemDisk> as Device>⟧ ⟦<MemDisk as Device>⟧) script.now.lines.items) script.now.opening
+        (said.Appends (W.contents output.old) (W.contents output.new))) }
+    ensures part { said.OnErr result (said.BreaksOff (said.WithSomeStatus (said.IsTextOnThreads
+        (said.IsReportOfRun ⟦<Fuse<MemDisk> as Device>⟧ ⟦<MemDisk as Device>⟧ (said.HoldsLeft ⟦<Fuse<MemDisk> as Device>⟧ ⟦<MemDisk as Device>⟧)
+        script.now.lines.items) script.now.opening)) (W.contents output.old) (W.contents output.new)) }
 {
     let status = run_threads(rt, alloc, script, output, &Open)?;
     complain_of_status(complaints, status);
@@ -128,8 +144,12 @@ fn run_in_file<R: Threads + Wait + Sync, H: Files, W: Write, E: Write>(
 ) -> io::Result<u8>
 where
     H::File: Lockable + Send,
-    ensures whole { said.IfOk result (said.IsRunOnThreads (said.IsReportOfRun (said.opening_of ⟦<Mirror<FileDisk<H::File>> as Device>⟧.seen) ⟦<Mirror<FileDisk<H::File>> as Device>⟧.honest ⟦<Mirror<FileDisk<H::File>> as Device>⟧.seen ⟦<Mirror<FileDisk<H::File>> as Device>⟧.may_leave ⟦<ReadAhead<FileDisk<H::File>> as Device>⟧.honest ⟦<ReadAhead<FileDisk<H::File>> as Device>⟧.seen (λ _ _. ⊤) script.now.lines.items) script.now.opening (said.Appends (W.contents output.old) (W.contents output.new))) }
-    ensures part { said.OnErr result (said.BreaksOff (said.WithSomeStatus (said.IsTextOnThreads (said.IsReportOfRun (said.opening_of ⟦<Mirror<FileDisk<H::File>> as Device>⟧.seen) ⟦<Mirror<FileDisk<H::File>> as Device>⟧.honest ⟦<Mirror<FileDisk<H::File>> as Device>⟧.seen ⟦<Mirror<FileDisk<H::File>> as Device>⟧.may_leave ⟦<ReadAhead<FileDisk<H::File>> as Device>⟧.honest ⟦<ReadAhead<FileDisk<H::File>> as Device>⟧.seen (λ _ _. ⊤) script.now.lines.items) script.now.opening)) (W.contents output.old) (W.contents output.new)) }
+    ensures whole { said.IfOk result (said.IsRunOnThreads (said.IsReportOfRun ⟦<Mirror<FileDisk<H::File>> as Device>⟧
+        ⟦<ReadAhead<FileDisk<H::File>> as Device>⟧ (λ _ _. ⊤) script.now.lines.items) script.now.opening
+        (said.Appends (W.contents output.old) (W.contents output.new))) }
+    ensures part { said.OnErr result (said.BreaksOff (said.WithSomeStatus (said.IsTextOnThreads
+        (said.IsReportOfRun ⟦<Mirror<FileDisk<H::File>> as Device>⟧ ⟦<ReadAhead<FileDisk<H::File>> as Device>⟧ (λ _ _. ⊤) script.now.lines.items)
+        script.now.opening)) (W.contents output.old) (W.contents output.new)) }
 {
     let (status, trouble) = run_threads_in_file(rt, files, alloc, path, script, output, &Open)?;
     complain_of_end(complaints, path, status, trouble);
@@ -171,7 +191,8 @@ fn line_fault_text(alloc: Global, line: u64, kind: ScriptFault) -> io::Result<Ve
 pub fn refuse_seed<W: Write, E: Write>(output: &mut W, complaints: &mut E) -> io::Result<u8>
     ensures text { said.OnOk result (said.Appends (W.contents output.old) (W.contents output.new) (said.ended (said.codes "options seed and threads"))) }
     ensures status { said.IfOk result (λ status. status ≡ 2) }
-    ensures part { said.OnErr result (said.BreaksOff (λ its. its ≡ said.ended (said.codes "options seed and threads")) (W.contents output.old) (W.contents output.new)) }
+    ensures part { said.OnErr result (said.BreaksOff (λ its. its ≡ said.ended (said.codes "options seed and threads")) (W.contents output.old)
+        (W.contents output.new)) }
 {
     write_options(output)?;
     complain(
@@ -184,7 +205,8 @@ pub fn refuse_seed<W: Write, E: Write>(output: &mut W, complaints: &mut E) -> io
 /// The line of words that don't go together.
 fn write_options<W: Write>(output: &mut W) -> io::Result<()>
     ensures text { said.OnOk result (said.Appends (W.contents output.old) (W.contents output.new) (said.ended (said.codes "options seed and threads"))) }
-    ensures part { said.OnErr result (said.BreaksOff (λ its. its ≡ said.ended (said.codes "options seed and threads")) (W.contents output.old) (W.contents output.new)) }
+    ensures part { said.OnErr result (said.BreaksOff (λ its. its ≡ said.ended (said.codes "options seed and threads")) (W.contents output.old)
+        (W.contents output.new)) }
 {
     write_text(output, "options seed and threads\n".as_bytes())?;
     output.flush()

@@ -19,9 +19,9 @@ pub(crate) fn play_session<D: Device, G: Gate, R: Wait>(
     progress: &Progress,
     gate: &G,
     number: usize,
-    player: Player<'_, D>,
+    player: Player<D>,
 ) -> Result<SessionEnd, Fault>
-    ensures { said.IfOk result (λ its. said.IsTold (said.opening_of D.seen) player.entry its.is_whole its.log) }
+    ensures { said.IfOk result (λ its. said.IsTold (said.opening D.Device) player its.is_whole its.log) }
 {
     let played = play_calls(rt, progress, gate, number, player);
     if played.is_err() {
@@ -34,14 +34,14 @@ pub(crate) fn play_session<D: Device, G: Gate, R: Wait>(
     }
 }
 
-fn play_calls<'t, D: Device, G: Gate, R: Wait>(
+fn play_calls<D: Device, G: Gate, R: Wait>(
     rt: &R,
     progress: &Progress,
     gate: &G,
     number: usize,
-    player: Player<'t, D>,
-) -> Result<Player<'t, D>, Fault>
-    ensures { said.IfOk result (λ end. end ≡ player.entry) }
+    player: Player<D>,
+) -> Result<Player<D>, Fault>
+    ensures { said.IfOk result (λ end. end ≡ player) }
 {
     let calls = player.count_left() as u64;
     let mut at = player;
@@ -53,12 +53,12 @@ fn play_calls<'t, D: Device, G: Gate, R: Wait>(
 }
 
 /// Makes the next call. One that is refused since too many requests are pending is made again behind a refresh and a poll.
-fn play_call<'t, D: Device, R: Wait>(
+fn play_call<D: Device, R: Wait>(
     rt: &R,
     progress: &Progress,
-    player: Player<'t, D>,
-) -> Result<Player<'t, D>, Fault>
-    ensures { said.IfOk result (λ end. end ≡ player.entry) }
+    player: Player<D>,
+) -> Result<Player<D>, Fault>
+    ensures { said.IfOk result (λ end. end ≡ player) }
 {
     let mut at = player;
     for _ in rt.forever() {
@@ -78,8 +78,8 @@ fn play_call<'t, D: Device, R: Wait>(
 }
 
 /// A refresh and a poll, and how many requests are left.
-fn catch_up<'t, D: Device>(player: Player<'t, D>) -> Result<(Player<'t, D>, usize), Fault>
-    ensures { said.IfOk result (λ its. its.0 ≡ player.entry) }
+fn catch_up<D: Device>(player: Player<D>) -> Result<(Player<D>, usize), Fault>
+    ensures { said.IfOk result (λ its. its.0 ≡ player) }
 {
     let (refreshed, _) = player.call_own(Call::Refresh)?;
     let (polled, answer) = refreshed.call_own(Call::Poll)?;
@@ -90,12 +90,12 @@ fn catch_up<'t, D: Device>(player: Player<'t, D>) -> Result<(Player<'t, D>, usiz
 }
 
 /// Catches up until the keeper's lines are through and nothing is pending. Then the session sleeps.
-fn end<'t, D: Device, R: Wait>(
+fn end<D: Device, R: Wait>(
     rt: &R,
     progress: &Progress,
-    player: Player<'t, D>,
-) -> Result<Player<'t, D>, Fault>
-    ensures { said.IfOk result (λ end. end ≡ player.entry) }
+    player: Player<D>,
+) -> Result<Player<D>, Fault>
+    ensures { said.IfOk result (λ end. end ≡ player) }
 {
     let at = catch_up_whole(rt, progress, player)?;
     if progress.is_stopped() {
@@ -106,12 +106,12 @@ fn end<'t, D: Device, R: Wait>(
 }
 
 /// Refreshes and polls until the keeper's lines are through and nothing is pending, or it is stopped.
-fn catch_up_whole<'t, D: Device, R: Wait>(
+fn catch_up_whole<D: Device, R: Wait>(
     rt: &R,
     progress: &Progress,
-    player: Player<'t, D>,
-) -> Result<Player<'t, D>, Fault>
-    ensures { said.IfOk result (λ end. end ≡ player.entry) }
+    player: Player<D>,
+) -> Result<Player<D>, Fault>
+    ensures { said.IfOk result (λ end. end ≡ player) }
 {
     let mut at = player;
     for _ in rt.forever() {

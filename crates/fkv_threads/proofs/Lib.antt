@@ -1,6 +1,7 @@
 pub mod Below
-mod Ended
 mod Lawful
 mod OneMore
 mod Opens
+mod Shares
 mod Taken
+mod Watching

@@ -1,6 +1,9 @@
 pub mod Begun
 pub mod Below
-pub mod Many
+pub mod Calling
+pub mod Modelled
+pub mod Models
 pub mod Pieces
 pub mod Runs
 pub mod Said
+pub mod Watches

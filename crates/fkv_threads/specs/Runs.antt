@@ -2,10 +2,7 @@
 use Rattle.std.specs.Prelude.{ℕ, List}
 use Rattle.fkv_map.specs.declared.operations.Call.{Call}
 use Rattle.fkv_opening.specs.declared.opened_store.Opened.{Opened}
-use Rattle.fkv_session.specs.Answers.{IsAnswerTold}
 use Rattle.fkv_session.specs.declared.answers.Answer.{Answer}
-use Rattle.fkv_session.specs.declared.answers.Finished.{Finished}
-use Rattle.fkv_session.specs.declared.answers.Told.{Told}
 use Rattle.law_threads.specs.Below.fkv_world.Runs.{World}
 use Rattle.law_threads.specs.Below.fkv_world.World.{Event, Now}
 use Rattle.law_threads.specs.Below.fkv_table.Happening.{Happening}
@@ -16,22 +13,6 @@ use Rattle.law_threads.specs.Threads.{DoneIsSeen, ReadsWhatWasSeen, StandsInOneH
 -- a call, its answer, and what its pass had seen before and has seen behind it
 abbrev pub run_of : ℕ → Call → Answer → List Happening → List Happening → CallRun
 run_of number call answer before behind = record { number = number; call = call; answer = answer; before = before; behind = behind }
-
--- A call that was told this, and what the session has finished by then. The answer to it is the one that says so.
-pub record ToldRun : Type 0 where
-  pub number : ℕ
-  pub call : Call
-  pub told : Told
-  pub finished : List Finished
-  pub before : List Happening
-  pub behind : List Happening
-
-abbrev pub told_run : ℕ → Call → Told → List Finished → List Happening → List Happening → ToldRun
-told_run number call told finished before behind = record { number = number; call = call; told = told; finished = finished; before = before; behind = behind }
-
--- so it is of the call with its answer
-abbrev pub OfToldRun : ToldRun → (CallRun → Type 0) → Type 0
-OfToldRun t P = (answer : Answer) → IsAnswerTold t.told t.finished answer → P (run_of t.number t.call answer t.before t.behind)
 
 module _ {K : Type 0} (at : K → World) (key : K) (its : CallRun) where
   -- the session has run it

@@ -1,21 +1,16 @@
-//! The store on threads: the calls of the table, each with what the thread law says of it.
+//! The store on threads: a session and the keeper, each at its table, with what the thread law says of each call.
 #![tactic(auto)]
 
-mod calls;
-mod keepers;
+mod keeper_seats;
 mod many;
-#[cfg(test)]
-mod one_thread;
 mod opening;
 mod passes;
-mod pieces;
+mod seated;
 
-pub use calls::{run, run_op, run_told};
-pub use keepers::{ask_commit, turn};
-pub use many::run_ops;
-pub use opening::open;
+pub use keeper_seats::KeeperSeat;
+pub use opening::{OpenSeats, open, open_seats};
 pub use passes::{close, join};
-pub use pieces::{asks_device, device_ask, device_step, drive, start_turn};
+pub use seated::Seated;
 
 // What crates above name of the table.
 pub use law_threads::{Happening, Keeper, KeeperPass, OpenTable, Pass, Session, Table, TurnAsk};

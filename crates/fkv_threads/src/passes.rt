@@ -7,10 +7,13 @@ use law_threads::{Pass, Table};
 /// Two sessions' passes meet, as where a thread has told another one of its calls. Each session then has seen what either had seen, so its next calls
 /// stand behind those. Each is ready as before. It waits for nobody, and has no error.
 pub fn join<D: Device>(table: &Table<D>, first: Pass<D>, second: Pass<D>) -> (Pass<D>, Pass<D>)
-    requires ready { said.AreTwoReady (said.opening_of D.seen) table.now.table.shared.key table.now.table.shared.table_id first.seat.table_id second.seat.table_id first.seat.me second.seat.me }
-    ensures met { said.HaveMet (said.opening_of D.seen) first.seat.me second.seat.me result.0.seat.me result.1.seat.me }
-    ensures first { said.StaysReady (said.opening_of D.seen) table.now.table.shared.key table.now.table.shared.table_id first.seat.table_id result.0.seat.table_id first.seat.me result.0.seat.me }
-    ensures second { said.StaysReady (said.opening_of D.seen) table.now.table.shared.key table.now.table.shared.table_id second.seat.table_id result.1.seat.table_id second.seat.me result.1.seat.me }
+    requires ready { said.AreTwoReady (said.opening D.Device) table.now.table.shared.key table.now.table.shared.table_id first.seat.table_id
+        second.seat.table_id first.seat.me second.seat.me }
+    ensures met { said.HaveMet (said.opening D.Device) first.seat.me second.seat.me result.0.seat.me result.1.seat.me }
+    ensures first { said.StaysReady (said.opening D.Device) table.now.table.shared.key table.now.table.shared.table_id first.seat.table_id
+        result.0.seat.table_id first.seat.me result.0.seat.me }
+    ensures second { said.StaysReady (said.opening D.Device) table.now.table.shared.key table.now.table.shared.table_id second.seat.table_id
+        result.1.seat.table_id second.seat.me result.1.seat.me }
 {
     law_threads::join(table, first, second)
 }

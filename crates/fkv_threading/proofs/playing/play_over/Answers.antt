@@ -1,10 +1,9 @@
 -- There is a seat for each session.
 use Rattle.std.proofs.Common.{ℕ, subst, IfOk}
-use Rattle.fkv_threads.specs.Below.fkv_table.Planes.{opening_of}
 use Rattle.fkv_threading.specs.Told.{WerePlayed}
 use Rattle.fkv_threading.proofs.playing.play_over.Goals as goal
 
 pub returns : goal.returns
 returns g c = subst
-    (λ (n : ℕ). IfOk c.play_seats.result (λ its. WerePlayed (opening_of g.D.Device.seen) c.args.table.now.table.shared.key c.args.points.now c.args.lines.now n g.D.Device.honest g.D.Device.seen g.D.Device.may_leave its.is_whole its.logs.items its.keeper.device its.keeper.finished))
+    (λ (n : ℕ). IfOk c.play_seats.result (λ its. WerePlayed g.D.Device c.args.table.now.table.shared.key c.args.points.now c.args.lines.now n its.is_whole its.logs.items its.keeper.device its.keeper.finished))
     c.in_ok-players.ensures.count c.play_seats.ensures

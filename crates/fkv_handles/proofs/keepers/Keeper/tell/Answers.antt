@@ -2,4 +2,4 @@
 use Rattle.fkv_handles.proofs.keepers.Keeper.tell.Goals as goal
 
 pub returns-in-Some : goal.returns-in-Some
-returns-in-Some c = record { told = rw c.in-Some.is c.tell.ensures.told }
+returns-in-Some c = record { told = rw c.in-Some.is c.told.ensures.told }

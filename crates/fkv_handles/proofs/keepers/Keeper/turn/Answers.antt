@@ -2,4 +2,4 @@
 use Rattle.fkv_handles.proofs.keepers.Keeper.turn.Goals as goal
 
 pub returns-in-Some : goal.returns-in-Some
-returns-in-Some c = record { turned = rw c.in-Some.is c.turn.ensures.turned }
+returns-in-Some c = record { turned = rw c.in-Some.is c.drive.ensures.driven }

@@ -1,5 +1,5 @@
 -- A load and the Cas that raises its word are one step of the table.
-use Rattle.std.proofs.Common.{length, [], ◌∷◌, ◌++◌, ◌≡◌, ◌+◌, ◌<◌, ℕ, arith, refl, sym, ap, subst, ◌∙◌}
+use Rattle.std.proofs.Common.{length, [], ◌≡◌, ◌+◌, ◌<◌, ℕ, arith, refl, sym, ap, subst, ◌∙◌}
 use Rattle.std.specs.Prelude.{take, ◌==◌, ◌^◌}
 use Rattle.std.proofs.lemmas.List.{length-take-le}
 use mathlib.Core.Option.{none}

@@ -1,0 +1,2 @@
+-- What crates above name of `fkv_threads`.
+pub use Rattle.fkv_threads.specs.Models

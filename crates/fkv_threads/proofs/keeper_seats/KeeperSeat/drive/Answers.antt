@@ -1,0 +1,29 @@
+-- A turn has begun, and has gone on up to a call of the device or to its end.
+use Rattle.std.proofs.Common.{refl, sym, ◌∙◌}
+use Rattle.std.proofs.lemmas.Bool.{false≢true}
+use Rattle.law_threads.specs.Below.fkv_table.Planes.{opening_of}
+use Rattle.fkv_threads.proofs.Watching.{finished_over}
+use Rattle.fkv_threads.proofs.keeper_seats.KeeperSeat.drive.Goals as goal
+
+pub returns : goal.returns
+returns g c =
+    let d = g.D.Device in let law = c.law_threads.ensures in
+    record {
+      driven = rw (← c.self.view_is) (record {
+        waits = λ turns. absurd (false≢true (sym c.if-self.false ∙ turns));
+        begins = λ _. record {
+          same = record { key = refl; table = refl };
+          medium = refl;
+          begun = c.start_turn.new.pass.seat.me.0.seen;
+          kept = c.start_turn.ensures.kept;
+          leaves = rw (← c.deref.ensures) c.start_turn.ensures.device;
+          driven = record {
+            went = c.drive-next.ensures.went;
+            leaves = rw (← c.deref-2.ensures) c.drive-next.ensures.device;
+            asked = c.drive-next.ensures.told;
+            in_turn = c.is_due-self-inside.ensures;
+            finished = rw (← c.deref-2.ensures) (finished_over d _ _ _ c.drive-next.result _ _ (law.finished (opening_of d.seen)) c.drive-next.ensures.at_work c.drive-next.ensures.told);
+          };
+        };
+      });
+    }

@@ -1,0 +1,25 @@
+-- The call of the device was made, and the turn has gone on up to the next one or to its end.
+use Rattle.std.proofs.Common.{refl}
+use Rattle.law_threads.specs.Below.fkv_table.Planes.{opening_of}
+use Rattle.fkv_threads.proofs.Watching.{finished_over}
+use Rattle.fkv_threads.proofs.keeper_seats.KeeperSeat.step.Goals as goal
+
+pub returns : goal.returns
+returns g c =
+    let d = g.D.Device in let law = c.law_threads.ensures in
+    record {
+      stepped = rw (← c.self.view_is) (record {
+        same = record { key = refl; table = refl };
+        called = c.device_step.new.pass.seat.me.0.seen;
+        went = c.device_step.ensures.went;
+        moments = rw (← c.deref.ensures) c.device_step.ensures.moments;
+        recovered = rw (← c.deref.ensures) (law.turns (opening_of d.seen) _ _ _ c.device_step.ensures.at_work.keeping.allowed);
+        driven = record {
+          went = c.drive-next.ensures.went;
+          leaves = rw (← c.deref-2.ensures) c.drive-next.ensures.device;
+          asked = c.drive-next.ensures.told;
+          in_turn = c.is_due-self-inside.ensures;
+          finished = rw (← c.deref-2.ensures) (finished_over d _ _ _ c.drive-next.result _ _ (law.finished (opening_of d.seen)) c.drive-next.ensures.at_work c.drive-next.ensures.told);
+        };
+      });
+    }
