@@ -216,7 +216,10 @@ class Specs:
         if first in module.definitions or first in module.inner:
             return self.found(module, first)
         if first in module.names:
-            return self.find(*module.names[first], module.path)
+            it = self.find(*module.names[first], module.path)
+            if isinstance(it, Kit) and it.name != first:
+                stop(f"{module.path}.antt: it takes the toolchain's {it.name} as {first}, and the page would not show that")
+            return it
         if first in module.aliases and rest:
             place = self.place(module.aliases[first], module.path)
             if isinstance(place, Module) and not self.found(place, rest[0]) and len(rest) > 1:

@@ -38,8 +38,12 @@ class Function:
             else:
                 self.signature.append(line[indent:])
         if clauses is not None:
-            self.clauses = [self.clause(it) for it in clauses]
+            self.clauses = [*self.premises(), *(self.clause(it) for it in clauses)]
         self.uses = dict(self.ghost_uses("\n".join(it for it in lines if it.lstrip().startswith("ghost use "))))
+
+    def premises(self):
+        """What it requires."""
+        return [it for it in self.clauses if it.lstrip().startswith("requires")]
 
     def clause(self, name):
         """One clause, by its name."""

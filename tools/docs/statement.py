@@ -163,6 +163,9 @@ class Statement:
         yield from self.table_of_words()
         yield from ["", Heading(2, "What may be skipped"), "", *self.skipped()]
         yield from ["", Heading(2, "Where code is held to it"), "", "| what | function and clauses |", "|---|---|", *(self.tie(*it) for it in TIES)]
+        yield from ["", "These are the clauses, with all that each function requires."]
+        for function in (it for _, *functions in TIES for it in functions):
+            yield from self.tied(*function)
         for at, section in enumerate(self.sections):
             yield from ["", Heading(2, f"{at + 1}. {section.part['title']}"), "", *section.part["text"].strip("\n").split("\n")]
             yield from self.part(section)
@@ -213,6 +216,11 @@ class Statement:
             at = f": {', '.join(f'`{it}`' for it in clauses.split())}" if clauses else ""
             places.append(f"[`{name}`](../{function.path}) of `{crate}`{at}")
         return f"| {what} | {'; '.join(places)} |"
+
+    def tied(self, crate, file, name, clauses):
+        """The clauses of a function to which code is held, so that a weaker one changes the page."""
+        it = Function(self.root, crate, file, name, clauses.split())
+        yield from ["", f"[`{name}`](../{it.path}) of `{crate}`:", "", "```rust", *it.signature, *it.clauses, "```"]
 
     def part(self, section):
         for function in section.functions:
