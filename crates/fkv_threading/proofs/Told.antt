@@ -22,6 +22,7 @@ use Rattle.fkv_seats.specs.Rule.{IsSeenBy}
 use Rattle.fkv_session.specs.declared.answers.Answer.{Answer}
 use Rattle.fkv_threads.specs.Below.fkv_table.Happening.{Happening}
 use Rattle.fkv_threads.specs.Below.fkv_table.KeeperCalls.{HasKept}
+use Rattle.fkv_threads.specs.Below.fkv_table.Keeps.{IsAfterSeen}
 use Rattle.fkv_threads.specs.Below.fkv_table.Planes.{plane}
 use Rattle.fkv_threads.specs.Below.fkv_table.Starts.{EachAt}
 use Rattle.fkv_threads.proofs.Below.fkv_table.Starts.{one_more}
@@ -32,7 +33,7 @@ use Rattle.fkv_threads.specs.Begun.{AreFirst, IsOverStore}
 use Rattle.fkv_threads.specs.Models.{IsWatching, Opening, Sitting, Watch, opening}
 use Rattle.fkv_threads.specs.Watches.{IsTurnOf}
 use Rattle.fkv_threads.specs.Runs.{run_of}
-use Rattle.fkv_threading.specs.Told.{AreLogs, AreTurns, HasMade, IsLogOf, IsNoted, IsPlayed, IsTold, Part, TurnRun, WasFinished, WasTold, WerePlayed, finish_by, is_full, is_own, part_at, part_of, point_at}
+use Rattle.fkv_threading.specs.Told.{AreLogs, AreTurns, HasMade, IsKept, IsLogOf, IsNoted, IsPlayed, IsTold, Part, TurnRun, WasFinished, WasTold, WerePlayed, finish_by, is_full, is_own, part_at, part_of, point_at}
 use Rattle.fkv_threads.specs.Below.fkv_world.Runs.{World}
 use Rattle.fkv_threads.specs.Below.law_threads.Calls.{CallRun, HasRun}
 use Rattle.fkv_threads.specs.Below.law_threads.Turns.{HasTurned}
@@ -215,4 +216,16 @@ has_turned {D} device w w' answer turned =
       ready = record { opened = its.its.work.opened; same_table = its.its.work.same_table; keeping = its.its.work.keeping; idle = its.its.so.idle turned.over };
       seen = its.seen;
       told = turned.told;
+    })
+
+-- the keeper's device, as the keeper has seen it
+pub is_kept : {D : Type 0} (device : Ghosts D) (w : Watch (Opening D) D) (key : Opening D) (medium : D) (finished : Option Finished) → w.key ≡ key → medium ≡ w.device → IsWatching device w → WasFinished (opening device) w.key finished w.seen
+    → IsKept device key medium finished
+is_kept {D} device w key medium finished same is its was =
+    subst (λ (z : Opening D × D). IsKept device z.0 z.1 finished) (λ i. (same i, sym is i))
+    (record {
+      seen = w.seen;
+      is_honest = its.its.honest;
+      behind = subst (λ (es : List Happening). IsAfterSeen (opening device) w.key es (device.seen w.device) (device.may_leave w.device)) its.seen its.its.after;
+      told = was;
     })

@@ -108,7 +108,7 @@ fn player_of<D: Device>(
     calls: Vec<Call>,
 ) -> Player<D>
     requires { seat.seen ≡ [] }
-    ensures { result ≡ record { key = seat.entry.key; number = seat.entry.number; point = point; calls = calls.items } }
+    ensures { result ≡ record { key = seat.key; number = seat.number; point = point; calls = calls.items } }
 {
     Player {
         seat,

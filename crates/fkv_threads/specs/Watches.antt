@@ -1,12 +1,14 @@
 -- The calls of a keeper that watches over its table.
-use Rattle.std.specs.Prelude.{◌≡◌, ℕ, Bool, true, false, List, Result, Some, Err}
+use Rattle.std.specs.Prelude.{◌≡◌, ◌<◌, ◌≤◌, ℕ, Bool, true, false, List, Result, Some, Err}
 use Rattle.fkv_base.specs.declared.commits.CommitKind.{CommitKind}
 use Rattle.fkv_base.specs.declared.faults.Fault.{Fault}
 use Rattle.fkv_base.specs.declared.faults.Fault.TheVariants.{CommitRunning}
 use Rattle.fkv_base.specs.declared.numbers.Version.{Version}
+use Rattle.fkv_disk.specs.Asks.{kinds_by}
 use Rattle.fkv_disk.specs.Device.{AtEachMoment}
 use Rattle.fkv_disk.specs.declared.devices.Device.{Ghosts}
-use Rattle.fkv_keeper.specs.Keeping.{keeper_ask}
+use Rattle.fkv_keeper.specs.KeeperAsks.{keeper_asks_left, keeper_due}
+use Rattle.fkv_keeper.specs.Keeping.{KeeperModel, keeper_ask}
 use Rattle.fkv_keeper.specs.Running.{IsBeginTold, IsTurnTold}
 use Rattle.fkv_keeper.specs.declared.answers.Turn.{Turn}
 use Rattle.fkv_posted.specs.declared.outcomes.Told.{Told}
@@ -25,6 +27,10 @@ use Rattle.law_threads.specs.Images.{RecoversWithin}
 use Rattle.law_threads.specs.Turns.{TellsItsFinish}
 use Rattle.fkv_threads.specs.Models.{IsWatching, Opening, Watch, opening}
 use Rattle.fkv_threads.specs.Pieces.{IfOver}
+
+-- how many asks a keeper's call has left at most
+abbrev pub asks_left : KeeperModel → ℕ
+asks_left k = keeper_asks_left k.shape k.places k.state
 
 -- the next piece is a call of the device
 abbrev pub is_posted : TurnAsk → Bool
@@ -57,11 +63,13 @@ module _ {D : Type 0} (device : Ghosts D) where
     pub in_turn : w'.in_turn ≡ is_posted next
     pub finished : IfOver next (λ answer. TellsItsFinish (opening device) key w'.seen answer)
 
-  -- A turn has begun, and has gone on so.
+  -- A turn has begun, by which the keeper's machine was this, and has gone on so.
   pub record HasBegunTurn (w : Watch (Opening D) D) (next : TurnAsk) (w' : Watch (Opening D) D) : Type 0 where
     pub same : IsSame w w'
     pub medium : w'.device ≡ w.device
     pub begun : List Happening
+    pub its : KeeperModel
+    pub left : asks_left w'.machine ≤ asks_left its
     pub kept : HasKept Turns w.seen begun
     pub leaves : LeavesDevice (opening device) w.key w.seen begun
     pub driven : HasDriven w.key begun next w'
@@ -77,6 +85,8 @@ module _ {D : Type 0} (device : Ghosts D) where
     pub same : IsSame w w'
     pub called : List Happening
     pub went : HasGoneOn w.seen called
+    pub due : device.expects w'.device ≡ kinds_by (keeper_due w.machine) (device.expects medium)
+    pub fewer : asks_left w'.machine < asks_left w.machine
     pub moments : AtEachMoment device.moment device.left_since medium w'.device (IsLeftWithin (opening device) w.key w.seen called)
     pub recovered : RecoversWithin (opening device) w.key w.seen called
     pub driven : HasDriven w.key called next w'

@@ -15,6 +15,8 @@ returns g c =
           same = record { key = refl; table = refl };
           medium = refl;
           begun = c.start_turn.new.pass.seat.me.0.seen;
+          its = c.start_turn.new.self.machine;
+          left = c.drive-next.ensures.left;
           kept = c.start_turn.ensures.kept;
           leaves = rw (← c.deref.ensures) c.start_turn.ensures.device;
           driven = record {

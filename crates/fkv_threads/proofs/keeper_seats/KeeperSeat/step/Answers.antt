@@ -1,5 +1,5 @@
 -- The call of the device was made, and the turn has gone on up to the next one or to its end.
-use Rattle.std.proofs.Common.{refl}
+use Rattle.std.proofs.Common.{arith, refl}
 use Rattle.law_threads.specs.Below.fkv_table.Planes.{opening_of}
 use Rattle.fkv_threads.proofs.Watching.{finished_over}
 use Rattle.fkv_threads.proofs.keeper_seats.KeeperSeat.step.Goals as goal
@@ -12,6 +12,8 @@ returns g c =
         same = record { key = refl; table = refl };
         called = c.device_step.new.pass.seat.me.0.seen;
         went = c.device_step.ensures.went;
+        due = c.device_step.ensures.due;
+        fewer = omega (arith, c.device_step.ensures.fewer, c.drive-next.ensures.left);
         moments = rw (← c.deref.ensures) c.device_step.ensures.moments;
         recovered = rw (← c.deref.ensures) (law.turns (opening_of d.seen) _ _ _ c.device_step.ensures.at_work.keeping.allowed);
         driven = record {
