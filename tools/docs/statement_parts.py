@@ -95,6 +95,8 @@ LEFT_OUT = {
             "fkv_keeper/Keeping keeper_given",
             "fkv_keeper/Keeping keeper_called",
             "fkv_keeper/KeeperAsks keeper_calls",
+            "fkv_keeper/KeeperAsks keeper_due",
+            "fkv_keeper/KeeperAsks keeper_asks_left",
         ],
     ),
     "Which store an image holds": (
