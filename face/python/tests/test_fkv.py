@@ -286,8 +286,12 @@ class Stores(OverFile):
             both = [threading.Thread(target=lambda: [shared.increment(60) for _ in range(1000)]) for _ in range(2)]
             for it in threads + both:
                 it.start()
-            for it in threads + both:
+            for it in both:
                 it.join()
+            # (no thread ticks for it any more, and an update of another session may wait for a commit)
+            with shared.asleep():
+                for it in threads:
+                    it.join()
             self.assertEqual((shared[60], shared.serial), (2000, 2000))
             self.assertEqual([shared[it] for it in range(50)], [120] * 50)
             shared.close()
