@@ -71,6 +71,7 @@ class Keys(OverFile):
         with self.open() as store, store.join() as session:
             session.put(low, 1)
             session.put(high, 2**40)
+            self.assertEqual(session[high], 2**40)
             session.increment(high, 2**41)
             session.raise_to(high, 2**42)
             self.assertEqual((session[low], session[high], session.read_many([low, high]).tolist()), (1, 2**42, [1, 2**42]))
