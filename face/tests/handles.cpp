@@ -70,6 +70,13 @@ static void use_store(const std::string &path) {
     store.renew();
     WANT(store.join(1).serial() == 7);
     {
+        /* a session that is assigned to was given back, and one that was moved from has no handle */
+        fkv::Session first = store.join(2), second = store.join(3);
+        fkv_session *its = second.get();
+        first = std::move(second);
+        WANT(first.get() == its && second.get() == nullptr && store.join(2).get() != its);
+    }
+    {
         fkv::Session session = store.join(2);
         WANT(refused([&] { store.renew(); }).fault() == FKV_HANDLE_OUT && session.read(8) == 4u);
         session.put(9, 1);

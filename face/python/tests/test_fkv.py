@@ -66,6 +66,20 @@ class Keys(OverFile):
             self.assertIsInstance(raised.exception, ValueError)
             self.assertEqual(session.serial, 0)
 
+    def test_keys_of_64_bits(self):
+        low, high = 7, 2**63 + 2**32 + 7
+        with self.open() as store, store.join() as session:
+            session.put(low, 1)
+            session.put(high, 2**40)
+            self.assertEqual(session[high], 2**40)
+            session.increment(high, 2**41)
+            session.raise_to(high, 2**42)
+            self.assertEqual((session[low], session[high], session.read_many([low, high]).tolist()), (1, 2**42, [1, 2**42]))
+            session.commit()
+            self.assertEqual(sorted(store.pairs()), [(low, 1), (high, 2**42)])
+            session.remove(high)
+            self.assertEqual((session.get(low), session.get(high)), (1, None))
+
     def test_many_keys(self):
         with self.open() as store, store.join() as session:
             session.put_many(range(300), array.array("Q", range(1000, 1300)))
@@ -245,6 +259,15 @@ class Stores(OverFile):
         self.assertEqual(len(refused), 2 * len(commits))
         self.assertIn("committing", {it.work for it in progress})
 
+    def test_each_call_ticks(self):
+        with self.open() as store, store.join() as session:
+            for call in (lambda: session.get(1), lambda: session.put(1, 1), lambda: session.remove(1), lambda: session.read_many([1]),
+                         lambda: session.put_many([1], [2]), lambda: session.increment_many([1])):
+                ticket, until = store.ask_commit(), time.monotonic() + 20
+                while not ticket.wait(0) and time.monotonic() < until:
+                    call()
+                self.assertTrue(ticket.wait(0))
+
     def test_sleep_and_tickets(self):
         with self.open() as store, store.join() as session:
             ticket = store.ask_commit()
@@ -286,8 +309,12 @@ class Stores(OverFile):
             both = [threading.Thread(target=lambda: [shared.increment(60) for _ in range(1000)]) for _ in range(2)]
             for it in threads + both:
                 it.start()
-            for it in threads + both:
+            for it in both:
                 it.join()
+            # (no thread ticks for it any more, and an update of another session may wait for a commit)
+            with shared.asleep():
+                for it in threads:
+                    it.join()
             self.assertEqual((shared[60], shared.serial), (2000, 2000))
             self.assertEqual([shared[it] for it in range(50)], [120] * 50)
             shared.close()
