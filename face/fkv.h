@@ -98,34 +98,34 @@ typedef struct {
     uint64_t disk_pages;    /* pages that the log may have in the file: 1 to 65,536, of a large store to 2^30 */
 } fkv_shape;
 
-/* What an opening has told. */
+/* What an opening found. */
 typedef struct {
     uint64_t number;     /* the last finished commit, 0 in a new store */
     uint64_t damage;     /* after -FKV_DAMAGED: 1 manifest slot, 2 triple, 3 record, 4 link of a record, 5 full bucket */
     uint64_t damaged_at; /* and which: a slot's, triple's or bucket's number, or a record's address */
 } fkv_opened;
 
-/* What a renewal has told. */
+/* What a renewal found and wrote. */
 typedef struct {
     uint64_t size;       /* bytes of the new store's file, after a 0 and after -FKV_ROOM_SMALL */
     uint64_t damage;     /* after -FKV_DAMAGED: the part of the old store, as of fkv_opened */
     uint64_t damaged_at; /* and which */
 } fkv_renewed;
 
-/* What an update has told. */
+/* The result of an update. */
 typedef struct {
     uint64_t serial; /* the session's updates count from 1, in all of the store's life; a commit keeps them up to one of these */
-    uint64_t value;  /* what an add or a max that is done has left */
+    uint64_t value;  /* what an add, a max or a merge that is done has left; of a keep FKV_ABSENT where the key has no value */
     uint64_t reason; /* why an update is pending: FKV_FUZZY .. */
 } fkv_update;
 
-/* One read of many: what fkv_get answers and tells. */
+/* One read of many: what fkv_get returns and writes. */
 typedef struct {
     uint64_t value; /* what the read has found, or its ticket */
     int32_t result; /* FKV_FOUND, FKV_NONE, FKV_PENDING or a refusal */
 } fkv_each_read;
 
-/* One update of many: what fkv_upsert or fkv_add answers and tells. */
+/* One update of many: what fkv_upsert, fkv_add or fkv_merge answers and tells. */
 typedef struct {
     uint64_t serial; /* as of fkv_update, and so are the next two */
     uint64_t value;
@@ -137,7 +137,7 @@ typedef struct {
 typedef struct {
     uint64_t kind;  /* FKV_UPDATED, FKV_READ_FOUND or FKV_READ_NONE */
     uint64_t name;  /* an update's serial, or a read's ticket */
-    uint64_t value; /* what an add or a max has left, or what a read has found */
+    uint64_t value; /* of an update as of fkv_update; or what a read has found */
 } fkv_finished;
 
 /* How far the store has come, as a session sees it. */
@@ -162,6 +162,16 @@ enum { FKV_DONE = 0, FKV_FOUND = 1, FKV_NONE = 2, FKV_PENDING = 3 };
 /* Answers of a turn. */
 enum { FKV_OVER = 0, FKV_READ = 1, FKV_WRITE = 2, FKV_SYNC = 3 };
 
+/* Merges: updates that make a new value of the key's value and a number. FASTER calls such updates RMW. See fkv_merge. */
+enum {
+    FKV_KEEP = 0, /* leaves the value as it is, and a key without one without; the number is not looked at */
+    FKV_MIN = 1,  /* lowers the value to the number; a key without a value gets the number */
+    FKV_SUB = 2,  /* takes the number from the value, down to 0; a key without a value gets 0 */
+    FKV_AND = 3,  /* leaves the bits that both have; a key without a value gets 0 */
+    FKV_OR = 4,   /* leaves the bits that either has, and 2^64 - 2 where these are all; a key without a value gets the number */
+    FKV_FIRST = 5 /* gives the number to a key without a value, and leaves any other as it is */
+};
+
 /* Why an update is pending. */
 enum {
     FKV_FUZZY = 1,     /* its record is about to become read-only */
@@ -169,7 +179,7 @@ enum {
     FKV_LATCH = 3,     /* a commit holds its bucket */
     FKV_CONTENDED = 4, /* another session was quicker: poll at once */
     FKV_NO_ROOM = 5,   /* the next page isn't open yet: the keeper is behind */
-    FKV_FULL = 6       /* never told: an update that finds the index or the log full at its call is refused. One that finds it full at a
+    FKV_FULL = 6       /* never reported: an update that finds the index or the log full at its call is refused. One that finds it full at a
                           later poll stays pending, and a poll gives no reason. fkv_settle of fkv_posix.h finds that out */
 };
 
@@ -208,10 +218,11 @@ enum {
     FKV_NO_SESSION = 19,     /* the shape has no session of this number, or its handle was ended */
     FKV_AWAKE = 20,          /* the session is awake */
     FKV_LOST_FULL = 21,      /* a log commit: more than eight ranges of lost records are in hand; a full commit clears them */
-    FKV_HANDLE_OUT = 22,     /* a handle of the store is out still; of fkv_stop: the thread that it would end calls it */
+    FKV_HANDLE_OUT = 22,     /* a handle of the store is out still; of fkv_stop: called by a hook, or held up by the caller's session */
     FKV_HANDLE_TAKEN = 23,   /* the handle was taken before; of fkv_start: the keeper's thread runs already */
     FKV_ROOM_SMALL = 24,     /* the caller's room is too small */
-    FKV_NO_KEEPER = 25       /* of fkv_posix.h: no keeper's thread runs. fkv_start comes first */
+    FKV_NO_KEEPER = 25,      /* of fkv_posix.h: no keeper's thread runs. fkv_start comes first */
+    FKV_NO_MERGE = 26        /* no merge has this number: it is none of FKV_KEEP .. */
 };
 
 /* The name of the fault of a result, as "Asleep" of -12 or of 12; "Done" of 0, and "Unknown" of any other number. Never NULL. */
@@ -240,7 +251,7 @@ int32_t fkv_image(const fkv_shape *shape, uint8_t *into, size_t room);
  * Each session is awake after the call, whether it is taken or not, and commits wait for its refresh: take them all, and put those
  * to sleep that you don't use.
  *
- * `*shape` becomes the store's shape, `*opened` what was told, and `points` each session's last kept serial, as many as fit into
+ * `*shape` becomes the store's shape, `*opened` what the opening found, and `points` each session's last kept serial, as many as fit into
  * `room`. What lies behind the last session's says nothing. `points` isn't NULL, though `room` may be 0.
  * 0; -FKV_NOT_A_STORE, -FKV_DAMAGED (`*opened` says where), -FKV_MEMORY.
  */
@@ -280,42 +291,47 @@ static inline void fkv_free_store(fkv_store store) { free(store.at); }
  * FKV_SPREAD_ALREADY: each key is spread, and the new store is opened with FKV_SPREAD from then on. Nothing tells whether keys lie
  * spread already, and such keys would be spread twice.
  *
- * `told->size` is how many bytes the new file has. If `room` is less, nothing is written, and the call may be made again with so much.
+ * `renewed->size` is how many bytes the new file has. If `room` is less, nothing is written, and the call may be made again with so much.
  * `into` isn't NULL, though `room` may be 0. The caller puts the bytes into a file, syncs it and its folder.
- * 0; -FKV_ROOM_SMALL; -FKV_BAD_SHAPE, -FKV_NOT_A_STORE, -FKV_DAMAGED (`*told` says where), -FKV_MEMORY. The new shape is too small:
+ * 0; -FKV_ROOM_SMALL; -FKV_BAD_SHAPE, -FKV_NOT_A_STORE, -FKV_DAMAGED (`*renewed` says where), -FKV_MEMORY. The new shape is too small:
  * -FKV_INDEX_FULL, -FKV_LOG_FULL, -FKV_NO_SESSION (a session beyond its own has a point).
  */
-int32_t fkv_renew(const uint8_t *bytes, size_t size, const fkv_shape *shape, uint32_t keys, fkv_renewed *told, uint8_t *into,
+int32_t fkv_renew(const uint8_t *bytes, size_t size, const fkv_shape *shape, uint32_t keys, fkv_renewed *renewed, uint8_t *into,
                   size_t room);
 
 /* ---- A session ------------------------------------------------------------------------------------------------------------ */
 
 /*
  * Reads a key. FKV_FOUND (`*value`), FKV_NONE, or FKV_PENDING: the record lies in the file alone. Then `*value` is a ticket, by which
- * a later poll tells what was found. -FKV_ASLEEP, -FKV_PENDING_FULL.
+ * a later poll reports what was found. -FKV_ASLEEP, -FKV_PENDING_FULL.
  */
 int32_t fkv_get(fkv_session *session, uint64_t key, uint64_t *value);
 
 /*
- * Updates of a key. FKV_DONE, or FKV_PENDING: it is accepted, and takes effect at a later poll. Either way `told->serial` is its
+ * Updates of a key. FKV_DONE, or FKV_PENDING: it is accepted, and takes effect at a later poll. Either way `result->serial` is its
  * serial. -FKV_ASLEEP, -FKV_VALUE_RESERVED, -FKV_PENDING_FULL, -FKV_SERIALS_SPENT, -FKV_INDEX_FULL, -FKV_LOG_FULL.
  *
  * A session's pending updates take effect in any order. If it updates the same key again meanwhile, the later update may take effect
  * first, and the earlier one then wins. A read doesn't see what is pending. So poll until nothing is left before the next call of that
- * key; fkv_put, fkv_increment, fkv_raise and fkv_remove of fkv_posix.h do so.
+ * key; fkv_put, fkv_increment, fkv_raise, fkv_remove and fkv_merge_now of fkv_posix.h do so.
  *
  *   fkv_upsert   gives the key this value
  *   fkv_add      adds to its value, up to 2^64 - 2; a key without a value gets the number
  *   fkv_max      raises its value to the number; a key without a value gets the number
  *   fkv_delete   takes its value away
+ *   fkv_merge    merges the number into its value, as `which` says: FKV_KEEP .. Or -FKV_NO_MERGE, and nothing is done
+ *   fkv_keep     leaves its value as it is, and reports it: FKV_KEEP. It is an update, with a serial, and as others it makes a new record
+ *                where the key has none that may be changed in place. Of a key without a value that is a record too, as of fkv_delete
  */
-int32_t fkv_upsert(fkv_session *session, uint64_t key, uint64_t value, fkv_update *told);
-int32_t fkv_add(fkv_session *session, uint64_t key, uint64_t number, fkv_update *told);
-int32_t fkv_max(fkv_session *session, uint64_t key, uint64_t number, fkv_update *told);
-int32_t fkv_delete(fkv_session *session, uint64_t key, fkv_update *told);
+int32_t fkv_upsert(fkv_session *session, uint64_t key, uint64_t value, fkv_update *result);
+int32_t fkv_add(fkv_session *session, uint64_t key, uint64_t number, fkv_update *result);
+int32_t fkv_max(fkv_session *session, uint64_t key, uint64_t number, fkv_update *result);
+int32_t fkv_delete(fkv_session *session, uint64_t key, fkv_update *result);
+int32_t fkv_merge(fkv_session *session, uint64_t key, uint32_t which, uint64_t number, fkv_update *result);
+int32_t fkv_keep(fkv_session *session, uint64_t key, fkv_update *result);
 
 /*
- * The same calls of `count` keys: one after the other, in the order of `keys`, and the answer to each stands at its place in `told`.
+ * The same calls of `count` keys: one after the other, in the order of `keys`, and the result of each is at its place in `results`.
  * They do what so many single calls do. A key may come twice. A refusal of one doesn't end the others: see each `result`.
  *
  * They are for stores whose index and records don't fit the processor's caches. Before each 16 calls most cache lines are fetched that
@@ -323,15 +339,18 @@ int32_t fkv_delete(fkv_session *session, uint64_t key, fkv_update *told);
  * that fits the caches goes better by single calls: many take up to half as long again. The session doesn't refresh meanwhile: poll
  * and refresh between calls of 64 keys or so.
  *
- * `told` has `room` places, and those behind `count` stay as they are. `values` and `numbers` are as many as the keys. No pointer is
+ * `results` has `room` places, and those after `count` stay as they are. `values` and `numbers` are as many as the keys. No pointer is
  * NULL, though a length may be 0.
- * 0; -FKV_ROOM_SMALL where `room` is below `count`, or there are other than as many values or numbers as keys. Then nothing is done.
+ * 0; -FKV_ROOM_SMALL where `room` is below `count`, or there are other than as many values or numbers as keys; -FKV_NO_MERGE as of
+ * fkv_merge. Then nothing is done.
  */
-int32_t fkv_get_many(fkv_session *session, const uint64_t *keys, size_t count, fkv_each_read *told, size_t room);
+int32_t fkv_get_many(fkv_session *session, const uint64_t *keys, size_t count, fkv_each_read *results, size_t room);
 int32_t fkv_upsert_many(fkv_session *session, const uint64_t *keys, size_t count, const uint64_t *values, size_t values_count,
-                        fkv_each_update *told, size_t room);
+                        fkv_each_update *results, size_t room);
 int32_t fkv_add_many(fkv_session *session, const uint64_t *keys, size_t count, const uint64_t *numbers, size_t numbers_count,
-                     fkv_each_update *told, size_t room);
+                     fkv_each_update *results, size_t room);
+int32_t fkv_merge_many(fkv_session *session, uint32_t which, const uint64_t *keys, size_t count, const uint64_t *numbers,
+                       size_t numbers_count, fkv_each_update *results, size_t room);
 
 /*
  * Lets the session see how far the store has come, and take up a commit. Nothing of the store moves on past a session that is awake
@@ -352,14 +371,14 @@ int32_t fkv_sleep(fkv_session *session);
 int32_t fkv_wake(fkv_session *session, fkv_seen *seen);
 
 /*
- * The serial up to which this session's updates are in a commit that is whole in the file: a crash from now on keeps them. It is told of a
- * session that sleeps too. 0; -FKV_NO_SESSION after fkv_end_session.
+ * The serial up to which this session's updates are in a commit that is whole in the file: a crash from now on keeps them. A session that
+ * sleeps may ask too. 0; -FKV_NO_SESSION after fkv_end_session.
  */
 int32_t fkv_durable(fkv_session *session, uint64_t *serial);
 
 /*
  * The last serial that the session has given, and 0 if it has given none. Its next update has the one after it. After an opening that
- * is its point. It is told of a session that sleeps too. 0; -FKV_NO_SESSION after fkv_end_session.
+ * is its point. A session that sleeps may ask too. 0; -FKV_NO_SESSION after fkv_end_session.
  */
 int32_t fkv_serial(fkv_session *session, uint64_t *serial);
 
@@ -372,7 +391,7 @@ static inline void fkv_free_session(fkv_session session) { free(session.at); }
 /* ---- The keeper ----------------------------------------------------------------------------------------------------------- */
 
 /*
- * Begins a commit, and tells its number; later turns carry it on, and one of them tells that it is finished. A log commit
+ * Begins a commit, and writes its number; later turns carry it on, and one of them reports that it is finished. A log commit
  * (`log_only` not 0) writes the log alone, and leaves the index to the last full one: it is shorter, and the next opening longer.
  * 0; -FKV_BROKEN, -FKV_COMMIT_RUNNING, -FKV_VERSIONS_SPENT, -FKV_LOST_FULL, -FKV_EPOCHS_SPENT, -FKV_DRAIN_FULL.
  */
@@ -390,8 +409,8 @@ int32_t fkv_commit(fkv_keeper *keeper, uint32_t log_only, uint64_t *number);
  * A refusal ends the turn: -FKV_DEVICE (the call of the file has failed), -FKV_BROKEN (an earlier call has failed: the keeper is dead for
  * good), -FKV_MEMORY (the next turn tries again), -FKV_EPOCHS_SPENT.
  *
- * That a read tells what was written last, and that a sync tells the truth, is what the library rests on. Nobody else writes to
- * the file meanwhile.
+ * The library relies on two things: a read returns what was written last, and a sync that succeeds has put all of it on the disk. Nobody
+ * else writes to the file meanwhile.
  */
 int32_t fkv_turn(fkv_keeper *keeper, fkv_turned *turned, uint64_t *points, size_t room);
 
@@ -399,7 +418,7 @@ int32_t fkv_turn(fkv_keeper *keeper, fkv_turned *turned, uint64_t *points, size_
  * Takes how the posted call has gone, and goes on with the turn, as fkv_turn does. `failed` isn't 0 where it has failed. After a
  * read `bytes` are what was read, `size` of them, and else `size` is 0. `bytes` isn't NULL, and `points` neither.
  *
- * fkv_told is the same call by its older name.
+ * fkv_told is the older name of the same call.
  */
 int32_t fkv_told(fkv_keeper *keeper, uint32_t failed, const uint8_t *bytes, size_t size, fkv_turned *turned, uint64_t *points,
                  size_t room);

@@ -106,7 +106,7 @@ struct Keeping {
 /* What an update has done. */
 struct Made {
     std::uint64_t serial; /* the session's updates count from 1, in all of the store's life */
-    std::uint64_t value;  /* what an increment or a raise has left */
+    std::uint64_t value;  /* what an increment, a raise or a merge has left */
 };
 
 namespace detail {
@@ -148,6 +148,18 @@ public:
     Made put(std::uint64_t key, std::uint64_t value) { return update(fkv_put, key, value); }
     Made increment(std::uint64_t key, std::uint64_t number = 1) { return update(fkv_increment, key, number); }
     Made raise(std::uint64_t key, std::uint64_t number) { return update(fkv_raise, key, number); }
+    /* Merges: each but keep leaves a new value, see fkv_merge. */
+    Made min(std::uint64_t key, std::uint64_t number) { return merge(FKV_MIN, key, number); }
+    Made sub(std::uint64_t key, std::uint64_t number) { return merge(FKV_SUB, key, number); }
+    Made and_(std::uint64_t key, std::uint64_t number) { return merge(FKV_AND, key, number); }
+    Made or_(std::uint64_t key, std::uint64_t number) { return merge(FKV_OR, key, number); }
+    Made first(std::uint64_t key, std::uint64_t number) { return merge(FKV_FIRST, key, number); }
+    /* An update that leaves the key's value as it is, or leaves it without one, and tells that. */
+    std::optional<std::uint64_t> keep(std::uint64_t key) {
+        Made made = merge(FKV_KEEP, key, 0);
+        if (made.value == FKV_ABSENT) return std::nullopt;
+        return made.value;
+    }
     Made remove(std::uint64_t key) {
         fkv_update told;
         check(fkv_remove(file_->at, at_, key, &told));
@@ -192,6 +204,11 @@ private:
         check(call(file_->at, at_, key, number, &told));
         return {told.serial, told.value};
     }
+    Made merge(std::uint32_t which, std::uint64_t key, std::uint64_t number) {
+        fkv_update told;
+        check(fkv_merge_now(file_->at, at_, key, which, number, &told));
+        return {told.serial, told.value};
+    }
     template <typename Call> std::uint64_t told_by(Call call) const {
         std::uint64_t serial;
         check(call(at_, &serial));
@@ -212,7 +229,8 @@ public:
     }
     /* With a last commit, if something isn't kept and no session is out. Who wants to know how that went calls stop. */
     ~Keeper() { end(); }
-    /* Ends the thread, after a last commit if that is wanted. It waits for sessions that are awake. */
+    /* Ends the thread, after a last commit if that is wanted. That waits for sessions of other threads that are awake. Those of this
+       thread have to sleep or be given back: else FKV_HANDLE_OUT after a second, and the thread goes on. */
     void stop(bool with_commit = true) {
         check(fkv_stop(file_->at, with_commit ? FKV_STOP_COMMIT : FKV_STOP_NOW));
         file_.reset();

@@ -12,17 +12,38 @@ enum {
 
 /* ---- Updates -------------------------------------------------------------------------------------------------------------------- */
 
-/* A call that updates a key. All such calls wait in one way. */
-typedef int32_t update_fn(fkv_session *session, uint64_t key, uint64_t number, fkv_update *told);
+/* A call that updates a key, as fkv_merge does. All such calls wait in one way. */
+typedef int32_t update_fn(fkv_session *session, uint64_t key, uint32_t which, uint64_t number, fkv_update *told);
 
-static int32_t delete_key(fkv_session *session, uint64_t key, uint64_t number, fkv_update *told) {
-    (void)number;
+static int32_t upsert_key(fkv_session *session, uint64_t key, uint32_t which, uint64_t value, fkv_update *told) {
+    (void)which;
+    return fkv_upsert(session, key, value, told);
+}
+
+static int32_t add_to_key(fkv_session *session, uint64_t key, uint32_t which, uint64_t number, fkv_update *told) {
+    (void)which;
+    return fkv_add(session, key, number, told);
+}
+
+static int32_t raise_key(fkv_session *session, uint64_t key, uint32_t which, uint64_t number, fkv_update *told) {
+    (void)which;
+    return fkv_max(session, key, number, told);
+}
+
+static int32_t delete_key(fkv_session *session, uint64_t key, uint32_t which, uint64_t number, fkv_update *told) {
+    (void)which, (void)number;
     return fkv_delete(session, key, told);
 }
 
 static void take_update(void *its, const fkv_finished *finished) {
     fkv_update *told = its;
     if (finished->kind == FKV_UPDATED && finished->name == told->serial) told->value = finished->value;
+}
+
+/* Notes that a call waits: a read (0), or an update, for this reason. */
+static void note_waiting(fkv_file *file, const fkv_session *session, uint64_t reason) {
+    atomic_ullong *count = &file->seats[session - file->sessions].waited[reason < FKV_FULL ? reason : 0];
+    atomic_store_explicit(count, atomic_load_explicit(count, memory_order_relaxed) + 1, memory_order_relaxed);
 }
 
 static void note_full(fkv_file *file, int32_t result) {
@@ -32,35 +53,42 @@ static void note_full(fkv_file *file, int32_t result) {
     pthread_mutex_unlock(&file->lock);
 }
 
-static int32_t update_now(fkv_file *file, fkv_session *session, update_fn *update, uint64_t key, uint64_t number, fkv_update *told) {
+static int32_t update_now(fkv_file *file, fkv_session *session, update_fn *update, uint64_t key, uint32_t which, uint64_t number,
+                          fkv_update *told) {
     fkv_update own;
     if (!told) told = &own;
     told->serial = 0;
-    int32_t result = update(session, key, number, told);
+    int32_t result = update(session, key, which, number, told);
     if (result == FKV_DONE) return result;
     if (result == -FKV_PENDING_FULL) {
         /* Other calls have left so many. */
         result = fkv_settle(file, session, NULL, NULL);
-        if (result == 0) result = update(session, key, number, told);
+        if (result == 0) result = update(session, key, which, number, told);
     }
     note_full(file, result);
-    return result == FKV_PENDING ? fkv_settle(file, session, take_update, told) : result;
+    if (result != FKV_PENDING) return result;
+    note_waiting(file, session, told->reason);
+    return fkv_settle(file, session, take_update, told);
 }
 
 int32_t fkv_put(fkv_file *file, fkv_session *session, uint64_t key, uint64_t value, fkv_update *told) {
-    return update_now(file, session, fkv_upsert, key, value, told);
+    return update_now(file, session, upsert_key, key, 0, value, told);
 }
 
 int32_t fkv_increment(fkv_file *file, fkv_session *session, uint64_t key, uint64_t number, fkv_update *told) {
-    return update_now(file, session, fkv_add, key, number, told);
+    return update_now(file, session, add_to_key, key, 0, number, told);
 }
 
 int32_t fkv_raise(fkv_file *file, fkv_session *session, uint64_t key, uint64_t number, fkv_update *told) {
-    return update_now(file, session, fkv_max, key, number, told);
+    return update_now(file, session, raise_key, key, 0, number, told);
 }
 
 int32_t fkv_remove(fkv_file *file, fkv_session *session, uint64_t key, fkv_update *told) {
-    return update_now(file, session, delete_key, key, 0, told);
+    return update_now(file, session, delete_key, key, 0, 0, told);
+}
+
+int32_t fkv_merge_now(fkv_file *file, fkv_session *session, uint64_t key, uint32_t which, uint64_t number, fkv_update *told) {
+    return update_now(file, session, fkv_merge, key, which, number, told);
 }
 
 /* ---- Reads ---------------------------------------------------------------------------------------------------------------------- */
@@ -94,6 +122,7 @@ int32_t fkv_read(fkv_file *file, fkv_session *session, uint64_t key, uint64_t *v
     if (result != FKV_PENDING) return result;
     fkv_each_read told = {.value = *value, .result = FKV_PENDING};
     struct awaited awaited = {&told, 1, 1};
+    note_waiting(file, session, 0);
     /* It has asked already, so a turn comes before the first poll. */
     fkv_help(file);
     result = fkv_settle(file, session, take_read, &awaited);
@@ -112,6 +141,7 @@ static int32_t read_batch(fkv_file *file, fkv_session *session, const uint64_t *
     for (size_t i = 0; i < count && result == 0; i++) awaited.left += told[i].result == FKV_PENDING;
     *waited = awaited.left;
     if (awaited.left) {
+        for (size_t i = 0; i < *waited; i++) note_waiting(file, session, 0);
         fkv_help(file);
         result = fkv_settle(file, session, take_read, &awaited);
     }

@@ -9,12 +9,20 @@
 #include <stdatomic.h>
 #include <stdbool.h>
 
-/* What is noted of a joined session. It is its thread's, but for `begun`. */
+/* What is noted of a joined session. It is its thread's, but for `begun` and `thread`, and that all read `waited`. */
 struct seat {
-    uint32_t ticks;      /* since the last refresh */
-    uint32_t phase;      /* that the last refresh has seen */
-    atomic_ullong begun; /* how many commits had begun by the last refresh that this library made */
-    char apart[48];      /* each seat has a cache line of its own */
+    uint32_t ticks;                 /* since the last refresh */
+    uint32_t phase;                 /* that the last refresh has seen */
+    atomic_ullong begun;            /* how many commits had begun by the last refresh that this library made */
+    atomic_uintptr_t thread;        /* and which thread made it, or joined */
+    atomic_ullong waited[FKV_FULL]; /* so many calls had to wait, by their reasons: since the opening, whoever had the session */
+    char apart[104 - 8 * FKV_FULL]; /* each seat has two cache lines of its own */
+};
+
+/* All bytes of a file, in memory of their own or mapped: for munmap. */
+struct bytes {
+    uint8_t *at;
+    size_t size;
 };
 
 /* A turn of the keeper: what it has done so far. */
@@ -41,7 +49,9 @@ struct fkv_file {
     uint32_t keys; /* how they are placed: see fkv_open */
     fkv_shape shape;
     fkv_store store;
-    fkv_keeper keeper; /* of whoever has the turn */
+    fkv_keeper keeper; /* of whoever has the turn, and so are the next two */
+    bool is_mapped;    /* records are read back by a mapping, as long as the system gives one */
+    struct bytes map;  /* of the file, and of bytes behind it that it hasn't yet */
     /* A joined session is its thread's, an abandoned one the keeper's thread's, and the others are whoever's has the lock. */
     fkv_session sessions[FKV_MOST_SESSIONS];
     struct seat seats[FKV_MOST_SESSIONS];
@@ -52,8 +62,8 @@ struct fkv_file {
     atomic_bool turning;     /* somebody has the turn: makes one, or begins a commit */
     atomic_bool in_hand;     /* a commit has begun and isn't finished */
     atomic_int ends;         /* what fkv_tick answers */
-    atomic_int why;          /* errno of a fault that is -FKV_DEVICE. It is written before `ends` */
     atomic_ullong begun;     /* how many commits have begun since the opening */
+    atomic_int why;          /* errno of a fault that is -FKV_DEVICE. It is written before `ends` */
 
     pthread_mutex_t lock;  /* of all that follows */
     pthread_cond_t work;   /* the keeper's thread waits for it: something is asked */
@@ -85,18 +95,13 @@ struct fkv_file {
     fkv_keeping keeping;
 
     uint64_t turns;        /* that have ended well, since the opening */
+    uint64_t called;       /* turns that have called the file */
     uint64_t helped;       /* turns that sessions' threads made */
     uint64_t cold_reads;   /* records that were read back */
     uint64_t log_end;      /* the furthest place of the file that was written */
     uint64_t commit_us;    /* how long the last finished commit took */
     uint64_t commit_bytes; /* and what it has written */
     struct timespec commit_begun;
-};
-
-/* All bytes of a file, in memory of their own or mapped: for munmap. */
-struct bytes {
-    uint8_t *at;
-    size_t size;
 };
 
 /* Shows all bytes of a file as they are now. Who wants those that a crash leaves syncs it before. 0; -FKV_NOT_A_STORE, -FKV_MEMORY, -FKV_DEVICE. */
@@ -117,8 +122,8 @@ int fkv_make_over(const char *path, fill_fn *fill, void *its);
 /* Makes a name in a folder durable. A folder that can't be read can't be synced. 0, or -1 with errno. */
 int fkv_sync_folder_of(const char *path);
 
-/* Renews a store's bytes into `new`, of which `told->size` are the store's. 0, or the refusals of fkv_renew. */
-int32_t fkv_renew_bytes(struct bytes old, const fkv_shape *shape, uint32_t keys, fkv_renewed *told, struct bytes *new);
+/* Renews a store's bytes into `new`, of which `renewed->size` are the store's. 0, or the refusals of fkv_renew. */
+int32_t fkv_renew_bytes(struct bytes old, const fkv_shape *shape, uint32_t keys, fkv_renewed *renewed, struct bytes *new);
 
 /* Gives such bytes back, if there are some. errno stays. */
 void fkv_give_bytes(struct bytes *bytes);
@@ -134,6 +139,14 @@ void fkv_give_up(fkv_file *file);
 
 /* The bytes of the file before the log's record of address 0, which there is none of. */
 uint64_t fkv_log_place(const fkv_shape *shape);
+
+/* ---- Of records that the file alone has. The lock isn't held. --------------------------------------------------------------- */
+
+/* Reads a record by a mapping of the file. False where it can't, and then it is to be read otherwise. The caller has the turn. */
+bool fkv_read_mapped(fkv_file *file, uint64_t place, uint8_t into[FKV_READ_SIZE]);
+
+/* Gives the mapping back. The next read makes it anew. The caller has the turn. */
+void fkv_drop_map(fkv_file *file);
 
 /* ---- Of turns. The lock is held, but for the next two. -------------------------------------------------------------------------- */
 
@@ -207,7 +220,7 @@ int32_t fkv_with_errno(const fkv_file *file, int32_t result);
 int32_t fkv_stop_thread(fkv_file *file, uint32_t with_commit);
 
 /* Polls until nothing is pending, up to a time if there is one. If requests are left then, the answer is FKV_PENDING. */
-int32_t fkv_settle_until(fkv_file *file, fkv_session *session, const struct timespec *until, fkv_finished_fn *told, void *user);
+int32_t fkv_settle_until(fkv_file *file, fkv_session *session, const struct timespec *until, fkv_finished_fn *report, void *user);
 
 /* Refreshes a session, and notes what it has seen. */
 int32_t fkv_refresh_seat(fkv_file *file, fkv_session *session);

@@ -28,6 +28,9 @@ enum {
     ABANDONED_TURN_US = 20,
     /* A file that is closed waits so long for what was abandoned: a full index or log lets it wait for ever. */
     ABANDONED_US = 1000000,
+    /* A commit is held up by sessions, where nothing of it goes on for so long and so many turns. */
+    HELD_UP_MS = 1000,
+    HELD_UP_TURNS = 100,
     MOST_MS = 1000000000
 };
 
@@ -344,6 +347,35 @@ int32_t fkv_stop(fkv_file *file, uint32_t with_commit) {
     return is_own ? -FKV_HANDLE_OUT : fkv_stop_thread(file, with_commit);
 }
 
+/* Whether a session that this thread joined or refreshed last is still joined, and the library hasn't refreshed it since the commit began. */
+static bool has_late_session(const fkv_file *file) {
+    for (int i = 0; i < FKV_MOST_SESSIONS; i++) {
+        const struct seat *seat = &file->seats[i];
+        bool is_own = file->joined >> i & 1 && atomic_load(&seat->thread) == (uintptr_t)pthread_self();
+        if (is_own && atomic_load(&seat->begun) < atomic_load(&file->begun)) return true;
+    }
+    return false;
+}
+
+/*
+ * Waits for the last commit. A session of this thread that is awake would hold it up for ever, as the thread waits here. Whether one is awake
+ * isn't known from outside. So this goes by turns that find nothing to write for long.
+ */
+static int32_t wait_last(fkv_file *file, uint64_t ticket) {
+    for (;;) {
+        pthread_mutex_lock(&file->lock);
+        uint64_t turns = file->turns, called = file->called;
+        pthread_mutex_unlock(&file->lock);
+        int32_t result = fkv_wait_commit_for(file, ticket, NULL, HELD_UP_MS);
+        if (result != FKV_PENDING) return result;
+        pthread_mutex_lock(&file->lock);
+        bool is_held_up = atomic_load(&file->in_hand) && file->called == called && file->turns - turns >= HELD_UP_TURNS;
+        bool is_own = is_held_up && has_late_session(file);
+        pthread_mutex_unlock(&file->lock);
+        if (is_own) return -FKV_HANDLE_OUT;
+    }
+}
+
 int32_t fkv_stop_thread(fkv_file *file, uint32_t with_commit) {
     uint64_t ticket = 0;
     int32_t result = 0;
@@ -353,7 +385,8 @@ int32_t fkv_stop_thread(fkv_file *file, uint32_t with_commit) {
     pthread_mutex_unlock(&file->lock);
     if (keeps || (with_commit && with_commit != FKV_STOP_KEEP)) {
         result = fkv_ask_commit(file, &ticket);
-        if (result == 0) result = fkv_wait_commit(file, ticket, NULL);
+        if (result == 0) result = wait_last(file, ticket);
+        if (result == -FKV_HANDLE_OUT) return result;
     }
     int why = errno;
     end_run(file, run);

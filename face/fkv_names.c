@@ -33,6 +33,7 @@ static const struct words WORDS[] = {
     [FKV_HANDLE_TAKEN] = {"HandleTaken", "The session or the keeper is taken already."},
     [FKV_ROOM_SMALL] = {"RoomSmall", "The caller's room is too small."},
     [FKV_NO_KEEPER] = {"NoKeeper", "No keeper's thread runs: start it first."},
+    [FKV_NO_MERGE] = {"NoMerge", "No merge has this number."},
 };
 
 enum { COUNT = sizeof WORDS / sizeof WORDS[0] };

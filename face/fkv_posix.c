@@ -299,6 +299,7 @@ static int32_t open_store(fkv_file *file, const char *path, const fkv_how *how) 
     errno = why;
     file->number = opened.number;
     file->keys = how->keys;
+    file->is_mapped = how->mapped != 0;
     if (how->opened) *how->opened = opened;
     return result;
 }
@@ -338,6 +339,7 @@ void fkv_give_up(fkv_file *file) {
     }
     if (file->store.at && fkv_close(&file->store) == 0) fkv_free_store(file->store);
     int why = errno;
+    fkv_drop_map(file);
     if (file->fd >= 0) {
         /* A child that was forked may have the descriptor too, and would hold the lock. */
         flock(file->fd, LOCK_UN);
@@ -485,6 +487,7 @@ int32_t fkv_join(fkv_file *file, uint64_t number, fkv_session **out) {
         file->seats[found].ticks = 0;
         file->seats[found].phase = (uint32_t)seen.phase;
         atomic_store(&file->seats[found].begun, atomic_load(&file->begun));
+        atomic_store(&file->seats[found].thread, (uintptr_t)pthread_self());
         *out = &file->sessions[found];
         pthread_cond_signal(&file->work);
     }

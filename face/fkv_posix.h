@@ -6,7 +6,7 @@
  *     fkv_start                              starts the keeper's thread
  *     fkv_join                               gives a thread a session
  *     fkv_put, fkv_increment, fkv_raise,     calls of a key that wait where they have to
- *     fkv_remove, fkv_read
+ *     fkv_remove, fkv_merge_now, fkv_read
  *     fkv_tick                               between calls: lets the store go on, and says whether it does
  *     fkv_commit_and_wait                    all that the session has done survives a crash from then on
  *     fkv_leave, fkv_close_file
@@ -20,10 +20,11 @@
  * it is open already, ENOSPC no room. That holds too if another thread made the call.
  *
  * Who waits is refused by the keeper's fault (fkv_keeper_fault) where that can't go on, by -FKV_NO_KEEPER where fkv_start was forgotten
- * or fkv_stop came, and by -FKV_LOG_FULL or -FKV_INDEX_FULL where an update will never find room. The last two are found out within
- * about a second, by what the library sees from outside: nothing of the session was finished for so long, and either the log is known
- * to be full or its last pages are in use, or no other session is awake. The update stays pending then, and no commit finishes past it.
- * Renew the store (fkv_renew).
+ * or fkv_stop came, and by -FKV_LOG_FULL or -FKV_INDEX_FULL where an update will never find room. The engine gives no reason at a poll, so
+ * the last two go by a rule. Nothing of the session was finished for a second and 200 turns: then it is -FKV_LOG_FULL if the log's last pages
+ * are in use, as far as the file's writes say so; else -FKV_INDEX_FULL if no other session is joined, or the index has refused an update. If
+ * an update was refused by a full log before, 50 milliseconds are enough. The update stays pending then, and no commit finishes past it. If
+ * one does all the same, the rule was wrong, and fkv_tick takes its answer back. Renew the store (fkv_renew).
  */
 #ifndef FKV_POSIX_H
 #define FKV_POSIX_H
@@ -104,10 +105,11 @@ int32_t fkv_make_file(const char *path, const fkv_shape *shape);
 /* How a store is opened. All zeros, or NULL in its place, is the usual way. */
 typedef struct {
     uint32_t keys;             /* FKV_SPREAD or FKV_SPREAD_ALREADY: the same at each opening (fkv_open) */
-    uint32_t mapped;           /* not 0: the file is mapped, for one that memory can't hold. A bad disk then kills the process */
+    uint32_t mapped;           /* not 0: the file is mapped, for one that memory can't hold. Records are read back by a mapping too, which
+                                  is faster. A bad disk then kills the process */
     fkv_progress_fn *progress; /* called while the file is read, or NULL */
     void *user;                /* handed to it */
-    fkv_opened *opened;        /* becomes what fkv_open has told, after -FKV_DAMAGED too; or NULL */
+    fkv_opened *opened;        /* becomes what fkv_open found, after -FKV_DAMAGED too; or NULL */
 } fkv_how;
 
 /*
@@ -122,10 +124,10 @@ int32_t fkv_open_or_make(const char *path, const fkv_wish *wish, fkv_file **out)
  * The file is locked (flock), so that neither this process nor another one opens it meanwhile. The lock ends with fkv_close_file, or with
  * the process. If that has forked children, it ends with the last of them that has called no exec.
  *
- * The file is synced first, and so is the folder of `path`: no commit is told of a file whose name a crash may take. A folder that can't be
- * read can't be synced. If `path` is a link, the folder of the link is synced, and that of the file isn't. Before that sync the bytes by
- * which commits are told are written anew, as they read: so the disk has the commit that is told, also after a life whose sync has
- * failed. If the system takes no write, as of a full disk it may, the opening is refused.
+ * The file is synced first, and so is the folder of `path`: no commit is reported of a file whose name a crash may take. A folder that
+ * can't be read can't be synced. If `path` is a link, the folder of the link is synced, and that of the file isn't. Before that sync the
+ * bytes by which commits are recorded are written anew, as they read: so the disk has the commit that is reported, also after a life
+ * whose sync failed. If the system takes no write, as may happen on a full disk, the opening is refused.
  * 0; -FKV_NOT_A_STORE, -FKV_DAMAGED, -FKV_MEMORY, -FKV_DEVICE (errno EWOULDBLOCK: it is open already; EACCES: no right to read or write
  * the file, or to read its folder).
  */
@@ -170,16 +172,16 @@ int32_t fkv_each(fkv_file *file, fkv_pair_fn *each, void *user);
 
 /*
  * Renews the store of the old file in a new one, as fkv_renew does, and puts that in place as fkv_make_file does. The old one is locked
- * meanwhile, and stays as it is. `shape` is NULL or all zeros for its own; `told` may be NULL.
+ * meanwhile, and stays as it is. `shape` is NULL or all zeros for its own; `renewed` may be NULL.
  * The refusals are those of fkv_renew but -FKV_ROOM_SMALL; -FKV_DEVICE (errno EWOULDBLOCK: the old store is open; EEXIST: there is a file
  * of the new name).
  */
-int32_t fkv_renew_file(const char *old_path, const char *new_path, const fkv_shape *shape, uint32_t keys, fkv_renewed *told);
+int32_t fkv_renew_file(const char *old_path, const char *new_path, const fkv_shape *shape, uint32_t keys, fkv_renewed *renewed);
 
 /*
  * Renews an open store in place: what no room or no commits were left of lives on under its own name. Each session has left before. If the
  * keeper's thread runs, a last commit is made if something isn't kept. Then the renewal is written to a new file, which takes the name of
- * the old one, and the thread goes on. `shape` is NULL or all zeros for the store's own; `told` may be NULL. A crash leaves the old store
+ * the old one, and the thread goes on. `shape` is NULL or all zeros for the store's own; `renewed` may be NULL. A crash leaves the old store
  * or the new one, with the same pairs and points. Sessions that join then go on with their serials; who joins meanwhile waits. The new
  * store's commits count from 1 again, since each store's file says its number itself.
  *
@@ -189,7 +191,7 @@ int32_t fkv_renew_file(const char *old_path, const char *new_path, const fkv_sha
  * -FKV_DEVICE: the same, but if the folder's sync alone has failed, the new store has the name, and has no turns and no commits: close it
  * and open it anew.
  */
-int32_t fkv_renew_here(fkv_file *file, const fkv_shape *shape, fkv_renewed *told);
+int32_t fkv_renew_here(fkv_file *file, const fkv_shape *shape, fkv_renewed *renewed);
 
 /* The store's shape. */
 fkv_shape fkv_shape_of(const fkv_file *file);
@@ -214,27 +216,27 @@ int32_t fkv_leave(fkv_file *file, fkv_session *session);
 
 /*
  * Takes it back in any case, for who can't settle or doesn't want to wait. What is pending is finished by the keeper's thread, as soon
- * as one runs, and isn't told. Until all of it is finished nobody joins the session. Commits don't wait for its refresh, and keep its
+ * as one runs, and isn't reported. Until all of it is finished nobody joins the session. Commits don't wait for its refresh, and keep its
  * updates. While an update of it waits for a full index or log, no commit finishes.
  */
 void fkv_abandon(fkv_file *file, fkv_session *session);
 
 /*
- * Polls a session until none of its requests is pending, with refreshes between, and gives each that is finished to `told`, which may be
+ * Polls a session until none of its requests is pending, with refreshes between, and gives each that is finished to `report`, which may be
  * NULL. Its thread makes the keeper's turns meanwhile.
  * 0; -FKV_ASLEEP; the refusals of who waits, see above. What is left stays pending then.
  */
-int32_t fkv_settle(fkv_file *file, fkv_session *session, fkv_finished_fn *told, void *user);
+int32_t fkv_settle(fkv_file *file, fkv_session *session, fkv_finished_fn *report, void *user);
 
 /*
  * fkv_settle for so many milliseconds at most: FKV_PENDING where requests are left then. They stay pending, and the session may go on,
  * settle again, or be abandoned. With 0 it polls once, and doesn't refresh. The refusals are those of fkv_settle.
  */
-int32_t fkv_settle_for(fkv_file *file, fkv_session *session, uint32_t ms, fkv_finished_fn *told, void *user);
+int32_t fkv_settle_for(fkv_file *file, fkv_session *session, uint32_t ms, fkv_finished_fn *report, void *user);
 
 /*
  * Lets the store go on: call it between a session's calls, as often as you like. Each 64th tick, or each 8th while a commit waits for the
- * session, polls and refreshes it. The others take a few instructions. What a poll of it has finished isn't told.
+ * session, polls and refreshes it. The others take a few instructions. What a poll of it has finished isn't reported.
  * 0 while commits go on; -FKV_ASLEEP; and why none is finished any more: the keeper's fault, -FKV_VERSIONS_SPENT once the store has taken
  * its last commit, -FKV_NO_KEEPER; -FKV_LOG_FULL once a call of this header has found the log full, and -FKV_INDEX_FULL once an update was
  * found to wait for ever. Calls of the session go on meanwhile, as far as they can, and what no commit keeps is lost with the process.
@@ -249,21 +251,24 @@ int32_t fkv_tick(fkv_file *file, fkv_session *session);
  * want the keeper's thread, as fkv_settle does.
  *
  * Requests that the session's other calls have left pending may take effect later than these calls, and before they return: then a key
- * may end with the earlier value. What was pending is finished by a call that waits, and isn't told.
+ * may end with the earlier value. What was pending is finished by a call that waits, and isn't reported.
  *
- * The updates answer FKV_DONE. `told` may be NULL; `told->serial` is 0 if the call was refused before it was accepted, and else its
+ * The updates answer FKV_DONE. `result` may be NULL; `result->serial` is 0 if the call was refused before it was accepted, and else its
  * serial. If waiting is refused, the update is accepted and stays pending.
  * The refusals are those of fkv_upsert but -FKV_PENDING_FULL, and those of fkv_settle.
  *
  *   fkv_put         gives the key this value
- *   fkv_increment   adds to its value, up to 2^64 - 2; a key without a value gets the number. `told->value` is what it has left
- *   fkv_raise       raises its value to the number; a key without a value gets the number. `told->value` is what it has left
+ *   fkv_increment   adds to its value, up to 2^64 - 2; a key without a value gets the number. `result->value` is what it has left
+ *   fkv_raise       raises its value to the number; a key without a value gets the number. `result->value` is what it has left
  *   fkv_remove      takes its value away
+ *   fkv_merge_now   merges the number into its value, as fkv_merge does. `result->value` is what it has left; of FKV_KEEP FKV_ABSENT if the
+ *                   key has no value. Or -FKV_NO_MERGE
  */
-int32_t fkv_put(fkv_file *file, fkv_session *session, uint64_t key, uint64_t value, fkv_update *told);
-int32_t fkv_increment(fkv_file *file, fkv_session *session, uint64_t key, uint64_t number, fkv_update *told);
-int32_t fkv_raise(fkv_file *file, fkv_session *session, uint64_t key, uint64_t number, fkv_update *told);
-int32_t fkv_remove(fkv_file *file, fkv_session *session, uint64_t key, fkv_update *told);
+int32_t fkv_put(fkv_file *file, fkv_session *session, uint64_t key, uint64_t value, fkv_update *result);
+int32_t fkv_increment(fkv_file *file, fkv_session *session, uint64_t key, uint64_t number, fkv_update *result);
+int32_t fkv_raise(fkv_file *file, fkv_session *session, uint64_t key, uint64_t number, fkv_update *result);
+int32_t fkv_remove(fkv_file *file, fkv_session *session, uint64_t key, fkv_update *result);
+int32_t fkv_merge_now(fkv_file *file, fkv_session *session, uint64_t key, uint32_t which, uint64_t number, fkv_update *result);
 
 /*
  * Reads a key, and waits if only the file has its record: FKV_FOUND (`*value`) or FKV_NONE.
@@ -273,11 +278,11 @@ int32_t fkv_remove(fkv_file *file, fkv_session *session, uint64_t key, fkv_updat
 int32_t fkv_read(fkv_file *file, fkv_session *session, uint64_t key, uint64_t *value);
 
 /*
- * fkv_read of `count` keys: the answers stand in their places in `told`, which has `room` of them. Keys in memory are read many at once.
+ * fkv_read of `count` keys: the results stand in their places in `results`, which has `room` of them. Keys in memory are read many at once.
  * 0; -FKV_ROOM_SMALL where `room` is below `count`, and the refusals of fkv_settle. After these a `result` of FKV_PENDING is that of a read
  * that stays so, and the keys after it weren't read.
  */
-int32_t fkv_read_many(fkv_file *file, fkv_session *session, const uint64_t *keys, size_t count, fkv_each_read *told, size_t room);
+int32_t fkv_read_many(fkv_file *file, fkv_session *session, const uint64_t *keys, size_t count, fkv_each_read *results, size_t room);
 
 /* ---- The keeper's thread -------------------------------------------------------------------------------------------------- */
 
@@ -310,10 +315,12 @@ enum {
 
 /*
  * Ends the keeper's thread, after a last commit if `with_commit` says so. Nothing is committed after it, until the next fkv_start. A
- * thread that another caller starts meanwhile goes on. Sessions that are joined have to refresh meanwhile, as for each commit. With a
- * last commit it may wait for ever as fkv_commit_and_wait does.
+ * thread that another caller starts meanwhile goes on. Sessions that are joined have to refresh or sleep meanwhile, as for each commit:
+ * those of other threads as they go on, and those of the calling thread have to have left, or sleep, before. With a last commit it may wait
+ * for ever as fkv_commit_and_wait does, for a session of another thread.
  * 0; the fault of the last commit, or -FKV_NO_KEEPER where one is wanted and no thread runs. The thread has ended then too.
- * -FKV_HANDLE_OUT in a hook of that thread, which goes on.
+ * -FKV_HANDLE_OUT in a hook of that thread; and where the last commit has waited for sessions for a second, and one is joined that the
+ * calling thread has joined, or ticked or settled last. The keeper's thread and the commit go on then: call it again once the session has left.
  */
 int32_t fkv_stop(fkv_file *file, uint32_t with_commit);
 
@@ -340,7 +347,7 @@ int32_t fkv_wait_commit_for(fkv_file *file, uint64_t ticket, fkv_session *sessio
 
 /*
  * Settles the session, asks for a commit, and waits until it is finished: all that the session has done survives a crash. What was
- * pending isn't told. `session` may be NULL. The refusals are those of fkv_settle, fkv_ask_commit and fkv_wait_commit.
+ * pending isn't reported. `session` may be NULL. The refusals are those of fkv_settle, fkv_ask_commit and fkv_wait_commit.
  *
  * It may wait for ever: no commit finishes past a session that is awake and doesn't refresh.
  */
@@ -354,6 +361,9 @@ void fkv_nudge(fkv_file *file);
  * -FKV_VERSIONS_SPENT, -FKV_EPOCHS_SPENT. Close the file and open it anew; a store whose commits are spent stays readable.
  */
 int32_t fkv_keeper_fault(fkv_file *file);
+
+/* Of why calls have waited: 0 stands for a read, and each other number is a reason of fkv.h. */
+#define FKV_REASONS 7
 
 /* How a store fares since its opening, as far as it is seen from outside of the engine. */
 typedef struct {
@@ -370,11 +380,12 @@ typedef struct {
     uint64_t cold_reads;    /* records that were read back from the file */
     uint64_t file_bytes;    /* bytes of the file */
     int32_t stopped;        /* what fkv_tick answers of the store, 0 while commits go on */
+    uint64_t waited[FKV_REASONS]; /* calls of this header that had to wait: updates by their first reason (FKV_FUZZY ..), reads at 0 */
 } fkv_stats;
 
 /*
  * Tells how a store fares. A session of `late` may hold the commit in hand up: if it is awake, and its thread makes neither calls that
- * wait nor fkv_refresh. Who calls fkv_refresh or sleeps is told as late too.
+ * wait nor fkv_refresh. Who calls fkv_refresh or sleeps is called late too.
  * 0; -FKV_DEVICE where the system doesn't tell the file's size.
  */
 int32_t fkv_stats_of(fkv_file *file, fkv_stats *stats);

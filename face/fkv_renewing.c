@@ -37,6 +37,7 @@ static void swap(fkv_file *file, fkv_file *fresh) {
     fkv_file old;
     pthread_mutex_lock(&file->lock);
     fkv_take_turn(file);
+    fkv_drop_map(file);
     old.fd = file->fd, old.store = file->store, old.keeper = file->keeper;
     memcpy(old.sessions, file->sessions, sizeof old.sessions);
     file->fd = fresh->fd, file->store = fresh->store, file->keeper = fresh->keeper, file->shape = fresh->shape;

@@ -16,6 +16,13 @@ static uint64_t late_sessions(const fkv_file *file) {
     return late;
 }
 
+/* How many calls have waited for this reason, of all sessions. */
+static uint64_t waited_for(const fkv_file *file, int reason) {
+    uint64_t sum = 0;
+    for (int i = 0; i < FKV_MOST_SESSIONS; i++) sum += atomic_load_explicit(&file->seats[i].waited[reason], memory_order_relaxed);
+    return sum;
+}
+
 int32_t fkv_stats_of(fkv_file *file, fkv_stats *stats) {
     struct stat known;
     pthread_mutex_lock(&file->lock);
@@ -37,5 +44,6 @@ int32_t fkv_stats_of(fkv_file *file, fkv_stats *stats) {
         .stopped = atomic_load(&file->ends),
     };
     pthread_mutex_unlock(&file->lock);
+    for (int i = 0; i < FKV_FULL; i++) stats->waited[i] = waited_for(file, i);
     return is_known ? 0 : -FKV_DEVICE;
 }

@@ -104,12 +104,18 @@ static void note_call(struct turn *turn, int32_t call) {
     if (end > turn->end) turn->end = end;
 }
 
+/* Makes a call that a turn has posted. 0, or -1 where it has failed, with errno. */
+static int make_call(fkv_file *file, int32_t call, const fkv_turned *turned, uint8_t into[FKV_READ_SIZE]) {
+    if (call == FKV_READ && fkv_read_mapped(file, turned->place, into)) return 0;
+    return fkv_call_file(file->fd, call, turned, into);
+}
+
 int32_t fkv_make_turn(fkv_file *file, struct turn *turn, tell_turn_fn *tell, void *user) {
     uint8_t into[FKV_READ_SIZE] = {0};
     int32_t call = fkv_turn(&file->keeper, &turn->turned, turn->points, FKV_MOST_SESSIONS);
     bool has_called = call > FKV_OVER;
     while (call > FKV_OVER) {
-        int failed = fkv_call_file(file->fd, call, &turn->turned, into);
+        int failed = make_call(file, call, &turn->turned, into);
         if (failed) turn->why = errno;
         else note_call(turn, call);
         if (tell) tell(user, turn);
@@ -137,6 +143,7 @@ void fkv_give_turn(fkv_file *file) {
 
 void fkv_end_turn(fkv_file *file, const struct turn *turn, int32_t result) {
     file->turns += result == FKV_OVER;
+    file->called += turn->has_called;
     file->cold_reads += turn->reads;
     if (turn->end > file->log_end) file->log_end = turn->end;
     if (turn->has_called) file->is_stirred = true;

@@ -35,6 +35,7 @@ int32_t fkv_refresh_seat(fkv_file *file, fkv_session *session) {
     seat->ticks = 0;
     seat->phase = (uint32_t)seen.phase;
     atomic_store_explicit(&seat->begun, begun, memory_order_relaxed);
+    atomic_store_explicit(&seat->thread, (uintptr_t)pthread_self(), memory_order_relaxed);
     return 0;
 }
 

@@ -155,6 +155,134 @@ static void updates(void) {
     close_all(&it);
 }
 
+/* What a merge has to leave. */
+struct merged {
+    uint32_t which;
+    uint64_t before; /* FKV_ABSENT for no value */
+    uint64_t number;
+    uint64_t after;
+};
+
+static const struct merged MERGED[] = {
+    {FKV_KEEP, FKV_ABSENT, 7, FKV_ABSENT}, {FKV_KEEP, 12, FKV_ABSENT, 12}, {FKV_KEEP, 0, 7, 0},
+    {FKV_MIN, FKV_ABSENT, 7, 7}, {FKV_MIN, 12, 7, 7}, {FKV_MIN, 7, 12, 7},
+    {FKV_SUB, FKV_ABSENT, 7, 0}, {FKV_SUB, 12, 7, 5}, {FKV_SUB, 7, 12, 0}, {FKV_SUB, UINT64_MAX - 1, 1, UINT64_MAX - 2},
+    {FKV_AND, FKV_ABSENT, 7, 0}, {FKV_AND, 12, 10, 8}, {FKV_AND, UINT64_MAX - 1, UINT64_MAX - 1, UINT64_MAX - 1},
+    {FKV_OR, FKV_ABSENT, 7, 7}, {FKV_OR, 12, 10, 14}, {FKV_OR, UINT64_MAX - 1, 1, UINT64_MAX - 1},
+    {FKV_OR, UINT64_C(1) << 63, UINT64_MAX >> 1, UINT64_MAX - 1},
+    {FKV_FIRST, FKV_ABSENT, 7, 7}, {FKV_FIRST, 12, 7, 12}, {FKV_FIRST, 0, 7, 0},
+};
+
+enum { MERGES = sizeof MERGED / sizeof MERGED[0], MOST_MERGE = FKV_FIRST };
+
+/* One merge alone, by its call or as one of many. */
+static void merge_one(fkv_session *session, uint64_t key, const struct merged *it, bool is_of_many) {
+    fkv_each_update each = {0};
+    fkv_update told = {0};
+    uint64_t value;
+    if (it->before != FKV_ABSENT) WANTS("an upsert", fkv_upsert(session, key, it->before, &told), FKV_DONE);
+    if (is_of_many) {
+        WANTS("a merge of many", fkv_merge_many(session, it->which, &key, 1, &it->number, 1, &each, 1), 0);
+        WANTS("its answer", each.result, FKV_DONE);
+        WANTS("what it leaves", each.value, it->after);
+    } else {
+        WANTS("a merge", fkv_merge(session, key, it->which, it->number, &told), FKV_DONE);
+        WANTS("what it leaves", told.value, it->after);
+    }
+    WANTS("a read behind it", fkv_get(session, key, &value), it->after == FKV_ABSENT ? FKV_NONE : FKV_FOUND);
+    if (it->after != FKV_ABSENT) WANTS("its value", value, it->after);
+    WANTS("a keep behind it", fkv_keep(session, key, &told), FKV_DONE);
+    WANTS("what it tells", told.value, it->after);
+}
+
+/* What merges refuse: nothing is done then, and nothing told of one that there isn't. */
+static void merges_refused(fkv_session *session, uint64_t serial) {
+    fkv_each_update each = {7, 7, 7, 7};
+    fkv_update told = {7, 7, 7};
+    const uint64_t key = 1000, number = 7, reserved = FKV_ABSENT;
+    uint64_t last;
+    for (uint32_t which = FKV_KEEP + 1; which <= MOST_MERGE; which++) {
+        WANTS("a merge of no value", fkv_merge(session, key, which, FKV_ABSENT, &told), -FKV_VALUE_RESERVED);
+        WANTS("it as one of many", fkv_merge_many(session, which, &key, 1, &reserved, 1, &each, 1), 0);
+        WANTS("its answer", each.result, -FKV_VALUE_RESERVED);
+    }
+    told = (fkv_update){7, 7, 7}, each = (fkv_each_update){7, 7, 7, 7};
+    WANTS("a merge that there isn't", fkv_merge(session, key, MOST_MERGE + 1, number, &told), -FKV_NO_MERGE);
+    WANTS("the last number", fkv_merge(session, key, UINT32_MAX, number, &told), -FKV_NO_MERGE);
+    WANTS("what is told of it", told.serial + told.value + told.reason, 21);
+    WANTS("it as one of many", fkv_merge_many(session, MOST_MERGE + 1, &key, 1, &number, 1, &each, 1), -FKV_NO_MERGE);
+    WANTS("merges without room", fkv_merge_many(session, FKV_OR, &key, 1, &number, 1, &each, 0), -FKV_ROOM_SMALL);
+    WANTS("merges of fewer numbers", fkv_merge_many(session, FKV_OR, &key, 1, &number, 0, &each, 1), -FKV_ROOM_SMALL);
+    WANTS("what is told of it", each.result, 7);
+    WANTS("the last serial", fkv_serial(session, &last), 0);
+    WANTS("that serial", last, serial);
+    WANTS("sleeping", fkv_sleep(session), 0);
+    WANTS("a keep asleep", fkv_keep(session, key, &told), -FKV_ASLEEP);
+}
+
+/* Each merge, with and without a value. */
+static void merges(void) {
+    fkv_seen seen;
+    fkv_turned turned;
+    uint64_t serial, number = 0, points[FKV_MOST_SESSIONS];
+    begin_device(&device, &SHAPE);
+    struct opened it = open_bytes(device.now, device.size, FKV_SPREAD);
+    for (int i = 0; i < 2 * MERGES; i++) {
+        const struct merged *merged = &MERGED[i % MERGES];
+        merge_one(&it.sessions[0], 100 + (uint64_t)i, merged, i >= MERGES);
+        number += merged->before == FKV_ABSENT ? 2 : 3;
+        /* so that the next page is open when it is wanted */
+        go_round(&it, &turned, points);
+    }
+    WANTS("the last serial", fkv_serial(&it.sessions[0], &serial), 0);
+    WANTS("that serial", serial, number);
+    merges_refused(&it.sessions[0], number);
+    WANTS("waking", fkv_wake(&it.sessions[0], &seen), 0);
+    close_all(&it);
+}
+
+/* A merge whose record the file alone has: what the poll tells that finishes it. */
+static void merge_waits(struct opened *it, uint64_t key, const struct merged *merged) {
+    fkv_finished finished[FKV_MOST_PENDING];
+    fkv_seen seen;
+    fkv_turned turned;
+    fkv_update told;
+    uint64_t count = 0, points[FKV_MOST_SESSIONS];
+    WANTS("a merge", fkv_merge(&it->sessions[0], key, merged->which, merged->number, &told), FKV_PENDING);
+    WANTS("why it waits", told.reason, FKV_DISK);
+    for (int i = 0; i < MOST_TURNS && count == 0; i++) {
+        turn_device(&device, &it->keeper, &turned, points, FKV_MOST_SESSIONS);
+        for (int of = 0; of < SESSIONS; of++) WANTS("a refresh", fkv_refresh(&it->sessions[of], &seen), 0);
+        fkv_poll(&it->sessions[0], finished, FKV_MOST_PENDING, &count);
+    }
+    WANTS("how many are finished", count, 1);
+    WANTS("of what kind", finished[0].kind, FKV_UPDATED);
+    WANTS("its serial", finished[0].name, told.serial);
+    WANTS("what it leaves", finished[0].value, merged->after);
+    WANTS("a keep behind it", fkv_keep(&it->sessions[0], key, &told), FKV_DONE);
+    WANTS("what that tells", told.value, merged->after);
+}
+
+/* Each merge of keys whose records the file alone has, those of deleted keys too. */
+static void merges_waiting(void) {
+    fkv_turned turned;
+    fkv_update told;
+    uint64_t points[FKV_MOST_SESSIONS];
+    begin_device(&device, &SHAPE);
+    struct opened it = open_bytes(device.now, device.size, FKV_SPREAD);
+    for (uint64_t i = 0; i < MERGES; i++) {
+        bool is_there = MERGED[i].before != FKV_ABSENT;
+        WANTS("an upsert", fkv_upsert(&it.sessions[0], i, is_there ? MERGED[i].before : 9, &told), FKV_DONE);
+        if (!is_there) WANTS("a delete", fkv_delete(&it.sessions[0], i, &told), FKV_DONE);
+        go_round(&it, &turned, points);
+    }
+    WANTS("a commit", commit(&it, 0, points), 0);
+    close_all(&it);
+    it = open_bytes(device.synced, device.synced_size, FKV_SPREAD);
+    for (uint64_t i = 0; i < MERGES; i++) merge_waits(&it, i, &MERGED[i]);
+    close_all(&it);
+}
+
 /* Keys that differ in high bits alone; or such keys as a hash makes of them. */
 static uint64_t key_of(uint32_t keys, uint64_t number) {
     return keys == FKV_SPREAD ? number << 20 : fkv_spread(number << 20);
@@ -457,6 +585,8 @@ static void spreading(void) {
 
 int main(void) {
     updates();
+    merges();
+    merges_waiting();
     refusals();
     many(FKV_SPREAD);
     many(FKV_SPREAD_ALREADY);

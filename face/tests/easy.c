@@ -1,6 +1,6 @@
 /*
- * The calls that just work: a session's own order beside commits, a tick that says why commits end, sizes for a wish, a close that keeps
- * what was done. easy FOLDER [SECONDS] plays the first one for so long, and measures adds.
+ * The calls that just work: a session's own order beside commits, merges of many threads, a tick that says why commits end, sizes for a
+ * wish, a close that keeps what was done. easy FOLDER [SECONDS] plays the first one for so long, and measures adds.
  */
 #define _GNU_SOURCE
 #include "fkv_posix.h"
@@ -74,7 +74,7 @@ static void *keep_order(void *its) {
     for (uint64_t i = 0; seconds(CLOCK_MONOTONIC) < worker->until || !commits_ran(); i++) {
         uint64_t at = i * 5 % OWN_KEYS, key = worker->number * OWN_KEYS + at;
         int32_t result = FKV_DONE;
-        switch (i / OWN_KEYS % 8) {
+        switch (i / OWN_KEYS % 10) {
         case 0: case 1: case 2:
             result = fkv_put(file, session, key, values[at] = i, &told);
             break;
@@ -91,6 +91,15 @@ static void *keep_order(void *its) {
             result = fkv_remove(file, session, key, &told);
             values[at] = 0;
             break;
+        case 8:
+            values[at] = values[at] > 3 ? values[at] - 3 : 0;
+            result = fkv_merge_now(file, session, key, FKV_SUB, 3, &told);
+            WANTS("what a merge has left", told.value, values[at]);
+            break;
+        case 9:
+            result = fkv_merge_now(file, session, key, FKV_KEEP, 0, &told);
+            WANTS("what a keep has told", told.value, values[at]);
+            break;
         default:
             result = fkv_increment(file, session, key, 1, NULL);
             told.serial = last + 1;
@@ -100,7 +109,7 @@ static void *keep_order(void *its) {
         WANTS("an update", result, FKV_DONE);
         WANTS("its serial", told.serial, last + 1);
         last = told.serial;
-        is_there[at] = i / OWN_KEYS % 8 != 6;
+        is_there[at] = i / OWN_KEYS % 10 != 6;
         WANTS("a read", fkv_read(file, session, key, &value), is_there[at] ? FKV_FOUND : FKV_NONE);
         if (is_there[at]) WANTS("its value", value, values[at]);
         WANTS("a tick", fkv_tick(file, session), 0);
@@ -119,6 +128,62 @@ static void order(double time) {
     }
     for (int i = 0; i < WORKERS; i++) pthread_join(workers[i].thread, NULL);
     WANTS("whether commits ran", commits_ran(), true);
+    WANTS("closing", fkv_close_file(file), 0);
+}
+
+/* ---- Merges of many threads ----------------------------------------------------------------------------------------------------- */
+
+enum { MERGES = 10000, BITS = 16, LOWERED = 1, FLAGS = 2, LEAST = 3, FIRST = 4 };
+
+/* Merges the keys of all threads, and gives the value that came first. */
+static void *merge_shared(void *its) {
+    struct worker *worker = its;
+    fkv_session *session = joined(worker->number);
+    fkv_update told;
+    uint64_t first = 0;
+    for (uint64_t i = 0; i < MERGES; i++) {
+        uint64_t flag = UINT64_C(1) << (worker->number * BITS + i % BITS), least = 7 + (MERGES - 1 - i) * WORKERS + worker->number;
+        WANTS("a sub", fkv_merge_now(file, session, LOWERED, FKV_SUB, 3, &told), FKV_DONE);
+        WANTS("an or", fkv_merge_now(file, session, FLAGS, FKV_OR, flag, &told), FKV_DONE);
+        WANTS("its flag", told.value & flag, flag);
+        WANTS("a min", fkv_merge_now(file, session, LEAST, FKV_MIN, least, &told), FKV_DONE);
+        WANTS("whether it is no more", told.value <= least, true);
+        WANTS("a first", fkv_merge_now(file, session, FIRST, FKV_FIRST, 100 + worker->number, &told), FKV_DONE);
+        if (i > 0) WANTS("what came first", told.value, first);
+        first = told.value;
+        WANTS("a keep", fkv_merge_now(file, session, FIRST, FKV_KEEP, 0, &told), FKV_DONE);
+        WANTS("what it tells", told.value, first);
+        WANTS("a tick", fkv_tick(file, session), 0);
+    }
+    WANTS("leaving", fkv_leave(file, session), 0);
+    return (void *)(uintptr_t)first;
+}
+
+/* No merge is lost where threads merge the same keys beside commits, and each is told the same first value. */
+static void merges_together(void) {
+    static struct worker workers[WORKERS];
+    static const uint64_t start = UINT64_C(1) << 40;
+    uint64_t value = 0;
+    void *firsts[WORKERS];
+    open_at("merges", &(fkv_wish){.keys = 64, .sessions = WORKERS}, &(fkv_keeping){.commit_ms = 10});
+    fkv_session *session = joined(0);
+    WANTS("a put", fkv_put(file, session, LOWERED, start, NULL), FKV_DONE);
+    WANTS("leaving", fkv_leave(file, session), 0);
+    for (uint64_t i = 0; i < WORKERS; i++) {
+        workers[i].number = i;
+        WANTS("a thread", pthread_create(&workers[i].thread, NULL, merge_shared, &workers[i]), 0);
+    }
+    for (int i = 0; i < WORKERS; i++) pthread_join(workers[i].thread, &firsts[i]);
+    session = joined(0);
+    WANTS("a read", fkv_read(file, session, FIRST, &value), FKV_FOUND);
+    for (int i = 0; i < WORKERS; i++) WANTS("what came first", (uintptr_t)firsts[i], value);
+    WANTS("a read", fkv_read(file, session, LOWERED, &value), FKV_FOUND);
+    WANTS("what all have left", value, start - 3 * MERGES * WORKERS);
+    WANTS("a read", fkv_read(file, session, FLAGS, &value), FKV_FOUND);
+    WANTS("the flags of all", value, (UINT64_C(1) << (WORKERS * BITS)) - 1);
+    WANTS("a read", fkv_read(file, session, LEAST, &value), FKV_FOUND);
+    WANTS("the least of all", value, 7);
+    WANTS("leaving", fkv_leave(file, session), 0);
     WANTS("closing", fkv_close_file(file), 0);
 }
 
@@ -322,7 +387,7 @@ static void sizes(void) {
 
 /* What a sentence is: it ends with a point. */
 static void texts(void) {
-    for (int32_t fault = 0; fault <= FKV_NO_KEEPER; fault++) {
+    for (int32_t fault = 0; fault <= FKV_NO_MERGE; fault++) {
         const char *text = fkv_text_of(-fault);
         WANTS("whether a text ends with a point", text[strlen(text) - 1], '.');
         WANTS("whether it is known", strcmp(text, "Unknown fault.") != 0, true);
@@ -431,6 +496,7 @@ int main(int count, char **words) {
     alarm(MOST_SECONDS);
     texts();
     order(time);
+    merges_together();
     no_keeper();
     spent();
     full();

@@ -301,6 +301,65 @@ static void streams(void) {
     WANTS("closing", fkv_close_file(file), 0);
 }
 
+/* A store whose keeper this thread runs by itself: its turns over a descriptor, up to a commit's end. The next opening has what it kept. */
+static void own_turns(void) {
+    static uint8_t bytes[FKV_IMAGE_SIZE];
+    fkv_shape shape = {4, 4, 4, 2, 1, 4, 64};
+    fkv_store store;
+    fkv_session session;
+    fkv_keeper keeper;
+    fkv_opened opened;
+    fkv_update update;
+    fkv_turned turned = {0};
+    fkv_seen seen;
+    fkv_file *file;
+    uint64_t points[FKV_MOST_SESSIONS], number, written = 0, value;
+    WANTS("making a file", fkv_make_file(path_of("own_turns"), &shape), 0);
+    int fd = open(path_of("own_turns"), O_RDWR);
+    ssize_t size = read(fd, bytes, sizeof bytes);
+    WANTS("opening its bytes", fkv_open(bytes, (size_t)size, FKV_SPREAD, &store.at, &shape, &opened, points, FKV_MOST_SESSIONS), 0);
+    WANTS("taking the session", fkv_take_session(&store, 0, &session.at), 0);
+    WANTS("taking the keeper", fkv_take_keeper(&store, &keeper.at), 0);
+    WANTS("an upsert", fkv_upsert(&session, 7, 10, &update), FKV_DONE);
+    WANTS("a commit", fkv_commit(&keeper, 0, &number), 0);
+    for (int turns = 0; !turned.finished; turns++) {
+        WANTS("whether the commit ends", turns < 1000, true);
+        WANTS("a turn", fkv_turn_file(fd, &keeper, &turned, points, FKV_MOST_SESSIONS, &written), FKV_OVER);
+        WANTS("a refresh", fkv_refresh(&session, &seen), 0);
+    }
+    WANTS("the commit's number", turned.number, number);
+    WANTS("its point", points[0], 1);
+    WANTS("whether bytes were written", written > FKV_READ_SIZE, true);
+    WANTS("ending the session", fkv_end_session(&session), 0);
+    fkv_free_session(session);
+    fkv_end_keeper(&keeper);
+    fkv_free_keeper(keeper);
+    WANTS("closing", fkv_close(&store), 0);
+    fkv_free_store(store);
+    close(fd);
+    WANTS("opening it", fkv_open_file(path_of("own_turns"), NULL, &file), 0);
+    fkv_session *its;
+    WANTS("starting the keeper", fkv_start(file, NULL), 0);
+    WANTS("joining", fkv_join(file, 0, &its), 0);
+    WANTS("a read", fkv_read(file, its, 7, &value), FKV_FOUND);
+    WANTS("its value", value, 10);
+    WANTS("leaving", fkv_leave(file, its), 0);
+    WANTS("closing the file", fkv_close_file(file), 0);
+}
+
+/* A call that the system refuses: as the read of a descriptor that is closed. */
+static void refused_call(void) {
+    uint8_t into[FKV_READ_SIZE];
+    fkv_turned turned = {.place = 0, .length = FKV_READ_SIZE};
+    int fd = open(path_of("own_turns"), O_RDONLY);
+    WANTS("a read", fkv_call_file(fd, FKV_READ, &turned, into), 0);
+    WANTS("what it has read", memcmp(into, "FKVSTOR1", 8), 0);
+    close(fd);
+    errno = 0;
+    WANTS("a read of a closed descriptor", fkv_call_file(fd, FKV_READ, &turned, into), -1);
+    WANTS("why", errno, EBADF);
+}
+
 int main(int count, char **words) {
     if (count != 2) return 2;
     folder = words[1];
@@ -312,5 +371,7 @@ int main(int count, char **words) {
     committing();
     failing();
     streams();
+    own_turns();
+    refused_call();
     return 0;
 }

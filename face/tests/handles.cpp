@@ -1,6 +1,8 @@
 // The handles of fkv.hpp: handles FOLDER.
 #include "fkv.hpp"
 
+#include <atomic>
+#include <chrono>
 #include <cstdio>
 #include <cstdlib>
 #include <thread>
@@ -22,18 +24,28 @@ template <typename Call> static fkv::Error refused(Call call) {
     return fkv::Error(0);
 }
 
+static void use_merges(fkv::Session &session) {
+    WANT(!session.keep(9) && session.min(9, 20).value == 20 && session.min(9, 12).value == 12 && session.keep(9) == 12u);
+    WANT(session.or_(9, 5).value == 13 && session.and_(9, 6).value == 4 && session.first(9, 7).value == 4);
+    WANT(session.sub(9, 3).value == 1 && session.sub(9, 3).value == 0 && session.keep(9) == 0u);
+    WANT(session.sub(10, 3).value == 0 && session.remove(10).serial == 18 && session.remove(9).serial == 19);
+    WANT(!session.keep(9));
+    WANT(refused([&] { session.or_(9, UINT64_MAX); }).fault() == FKV_VALUE_RESERVED);
+}
+
 static void use_keys(fkv::Session &session) {
     WANT(!session.read(7));
     WANT(session.put(7, 10).serial == 1 && session.read(7) == 10u);
     WANT(session.increment(7).value == 11 && session.raise(7, 20).value == 20 && session.raise(7, 3).value == 20);
     WANT(session.remove(7).serial == 5 && !session.read(7));
     WANT(session.increment(8, 3).value == 3);
+    use_merges(session);
     auto values = session.read_many({7, 8});
     WANT(values.size() == 2 && !values[0] && values[1] == 3u && session.read_many({}).empty());
     WANT(refused([&] { session.put(1, UINT64_MAX); }).fault() == FKV_VALUE_RESERVED);
     session.tick();
     session.commit();
-    WANT(session.serial() == 6 && session.durable() == 6);
+    WANT(session.serial() == 20 && session.durable() == 20);
     session.sleep();
     fkv::Error asleep = refused([&] { session.tick(), session.read(7); });
     WANT(asleep.fault() == FKV_ASLEEP && std::string(asleep.name()) == "Asleep" && asleep.system() == 0);
@@ -66,9 +78,9 @@ static void use_store(const std::string &path) {
     std::uint64_t copied = 0;
     store.save(path + ".saved", [&](const fkv::Progress &its) { copied = its.done; });
     WANT(copied > 0 && refused([&] { store.save(path + ".saved"); }).system() == EEXIST);
-    WANT(store.last_commit().points == (std::vector<std::uint64_t>{0, 7, 0, 0}) && keeper.fault() == 0);
+    WANT(store.last_commit().points == (std::vector<std::uint64_t>{0, 21, 0, 0}) && keeper.fault() == 0);
     store.renew();
-    WANT(store.join(1).serial() == 7);
+    WANT(store.join(1).serial() == 21);
     {
         /* a session that is assigned to was given back, and one that was moved from has no handle */
         fkv::Session first = store.join(2), second = store.join(3);
@@ -86,6 +98,59 @@ static void use_store(const std::string &path) {
     store.close();
 }
 
+/* Waits for what a hook of the keeper's thread notes, for some seconds. */
+template <typename Holds> static bool comes(Holds holds) {
+    for (int i = 0; i < 10000 && !holds(); i++) std::this_thread::sleep_for(std::chrono::milliseconds(1));
+    return holds();
+}
+
+/* A commit at each interval, without being asked for. */
+static void commit_each(const std::string &path) {
+    fkv::Store store = fkv::Store::open_or_make(path, fkv::Wish{10, 2});
+    std::atomic<std::uint64_t> number{0}, point{0};
+    fkv::Keeping keeping;
+    keeping.commit_each = std::chrono::milliseconds(5);
+    keeping.committed = [&](const fkv::Commit &its) { point = its.points[0], number = its.number; };
+    fkv::Keeper keeper = store.start(keeping);
+    fkv::Session session = store.join(0);
+    std::uint64_t made = session.put(7, 1).serial;
+    WANT(comes([&] { return session.tick(), point == made; }));
+    std::uint64_t seen = number;
+    WANT(comes([&] { return session.tick(), number > seen + 2; }));
+    WANT(session.durable() == made && store.last_commit().number >= seen + 2);
+}
+
+/* The log is full: the hook says so, once. */
+static void stopped(const std::string &path) {
+    fkv::Store::make(path, fkv::Shape{8, 4, 4, 1, 2, 64, 16});
+    fkv::Store store = fkv::Store::open(path);
+    std::atomic<int> told{0};
+    std::atomic<std::int32_t> why{0};
+    fkv::Keeping keeping;
+    keeping.stopped = [&](std::int32_t fault) { why = fault, told++; };
+    fkv::Keeper keeper = store.start(keeping);
+    fkv::Session session = store.join();
+    fkv::Error error = refused([&] {
+        for (std::uint64_t key = 0; key < 1000; key++) session.put(key, key);
+    });
+    WANT(error.fault() == FKV_LOG_FULL && comes([&] { return told > 0; }) && why == FKV_LOG_FULL);
+    WANT(refused([&] { session.tick(); }).fault() == FKV_LOG_FULL && told == 1);
+}
+
+/* A last commit isn't waited for past this thread's own session, if that is awake: the keeper goes on. */
+static void stop_past_own(const std::string &path) {
+    fkv::Store store = fkv::Store::open_or_make(path, fkv::Wish{10, 2});
+    fkv::Keeper keeper = store.start();
+    fkv::Session session = store.join();
+    session.put(7, 1);
+    WANT(refused([&] { keeper.stop(); }).fault() == FKV_HANDLE_OUT);
+    session.commit();
+    session.put(7, 2);
+    session.sleep();
+    keeper.stop();
+    WANT(session.durable() == 2);
+}
+
 int main(int count, char **words) {
     if (count != 2) return 1;
     std::string path = std::string(words[1]) + "/counts";
@@ -93,6 +158,9 @@ int main(int count, char **words) {
     WANT(refused([&] { fkv::Store::make(path, fkv::Shape{}); }).fault() == FKV_BAD_SHAPE);
     WANT(fkv::shape_for(fkv::Wish{}).sessions == 8);
     use_store(path);
+    commit_each(path + ".each");
+    stopped(path + ".full");
+    stop_past_own(path + ".own");
     {
         /* the handles go in any order, and what was done is kept */
         fkv::Store store = fkv::Store::open(path);

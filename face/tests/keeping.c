@@ -1,6 +1,6 @@
 /*
  * The keeper's thread: what it takes while it waits, and sessions that were given up with pending requests. Waits that end in time. Ends
- * of it by its own hook, and by several threads. keeping FOLDER.
+ * of it by its own hook, by several threads, and past sessions of the thread that ends it. keeping FOLDER.
  */
 #define _POSIX_C_SOURCE 200809L
 #include "fkv_posix.h"
@@ -9,13 +9,14 @@
 #include <errno.h>
 #include <pthread.h>
 #include <signal.h>
+#include <stdatomic.h>
 #include <stdbool.h>
 #include <sys/resource.h>
 #include <time.h>
 #include <unistd.h>
 
 /* A test that waits for ever is ended by a signal behind so many seconds. */
-enum { WAIT_MS = 300, MOST_SECONDS = 240, SESSIONS = FKV_MOST_SESSIONS, LAST = SESSIONS - 1, PATH_ROOM = 500 };
+enum { WAIT_MS = 300, MOST_SECONDS = 240, MANY_TICKS = 1000, SESSIONS = FKV_MOST_SESSIONS, LAST = SESSIONS - 1, PATH_ROOM = 500 };
 
 /* Little memory, so that updates soon wait for the keeper. */
 static const fkv_shape SHAPE = {6, 16, 8, 4, SESSIONS, 64, 4096};
@@ -303,6 +304,75 @@ static void ended_by_two(void) {
     WANTS("closing", fkv_close_file(file), 0);
 }
 
+/* The keeper rests for long, and a session that polls by itself asks it for its next turn. */
+static void nudged(void) {
+    fkv_file *file = opened("nudged");
+    fkv_keeping keeping = {.turn_us = 1000000 * MOST_SECONDS};
+    fkv_finished finished[FKV_MOST_PENDING];
+    fkv_session *session;
+    fkv_seen seen;
+    uint64_t count;
+    WANTS("starting the keeper", fkv_start(file, &keeping), 0);
+    WANTS("joining", fkv_join(file, 0, &session), 0);
+    filled(session);
+    while (fkv_poll(session, finished, FKV_MOST_PENDING, &count) > 0) {
+        fkv_refresh(session, &seen);
+        fkv_nudge(file);
+        nanosleep(&(struct timespec){0, 100000}, NULL);
+    }
+    WANTS("leaving", fkv_leave(file, session), 0);
+    WANTS("dropping", fkv_drop_file(file), 0);
+}
+
+/* A thread of a session that another one has joined: it ticks until it is told to end. */
+struct ticking {
+    fkv_file *file;
+    fkv_session *session;
+    atomic_int ticks;
+    atomic_bool is_over;
+};
+
+static void *tick(void *its) {
+    struct ticking *ticking = its;
+    while (!ticking->is_over) {
+        fkv_tick(ticking->file, ticking->session);
+        ticking->ticks++;
+    }
+    return NULL;
+}
+
+/* A last commit isn't waited for past a session of the same thread that is awake, and is made past one that sleeps, or that another thread has. */
+static void stops_past_own(void) {
+    fkv_file *file = opened("own");
+    fkv_keeping keeping = {0};
+    fkv_session *session;
+    fkv_update told;
+    fkv_seen seen;
+    uint64_t points[FKV_MOST_SESSIONS];
+    pthread_t thread;
+    WANTS("starting the keeper", fkv_start(file, &keeping), 0);
+    WANTS("joining", fkv_join(file, 0, &session), 0);
+    WANTS("an add", fkv_increment(file, session, 7, 1, &told), FKV_DONE);
+    WANTS("a stop past an own session that is awake", fkv_stop(file, FKV_STOP_COMMIT), -FKV_HANDLE_OUT);
+    WANTS("an add after it", fkv_increment(file, session, 7, 1, &told), FKV_DONE);
+    WANTS("a commit after it", fkv_commit_and_wait(file, session), 0);
+    WANTS("a third add", fkv_increment(file, session, 7, 1, &told), FKV_DONE);
+    WANTS("going to sleep", fkv_sleep(session), 0);
+    WANTS("a stop past an own session that sleeps", fkv_stop(file, FKV_STOP_COMMIT), 0);
+    fkv_last_commit(file, points);
+    WANTS("its point", points[0], 3);
+    WANTS("starting the keeper again", fkv_start(file, &keeping), 0);
+    WANTS("waking", fkv_wake(session, &seen), 0);
+    struct ticking ticking = {.file = file, .session = session};
+    WANTS("a thread", pthread_create(&thread, NULL, tick, &ticking), 0);
+    while (ticking.ticks < MANY_TICKS) nanosleep(&(struct timespec){0, 100000}, NULL);
+    WANTS("a stop past a session that another thread has", fkv_stop(file, FKV_STOP_COMMIT), 0);
+    ticking.is_over = true;
+    pthread_join(thread, NULL);
+    WANTS("leaving", fkv_leave(file, session), 0);
+    WANTS("closing", fkv_close_file(file), 0);
+}
+
 int main(int count, char **words) {
     if (count != 2) return 2;
     folder = words[1];
@@ -316,5 +386,7 @@ int main(int count, char **words) {
     waited_for();
     ended_by_itself();
     ended_by_two();
+    stops_past_own();
+    nudged();
     return 0;
 }

@@ -2,15 +2,20 @@
 #define _POSIX_C_SOURCE 200809L
 #include "fkv_posix.h"
 
+#include <fcntl.h>
 #include <pthread.h>
 #include <stdio.h>
 #include <stdlib.h>
+#include <string.h>
 #include <time.h>
+#include <unistd.h>
 
-enum { KEYS = 1 << 20, BLOCK = 64, BLOCKS = 1000, ROUNDS = 5, MOST_THREADS = 4 };
+/* A round of reads that wait for the disk is shorter. */
+enum { KEYS = 1 << 20, BLOCK = 64, BLOCKS = 300, DISK_BLOCKS = 10, ROUNDS = 5, MOST_THREADS = 4 };
 
+static const char *path;
 static fkv_file *file;
-static int is_many;
+static int is_many, blocks;
 
 static int32_t must(int32_t result, const char *what) {
     if (result >= 0) return result;
@@ -50,7 +55,7 @@ static void *read_blocks(void *its) {
     uint64_t state = *(uint64_t *)its, keys[BLOCK];
     fkv_session *session;
     must(fkv_join(file, FKV_ANY_SESSION, &session), "join");
-    for (int block = 0; block < BLOCKS; block++) {
+    for (int block = 0; block < blocks; block++) {
         for (int i = 0; i < BLOCK; i++) {
             state ^= state << 13;
             state ^= state >> 7;
@@ -63,7 +68,14 @@ static void *read_blocks(void *its) {
     return NULL;
 }
 
-static void time_round(int threads) {
+/* The system's memory has nothing of the file behind it. */
+static void forget_file(void) {
+    int fd = open(path, O_RDONLY);
+    if (fd < 0 || fsync(fd) || posix_fadvise(fd, 0, 0, POSIX_FADV_DONTNEED)) exit(1);
+    close(fd);
+}
+
+static void time_round(const char *where, int threads) {
     pthread_t all[MOST_THREADS];
     uint64_t states[MOST_THREADS];
     static uint64_t seed = 88172645463325252u;
@@ -73,12 +85,12 @@ static void time_round(int threads) {
         pthread_create(&all[i], NULL, read_blocks, &states[i]);
     }
     for (int i = 0; i < threads; i++) pthread_join(all[i], NULL);
-    double count = BLOCK * BLOCKS, real = seconds(CLOCK_MONOTONIC) - begin;
+    double count = BLOCK * blocks, real = seconds(CLOCK_MONOTONIC) - begin;
     taken = seconds(CLOCK_PROCESS_CPUTIME_ID) - taken;
-    printf("%s %d %.3f %.3f\n", is_many ? "many" : "single", threads, real * 1e6 / count, taken * 1e6 / count / threads);
+    printf("%s %s %d %.3f %.3f\n", where, is_many ? "many" : "single", threads, real * 1e6 / count, taken * 1e6 / count / threads);
 }
 
-static void make(const char *path) {
+static void make(void) {
     fkv_wish wish = {.keys = KEYS, .sessions = MOST_THREADS};
     fkv_session *session;
     must(fkv_open_or_make(path, &wish, &file), "make");
@@ -92,15 +104,29 @@ static void make(const char *path) {
     must(fkv_close_file(file), "close");
 }
 
-int main(int count, char **words) {
-    if (count != 2) return 2;
-    make(words[1]);
-    must(fkv_open_file(words[1], NULL, &file), "open");
+/* Rounds of both ways, each by 1, 2 and 4 threads. */
+static void time_rounds(const char *where, int is_on_disk) {
+    fkv_how how = {.mapped = strcmp(where, "mapped") == 0};
+    must(fkv_open_file(path, &how, &file), "open");
     must(fkv_start(file, NULL), "start");
+    blocks = is_on_disk ? DISK_BLOCKS : BLOCKS;
     for (is_many = 0; is_many < 2; is_many++) {
         for (int threads = 1; threads <= MOST_THREADS; threads *= 2) {
-            for (int round = 0; round < ROUNDS; round++) time_round(threads);
+            for (int round = 0; round < ROUNDS; round++) {
+                if (is_on_disk) forget_file();
+                time_round(where, threads);
+            }
         }
     }
-    return fkv_close_file(file);
+    must(fkv_close_file(file), "close");
+}
+
+int main(int count, char **words) {
+    if (count != 2) return 2;
+    path = words[1];
+    make();
+    time_rounds("memory", 0);
+    time_rounds("mapped", 0);
+    time_rounds("disk", 1);
+    return 0;
 }

@@ -2,12 +2,15 @@
 
 - Each relative link leads to a file that is there, and its anchor to a heading of that page.
 - Each law that a page names is there, or a crate of laws, or a wrong body; and so is each file below tools/, face/ and docs/.
+- Each function, type, file and command that a page names in code is there (named.py).
 - Each fenced block is run by the gate: scripts and programs with their output on the pages of RUN, by the tool that it names. Every other
   block names the file that it quotes, as "```rust crates/fkv_example/src/main.rt", and each of its lines stands there, in their order.
 """
 import glob
 import os
 import re
+
+from named import Sources, named_faults
 
 # Pages whose blocks are run from the page, with the languages, and by which tool.
 RUN = {
@@ -117,9 +120,10 @@ def faults_of(root):
     """Each fault of a page, as a line."""
     texts = {page: read(f"{root}/{page}") for page in pages_in(root)}
     anchors = {page: anchors_in(text) for page, text in texts.items()}
-    laws = known_laws(root)
+    laws, sources = known_laws(root), Sources(root)
     for page, text in texts.items():
         yield from link_faults(root, page, texts, anchors)
         yield from name_faults(root, page, text, laws)
         if page not in MADE:
+            yield from named_faults(sources, page, FENCED.sub("", text))
             yield from block_faults(root, page, text)

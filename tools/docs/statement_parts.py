@@ -16,7 +16,7 @@ is proved.
 
 Then come the definitions, module by module. Each module comes after all those that use it. So the page goes from the claim down to plain lists and numbers,
 and you can end a branch where you know enough. Within a module the order is that of the source, where what is used comes first. So the claim itself is the last
-definition of its module. Below each definition are links to what it uses.
+definition of its module. Below a definition are links to what it uses of other modules, each name once in a module.
 
 A comment belongs to the definition below it. Many are short, as the rule that they say goes on from one definition to the next.
 
@@ -33,7 +33,7 @@ NOTATION = [
     ("`data D : Type 0 where`", "an enum, with a constructor on each line"),
     ("`(x : A) → B`", "for each `x` of `A`, `B`. `A → B`: if `A`, then `B`; or a function"),
     ("`(x : A) × B`, `A × B`", "there is an `x` of `A` with `B`; both. Or a pair"),
-    ("`A ⊎ B`, `⊤`, `⊥`, `¬ A`", "the one or the other; what always holds; what never does; not `A`, which is `A → ⊥`"),
+    ("`A ⊎ B`, `⊤`, `Unit {0}`, `⊥`, `¬ A`", "the one or the other; what always holds, in two spellings; what never does; not `A`, which is `A → ⊥`"),
     ("`{A : Type 0}`", "an argument that is clear from the others, and isn't written"),
     ("`a ≡ b`, `a ≢ b`, `a ≤ b`, `a < b`, `A ↔ B`", "statements"),
     ("`a == b`, `a && b`, `a || b`, `nat_le a b`, `if c then a else b`", "computed: `true` or `false`, and a choice by them"),
@@ -43,11 +43,11 @@ NOTATION = [
     ("`module _ (a : A) where`", "what is indented below takes these arguments too"),
     ("`ℕ`", "the numbers from 0 on, without an end. A byte, a word and a key are such numbers"),
     ("`a + b`, `a - b`, `a * b`, `a / b`, `a % b`, `a ^ b`", "on `ℕ`: `a - b` is 0 if `b` is greater, and `a / b` has no fraction"),
-    ("`it.0`, `it.items`", "the number in a Rust struct of one field; the list of a Rust `Vec`"),
+    ("`it.0`, `it.items`", "the number in a Rust struct of one field; the list of a Rust `Vec`, or of an `ArrayVec`, which has a greatest length"),
     ("`call.Op`, `one.Tail`", "a variant of a Rust enum, by the name under which a module imports them"),
     ("`x.old`, `x.new`, `x.now`, `result`", "in a contract: an argument before the call, after it, a shared one, and what is returned"),
     ("`said.X`", "in a contract: the definition `X`"),
-    ("`⟦<T as Trait>⟧.x`, `D.x`", "in a contract: what the implementation of a trait says under this name"),
+    ("`⟦<T as Trait>⟧.x`, `D.x`", "in a contract: what the implementation of a trait says under this name. `Ghosts D`: all that `D` says as a `Device`"),
 ]
 
 WORDS = {
@@ -55,6 +55,7 @@ WORDS = {
     "not cond": "negation; `cond b x y` is `x` if `b` is true, else `y`",
     "nat_eq nat_le nat_lt": "the comparisons of numbers that compute",
     "zero suc min max": "0; the next number; the less and the greater of two",
+    "bit_and bit_or": "the number whose binary digits are 1 where both numbers have one; and where either has",
     "List length map filter replicate": "lists; how long one is; a function of each element; those for which a test is true; so many times the same",
     "count_by": "for how many elements a test is true",
     "range_with_len": "`range_with_len a n`: the list of the `n` numbers from `a` on",
@@ -176,7 +177,7 @@ TIES = [
     ("Such lives exist", ("law_order", "new_lives.rt", "law_life_exists", "opened created worked committed")),
     ("What a call of the device does to its bytes, and to what a crash may leave", ("fkv_disk", "devices.rt", "read", "bytes"), ("fkv_disk", "devices.rt", "write", "seen crash"), ("fkv_disk", "devices.rt", "sync", "durable")),
     ("The serials of a session are those of its answers", ("law_world", "sessions.rt", "law_world_sessions", "serials accounts")),
-    ("A call at a table is one in the list of events, and its answer is the one that it has there", ("fkv_table", "sessions.rt", "run", "called answer"), ("fkv_table", "sessions.rt", "run_told", "called told")),
+    ("A call at a table is one in the list of events, and its answer is the one that it has there", ("fkv_table", "sessions.rt", "run", "called answer"), ("fkv_table", "sessions.rt", "call", "called told")),
     ("The program writes what its script gives by the engine's steps", ("fkv_cli", "programs.rt", "run", "whole part")),
 ]
 

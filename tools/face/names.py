@@ -3,7 +3,7 @@ import re
 import sys
 
 # The face's own, beside those of the engine; and those of its C alone.
-OWN = {22: "HandleOut", 23: "HandleTaken", 24: "RoomSmall"}
+OWN = {22: "HandleOut", 23: "HandleTaken", 24: "RoomSmall", 26: "NoMerge"}
 OF_C = {25: "NoKeeper"}
 
 

@@ -3,7 +3,7 @@ stands what they say."""
 from files import FILE
 from rows import Row
 from samples import NEW, ONE, Sample, changed
-from shapes import ONE as SHAPE
+from shapes import LARGE_ONE, ONE as SHAPE
 
 WORDS = "; the words are --seed N, --threads, --check, --torn B and --file PATH, and the first two don't go together"
 MOST = 2**64 - 1
@@ -44,6 +44,7 @@ LARGE_SIZES = [
 ]
 
 SESSION = "up, del, add, max, get, refresh, poll, sleep or wake"
+LARGE_SESSION = "up, del, add, max, get, keep, min, sub, and, or, first, refresh, poll, sleep or wake"
 HEAD = "a session's number, k, crash or fail"
 
 # what stands behind `shape`, and the complaint of it
@@ -63,6 +64,14 @@ LINES = [
     ("0x up 1 2", "Number", f'"0x" is no number from 0 to {MOST}'),
     (f"0 get {2**64}", "Number", f'"{2**64}" is no number from 0 to {MOST}'),
     ("fail 0", "Number", f'"0" is no number from 1 to {MOST}'),
+]
+
+# and of lines behind `large`
+LARGE_LINES = [
+    ("0 put 1", "Word", f'"put" is unknown; this place takes {LARGE_SESSION}'),
+    ("0 min 1", "Count", '"min" takes two numbers, and has 1 word behind it'),
+    ("0 keep 1 2", "Count", '"keep" takes one number, and has 2 words behind it'),
+    (f"0 first 1 {2**64}", "Number", f'"{2**64}" is no number from 0 to {MOST}'),
 ]
 
 LINES_OF_FILE = [("crash", '"crash" is for a store in memory: not with --file'), ("fail 1", '"fail" is for a store in memory: not with --file')]
@@ -106,6 +115,8 @@ def complaints():
         yield complained(f"the sizes {sizes} of a large store", f"large {sizes}\n", "refused 1 BadShape\n", 2, complaint)
     for line, kind, complaint in LINES:
         yield complained(f"the line {line}", f"{SHAPE}\n{line}\n", f"script line 2 {kind}\n", 2, f"line 2 of the script: {complaint}")
+    for line, kind, complaint in LARGE_LINES:
+        yield complained(f"the line {line} of a large store", f"\n# large\n{LARGE_ONE}\n{line}\n", f"script line 4 {kind}\n", 2, f"line 4 of the script: {complaint}")
     for line, complaint in LINES_OF_FILE:
         script = f"{SHAPE}\n{line}\n"
         yield complained(f"the line {line} over a file", script, "script line 2 Mode\n", 2, f"line 2 of the script: {complaint}", words=tuple(FILE.split()), left=None)

@@ -1,6 +1,6 @@
 """Operations of sessions, requests that wait, and how much a script may hold."""
 from rows import Row, told, whole
-from shapes import FOUR, ONE, SEVEN, SMALL, SMALL_TWO
+from shapes import FOUR, LARGE_ONE, LARGE_TWO, ONE, SEVEN, SMALL, SMALL_TWO
 
 MOST = 2**64 - 1
 
@@ -290,6 +290,110 @@ PENDING = [
     ),
 ]
 
+# merges stand behind `large` alone
+MERGES = [
+    told(
+        "merges of keys without a value",
+        f"""
+        {LARGE_ONE}
+        0 keep 1      | 0 #1 absent
+        0 get 1       | 0 get 1 absent
+        0 min 2 7     | 0 #2 = 7
+        0 sub 3 7     | 0 #3 = 0
+        0 and 4 7     | 0 #4 = 0
+        0 or 5 7      | 0 #5 = 7
+        0 first 6 7   | 0 #6 = 7
+        0 get 2       | 0 get 2 = 7
+        0 get 3       | 0 get 3 = 0
+        0 get 4       | 0 get 4 = 0
+        0 get 5       | 0 get 5 = 7
+        0 get 6       | 0 get 6 = 7
+        """,
+    ),
+    told(
+        "merges of a key with a value",
+        f"""
+        {LARGE_ONE}
+        0 up 1 12     | 0 #1 done
+        0 keep 1      | 0 #2 = 12
+        0 min 1 20    | 0 #3 = 12
+        0 min 1 10    | 0 #4 = 10
+        0 or 1 5      | 0 #5 = 15
+        0 and 1 6     | 0 #6 = 6
+        0 sub 1 2     | 0 #7 = 4
+        0 first 1 9   | 0 #8 = 4
+        0 sub 1 5     | 0 #9 = 0
+        0 first 1 9   | 0 #10 = 0
+        0 del 1       | 0 #11 done
+        0 keep 1      | 0 #12 absent
+        0 first 1 9   | 0 #13 = 9
+        0 get 1       | 0 get 1 = 9
+        """,
+    ),
+    told(
+        "merges and the greatest value, and the one above it",
+        f"""
+        {LARGE_ONE}
+        0 min 1 {MOST}       | 0 refused 2 ValueReserved
+        0 sub 1 {MOST}       | 0 refused 2 ValueReserved
+        0 and 1 {MOST}       | 0 refused 2 ValueReserved
+        0 or 1 {MOST}        | 0 refused 2 ValueReserved
+        0 first 1 {MOST}     | 0 refused 2 ValueReserved
+        0 or 1 {MOST - 1}    | 0 #1 = {MOST - 1}
+        0 or 1 1             | 0 #2 = {MOST - 1}
+        0 and 1 {MOST - 1}   | 0 #3 = {MOST - 1}
+        0 up 1 {2**63}       | 0 #4 done
+        0 or 1 {2**63 - 1}   | 0 #5 = {MOST - 1}
+        0 sub 1 1            | 0 #6 = {MOST - 2}
+        0 keep {MOST}        | 0 #7 absent
+        """,
+    ),
+    told(
+        "merges of two sessions, and a commit that keeps them",
+        f"""
+        {LARGE_TWO}
+        0 min 1 30 | 0 #1 = 30
+        1 min 1 20 | 1 #1 = 20
+        0 or 2 1   | 0 #2 = 1
+        1 or 2 2   | 1 #2 = 3
+        1 keep 3   | 1 #3 absent
+        k commit   | k commit 1
+        k finish   | k finished 1 points 2 3
+        0 sub 1 5  | 0 #3 = 15
+        crash      | crash commit 1 points 2 3 pairs 2
+                   | pair 1 20
+                   | pair 2 3
+        """,
+    ),
+    told(
+        "merges that wait for the disk",
+        """
+        large 11 4 2 1 1 0 64
+        0 up 1 12   | 0 #1 done
+        0 up 2 20   | 0 #2 done
+        0 up 3 30   | 0 #3 done
+        0 up 4 40   | 0 #4 done
+        0 up 5 50   | 0 #5 done
+        0 up 6 60   | 0 #6 done
+        0 up 7 70   | 0 #7 done
+        k turn      | k turn rest 1
+        0 refresh   | 0 refresh rest 1
+        k turn      | k turn rest 1
+        0 refresh   | 0 refresh rest 1
+        k turn      | k turn rest 1
+        0 up 8 80   | 0 #8 done
+        0 sub 1 2   | 0 #9 pending
+        0 keep 2    | 0 #10 pending
+        k turn      | k turn rest 1
+        0 poll      | 0 #9 = 10
+                    | 0 poll left 1
+        k turn      | k turn rest 1
+        0 poll      | 0 #10 = 20
+                    | 0 poll left 0
+        """,
+    ),
+]
+
 LIMITS = [
     Row("an empty script", "", ""),
     Row("lines that say nothing", "\n  \n# open\n", ""),
@@ -301,4 +405,4 @@ LIMITS = [
 
 
 def operations():
-    return [*OPERATIONS, *PENDING, *LIMITS]
+    return [*OPERATIONS, *PENDING, *MERGES, *LIMITS]

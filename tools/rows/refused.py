@@ -1,8 +1,12 @@
 """What is refused before anything runs: words of the program, lines of a script, and shapes."""
 from rows import STORE, Row
-from shapes import ONE
+from shapes import LARGE_ONE, ONE
 
 SHAPE = f"{ONE}\n"
+BIG = f"{LARGE_ONE}\n"
+
+# merges are unknown words behind `shape` and `open`, whatever follows them
+MERGES = ("keep 1", "min 1 2", "sub 1 2", "and 1 2", "or 1 2", "first 1 2", "keep", "min 1 x", "keep 1 2")
 
 # the first faulty line of a script
 LINES = [
@@ -46,6 +50,17 @@ LINES = [
     ("large 11 16 4 2 1 0 x\n", "1 Number"),
     (SHAPE + "large 11 16 4 2 1 0 64\n", "2 Order"),
     ("Large 11 16 4 2 1 0 64\n", "1 Order"),
+    (BIG + "0 keep\n", "2 Count"),
+    (BIG + "0 keep 1 0\n", "2 Count"),
+    (BIG + "0 min 1\n", "2 Count"),
+    (BIG + "0 first 1 2 3\n", "2 Count"),
+    (BIG + "0 sub 1 -2\n", "2 Number"),
+    (BIG + "0 or 1 18446744073709551616\n", "2 Number"),
+    (BIG + "0x and 1 2\n", "2 Number"),
+    (BIG + "0 xor 1 2\n", "2 Word"),
+    (BIG + "0 touch 1\n", "2 Word"),
+    (BIG + "keep 1\n", "2 Word"),
+    *((f"{SHAPE}0 {merge}\n", "2 Word") for merge in MERGES),
     ("shape 4 2 1 3 2 k\n", "1 Count"),
     ("open 1\n", "1 Count"),
     (SHAPE + "0x up 1 2\n", "2 Number"),
@@ -82,6 +97,7 @@ LINES_OF_FILE = [
     ("open\nfail\n", "2 Count"),
     ("open\nfail 0\n", "2 Number"),
     ("open\nfail 1\n", "2 Mode"),
+    *((f"open\n0 {merge}\n", "2 Word") for merge in MERGES),
 ]
 
 # each size outside of its limits, one at a time

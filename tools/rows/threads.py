@@ -1,5 +1,6 @@
 """Scripts whose sessions and keeper run on threads. What they write is the same for every schedule."""
 from rows import STORE, Row, whole
+from shapes import LARGE_ONE, LARGE_TWO
 
 ONE, SMALL = "shape 4 16 4 2 1 0 64", "shape 4 16 4 2 2 0 64"
 THREE, TIGHT = "shape 1 4 2 1 3 6 256", "shape 0 4 2 1 1 6 256"
@@ -39,7 +40,9 @@ RUNS = [
     ("more pending requests than fit", [TIGHT, *full()], agree(1, 7)),
     ("sums past the most are not compared", [SMALL, "0 add 1 18446744073709551614", "1 add 1 1", "k commit log", "k finish"], agree(1, 0)),
     ("a session that the shape hasn't", [SMALL, "9 up 1 1", "0 up 2 2", "k commit", "k finish"], agree(1, 2)),
-    ("a large store", ["large 11 16 4 2 2 0 64", "0 up 1 1", "1 up 2 2", "k commit", "k finish"], agree(1, 2)),
+    ("a large store", [LARGE_TWO, "0 up 1 1", "1 up 2 2", "k commit", "k finish"], agree(1, 2)),
+    ("merges of one session", [LARGE_ONE, "0 min 1 9", "0 sub 1 2", "0 and 1 6", "0 or 2 1", "0 first 3 5", "0 keep 4", "k commit", "k finish"], agree(1, 4)),
+    ("merges of two sessions are compared of no key", [LARGE_TWO, "0 min 1 9", "1 min 1 5", "0 add 2 1", "1 sub 2 1", "0 keep 3", "k commit", "k finish"], agree(1, 1)),
 ]
 
 FAULTS = [
@@ -47,6 +50,9 @@ FAULTS = [
     ([SMALL, "0 up 1 1", "k turn"], "3 Mode"),
     ([SMALL, "crash"], "2 Mode"),
     ([SMALL, "fail 1"], "2 Mode"),
+    ([SMALL, "0 keep 1"], "2 Word"),
+    ([SMALL, "k commit", "k finish", "0 min 1 2"], "4 Word"),
+    ([LARGE_ONE, "0 min 1"], "2 Count"),
     (["open"], "1 Mode"),
     ([SMALL, "# a comment", "", "k commit", "0 get 1", "k commit"], "4 Mode"),
     ([SMALL, "k commit", "0 get 1"], "2 Mode"),

@@ -1,7 +1,9 @@
 -- What a session's exports tell.
-use Rattle.std.specs.Prelude.{◌≡◌, ℕ, ℤ, Result, Ok, Err, pos}
+use Rattle.std.specs.Prelude.{◌≡◌, ◌==◌, cond, ℕ, ℤ, Option, Some, None, Result, Ok, Err, pos, neg_ℤ}
 use Rattle.fkv_base.specs.declared.faults.Fault.{Fault}
 use Rattle.fkv_base.specs.declared.numbers.Serial.{Serial}
+use Rattle.fkv_map.specs.declared.merges.Merge.{Merge}
+use Rattle.fkv_map.specs.declared.merges.Merge.TheVariants as merge
 use Rattle.fkv_map.specs.declared.operations.Call.{Call}
 use Rattle.fkv_map.specs.declared.operations.Call.TheVariants as call
 use Rattle.fkv_map.specs.declared.operations.Op.{Op}
@@ -26,6 +28,18 @@ add_of key number = op.Add (record { 0 = key }) number
 
 abbrev pub max_of : ℕ → ℕ → Op
 max_of key number = op.Max (record { 0 = key }) number
+
+-- the merges by their numbers, and none where the number is none's
+abbrev pub merge_numbered : ℕ → Option Merge
+merge_numbered number =
+    cond (number == 0) (Some merge.Keep) (cond (number == 1) (Some merge.Min) (cond (number == 2) (Some merge.Sub) (
+    cond (number == 3) (Some merge.And) (cond (number == 4) (Some merge.Or) (cond (number == 5) (Some merge.First) None)))))
+
+abbrev pub merge_of : Merge → ℕ → ℕ → Op
+merge_of which key number = op.Merge (record { 0 = key }) which number
+
+abbrev pub keep_of : ℕ → Op
+keep_of key = merge_of merge.Keep key 0
 
 abbrev pub delete_of : ℕ → Op
 delete_of key = op.Delete (record { 0 = key })
@@ -78,3 +92,8 @@ module _ (at : Opening → World) where
   abbrev pub IsUpdated : Session → Op → ℤ → Update → Session → Type 0
   IsUpdated before its result update after =
       (told : Numbers) × IsToldIn at before (call.Op its) told after × (result ≡ told.result) × (update ≡ record { serial = told.first; value = told.second; reason = told.third })
+
+  -- the update by a merge; where there is no such merge, nothing is done and nothing told
+  abbrev pub IsMerged : Session → Option Merge → ℕ → ℕ → ℤ → Update → Update → Session → Type 0
+  IsMerged before (Some which) key number result update update' after = IsUpdated before (merge_of which key number) result update' after
+  IsMerged before None key number result update update' after = (result ≡ neg_ℤ (pos 26)) × (update' ≡ update) × (after ≡ before)

@@ -1,7 +1,8 @@
 -- Calls of many keys.
-use Rattle.std.specs.Prelude.{◌≡◌, ◌≢◌, ◌⊎◌, ◌<◌, ℕ, ℤ, pos, neg_ℤ, List, [], ◌∷◌, length}
+use Rattle.std.specs.Prelude.{◌≡◌, ◌≢◌, ◌⊎◌, ◌<◌, ℕ, ℤ, pos, neg_ℤ, List, [], ◌∷◌, length, Option, Some, None}
 pub use Rattle.std.specs.List.{zip}
 pub use Rattle.std.specs.Prelude.{length}
+use Rattle.fkv_map.specs.declared.merges.Merge.{Merge}
 use Rattle.fkv_map.specs.declared.operations.Op.{Op}
 use Rattle.fkv_handles.specs.Below.fkv_world.Runs.{World}
 use Rattle.fkv_handles.specs.declared.sessions.Session.{Session}
@@ -10,13 +11,14 @@ use Rattle.fkv_face.specs.declared.many.EachRead.{EachRead}
 use Rattle.fkv_face.specs.declared.many.EachUpdate.{EachUpdate}
 use Rattle.fkv_face.specs.declared.many.Kind.{Kind}
 use Rattle.fkv_face.specs.declared.many.Kind.TheVariants as kind
-pub use Rattle.fkv_face.specs.Calls.{IsRead, IsUpdated, add_of, upsert_of}
+pub use Rattle.fkv_face.specs.Calls.{IsRead, IsUpdated, add_of, merge_numbered, merge_of, upsert_of}
 pub use Rattle.fkv_handles.specs.Below.fkv_threads.Models.{opening}
 
 -- what an update of this kind makes of a key and a number
 abbrev pub making : Kind → ℕ → ℕ → Op
 making kind.Upsert = upsert_of
 making kind.Add = add_of
+making (kind.Merge which) = merge_of which
 
 -- One call behind the other: each goes on from where the one before has left the session, and its answer stands at its place. Behind the answers the
 -- room is as it was.
@@ -48,3 +50,8 @@ module _ (at : Opening → World) where
   abbrev pub AreUpdated : (ℕ → ℕ → Op) → Session → List ℕ → List ℕ → ℤ → List EachUpdate → List EachUpdate → Session → Type 0
   AreUpdated make before keys numbers result room room' after =
       IsMany (IsEachUpdate make) ((length numbers ≢ length keys) ⊎ (length room < length keys)) before (zip keys numbers) result room room' after
+
+  -- the same by a merge; where there is no such merge, nothing is done
+  abbrev pub AreMerged : Option Merge → Session → List ℕ → List ℕ → ℤ → List EachUpdate → List EachUpdate → Session → Type 0
+  AreMerged (Some which) before keys numbers result room room' after = AreUpdated (merge_of which) before keys numbers result room room' after
+  AreMerged None before keys numbers result room room' after = (result ≡ neg_ℤ (pos 26)) × (room' ≡ room) × (after ≡ before)

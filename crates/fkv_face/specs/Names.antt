@@ -2,7 +2,7 @@
 use Rattle.std.specs.Prelude.{ℕ, List, [], ◌==◌, cond, codes}
 pub use Rattle.std.specs.Prelude.{drop, length, min, take}
 
--- The names of the faults by their numbers, and of the three refusals that are the face's own; empty where the number is none's.
+-- The names of the faults by their numbers, and of the four refusals that are the face's own; empty where the number is none's.
 abbrev pub name_told : ℕ → List ℕ
 name_told number =
     cond (number == 1) (codes "BadShape") (cond (number == 2) (codes "ValueReserved") (cond (number == 3) (codes "PendingFull") (
@@ -13,4 +13,4 @@ name_told number =
     cond (number == 16) (codes "Damaged") (cond (number == 17) (codes "Script") (cond (number == 18) (codes "Memory") (
     cond (number == 19) (codes "NoSession") (cond (number == 20) (codes "Awake") (cond (number == 21) (codes "LostFull") (
     cond (number == 22) (codes "HandleOut") (cond (number == 23) (codes "HandleTaken") (
-    cond (number == 24) (codes "RoomSmall") ([]))))))))))))))))))))))))
+    cond (number == 24) (codes "RoomSmall") (cond (number == 26) (codes "NoMerge") ([])))))))))))))))))))))))))

@@ -4,6 +4,7 @@ use Rattle.fkv_base.specs.Fault.{number_of}
 use Rattle.fkv_base.specs.declared.faults.Fault.{Fault}
 use Rattle.fkv_handles.specs.declared.refusals.Refusal.{Refusal}
 use Rattle.fkv_handles.specs.declared.refusals.Refusal.TheVariants as refusal
+use Rattle.fkv_map.specs.Map.{absent_word}
 use Rattle.fkv_map.specs.declared.operations.Reply.{Reply}
 use Rattle.fkv_map.specs.declared.operations.Reply.TheVariants as reply
 use Rattle.fkv_ops.specs.declared.answers.Reason.{Reason}
@@ -21,11 +22,12 @@ refusal_told (refusal.Fault fault) = fault_told fault
 refusal_told refusal.HandleOut = neg_ℤ (pos 22)
 refusal_told refusal.HandleTaken = neg_ℤ (pos 23)
 
+-- the value that a reply tells: 2^64 - 1 where a keep has found none
 abbrev pub number_in : Reply → ℕ
 number_in reply.Nothing = 0
 number_in (reply.Number value) = value.0
 number_in (reply.Found value) = value.0
-number_in reply.Absent = 0
+number_in reply.Absent = absent_word
 
 abbrev pub reason_number : Reason → ℕ
 reason_number reason.Fuzzy = 1

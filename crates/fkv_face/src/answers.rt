@@ -12,6 +12,9 @@ pub(crate) const HANDLE_TAKEN: i32 = -23;
 /// The caller's room is too small, and nothing was done.
 pub(crate) const ROOM_SMALL: i32 = -24;
 
+/// No merge has the number that was said, and nothing was done. (-25 is that no keeper's thread runs, which this library never says.)
+pub(crate) const NO_MERGE: i32 = -26;
+
 /// Minus the number of a fault.
 pub(crate) fn refused(fault: Fault) -> i32
     ensures { result ≡ says.fault_told fault }

@@ -2,13 +2,13 @@
 ghost use Rattle.std.specs.Prelude.{◌≡◌, ◌≤◌};
 ghost use Rattle.fkv_face.specs.Many as says;
 
-use crate::answers::ROOM_SMALL;
+use crate::answers::{NO_MERGE, ROOM_SMALL};
 use crate::held_session::HeldSession;
-use crate::sessions::run_op;
+use crate::sessions::{merge_numbered, run_op};
 use fkv_base::{Key, Value};
 use fkv_disk::Device;
 use fkv_handles::Session;
-use fkv_map::Op;
+use fkv_map::{Merge, Op};
 use fkv_posted::Posted;
 
 /// One read of many: what `fkv_get` answers and tells.
@@ -19,7 +19,7 @@ pub struct EachRead {
     pub result: i32,
 }
 
-/// One update of many: what `fkv_upsert` or `fkv_add` answers and tells.
+/// One update of many: what `fkv_upsert`, `fkv_add` or `fkv_merge` answers and tells.
 #[repr(C)]
 #[derive(Clone, Copy)]
 pub struct EachUpdate {
@@ -34,6 +34,7 @@ pub struct EachUpdate {
 enum Kind {
     Upsert,
     Add,
+    Merge(Merge),
 }
 
 /// So many keys are fetched at once: about as many misses as a processor's core waits for at the same time.
@@ -111,6 +112,7 @@ fn op_of(kind: Kind, key: u64, number: u64) -> Op
     match kind {
         Kind::Upsert => Op::Upsert(Key(key), Value(number)),
         Kind::Add => Op::Add(Key(key), number),
+        Kind::Merge(which) => Op::Merge(Key(key), which, number),
     }
 }
 
@@ -192,4 +194,23 @@ pub extern "C" fn fkv_add_many(
         session.new.value }
 {
     update_many(session, Kind::Add, keys, numbers, told)
+}
+
+/// Merges numbers into the values of many keys, in order, as `fkv_merge` does. It answers and refuses as `fkv_upsert_many`; or `NO_MERGE` where no merge
+/// has that number, and then nothing is done.
+#[unsafe(no_mangle)]
+pub extern "C" fn fkv_merge_many(
+    session: &mut HeldSession,
+    which: u32,
+    keys: &[u64],
+    numbers: &[u64],
+    told: &mut [EachUpdate],
+) -> i32
+    ensures { says.AreMerged (says.opening ⟦<Posted<'static> as Device>⟧) (says.merge_numbered which) session.old.value keys.now numbers.now result told.old
+        told.new session.new.value }
+{
+    match merge_numbered(which) {
+        Some(which) => update_many(session, Kind::Merge(which), keys, numbers, told),
+        None => NO_MERGE,
+    }
 }

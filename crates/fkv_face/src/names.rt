@@ -31,6 +31,7 @@ fn name_of(number: u32) -> &'static [u8]
         22 => b"HandleOut",
         23 => b"HandleTaken",
         24 => b"RoomSmall",
+        26 => b"NoMerge",
         _ => b"",
     }
 }

@@ -2,15 +2,15 @@
 ghost use Rattle.std.specs.Prelude.{◌≡◌};
 ghost use Rattle.fkv_face.specs.Calls as says;
 
-use crate::answers::refused;
+use crate::answers::{NO_MERGE, refused};
 use crate::held_session::HeldSession;
 use crate::told::{DONE, Numbers, told_by};
 use fkv_base::{Key, Value};
 use fkv_disk::Device;
-use fkv_map::{Call, Op};
+use fkv_map::{Call, Merge, Op};
 use fkv_posted::Posted;
 
-/// What an update has told: its serial, the value that an add or a max left, and why it waits, if it does.
+/// What an update has told: its serial, the value that an add, a max or a merge left, and why it waits, if it does.
 #[repr(C)]
 pub struct Update {
     pub serial: u64,
@@ -97,6 +97,50 @@ pub extern "C" fn fkv_max(
     ensures { says.IsUpdated (says.opening ⟦<Posted<'static> as Device>⟧) session.old.value (says.max_of key number) result told.new session.new.value }
 {
     make_update(session, Op::Max(Key(key), number), told)
+}
+
+/// The merge of this number, if there is one.
+#[inline(always)]
+pub(crate) fn merge_numbered(number: u32) -> Option<Merge>
+    ensures { result ≡ says.merge_numbered number }
+{
+    match number {
+        0 => Some(Merge::Keep),
+        1 => Some(Merge::Min),
+        2 => Some(Merge::Sub),
+        3 => Some(Merge::And),
+        4 => Some(Merge::Or),
+        5 => Some(Merge::First),
+        _ => None,
+    }
+}
+
+/// Merges a number into the value of a key, as the merge of this number does, and tells what it left. Answers and refusals are those of `fkv_upsert`; or
+/// `NO_MERGE` where no merge has that number, and then nothing is done. A keep tells what `fkv_keep` does, and doesn't look at its number.
+#[unsafe(no_mangle)]
+pub extern "C" fn fkv_merge(
+    session: &mut HeldSession,
+    key: u64,
+    which: u32,
+    number: u64,
+    told: &mut Update,
+) -> i32
+    ensures { says.IsMerged (says.opening ⟦<Posted<'static> as Device>⟧) session.old.value (says.merge_numbered which) key number result told.old told.new
+        session.new.value }
+{
+    match merge_numbered(which) {
+        Some(which) => make_update(session, Op::Merge(Key(key), which, number), told),
+        None => NO_MERGE,
+    }
+}
+
+/// An update that leaves the value of a key as it is. It tells that value, and the word of no value where there is none. Answers and refusals are those of
+/// `fkv_delete`.
+#[unsafe(no_mangle)]
+pub extern "C" fn fkv_keep(session: &mut HeldSession, key: u64, told: &mut Update) -> i32
+    ensures { says.IsUpdated (says.opening ⟦<Posted<'static> as Device>⟧) session.old.value (says.keep_of key) result told.new session.new.value }
+{
+    make_update(session, Op::Merge(Key(key), Merge::Keep, 0), told)
 }
 
 /// Takes the value of a key away. Answers and refusals are those of `fkv_upsert`, but for `ValueReserved`.

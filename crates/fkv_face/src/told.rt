@@ -3,7 +3,7 @@ ghost use Rattle.std.specs.Prelude.{◌≡◌};
 ghost use Rattle.fkv_face.specs.Told as says;
 
 use crate::answers::refused;
-use fkv_base::Phase;
+use fkv_base::{Phase, Value};
 use fkv_map::Reply;
 use fkv_ops::Reason;
 use fkv_session::Told;
@@ -26,7 +26,7 @@ pub(crate) const NONE: i32 = 2;
 /// The request waits.
 pub(crate) const PENDING: i32 = 3;
 
-/// The value that goes with a reply, 0 where none does.
+/// The value that goes with a reply: 0 where none does, and the word of no value where a keep has found none.
 #[inline(always)]
 pub(crate) fn number_in(reply: Reply) -> u64
     ensures { result ≡ says.number_in reply }
@@ -35,7 +35,7 @@ pub(crate) fn number_in(reply: Reply) -> u64
         Reply::Nothing => 0,
         Reply::Number(value) => value.0,
         Reply::Found(value) => value.0,
-        Reply::Absent => 0,
+        Reply::Absent => Value::ABSENT,
     }
 }
 

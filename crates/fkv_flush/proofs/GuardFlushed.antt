@@ -501,7 +501,7 @@ opening_flushed keeper shape places actors words start opened stood o = record {
   start_below = let f = o.flushed in omega (arith, f);
   earlier = λ i above below known. opened_kept opened i known;
   records = λ addr above below. let f = o.flushed in absurd (omega (arith, f, above, below));
-  rows = λ b y got. subst (λ (z : Actor). Row keeper shape opened [] stood (levels_of words).flushed b z.work) (sym (replicate_item actors b (first_actor start) y got)) tt;
+  rows = λ b y got. subst (λ (z : Actor). Row keeper shape opened [] stood (levels_of words).flushed b z.work) (sym (replicate_item actors b (first_actor start (levels_of words).closed) y got)) tt;
 }
 
 -- so what is flushed is synced

@@ -8,6 +8,7 @@ use Rattle.fkv_epoch.specs.declared.arming.Arming.TheVariants as arm
 use Rattle.fkv_epoch.specs.EpochWorld.{Protects, Arms, Sight, OfReadOnly, OfHead}
 use Rattle.fkv_epoch.proofs.Shown.{none_some}
 use Rattle.fkv_epoch.proofs.Shown as epochs_runs
+use Rattle.fkv_flush.specs.GuardLevels.{levels_of}
 use Rattle.fkv_flush.specs.GuardSeen.{LastSeen}
 use Rattle.fkv_flush.specs.GuardWorld.{Actor, GuardNow, GuardWorld, GuardEvent, Begins, Resumes, Moves, Calls, Reads, Sees, Publishes, Updates, RaisesReadOnly, RaisesFor, Changes, CallsElse, guard_happens, guard_run}
 use Rattle.fkv_flush.specs.Guarded.{seen_at, seen_of, undecided_at, undecided_of, GoesBy, IsOpened, opening, first_actor, IsCovered, UndecidedIsFresh}
@@ -55,9 +56,9 @@ map_replicate f (suc n) x = ap (λ ys. f x ∷ ys) (map_replicate f n x)
 pub opening_sound : (shape : Shape) (places : Places) (actors : ℕ) (words : List ℕ) (start : ℕ) → IsOpened shape places actors words start → IsSound (opening shape places actors words start)
 opening_sound shape places actors words start o =
     let n : GuardNow = (opening shape places actors words start).now in
-    let first : Actor = first_actor start in
+    let first : Actor = first_actor start (levels_of words).closed in
     let machines : map machine_of n.actors ≡ replicate actors (Protects protect.AtRest) = map_replicate machine_of actors first in
-    let below : (s : ℕ) → ((seen_of n.actors s).read_only ≤ start) × ((seen_of n.actors s).head ≤ start) = λ s. seen_first s (slice_get n.actors s) refl in
+    let below : (s : ℕ) → ((seen_of n.actors s).read_only ≤ start) × ((seen_of n.actors s).head ≤ (levels_of words).closed) = λ s. seen_first s (slice_get n.actors s) refl in
     let inside : (s : ℕ) (sight : Sight) → GoesBy n s sight → seen_of n.actors s ≡ first.seen = λ s sight c.
     ap seen_at (replicate_there actors s first (let h = c.is_session in let m = o.epochs.with_others in omega (arith, h, m))) in
     let closed = o.closed in
@@ -72,17 +73,17 @@ opening_sound shape places actors words start o =
       epochs = rw machines (epochs_runs.opening_sound places.sessions actors words o.epochs);
       guard = record {
         in_order = record {
-          closed_below = omega (arith, closed, head);
-          head_below = omega (arith, head, flushed);
+          closed_below = omega (arith, head);
+          head_below = omega (arith, closed, head, flushed);
           flushed_below = omega (arith, flushed, safe);
           safe_below = omega (arith, safe, read_only);
           read_only_below = omega (arith, read_only, tail);
           tail_below = let h = o.tail_below in omega (arith, tail, h);
         };
-        cover = let h = o.limit_below in omega (arith, closed, h);
+        cover = let h = o.limit_below in omega (arith, h);
         safe = record {
           read_only = λ s c. let e = ap (λ (y : LastSeen). y.read_only) (inside s OfReadOnly c) in omega (arith, e, safe);
-          head = λ s c. let e = ap (λ (y : LastSeen). y.head) (inside s OfHead c) in omega (arith, e, closed);
+          head = λ s c. let e = ap (λ (y : LastSeen). y.head) (inside s OfHead c) in omega (arith, e);
           read_only_below = λ s. let h = (below s).0 in omega (arith, h, read_only);
           head_below = λ s. let h = (below s).1 in omega (arith, h, head);
         };
@@ -95,10 +96,10 @@ opening_sound shape places actors words start o =
       knows = λ a x got. rw (replicate_item actors a first x got) tt;
     }
   where
-    seen_first : (s : ℕ) (found : Option Actor) → slice_get (replicate actors (first_actor start)) s ≡ found → ((seen_at found).read_only ≤ start) × ((seen_at found).head ≤ start)
+    seen_first : (s : ℕ) (found : Option Actor) → slice_get (replicate actors (first_actor start (levels_of words).closed)) s ≡ found → ((seen_at found).read_only ≤ start) × ((seen_at found).head ≤ (levels_of words).closed)
     seen_first s None got = (omega arith, omega arith)
     seen_first s (Some x) got =
-        let same = replicate_item actors s (first_actor start) x got in
+        let same = replicate_item actors s (first_actor start (levels_of words).closed) x got in
         let r = ap (λ (y : Actor). y.seen.read_only) same in
         let h = ap (λ (y : Actor). y.seen.head) same in
         (omega (arith, r), omega (arith, h))
@@ -106,9 +107,9 @@ opening_sound shape places actors words start o =
     absurd_undecided : {X : Type 0} (x : Actor) (addr : ℕ) → x.undecided ≡ None → x.undecided ≡ Some addr → X
     absurd_undecided {X} x addr e u = none_some {Y = X} addr (sym e ∙ u)
 
-    none_undecided : {X : Type 0} (s a : ℕ) (found : Option Actor) → slice_get (replicate actors (first_actor start)) s ≡ found → undecided_at found ≡ Some a → X
+    none_undecided : {X : Type 0} (s a : ℕ) (found : Option Actor) → slice_get (replicate actors (first_actor start (levels_of words).closed)) s ≡ found → undecided_at found ≡ Some a → X
     none_undecided {X} s a None got e = none_some {Y = X} a e
-    none_undecided {X} s a (Some x) got e = absurd_undecided x a (ap (λ (y : Actor). y.undecided) (replicate_item actors s (first_actor start) x got)) e
+    none_undecided {X} s a (Some x) got e = absurd_undecided x a (ap (λ (y : Actor). y.undecided) (replicate_item actors s (first_actor start (levels_of words).closed) x got)) e
 
     no_arming : {X : Type 0} (a slot c : ℕ) → slice_get (replicate actors (Protects protect.AtRest)) a ≡ Some (Arms (arm.StoresEpoch slot c)) → X
     no_arming {X} a slot c its = not_rest slot c (replicate_item actors a (Protects protect.AtRest) (Arms (arm.StoresEpoch slot c)) its)

@@ -8,6 +8,7 @@ use Rattle.fkv_plane.specs.declared.places.Places.{Places}
 use Rattle.fkv_plane.specs.declared.places.SessionWord.TheVariants as own
 use Rattle.fkv_plane.specs.Places.{session_place}
 use Rattle.fkv_epoch.proofs.Shown.{same_or, some_same}
+use Rattle.fkv_flush.specs.GuardLevels.{levels_of}
 use Rattle.fkv_flush.specs.declared.serving.Mail.{Mail}
 use Rattle.fkv_flush.specs.declared.serving.Serving.{Serving}
 use Rattle.fkv_flush.specs.declared.serving.Serving.TheVariants as serve
@@ -365,7 +366,7 @@ run_mail keeper first (event ∷ before) sound was kept =
 pub opening_mail : (keeper : ℕ) (shape : Shape) (places : Places) (actors : ℕ) (words : List ℕ) (start : ℕ) → AreEmpty places words → IsMailKept keeper [] (opening shape places actors words start).now
 opening_mail keeper shape places actors words start empty = record {
   ready = λ session few ready. let e = empty session few in absurd (omega (arith, e, ready));
-  rows = λ b y got. subst (λ (z : Actor). Row keeper [] (mailbox_of words) b z.work) (sym (replicate_item actors b (first_actor start) y got)) tt;
+  rows = λ b y got. subst (λ (z : Actor). Row keeper [] (mailbox_of words) b z.work) (sym (replicate_item actors b (first_actor start (levels_of words).closed) y got)) tt;
 }
 
 -- what an actor that serves finds

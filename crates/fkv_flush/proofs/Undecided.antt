@@ -154,11 +154,11 @@ run_apart w (event ∷ before) sound apart = happens_apart (guard_run w before) 
 
 -- nobody has reserved anything in a store that is just opened
 pub none_undecided : {X : Type 0} (shape : Shape) (places : Places) (actors : ℕ) (words : List ℕ) (start session addr : ℕ) → undecided_of (opening shape places actors words start).now.actors session ≡ Some addr → X
-none_undecided {X} shape places actors words start session addr = none (slice_get (replicate actors (first_actor start)) session) refl
+none_undecided {X} shape places actors words start session addr = none (slice_get (replicate actors (first_actor start (levels_of words).closed)) session) refl
   where
-    none : (found : Option Actor) → slice_get (replicate actors (first_actor start)) session ≡ found → undecided_at found ≡ Some addr → X
+    none : (found : Option Actor) → slice_get (replicate actors (first_actor start (levels_of words).closed)) session ≡ found → undecided_at found ≡ Some addr → X
     none None got u = cc
-    none (Some x) got u = let e = ap (λ (y : Actor). y.undecided) (replicate_item actors session (first_actor start) x got) in none_some {Y = X} addr (sym e ∙ u)
+    none (Some x) got u = let e = ap (λ (y : Actor). y.undecided) (replicate_item actors session (first_actor start (levels_of words).closed) x got) in none_some {Y = X} addr (sym e ∙ u)
 
 pub opening_apart : (shape : Shape) (places : Places) (actors : ℕ) (words : List ℕ) (start : ℕ) → UndecidedApart (opening shape places actors words start).now.actors
 opening_apart shape places actors words start session other addr mine others = none_undecided shape places actors words start session addr mine

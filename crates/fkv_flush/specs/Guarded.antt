@@ -50,30 +50,30 @@ pub record ArePlacesOf (shape : Shape) (places : Places) : Type 0 where
   pub sessions : places.sessions ≡ shape.sessions
   pub ring : places.ring ≡ shape.frames * shape.page
 
--- The store is just opened: all offsets but the limit stand where its records end. The pages up to the next after that are open, as far as the
--- device has them, and the frames hold what is below the limit.
+-- The store is just opened: all offsets but the limit stand where its records end, but for closed and head, which may lie below that: from there on the frames
+-- have records. The pages up to the next after the end are open, as far as the device has them, and the frames hold what is below the limit.
 pub record IsOpened (shape : Shape) (places : Places) (actors : ℕ) (words : List ℕ) (start : ℕ) : Type 0 where
   pub fits : ArePlacesOf shape places
   pub enough_words : word_count places ≤ length words
   pub epochs : epochs.IsOpened places.sessions actors words
-  pub closed : (levels_of words).closed ≡ start
-  pub head : (levels_of words).head ≡ start
+  pub closed : (levels_of words).closed ≤ start
+  pub head : (levels_of words).head ≡ (levels_of words).closed
   pub flushed : (levels_of words).flushed ≡ start
   pub safe_read_only : (levels_of words).safe_read_only ≡ start
   pub read_only : (levels_of words).read_only ≡ start
   pub tail : (levels_of words).tail ≡ start
   pub limit : (levels_of words).limit ≡ min (start / shape.page + 2) shape.disk_pages * shape.page
   pub tail_below : start ≤ (levels_of words).limit
-  pub limit_below : (levels_of words).limit ≤ start + places.ring
+  pub limit_below : (levels_of words).limit ≤ (levels_of words).closed + places.ring
 
--- an actor of a store that is just opened: at rest, and it has seen where the records end
-abbrev pub first_actor : ℕ → Actor
-first_actor start = record { machine = Protects protect.AtRest; work = Rests; seen = record { read_only = start; head = start }; undecided = None }
+-- an actor of a store that is just opened: at rest, and it has seen where the records end, and from where on the frames have them
+abbrev pub first_actor : ℕ → ℕ → Actor
+first_actor start closed = record { machine = Protects protect.AtRest; work = Rests; seen = record { read_only = start; head = closed }; undecided = None }
 
 -- its world
 abbrev pub opening : Shape → Places → ℕ → List ℕ → ℕ → GuardWorld
 opening shape places actors words start = record {
-  now = record { shape = shape; places = places; words = words; actions = replicate drain_slots None; actors = replicate actors (first_actor start) };
+  now = record { shape = shape; places = places; words = words; actions = replicate drain_slots None; actors = replicate actors (first_actor start (levels_of words).closed) };
   past = opening_past;
 }
 

@@ -2,7 +2,7 @@
 use crate::draws::Draws;
 use fkv_base::{CommitKind, Fault, Key, Value};
 use fkv_lines::Line;
-use fkv_map::{Call, Op};
+use fkv_map::{Call, Merge, Op};
 use std::alloc::Global;
 
 pub(crate) const SESSIONS: u64 = 4;
@@ -28,6 +28,17 @@ pub(crate) fn lines_of(alloc: Global, draws: &mut Draws) -> Result<Vec<Line>, Fa
     Ok(lines)
 }
 
+fn merge_of(draws: &mut Draws) -> Merge {
+    match draws.below(6) {
+        0 => Merge::Keep,
+        1 => Merge::Min,
+        2 => Merge::Sub,
+        3 => Merge::And,
+        4 => Merge::Or,
+        _ => Merge::First,
+    }
+}
+
 fn call_of(draws: &mut Draws, session: u64) -> Call {
     match draws.below(20) {
         0 => Call::Refresh,
@@ -45,12 +56,13 @@ fn op_of(draws: &mut Draws, session: u64) -> Op {
             .saturating_mul(SESSIONS)
             .saturating_add(session),
     );
-    match draws.below(7) {
+    match draws.below(9) {
         0 => Op::Read(own),
         1 => Op::Delete(own),
         2 => Op::Upsert(own, Value(draws.below(1000))),
         3 => Op::Max(own, draws.below(1000)),
         4 => Op::Add(own, draws.below(1000)),
+        5 | 6 => Op::Merge(own, merge_of(draws), draws.below(1000)),
         _ => Op::Add(Key(draws.below(4).saturating_add(1000)), draws.below(1000)),
     }
 }

@@ -16,6 +16,7 @@ laid_op keys (op.Delete key) = op.Delete (laid_key keys key)
 laid_op keys (op.Add key number) = op.Add (laid_key keys key) number
 laid_op keys (op.Max key number) = op.Max (laid_key keys key) number
 laid_op keys (op.Read key) = op.Read (laid_key keys key)
+laid_op keys (op.Merge key which number) = op.Merge (laid_key keys key) which number
 
 abbrev pub laid_call : Keys → Call → Call
 laid_call keys (call.Op op) = call.Op (laid_op keys op)

@@ -27,6 +27,7 @@ fn laid(keys: Keys, op: Op) -> Op
         Op::Delete(key) => Op::Delete(keys.laid(key)),
         Op::Add(key, number) => Op::Add(keys.laid(key), number),
         Op::Max(key, number) => Op::Max(keys.laid(key), number),
+        Op::Merge(key, merge, number) => Op::Merge(keys.laid(key), merge, number),
         Op::Read(key) => Op::Read(keys.laid(key)),
     }
 }

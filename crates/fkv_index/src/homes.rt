@@ -15,6 +15,7 @@ pub struct Home {
 }
 
 /// The home of the key where the index has 2^bits buckets.
+#[inline(always)]
 pub fn home_of(key: Key, bits: u64) -> Home
     ensures home { result ≡ home_of bits key }
     ensures bucket { result.bucket ≡ bucket_of key bits }

@@ -31,7 +31,7 @@ unopened front read = read >>= λ text. Ok (record { opening = text.opening; lin
 -- what was read, and what the lines from this number on say
 abbrev pub continued : Mode → Option Opening → List Line → ℕ → List (List ℕ) → Result ScriptText LineFault
 continued mode None front number lines = unopened front (script_from mode number lines)
-continued mode (Some opening) front number lines = with_front opening front (lines_from mode number lines)
+continued mode (Some opening) front number lines = with_front opening front (lines_from mode opening number lines)
 
 abbrev faulty : ℕ → ScriptFault → Result ScriptText LineFault
 faulty number kind = Err (record { line = number; kind = kind })
@@ -91,19 +91,19 @@ pub read_opening : (mode : Mode) (front : List Line) (number : ℕ) (line : List
     → says_nothing line ≡ false → opening_line mode (words_of line) ≡ Ok opening → continued mode None front number (line ∷ lines) ≡ total → continued mode (Some opening) front (number + 1) lines ≡ total
 unfolding script_from
 read_opening mode front number line lines opening total small something read so_far =
-    let one : continued mode None front number (line ∷ lines) ≡ continued mode (Some opening) front (number + 1) lines = rw (small, something, read) (opened front opening (lines_from mode (number + 1) lines)) in
+    let one : continued mode None front number (line ∷ lines) ≡ continued mode (Some opening) front (number + 1) lines = rw (small, something, read) (opened front opening (lines_from mode opening (number + 1) lines)) in
     sym one ∙ so_far
 
 pub faulty_later : (mode : Mode) (opening : Opening) (front : List Line) (number : ℕ) (line : List ℕ) (lines : List (List ℕ)) (kind : ScriptFault) (total : Result ScriptText LineFault) → is_oversized number line ≡ false
-    → says_nothing line ≡ false → later_line mode (words_of line) ≡ Err kind → continued mode (Some opening) front number (line ∷ lines) ≡ total → total ≡ faulty number kind
+    → says_nothing line ≡ false → later_line mode opening (words_of line) ≡ Err kind → continued mode (Some opening) front number (line ∷ lines) ≡ total → total ≡ faulty number kind
 unfolding lines_from
 faulty_later mode opening front number line lines kind total small something read so_far = sym so_far ∙ rw (small, something, read) refl
 
 pub read_later : (mode : Mode) (opening : Opening) (front : List Line) (number : ℕ) (line : List ℕ) (lines : List (List ℕ)) (said : Line) (total : Result ScriptText LineFault) → is_oversized number line ≡ false
-    → says_nothing line ≡ false → later_line mode (words_of line) ≡ Ok said → continued mode (Some opening) front number (line ∷ lines) ≡ total → continued mode (Some opening) (front ++ said ∷ []) (number + 1) lines ≡ total
+    → says_nothing line ≡ false → later_line mode opening (words_of line) ≡ Ok said → continued mode (Some opening) front number (line ∷ lines) ≡ total → continued mode (Some opening) (front ++ said ∷ []) (number + 1) lines ≡ total
 unfolding lines_from
 read_later mode opening front number line lines said total small something read so_far =
-    let one : continued mode (Some opening) front number (line ∷ lines) ≡ continued mode (Some opening) (front ++ said ∷ []) (number + 1) lines = rw (small, something, read) (regroup opening front said (lines_from mode (number + 1) lines)) in
+    let one : continued mode (Some opening) front number (line ∷ lines) ≡ continued mode (Some opening) (front ++ said ∷ []) (number + 1) lines = rw (small, something, read) (regroup opening front said (lines_from mode opening (number + 1) lines)) in
     sym one ∙ so_far
 
 pub last_line : (mode : Mode) (opening : Option Opening) (front : List Line) (number : ℕ) (total : Result ScriptText LineFault) → continued mode opening front number [] ≡ total → total ≡ Ok (record { opening = opening; lines = front })

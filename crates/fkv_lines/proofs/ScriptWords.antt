@@ -13,7 +13,8 @@ use Rattle.fkv_base.specs.declared.commits.CommitKind.TheVariants.{Full, Log}
 use Rattle.fkv_map.specs.declared.operations.Call.{Call}
 use Rattle.fkv_map.specs.declared.operations.Call.TheVariants as call
 use Rattle.fkv_map.specs.declared.operations.Op.{Op}
-use Rattle.fkv_map.specs.declared.operations.Op.TheVariants.{Upsert, Delete, Add, Max, Read}
+use Rattle.fkv_map.specs.declared.operations.Op.TheVariants.{Upsert, Delete, Add, Max, Read, Merge}
+use Rattle.fkv_map.specs.declared.merges.Merge.TheVariants.{Keep, Min, Sub, And, Or, First}
 use Rattle.fkv_lines.specs.declared.scripts.Line.{Line}
 use Rattle.fkv_lines.specs.declared.scripts.Line.TheVariants as line
 use Rattle.fkv_lines.specs.declared.scripts.Mode.{Mode}
@@ -25,7 +26,7 @@ use Rattle.fkv_lines.specs.declared.scripts.Opening.TheVariants.{Shape, Open}
 use Rattle.fkv_lines.specs.declared.scripts.Sizes.{Sizes}
 use Rattle.fkv_lines.specs.Words.{words_of, says_nothing, is_oversized}
 use Rattle.fkv_lines.specs.Numbers.{◌>>=◌, number_of, numbers_of, arguments_of}
-use Rattle.fkv_lines.specs.Calls.{alone, key_in, operation_of, call_of}
+use Rattle.fkv_lines.specs.Calls.{alone, key_in, takes_merges, merge_of, operation_of, call_of}
 use Rattle.fkv_lines.specs.Lines.{sizes_of, is_opening, shape_line, open_line, opening_line, session_line, commit_line, keeper_line, device_call, crash_line, fail_line, in_memory, later_line}
 use Rattle.fkv_lines.specs.Script.{ScriptText, at_line, lines_from, script_from, script_of}
 use Rattle.fkv_map.proofs.Shown.{IsWord}
@@ -37,6 +38,7 @@ IsKeyWord (Delete key) = key.0 < 2 ^ 64
 IsKeyWord (Add key n) = key.0 < 2 ^ 64
 IsKeyWord (Max key n) = key.0 < 2 ^ 64
 IsKeyWord (Read key) = key.0 < 2 ^ 64
+IsKeyWord (Merge key which n) = key.0 < 2 ^ 64
 
 -- an operation whose numbers are words
 pub record IsOfWords (op : Op) : Type 0 where
@@ -131,35 +133,46 @@ alone_words P words only said fits e =
     by_if (length words == 0) (Ok only) (Err fault.Count) said (λ is. subst P (ok_is only said is) fits) (no_err fault.Count said) e
 
 -- ---- calls
-operation_words : (verb : List ℕ) (words : List (List ℕ)) (op : Op) → operation_of verb words ≡ Ok op → IsOfWords op
+merge_words : (verb : List ℕ) (words : List (List ℕ)) (op : Op) → merge_of verb words ≡ Ok op → IsOfWords op
+unfolding merge_of
+merge_words verb words op e =
+    by_if (bytes_eq verb (codes "keep")) _ _ op (made IsOfWords 1 words (λ n. Merge (key_in n) Keep 0) op (λ ns small. record { word = omega arith; its_key = small 0 }))
+    (by_if (bytes_eq verb (codes "min")) _ _ op (made IsOfWords 2 words (λ n. Merge (key_in n) Min (slice_index n 1)) op (λ ns small. record { word = small 1; its_key = small 0 }))
+    (by_if (bytes_eq verb (codes "sub")) _ _ op (made IsOfWords 2 words (λ n. Merge (key_in n) Sub (slice_index n 1)) op (λ ns small. record { word = small 1; its_key = small 0 }))
+    (by_if (bytes_eq verb (codes "and")) _ _ op (made IsOfWords 2 words (λ n. Merge (key_in n) And (slice_index n 1)) op (λ ns small. record { word = small 1; its_key = small 0 }))
+    (by_if (bytes_eq verb (codes "or")) _ _ op (made IsOfWords 2 words (λ n. Merge (key_in n) Or (slice_index n 1)) op (λ ns small. record { word = small 1; its_key = small 0 }))
+    (by_if (bytes_eq verb (codes "first")) _ _ op (made IsOfWords 2 words (λ n. Merge (key_in n) First (slice_index n 1)) op (λ ns small. record { word = small 1; its_key = small 0 }))
+    (no_err fault.Word op)))))) e
+
+operation_words : (opening : Opening) (verb : List ℕ) (words : List (List ℕ)) (op : Op) → operation_of opening verb words ≡ Ok op → IsOfWords op
 unfolding operation_of
-operation_words verb words op e =
+operation_words opening verb words op e =
     by_if (bytes_eq verb (codes "up")) _ _ op (made IsOfWords 2 words (λ n. Upsert (key_in n) (record { 0 = slice_index n 1 })) op (λ ns small. record { word = small 1; its_key = small 0 }))
     (by_if (bytes_eq verb (codes "add")) _ _ op (made IsOfWords 2 words (λ n. Add (key_in n) (slice_index n 1)) op (λ ns small. record { word = small 1; its_key = small 0 }))
     (by_if (bytes_eq verb (codes "max")) _ _ op (made IsOfWords 2 words (λ n. Max (key_in n) (slice_index n 1)) op (λ ns small. record { word = small 1; its_key = small 0 }))
     (by_if (bytes_eq verb (codes "del")) _ _ op (made IsOfWords 1 words (λ n. Delete (key_in n)) op (λ ns small. record { word = tt; its_key = small 0 }))
     (by_if (bytes_eq verb (codes "get")) _ _ op (made IsOfWords 1 words (λ n. Read (key_in n)) op (λ ns small. record { word = tt; its_key = small 0 }))
-    (no_err fault.Word op))))) e
+    (by_if (takes_merges opening) _ _ op (merge_words verb words op) (no_err fault.Word op)))))) e
 
-call_words : (verb : List ℕ) (words : List (List ℕ)) (its : Call) → call_of verb words ≡ Ok its → IsCallOfWords its
+call_words : (opening : Opening) (verb : List ℕ) (words : List (List ℕ)) (its : Call) → call_of opening verb words ≡ Ok its → IsCallOfWords its
 unfolding call_of
-call_words verb words its e =
+call_words opening verb words its e =
     by_if (bytes_eq verb (codes "refresh")) _ _ its (alone_words IsCallOfWords words call.Refresh its tt)
     (by_if (bytes_eq verb (codes "poll")) _ _ its (alone_words IsCallOfWords words call.Poll its tt)
     (by_if (bytes_eq verb (codes "sleep")) _ _ its (alone_words IsCallOfWords words call.Sleep its tt)
     (by_if (bytes_eq verb (codes "wake")) _ _ its (alone_words IsCallOfWords words call.Wake its tt)
     (λ is.
-    let op = bound (operation_of verb words) (λ op. Ok (call.Op op)) its is in
-    subst IsCallOfWords (ok_is (call.Op op.0) its op.2) (operation_words verb words op.0 op.1))))) e
+    let op = bound (operation_of opening verb words) (λ op. Ok (call.Op op)) its is in
+    subst IsCallOfWords (ok_is (call.Op op.0) its op.2) (operation_words opening verb words op.0 op.1))))) e
 
 -- ---- lines
-session_words : (session : List ℕ) (words : List (List ℕ)) (said : Line) → session_line session words ≡ Ok said → IsLineOfWords said
+session_words : (opening : Opening) (session : List ℕ) (words : List (List ℕ)) (said : Line) → session_line opening session words ≡ Ok said → IsLineOfWords said
 unfolding session_line
-session_words session [] said e = no_err fault.Count said e
-session_words session (verb ∷ words) said e =
-    let its = bound (call_of verb words) (λ its. number_of session >>= λ n. Ok (line.Call n its)) said e in
+session_words opening session [] said e = no_err fault.Count said e
+session_words opening session (verb ∷ words) said e =
+    let its = bound (call_of opening verb words) (λ its. number_of session >>= λ n. Ok (line.Call n its)) said e in
     let n = bound (number_of session) (λ n. Ok (line.Call n its.0)) said its.2 in
-    subst IsLineOfWords (ok_is (line.Call n.0 its.0) said n.2) (number_small session n.0 n.1, call_words verb words its.0 its.1)
+    subst IsLineOfWords (ok_is (line.Call n.0 its.0) said n.2) (number_small session n.0 n.1, call_words opening verb words its.0 its.1)
 
 commit_words : (words : List (List ℕ)) (said : Line) → commit_line words ≡ Ok said → IsLineOfWords said
 unfolding commit_line
@@ -195,32 +208,32 @@ unfolding in_memory
 memory_words Memory made said fits e = subst IsLineOfWords (ok_is made said e) fits
 memory_words File made said fits e = no_err fault.Mode said e
 
-later_words : (mode : Mode) (words : List (List ℕ)) (said : Line) → later_line mode words ≡ Ok said → IsLineOfWords said
+later_words : (mode : Mode) (opening : Opening) (words : List (List ℕ)) (said : Line) → later_line mode opening words ≡ Ok said → IsLineOfWords said
 unfolding later_line
-later_words mode [] said e = no_err fault.Word said e
-later_words mode (head ∷ words) said e =
+later_words mode opening [] said e = no_err fault.Word said e
+later_words mode opening (head ∷ words) said e =
     by_if (is_opening head) _ _ said (no_err fault.Order said)
     (by_if (bytes_eq head (codes "crash")) _ _ said (λ is. let crash = bound (crash_line words) (λ made. in_memory mode made) said is in memory_words mode crash.0 said (crash_words words crash.0 crash.1) crash.2)
     (by_if (bytes_eq head (codes "fail")) _ _ said (λ is. let fails = bound (fail_line words) (λ made. in_memory mode made) said is in memory_words mode fails.0 said (fail_words words fails.0 fails.1) fails.2)
     (by_if (bytes_eq head (codes "k")) _ _ said (keeper_words words said)
-    (by_if (is_ascii_digit (slice_index head 0)) _ _ said (session_words head words said) (no_err fault.Word said))))) e
+    (by_if (is_ascii_digit (slice_index head 0)) _ _ said (session_words opening head words said) (no_err fault.Word said))))) e
 
 at_line_is : {A : Type 0} (number : ℕ) (r : Result A ScriptFault) (v : A) → at_line number r ≡ Ok v → r ≡ Ok v
 at_line_is number (Ok x) v e = ap Ok (ok_is x v e)
 at_line_is number (Err kind) v e = absurd (cc)
 
-lines_words : (mode : Mode) (number : ℕ) (lines : List (List ℕ)) (all : List Line) → lines_from mode number lines ≡ Ok all → All IsLineOfWords all
+lines_words : (mode : Mode) (opening : Opening) (number : ℕ) (lines : List (List ℕ)) (all : List Line) → lines_from mode opening number lines ≡ Ok all → All IsLineOfWords all
 unfolding lines_from
-lines_words mode number [] all e = subst (λ ls. All IsLineOfWords ls) (ok_is [] all e) (All-nil IsLineOfWords)
-lines_words mode number (one ∷ lines) all e =
+lines_words mode opening number [] all e = subst (λ ls. All IsLineOfWords ls) (ok_is [] all e) (All-nil IsLineOfWords)
+lines_words mode opening number (one ∷ lines) all e =
     by_if (is_oversized number one) _ _ all (no_err _ all)
-    (by_if (says_nothing one) _ _ all (lines_words mode (number + 1) lines all)
+    (by_if (says_nothing one) _ _ all (lines_words mode opening (number + 1) lines all)
     (λ is.
-    let said = bound (at_line number (later_line mode (words_of one))) (λ said. lines_from mode (number + 1) lines >>= λ rest. Ok (said ∷ rest)) all is in
-    let rest = bound (lines_from mode (number + 1) lines) (λ rest. Ok (said.0 ∷ rest)) all said.2 in
+    let said = bound (at_line number (later_line mode opening (words_of one))) (λ said. lines_from mode opening (number + 1) lines >>= λ rest. Ok (said ∷ rest)) all is in
+    let rest = bound (lines_from mode opening (number + 1) lines) (λ rest. Ok (said.0 ∷ rest)) all said.2 in
     subst (λ ls. All IsLineOfWords ls) (ok_is (said.0 ∷ rest.0) all rest.2)
-    (All-cons IsLineOfWords said.0 rest.0 (later_words mode (words_of one) said.0 (at_line_is number (later_line mode (words_of one)) said.0 said.1))
-    (lines_words mode (number + 1) lines rest.0 rest.1)))) e
+    (All-cons IsLineOfWords said.0 rest.0 (later_words mode opening (words_of one) said.0 (at_line_is number (later_line mode opening (words_of one)) said.0 said.1))
+    (lines_words mode opening (number + 1) lines rest.0 rest.1)))) e
 
 -- ---- the line that opens the store
 open_words : (mode : Mode) (words : List (List ℕ)) (opening : Opening) → open_line mode words ≡ Ok opening → IsOpeningOfWords opening
@@ -256,11 +269,11 @@ from_words mode number (one ∷ lines) script e =
     by_if (is_oversized number one) _ _ script (no_err _ script)
     (by_if (says_nothing one) _ _ script (from_words mode (number + 1) lines script)
     (λ is.
-    let opening = bound (at_line number (opening_line mode (words_of one))) (λ opening. lines_from mode (number + 1) lines >>= λ rest. Ok (record { opening = Some opening; lines = rest })) script is in
-    let rest = bound (lines_from mode (number + 1) lines) (λ rest. Ok (record { opening = Some opening.0; lines = rest })) script opening.2 in
+    let opening = bound (at_line number (opening_line mode (words_of one))) (λ opening. lines_from mode opening (number + 1) lines >>= λ rest. Ok (record { opening = Some opening; lines = rest })) script is in
+    let rest = bound (lines_from mode opening.0 (number + 1) lines) (λ rest. Ok (record { opening = Some opening.0; lines = rest })) script opening.2 in
     subst IsScriptOfWords (ok_is (record { opening = Some opening.0; lines = rest.0 }) script rest.2) (record {
       opening = opening_words mode (words_of one) opening.0 (at_line_is number (opening_line mode (words_of one)) opening.0 opening.1);
-      lines = lines_words mode (number + 1) lines rest.0 rest.1;
+      lines = lines_words mode opening.0 (number + 1) lines rest.0 rest.1;
     }))) e
 
 pub script_words : (mode : Mode) (bytes : List ℕ) (script : ScriptText) → script_of mode bytes ≡ Ok script → IsScriptOfWords script

@@ -48,10 +48,10 @@ opening_line mode (head ∷ words) =
 -- ---- later lines
 
 -- a call, behind the number of its session
-unfoldable pub session_line : List ℕ → List (List ℕ) → Result Line ScriptFault
-session_line session [] = Err fault.Count
-session_line session (verb ∷ words) = do
-  call ← call_of verb words
+unfoldable pub session_line : Opening → List ℕ → List (List ℕ) → Result Line ScriptFault
+session_line opening session [] = Err fault.Count
+session_line opening session (verb ∷ words) = do
+  call ← call_of opening verb words
   n ← number_of session
   Ok (Call n call)
 
@@ -91,12 +91,12 @@ in_memory Memory line = Ok line
 in_memory File line = Err fault.Mode
 
 -- a later line is a `crash` or a `fail`, the keeper's behind `k`, or a session's, whose first word begins with a digit
-unfoldable pub later_line : Mode → List (List ℕ) → Result Line ScriptFault
-later_line mode [] = Err fault.Word
-later_line mode (head ∷ words) =
+unfoldable pub later_line : Mode → Opening → List (List ℕ) → Result Line ScriptFault
+later_line mode opening [] = Err fault.Word
+later_line mode opening (head ∷ words) =
     if is_opening head then Err fault.Order
     else if bytes_eq head (codes "crash") then (crash_line words >>= λ line. in_memory mode line)
     else if bytes_eq head (codes "fail") then (fail_line words >>= λ line. in_memory mode line)
     else if bytes_eq head (codes "k") then keeper_line words
-    else if is_ascii_digit (slice_index head 0) then session_line head words
+    else if is_ascii_digit (slice_index head 0) then session_line opening head words
     else Err fault.Word

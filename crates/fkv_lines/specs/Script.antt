@@ -24,15 +24,15 @@ abbrev pub at_line : {A : Type 0} → ℕ → Result A ScriptFault → Result A 
 at_line number (Ok x) = Ok x
 at_line number (Err kind) = Err (record { line = number; kind = kind })
 
--- what the lines from this number on say, behind the line that opens the store
-unfoldable pub lines_from : Mode → ℕ → List (List ℕ) → Result (List Line) LineFault
-lines_from mode number [] = Ok []
-lines_from mode number (line ∷ lines) =
+-- what the lines from this number on say, behind this line that opens the store
+unfoldable pub lines_from : Mode → Opening → ℕ → List (List ℕ) → Result (List Line) LineFault
+lines_from mode opening number [] = Ok []
+lines_from mode opening number (line ∷ lines) =
     if is_oversized number line then Err (record { line = number; kind = Size })
-    else if says_nothing line then lines_from mode (number + 1) lines
+    else if says_nothing line then lines_from mode opening (number + 1) lines
     else (do
-      said ← at_line number (later_line mode (words_of line))
-      rest ← lines_from mode (number + 1) lines
+      said ← at_line number (later_line mode opening (words_of line))
+      rest ← lines_from mode opening (number + 1) lines
       Ok (said ∷ rest))
 
 -- the same from the script's beginning, whose first line that says something opens the store
@@ -43,7 +43,7 @@ script_from mode number (line ∷ lines) =
     else if says_nothing line then script_from mode (number + 1) lines
     else (do
       opening ← at_line number (opening_line mode (words_of line))
-      rest ← lines_from mode (number + 1) lines
+      rest ← lines_from mode opening (number + 1) lines
       Ok (record { opening = Some opening; lines = rest }))
 
 -- what a script says to a store that lies where the mode says, or its first faulty line

@@ -39,9 +39,9 @@ pub fn script_of(alloc: Global, bytes: &[u8], mode: Mode) -> Result<Script, Faul
         }
         match script.opening {
             None => script.opening = Some(at_line(number, opening_line(mode, &words))?),
-            Some(_) => script
+            Some(opening) => script
                 .lines
-                .push(at_line(number, later_line(mode, &words))?)?,
+                .push(at_line(number, later_line(mode, opening, &words))?)?,
         }
     }
     Ok(script)

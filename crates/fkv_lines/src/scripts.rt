@@ -1,4 +1,7 @@
 //! Scripts as they are read: the line that opens the store, and the lines after it.
+ghost use Rattle.std.specs.Prelude.{◌≡◌};
+ghost use Rattle.fkv_lines.specs.Calls.{takes_merges};
+
 use fkv_base::CommitKind;
 use fkv_map::Call;
 
@@ -42,11 +45,24 @@ pub enum Opening {
     Open,
 }
 
+impl Opening {
+    /// Whether the lines behind this one may be merges: those behind a `large` line alone may.
+    pub(crate) fn takes_merges(self) -> bool
+        ensures { result ≡ takes_merges self }
+    {
+        match self {
+            Opening::Shape(sizes) => matches!(sizes.class, Class::Large),
+            Opening::Open => false,
+        }
+    }
+}
+
 /// A line of a script after the one that opens the store.
 #[derive(Clone, Copy, Debug, PartialEq, Eq)]
 pub enum Line {
     /// A session's number and its call: `N up K V`, `N add K V`, `N max K V`, `N del K`, `N get K`, `N refresh`, `N poll`,
-    /// `N sleep` or `N wake`; the shape may have no session of this number, and a value may be a reserved one.
+    /// `N sleep` or `N wake`; behind a `large` line also `N keep K`, `N min K V`, `N sub K V`, `N and K V`, `N or K V` and
+    /// `N first K V`. The shape may have no session of this number, and a value may be a reserved one.
     Call(u64, Call),
     /// `k commit`, or `k commit log`.
     Commit(CommitKind),

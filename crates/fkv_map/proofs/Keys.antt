@@ -7,11 +7,13 @@ use Rattle.std.proofs.lemmas.Bool.{cond-true}
 use Rattle.std.proofs.lemmas.Bool.Decides.{nat_tests}
 use Rattle.std.proofs.lemmas.Cmp.{nat_cmp_total}
 use Rattle.std.proofs.lemmas.List.Elements.{filter-append}
+use Rattle.fkv_base.specs.declared.numbers.Key.{Key}
 use Rattle.fkv_base.specs.declared.numbers.Serial.{Serial}
 use Rattle.fkv_map.specs.declared.operations.Op.{Op}
-use Rattle.fkv_map.specs.declared.operations.Op.TheVariants.{Upsert, Delete, Add, Max, Read}
+use Rattle.fkv_map.specs.declared.operations.Op.TheVariants.{Upsert, Delete, Add, Max, Read, Merge}
+use Rattle.fkv_map.specs.declared.merges.Merge.TheVariants.{Keep}
 use Rattle.fkv_map.specs.declared.history.HistoryEntry.{HistoryEntry}
-use Rattle.fkv_map.specs.Map.{Map, applied, reply_to, sum_with, greater_with}
+use Rattle.fkv_map.specs.Map.{Map, applied, reply_to, sum_with, greater_with, with_value, merged}
 use Rattle.fkv_map.specs.Keys.{key_of, value_applied, reply_from, is_on, entries_of, value_after, AreLegal}
 use Rattle.fkv_map.specs.History.{content, IsLegal, kept, is_kept}
 use Rattle.fkv_map.proofs.KeptEntries.{filter_swap, firsts_by_test}
@@ -41,6 +43,19 @@ put_at m k q f =
       | false ↦ λ is. refl
     ] refl
 
+-- what a merge made of the key's own value
+merge_at : (m : Map) (k q : ℕ) (f : Option ℕ → Option ℕ) → get (with_value m k (f (get m k))) q ≡ cond (nat_eq k q) (f (get m q)) (get m q)
+merge_at m k q f =
+    got (f (get m k))
+    ∙ elim (nat_eq k q) as (λ b. nat_eq k q ≡ b → cond b (f (get m k)) (get m q) ≡ cond b (f (get m q)) (get m q)) [
+      | true ↦ λ is. ap (λ n. f (get m n)) (its_key k q is)
+      | false ↦ λ is. refl
+    ] refl
+  where
+    got : (new : Option ℕ) → get (with_value m k new) q ≡ cond (nat_eq k q) new (get m q)
+    got None = get-remove nat_cmp_total m k q ∙ ap (λ b. cond b None (get m q)) (same_test k q)
+    got (Some v) = get-insert nat_cmp_total m k v q ∙ ap (λ b. cond b (Some v) (get m q)) (same_test k q)
+
 -- an operation changes the value of its own key alone
 pub get-applied : (m : Map) (op : Op) (key : ℕ) → get (applied m op) key ≡ cond (nat_eq (key_of op).0 key) (value_applied (get m key) op) (get m key)
 get-applied m (Upsert k value) key = put_at m k.0 key (λ old. value.0)
@@ -48,6 +63,11 @@ get-applied m (Delete k) key = get-remove nat_cmp_total m k.0 key ∙ ap (λ b. 
 get-applied m (Add k n) key = put_at m k.0 key (λ old. sum_with old n)
 get-applied m (Max k n) key = put_at m k.0 key (λ old. greater_with old n)
 get-applied m (Read k) key = sym (no_change (nat_eq k.0 key) (get m key))
+get-applied m (Merge k which n) key = merge_at m k.0 key (λ old. merged which old n)
+
+-- a Keep changes nothing
+pub keep_leaves : (m : Map) (k : Key) (n : ℕ) → applied m (Merge k Keep n) ≡ m
+keep_leaves m k n = same_map nat_cmp_total nat_cmp-IsAntisymmetric _ _ (λ q. get-applied m (Merge k Keep n) q ∙ no_change (nat_eq k.0 q) (get m q))
 
 -- an operation is replied to from the value of its key
 pub reply_to_is : (m : Map) (op : Op) → reply_to m op ≡ reply_from (get m (key_of op).0) op
@@ -56,6 +76,7 @@ reply_to_is m (Delete k) = refl
 reply_to_is m (Add k n) = refl
 reply_to_is m (Max k n) = refl
 reply_to_is m (Read k) = refl
+reply_to_is m (Merge k which n) = refl
 
 -- ---- the entries on a key
 pub entries_of-append : (key : ℕ) (earlier later : List HistoryEntry) → entries_of key (earlier ++ later) ≡ entries_of key earlier ++ entries_of key later

@@ -1,13 +1,20 @@
 -- The values that a history leaves.
-use Rattle.std.proofs.Common.{ℕ, ◌≤◌, ◌<◌, ◌≢◌, Bool, true, false, cond, List, [], ◌∷◌, ◌++◌, Option, Some, None, IfSome, All, suc, ◌^◌, refl, arith}
+use Rattle.std.proofs.Common.{◌≡◌, ◌&&◌, IsTrue, ℕ, ◌-◌, min, ◌≤◌, ◌<◌, ◌≢◌, Bool, true, false, cond, List, [], ◌∷◌, ◌++◌, Option, Some, None, IfSome, All, suc, ◌^◌, refl, arith}
+use Rattle.std.specs.Prelude.{◌==◌}
+use Rattle.std.proofs.lemmas.Bool.Decides.{nat_tests}
 use Rattle.std.specs.FinMap.{get, empty, insert, remove, get-empty, get-insert, get-remove}
 use Rattle.std.proofs.lemmas.List.Elements.{All-head, All-tail, All-nil, All-cons, All-push, All-contains}
 use Rattle.std.specs.Ordering.{nat_cmp, eq_by_cmp}
 use Rattle.std.proofs.lemmas.Cmp.{nat_cmp_total}
+use Rattle.std.specs.Int.Bits.{bit_and, bit_or}
+use Rattle.std.proofs.Math.Nat.{min-le_right}
+use Rattle.fkv_map.specs.Fits.{NumberFits}
 use Rattle.fkv_map.specs.declared.operations.Op.{Op}
-use Rattle.fkv_map.specs.declared.operations.Op.TheVariants.{Upsert, Delete, Add, Max, Read}
+use Rattle.fkv_map.specs.declared.operations.Op.TheVariants.{Upsert, Delete, Add, Max, Read, Merge}
+use Rattle.fkv_map.specs.declared.merges.Merge.{Merge as Kind}
+use Rattle.fkv_map.specs.declared.merges.Merge.TheVariants.{Keep, Min, Sub, And, Or, First}
 use Rattle.fkv_map.specs.declared.history.HistoryEntry.{HistoryEntry}
-use Rattle.fkv_map.specs.Map.{Map, applied, sum_with, greater_with, IsReserved, greatest_value, absent_word}
+use Rattle.fkv_map.specs.Map.{Map, applied, sum_with, greater_with, with_value, merged, takes_number, IsReserved, is_reserved, greatest_value, absent_word}
 use Rattle.fkv_map.specs.History.{content, kept, HasReserved}
 use Rattle.fkv_map.proofs.KeptEntries.{All-kept}
 use Rattle.fkv_base.specs.declared.numbers.Serial.{Serial}
@@ -19,6 +26,7 @@ IsWithin (Delete key) = Unit {0}
 IsWithin (Add key n) = n ≤ greatest_value
 IsWithin (Max key n) = n ≤ greatest_value
 IsWithin (Read key) = Unit {0}
+IsWithin (Merge key which n) = IsTrue (takes_number which) → n ≤ greatest_value
 
 -- the operation's value is a word of 64 bits, as every value of a program is
 abbrev pub IsWord : Op → Type 0
@@ -27,6 +35,7 @@ IsWord (Delete key) = Unit {0}
 IsWord (Add key n) = n < 2 ^ 64
 IsWord (Max key n) = n < 2 ^ 64
 IsWord (Read key) = Unit {0}
+IsWord (Merge key which n) = n < 2 ^ 64
 
 module _ (P : ℕ → Type 0) where
   -- P holds of each value of the map
@@ -50,6 +59,28 @@ module _ (P : ℕ → Type 0) where
   pub AllValues-remove : (m : Map) (key : ℕ) → AllValues m → AllValues (remove m key)
   AllValues-remove m key old q = rw (get-remove nat_cmp_total m key q) (holds_of_cond_none (eq_by_cmp nat_cmp q key) (get m q) (old q))
 
+module _ (P : ℕ → Type 0) where
+  -- P of what there is and of the number that is looked at, and of what is at most the greatest value, is P of what a merge leaves
+  abbrev pub AreMerged : Type 0
+  AreMerged = (which : Kind) (old : Option ℕ) (n : ℕ) → IfSome old P → (IsTrue (takes_number which) → P n) → IfSome (merged which old n) P
+
+  merged_keeps : ((v : ℕ) → v ≤ greatest_value → P v) → ((v n : ℕ) → P v → P n → P (min v n)) → AreMerged
+  merged_keeps low least Keep old n was new = was
+  merged_keeps low least Min None n was new = new refl
+  merged_keeps low least Min (Some v) n was new = least v n was (new refl)
+  merged_keeps low least Sub None n was new = low 0 (omega arith)
+  merged_keeps low least Sub (Some v) n was new = low _ (min-le_right (v - n) greatest_value)
+  merged_keeps low least And None n was new = low 0 (omega arith)
+  merged_keeps low least And (Some v) n was new = low _ (min-le_right (bit_and v n) greatest_value)
+  merged_keeps low least Or None n was new = new refl
+  merged_keeps low least Or (Some v) n was new = low _ (min-le_right (bit_or v n) greatest_value)
+  merged_keeps low least First None n was new = new refl
+  merged_keeps low least First (Some v) n was new = was
+
+  put_values : (m : Map) (key : ℕ) → AllValues P m → (new : Option ℕ) → IfSome new P → AllValues P (with_value m key new)
+  put_values m key old None new = AllValues-remove P m key old
+  put_values m key old (Some v) new = AllValues-insert P m key v old new
+
 -- ---- no value is the word that stands for none
 abbrev pub IsValue : ℕ → Type 0
 IsValue v = v ≢ absent_word
@@ -62,12 +93,20 @@ greater_is_value : (old : Option ℕ) (n : ℕ) → IfSome old IsValue → IsVal
 greater_is_value None n old new = new
 greater_is_value (Some v) n old new = λ same. grind (arith, old, new)
 
+-- a merge leaves no word that stands for none, where neither what there was nor its number is one
+pub merged_is_value : AreMerged IsValue
+merged_is_value = merged_keeps IsValue (λ v low same. omega (arith, low, same)) (λ v n one other same. least v n one other same)
+  where
+    least : (v n : ℕ) → IsValue v → IsValue n → min v n ≡ absent_word → ⊥
+    least v n one other same = grind (arith, one, other, same)
+
 pub values-applied : (m : Map) (op : Op) → AllValues IsValue m → ¬ IsReserved op → AllValues IsValue (applied m op)
 values-applied m (Upsert key value) old free = AllValues-insert IsValue m key.0 value.0 old free
 values-applied m (Delete key) old free = AllValues-remove IsValue m key.0 old
 values-applied m (Add key n) old free = AllValues-insert IsValue m key.0 _ old (sum_is_value (get m key.0) n free)
 values-applied m (Max key n) old free = AllValues-insert IsValue m key.0 _ old (greater_is_value (get m key.0) n (old key.0) free)
 values-applied m (Read key) old free = old
+values-applied m (Merge key which n) old free = put_values IsValue m key.0 old _ (merged_is_value which (get m key.0) n (old key.0) (λ takes same. free (takes, same)))
 
 free_first : (entry : HistoryEntry) (later : List HistoryEntry) → ¬ HasReserved (entry ∷ later) → ¬ IsReserved entry.op
 free_first entry later free reserved = free (entry, (0, omega arith, refl), reserved)
@@ -96,12 +135,16 @@ greater_is_small : (old : Option ℕ) (n : ℕ) → IfSome old IsSmall → IsSma
 greater_is_small None n old new = new
 greater_is_small (Some v) n old new = grind (arith, old, new)
 
+merged_is_small : AreMerged IsSmall
+merged_is_small = merged_keeps IsSmall (λ v low. low) (λ v n one other. omega (arith, one, other))
+
 pub small-applied : (m : Map) (op : Op) → AllValues IsSmall m → IsWithin op → AllValues IsSmall (applied m op)
 small-applied m (Upsert key value) old within = AllValues-insert IsSmall m key.0 value.0 old within
 small-applied m (Delete key) old within = AllValues-remove IsSmall m key.0 old
 small-applied m (Add key n) old within = AllValues-insert IsSmall m key.0 _ old (sum_is_small (get m key.0) n within)
 small-applied m (Max key n) old within = AllValues-insert IsSmall m key.0 _ old (greater_is_small (get m key.0) n (old key.0) within)
 small-applied m (Read key) old within = old
+small-applied m (Merge key which n) old within = put_values IsSmall m key.0 old _ (merged_is_small which (get m key.0) n (old key.0) within)
 
 pub small-content : (m : Map) (history : List HistoryEntry) → AllValues IsSmall m → All (λ entry. IsWithin entry.op) history → AllValues IsSmall (content m history)
 small-content m [] old within = old
@@ -119,6 +162,45 @@ IsWithin-from_words (Delete key) free word = tt
 IsWithin-from_words (Add key n) free word = omega (arith, free)
 IsWithin-from_words (Max key n) free word = omega (arith, free)
 IsWithin-from_words (Read key) free word = tt
+IsWithin-from_words (Merge key which n) free word = λ takes. at_most (λ same. free (takes, same))
+  where
+    at_most : (n ≡ absent_word → ⊥) → n ≤ greatest_value
+    at_most other = grind (arith, word, other)
+
+-- a merge of words leaves a word
+pub merged_fits : AreMerged NumberFits
+merged_fits = merged_keeps NumberFits (λ v low. omega (arith, low)) (λ v n one other. omega (arith, one, other))
+
+-- ---- the test for reserved operations
+equal_so : (a b : ℕ) → (a == b) ≡ true → a ≡ b
+equal_so a b e = grind (arith, nat_tests, e)
+
+other_so : (a b : ℕ) → (a == b) ≡ false → a ≢ b
+other_so a b e same = grind (arith, nat_tests, e, same)
+
+merge_reserved : (takes : Bool) (n : ℕ) → (takes && n == absent_word) ≡ true → IsTrue takes × (n ≡ absent_word)
+merge_reserved true n e = (refl, equal_so n absent_word e)
+merge_reserved false n e = cc
+
+merge_free : (takes : Bool) (n : ℕ) → (takes && n == absent_word) ≡ false → IsTrue takes → n ≢ absent_word
+merge_free true n e is = other_so n absent_word e
+merge_free false n e is = cc
+
+pub reserved_by_test : (op : Op) → is_reserved op ≡ true → IsReserved op
+reserved_by_test (Upsert key value) e = equal_so value.0 absent_word e
+reserved_by_test (Delete key) e = cc
+reserved_by_test (Add key n) e = equal_so n absent_word e
+reserved_by_test (Max key n) e = equal_so n absent_word e
+reserved_by_test (Read key) e = cc
+reserved_by_test (Merge key which n) e = merge_reserved (takes_number which) n e
+
+pub free_by_test : (op : Op) → is_reserved op ≡ false → IsReserved op → ⊥
+free_by_test (Upsert key value) e is = other_so value.0 absent_word e is
+free_by_test (Delete key) e is = is
+free_by_test (Add key n) e is = other_so n absent_word e is
+free_by_test (Max key n) e is = other_so n absent_word e is
+free_by_test (Read key) e is = is
+free_by_test (Merge key which n) e is = merge_free (takes_number which) n e is.0 is.1
 
 -- ---- histories with no reserved operation
 pub free_from_All : (history : List HistoryEntry) → All (λ entry. ¬ IsReserved entry.op) history → ¬ HasReserved history

@@ -3,11 +3,11 @@ use Rattle.std.specs.Prelude.{◌≡◌, ℕ, Bool, nat_eq, Option, Some, None, 
 use Rattle.fkv_base.specs.declared.numbers.Key.{Key}
 use Rattle.fkv_base.specs.declared.numbers.Value.{Value}
 use Rattle.fkv_map.specs.declared.operations.Op.{Op}
-use Rattle.fkv_map.specs.declared.operations.Op.TheVariants.{Upsert, Delete, Add, Max, Read}
+use Rattle.fkv_map.specs.declared.operations.Op.TheVariants.{Upsert, Delete, Add, Max, Read, Merge}
 use Rattle.fkv_map.specs.declared.operations.Reply.{Reply}
 use Rattle.fkv_map.specs.declared.operations.Reply.TheVariants.{Nothing, Number}
 use Rattle.fkv_map.specs.declared.history.HistoryEntry.{HistoryEntry}
-use Rattle.fkv_map.specs.Map.{sum_with, greater_with, reply_to_read}
+use Rattle.fkv_map.specs.Map.{sum_with, greater_with, merged, merge_reply, reply_to_read}
 
 -- the key that an operation is on
 abbrev pub key_of : Op → Key
@@ -16,6 +16,7 @@ key_of (Delete key) = key
 key_of (Add key n) = key
 key_of (Max key n) = key
 key_of (Read key) = key
+key_of (Merge key which n) = key
 
 -- a value as a number
 abbrev pub as_number : Option Value → Option ℕ
@@ -28,6 +29,7 @@ value_applied old (Delete key) = None
 value_applied old (Add key n) = Some (sum_with old n)
 value_applied old (Max key n) = Some (greater_with old n)
 value_applied old (Read key) = old
+value_applied old (Merge key which n) = merged which old n
 
 -- what an operation replies where its key has this value
 abbrev pub reply_from : Option ℕ → Op → Reply
@@ -36,6 +38,7 @@ reply_from old (Delete key) = Nothing
 reply_from old (Add key n) = Number (record { 0 = sum_with old n })
 reply_from old (Max key n) = Number (record { 0 = greater_with old n })
 reply_from old (Read key) = reply_to_read old
+reply_from old (Merge key which n) = merge_reply which old n
 
 -- the entry's operation is on this key
 abbrev pub is_on : ℕ → HistoryEntry → Bool

@@ -1,9 +1,12 @@
 -- The laws of histories.
 use Rattle.std.specs.Prelude.{◌≡◌, ℕ, ◌+◌, ◌≤◌, max, ◌↔◌, cond, false, nat_lt, List, [], ◌∷◌, ◌++◌, count_by}
 use Rattle.std.specs.FinMap.{get}
+use Rattle.fkv_base.specs.declared.numbers.Key.{Key}
 use Rattle.fkv_base.specs.declared.numbers.Serial.{Serial}
 use Rattle.fkv_map.specs.declared.history.HistoryEntry.{HistoryEntry}
-use Rattle.fkv_map.specs.Map.{Map}
+use Rattle.fkv_map.specs.declared.merges.Merge.TheVariants.{Keep}
+use Rattle.fkv_map.specs.declared.operations.Op.TheVariants.{Read, Merge}
+use Rattle.fkv_map.specs.Map.{Map, applied, reply_to}
 use Rattle.fkv_map.specs.Keys.{key_of, value_applied, reply_from, is_on, entries_of, value_after, AreLegal}
 use Rattle.fkv_map.specs.History.{content, IsLegal, is_kept, kept, point_of, is_update, IsWhole, HasEachOnce, AreAtMost, greatest_serial}
 
@@ -48,6 +51,10 @@ LegalOfKept =
     (m : Map) (history : List HistoryEntry) (points : List Serial) → IsLegal m history
     → ((key : ℕ) (earlier later : List HistoryEntry) (entry : HistoryEntry) → entries_of key history ≡ earlier ++ entry ∷ later → is_kept points entry ≡ false → kept later points ≡ [])
     → IsLegal m (kept history points)
+
+-- a Keep leaves each map as it is, and replies what a read does
+abbrev pub KeepIsRead : Type 0
+KeepIsRead = (m : Map) (key : Key) (n : ℕ) → (applied m (Merge key Keep n) ≡ m) × (reply_to m (Merge key Keep n) ≡ reply_to m (Read key))
 
 -- ---- what points keep
 -- points that are each session's last serial keep the whole history

@@ -1,5 +1,5 @@
 //! The laws of histories. These functions do nothing: what they promise holds of every map and history.
-ghost use Rattle.fkv_map.specs.Laws.{ContentOfAppend, LegalOfAppend, ContentByKey, LegalByKey, ContentOfOneMore, LegalOfOneMore, LegalOfFirsts, LegalOfKept};
+ghost use Rattle.fkv_map.specs.Laws.{ContentOfAppend, LegalOfAppend, ContentByKey, LegalByKey, ContentOfOneMore, LegalOfOneMore, LegalOfFirsts, LegalOfKept, KeepIsRead};
 ghost use Rattle.fkv_map.specs.Laws.{KeptOfLastSerials, KeptOfKept, WholeUpToPoints, WholeOfEachOnce, EachOnceOfOneMore, WholeOfLives, KeptOfLives};
 
 /// The content of two histories, one after the other, is the content of the later from the content of the earlier.
@@ -30,6 +30,11 @@ pub fn law_one_more()
 pub fn law_legal_firsts()
     ensures firsts { LegalOfFirsts }
     ensures kept { LegalOfKept }
+{}
+
+/// A keep leaves each map as it is, and replies what a read does.
+pub fn law_keep()
+    ensures { KeepIsRead }
 {}
 
 /// Where each session's point is its last serial, the whole history is kept.

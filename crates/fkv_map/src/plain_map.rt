@@ -74,10 +74,15 @@ impl PlainMap {
                 self.set(key, greater)?;
                 Ok(Reply::Number(greater))
             }
-            Op::Read(key) => match self.get(key) {
-                Some(value) => Ok(Reply::Found(value)),
-                None => Ok(Reply::Absent),
-            },
+            Op::Read(key) => Ok(Reply::of_read(self.get(key))),
+            Op::Merge(key, merge, n) => {
+                let old = self.get(key);
+                match merge.value_merged(old, n) {
+                    Some(merged) => self.set(key, merged)?,
+                    None => self.take_out(key),
+                }
+                Ok(merge.reply_from(old, n))
+            }
         }
     }
 

@@ -4,7 +4,7 @@ use Rattle.std.specs.Prelude.{◌==◌, ◌&&◌, not, if◌then◌else◌, ⊤,
 use Rattle.fkv_base.specs.declared.numbers.Addr.{Addr}
 use Rattle.fkv_words.specs.Fields.{bit_of}
 use Rattle.fkv_map.specs.declared.operations.Op.{Op}
-use Rattle.fkv_map.specs.declared.operations.Op.TheVariants.{Upsert, Delete, Add as Adds, Max as Maxes, Read}
+use Rattle.fkv_map.specs.declared.operations.Op.TheVariants.{Upsert, Delete, Add as Adds, Max as Maxes, Read, Merge as Merges}
 use Rattle.fkv_map.specs.declared.operations.Reply.{Reply}
 use Rattle.fkv_map.specs.Keys.{key_of, reply_from, value_applied}
 use Rattle.fkv_plane.specs.declared.asks.Ask.{Ask}
@@ -74,6 +74,7 @@ blind_same (Delete key) old e = (refl, refl)
 blind_same (Adds key n) old e = cc
 blind_same (Maxes key n) old e = cc
 blind_same (Read key) old e = cc
+blind_same (Merges key which n) old e = cc
 
 swap_effect : (c : Trial) (told : Told) (t : TryState) (addr : Addr) (reply : ℕ) (its : Reply) → MayChange c told addr.0 → is_blind c.request.op ≡ true → (takes_effect c.places (quieted c t) (reply_from None c.request.op)).effect ≡ Some its
     → IsEffect c told (Swap (record_place c.places addr.0 rec.Value) (word_of (value_applied None c.request.op))) reply its
@@ -288,6 +289,7 @@ reads_alone (Delete key) e = cc
 reads_alone (Adds key n) e = cc
 reads_alone (Maxes key n) e = cc
 reads_alone (Read key) e = refl
+reads_alone (Merges key which n) e = cc
 
 pub kinds_so : AreKindsSo
 kinds_so = record { reads = λ key. refl; reads_alone = reads_alone; same_value = λ op old e. sym (blind_same op old e).0; same_reply = λ op old e. sym (blind_same op old e).1 }

@@ -7,7 +7,7 @@ use Rattle.fkv_plane.specs.declared.places.SharedWord.TheVariants as one
 use Rattle.fkv_plane.specs.Places.{shared_place, bucket_place, overflow_place}
 use Rattle.fkv_plane.specs.Passing.{passed, is_done}
 use Rattle.fkv_map.specs.declared.operations.Op.{Op}
-use Rattle.fkv_map.specs.declared.operations.Op.TheVariants.{Upsert, Delete, Add, Max, Read}
+use Rattle.fkv_map.specs.declared.operations.Op.TheVariants.{Upsert, Delete, Add, Max, Read, Merge}
 use Rattle.fkv_index.specs.declared.homes.Home.{Home}
 use Rattle.fkv_index.specs.declared.finding.Linking.{Linking}
 use Rattle.fkv_index.specs.declared.finding.Linking.TheVariants.{Never, Once, Made}
@@ -194,6 +194,7 @@ reads_so (Delete key) = refl
 reads_so (Add key n) = refl
 reads_so (Max key n) = refl
 reads_so (Read key) = refl
+reads_so (Merge key which n) = refl
 
 none_made : (op : Op) → is_made (linking_for (purpose_of op)) ≡ false
 none_made (Upsert key value) = refl
@@ -201,6 +202,7 @@ none_made (Delete key) = refl
 none_made (Add key n) = refl
 none_made (Max key n) = refl
 none_made (Read key) = refl
+none_made (Merge key which n) = refl
 
 pub spare_few : (c : Trial) (spare : ℕ) → spare_of c.places spare ≤ c.places.overflow
 spare_few c spare = by_test (nat_le spare c.places.overflow) refl

@@ -4,7 +4,7 @@ use Rattle.std.specs.Prelude.{◌≢◌, ◌==◌, ◌&&◌, not, nat_lt, nat_le
 use Rattle.fkv_base.specs.declared.numbers.Addr.{Addr}
 use Rattle.fkv_base.specs.declared.numbers.Version.{Version}
 use Rattle.fkv_map.specs.declared.operations.Op.{Op}
-use Rattle.fkv_map.specs.declared.operations.Op.TheVariants.{Upsert, Delete, Add as Adds, Max as Maxes, Read}
+use Rattle.fkv_map.specs.declared.operations.Op.TheVariants.{Upsert, Delete, Add as Adds, Max as Maxes, Read, Merge as Merges}
 use Rattle.fkv_map.specs.Map.{absent_word}
 use Rattle.fkv_map.specs.Keys.{key_of}
 use Rattle.fkv_plane.specs.declared.asks.Ask.{Ask}
@@ -99,6 +99,7 @@ read_counts (Delete key) e = cc
 read_counts (Adds key n) e = cc
 read_counts (Maxes key n) e = cc
 read_counts (Read key) e = refl
+read_counts (Merges key which n) e = cc
 
 disk_true : (c : Trial) (told : Told) (t : TryState) (addr : Addr) → t.effect ≡ None → t.has_exclusive ≡ false → Under c told t.has_shared → Stays c told → LeavesMemory c told t.walk.place t.walk.entry addr.0 → Comes c told None [] (latch_held t) (met_disk c.places (norm c t) addr)
 disk_true c told t addr quiet not_alone under stays leaves = by_read (is_read c.request.op) refl

@@ -94,7 +94,8 @@ pub(crate) fn purpose_of(op: Op) -> Purpose
 {
     match op {
         Op::Read(_) => Purpose::Read,
-        Op::Upsert(_, _) | Op::Delete(_) | Op::Add(_, _) | Op::Max(_, _) => Purpose::Update,
+        Op::Upsert(..) | Op::Delete(_) | Op::Add(..) | Op::Max(..) | Op::Merge(..) =>
+            Purpose::Update,
     }
 }
 

@@ -6,6 +6,7 @@ ghost use Rattle.fkv_ops.specs.Values.{value_of, word_of};
 use fkv_base::Value;
 
 /// The value that a record's word stands for, `None` where it says that the key has none.
+#[inline(always)]
 pub fn value_of_word(word: u64) -> Option<Value>
     ensures { as_number result ≡ value_of word }
 {
@@ -17,6 +18,7 @@ pub fn value_of_word(word: u64) -> Option<Value>
 }
 
 /// The word that stands for the value in a record.
+#[inline(always)]
 pub fn word_of_value(value: Option<Value>) -> u64
     ensures { result ≡ word_of (as_number value) }
 {

@@ -69,6 +69,7 @@ impl SharedWord {
     ghost use Rattle.fkv_plane.specs.Places.{shared_place};
 
     /// The word's place, 0 to 10.
+    #[inline(always)]
     pub fn place(self) -> usize
         ensures { result ≡ shared_place self }
     {
@@ -166,12 +167,14 @@ impl Places {
         self.frames_start() + 3 * self.ring
     }
 
+    #[inline(always)]
     fn buckets_start(&self) -> usize
         ensures { result ≡ 24 + 16 * self.now.sessions }
     {
         24 + 16 * self.sessions
     }
 
+    #[inline(always)]
     fn frames_start(&self) -> usize
         ensures { result ≡ 24 + 16 * self.now.sessions + 8 * (self.now.buckets + self.now.overflow) }
     {
@@ -179,6 +182,7 @@ impl Places {
     }
 
     /// The place of one of the eight words of a bucket.
+    #[inline(always)]
     pub fn bucket(&self, bucket: usize, word: usize) -> usize
         requires bucket { bucket < self.now.buckets }
         requires word { word < 8 }
@@ -188,6 +192,7 @@ impl Places {
     }
 
     /// The place of one of the eight words of an overflow bucket, which are numbered from 1.
+    #[inline(always)]
     pub fn overflow(&self, number: usize, word: usize) -> usize
         requires some { 1 ≤ number }
         requires number { number ≤ self.now.overflow }
@@ -199,6 +204,7 @@ impl Places {
 
     /// The place of a word of the record at this address, which it shares with each address that is a multiple of the
     /// ring away.
+    #[inline(always)]
     pub fn record(&self, addr: Addr, word: RecordWord) -> usize
         ensures { result ≡ record_place self.now addr.0 word }
     {

@@ -10,7 +10,8 @@ use Rattle.fkv_map.specs.declared.operations.Call.{Call}
 use Rattle.fkv_map.specs.declared.operations.Call.TheVariants as call
 use Rattle.fkv_map.specs.declared.operations.Op.{Op}
 use Rattle.fkv_map.specs.declared.operations.Op.TheVariants as op
-use Rattle.fkv_map.specs.Map.{IsReserved, is_reserved, absent_word}
+use Rattle.fkv_map.specs.Map.{IsReserved, is_reserved}
+use Rattle.fkv_map.proofs.Shown.{reserved_by_test, free_by_test}
 use Rattle.fkv_ops.specs.Requests.{is_read}
 use Rattle.fkv_pending.specs.declared.pending_requests.PendingRequest.{PendingRequest}
 use Rattle.fkv_session.specs.declared.answers.Told.TheVariants as told
@@ -27,20 +28,6 @@ eq_test m n e = grind (arith, nat_tests, e)
 
 eq_not : (m n : ℕ) → (m == n) ≡ false → m ≡ n → ⊥
 eq_not m n e f = absurd (eqb-false m n e f)
-
-reserved_so : (op : Op) → is_reserved op ≡ true → IsReserved op
-reserved_so (op.Upsert key value) e = eq_so value.0 absent_word e
-reserved_so (op.Delete key) e = cc
-reserved_so (op.Add key n) e = eq_so n absent_word e
-reserved_so (op.Max key n) e = eq_so n absent_word e
-reserved_so (op.Read key) e = cc
-
-reserved_not : (op : Op) → is_reserved op ≡ false → IsReserved op → ⊥
-reserved_not (op.Upsert key value) e is = eq_not value.0 absent_word e is
-reserved_not (op.Delete key) e is = is
-reserved_not (op.Add key n) e is = eq_not n absent_word e is
-reserved_not (op.Max key n) e is = eq_not n absent_word e is
-reserved_not (op.Read key) e is = is
 
 negated : (c : Bool) → not c ≡ true → c ≡ false
 negated true e = cc
@@ -99,7 +86,7 @@ op_caused s op why = tested (not s.is_awake) (is_reserved op) (is_full s.request
 
     before_full : not s.is_awake ≡ false → is_reserved op ≡ false → (other : Fault) → rank other < 2 → HasCause s (call.Op op) other → ⊥
     before_full awake some fault.Asleep less cause = clash s.is_awake (affirmed s.is_awake awake) cause.1
-    before_full awake some fault.ValueReserved less cause = reserved_not op some cause
+    before_full awake some fault.ValueReserved less cause = free_by_test op some cause
     before_full awake some fault.PendingFull less cause = absurd (omega (arith, less))
     before_full awake some fault.SerialsSpent less cause = absurd (omega (arith, less))
     before_full awake some fault.PendingLeft less cause = absurd (omega (arith, less))
@@ -107,7 +94,7 @@ op_caused s op why = tested (not s.is_awake) (is_reserved op) (is_full s.request
 
     before_spent : not s.is_awake ≡ false → is_reserved op ≡ false → is_full s.requests ≡ false → (other : Fault) → rank other < 3 → HasCause s (call.Op op) other → ⊥
     before_spent awake some room fault.Asleep less cause = clash s.is_awake (affirmed s.is_awake awake) cause.1
-    before_spent awake some room fault.ValueReserved less cause = reserved_not op some cause
+    before_spent awake some room fault.ValueReserved less cause = free_by_test op some cause
     before_spent awake some room fault.PendingFull less cause = eq_not (length s.requests) max_pending room cause.1
     before_spent awake some room fault.SerialsSpent less cause = absurd (omega (arith, less))
     before_spent awake some room fault.PendingLeft less cause = absurd (omega (arith, less))
@@ -119,7 +106,7 @@ op_caused s op why = tested (not s.is_awake) (is_reserved op) (is_full s.request
         subst (λ (x : Fault). IsFirstCause s (call.Op op) x) same (record { its_cause = (tt, negated s.is_awake asleep); first = asleep_first s (call.Op op) })
     tested false true c d awake e f g its is =
         let same : fault.ValueReserved ≡ its = cc in
-        subst (λ (x : Fault). IsFirstCause s (call.Op op) x) same (record { its_cause = reserved_so op e; first = before_reserved awake })
+        subst (λ (x : Fault). IsFirstCause s (call.Op op) x) same (record { its_cause = reserved_by_test op e; first = before_reserved awake })
     tested false false true d awake e f g its is =
         let same : fault.PendingFull ≡ its = cc in
         subst (λ (x : Fault). IsFirstCause s (call.Op op) x) same (record { its_cause = (tt, eq_so (length s.requests) max_pending f); first = before_full awake e })
@@ -135,13 +122,13 @@ op_refused s op why its = tested (not s.is_awake) (is_reserved op) (is_full s.re
     tested a b c d awake e f g fault.Asleep its = let is : a ≡ true = sym awake ∙ rw its.its_cause.1 refl in rw is refl
     tested true b c d asleep e f g fault.ValueReserved its = absurd (its.first fault.Asleep (omega arith) (tt, negated s.is_awake asleep))
     tested false true c d awake e f g fault.ValueReserved its = refl
-    tested false false c d awake e f g fault.ValueReserved its = absurd (reserved_not op e its.its_cause)
+    tested false false c d awake e f g fault.ValueReserved its = absurd (free_by_test op e its.its_cause)
     tested true b c d asleep e f g fault.PendingFull its = absurd (its.first fault.Asleep (omega arith) (tt, negated s.is_awake asleep))
-    tested false true c d awake e f g fault.PendingFull its = absurd (its.first fault.ValueReserved (omega arith) (reserved_so op e))
+    tested false true c d awake e f g fault.PendingFull its = absurd (its.first fault.ValueReserved (omega arith) (reserved_by_test op e))
     tested false false true d awake e f g fault.PendingFull its = refl
     tested false false false d awake e f g fault.PendingFull its = absurd (eq_not (length s.requests) max_pending f its.its_cause.1)
     tested true b c d asleep e f g fault.SerialsSpent its = absurd (its.first fault.Asleep (omega arith) (tt, negated s.is_awake asleep))
-    tested false true c d awake e f g fault.SerialsSpent its = absurd (its.first fault.ValueReserved (omega arith) (reserved_so op e))
+    tested false true c d awake e f g fault.SerialsSpent its = absurd (its.first fault.ValueReserved (omega arith) (reserved_by_test op e))
     tested false false true d awake e f g fault.SerialsSpent its = absurd (its.first fault.PendingFull (omega arith) (tt, eq_so (length s.requests) max_pending f))
     tested false false false true awake e f g fault.SerialsSpent its = refl
     tested false false false false awake e f g fault.SerialsSpent its = absurd (spent_not s op g its.its_cause)

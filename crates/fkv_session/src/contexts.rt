@@ -115,6 +115,7 @@ impl Context {
 
     /// The next serial is taken by an update that was done outside.
     #[tactic(auto, unfolding(crate::specs::Sessions::sitting_ask))]
+    #[inline(always)]
     pub(crate) fn take_serial(&mut self) -> Ask<Told>
         requires { self.old.state.serial < last_serial }
         ensures next { self.new ≡ record self.old { state = record self.old.state { serial = self.old.state.serial + 1; step = Idle Slept } } }

@@ -30,6 +30,7 @@ impl Session {
     }
 
     /// Its number among the sessions of its store.
+    #[inline(always)]
     pub fn number(&self) -> usize
         ensures value { result ≡ self.now.seat.number }
         ensures below { result < max_sessions }
@@ -59,6 +60,7 @@ impl Session {
     }
 
     /// The last serial that it has taken, 0 where it has taken none.
+    #[inline(always)]
     pub fn serial(&self) -> Serial
         ensures value { result.0 ≡ self.now.state.serial }
         ensures within { result.0 ≤ last_serial }
@@ -145,6 +147,7 @@ impl Session {
     }
 
     /// Takes the next serial, for an update that somebody else has done in its place. No call is in hand behind it.
+    #[inline(always)]
     pub fn take_serial(&mut self) -> Serial
         requires { self.old.state.serial < last_serial }
         ensures serial { result.0 ≡ self.old.state.serial + 1 }

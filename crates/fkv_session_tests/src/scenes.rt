@@ -5,7 +5,7 @@ use crate::store::{
     store, told, words, words_of_one,
 };
 use fkv_base::{Addr, Fault, Key, Phase, Serial, Value, Version};
-use fkv_map::{Call, Op, Reply};
+use fkv_map::{Call, Merge, Op, Reply};
 use fkv_ops::Reason;
 use fkv_pending::Ticket;
 use fkv_plane::{Action, Ask, PlainWords};
@@ -474,6 +474,11 @@ const RESERVED: Call = Call::Op(Op::Add(KEY, u64::MAX));
 
 const MAX: Call = Call::Op(Op::Max(KEY, 10));
 
+const RESERVED_MERGE: Call = Call::Op(Op::Merge(KEY, Merge::Or, u64::MAX));
+
+/// Its number is not looked at.
+const KEEP: Call = Call::Op(Op::Merge(KEY, Merge::Keep, u64::MAX));
+
 const DELETE: Call = Call::Op(Op::Delete(KEY));
 
 /// The reserved value comes before the full list, and that before the spent serials.
@@ -489,6 +494,8 @@ const FULL_AND_SPENT: Scene = Scene {
             (RESERVED, Fault::ValueReserved),
             (ADD, Fault::SerialsSpent),
             (MAX, Fault::SerialsSpent),
+            (RESERVED_MERGE, Fault::ValueReserved),
+            (KEEP, Fault::SerialsSpent),
             (Call::Wake, Fault::Awake),
         ]),
         Step::Waits(64),
@@ -496,6 +503,8 @@ const FULL_AND_SPENT: Scene = Scene {
             (RESERVED, Fault::ValueReserved),
             (ADD, Fault::PendingFull),
             (DELETE, Fault::PendingFull),
+            (RESERVED_MERGE, Fault::ValueReserved),
+            (KEEP, Fault::PendingFull),
             (READ, Fault::PendingFull),
             (Call::Sleep, Fault::PendingLeft),
             (Call::Wake, Fault::Awake),

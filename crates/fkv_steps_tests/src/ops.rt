@@ -4,7 +4,7 @@ use crate::words::new_words;
 use fkv_base::{Addr, Fault, Key, Phase, Shape, Value, Version};
 use fkv_index::Purpose;
 use fkv_log::{RecordWords, SeenOffsets};
-use fkv_map::{Op, Reply};
+use fkv_map::{Merge, Op, Reply};
 use fkv_ops::{
     Append, AppendAnswer, DiskRecord, FoundSlot, HeaderSaid, HeldRecord, Occasion, Reason, Request,
     Seen, Try, TryAnswer, Walk, WalkAnswer, header_said, law_reasons, told_value, value_of_word,

@@ -80,13 +80,15 @@ fn take_at_once<L: Line>(
     old: Option<Value>,
     limit: u64,
 ) -> Option<u64>
-    requires at { (c : Course) × Goes c (L.seat line.old) op going.now × IsAtReserve c slot.place slot.entry (as_number old) (LoadsTail limit) (L.stands line.old) }
+    requires at { (c : Course) × Goes c (L.seat line.old) op going.now
+        × IsAtReserve c slot.place slot.entry (as_number old) (LoadsTail limit) (L.stands line.old) }
     requires room { L.kept line.old ≤ 51 }
     ensures seat { L.seat line.new ≡ L.seat line.old }
     ensures led { (start : L) (call : Call) → L.led start call line.old → L.led start call line.new }
     ensures kept { L.kept line.new ≤ 53 }
     ensures addr { (addr : ℕ) → result ≡ Some addr → addr < 2 ^ 48 }
-    ensures fills { (c : Course) → Goes c (L.seat line.old) op going.now → IsAtReserve c slot.place slot.entry (as_number old) (LoadsTail limit) (L.stands line.old)
+    ensures fills { (c : Course) → Goes c (L.seat line.old) op going.now
+        → IsAtReserve c slot.place slot.entry (as_number old) (LoadsTail limit) (L.stands line.old)
         → (addr : ℕ) → result ≡ Some addr → IsReserved c slot.place slot.entry (as_number old) addr (L.stands line.new) }
     ensures still { IfNone result (line.new ≡ line.old) }
 {
@@ -118,7 +120,8 @@ fn take_by_steps<L: Line>(
     old: Option<Value>,
     limit: u64,
 ) -> Reserved
-    requires at { (c : Course) × Goes c (L.seat line.old) op going.now × IsAtReserve c slot.place slot.entry (as_number old) (LoadsTail limit) (L.stands line.old) }
+    requires at { (c : Course) × Goes c (L.seat line.old) op going.now
+        × IsAtReserve c slot.place slot.entry (as_number old) (LoadsTail limit) (L.stands line.old) }
     requires room { L.kept line.old ≤ 51 }
     requires updates { is_read op ≡ false }
     requires calm { going.now.is_preparing ≡ false }
@@ -126,9 +129,11 @@ fn take_by_steps<L: Line>(
     ensures led { (start : L) (call : Call) → L.led start call line.old → L.led start call line.new }
     ensures kept { L.kept line.new ≤ 53 }
     ensures addr { (addr : ℕ) → result ≡ Taken addr → addr < 2 ^ 48 }
-    ensures fills { (c : Course) → Goes c (L.seat line.old) op going.now → IsAtReserve c slot.place slot.entry (as_number old) (LoadsTail limit) (L.stands line.old)
+    ensures fills { (c : Course) → Goes c (L.seat line.old) op going.now
+        → IsAtReserve c slot.place slot.entry (as_number old) (LoadsTail limit) (L.stands line.old)
         → (addr : ℕ) → result ≡ Taken addr → IsReserved c slot.place slot.entry (as_number old) addr (L.stands line.new) }
-    ensures waits { (c : Course) → Goes c (L.seat line.old) op going.now → IsAtReserve c slot.place slot.entry (as_number old) (LoadsTail limit) (L.stands line.old)
+    ensures waits { (c : Course) → Goes c (L.seat line.old) op going.now
+        → IsAtReserve c slot.place slot.entry (as_number old) (LoadsTail limit) (L.stands line.old)
         → result ≡ Lost → ComesTo c Contended (L.stands line.new) }
 {
     let tail_place = SharedWord::Tail.place();
@@ -181,7 +186,8 @@ fn fill<L: Line>(line: &mut L, going: &Going, op: Op, slot: Slot, old: Option<Va
     ensures seat { L.seat line.new ≡ L.seat line.old }
     ensures led { (start : L) (call : Call) → L.led start call line.old → L.led start call line.new }
     ensures kept { L.kept line.new ≤ 56 }
-    ensures publishes { (c : Course) → Goes c (L.seat line.old) op going.now → IsReserved c slot.place slot.entry (as_number old) addr (L.stands line.old) → IsAtPublish c slot.place slot.entry (as_number old) addr (L.stands line.new) }
+    ensures publishes { (c : Course) → Goes c (L.seat line.old) op going.now → IsReserved c slot.place slot.entry (as_number old) addr (L.stands line.old)
+        → IsAtPublish c slot.place slot.entry (as_number old) addr (L.stands line.new) }
 {
     let value_place = going.record(Addr(addr), RecordWord::Value);
     let made = op.value_applied(old);

@@ -26,7 +26,8 @@ use fkv_session::{Session, Told};
 #[inline(never)]
 pub(crate) fn wait(machine: &mut Session, op: Op) -> Option<Told>
     requires left { machine.old.state.serial < last_serial }
-    ensures waits { IfSome result (λ told. (told ≡ Pending (record { 0 = machine.old.state.serial + 1 }) Contended) × (length machine.old.state.requests + 1 < max_pending) × (machine.new ≡ record machine.old { state = update_waiting machine.old.state op })) }
+    ensures waits { IfSome result (λ told. (told ≡ Pending (record { 0 = machine.old.state.serial + 1 }) Contended)
+        × (length machine.old.state.requests + 1 < max_pending) × (machine.new ≡ record machine.old { state = update_waiting machine.old.state op })) }
     ensures full { IfNone result (machine.new ≡ machine.old) }
 {
     if machine.pending() >= MAX_PENDING - 1 {

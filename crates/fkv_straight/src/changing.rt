@@ -52,7 +52,8 @@ fn change_value<L: Line>(line: &mut L, going: &Going, op: Op, its: Record) -> Op
     ensures seat { L.seat line.new ≡ L.seat line.old }
     ensures led { (start : L) (call : Call) → L.led start call line.old → L.led start call line.new }
     ensures kept { L.kept line.new ≤ L.kept line.old + 2 }
-    ensures done { (c : Course) → Goes c (L.seat line.old) op going.now → IsMet c its (L.stands line.old) → IfSome result (λ reply. HasChanged c reply (L.stands line.new)) }
+    ensures done { (c : Course) → Goes c (L.seat line.old) op going.now → IsMet c its (L.stands line.old)
+        → IfSome result (λ reply. HasChanged c reply (L.stands line.new)) }
     ensures lost { (c : Course) → Goes c (L.seat line.old) op going.now → IsMet c its (L.stands line.old) → IfNone result (HasLost c (L.stands line.new)) }
 {
     let place = its.at + 2;
@@ -81,7 +82,8 @@ pub(crate) fn change<L: Line>(line: &mut L, going: &Going, op: Op, its: Record) 
     ensures seat { L.seat line.new ≡ L.seat line.old }
     ensures led { (start : L) (call : Call) → L.led start call line.old → L.led start call line.new }
     ensures kept { L.kept line.new ≤ L.kept line.old + 2 }
-    ensures done { (c : Course) → Goes c (L.seat line.old) op going.now → IsMet c its (L.stands line.old) → IfSome result (λ reply. HasChanged c reply (L.stands line.new)) }
+    ensures done { (c : Course) → Goes c (L.seat line.old) op going.now → IsMet c its (L.stands line.old)
+        → IfSome result (λ reply. HasChanged c reply (L.stands line.new)) }
     ensures lost { (c : Course) → Goes c (L.seat line.old) op going.now → IsMet c its (L.stands line.old) → IfNone result (HasLost c (L.stands line.new)) }
 {
     let blind = is_blind(op);

@@ -110,7 +110,7 @@ impl Going {
     }
 
     /// Whether a call of this operation may go straight by it: the session doesn't refuse it.
-    #[inline(always)]
+    #[inline]
     pub(crate) fn lets(&self, machine: &Session, op: Op) -> bool
         ensures { result ≡ true → GoesBy machine.now.seat machine.now.state self.now → MayGo machine.now.seat machine.now.state op self.now }
     {
@@ -156,7 +156,7 @@ impl Going {
     }
 
     /// The place of a word of the record at this address.
-    #[inline(always)]
+    #[inline]
     pub(crate) fn record(&self, addr: Addr, word: RecordWord) -> usize
         ensures { result ≡ record_place self.now.places addr.0 word }
     {
@@ -169,7 +169,7 @@ impl Going {
     }
 
     /// Whether the address of a chain lies within a ring from the head on. One below the head, as 0 is, wraps round to more than a ring.
-    #[inline(always)]
+    #[inline]
     #[tactic(auto, unfolding(crate::specs::Memory::is_in_memory))]
     pub(crate) fn is_in_memory(&self, addr: u64) -> bool
         ensures { result ≡ is_in_memory self.now.places.ring self.now.head addr }

@@ -14,7 +14,8 @@ use fkv_session::{Session, Told, law_of_standing};
 #[inline(never)]
 pub fn catch_up<L: Line>(line: &L, machine: &mut Session, call: Call) -> Ask<Told>
     requires seat { machine.old.seat ≡ L.seat line.now }
-    requires led { (start : L) × L.led start call line.now × StandAlike (begins machine.old.seat machine.old.state call) (begins (L.seat start) (L.stands start) call) }
+    requires led { (start : L) × L.led start call line.now
+        × StandAlike (begins machine.old.seat machine.old.state call) (begins (L.seat start) (L.stands start) call) }
     ensures seat { machine.new.seat ≡ L.seat line.now }
     ensures alike { StandAlike machine.new.state (L.stands line.now) }
     ensures ask { result ≡ session_ask (L.seat line.now) (L.stands line.now) }

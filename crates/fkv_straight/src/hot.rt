@@ -12,13 +12,14 @@ ghost use Rattle.fkv_straight.specs.Hot.{HasLeft};
 ghost use Rattle.fkv_straight.specs.Met.{HasMet, MayGo};
 ghost use Rattle.fkv_straight.specs.Standing.{ComesTo, IsCaughtUp};
 ghost use Rattle.fkv_straight.specs.declared.going.Going.{Going};
+ghost use Rattle.fkv_straight.specs.declared.hot.Due.TheVariants.{Met as HasMetThis};
 
 use crate::calls::wait;
 use crate::changing::{change, update_met};
 use crate::going::Going;
 use crate::lines::Line;
 use crate::outcomes::Outcome;
-use crate::reading::read;
+use crate::reading::tell;
 use crate::searching::{Met, search};
 use fkv_map::{Call, Op};
 use fkv_session::{Session, Told};
@@ -34,36 +35,32 @@ pub enum Due {
     Unusual,
 }
 
-/// An update in place, of a session that isn't in prepare.
+/// An update in place, of a session that isn't in prepare, whose search has met this.
 #[inline(always)]
 fn update_hot<L: Line>(
     line: &mut L,
     machine: &mut Session,
     going: &Going,
     op: Op,
+    met: Met,
 ) -> Result<Told, Due>
-    requires idle { is_busy (L.stands line.old).step ≡ false }
     requires seat { machine.old.seat ≡ L.seat line.old }
-    requires alike { lasting machine.old.state ≡ lasting (L.stands line.old) }
     requires may { MayGo machine.old.seat machine.old.state op going.now }
     requires calm { going.now.is_preparing ≡ false }
-    requires updates { is_read op ≡ false }
+    requires left { HasLeft (L.seat line.old) machine.old.state op (HasMetThis met) (L.kept line.old) (L.stands line.old) }
     ensures seat { L.seat line.new ≡ L.seat line.old }
-    ensures led { L.led line.old (call.Op op) line.new }
+    ensures led { (start : L) (call : Call) → L.led start call line.old → L.led start call line.new }
     ensures machine { machine.new.seat ≡ machine.old.seat }
     ensures goes_by { (its : Going) → GoesBy machine.old.seat machine.old.state its → GoesBy machine.new.seat machine.new.state its }
     ensures ended { IfOk result (λ told. (Done told ≡ session_ask (L.seat line.old) (L.stands line.new)) × IsCaughtUp machine.new.state (L.stands line.new)) }
-    ensures left { IfErr result (λ due. (machine.new ≡ machine.old) × HasLeft (L.seat line.old) machine.old.state op due (L.kept line.new) (L.stands line.new)) }
+    ensures left { IfErr result (λ due. (machine.new ≡ machine.old)
+        × HasLeft (L.seat line.old) machine.old.state op due (L.kept line.new) (L.stands line.new)) }
 {
-    let met = search(line, going, op, Call::Op(op));
-    let Some(its) = met else {
-        return Err(Due::Unusual);
-    };
-    let Met::Found(record) = its else {
-        return Err(Due::Met(its));
+    let Met::Found(record) = met else {
+        return Err(Due::Met(met));
     };
     if record.addr < going.read_only || record.version != going.version {
-        return Err(Due::Met(its));
+        return Err(Due::Met(met));
     }
     let changed = change(line, going, op, record);
     match changed {
@@ -94,17 +91,22 @@ pub(crate) fn go_hot<L: Line>(
     ensures machine { machine.new.seat ≡ machine.old.seat }
     ensures goes_by { (its : Going) → GoesBy machine.old.seat machine.old.state its → GoesBy machine.new.seat machine.new.state its }
     ensures ended { IfOk result (λ told. (Done told ≡ session_ask (L.seat line.old) (L.stands line.new)) × IsCaughtUp machine.new.state (L.stands line.new)) }
-    ensures left { IfErr result (λ due. (machine.new ≡ machine.old) × HasLeft (L.seat line.old) machine.old.state op due (L.kept line.new) (L.stands line.new)) }
+    ensures left { IfErr result (λ due. (machine.new ≡ machine.old)
+        × HasLeft (L.seat line.old) machine.old.state op due (L.kept line.new) (L.stands line.new)) }
 {
+    let met = search(line, going, op, Call::Op(op));
+    let Some(its) = met else {
+        return Err(Due::Unusual);
+    };
     match op {
         Op::Read(_) => {
-            let told = read(line, going, op);
+            let told = tell(line, going, op, its);
             match told {
-                Some(its) => Ok(its),
+                Some(answer) => Ok(answer),
                 None => Err(Due::Unusual),
             }
         }
-        _ => update_hot(line, machine, going, op),
+        _ => update_hot(line, machine, going, op, its),
     }
 }
 

@@ -1,5 +1,5 @@
-//! The operations, the refresh and the poll of a session as straight functions. Each step on a word is the one that the session machine's table asks for, and where
-//! anything unusual is met the machine takes over.
+//! The operations, the refresh and the poll of a session as straight functions. Each step on a word is the one that the session machine's table asks
+//! for, and where anything unusual is met the machine takes over.
 #![tactic(auto)]
 
 mod appending;

@@ -103,5 +103,6 @@ pub trait Line {
 
     /// The replies that are kept, in order.
     fn replies(&self) -> &[u64]
-        ensures led { (start : Self) (call : Call) → led start call self.now → stands self.now ≡ replayed (seat self.now) (begins (seat start) (stands start) call) result.now };
+        ensures led { (start : Self) (call : Call) → led start call self.now
+            → stands self.now ≡ replayed (seat self.now) (begins (seat start) (stands start) call) result.now };
 }

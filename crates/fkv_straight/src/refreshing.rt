@@ -56,7 +56,8 @@ fn end_version<L: Line>(line: &mut L, machine: &Session, after: Seen)
     ensures seat { L.seat line.new ≡ L.seat line.old }
     ensures led { (start : L) (call : Call) → L.led start call line.old → L.led start call line.new }
     ensures kept { L.kept line.new ≡ 6 }
-    ensures ends { (s : SessionState) (epoch : ℕ) → machine.now.state.serial ≡ s.serial → IsAtCut s epoch after (L.stands line.old) → IsAtEpoch s epoch after (L.stands line.new) }
+    ensures ends { (s : SessionState) (epoch : ℕ) → machine.now.state.serial ≡ s.serial → IsAtCut s epoch after (L.stands line.old)
+        → IsAtEpoch s epoch after (L.stands line.new) }
 {
     let session = machine.number();
     let serial = machine.serial();

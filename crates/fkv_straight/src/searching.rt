@@ -65,7 +65,7 @@ enum Judged {
 }
 
 /// What a word is to the search.
-#[inline(always)]
+#[inline]
 fn judge(word: u64, tag: u64) -> Judged
     ensures here { result ≡ Here → (word ≡ 0) ⊎ ((is_entry word ≡ true) × (word / 2 ^ 48 ≡ tag)) }
     ensures other { result ≡ Other → (is_entry word ≡ true) × ¬ (word / 2 ^ 48 ≡ tag) }
@@ -111,9 +111,11 @@ fn seek_in<L: Line>(
     ensures seat { L.seat line.new ≡ L.seat line.old }
     ensures led { (start : L) (call : Call) → L.led start call line.old → L.led start call line.new }
     ensures kept { L.kept line.new ≤ L.kept line.old + 6 }
-    ensures found { (its : Slot) → result ≡ At its → (c : Course) → Goes c (L.seat line.old) op going.now → HasSlot c base (going.now.places.overflow - _passed) 0 first (L.stands line.old)
+    ensures found { (its : Slot) → result ≡ At its → (c : Course) → Goes c (L.seat line.old) op going.now
+        → HasSlot c base (going.now.places.overflow - _passed) 0 first (L.stands line.old)
         → IsReached c its.place its.entry (entry_addr its.entry) (L.stands line.new) }
-    ensures passed { result ≡ Passed → (c : Course) → Goes c (L.seat line.old) op going.now → HasSlot c base (going.now.places.overflow - _passed) 0 first (L.stands line.old)
+    ensures passed { result ≡ Passed → (c : Course) → Goes c (L.seat line.old) op going.now
+        → HasSlot c base (going.now.places.overflow - _passed) 0 first (L.stands line.old)
         → IsAtLink c base (going.now.places.overflow - _passed) (L.stands line.new) }
 {
     let mut word = first;
@@ -270,7 +272,8 @@ pub(crate) fn search_on<L: Line>(line: &mut L, going: &Going, op: Op) -> Option<
     ensures seat { L.seat line.new ≡ L.seat line.old }
     ensures led { (start : L) (call : Call) → L.led start call line.old → L.led start call line.new }
     ensures kept { L.kept line.new ≤ 49 }
-    ensures met { (c : Course) → Goes c (L.seat line.old) op going.now → IsAtFirst c (L.stands line.old) → IfSome result (λ its. HasMet c its (L.stands line.new)) }
+    ensures met { (c : Course) → Goes c (L.seat line.old) op going.now → IsAtFirst c (L.stands line.old)
+        → IfSome result (λ its. HasMet c its (L.stands line.new)) }
 {
     let first = first_slot_of(going, op);
     let word = line.load(first);

@@ -122,7 +122,8 @@ impl StraightSession {
     pub fn go_on(&mut self, reply: u64) -> Ask<Told>
         ensures next { self.new ≡ record self.old { state = session_next self.old.seat self.old.state reply } }
         ensures ask { result ≡ session_ask self.old.seat self.new.state }
-        ensures fewer { takes_action (session_ask self.old.seat self.old.state) ≡ false → 0 < session_asks_left self.old.seat self.old.state → session_asks_left self.old.seat self.new.state < session_asks_left self.old.seat self.old.state }
+        ensures fewer { takes_action (session_ask self.old.seat self.old.state) ≡ false → 0 < session_asks_left self.old.seat self.old.state
+            → session_asks_left self.old.seat self.new.state < session_asks_left self.old.seat self.old.state }
     {
         self.going = None;
         self.machine.go_on(reply)
@@ -132,7 +133,8 @@ impl StraightSession {
     pub fn take(&mut self, action: Action) -> Ask<Told>
         ensures next { self.new ≡ record self.old { state = session_given self.old.seat self.old.state action } }
         ensures ask { result ≡ session_ask self.old.seat self.new.state }
-        ensures fewer { (its : Told) → self.old.state.step ≡ Turns its → takes_action (session_ask self.old.seat self.old.state) ≡ true → session_asks_left self.old.seat self.new.state < session_asks_left self.old.seat self.old.state }
+        ensures fewer { (its : Told) → self.old.state.step ≡ Turns its → takes_action (session_ask self.old.seat self.old.state) ≡ true
+            → session_asks_left self.old.seat self.new.state < session_asks_left self.old.seat self.old.state }
     {
         self.going = None;
         self.machine.take(action)
@@ -165,8 +167,12 @@ impl StraightSession {
         requires alike { lasting self.old.state ≡ lasting (L.stands line.old) }
         ensures seat { L.seat line.new ≡ L.seat line.old }
         ensures machine { self.new.seat ≡ self.old.seat }
-        ensures ended { (told : Told) → result ≡ Ended told → L.led line.old (call.Op op) line.new × (Done told ≡ session_ask (L.seat line.old) (L.stands line.new)) × IsCaughtUp self.new.state (L.stands line.new) }
-        ensures stopped { result ≡ Stopped → L.led line.old (call.Op op) line.new × (self.new ≡ self.old) × StandAlike (begins self.old.seat self.old.state (call.Op op)) (begins (L.seat line.old) (L.stands line.old) (call.Op op)) }
+        ensures ended { (told : Told) → result ≡ Ended told
+            → L.led line.old (call.Op op) line.new × (Done told ≡ session_ask (L.seat line.old) (L.stands line.new))
+            × IsCaughtUp self.new.state (L.stands line.new) }
+        ensures stopped { result ≡ Stopped
+            → L.led line.old (call.Op op) line.new × (self.new ≡ self.old)
+            × StandAlike (begins self.old.seat self.old.state (call.Op op)) (begins (L.seat line.old) (L.stands line.old) (call.Op op)) }
         ensures stayed { result ≡ Stayed → (line.new ≡ line.old) × (self.new ≡ self.old) }
     {
         self.look();
@@ -193,7 +199,9 @@ impl StraightSession {
         requires alike { lasting self.old.state ≡ lasting (L.stands line.old) }
         ensures seat { L.seat line.new ≡ L.seat line.old }
         ensures machine { self.new.seat ≡ self.old.seat }
-        ensures ended { (told : Told) → result ≡ Ended told → L.led line.old call.Refresh line.new × (Done told ≡ session_ask (L.seat line.old) (L.stands line.new)) × IsCaughtUp self.new.state (L.stands line.new) }
+        ensures ended { (told : Told) → result ≡ Ended told
+            → L.led line.old call.Refresh line.new × (Done told ≡ session_ask (L.seat line.old) (L.stands line.new))
+            × IsCaughtUp self.new.state (L.stands line.new) }
         ensures whole { result ≡ Stopped → ⊥ }
         ensures stayed { result ≡ Stayed → (line.new ≡ line.old) × (self.new ≡ self.old) }
     {
@@ -215,8 +223,12 @@ impl StraightSession {
         requires alike { lasting self.old.state ≡ lasting (L.stands line.old) }
         ensures seat { L.seat line.new ≡ L.seat line.old }
         ensures machine { self.new.seat ≡ self.old.seat }
-        ensures ended { (told : Told) → result ≡ Ended told → L.led line.old call.Poll line.new × (Done told ≡ session_ask (L.seat line.old) (L.stands line.new)) × IsCaughtUp self.new.state (L.stands line.new) }
-        ensures stopped { result ≡ Stopped → L.led line.old call.Poll line.new × (self.new ≡ self.old) × StandAlike (begins self.old.seat self.old.state call.Poll) (begins (L.seat line.old) (L.stands line.old) call.Poll) }
+        ensures ended { (told : Told) → result ≡ Ended told
+            → L.led line.old call.Poll line.new × (Done told ≡ session_ask (L.seat line.old) (L.stands line.new))
+            × IsCaughtUp self.new.state (L.stands line.new) }
+        ensures stopped { result ≡ Stopped
+            → L.led line.old call.Poll line.new × (self.new ≡ self.old)
+            × StandAlike (begins self.old.seat self.old.state call.Poll) (begins (L.seat line.old) (L.stands line.old) call.Poll) }
         ensures stayed { result ≡ Stayed → (line.new ≡ line.old) × (self.new ≡ self.old) }
     {
         self.look();
@@ -244,8 +256,11 @@ impl StraightSession {
         requires alike { lasting self.old.state ≡ lasting (L.stands line.old) }
         ensures seat { L.seat line.new ≡ L.seat line.old }
         ensures machine { self.new.seat ≡ self.old.seat }
-        ensures ended { (told : Told) → result ≡ Ended told → L.led line.old call line.new × (Done told ≡ session_ask (L.seat line.old) (L.stands line.new)) × IsCaughtUp self.new.state (L.stands line.new) }
-        ensures stopped { result ≡ Stopped → L.led line.old call line.new × (self.new ≡ self.old) × StandAlike (begins self.old.seat self.old.state call) (begins (L.seat line.old) (L.stands line.old) call) }
+        ensures ended { (told : Told) → result ≡ Ended told
+            → L.led line.old call line.new × (Done told ≡ session_ask (L.seat line.old) (L.stands line.new)) × IsCaughtUp self.new.state (L.stands line.new) }
+        ensures stopped { result ≡ Stopped
+            → L.led line.old call line.new × (self.new ≡ self.old)
+            × StandAlike (begins self.old.seat self.old.state call) (begins (L.seat line.old) (L.stands line.old) call) }
         ensures stayed { result ≡ Stayed → (line.new ≡ line.old) × (self.new ≡ self.old) }
     {
         match call {
@@ -256,8 +271,8 @@ impl StraightSession {
         }
     }
 
-    /// Makes the hot part of an operation's call: each of its steps is the one that the machine's table asks for. In prepare a call has none, nor has it where it may
-    /// not go straight, or what it goes by isn't looked up.
+    /// Makes the hot part of an operation's call: each of its steps is the one that the machine's table asks for. In prepare a call has none, nor has
+    /// it where it may not go straight, or what it goes by isn't looked up.
     #[inline(always)]
     pub fn run_hot<L: Line>(&mut self, line: &mut L, op: Op) -> Hot
         requires idle { is_busy (L.stands line.old).step ≡ false }
@@ -265,9 +280,13 @@ impl StraightSession {
         requires alike { lasting self.old.state ≡ lasting (L.stands line.old) }
         ensures seat { L.seat line.new ≡ L.seat line.old }
         ensures machine { self.new.seat ≡ self.old.seat }
-        ensures ended { (told : Told) → result ≡ HasEnded told → L.led line.old (call.Op op) line.new × (Done told ≡ session_ask (L.seat line.old) (L.stands line.new)) × IsCaughtUp self.new.state (L.stands line.new) }
-        ensures left { (due : Due) → result ≡ Left due → L.led line.old (call.Op op) line.new × (self.new ≡ self.old) × HasLeft self.old.seat self.old.state op due (L.kept line.new) (L.stands line.new) }
-        ensures begins { (due : Due) → result ≡ Left due → StandAlike (begins self.old.seat self.old.state (call.Op op)) (begins (L.seat line.old) (L.stands line.old) (call.Op op)) }
+        ensures ended { (told : Told) → result ≡ HasEnded told
+            → L.led line.old (call.Op op) line.new × (Done told ≡ session_ask (L.seat line.old) (L.stands line.new))
+            × IsCaughtUp self.new.state (L.stands line.new) }
+        ensures left { (due : Due) → result ≡ Left due
+            → L.led line.old (call.Op op) line.new × (self.new ≡ self.old) × HasLeft self.old.seat self.old.state op due (L.kept line.new) (L.stands line.new) }
+        ensures begins { (due : Due) → result ≡ Left due
+            → StandAlike (begins self.old.seat self.old.state (call.Op op)) (begins (L.seat line.old) (L.stands line.old) (call.Op op)) }
         ensures stayed { result ≡ HasStayed → (line.new ≡ line.old) × (self.new ≡ self.old) }
     {
         let Some(going) = &self.going else {
@@ -288,7 +307,8 @@ impl StraightSession {
         Hot::Ended(told)
     }
 
-    /// Makes the steps that are left of an operation's call, up to its answer. None where anything unusual is met: the machine has to catch up with the line then.
+    /// Makes the steps that are left of an operation's call, up to its answer. None where anything unusual is met: the machine has to catch up with
+    /// the line then.
     #[inline(always)]
     pub fn run_due<L: Line>(&mut self, line: &mut L, op: Op, due: Due) -> Option<Told>
         requires seat { self.old.seat ≡ L.seat line.old }
@@ -296,7 +316,8 @@ impl StraightSession {
         ensures seat { L.seat line.new ≡ L.seat line.old }
         ensures led { (start : L) (call : Call) → L.led start call line.old → L.led start call line.new }
         ensures machine { self.new.seat ≡ self.old.seat }
-        ensures ended { IfSome result (λ told. (Done told ≡ session_ask (L.seat line.old) (L.stands line.new)) × IsCaughtUp self.new.state (L.stands line.new)) }
+        ensures ended { IfSome result (λ told. (Done told ≡ session_ask (L.seat line.old) (L.stands line.new))
+            × IsCaughtUp self.new.state (L.stands line.new)) }
         ensures stopped { IfNone result (self.new ≡ self.old) }
     {
         let Some(going) = &self.going else {
@@ -313,7 +334,8 @@ impl StraightSession {
     /// Gives what it asks there.
     pub fn catch_up<L: Line>(&mut self, line: &L, call: Call) -> Ask<Told>
         requires seat { self.old.seat ≡ L.seat line.now }
-        requires led { (start : L) × L.led start call line.now × StandAlike (begins self.old.seat self.old.state call) (begins (L.seat start) (L.stands start) call) }
+        requires led { (start : L) × L.led start call line.now
+            × StandAlike (begins self.old.seat self.old.state call) (begins (L.seat start) (L.stands start) call) }
         ensures seat { self.new.seat ≡ L.seat line.now }
         ensures alike { StandAlike self.new.state (L.stands line.now) }
         ensures ask { result ≡ session_ask (L.seat line.now) (L.stands line.now) }

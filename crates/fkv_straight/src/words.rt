@@ -12,7 +12,7 @@ use fkv_ops::HeaderSaid;
 const ADDR_MASK: u64 = (1 << 48) - 1;
 
 /// The address in the word of an entry, of a header or of a link.
-#[inline(always)]
+#[inline]
 pub(crate) fn addr_of(word: u64) -> u64
     ensures { result ≡ entry_addr word }
 {
@@ -20,7 +20,7 @@ pub(crate) fn addr_of(word: u64) -> u64
 }
 
 /// Whether the word of a slot is an entry.
-#[inline(always)]
+#[inline]
 pub(crate) fn is_entry(word: u64) -> bool
     ensures { result ≡ is_entry word }
 {
@@ -28,7 +28,7 @@ pub(crate) fn is_entry(word: u64) -> bool
 }
 
 /// What a header says. A header that is valid has no bit above those of its version, so one test is enough for it.
-#[inline(always)]
+#[inline]
 pub(crate) fn header_said(word: u64) -> HeaderSaid
     ensures { result ≡ header_said word }
 {
@@ -41,7 +41,7 @@ pub(crate) fn header_said(word: u64) -> HeaderSaid
 }
 
 /// Whether updates share the latch of their bucket.
-#[inline(always)]
+#[inline]
 pub(crate) fn is_preparing(phase: Phase) -> bool
     ensures { result ≡ is_prepare phase }
 {
@@ -49,7 +49,7 @@ pub(crate) fn is_preparing(phase: Phase) -> bool
 }
 
 /// Whether a commit's sessions go on to the next version.
-#[inline(always)]
+#[inline]
 pub(crate) fn is_moving_on(phase: Phase) -> bool
     ensures { result ≡ is_moving_on phase }
 {
@@ -57,7 +57,7 @@ pub(crate) fn is_moving_on(phase: Phase) -> bool
 }
 
 /// Whether it is a read.
-#[inline(always)]
+#[inline]
 pub(crate) fn is_read(op: Op) -> bool
     ensures { result ≡ is_read op }
 {
@@ -65,7 +65,7 @@ pub(crate) fn is_read(op: Op) -> bool
 }
 
 /// Whether the new value doesn't depend on the old one.
-#[inline(always)]
+#[inline]
 pub(crate) fn is_blind(op: Op) -> bool
     ensures { result ≡ is_blind op }
 {

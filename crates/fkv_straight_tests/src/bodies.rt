@@ -64,12 +64,18 @@ fn play_scene<R: Abort>(
 const TAGS: u64 = 1 << 15;
 
 /// What operations meet that go straight to their end.
-const STRAIGHT: [Meeting; 18] = [
+const STRAIGHT: [Meeting; 24] = [
     Meeting::Read,
     Meeting::Upsert,
     Meeting::Delete,
     Meeting::Add,
     Meeting::Max,
+    Meeting::Keep,
+    Meeting::Min,
+    Meeting::Sub,
+    Meeting::And,
+    Meeting::Or,
+    Meeting::First,
     Meeting::Rest,
     Meeting::Prepare,
     Meeting::InProgress,

@@ -1,6 +1,6 @@
 //! What operations have met.
 use fkv_base::{Addr, Phase};
-use fkv_map::Op;
+use fkv_map::{Merge, Op};
 use fkv_ops::{Reason, Seen};
 use fkv_plane::{Ask, Places, RecordWord, SharedWord};
 use fkv_session::Told;
@@ -13,6 +13,12 @@ pub(crate) enum Meeting {
     Delete,
     Add,
     Max,
+    Keep,
+    Min,
+    Sub,
+    And,
+    Or,
+    First,
     Rest,
     Prepare,
     InProgress,
@@ -37,7 +43,7 @@ pub(crate) enum Meeting {
     LostValue,
 }
 
-const MEETINGS: usize = 19;
+const MEETINGS: usize = 25;
 
 /// How many operations have met what.
 #[derive(Clone, Copy)]
@@ -117,6 +123,18 @@ fn kind_of(op: Op) -> Meeting {
         Op::Delete(_) => Meeting::Delete,
         Op::Add(_, _) => Meeting::Add,
         Op::Max(_, _) => Meeting::Max,
+        Op::Merge(_, which, _) => kind_of_merge(which),
+    }
+}
+
+fn kind_of_merge(which: Merge) -> Meeting {
+    match which {
+        Merge::Keep => Meeting::Keep,
+        Merge::Min => Meeting::Min,
+        Merge::Sub => Meeting::Sub,
+        Merge::And => Meeting::And,
+        Merge::Or => Meeting::Or,
+        Merge::First => Meeting::First,
     }
 }
 

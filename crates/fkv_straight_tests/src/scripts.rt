@@ -1,6 +1,6 @@
 //! Events that are drawn.
 use fkv_base::{CommitKind, Key, Value};
-use fkv_map::{Call, Op};
+use fkv_map::{Call, Merge, Op};
 
 /// What happens next.
 #[derive(Clone, Copy)]
@@ -121,12 +121,24 @@ impl Draws {
     fn next_op(&mut self) -> Op {
         let key = self.next_key();
         let number = self.below(1000);
-        match self.below(5) {
+        match self.below(7) {
             0 => Op::Read(key),
             1 => Op::Upsert(key, Value(number)),
             2 => Op::Delete(key),
             3 => Op::Add(key, number),
-            _ => Op::Max(key, number),
+            4 => Op::Max(key, number),
+            _ => Op::Merge(key, self.next_merge(), number),
+        }
+    }
+
+    fn next_merge(&mut self) -> Merge {
+        match self.below(6) {
+            0 => Merge::Keep,
+            1 => Merge::Min,
+            2 => Merge::Sub,
+            3 => Merge::And,
+            4 => Merge::Or,
+            _ => Merge::First,
         }
     }
 }

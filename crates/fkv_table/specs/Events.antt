@@ -2,7 +2,7 @@
 use Rattle.std.specs.Prelude.{ℕ, Bool, true, ◌&&◌, nat_lt, ◌^◌, Option, Some, None}
 use Rattle.fkv_map.specs.declared.operations.Call.TheVariants as call
 use Rattle.fkv_map.specs.declared.operations.Op.{Op}
-use Rattle.fkv_map.specs.declared.operations.Op.TheVariants.{Upsert, Delete, Add, Max, Read}
+use Rattle.fkv_map.specs.declared.operations.Op.TheVariants.{Upsert, Delete, Add, Max, Read, Merge}
 use Rattle.law_world.specs.Below.fkv_world.World.{Event, Calls, Moves, Commits, Turns, KeeperMoves}
 use Rattle.fkv_table.specs.declared.happenings.Happening.{Happening}
 use Rattle.fkv_table.specs.declared.happenings.Happening.TheVariants as happening
@@ -33,6 +33,7 @@ op_fits (Delete key) = is_word key.0
 op_fits (Add key n) = is_word key.0 && is_word n
 op_fits (Max key n) = is_word key.0 && is_word n
 op_fits (Read key) = is_word key.0
+op_fits (Merge key which n) = is_word key.0 && is_word n
 
 -- Whether an event may stand in a table's list: the numbers of a call that it begins are below 2^64, as those of each operation that a thread can ask for.
 abbrev pub may_stand : Happening → Bool

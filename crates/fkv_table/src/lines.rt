@@ -48,7 +48,7 @@ pub(crate) struct Parts<'t, D: Device> {
 pub(crate) type Room = [u64; 64];
 
 /// Puts a reply behind those that are kept.
-#[inline(always)]
+#[inline]
 fn keep(replies: &mut Room, kept: usize, reply: u64)
     requires { (kept < 64) × (length replies.old ≡ 64) }
     ensures items { take (kept + 1) replies.new ≡ take kept replies.old ++ reply ∷ [] }
@@ -85,7 +85,9 @@ impl<'t, D: Device> Model for SeatLine<'t, D> {
 
     ghost view = { λ l. said.line_of l.words.now.key l.words.now.table_id l.seat.me l.machine.value l.desk (take l.kept l.replies.now) };
 
-    ghost invariant = { λ l. (l.seat.table_id ≡ l.words.now.table_id) × (l.number ≡ l.machine.value.seat.number) × (l.kept ≤ 64) × (length l.replies.now ≡ 64) × said.IsAlong (said.opening_of D.seen) (said.line_of l.words.now.key l.words.now.table_id l.seat.me l.machine.value l.desk (take l.kept l.replies.now)) };
+    ghost invariant = { λ l. (l.seat.table_id ≡ l.words.now.table_id) × (l.number ≡ l.machine.value.seat.number) × (l.kept ≤ 64)
+        × (length l.replies.now ≡ 64) × said.IsAlong (said.opening_of D.seen)
+        (said.line_of l.words.now.key l.words.now.table_id l.seat.me l.machine.value l.desk (take l.kept l.replies.now)) };
 }
 
 impl<'t, D: Device> SeatLine<'t, D> {
@@ -188,7 +190,8 @@ impl<'t, D: Device> SeatLine<'t, D> {
         requires idle { is_busy (said.stands (said.opening_of D.seen) self.old).step ≡ false }
         requires asked { said.asked self.old.machine.seat (said.begins self.old.machine.seat (said.stands (said.opening_of D.seen) self.old) call) ≡ ask.now }
         requires word { (place : ℕ) × (said.asked_place ask.now ≡ Some place) }
-        ensures next { said.stands (said.opening_of D.seen) self.new ≡ said.leads self.old.machine.seat (said.begins self.old.machine.seat (said.stands (said.opening_of D.seen) self.old) call) result }
+        ensures next { said.stands (said.opening_of D.seen) self.new
+            ≡ said.leads self.old.machine.seat (said.begins self.old.machine.seat (said.stands (said.opening_of D.seen) self.old) call) result }
         ensures led { said.HasLed (said.opening_of D.seen) self.old call self.new }
         ensures kept { length self.new.replies ≡ 1 }
         ensures machine { self.new.machine ≡ self.old.machine }
@@ -207,7 +210,8 @@ impl<'t, D: Device> SeatLine<'t, D> {
         requires word { (place : ℕ) × (said.asked_place ask.now ≡ Some place) }
         requires room { length self.old.replies < 64 }
         ensures next { said.stands (said.opening_of D.seen) self.new ≡ said.leads self.old.machine.seat (said.stands (said.opening_of D.seen) self.old) result }
-        ensures led { (start : said.LineModel (said.Snapshot (said.WorldModel D))) (call : said.Call) → said.HasLed (said.opening_of D.seen) start call self.old → said.HasLed (said.opening_of D.seen) start call self.new }
+        ensures led { (start : said.LineModel (said.Snapshot (said.WorldModel D))) (call : said.Call)
+            → said.HasLed (said.opening_of D.seen) start call self.old → said.HasLed (said.opening_of D.seen) start call self.new }
         ensures replies { self.new.replies ≡ self.old.replies ++ result ∷ [] }
         ensures machine { self.new.machine ≡ self.old.machine }
     {
@@ -230,37 +234,37 @@ impl<'t, D: Device> Line for SeatLine<'t, D> {
 
     ghost kept = { λ l. length l.replies };
 
-    #[inline(always)]
+    #[inline]
     fn first(&mut self, call: Call, place: usize) -> u64 {
         self.start(call, &Ask::Load(place))
     }
 
-    #[inline(always)]
+    #[inline]
     fn first_add(&mut self, call: Call, place: usize, number: u64) -> u64 {
         self.start(call, &Ask::Add(place, number))
     }
 
-    #[inline(always)]
+    #[inline]
     fn load(&mut self, place: usize) -> u64 {
         self.step(&Ask::Load(place))
     }
 
-    #[inline(always)]
+    #[inline]
     fn store(&mut self, place: usize, new: u64) -> u64 {
         self.step(&Ask::Store(place, new))
     }
 
-    #[inline(always)]
+    #[inline]
     fn swap(&mut self, place: usize, new: u64) -> u64 {
         self.step(&Ask::Swap(place, new))
     }
 
-    #[inline(always)]
+    #[inline]
     fn cas(&mut self, place: usize, expected: u64, new: u64) -> u64 {
         self.step(&Ask::Cas(place, expected, new))
     }
 
-    #[inline(always)]
+    #[inline]
     fn add(&mut self, place: usize, number: u64) -> u64 {
         self.step(&Ask::Add(place, number))
     }

@@ -40,10 +40,13 @@ impl<D: Device + Drop> Table<D> {
     pub fn open(alloc: Global, opened: Opened, device: D) -> Result<OpenTable<D>, Fault>
         ensures world { IfOk result (λ t. said.IsOpeningWorld opened (said.opening_of D.seen t.table.table.shared.key).now) }
         ensures opened { IfOk result (λ t. said.IsOpenedWorld (said.opening_of D.seen t.table.table.shared.key)) }
-        ensures bytes { IfOk result (λ t. said.opening_of D.seen t.table.table.shared.key ≡ said.beginning (said.opening_of D.seen t.table.table.shared.key).now (D.seen device)) }
+        ensures bytes { IfOk result (λ t. said.opening_of D.seen t.table.table.shared.key
+            ≡ said.beginning (said.opening_of D.seen t.table.table.shared.key).now (D.seen device)) }
         ensures count { IfOk result (λ t. length t.sessions.items ≡ opened.shape.sessions) }
-        ensures sessions { IfOk result (λ t. said.EachAt t.sessions.items (λ i x. said.IsFresh (said.opening_of D.seen) t.table.table.shared.key t.table.table.shared.table_id i x.0.machine x.0.desk x.1.seat.table_id x.1.seat.me)) }
-        ensures keeper { IfOk result (λ t. said.IsFreshKeeper (said.opening_of D.seen) t.table.table.shared.key t.table.table.shared.table_id t.keeper.machine t.pass.seat.table_id t.pass.seat.me) }
+        ensures sessions { IfOk result (λ t. said.EachAt t.sessions.items (λ i x. said.IsFresh
+            (said.opening_of D.seen) t.table.table.shared.key t.table.table.shared.table_id i x.0.machine x.0.desk x.1.seat.table_id x.1.seat.me)) }
+        ensures keeper { IfOk result (λ t. said.IsFreshKeeper (said.opening_of D.seen) t.table.table.shared.key
+            t.table.table.shared.table_id t.keeper.machine t.pass.seat.table_id t.pass.seat.me) }
         ensures device { IfOk result (λ t. t.device ≡ device) }
         ensures err { OnErr result (result ≡ Err said.Memory) }
     {
@@ -148,7 +151,8 @@ fn shared_table<D: Device>(
     ),
     Fault,
 >
-    requires { said.Ruled (said.plane (said.opening_of D.seen)) about.now (said.opening words.now slots.items (said.first_view (said.plane (said.opening_of D.seen)) about.now)) }
+    requires { said.Ruled (said.plane (said.opening_of D.seen)) about.now (said.opening words.now slots.items
+        (said.first_view (said.plane (said.opening_of D.seen)) about.now)) }
     ensures counts { IfOk result (λ t. (t.0.shared.table_id.words ≡ length words.now) × (t.0.shared.table_id.slots ≡ length slots.items)) }
     ensures seat { IfOk result (λ t. (t.1.table_id ≡ t.0.shared.table_id) × (t.1.me ≡ (said.rest_view about.now 0, []))) }
     ensures key { IfOk result (λ t. t.0.shared.key ≡ about.now) }
@@ -173,7 +177,8 @@ fn seat_sessions<D: Device>(
     requires desks { said.desk_slot said.drain_slots (length machines.items) ≤ words.now.table_id.slots }
     ensures rest { OnOk result ((rest.new.table_id ≡ words.now.table_id) × (rest.new.me ≡ (said.rest_view words.now.key (length machines.items), []))) }
     ensures machines { IfOk result (λ seated. map (λ x. x.0.machine) seated.items ≡ machines.items) }
-    ensures seats { IfOk result (λ seated. said.EachAt seated.items (λ i x. said.HasSeat words.now.key words.now.table_id i x.1.seat.table_id x.1.seat.me × (x.0.desk ≡ said.desk_slot said.drain_slots i))) }
+    ensures seats { IfOk result (λ seated. said.EachAt seated.items (λ i x. said.HasSeat words.now.key words.now.table_id i x.1.seat.table_id x.1.seat.me
+        × (x.0.desk ≡ said.desk_slot said.drain_slots i))) }
     ensures err { OnErr result (result ≡ Err said.Memory) }
 {
     let mut seated = Vec::new(alloc);
@@ -195,10 +200,12 @@ fn seat_sessions<D: Device>(
 /// The next session's seat is cut off, and sits down at its desk.
 fn seat_next<D: Device>(words: &Words<D>, rest: &mut Place<D>) -> Place<D>
     requires table { (rest.old.table_id ≡ words.now.table_id) × (0 < words.now.table_id.words) }
-    requires rest { (number : ℕ) × (rest.old.me ≡ (said.rest_view words.now.key number, [])) × (said.desk_slot said.drain_slots number < words.now.table_id.slots) }
+    requires rest { (number : ℕ) × (rest.old.me ≡ (said.rest_view words.now.key number, []))
+        × (said.desk_slot said.drain_slots number < words.now.table_id.slots) }
     ensures rest { (number : ℕ) → rest.old.me ≡ (said.rest_view words.now.key number, []) → rest.new.me ≡ (said.rest_view words.now.key (number + 1), []) }
     ensures table { rest.new.table_id ≡ rest.old.table_id }
-    ensures seat { (number : ℕ) → rest.old.me ≡ (said.rest_view words.now.key number, []) → said.HasSeat words.now.key words.now.table_id number result.table_id result.me }
+    ensures seat { (number : ℕ) → rest.old.me ≡ (said.rest_view words.now.key number, [])
+        → said.HasSeat words.now.key words.now.table_id number result.table_id result.me }
 {
     let mut seat = words.split_seat::<Meeting>(rest);
     sit_down(words, &mut seat);

@@ -20,16 +20,18 @@ impl Adds for Brand {
     ghost own = { λ _. [] };
 }
 
-/// Does what is asked of a word, and gives the word as it was.
-#[inline(always)]
-pub(crate) fn perform<D: Device, M: Play<Slot, Knows<D>>, A>(
+/// Does what is asked of a word, and gives the word as it was: in a function of its own.
+#[inline(never)]
+fn perform_apart<D: Device, M: Play<Slot, Knows<D>>, A>(
     words: &Words<D>,
     seat: &mut Place<D>,
     ask: &Ask<A>,
 ) -> u64
     requires table { seat.old.table_id ≡ words.now.table_id }
     requires word { (place : ℕ) × (said.asked_place ask.now ≡ Some place) × (said.position place < words.now.table_id.words) × (place < 2 ^ 62) }
-    requires allows { (place : ℕ) → said.asked_place ask.now ≡ Some place → said.Allows (said.Ruled (said.plane (said.opening_of D.seen)) words.now.key) words.now.table_id.slots seat.old.id seat.old.me (said.position place) (asked ask.now) (M.then (said.step_of words.now.table_id.slots ask.now) seat.old.me) }
+    requires allows { (place : ℕ) → said.asked_place ask.now ≡ Some place
+        → said.Allows (said.Ruled (said.plane (said.opening_of D.seen)) words.now.key) words.now.table_id.slots seat.old.id seat.old.me
+        (said.position place) (asked ask.now) (M.then (said.step_of words.now.table_id.slots ask.now) seat.old.me) }
     ensures seat { (seat.new.table_id ≡ seat.old.table_id) × (seat.new.id ≡ seat.old.id) }
     ensures told { M.then (said.step_of words.now.table_id.slots ask.now) seat.old.me result seat.new.me }
 {
@@ -43,6 +45,33 @@ pub(crate) fn perform<D: Device, M: Play<Slot, Knows<D>>, A>(
         Ask::Add(place, number) => words.fetch_add::<M>(seat, position(*place), *number),
         Ask::Max(place, number) => words.fetch_max::<M>(seat, position(*place), *number),
         Ask::Put(_, _) | Ask::Take(_) | Ask::Done(_) => unreachable!(),
+    }
+}
+
+/// Does what is asked of a word, and gives the word as it was. What few calls ask for is done apart: the compiler inlines no function that would
+/// grow very large, whether it is marked or not.
+#[inline(always)]
+pub(crate) fn perform<D: Device, M: Play<Slot, Knows<D>>, A>(
+    words: &Words<D>,
+    seat: &mut Place<D>,
+    ask: &Ask<A>,
+) -> u64
+    requires table { seat.old.table_id ≡ words.now.table_id }
+    requires word { (place : ℕ) × (said.asked_place ask.now ≡ Some place) × (said.position place < words.now.table_id.words) × (place < 2 ^ 62) }
+    requires allows { (place : ℕ) → said.asked_place ask.now ≡ Some place
+        → said.Allows (said.Ruled (said.plane (said.opening_of D.seen)) words.now.key) words.now.table_id.slots seat.old.id seat.old.me
+        (said.position place) (asked ask.now) (M.then (said.step_of words.now.table_id.slots ask.now) seat.old.me) }
+    ensures seat { (seat.new.table_id ≡ seat.old.table_id) × (seat.new.id ≡ seat.old.id) }
+    ensures told { M.then (said.step_of words.now.table_id.slots ask.now) seat.old.me result seat.new.me }
+{
+    match ask {
+        Ask::Load(place) => words.load::<M>(seat, position(*place)),
+        Ask::Store(place, new) => words.swap::<M>(seat, position(*place), *new),
+        Ask::Swap(place, new) => words.swap::<M>(seat, position(*place), *new),
+        Ask::Cas(place, old, new) => {
+            words.compare_exchange::<M>(seat, position(*place), *old, *new)
+        }
+        _ => perform_apart::<D, M, A>(words, seat, ask),
     }
 }
 

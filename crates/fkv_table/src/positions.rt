@@ -8,11 +8,12 @@ pub fn law_positions()
     ensures apart { (place other : ℕ) → said.position place ≡ said.position other → place ≡ other }
     ensures below { (place count : ℕ) → place < count → said.position place < count + said.gaps }
     ensures found { (words : List ℕ) (place : ℕ) → place < length words → slice_index_or (said.laid words) (said.position place) 0 ≡ said.word_at words place }
-    ensures changed { (words : List ℕ) (place word : ℕ) → place < length words → said.laid (slice_set words place word) ≡ slice_set (said.laid words) (said.position place) word }
+    ensures changed { (words : List ℕ) (place word : ℕ) → place < length words
+        → said.laid (slice_set words place word) ≡ slice_set (said.laid words) (said.position place) word }
 {}
 
 /// The position of the word of a place.
-#[inline(always)]
+#[inline]
 pub(crate) fn position(place: usize) -> usize
     requires { place < 2 ^ 62 }
     ensures { result ≡ said.position place }

@@ -364,45 +364,4 @@ impl Session {
     {
         self.machine.serial()
     }
-
-    /// Runs a call to its end, as `call` does, by a pass that comes and goes.
-    pub fn run_told<D: Device>(
-        &mut self,
-        table: &Table<D>,
-        mut pass: Pass<D>,
-        call: Call,
-    ) -> (Pass<D>, Told)
-        requires ready { said.IsReady (said.opening_of D.seen) table.now.table.shared.key table.now.table.shared.table_id pass.seat.table_id pass.seat.me
-            self.old.machine self.old.desk }
-        ensures ready { said.IsReady (said.opening_of D.seen) table.now.table.shared.key table.now.table.shared.table_id result.0.seat.table_id
-            result.0.seat.me self.new.machine self.new.desk }
-        ensures number { self.new.machine.seat.number ≡ self.old.machine.seat.number }
-        ensures called { said.HasCalled self.old.machine.seat.number call pass.seat.me.0.seen result.0.seat.me.0.seen }
-        ensures told { said.IsToldLast (said.led (said.plane (said.opening_of D.seen)) (said.opening_of D.seen table.now.table.shared.key)
-            result.0.seat.me.0.seen) self.new.machine.seat.number (said.telling result.1 self.new.machine.state.finished) }
-    {
-        let told = self.call(table, &mut pass, call);
-        (pass, told)
-    }
-
-    /// Runs an operation to its end, as `op` does, by a pass that comes and goes.
-    #[inline(always)]
-    pub fn run_op<D: Device>(
-        &mut self,
-        table: &Table<D>,
-        mut pass: Pass<D>,
-        op: Op,
-    ) -> (Pass<D>, Told)
-        requires ready { said.IsReady (said.opening_of D.seen) table.now.table.shared.key table.now.table.shared.table_id pass.seat.table_id pass.seat.me
-            self.old.machine self.old.desk }
-        ensures ready { said.IsReady (said.opening_of D.seen) table.now.table.shared.key table.now.table.shared.table_id result.0.seat.table_id
-            result.0.seat.me self.new.machine self.new.desk }
-        ensures number { self.new.machine.seat.number ≡ self.old.machine.seat.number }
-        ensures called { said.HasCalled self.old.machine.seat.number (call.Op op) pass.seat.me.0.seen result.0.seat.me.0.seen }
-        ensures told { said.IsToldLast (said.led (said.plane (said.opening_of D.seen)) (said.opening_of D.seen table.now.table.shared.key)
-            result.0.seat.me.0.seen) self.new.machine.seat.number (said.telling result.1 self.new.machine.state.finished) }
-    {
-        let told = self.op(table, &mut pass, op);
-        (pass, told)
-    }
 }

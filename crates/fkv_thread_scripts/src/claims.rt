@@ -72,7 +72,7 @@ fn claim_behind(before: Option<Claim>, session: u64, op: Op) -> Claim
 {
     let (adds, n) = match op {
         Op::Add(_, n) => (true, n),
-        Op::Upsert(..) | Op::Delete(_) | Op::Max(..) | Op::Read(_) => (false, 0),
+        Op::Upsert(..) | Op::Delete(_) | Op::Max(..) | Op::Read(_) | Op::Merge(..) => (false, 0),
     };
     match before {
         Some(its) => Claim {

@@ -106,6 +106,7 @@ module _ {D : Type 0} (device : Ghosts D) where
   -- A commit of this kind has begun, or was refused.
   pub record HasAsked (kind : CommitKind) (w : Watch (Opening D) D) (result : Result Version Fault) (w' : Watch (Opening D) D) : Type 0 where
     pub same : IsSame w w'
+    pub watching : IsWatching device w'
     pub medium : w'.device ≡ w.device
     pub over : w'.in_turn ≡ false
     pub kept : HasKept (Commits kind) w.seen w'.seen

@@ -55,10 +55,10 @@ impl<D: Device> Seated<D> {
 
     /// Runs a call to its end, in any thread, and waits for no other one. It has no error of its own: a refusal is told too. A poll is told how many
     /// requests are left, and `finished` tells those that it has finished. A done update has taken effect by what the session then has seen. A read
-    /// gives its key's value after some beginning of the history that holds what the session had seen. The calls follow one legal history. A point that is told as durable is a
-    /// sealed commit's. It is no less than what the session was told before, and each image that is left then or later recovers a point at or above it.
-    /// This is so of the table of each opened store, in all lives, with commits too, if fewer than 2^64 - 1 calls begin in them. What is said of
-    /// images also asks that the life began with one that reaches far.
+    /// gives its key's value after some beginning of the history that holds what the session had seen. The calls follow one legal history. A point
+    /// that is told as durable is a sealed commit's. It is no less than what the session was told before, and each image that is left then or later
+    /// recovers a point at or above it. This is so of the table of each opened store, in all lives, with commits too, if fewer than 2^64 - 1 calls
+    /// begin in them. What is said of images also asks that the life began with one that reaches far.
     pub fn call(&mut self, call: Call) -> Told
         ensures called { said.IsToldCallOf (said.opening D.Device) self.old call result self.new }
     {

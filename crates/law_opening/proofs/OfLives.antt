@@ -7,5 +7,6 @@ pub mod LongOpens
 pub mod MadeSteps
 pub mod SlotNamed
 pub mod ToldOpens
+pub mod Warm
 mod Words
 pub mod WorldOpens

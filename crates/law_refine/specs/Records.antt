@@ -3,3 +3,4 @@ pub mod Changes
 pub mod Frames
 pub mod Headers
 pub mod Laws
+pub mod Warm

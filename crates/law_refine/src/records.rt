@@ -29,7 +29,8 @@ pub fn law_headers_show_log()
 
 /// At every moment of such a life an address below the tail that is no further than the ring below the limit has in its frame the words that stand
 /// for it. So has each from the head that a session has seen up to the tail, while the session attempts a request in a call or in a poll; and
-/// none of these lies below where the log began. There each published record since the opening shows.
+/// none of these lies below the closed offset of the opening. There each published record shows from an address on, if all from there on
+/// did so as the life began; at or above the log's end of then none needs to.
 pub fn law_frames_show_log()
     ensures stands { records.FramesHaveTheWords }
     ensures finds { records.AttemptsFindFrames }

@@ -4,7 +4,7 @@ use Rattle.std.proofs.lemmas.Bool.Decides.{nat_tests}
 use Rattle.fkv_map.specs.Fits.{NumberFits, OpFits}
 use Rattle.fkv_map.specs.declared.operations.Call.TheVariants as call
 use Rattle.fkv_map.specs.declared.operations.Op.{Op}
-use Rattle.fkv_map.specs.declared.operations.Op.TheVariants.{Upsert, Delete, Add, Max, Read}
+use Rattle.fkv_map.specs.declared.operations.Op.TheVariants.{Upsert, Delete, Add, Max, Read, Merge}
 use Rattle.fkv_seats.specs.Rule.{AreAllowed}
 use Rattle.law_order.specs.Below.fkv_world.Runs.{World}
 use Rattle.law_order.specs.Served.Fits.{CallsFit, EventFits}
@@ -30,6 +30,7 @@ op_so (Delete key) is = number_so key.0 is
 op_so (Add key n) is = two_so key.0 n is
 op_so (Max key n) is = two_so key.0 n is
 op_so (Read key) is = number_so key.0 is
+op_so (Merge key which n) is = two_so key.0 n is
 
 event_so : (its : Happening) → may_stand its ≡ true → EventFits (event_of its)
 event_so (Calls session (call.Op op)) is = op_so op is

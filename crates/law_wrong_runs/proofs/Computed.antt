@@ -107,7 +107,7 @@ slots_free (suc (suc (suc (suc (suc (suc (suc (suc more)))))))) below = omega (a
 pub guard_opened : (its : KeeperState) (one other : SessionState) → (let w : World = opened_world shape places its one other in guard.IsOpened w.now 1)
 unfolding places shape
 guard_opened its one other = record {
-  words = record { fits = record { sessions = refl; ring = refl }; enough_words = omega arith; epochs = record { few_sessions = omega arith; with_others = omega arith; few_actors = omega arith; enough_words = omega arith; first_epoch = refl; nothing_safe = refl; awake = awake; slots_free = slots_free }; closed = refl; head = refl; flushed = refl; safe_read_only = refl; read_only = refl; tail = refl; limit = refl; tail_below = omega arith; limit_below = omega arith };
+  words = record { fits = record { sessions = refl; ring = refl }; enough_words = omega arith; epochs = record { few_sessions = omega arith; with_others = omega arith; few_actors = omega arith; enough_words = omega arith; first_epoch = refl; nothing_safe = refl; awake = awake; slots_free = slots_free }; closed = omega arith; head = refl; flushed = refl; safe_read_only = refl; read_only = refl; tail = refl; limit = refl; tail_below = omega arith; limit_below = omega arith };
   buckets = refl;
   slots = refl;
   seats = under_two one other;

@@ -53,6 +53,27 @@ class Keys(OverFile):
                 self.assertRaises(KeyError, call)
             self.assertRaises(TypeError, iter, session)
 
+    def test_merges(self):
+        most = 2**64 - 2
+        with self.open() as store, store.join() as session:
+            # a key's value, or None; the merge, its number, and what it gives
+            for key, (before, call, number, after) in enumerate([
+                (None, session.min, 7, 7), (12, session.min, 7, 7), (7, session.min, 12, 7),
+                (None, session.sub, 7, 0), (12, session.sub, 7, 5), (7, session.sub, 12, 0),
+                (None, session.and_, 7, 0), (12, session.and_, 10, 8), (most, session.and_, most, most),
+                (None, session.or_, 7, 7), (12, session.or_, 10, 14), (most, session.or_, 1, most),
+                (None, session.first, 7, 7), (12, session.first, 7, 12), (0, session.first, 7, 0),
+            ]):
+                if before is not None:
+                    session.put(key, before)
+                self.assertEqual(session.keep(key), before)
+                self.assertEqual((call(key, number), session.get(key), session.keep(key)), (after, after, after))
+                self.assertRaises(fkv.ValueReserved, call, key, 2**64 - 1)
+                self.assertRaises(OverflowError, call, key, 2**64)
+            self.assertIsNone(session.keep(1000))
+            self.assertIsNone(session.get(1000))
+            self.assertRaises(fkv.Error, session._merge, 6, 1, 1)
+
     def test_numbers_that_are_none(self):
         with self.open() as store, store.join() as session:
             for key in (-1, 2**64):
@@ -125,6 +146,7 @@ class Keys(OverFile):
             self.assertEqual(values, [key + 2 + (key % 7 == 0) for key in range(1000)])
             self.assertEqual([session[key] for key in range(1000)], values)
             self.assertGreater(store.stats.cold_reads, 0)
+            self.assertGreater(store.stats.waited[0], 0)
 
 
 class Stores(OverFile):
@@ -273,6 +295,7 @@ class Stores(OverFile):
             ticket = store.ask_commit()
             self.assertFalse(ticket.wait(0.05))
             self.assertTrue(ticket.wait(session=session))
+            self.assertRaises(fkv.InUse, store.stop)
             with session.asleep():
                 self.assertRaises(fkv.Asleep, session.get, 1)
                 store.commit()

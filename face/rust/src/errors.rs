@@ -53,6 +53,8 @@ pub enum Error {
     RoomSmall,
     /// No keeper's thread runs: start it first.
     NoKeeper,
+    /// No merge has this number.
+    NoMerge,
     /// A number that this crate doesn't know.
     Unknown(i32),
 }
@@ -112,6 +114,7 @@ impl Error {
             23 => Error::HandleTaken,
             24 => Error::RoomSmall,
             25 => Error::NoKeeper,
+            26 => Error::NoMerge,
             _ => Error::Unknown(result),
         }
     }
@@ -143,6 +146,7 @@ impl Error {
             Error::HandleTaken => 23,
             Error::RoomSmall => 24,
             Error::NoKeeper => 25,
+            Error::NoMerge => 26,
             Error::Unknown(result) => -result,
         }
     }

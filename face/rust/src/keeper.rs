@@ -203,10 +203,17 @@ impl Keeper {
         answer(unsafe { raw::fkv_keeper_fault(self.file.at) }).err()
     }
 
-    /// Ends the thread after a last commit, and tells how that has gone. Sessions that are out have to refresh or sleep meanwhile.
-    /// `HandleOut` in a hook of the thread.
+    /// Ends the thread after a last commit, and tells how that has gone. Sessions of other threads that are out have to refresh or sleep
+    /// meanwhile. Those of this thread have to sleep, or be dropped, before: else it ends without a last commit after a second, and tells
+    /// `HandleOut`. `HandleOut` in a hook of the thread too.
     pub fn stop(mut self) -> Result<(), Error> {
         self.end(raw::STOP_COMMIT)
+    }
+
+    /// Ends the thread without a last commit: what no commit has kept is lost, unless another keeper is started before the store is dropped.
+    /// `HandleOut` in a hook of the thread.
+    pub fn stop_now(mut self) -> Result<(), Error> {
+        self.end(raw::STOP_NOW)
     }
 
     /// Ends the thread and drops its hooks, once: another keeper may have been started by the second time.
@@ -216,7 +223,10 @@ impl Keeper {
             return Ok(());
         }
         let result = answer(unsafe { raw::fkv_stop(self.file.at, with_commit) });
-        if let Err(Error::HandleOut) = result {
+        // (a session of this thread holds the last commit up, or one of the hooks calls)
+        let goes_on = matches!(result, Err(Error::HandleOut))
+            && unsafe { raw::fkv_stop(self.file.at, raw::STOP_NOW) } < 0;
+        if goes_on {
             // One of the hooks calls. The thread goes on with them and the file.
             mem::forget(Arc::clone(&self.file));
         } else {

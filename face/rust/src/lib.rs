@@ -35,7 +35,7 @@ mod versions;
 pub use errors::{Damage, Error};
 pub use keeper::{Keeper, Keeping, Ticket};
 pub use renewal::{RenewedKeys, renew, renew_file};
-pub use session::{Finished, Made, Phase, Read, ReadTicket, Reason, Seen, Session, Update};
+pub use session::{Finished, Made, Merge, Phase, Read, ReadTicket, Reason, Seen, Session, Update};
 pub use sizes::{Size, Wish};
 pub use stats::Stats;
 pub use store::{Commit, How, Progress, Shape, Store, Work, spread, spread_back};

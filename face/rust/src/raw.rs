@@ -139,6 +139,7 @@ pub struct Stats {
     pub cold_reads: u64,
     pub file_bytes: u64,
     pub stopped: i32,
+    pub waited: [u64; REASONS],
 }
 
 #[repr(C)]
@@ -161,6 +162,7 @@ pub struct Keeping {
     pub stopped: Option<TellStopped>,
 }
 
+pub const REASONS: usize = 7;
 pub const MOST_SESSIONS: usize = 32;
 pub const MOST_PENDING: usize = 64;
 pub const ANY_SESSION: u64 = u64::MAX;
@@ -171,6 +173,7 @@ pub const FOUND: i32 = 1;
 pub const NONE: i32 = 2;
 pub const PENDING: i32 = 3;
 
+pub const STOP_NOW: u32 = 0;
 pub const STOP_COMMIT: u32 = 1;
 pub const STOP_KEEP: u32 = 2;
 
@@ -195,6 +198,14 @@ unsafe extern "C" {
     pub fn fkv_add(session: *mut Session, key: u64, number: u64, told: *mut Update) -> i32;
     pub fn fkv_max(session: *mut Session, key: u64, number: u64, told: *mut Update) -> i32;
     pub fn fkv_delete(session: *mut Session, key: u64, told: *mut Update) -> i32;
+    pub fn fkv_merge(
+        session: *mut Session,
+        key: u64,
+        which: u32,
+        number: u64,
+        told: *mut Update,
+    ) -> i32;
+    pub fn fkv_keep(session: *mut Session, key: u64, told: *mut Update) -> i32;
     pub fn fkv_get_many(
         session: *mut Session,
         keys: *const u64,
@@ -213,6 +224,16 @@ unsafe extern "C" {
     ) -> i32;
     pub fn fkv_add_many(
         session: *mut Session,
+        keys: *const u64,
+        count: usize,
+        numbers: *const u64,
+        numbers_count: usize,
+        told: *mut EachUpdate,
+        room: usize,
+    ) -> i32;
+    pub fn fkv_merge_many(
+        session: *mut Session,
+        which: u32,
         keys: *const u64,
         count: usize,
         numbers: *const u64,
@@ -295,6 +316,14 @@ unsafe extern "C" {
         told: *mut Update,
     ) -> i32;
     pub fn fkv_remove(file: *mut File, session: *mut Session, key: u64, told: *mut Update) -> i32;
+    pub fn fkv_merge_now(
+        file: *mut File,
+        session: *mut Session,
+        key: u64,
+        which: u32,
+        number: u64,
+        told: *mut Update,
+    ) -> i32;
     pub fn fkv_read(file: *mut File, session: *mut Session, key: u64, value: *mut u64) -> i32;
     pub fn fkv_read_many(
         file: *mut File,

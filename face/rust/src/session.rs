@@ -11,6 +11,34 @@ use std::time::Duration;
 /// So many keys go to the library in one call, so that their answers have room on the stack.
 const AT_ONCE: usize = 64;
 
+/// A call of many keys, by slices.
+fn in_c(
+    call: raw::UpdateMany,
+) -> impl Fn(*mut raw::Session, &[u64], &[u64], &mut [raw::EachUpdate]) -> i32 {
+    move |at, keys, numbers, told| {
+        let (its, of, into) = (keys.as_ptr(), numbers.as_ptr(), told.as_mut_ptr());
+        unsafe { call(at, its, keys.len(), of, numbers.len(), into, told.len()) }
+    }
+}
+
+/// What an update makes of its key's value and its number, beside [`Session::add`] and [`Session::max`].
+#[derive(Clone, Copy, Debug, PartialEq, Eq)]
+#[repr(u32)]
+pub enum Merge {
+    /// Leaves the value as it is, and a key without one without. The number is not looked at.
+    Keep = 0,
+    /// Lowers the value to the number. A key without a value gets the number.
+    Min = 1,
+    /// Takes the number from the value, down to 0. A key without a value gets 0.
+    Sub = 2,
+    /// Leaves the bits that both have. A key without a value gets 0.
+    And = 3,
+    /// Leaves the bits that either has, and 2^64 - 2 where these are all. A key without a value gets the number.
+    Or = 4,
+    /// Gives the number to a key without a value, and leaves any other as it is.
+    First = 5,
+}
+
 /// What a read has come to.
 #[derive(Clone, Copy, Debug, PartialEq, Eq)]
 pub enum Read {
@@ -39,11 +67,11 @@ pub struct ReadTicket(pub u64);
 /// What an update has come to. Its serial says whether a commit keeps it: [`Session::durable`].
 #[derive(Clone, Copy, Debug, PartialEq, Eq)]
 pub enum Update {
-    /// It is done. An add or a max has left this value; of the others it is 0.
+    /// It is done. An add, a max or a merge has left this value; of the others it is 0.
     Done {
         /// Its serial.
         serial: u64,
-        /// What an add or a max has left.
+        /// What an add, a max or a merge has left; of a keep 2^64 - 1 where the key has no value.
         value: u64,
     },
     /// It is accepted, and takes effect at a later poll.
@@ -120,7 +148,7 @@ pub enum Finished {
     Updated {
         /// Its serial.
         serial: u64,
-        /// What an add or a max has left.
+        /// What an add, a max or a merge has left; of a keep 2^64 - 1 where the key has no value.
         value: u64,
     },
     /// A read.
@@ -288,6 +316,15 @@ impl Session {
         self.update_now(|file, at, told| unsafe { raw::fkv_raise(file, at, key, number, told) })
     }
 
+    /// Merges the number into the key's value, as the merge's text says, and waits as [`Session::put`] does. A [`Merge::Keep`] tells 2^64 - 1
+    /// where the key has no value.
+    pub fn merge_now(&mut self, key: u64, which: Merge, number: u64) -> Result<Made, Error> {
+        let which = which as u32;
+        self.update_now(|file, at, told| unsafe {
+            raw::fkv_merge_now(file, at, key, which, number, told)
+        })
+    }
+
     /// Takes the key's value away, and waits as [`Session::put`] does.
     pub fn remove(&mut self, key: u64) -> Result<Made, Error> {
         self.update_now(|file, at, told| unsafe { raw::fkv_remove(file, at, key, told) })
@@ -328,8 +365,8 @@ impl Session {
 
     fn update_many(
         &mut self,
-        call: raw::UpdateMany,
         pairs: &[(u64, u64)],
+        call: impl Fn(*mut raw::Session, &[u64], &[u64], &mut [raw::EachUpdate]) -> i32,
     ) -> Vec<Result<Update, Error>> {
         let mut answers = Vec::with_capacity(pairs.len());
         for pairs in pairs.chunks(AT_ONCE) {
@@ -338,19 +375,8 @@ impl Session {
                 (keys[at], numbers[at]) = pair;
             }
             let (mut told, count) = ([raw::EachUpdate::default(); AT_ONCE], pairs.len());
-            let (keys, numbers) = (keys.as_ptr(), numbers.as_ptr());
             // There is room enough, and as many numbers as keys, so each update has its answer.
-            unsafe {
-                call(
-                    self.at,
-                    keys,
-                    count,
-                    numbers,
-                    count,
-                    told.as_mut_ptr(),
-                    AT_ONCE,
-                )
-            };
+            call(self.at, &keys[..count], &numbers[..count], &mut told);
             let of =
                 |its: &raw::EachUpdate| Update::of(its.result, its.serial, its.value, its.reason);
             answers.extend(told[..count].iter().map(of));
@@ -372,18 +398,75 @@ impl Session {
     /// Gives many keys their values: one after the other, as [`Session::upsert`] does, with the answer or the refusal of each. See
     /// [`Session::get_many`].
     pub fn upsert_many(&mut self, pairs: &[(u64, u64)]) -> Vec<Result<Update, Error>> {
-        self.update_many(raw::fkv_upsert_many, pairs)
+        self.update_many(pairs, in_c(raw::fkv_upsert_many))
     }
 
     /// Adds to the values of many keys: one after the other, as [`Session::add`] does, with the answer or the refusal of each. See
     /// [`Session::get_many`].
     pub fn add_many(&mut self, pairs: &[(u64, u64)]) -> Vec<Result<Update, Error>> {
-        self.update_many(raw::fkv_add_many, pairs)
+        self.update_many(pairs, in_c(raw::fkv_add_many))
     }
 
     /// Raises the key's value to the number. A key without a value gets it.
     pub fn max(&mut self, key: u64, number: u64) -> Result<Update, Error> {
         self.update(|at, told| unsafe { raw::fkv_max(at, key, number, told) })
+    }
+
+    /// Leaves the key's value as it is: an update that tells what a read would, or 2^64 - 1 where there is no value.
+    pub fn keep(&mut self, key: u64) -> Result<Update, Error> {
+        self.update(|at, told| unsafe { raw::fkv_keep(at, key, told) })
+    }
+
+    /// Lowers the key's value to the number. A key without a value gets it.
+    pub fn min(&mut self, key: u64, number: u64) -> Result<Update, Error> {
+        self.merge(key, Merge::Min, number)
+    }
+
+    /// Takes the number from the key's value, down to 0. A key without a value gets 0.
+    pub fn sub(&mut self, key: u64, number: u64) -> Result<Update, Error> {
+        self.merge(key, Merge::Sub, number)
+    }
+
+    /// Leaves the bits that the key's value and the number both have. A key without a value gets 0.
+    pub fn and(&mut self, key: u64, number: u64) -> Result<Update, Error> {
+        self.merge(key, Merge::And, number)
+    }
+
+    /// Leaves the bits that the key's value or the number has, and 2^64 - 2 where these are all. A key without a value gets the number.
+    pub fn or(&mut self, key: u64, number: u64) -> Result<Update, Error> {
+        self.merge(key, Merge::Or, number)
+    }
+
+    /// Gives the number to a key without a value, and leaves any other as it is.
+    pub fn first(&mut self, key: u64, number: u64) -> Result<Update, Error> {
+        self.merge(key, Merge::First, number)
+    }
+
+    /// Merges the number into the key's value, as the merge's text says.
+    pub fn merge(&mut self, key: u64, which: Merge, number: u64) -> Result<Update, Error> {
+        let which = which as u32;
+        self.update(|at, told| unsafe { raw::fkv_merge(at, key, which, number, told) })
+    }
+
+    /// Merges numbers into the values of many keys: one after the other, as [`Session::merge`] does, with the answer or the refusal of each.
+    /// See [`Session::get_many`].
+    pub fn merge_many(&mut self, which: Merge, pairs: &[(u64, u64)]) -> Vec<Result<Update, Error>> {
+        let which = which as u32;
+        self.update_many(pairs, |at, keys, numbers, told| {
+            let (its, of, into) = (keys.as_ptr(), numbers.as_ptr(), told.as_mut_ptr());
+            unsafe {
+                raw::fkv_merge_many(
+                    at,
+                    which,
+                    its,
+                    keys.len(),
+                    of,
+                    numbers.len(),
+                    into,
+                    told.len(),
+                )
+            }
+        })
     }
 
     /// Takes the key's value away.

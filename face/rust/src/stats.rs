@@ -34,6 +34,8 @@ pub struct Stats {
     pub file_bytes: u64,
     /// The number of the fault for which no commit is finished any more; 0 while commits go on.
     pub stopped: i32,
+    /// Calls that had to wait: updates by the number of their first [`Reason`](crate::Reason) in C, and reads at 0.
+    pub waited: [u64; 7],
 }
 
 impl Store {
@@ -56,6 +58,7 @@ impl Store {
             cold_reads: its.cold_reads,
             file_bytes: its.file_bytes,
             stopped: -its.stopped,
+            waited: its.waited,
         })
     }
 }

@@ -1,6 +1,8 @@
 //! The calls that just work: a session's own order beside commits, a tick that says why commits end, sizes for a wish, a keeper that keeps
 //! what was done.
-use fkv::{Error, Keeping, Made, RenewedKeys, Shape, Stats, Store, Wish, Work, renew_file};
+use fkv::{
+    Error, Keeping, Made, Merge, RenewedKeys, Shape, Stats, Store, Update, Wish, Work, renew_file,
+};
 use std::io::ErrorKind;
 use std::path::PathBuf;
 use std::sync::atomic::{AtomicBool, Ordering};
@@ -108,6 +110,61 @@ fn the_last_commit_is_told() {
 }
 
 #[test]
+fn merges_give_what_they_say() {
+    let path = Path::new("merges");
+    let store = path.store(1000);
+    let _keeper = store.start(Keeping::default()).unwrap();
+    let mut session = store.join_any().unwrap();
+    let none = u64::MAX;
+    let most = none - 1;
+    for (key, &(before, which, number, after)) in [
+        (None, Merge::Keep, 7, none),
+        (Some(12), Merge::Keep, none, 12),
+        (None, Merge::Min, 7, 7),
+        (Some(12), Merge::Min, 7, 7),
+        (None, Merge::Sub, 7, 0),
+        (Some(7), Merge::Sub, 12, 0),
+        (None, Merge::And, 7, 0),
+        (Some(12), Merge::And, 10, 8),
+        (None, Merge::Or, 7, 7),
+        (Some(most), Merge::Or, 1, most),
+        (None, Merge::First, 7, 7),
+        (Some(12), Merge::First, 7, 12),
+    ]
+    .iter()
+    .enumerate()
+    {
+        let key = key as u64;
+        for key in [key, key + 100, key + 200] {
+            if let Some(value) = before {
+                session.put(key, value).unwrap();
+            }
+        }
+        let done = |told: Result<Update, Error>| match told.unwrap() {
+            Update::Done { value, .. } => value,
+            pending => panic!("{pending:?}"),
+        };
+        assert_eq!(session.merge_now(key, which, number).unwrap().value, after);
+        assert_eq!(done(session.merge(key + 100, which, number)), after);
+        let told = session.merge_many(which, &[(key + 200, number)]).remove(0);
+        assert_eq!(done(told), after);
+        assert_eq!(done(session.keep(key)), after);
+        assert_eq!(session.read(key).unwrap(), (after != none).then_some(after));
+    }
+    assert!(matches!(session.min(1, none), Err(Error::ValueReserved)));
+    for told in [
+        session.first(1000, 12),
+        session.min(1000, 9),
+        session.sub(1000, 1),
+        session.or(1000, 2),
+        session.and(1000, 6),
+    ] {
+        assert!(matches!(told, Ok(Update::Done { .. })));
+    }
+    assert_eq!(session.read(1000).unwrap(), Some(2));
+}
+
+#[test]
 fn a_full_log_is_told() {
     let path = Path::new("full");
     let small = Shape {
@@ -172,6 +229,7 @@ fn what_is_done_is_kept_as_the_keeper_is_dropped() {
     assert!(session.read_many(&[]).unwrap().is_empty());
     let stats = store.stats().unwrap();
     assert!(stats.cold_reads >= 1000 && stats.helped > 0 && stats.turns >= stats.helped);
+    assert!(stats.waited[0] >= 1000);
     let Stats {
         joined, stopped, ..
     } = stats;

@@ -237,6 +237,43 @@ fn commits_are_there_in_the_next_life() {
 }
 
 #[test]
+fn a_last_commit_is_not_waited_for_past_an_own_session_that_is_awake() {
+    let path = Path::new("own_session");
+    let store = path.store();
+    for sleeps in [false, true] {
+        let keeper = store.start(Keeping::default()).unwrap();
+        let mut session = store.join_any().unwrap();
+        session.put(7, 1).unwrap();
+        if sleeps {
+            session.sleep().unwrap();
+        }
+        let result = keeper.stop();
+        assert_eq!(matches!(result, Err(Error::HandleOut)), !sleeps);
+        assert_eq!(result.is_ok(), sleeps);
+        let is_kept = session.durable().unwrap() == session.serial().unwrap();
+        assert_eq!(is_kept, sleeps);
+        drop(session);
+    }
+}
+
+#[test]
+fn a_keeper_that_is_stopped_at_once_commits_nothing() {
+    let path = Path::new("at_once");
+    let store = path.store();
+    let keeper = store.start(Keeping::default()).unwrap();
+    let mut session = store.join_any().unwrap();
+    session.put(7, 1).unwrap();
+    session.commit().unwrap();
+    session.put(7, 2).unwrap();
+    keeper.stop_now().unwrap();
+    assert!(matches!(session.commit(), Err(Error::NoKeeper)));
+    drop((session, store));
+    let store = Store::open(&path.0).unwrap();
+    let _keeper = store.start(Keeping::default()).unwrap();
+    assert_eq!(store.join_any().unwrap().read(7).unwrap(), Some(1));
+}
+
+#[test]
 fn what_was_pending_is_told() {
     let path = Path::new("pending");
     let store = path.store();

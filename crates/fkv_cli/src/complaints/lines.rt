@@ -47,7 +47,7 @@ impl<'a> LineFault<'a> {
             ScriptFault::Size => LineFault::TooMany,
             ScriptFault::Order if is_opening(head) => LineFault::SecondOpening(Quoted(head)),
             ScriptFault::Order => LineFault::NoOpening(Quoted(head)),
-            ScriptFault::Word => unknown_word(line, head),
+            ScriptFault::Word => unknown_word(script, line, head),
             ScriptFault::Count => wrong_count(line, head),
             ScriptFault::Number => no_number(line, head),
             ScriptFault::Mode if is_opening(head) => LineFault::NeedsFile(Quoted(head)),
@@ -92,10 +92,30 @@ fn is_session(head: &[u8]) -> bool {
     matches!(head, [b'0'..=b'9', ..])
 }
 
-fn unknown_word<'a>(line: &'a [u8], head: &'a [u8]) -> LineFault<'a> {
+/// Whether the script makes a large store: behind that line alone there are merges.
+fn takes_merges(script: &[u8]) -> bool {
+    for line in script.split(|byte| *byte == b'\n') {
+        match word_at(line, 0) {
+            b"" | [b'#', ..] => {}
+            head => return head == b"large".as_slice(),
+        }
+    }
+    false
+}
+
+/// What a place takes behind a session's number.
+fn verbs(script: &[u8]) -> &'static str {
+    if takes_merges(script) {
+        "up, del, add, max, get, keep, min, sub, and, or, first, refresh, poll, sleep or wake"
+    } else {
+        "up, del, add, max, get, refresh, poll, sleep or wake"
+    }
+}
+
+fn unknown_word<'a>(script: &'a [u8], line: &'a [u8], head: &'a [u8]) -> LineFault<'a> {
     let verb = word_at(line, 1);
     let (word, known) = match (head, verb) {
-        ([b'0'..=b'9', ..], _) => (verb, "up, del, add, max, get, refresh, poll, sleep or wake"),
+        ([b'0'..=b'9', ..], _) => (verb, verbs(script)),
         (b"k", b"commit") => (word_at(line, 2), "log or nothing"),
         (b"k", _) => (verb, "commit, turn or finish"),
         _ => (head, "a session's number, k, crash or fail"),
@@ -119,8 +139,8 @@ fn wrong_count<'a>(line: &'a [u8], head: &'a [u8]) -> LineFault<'a> {
         b"crash" => "the number of a call or nothing",
         b"fail" => "the number of a call",
         b"commit" => "log or nothing",
-        b"up" | b"add" | b"max" => "two numbers",
-        b"del" | b"get" => "one number",
+        b"up" | b"add" | b"max" | b"min" | b"sub" | b"and" | b"or" | b"first" => "two numbers",
+        b"del" | b"get" | b"keep" => "one number",
         _ => "no word",
     };
     let word = Quoted(if verb.is_empty() { head } else { verb });

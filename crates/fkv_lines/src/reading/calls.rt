@@ -1,11 +1,12 @@
 //! The calls of a session, by their verbs.
 ghost use Rattle.std.specs.Prelude.{◌≡◌};
 ghost use Rattle.fkv_lines.specs.Reading.{texts};
-ghost use Rattle.fkv_lines.specs.Calls.{alone, call_of, operation_of};
+ghost use Rattle.fkv_lines.specs.Calls.{alone, call_of, operation_of, merge_of};
 
 use crate::reading::numbers::arguments_of;
+use crate::scripts::Opening;
 use fkv_base::{Key, ScriptFault, Value};
-use fkv_map::{Call, Op};
+use fkv_map::{Call, Merge, Op};
 
 /// What a line says that no further word may follow.
 pub(super) fn alone<T: Drop>(words: &[&[u8]], said: T) -> Result<T, ScriptFault>
@@ -18,10 +19,10 @@ pub(super) fn alone<T: Drop>(words: &[&[u8]], said: T) -> Result<T, ScriptFault>
     }
 }
 
-/// The call that a verb and the words behind it name.
+/// The call that a verb and the words behind it name, where this line opened the store.
 #[tactic(auto, unfolding(crate::specs::Calls::call_of))]
-pub(super) fn call_of(verb: &[u8], words: &[&[u8]]) -> Result<Call, ScriptFault>
-    ensures { result ≡ call_of verb.now (texts words.now) }
+pub(super) fn call_of(opening: Opening, verb: &[u8], words: &[&[u8]]) -> Result<Call, ScriptFault>
+    ensures { result ≡ call_of opening verb.now (texts words.now) }
 {
     let call = if verb == b"refresh".as_slice() {
         Call::Refresh
@@ -32,15 +33,15 @@ pub(super) fn call_of(verb: &[u8], words: &[&[u8]]) -> Result<Call, ScriptFault>
     } else if verb == b"wake".as_slice() {
         Call::Wake
     } else {
-        return Ok(Call::Op(operation_of(verb, words)?));
+        return Ok(Call::Op(operation_of(opening, verb, words)?));
     };
     alone(words, call)
 }
 
-/// The operation that a verb and its numbers name.
+/// The operation that a verb and its numbers name, where this line opened the store.
 #[tactic(auto, unfolding(crate::specs::Calls::operation_of))]
-fn operation_of(verb: &[u8], words: &[&[u8]]) -> Result<Op, ScriptFault>
-    ensures { result ≡ operation_of verb.now (texts words.now) }
+fn operation_of(opening: Opening, verb: &[u8], words: &[&[u8]]) -> Result<Op, ScriptFault>
+    ensures { result ≡ operation_of opening verb.now (texts words.now) }
 {
     match verb {
         b"up" => {
@@ -63,6 +64,28 @@ fn operation_of(verb: &[u8], words: &[&[u8]]) -> Result<Op, ScriptFault>
             let [key] = arguments_of::<1>(words)?;
             Ok(Op::Read(Key(key)))
         }
+        _ if opening.takes_merges() => merge_of(verb, words),
         _ => Err(ScriptFault::Word),
     }
+}
+
+/// The merge that a verb and its numbers name. A `keep` has no number but its key's.
+#[tactic(auto, unfolding(crate::specs::Calls::merge_of))]
+fn merge_of(verb: &[u8], words: &[&[u8]]) -> Result<Op, ScriptFault>
+    ensures { result ≡ merge_of verb.now (texts words.now) }
+{
+    let which = match verb {
+        b"keep" => {
+            let [key] = arguments_of::<1>(words)?;
+            return Ok(Op::Merge(Key(key), Merge::Keep, 0));
+        }
+        b"min" => Merge::Min,
+        b"sub" => Merge::Sub,
+        b"and" => Merge::And,
+        b"or" => Merge::Or,
+        b"first" => Merge::First,
+        _ => return Err(ScriptFault::Word),
+    };
+    let [key, n] = arguments_of::<2>(words)?;
+    Ok(Op::Merge(Key(key), which, n))
 }

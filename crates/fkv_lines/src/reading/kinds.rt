@@ -64,8 +64,8 @@ fn open_line(mode: Mode, words: &[&[u8]]) -> Result<Opening, ScriptFault>
 
 /// A later line: a `crash` or a `fail`, the keeper's behind `k`, or a session's behind its number.
 #[tactic(auto, unfolding(crate::specs::Lines::later_line))]
-pub(super) fn later_line(mode: Mode, words: &[&[u8]]) -> Result<Line, ScriptFault>
-    ensures { result ≡ later_line mode (texts words.now) }
+pub(super) fn later_line(mode: Mode, opening: Opening, words: &[&[u8]]) -> Result<Line, ScriptFault>
+    ensures { result ≡ later_line mode opening (texts words.now) }
 {
     let [head, words @ ..] = words else {
         return Err(ScriptFault::Word);
@@ -77,7 +77,7 @@ pub(super) fn later_line(mode: Mode, words: &[&[u8]]) -> Result<Line, ScriptFaul
         b"crash" => in_memory(mode, crash_line(words)?),
         b"fail" => in_memory(mode, fail_line(words)?),
         b"k" => keeper_line(words),
-        [b'0'..=b'9', ..] => session_line(head, words),
+        [b'0'..=b'9', ..] => session_line(opening, head, words),
         _ => Err(ScriptFault::Word),
     }
 }
@@ -166,12 +166,12 @@ fn commit_line(words: &[&[u8]]) -> Result<Line, ScriptFault>
 
 /// A call, behind the number of its session.
 #[tactic(auto, unfolding(crate::specs::Lines::session_line))]
-fn session_line(session: &[u8], words: &[&[u8]]) -> Result<Line, ScriptFault>
-    ensures { result ≡ session_line session.now (texts words.now) }
+fn session_line(opening: Opening, session: &[u8], words: &[&[u8]]) -> Result<Line, ScriptFault>
+    ensures { result ≡ session_line opening session.now (texts words.now) }
 {
     let [verb, words @ ..] = words else {
         return Err(ScriptFault::Count);
     };
-    let call = call_of(verb, words)?;
+    let call = call_of(opening, verb, words)?;
     Ok(Line::Call(number_of(session)?, call))
 }

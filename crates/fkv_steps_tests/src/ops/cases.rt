@@ -36,7 +36,38 @@ pub const IN_PLACE: &[Case<'static>] = &[
         ],
         ..USUAL
     },
-    // another one changes the value between the load and the Cas
+    Case {
+        op: Op::Merge(KEY, Merge::Sub, 3),
+        skips: 3,
+        asks: &[
+            Ask::Load(81),
+            Ask::Cas(81, 10, 7),
+            Ask::Done(TryAnswer::Done(Reply::Number(Value(7)))),
+        ],
+        ..USUAL
+    },
+    // its number is not looked at
+    Case {
+        op: Op::Merge(KEY, Merge::Keep, 3),
+        skips: 3,
+        asks: &[
+            Ask::Load(81),
+            Ask::Cas(81, 10, 10),
+            Ask::Done(TryAnswer::Done(Reply::Found(Value(10)))),
+        ],
+        ..USUAL
+    },
+    // another one changes the value between the load and the Cas, of a keep too
+    Case {
+        op: Op::Merge(KEY, Merge::Keep, 0),
+        rival: Some((4, Op::Upsert(KEY, Value(20)), Phase::Rest)),
+        skips: 4,
+        asks: &[
+            Ask::Cas(81, 10, 10),
+            Ask::Done(TryAnswer::Wait(Reason::Contended)),
+        ],
+        ..USUAL
+    },
     Case {
         op: Op::Max(KEY, 12),
         rival: Some((4, Op::Upsert(KEY, Value(20)), Phase::Rest)),
@@ -69,6 +100,26 @@ pub const COPIED: &[Case<'static>] = &[
             Ask::Store(82, HEADER),
             Ask::Cas(40, ENTRY, NEW_ENTRY),
             Ask::Done(TryAnswer::Done(Reply::Number(Value(15)))),
+        ],
+        ..USUAL
+    },
+    // a keep brings its record to the tail
+    Case {
+        op: Op::Merge(KEY, Merge::Keep, 3),
+        read_only: 6,
+        words: SAFE,
+        skips: 3,
+        asks: &[
+            Ask::Load(6),
+            Ask::Load(81),
+            Ask::Load(4),
+            Ask::Load(3),
+            Ask::Cas(3, 6, 7),
+            Ask::Store(84, 10),
+            Ask::Store(83, 3),
+            Ask::Store(82, HEADER),
+            Ask::Cas(40, ENTRY, NEW_ENTRY),
+            Ask::Done(TryAnswer::Done(Reply::Found(Value(10)))),
         ],
         ..USUAL
     },
@@ -126,6 +177,23 @@ pub const MADE: &[Case<'static>] = &[
             Ask::Store(82, 2 * ONE),
             Ask::Cas(41, 0, 6 + 4 * ONE),
             Ask::Done(TryAnswer::Done(Reply::Number(Value(5)))),
+        ],
+        ..USUAL
+    },
+    // a keep of a key without a value leaves it without
+    Case {
+        op: Op::Merge(FOURTH, Merge::Keep, 5),
+        asks: &[
+            Ask::Load(40),
+            Ask::Load(41),
+            Ask::Load(4),
+            Ask::Load(3),
+            Ask::Cas(3, 6, 7),
+            Ask::Store(84, Value::ABSENT),
+            Ask::Store(83, 4),
+            Ask::Store(82, 2 * ONE),
+            Ask::Cas(41, 0, 6 + 4 * ONE),
+            Ask::Done(TryAnswer::Done(Reply::Absent)),
         ],
         ..USUAL
     },

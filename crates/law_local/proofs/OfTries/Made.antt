@@ -1,10 +1,11 @@
 -- What a record is made of: the words that are written stand for what the operation makes, and a value that doesn't count may be any.
 use Rattle.std.proofs.Common.{◌≡◌, ◌≢◌, ℕ, ◌≤◌, ◌+◌, ◌∙◌, refl, sym, ap, arith, Bool, true, false, Option, Some, None}
-use Rattle.std.specs.Prelude.{◌==◌, if◌then◌else◌, min, max}
+use Rattle.std.specs.Prelude.{◌==◌, if◌then◌else◌, min, max, IfSome}
 use Rattle.std.proofs.Math.Nat.{min-le_right}
 use Rattle.fkv_map.specs.declared.operations.Op.{Op}
-use Rattle.fkv_map.specs.declared.operations.Op.TheVariants.{Upsert, Delete, Add, Max, Read}
-use Rattle.fkv_map.specs.Map.{absent_word, greatest_value, IsReserved}
+use Rattle.fkv_map.specs.declared.operations.Op.TheVariants.{Upsert, Delete, Add, Max, Read, Merge}
+use Rattle.fkv_map.specs.Map.{absent_word, greatest_value, IsReserved, merged}
+use Rattle.fkv_map.proofs.Shown.{merged_is_value}
 use Rattle.fkv_map.specs.Keys.{key_of, value_applied, reply_from}
 use Rattle.law_log.specs.Chains.{value_at, IsWithin}
 use Rattle.law_log.specs.Ghosts.{Log}
@@ -51,6 +52,14 @@ value_is word = by_test (word == absent_word) refl
     by_test true e = IsNone
     by_test false e = IsSome (eq_false word absent_word e)
 
+some_there : (word : ℕ) (old : Option ℕ) → IsOneOf word old → IfSome old (λ v. v ≢ absent_word)
+some_there word None IsNone = tt
+some_there word (Some x) (IsSome some) = some
+
+there_if : (value : Option ℕ) → IfSome value (λ v. v ≢ absent_word) → value_of (word_of value) ≡ value
+there_if None none = refl
+there_if (Some v) some = there v some
+
 made_of : (word : ℕ) (op : Op) (old : Option ℕ) → IsOneOf word old → (IsReserved op → ⊥) → value_of (word_of (value_applied old op)) ≡ value_applied old op
 made_of word (Upsert key value) old is plain = there value.0 plain
 made_of word (Delete key) old is plain = refl
@@ -58,6 +67,7 @@ made_of word (Add key n) None IsNone plain = there n plain
 made_of word (Add key n) (Some x) (IsSome some) plain = there (min (x + n) greatest_value) (sum_there x n)
 made_of word (Max key n) None IsNone plain = there n plain
 made_of word (Max key n) (Some x) (IsSome some) plain = there (max x n) (greater_there x n some plain)
+made_of word (Merge key which n) old is plain = there_if (merged which old n) (merged_is_value which old n (some_there word old is) (λ takes same. plain (takes, same)))
 made_of word (Read key) None IsNone plain = refl
 made_of word (Read key) (Some x) (IsSome some) plain = there x some
 

@@ -37,7 +37,7 @@ use Rattle.law_refine.specs.Records.Headers.{HeadersShowLog}
 use Rattle.law_refine.proofs.OfEvents.Below.{AreAbove, event_above, is_above}
 use Rattle.law_refine.proofs.OfEvents.Fixed.{life_rises}
 use Rattle.law_refine.proofs.OfEvents.Unborn.{ghost_unborn}
-use Rattle.law_refine.proofs.OfRecords.Frames.{head_above}
+use Rattle.law_refine.proofs.OfRecords.FrameOwners.{above_opening}
 use Rattle.law_refine.proofs.OfRecords.Life.{headers_show}
 use Rattle.law_refine.proofs.OfRecords.LogHeaders.{AllFall, falls_at}
 use Rattle.law_opening.specs.Changes.Laws.{BeginsLinked}
@@ -47,30 +47,6 @@ use Rattle.law_opening.proofs.OfChanges.Life.{SessionKnown, life_holds}
 use Rattle.law_opening.proofs.OfChanges.OfSessions.Attempting.{attempting_is, life_attempts}
 use Rattle.law_opening.proofs.OfChanges.Rows.{AttemptKnown, AttemptSo, TrySo, made_previous}
 use Rattle.law_opening.proofs.OfChanges.Told.{GoesSo, goes_so}
-
--- ---- what is changed in place lies at or above the head that the session has seen
-above_so : (low at a : ℕ) (head seen : Addr) → head ≡ seen → low ≤ seen.0 → head.0 ≤ at → Some at ≡ Some a → low ≤ a
-above_so low at a head seen same one other e =
-    let is : at ≡ a = some_same at a e in
-    let heads : head.0 ≡ seen.0 = ap (λ (x : Addr). x.0) same in
-    omega (arith, is, heads, one, other)
-
-try_above : (log : Log) (low : ℕ) (request : Request) (seen : Seen) (w : WalkState) (previous : ℕ) (step : Trying) (a : ℕ) → TrySo log w previous step → WalksFor request seen w step → low ≤ seen.offsets.head.0 → try_changes step ≡ Some a → low ≤ a
-try_above log low request seen w previous (SwapsValue addr) a so walks high e = above_so low addr.0 a w.head seen.offsets.head walks.its_head high so.1 e
-try_above log low request seen w previous (ChangesValue addr old) a so walks high e = above_so low addr.0 a w.head seen.offsets.head walks.its_head high so.1 e
-try_above log low request seen w previous step a so walks high e = none_some a e
-
-attempt_above : (log : Log) (low bits : ℕ) (its : AttemptState) (step : Attempting) (a : ℕ) → AttemptSo log its.trial step → TriesFor bits its step → low ≤ its.seen.offsets.head.0 → attempt_changes its step ≡ Some a → low ≤ a
-attempt_above log low bits its Tries a so tries high e = try_above log low its.pending.request its.seen its.trial.walk (made_previous its.trial) its.trial.step a so.1 tries.its_walk high e
-attempt_above log low bits its step a so tries high e = none_some a e
-
-goes_above : (log : Log) (low : ℕ) (k : Seat) (s : SessionState) (a : ℕ) → GoesSo k s → AttemptKnown log s.attempt → low ≤ s.seen.offsets.head.0 → attempt_changes s.attempt s.attempt.step ≡ Some a → low ≤ a
-goes_above log low k s a goes known high e = attempt_above log low _ s.attempt s.attempt.step a known goes.tries (subst (λ (x : Seen). low ≤ x.offsets.head.0) (sym goes.seen) high) e
-
-sitting_above : (log : Log) (low : ℕ) (k : Seat) (s : SessionState) (step : Sitting) (a : ℕ) → AttemptsBy k s step → (is_attempting step ≡ true → AttemptKnown log s.attempt) → (is_attempting step ≡ true → low ≤ s.seen.offsets.head.0) → sitting_changes s step ≡ Some a → low ≤ a
-sitting_above log low k s (Attempts has_shifted) a so known high e = goes_above log low k s a (goes_so k s (Attempts has_shifted) refl so) (known refl) (high refl) e
-sitting_above log low k s (Polls index) a so known high e = goes_above log low k s a (goes_so k s (Polls index) refl so) (known refl) (high refl) e
-sitting_above log low k s step a so known high e = none_some a e
 
 -- ---- events
 told_so : (low high : ℕ) (lines : List TraceLine) → AllSo low high (map Tells lines)
@@ -122,7 +98,7 @@ module _ (opening : World) (start : ℕ) (lists : ℕ → List ℕ) (ghosts : Gh
       let known : SessionKnown log s = (life_holds opening start lists ghosts before begins).known number s e in
       let so : AttemptsSo (seat_at w.now number) s = subst (λ (k : Seat). AttemptsSo k s) (sym (same_seat opening before number)) (life_attempts opening before number s begins.world e) in
       step_so start (tail_at w.now) log (led_below before) (seat_at w.now number) w.past.trace s w.now.words (session_ask (seat_at w.now number) s)
-      (λ a changes. sitting_above log start (seat_at w.now number) s s.step a so known.attempted (λ attempts. head_above opening start before number s begins.now e (attempting_is s.step attempts)) changes)
+      (λ a changes. above_opening opening start before number s a begins.now e changes)
       known.attempted
 
   own_so : (before : List Event) (event : Event) → AllSo start (tail_at (run opening before).now) (own_ghosts (run opening before) event)

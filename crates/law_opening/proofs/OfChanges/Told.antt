@@ -7,6 +7,7 @@ use Rattle.fkv_index.specs.Finding.{find_next_ask}
 use Rattle.fkv_index.specs.declared.finding.FindAnswer.{FindAnswer}
 use Rattle.fkv_index.specs.declared.finding.Found.{Found}
 use Rattle.fkv_index.specs.declared.finding.Found.TheVariants.{Slot}
+use Rattle.law_refine.specs.Below.fkv_flush.GuardLevels.{levels_of}
 use Rattle.law_refine.specs.Below.fkv_log.Loading.{load_ask}
 use Rattle.law_refine.specs.Below.fkv_log.TheLoading.{Loading}
 use Rattle.law_refine.specs.Below.fkv_log.TheLoading.TheVariants as load
@@ -143,7 +144,7 @@ framed_there opening start lists ghosts events session s a begins published foun
     record {
       cell = its.0;
       published = its.1;
-      shows = frames_show_log opening start ghosts events begins.now begins.unborn begins.reserves published a its.0 (omega (arith, head, high)) (finds_framed opening start events session s begins.now found attempting a high below) its.1;
+      shows = frames_show_log opening start (levels_of opening.now.words).closed ghosts events begins.now begins.unborn begins.reserves published begins.now.words.closed begins.warm a its.0 (omega (arith, head, high)) (finds_framed opening start events session s begins.now found attempting a high below) its.1;
     }
 
 pub headers_lead : (opening : World) (start : ℕ) (lists : ℕ → List ℕ) (ghosts : Ghosts) (events : List Event) (session : ℕ) (s : SessionState) → BeginsLinked opening start lists ghosts → AreChangesPublished opening ghosts events

@@ -76,6 +76,8 @@ guard_words o n its =
     let disk = o.tail_on_disk in
     let room = room_end o.tail.0 o.shape.page o.shape.disk_pages o.shape.frames some (omega (arith, mutable, frames)) disk in
     let end : word_at n.words 4 ≡ opening_limit o = once_word o n.words parts 4 (omega arith) in
+    let closes : word_at n.words 9 ≡ o.tail.0 = once_word o n.words parts 9 (omega arith) in
+    let heads : word_at n.words 8 ≡ o.tail.0 = once_word o n.words parts 8 (omega arith) in
     rw its.its_shape (record {
       fits = record { sessions = sessions; ring = ring };
       enough_words = many;
@@ -89,15 +91,15 @@ guard_words o n its =
         awake = λ session in_store. session_word_at o n.words parts session 0 (omega (arith, sessions, in_store)) (omega arith);
         slots_free = λ slot small. free parts slot small;
       };
-      closed = once_word o n.words parts 9 (omega arith);
-      head = once_word o n.words parts 8 (omega arith);
+      closed = omega (arith, closes);
+      head = heads ∙ sym closes;
       flushed = once_word o n.words parts 7 (omega arith);
       safe_read_only = once_word o n.words parts 6 (omega arith);
       read_only = once_word o n.words parts 5 (omega arith);
       tail = once_word o n.words parts 3 (omega arith);
       limit = end;
       tail_below = let low = room.0 in omega (arith, end, low);
-      limit_below = let high = room.1 in omega (arith, end, high, ring);
+      limit_below = let high = room.1 in omega (arith, end, high, ring, closes);
     })
   where
     some_page : (f p : ℕ) → 0 < f * p → 0 < p
@@ -131,7 +133,7 @@ guard_now o n its =
       slots = its.no_actions;
       seats = λ number s got. let within = slice_get_within n.sessions number s got in omega (arith, within, many, sessions);
       sessions = λ number s got. (its.its_sessions number s got).opened;
-      seen = λ number s got. let saw = (its.its_sessions number s got).saw in seen_so o s.seen saw;
+      seen = λ number s got. let saw = (its.its_sessions number s got).saw in seen_so o s.seen saw ∙ ap (λ (h : ℕ). seen_at o.tail.0 h) (sym (once_word o n.words (parted o n.words its.its_words) 9 (omega arith)));
       keeper = its_keeper_opens o n its;
       finishes = its.its_keeper.its_sessions ∙ sym store.sessions;
     }

@@ -20,8 +20,9 @@ use Rattle.law_refine.specs.Events.Reserved.{IsUnbornFrom, ReservesNothing, tail
 use Rattle.law_refine.specs.Heads.Heads.{LeadToHeads}
 use Rattle.law_refine.specs.Records.Changes.{AreChangesPublished}
 use Rattle.law_refine.specs.Records.Headers.{HeadersShowLog}
+use Rattle.law_refine.specs.Records.Warm.{MemoryShowsLog}
 
--- what a life begins with here: a world that was opened, and beside it a log whose chains and records lead to published records alone
+-- what a life begins with here: a world that was opened, and beside it a log whose chains and records lead to published records alone, and which shows in memory
 pub record BeginsLinked (opening : World) (start : ℕ) (lists : ℕ → List ℕ) (ghosts : Ghosts) : Type 0 where
   pub world : IsOpenedWorld opening
   pub now : guard.IsOpened opening.now start
@@ -31,6 +32,7 @@ pub record BeginsLinked (opening : World) (start : ℕ) (lists : ℕ → List �
   pub reserves : ReservesNothing ghosts
   pub heads : LeadToHeads opening.now lists ghosts.log
   pub linked : IsLinkedLog ghosts.log
+  pub warm : MemoryShowsLog opening start ghosts.log
 
 -- It begins so beside a log with numbers that fit in words: the device has each of its records, and nothing has taken effect. Each session has its mailbox.
 pub record BeginsFitting (opening : World) (start : ℕ) (lists : ℕ → List ℕ) (ghosts : Ghosts) : Type 0 where

@@ -6,7 +6,8 @@ use Rattle.fkv_base.specs.declared.faults.Fault.TheVariants as fault
 use Rattle.fkv_map.specs.declared.operations.Call.{Call}
 use Rattle.fkv_map.specs.declared.operations.Op.{Op}
 use Rattle.fkv_map.specs.declared.operations.Op.TheVariants as op
-use Rattle.fkv_map.specs.Map.{IsReserved, is_reserved, absent_word}
+use Rattle.fkv_map.specs.Map.{IsReserved, is_reserved}
+use Rattle.fkv_map.proofs.Shown.{free_by_test}
 use Rattle.law_log.specs.Ghosts.{Log}
 use Rattle.law_commit.specs.Below.fkv_ops.Occasion.TheVariants.{Call as AtCall, Poll as AtPoll}
 use Rattle.law_commit.specs.Below.fkv_ops.Seen.{Seen}
@@ -41,17 +42,6 @@ after_seen : (k : Seat) (s : SessionState) (step : Sitting) (reply : ℕ) → At
 after_seen k s (Attempts has_shifted) reply so e = (attempt_goes (bits_of k) s.seen AtCall k.places (room_of k) k.number s.attempt reply so.goes).its_seen
 after_seen k s (Polls index) reply so e = (attempt_goes (bits_of k) s.seen AtPoll k.places (room_of k) k.number s.attempt reply so.goes).its_seen
 after_seen k s step reply so e = cc
-
--- an operation that is not refused brings no number that stands for no value
-other_number : (a b : ℕ) → (a == b) ≡ false → a ≡ b → ⊥
-other_number a b e same = grind (arith, nat_tests, e, same)
-
-pub plain_op : (its : Op) → is_reserved its ≡ false → IsReserved its → ⊥
-plain_op (op.Upsert key value) e is = other_number value.0 absent_word e is
-plain_op (op.Delete key) e is = is
-plain_op (op.Add key n) e is = other_number n absent_word e is
-plain_op (op.Max key n) e is = other_number n absent_word e is
-plain_op (op.Read key) e is = is
 
 not_refused : (s : SessionState) (its : Op) → refusal_of s its ≡ None → is_reserved its ≡ false
 not_refused s its e = by_tests s.is_awake (is_reserved its) refl e
@@ -101,7 +91,7 @@ module _ (home : ℕ → ℕ) where
   call_so log k s its idle low knows =
       begun_known (WaitsSo log s.seen) (TriesSo log) k s its idle knows
       (record {
-        calls = λ made is none. begins_anew log k (with_op s made) s.seen (plain_op made (not_refused s made none)) low;
+        calls = λ made is none. begins_anew log k (with_op s made) s.seen (free_by_test made (not_refused s made none)) low;
         polls = λ is awake. hands_over log k s.seen;
       })
 

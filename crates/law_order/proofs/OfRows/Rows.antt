@@ -62,7 +62,8 @@ use Rattle.law_order.proofs.OfRows.Changed.{IsChangedBy}
 use Rattle.law_order.proofs.OfRows.Kept.{Copies, changed_else, copied, keeps_by}
 use Rattle.law_order.proofs.OfRows.Stays.{attempt_stays, enabled_until, pending_stays}
 use Rattle.law_order.proofs.OfRows.Lives.{life_seeks, life_unlatched}
-use Rattle.law_order.proofs.OfRows.Replies.{KnowsSo, StepFacts, TriesSo, WaitsSo, call_so, plain_op, step_so}
+use Rattle.fkv_map.proofs.Shown.{free_by_test}
+use Rattle.law_order.proofs.OfRows.Replies.{KnowsSo, StepFacts, TriesSo, WaitsSo, call_so, step_so}
 
 -- ---- control states
 -- behind a shift the session goes by what it has caught up with
@@ -199,7 +200,7 @@ module _ (life : BegunLife) (before : List Event) (event : Event)
         trying = λ attempting its. attempt_stays life before event (attempt_after K s reply) enabled leaves_own its;
         unlatched = λ index pending got.
             life_unlatched life.opening (event ∷ before) session after index pending life.begins.world life.begins.store.now.buckets is_now (ap (λ (x : SessionState). slice_get x.requests index) is ∙ got);
-        plain = λ at. plain_op s.op (plain_in_hand s at (life_op_kept life.opening life.start before session s life.begins.store.now was));
+        plain = λ at. free_by_test s.op (plain_in_hand s at (life_op_kept life.opening life.start before session s life.begins.store.now was));
         caught = λ its at done.
             subst (λ (seen : Seen). head_in seen ≤ L'.fixed) (ap (λ (x : SessionState). x.seen) is ∙ caught_seen K s reply its at done) below;
       }

@@ -25,6 +25,7 @@ begins_fitting life fits = record {
     reserves = life.begins.reserves;
     heads = life.begins.heads;
     linked = linked_log (home_of_world life.opening) life.ghosts.log life.begins.log.chains;
+    warm = life.begins.warm;
   };
   store = life.begins.store;
   mailboxes = life.begins.mailboxes;

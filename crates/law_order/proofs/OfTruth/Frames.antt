@@ -2,6 +2,7 @@
 use Rattle.std.proofs.Common.{◌≡◌, ℕ, ◌<◌, ◌≤◌, ◌∙◌, inl, inr, sym, ap, arith, List, []}
 use Rattle.std.specs.Prelude.{Some, slice_get}
 use Rattle.std.proofs.lemmas.Bool.{cases_lt}
+use Rattle.law_commit.specs.Below.fkv_flush.GuardLevels.{levels_of}
 use Rattle.law_commit.specs.Below.fkv_ops.HeaderWords.{header_said}
 use Rattle.law_commit.specs.Below.fkv_ops.Values.{value_of}
 use Rattle.law_log.specs.Chains.{Cell, Published}
@@ -25,6 +26,7 @@ use Rattle.law_commit.proofs.Below.law_refine.OfEvents.Fixed.{life_rises}
 use Rattle.law_commit.specs.Below.law_refine.Records.Cells.{ShowsCell}
 use Rattle.law_commit.specs.Below.law_refine.Records.Changes.{AreChangesPublished}
 use Rattle.law_commit.specs.Below.law_refine.Records.Frames.{IsAttempting, words_framed}
+use Rattle.law_commit.specs.Below.law_refine.Records.Warm.{MemoryShowsLog}
 use Rattle.law_commit.proofs.Below.law_refine.OfRecords.Standing.{HasFrame, stands_in, stood_here}
 use Rattle.law_commit.proofs.Below.law_refine.OfRecords.Frames.{finds_framed, frames_show_log, head_above}
 use Rattle.law_commit.proofs.Below.law_refine.OfRecords.Life.{life_holds}
@@ -43,12 +45,12 @@ abbrev pub ShowsInFrame : Now → Log → ℕ → Type 0
 ShowsInFrame n log a = (cell : Cell) → log.cells a ≡ Published cell → ShowsCell (words_framed n a) cell
 
 -- ---- from the head that the session has seen
-shows_above : (opening : World) (start : ℕ) (ghosts : Ghosts) (events : List Event) (session : ℕ) (s : SessionState) (a : ℕ) → IsOpened opening.now start → IsUnbornFrom (tail_at opening.now) ghosts → ReservesNothing ghosts
+shows_above : (opening : World) (start : ℕ) (ghosts : Ghosts) (events : List Event) (session : ℕ) (s : SessionState) (a : ℕ) → IsOpened opening.now start → IsUnbornFrom (tail_at opening.now) ghosts → ReservesNothing ghosts → MemoryShowsLog opening start ghosts.log
     → AreChangesPublished opening ghosts events → slice_get (run opening events).now.sessions session ≡ Some s → IsAttempting s.step → s.seen.offsets.head.0 ≤ a
     → ShowsInFrame (run opening events).now (life_ghosts opening ghosts events).log a
-shows_above opening start ghosts events session s a opened none free published found attempts above = λ cell e.
+shows_above opening start ghosts events session s a opened none free warm published found attempts above = λ cell e.
     let head = head_above opening start events session s opened found attempts in
-    frames_show_log opening start ghosts events opened none free published a cell (omega (arith, head, above))
+    frames_show_log opening start (levels_of opening.now.words).closed ghosts events opened none free published opened.words.closed warm a cell (omega (arith, head, above))
     (finds_framed opening start events session s opened found attempts a above (published_below opening start ghosts events a cell opened none e)) e
 
 -- ---- from the read-only offset that it has seen
@@ -80,8 +82,8 @@ shows_mutable opening start ghosts events session s a opened none free published
     (λ part. ap (λ (p : Places). word_at n.words (record_place p a part)) (places_stay opening events) ∙ sym (stood_here opening start events a part opened framed))
     ((life_holds opening start ghosts events opened none free published).shows a cell (omega (arith, first, above)) e)
 
-pub shows_here : (opening : World) (start : ℕ) (ghosts : Ghosts) (events : List Event) (session : ℕ) (s : SessionState) (a : ℕ) → IsOpened opening.now start → IsUnbornFrom (tail_at opening.now) ghosts → ReservesNothing ghosts
+pub shows_here : (opening : World) (start : ℕ) (ghosts : Ghosts) (events : List Event) (session : ℕ) (s : SessionState) (a : ℕ) → IsOpened opening.now start → IsUnbornFrom (tail_at opening.now) ghosts → ReservesNothing ghosts → MemoryShowsLog opening start ghosts.log
     → AreChangesPublished opening ghosts events → slice_get (run opening events).now.sessions session ≡ Some s → IsAttempting s.step → IsHere s.seen a
     → ShowsInFrame (run opening events).now (life_ghosts opening ghosts events).log a
-shows_here opening start ghosts events session s a opened none free published found attempts (inl above) = shows_above opening start ghosts events session s a opened none free published found attempts above
-shows_here opening start ghosts events session s a opened none free published found attempts (inr above) = shows_mutable opening start ghosts events session s a opened none free published found attempts above
+shows_here opening start ghosts events session s a opened none free warm published found attempts (inl above) = shows_above opening start ghosts events session s a opened none free warm published found attempts above
+shows_here opening start ghosts events session s a opened none free warm published found attempts (inr above) = shows_mutable opening start ghosts events session s a opened none free published found attempts above

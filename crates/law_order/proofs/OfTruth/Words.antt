@@ -43,9 +43,9 @@ pub words_show : (life : BegunLife) (events : List Event) (session : ℕ) (s : S
 words_show life events session s enabled published found attempts =
     let opened = life.begins.store.now in
     record {
-      header = λ a here cell e. (shows_here life.opening life.start life.ghosts events session s a opened life.begins.unborn life.begins.reserves published found attempts here cell e).header;
-      key = λ a here cell e. (shows_here life.opening life.start life.ghosts events session s a opened life.begins.unborn life.begins.reserves published found attempts here cell e).key;
-      value = λ a here cell e. (shows_here life.opening life.start life.ghosts events session s a opened life.begins.unborn life.begins.reserves published found attempts here cell e).value;
+      header = λ a here cell e. (shows_here life.opening life.start life.ghosts events session s a opened life.begins.unborn life.begins.reserves life.begins.warm published found attempts here cell e).header;
+      key = λ a here cell e. (shows_here life.opening life.start life.ghosts events session s a opened life.begins.unborn life.begins.reserves life.begins.warm published found attempts here cell e).key;
+      value = λ a here cell e. (shows_here life.opening life.start life.ghosts events session s a opened life.begins.unborn life.begins.reserves life.begins.warm published found attempts here cell e).value;
       fixed = sym (ghost_fixed life.opening life.start life.ghosts events opened life.begins.fixed);
       tail = tail_above life events enabled;
     }

@@ -14,6 +14,7 @@ use Rattle.law_commit.specs.Below.law_refine.Index.Shows as index
 use Rattle.law_commit.specs.Below.law_refine.Mail.Shows as mail
 use Rattle.law_commit.specs.Below.law_refine.Events.GhostEvents.{home_in, safe_at}
 use Rattle.law_commit.specs.Below.law_refine.Events.Reserved.{IsUnbornFrom, ReservesNothing, tail_at}
+use Rattle.law_commit.specs.Below.law_refine.Records.Warm.{MemoryShowsLog}
 
 -- the home of a key in the store of a world
 abbrev pub home_of_world : World → ℕ → ℕ
@@ -21,7 +22,8 @@ home_of_world w = home_in w.now.shape.bucket_bits
 
 -- A store was just opened, with its records' end at `start`: to the engine, the guard, the index (whose overflow buckets follow in these lists) and each
 -- mailbox. It rests, as each session has seen. The log is one with which the order law begins, from a map and in a version of its own; it has fixed what lies below the
--- safe read-only offset, its chains begin where the entries of the index lead, and the image that the device holds has each of its records.
+-- safe read-only offset, its chains begin where the entries of the index lead, memory has its records from the closed offset up, and the image that the device
+-- holds has each of them.
 pub record BeginsLife (opening : World) (start : ℕ) (lists : ℕ → List ℕ) (m : Map) (number : ℕ) (ghosts : Ghosts) : Type 0 where
   pub world : IsOpenedWorld opening
   pub store : IsOpenedStore opening start
@@ -33,6 +35,7 @@ pub record BeginsLife (opening : World) (start : ℕ) (lists : ℕ → List ℕ)
   pub unborn : IsUnbornFrom (tail_at opening.now) ghosts
   pub reserves : ReservesNothing ghosts
   pub heads : LeadToHeads opening.now lists ghosts.log
+  pub warm : MemoryShowsLog opening start ghosts.log
   pub device : (a : ℕ) (cell : Cell) → ghosts.log.cells a ≡ Published cell → IsInImage opening.now.shape opening.past.opened a cell
 
 -- A life as the order law begins it: its world, where its records end, and its overflow buckets. Beside it stands the log, with the map from which that begins

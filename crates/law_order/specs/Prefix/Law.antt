@@ -60,7 +60,7 @@ pub record IsCurrent (past : PrefixPast) (c : BegunCommit) : Type 0 where
 abbrev pub kept_so_far : Now → List ℕ → List Event → List Serial → List HistoryEntry
 kept_so_far n bytes events points = kept (history_so_far n bytes events) points
 
--- A store is what a commit keeps of a life. It has the commit's number and points. Its map is the one with which the life began, behind a replay in order of
+-- A store is what a commit keeps of a life. It has the commit's number and points. Its map is the one with which the life began, after a replay in order of
 -- effect. The replay has just each session's updates up to its point, and is legal with the replies that were given. No point has fallen in the life.
 pub record IsKeptOf (o : Opened) (n : Now) (bytes : List ℕ) (events : List Event) (c : BegunCommit) (image : List ℕ) (r : Opened) : Type 0 where
   pub shape : r.shape ≡ o.shape
@@ -98,7 +98,7 @@ RecoversPrefix o n bytes events = ReachesFar bytes → (image : List ℕ) → Ma
 abbrev pub TellsFinished : Opened → Now → List ℕ → List Event → Type 0
 TellsFinished o n bytes events = commits_finished (past_so_far n bytes events).begun ≡ commits_told (trace_so_far n bytes events) (told_of (newest_commit o) ∷ [])
 
--- Each commit has the number behind that of the one before, from the opening's on.
+-- Each commit has the number after that of the one before, from the opening's on.
 abbrev pub HasCommitsInTurn : Opened → Now → List ℕ → List Event → Type 0
 HasCommitsInTurn o n bytes events = AreInTurn (past_so_far n bytes events).begun
 
@@ -139,7 +139,7 @@ HasRisingPoints o n bytes events =
     (older newer : BegunCommit) → IsIn older (past_so_far n bytes events).begun → IsIn newer (past_so_far n bytes events).begun → older.number.0 ≤ newer.number.0 → AreAtMost older.points newer.points
 
 -- ---- durable
--- A commit has one of so many numbers behind the opening's. If numbers are in turn (`in_turn`), these are the commits that were told as finished first.
+-- A commit has one of so many numbers after the opening's. If numbers are in turn (`in_turn`), these are the commits that were told as finished first.
 abbrev pub IsAmongFinished : Opened → ℕ → BegunCommit → Type 0
 IsAmongFinished o finished c = c.number.0 ≤ o.number.0 + finished
 
@@ -185,7 +185,7 @@ abbrev pub kept_of_all : List Serial → List Life → List HistoryEntry
 kept_of_all points [] = []
 kept_of_all points (last ∷ before) = kept (kept_of_all (points_of last) before ++ history_so_far last.world last.bytes last.events) points
 
--- A life begins with all that was kept. Its map is the first life's, behind a replay of what is kept of all lives before. The replay is legal with the replies
+-- A life begins with all that was kept. Its map is the first life's, after a replay of what is kept of all lives before. The replay is legal with the replies
 -- that were given. It has each session's serials above the first life's point, up to the point now, once each, and no others.
 pub record BeginsWithKept (its : Life) (before : List Life) : Type 0 where
   pub pairs : map_of its ≡ content (map_of (first_of its before)) (kept_of_all (points_of its) before)

@@ -1,5 +1,5 @@
 -- Whose the record is whose frame a session's next step may write: the session changes it in place, or has reserved it. So the record has its frame.
-use Rattle.std.proofs.Common.{◌≡◌, ℕ, ◌≤◌, ◌∙◌, refl, sym, ap, subst, arith, true, List}
+use Rattle.std.proofs.Common.{[], ◌≡◌, ℕ, ◌≤◌, ◌∙◌, refl, sym, ap, subst, arith, true, List}
 use Rattle.std.specs.Prelude.{Option, Some, slice_get}
 use Rattle.fkv_map.specs.declared.history.HistoryEntry.{HistoryEntry}
 use Rattle.fkv_base.specs.declared.numbers.Addr.{Addr}
@@ -45,6 +45,8 @@ use Rattle.law_refine.specs.Events.GhostEvents.{safe_at}
 use Rattle.law_refine.specs.Events.Reservations.{Reservation, reservation, append_reserves, invalidate_reserves, try_reserves, attempt_reserves}
 use Rattle.law_refine.specs.Events.Reserved.{sitting_reserves, reserved_by}
 use Rattle.law_refine.proofs.OfEvents.Apart.{reserved_open}
+use Rattle.law_refine.proofs.OfEvents.Fixed.{life_rises}
+use Rattle.law_world.proofs.OfGuarded.BelowTail.{life_above}
 use Rattle.law_refine.specs.Records.Frames.{IsAttempting}
 use Rattle.law_refine.proofs.OfRecords.AppendRows.{Standing, FillStands, AppendStands}
 use Rattle.law_refine.proofs.OfRecords.AttemptRows.{TriesAt}
@@ -175,6 +177,16 @@ changes_attempts : (s : SessionState) (step : Sitting) (a : ℕ) → sitting_cha
 changes_attempts s (Attempts has_shifted) a e = tt
 changes_attempts s (Polls index) a e = tt
 changes_attempts s step a e = cc
+
+-- ---- it lies at or above where the log began
+pub above_opening : (opening : World) (start : ℕ) (before : List Event) (number : ℕ) (s : SessionState) (a : ℕ) → IsOpened opening.now start → slice_get (run opening before).now.sessions number ≡ Some s → changed_in_place s ≡ Some a → start ≤ a
+unfolding run
+above_opening opening start before number s a opened found changes =
+    let above = life_above opening start before number s opened found a changes in
+    let safe = (sees_safely opening start before number s opened found (changes_attempts s s.step a changes)).read_only in
+    let rises = (life_rises opening start [] before opened).safe_read_only in
+    let first = opened.words.safe_read_only in
+    omega (arith, above, safe, rises, first)
 
 -- ---- so the record has its frame
 pub owner_frame : (opening : World) (start : ℕ) (before : List Event) (number : ℕ) (s : SessionState) (f : FrameWord) → IsOpened opening.now start → slice_get (run opening before).now.sessions number ≡ Some s

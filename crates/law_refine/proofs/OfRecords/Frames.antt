@@ -4,6 +4,7 @@ use Rattle.std.specs.Prelude.{Some, slice_get}
 use Rattle.fkv_base.specs.declared.shapes.Shape.{Shape}
 use Rattle.fkv_disk.specs.Calls.{Call}
 use Rattle.law_world.specs.Below.fkv_flush.GuardFlushed.{IsSynced}
+use Rattle.law_world.specs.Below.fkv_flush.GuardLevels.{levels_of}
 use Rattle.law_log.specs.Ghosts.{Ghosts, Log}
 use Rattle.fkv_plane.specs.declared.places.Places.{Places}
 use Rattle.fkv_plane.specs.Asked.{word_at}
@@ -21,7 +22,7 @@ use Rattle.law_refine.specs.Records.Changes.{AreChangesPublished}
 use Rattle.law_refine.specs.Records.Frames.{DeviceShowsLog, FindsFramed, FramesShow, FramesShowLog, IsAttempting}
 use Rattle.law_refine.proofs.OfRecords.AppendRows.{Standing}
 use Rattle.law_refine.proofs.OfRecords.FrameOwners.{sees_safely}
-use Rattle.law_refine.proofs.OfRecords.Life.{life_holds}
+use Rattle.law_refine.proofs.OfRecords.Life.{life_shows_from}
 use Rattle.law_refine.proofs.OfRecords.OneEvent.{same_shows}
 use Rattle.law_refine.proofs.OfRecords.Standing.{life_order, limit_near, stands_in, stood}
 
@@ -44,19 +45,18 @@ finds_framed opening start events number s opened found = λ attempts a above be
     let near = limit_near opening start events a opened (omega (arith, head, above)) in
     record { below = below; near = omega (arith, near, ring) }
 
--- and no head that it has seen lies below the opening
-pub head_above : (opening : World) (start : ℕ) (events : List Event) (number : ℕ) (s : SessionState) → IsOpened opening.now start → slice_get (run opening events).now.sessions number ≡ Some s → IsAttempting s.step → start ≤ s.seen.offsets.head.0
+-- and no head that it has seen lies below the closed offset of the opening
+pub head_above : (opening : World) (start : ℕ) (events : List Event) (number : ℕ) (s : SessionState) → IsOpened opening.now start → slice_get (run opening events).now.sessions number ≡ Some s → IsAttempting s.step → (levels_of opening.now.words).closed ≤ s.seen.offsets.head.0
 unfolding run
 head_above opening start events number s opened found attempts =
     let rises = (life_rises opening start [] events opened).closed in
-    let first = opened.words.closed in
     let head = (sees_safely opening start events number s opened found attempts).head in
-    omega (arith, rises, first, head)
+    omega (arith, rises, head)
 
-pub frames_show_log : (opening : World) (start : ℕ) (ghosts : Ghosts) (events : List Event) → IsOpened opening.now start → IsUnbornFrom (tail_at opening.now) ghosts → ReservesNothing ghosts → AreChangesPublished opening ghosts events
-    → FramesShowLog start (run opening events).now (life_ghosts opening ghosts events).log
-frames_show_log opening start ghosts events opened none free published = λ a cell above framed e.
-    same_shows (stands_in opening start events a) _ cell (λ part. frames_show opening start events opened a part framed) ((life_holds opening start ghosts events opened none free published).shows a cell above e)
+pub frames_show_log : (opening : World) (start low : ℕ) (ghosts : Ghosts) (events : List Event) → IsOpened opening.now start → IsUnbornFrom (tail_at opening.now) ghosts → ReservesNothing ghosts → AreChangesPublished opening ghosts events
+    → low ≤ start → StandsShowLog low (stands_in opening start []) ghosts.log → FramesShowLog low (run opening events).now (life_ghosts opening ghosts events).log
+frames_show_log opening start low ghosts events opened none free published small warm = λ a cell above framed e.
+    same_shows (stands_in opening start events a) _ cell (λ part. frames_show opening start events opened a part framed) (life_shows_from opening start low ghosts events opened none free published small warm a cell above e)
 
 -- what is synced as it stands shows the log
 pub device_shows_log : (shape : Shape) (bytes : List ℕ) (calls : List Call) (stands : Standing) (start flushed : ℕ) (log : Log) → StandsShowLog start stands log → IsSynced shape bytes calls stands start flushed → DeviceShowsLog shape bytes calls start flushed log

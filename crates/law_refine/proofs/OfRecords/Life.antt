@@ -47,8 +47,18 @@ life_holds opening start ghosts (event ∷ before) opened none free published =
     let permitted = published_permitted opening start ghosts (event ∷ before) opened none published in
     record {
       rows = rows_then opening start ghosts opened none free before event permitted was.rows published.0;
-      shows = shows_then opening start ghosts opened none free before event permitted was.rows published.0 was.shows;
+      shows = shows_then opening start ghosts opened none free before event permitted was.rows published.0 start (omega arith) was.shows;
     }
+
+-- and so it does from below the log's end, if the frames did so as the life began
+pub life_shows_from : (opening : World) (start low : ℕ) (ghosts : Ghosts) (events : List Event) → IsOpened opening.now start → IsUnbornFrom (tail_at opening.now) ghosts → ReservesNothing ghosts → AreChangesPublished opening ghosts events
+    → low ≤ start → StandsShowLog low (stands_in opening start []) ghosts.log → StandsShowLog low (stands_in opening start events) (life_ghosts opening ghosts events).log
+unfolding run mapped ghost_run
+life_shows_from opening start low ghosts [] opened none free published small warm = warm
+life_shows_from opening start low ghosts (event ∷ before) opened none free published small warm =
+    let was = life_holds opening start ghosts before opened none free published.1 in
+    let permitted = published_permitted opening start ghosts (event ∷ before) opened none published in
+    shows_then opening start ghosts opened none free before event permitted was.rows published.0 low small (life_shows_from opening start low ghosts before opened none free published.1 small warm)
 
 -- ---- and so the headers of what is decided say so
 -- where addresses are taken for records that lead below them

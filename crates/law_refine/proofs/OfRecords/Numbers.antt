@@ -1,11 +1,12 @@
 -- Words say what was spelled in them: a header its record, and a value's word the value, where no operation brings the word for none.
 use Rattle.std.proofs.Common.{◌≡◌, ◌≢◌, ℕ, ◌+◌, ◌*◌, ◌<◌, ◌^◌, ◌%◌, ◌/◌, ◌∙◌, arith, refl, ap, Bool, true, false, min, max}
-use Rattle.std.specs.Prelude.{◌==◌, if◌then◌else◌, Option, Some, None}
+use Rattle.std.specs.Prelude.{◌==◌, if◌then◌else◌, Option, Some, None, IfSome}
 use Rattle.std.proofs.lemmas.Bool.Decides.{nat_tests}
 use Rattle.fkv_map.specs.declared.operations.Op.{Op}
-use Rattle.fkv_map.specs.declared.operations.Op.TheVariants.{Upsert, Delete, Add, Max, Read}
+use Rattle.fkv_map.specs.declared.operations.Op.TheVariants.{Upsert, Delete, Add, Max, Read, Merge}
 use Rattle.fkv_map.specs.Keys.{value_applied}
-use Rattle.fkv_map.specs.Map.{absent_word, greatest_value, sum_with, greater_with}
+use Rattle.fkv_map.specs.Map.{absent_word, greatest_value, sum_with, greater_with, merged}
+use Rattle.fkv_map.proofs.Shown.{merged_is_value, free_by_test}
 use Rattle.fkv_words.specs.declared.headers.Header.{Header}
 use Rattle.fkv_words.specs.Fields.{bit_of}
 use Rattle.fkv_words.specs.Layout.{header_word}
@@ -71,6 +72,14 @@ most_other a b one other = λ e. omega (arith, e, one, other)
 some_other : (n : ℕ) → Some n ≢ Some absent_word → n ≢ absent_word
 some_other n other = λ e. other (ap Some e)
 
+there_other : (old : Option ℕ) → old ≢ Some absent_word → IfSome old (λ v. v ≢ absent_word)
+there_other None other = tt
+there_other (Some v) other = some_other v other
+
+kept_if : (value : Option ℕ) → IfSome value (λ v. v ≢ absent_word) → value_of (word_of value) ≡ value
+kept_if None other = refl
+kept_if (Some v) other = value_kept v other
+
 applied_back : (old : Option ℕ) (op : Op) → old ≢ Some absent_word → IsAllowed op → value_of (word_of (value_applied old op)) ≡ value_applied old op
 applied_back old (Upsert key value) number allowed = value_kept value.0 (not_absent value.0 allowed)
 applied_back old (Delete key) number allowed = refl
@@ -78,6 +87,7 @@ applied_back None (Add key n) number allowed = value_kept n (not_absent n allowe
 applied_back (Some before) (Add key n) number allowed = value_kept (sum_with (Some before) n) (least_small (before + n))
 applied_back None (Max key n) number allowed = value_kept n (not_absent n allowed)
 applied_back (Some before) (Max key n) number allowed = value_kept (greater_with (Some before) n) (most_other before n (some_other before number) (not_absent n allowed))
+applied_back old (Merge key which n) number allowed = kept_if (merged which old n) (merged_is_value which old n (there_other old number) (λ takes same. free_by_test (Merge key which n) allowed (takes, same)))
 applied_back None (Read key) number allowed = refl
 applied_back (Some before) (Read key) number allowed = value_kept before (some_other before number)
 

@@ -277,20 +277,20 @@ module _ (opening : World) (start : ℕ) (ghosts : Ghosts) (opened : IsOpened op
       by_crash false e = λ number s after. alive_so e number s after
 
   -- ---- the log, where it was shown
-  module _ (shows : StandsShowLog start S G.log) where
+  module _ (low : ℕ) (small : low ≤ start) (shows : StandsShowLog low S G.log) where
     -- a published record that no session changes in place
-    unchanged_shows : (a : ℕ) (cell : Cell) → start ≤ a → G.log.cells a ≡ Published cell → ((writer : FrameWriter N event) → changed_in_place writer.state ≡ Some a → ⊥) → ShowsCell (T a) cell
+    unchanged_shows : (a : ℕ) (cell : Cell) → low ≤ a → G.log.cells a ≡ Published cell → ((writer : FrameWriter N event) → changed_in_place writer.state ≡ Some a → ⊥) → ShowsCell (T a) cell
     unchanged_shows a cell above e other =
         same_shows (S a) (T a) cell (λ part. elim (stays_or opening start before event opened a part permitted so (published_below a cell e)) [
           | inl same ↦ same
           | inr w ↦ absurd (other w.writer (writes_changed a cell part e w).0)
         ]) (shows a cell above e)
 
-    crashed_shows : N.crashed ≡ true → StandsShowLog start T G.log
+    crashed_shows : N.crashed ≡ true → StandsShowLog low T G.log
     crashed_shows over = λ a cell above e. same_shows (S a) (T a) cell (λ part. crashed_stays opening start before event opened a part permitted over (published_below a cell e)) (shows a cell above e)
 
     -- no session moves
-    still_shows : ((number : ℕ) → event ≡ Moves number → ⊥) → StandsShowLog start T G.log
+    still_shows : ((number : ℕ) → event ≡ Moves number → ⊥) → StandsShowLog low T G.log
     still_shows other = λ a cell above e. unchanged_shows a cell above e (λ writer changes. other writer.number writer.moves)
 
     -- ---- a session moves, by the log's events of its step
@@ -307,14 +307,14 @@ module _ (opening : World) (start : ℕ) (ghosts : Ghosts) (opened : IsOpened op
       the_writer : (writer : FrameWriter N event) (a : ℕ) → changed_in_place writer.state ≡ Some a → changed_in_place s ≡ Some a
       the_writer writer a changes = ap changed_in_place (sym (same_state number s writer moves found).1) ∙ changes
 
-      others_show : (a : ℕ) → changed_in_place s ≡ Some a → OthersShow start T G.log a
+      others_show : (a : ℕ) → changed_in_place s ≡ Some a → OthersShow low T G.log a
       others_show a changes = λ b cell other above e. unchanged_shows b cell above e (λ writer its. other (some_same b a (sym (the_writer writer b its) ∙ changes)))
 
-      none_changed : ((a : ℕ) → changed_in_place s ≡ Some a → ⊥) → StandsShowLog start T G.log
+      none_changed : ((a : ℕ) → changed_in_place s ≡ Some a → ⊥) → StandsShowLog low T G.log
       none_changed other = λ b cell above e. unchanged_shows b cell above e (λ writer its. other b (the_writer writer b its))
 
       -- an ask that leaves its word as it is
-      left_shows : (a : ℕ) (cell : Cell) → start ≤ a → G.log.cells a ≡ Published cell → asked A R ≡ R → ShowsCell (T a) cell
+      left_shows : (a : ℕ) (cell : Cell) → low ≤ a → G.log.cells a ≡ Published cell → asked A R ≡ R → ShowsCell (T a) cell
       left_shows a cell above e left =
           same_shows (S a) (T a) cell (λ part. elim (stays_or opening start before event opened a part permitted so (published_below a cell e)) [
             | inl same ↦ same
@@ -325,7 +325,7 @@ module _ (opening : World) (start : ℕ) (ghosts : Ghosts) (opened : IsOpened op
                 w.written ∙ (ap (λ (x : Ask Told). asked x (S a part)) ask ∙ (ap (asked A) (sym found_there) ∙ (left ∙ found_there)))
           ]) (shows a cell above e)
 
-      quiet_now : (events : List GhostEvent) → AreQuiet events → ((a : ℕ) → changed_in_place s ≡ Some a → asked A R ≡ R) → StandsShowLog start T (ghost_run H G events).log
+      quiet_now : (events : List GhostEvent) → AreQuiet events → ((a : ℕ) → changed_in_place s ≡ Some a → asked A R ≡ R) → StandsShowLog low T (ghost_run H G events).log
       quiet_now events quiet left = λ a cell above e.
           let was : G.log.cells a ≡ Published cell = quiet_run H G events a cell quiet e in
           elim (found_or (changed_in_place s) a) [
@@ -334,7 +334,7 @@ module _ (opening : World) (start : ℕ) (ghosts : Ghosts) (opened : IsOpened op
           ]
 
       -- the record that it changes in place
-      changed_now : (a : ℕ) (entry : HistoryEntry) (cell : Cell) → start ≤ a → changed_in_place s ≡ Some a → IsAllowed entry.op → asked A R ≡ word_of (value_applied (value_of R) entry.op) → G.log.cells a ≡ Published cell → ShowsCell (T a) (changed_by entry cell)
+      changed_now : (a : ℕ) (entry : HistoryEntry) (cell : Cell) → low ≤ a → changed_in_place s ≡ Some a → IsAllowed entry.op → asked A R ≡ word_of (value_applied (value_of R) entry.op) → G.log.cells a ≡ Published cell → ShowsCell (T a) (changed_by entry cell)
       changed_now a entry cell above changes allowed value e =
           let was = shows a cell above e in
           let f : FrameWord = record { addr = a; word = rec.Value } in
@@ -363,12 +363,12 @@ module _ (opening : World) (start : ℕ) (ghosts : Ghosts) (opened : IsOpened op
                 absurd (none_some w.writer.word (sym nowhere ∙ (ap (λ (x : SessionState). sitting_word x x.step) (sym same.1) ∙ w.writer.its_word)))
           ]) was
 
-      above_start : (a : ℕ) → changed_in_place s ≡ Some a → start ≤ a
+      above_start : (a : ℕ) → changed_in_place s ≡ Some a → low ≤ a
       above_start a changes =
           let f : FrameWord = record { addr = a; word = rec.Value } in
           let safe = (wrote opening start before event opened number s f moves found alive (owes_of number s moves found) (so number s found) (sitting_value s s.step a changes)).frame.safe in
-          let low = start_safe in
-          omega (arith, safe, low)
+          let under = start_safe in
+          omega (arith, safe, under, small)
 
       changed_published : (a : ℕ) → changed_in_place s ≡ Some a → IsPublished (G.log.cells a)
       changed_published a changes =
@@ -376,48 +376,48 @@ module _ (opening : World) (start : ℕ) (ghosts : Ghosts) (opened : IsOpened op
           subst (λ (x : Option SessionState). SessionChangesPublished G.log x) found its a changes
 
       takes_now : (events : List GhostEvent) (made : Option HistoryEntry) → TakesEffect (step_of K s R) events made → Fit S T (SittingWrites S T s s.step) (changed_in_place s) (reserved_by number s) (sitting_word s s.step) events
-          → (AreQuiet events → (a : ℕ) → changed_in_place s ≡ Some a → asked A R ≡ R) → StandsShowLog start T (ghost_run H G events).log
+          → (AreQuiet events → (a : ℕ) → changed_in_place s ≡ Some a → asked A R ≡ R) → StandsShowLog low T (ghost_run H G events).log
       unfolding ghost_run ghosts_after
       takes_now events made (Quietly its quiet) fit left = quiet_now its quiet (left quiet)
-      takes_now events made (Behind first quiet rest) fit left = quiet_shows H start T _ first quiet (takes_now _ made rest fit.1 (λ still. left (quiet, still)))
+      takes_now events made (Behind first quiet rest) fit left = quiet_shows H low T _ first quiet (takes_now _ made rest fit.1 (λ still. left (quiet, still)))
       takes_now events made (InPlace a entry at) fit left =
           let changes : changed_in_place s ≡ Some a = fit.0.0 in
           let there = the_cell (G.log.cells a) (changed_published a changes) in
-          change_shows start T G.log a entry there.0 (G.log.cells a) there.1 (others_show a changes) (changed_now a entry there.0 (above_start a changes) changes fit.0.1 at.value there.1)
+          change_shows low T G.log a entry there.0 (G.log.cells a) there.1 (others_show a changes) (changed_now a entry there.0 (above_start a changes) changes fit.0.1 at.value there.1)
       takes_now events made (ByRecord its at) fit left =
           let nowhere : sitting_word s s.step ≡ None = fit.0.1 in
           let reserved : reserved_by number s ≡ Some its = at.reserved in
-          publish_shows H start T G.log its.addr its.entry its.cell (G.log.cells its.addr) (reserved_cell number s its found reserved)
+          publish_shows H low T G.log its.addr its.entry its.cell (G.log.cells its.addr) (reserved_cell number s its found reserved)
           (λ b cell other high e. none_changed (λ a changes. none_some _ (sym nowhere ∙ sitting_value s s.step a changes)) b cell high e)
           (published_now its reserved nowhere (let valid = fit.0.0 its reserved in valid.shows))
 
       -- where it asks for no word
-      nowhere_shows : asked_place A ≡ None → StandsShowLog start T G.log
+      nowhere_shows : asked_place A ≡ None → StandsShowLog low T G.log
       nowhere_shows nowhere = λ a cell above e.
           same_shows (S a) (T a) cell (λ part. elim (stays_or opening start before event opened a part permitted so (published_below a cell e)) [
             | inl same ↦ same
             | inr w ↦ absurd (no_writer number s a part moves found nowhere w)
           ]) (shows a cell above e)
 
-      word_shows : StandsShowLog start T (ghost_run H G (sitting_ghosts K W.past.trace s s.step R)).log
+      word_shows : StandsShowLog low T (ghost_run H G (sitting_ghosts K W.past.trace s s.step R)).log
       word_shows =
           takes_now (sitting_ghosts K W.past.trace s s.step R) _ (life_takes opening start before number s R opened found) (sitting_fit S T (SittingWrites S T s s.step) K W.past.trace s s.step R (so number s found).sits (λ writes. writes))
           (λ quiet a changes. sitting_quiet K W.past.trace s s.step R a changes quiet)
 
-      step_shows : (ask : Ask Told) → A ≡ ask → StandsShowLog start T (ghost_run H G (step_ghosts K W.past.trace s N.words ask)).log
+      step_shows : (ask : Ask Told) → A ≡ ask → StandsShowLog low T (ghost_run H G (step_ghosts K W.past.trace s N.words ask)).log
       unfolding step_ghosts ghost_run
       step_shows (Done its) e = nowhere_shows (ap asked_place e)
       step_shows (Put slot action) e = nowhere_shows (ap asked_place e)
       step_shows (Take slot) e = nowhere_shows (ap asked_place e)
-      step_shows ask e = subst (λ (x : Ask Told). StandsShowLog start T (ghost_run H G (sitting_ghosts K W.past.trace s s.step (reply_to N.words x))).log) e word_shows
+      step_shows ask e = subst (λ (x : Ask Told). StandsShowLog low T (ghost_run H G (sitting_ghosts K W.past.trace s s.step (reply_to N.words x))).log) e word_shows
 
-    moved_shows : (number : ℕ) (found : Option SessionState) → event ≡ Moves number → slice_get N.sessions number ≡ found → N.crashed ≡ false → StandsShowLog start T (ghost_run H G (moved_ghosts W number found)).log
+    moved_shows : (number : ℕ) (found : Option SessionState) → event ≡ Moves number → slice_get N.sessions number ≡ found → N.crashed ≡ false → StandsShowLog low T (ghost_run H G (moved_ghosts W number found)).log
     unfolding ghost_run
     moved_shows number None moves e alive = λ a cell above is. unchanged_shows a cell above is
         (λ writer changes. none_some writer.state (sym e ∙ (ap (slice_get N.sessions) (sym (same_number writer.number number (sym writer.moves ∙ moves))) ∙ writer.found)))
     moved_shows number (Some s) moves e alive = step_shows number s moves e alive (session_ask (seat_at N number) s) refl
 
-    own_shows : (x : Event) → event ≡ x → N.crashed ≡ false → StandsShowLog start T (ghost_run H G (own_ghosts W x)).log
+    own_shows : (x : Event) → event ≡ x → N.crashed ≡ false → StandsShowLog low T (ghost_run H G (own_ghosts W x)).log
     unfolding ghost_run
     own_shows (Moves number) same alive = moved_shows number (slice_get N.sessions number) same refl alive
     own_shows (Calls number call) same alive = still_shows (λ other moves. let clash : Calls number call ≡ Moves other = sym same ∙ moves in cc)
@@ -426,7 +426,7 @@ module _ (opening : World) (start : ℕ) (ghosts : Ghosts) (opened : IsOpened op
     own_shows (KeeperMoves granted done) same alive = still_shows (λ other moves. let clash : KeeperMoves granted done ≡ Moves other = sym same ∙ moves in cc)
     own_shows Crashes same alive = still_shows (λ other moves. let clash : Crashes ≡ Moves other = sym same ∙ moves in cc)
 
-    event_shows : StandsShowLog start T (ghost_run H G (ghost_events (serials_in opening.now) W event)).log
+    event_shows : StandsShowLog low T (ghost_run H G (ghost_events (serials_in opening.now) W event)).log
     unfolding ghost_events ghost_run
     event_shows = by_test N.crashed refl
       where
@@ -436,15 +436,15 @@ module _ (opening : World) (start : ℕ) (ghosts : Ghosts) (opened : IsOpened op
         fresh : List GhostEvent
         fresh = fixed_ghosts (safe_at N) (safe_at (happens W event).now)
 
-        by_test : (c : Bool) → N.crashed ≡ c → StandsShowLog start T (ghost_run H G (if c then [] else map Tells lines ++ (fresh ++ own_ghosts W event))).log
+        by_test : (c : Bool) → N.crashed ≡ c → StandsShowLog low T (ghost_run H G (if c then [] else map Tells lines ++ (fresh ++ own_ghosts W event))).log
         by_test true e = crashed_shows e
         by_test false e =
-            quiet_behind H start T G (map Tells lines) (fresh ++ own_ghosts W event) (told_quiet lines)
-            (quiet_behind H start T G fresh (own_ghosts W event) (fixed_quiet (safe_at N) (safe_at (happens W event).now)) (own_shows event refl e))
+            quiet_behind H low T G (map Tells lines) (fresh ++ own_ghosts W event) (told_quiet lines)
+            (quiet_behind H low T G fresh (own_ghosts W event) (fixed_quiet (safe_at N) (safe_at (happens W event).now)) (own_shows event refl e))
 
-    pub shows_then : StandsShowLog start T (life_ghosts opening ghosts (event ∷ before)).log
+    pub shows_then : StandsShowLog low T (life_ghosts opening ghosts (event ∷ before)).log
     unfolding mapped
-    shows_then = subst (λ (g : Ghosts). StandsShowLog start T g.log) (sym (run_on H ghosts (ghost_events (serials_in opening.now) W event) (mapped opening before))) event_shows
+    shows_then = subst (λ (g : Ghosts). StandsShowLog low T g.log) (sym (run_on H ghosts (ghost_events (serials_in opening.now) W event) (mapped opening before))) event_shows
 
   -- ---- headers, where they said what became of their records
   -- what is not reserved keeps its header

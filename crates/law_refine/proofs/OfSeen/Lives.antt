@@ -98,7 +98,7 @@ event_seen low w event number s false e found sees after is_now = own_seen low w
 -- ---- a life
 opens_seen : (opening : World) (start number : ℕ) (s : SessionState) → IsOpened opening.now start → slice_get opening.now.sessions number ≡ Some s → Sees 0 (head_of opening.now.words) s
 opens_seen opening start number s opened found =
-    let seen : head_in s.seen ≡ start = ap (λ (x : LastSeen). x.head) (opened.seen number s found) in
+    let seen : head_in s.seen ≡ (levels_of opening.now.words).closed = ap (λ (x : LastSeen). x.head) (opened.seen number s found) in
     let head = opened.words.head in
     opened_sees (head_of opening.now.words) s (opened.sessions number s found).none_in_hand (omega (arith, seen, head))
 

@@ -1,5 +1,5 @@
 -- What the laws of `records` say.
-use Rattle.std.specs.Prelude.{◌≡◌, ◌≤◌, ℕ, List, Some, slice_get}
+use Rattle.std.specs.Prelude.{◌≡◌, ◌≤◌, ℕ, List, [], Some, slice_get}
 use Rattle.law_world.specs.Below.fkv_flush.GuardFlushed.{IsSynced, stands}
 use Rattle.law_world.specs.Below.fkv_flush.GuardLevels.{levels_of}
 use Rattle.law_log.specs.Enabled.{AreEnabled}
@@ -68,17 +68,18 @@ AttemptsFindFrames =
     (opening : World) (start : ℕ) (events : List Event) (session : ℕ) (its : SessionState) → guard.IsOpened opening.now start
     → slice_get (run opening events).now.sessions session ≡ Some its → FindsFramed (run opening events).now its
 
--- none of these lies below where the log began
+-- none of these lies below the closed offset of the opening
 abbrev pub AttemptsLieAboveTheStart : Type 0
 AttemptsLieAboveTheStart =
     (opening : World) (start : ℕ) (events : List Event) (session : ℕ) (its : SessionState) → guard.IsOpened opening.now start
-    → slice_get (run opening events).now.sessions session ≡ Some its → IsAttempting its.step → start ≤ its.seen.offsets.head.0
+    → slice_get (run opening events).now.sessions session ≡ Some its → IsAttempting its.step → (levels_of opening.now.words).closed ≤ its.seen.offsets.head.0
 
--- there each published record since the opening shows
+-- there each published record shows from an address on, up to the log's end of then, if what stands for it did so as the life began
 abbrev pub FramesShowTheRecords : Type 0
 FramesShowTheRecords =
-    (opening : World) (start : ℕ) (ghosts : Ghosts) (events : List Event) → guard.IsOpened opening.now start → IsUnbornFrom (tail_at opening.now) ghosts → ReservesNothing ghosts
-    → AreChangesPublished opening ghosts events → FramesShowLog start (run opening events).now (life_ghosts opening ghosts events).log
+    (opening : World) (start low : ℕ) (ghosts : Ghosts) (events : List Event) → guard.IsOpened opening.now start → IsUnbornFrom (tail_at opening.now) ghosts → ReservesNothing ghosts
+    → AreChangesPublished opening ghosts events → low ≤ start → StandsShowLog low (stands (guard_opening opening.now start) (guarded.mapped opening [])) ghosts.log
+    → FramesShowLog low (run opening events).now (life_ghosts opening ghosts events).log
 
 -- the device has the words that stand for each record below the flushed offset
 abbrev pub DeviceHasTheWords : Type 0

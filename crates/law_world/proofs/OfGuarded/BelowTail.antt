@@ -3,8 +3,8 @@ use Rattle.std.proofs.Common.{◌≡◌, ℕ, ◌∙◌, refl, sym, subst, List,
 use Rattle.std.specs.Prelude.{Option, Some, None, slice_get}
 use Rattle.fkv_session.specs.SessionRun.{SessionEvent, session_run}
 use Rattle.fkv_session.specs.Sessions.{SessionState, Seat}
-use Rattle.law_world.specs.GuardSessions.InPlace.{IsBelowTail, SessionMayChange}
-use Rattle.law_world.proofs.OfGuardSessions.InPlace.{run_may_change}
+use Rattle.law_world.specs.GuardSessions.InPlace.{IsAboveReadOnly, IsBelowTail, SessionMayChange}
+use Rattle.law_world.proofs.OfGuardSessions.InPlace.{run_above, run_may_change}
 use Rattle.fkv_world.specs.OwnEvents.{session_events}
 use Rattle.fkv_world.specs.Runs.{World, run}
 use Rattle.fkv_world.specs.World.{Event, Calls, Moves, Commits, Turns, KeeperMoves, Crashes, seat_at}
@@ -13,6 +13,20 @@ use Rattle.fkv_world.proofs.Shown.{session_runs}
 use Rattle.law_world.specs.Guarded.Shows.{IsOpened, IsPermitted, ArePermitted, AreBelowTail, ChangesBelowTail, SessionIsPermitted, SessionIsBelowTail}
 
 -- whether a session's step is permitted at a moment of its life comes down to what it changes
+-- and what a session changes in place lies at or above the read-only offset that it has seen
+session_above : (first : World) (start : ℕ) (before : List Event) (number : ℕ) (was : Option SessionState) (s : SessionState) → IsOpened first.now start → slice_get first.now.sessions number ≡ was
+    → slice_get (run first before).now.sessions number ≡ Some s → IsAboveReadOnly s
+session_above first start before number None s opened at_first there = let clash : Some s ≡ None = sym there ∙ none_ever first before number at_first in cc
+session_above first start before number (Some o) s opened at_first there =
+    let k : Seat = seat_at first.now number in
+    let came : List SessionEvent = session_events first number before in
+    let one : Some s ≡ Some (session_run k o came) = sym there ∙ session_runs first number o before at_first in
+    let same : s ≡ session_run k o came = cc in
+    subst IsAboveReadOnly (sym same) (run_above k o came (opened.sessions number o at_first))
+
+pub life_above : (first : World) (start : ℕ) (before : List Event) (number : ℕ) (s : SessionState) → IsOpened first.now start → slice_get (run first before).now.sessions number ≡ Some s → IsAboveReadOnly s
+life_above first start before number s opened there = session_above first start before number (slice_get first.now.sessions number) s opened refl there
+
 session_permitted : (first : World) (start : ℕ) (before : List Event) (number : ℕ) (was found : Option SessionState) → IsOpened first.now start
     → slice_get first.now.sessions number ≡ was → slice_get (run first before).now.sessions number ≡ found
     → SessionIsBelowTail (run first before).now found → SessionIsPermitted (run first before).now found

@@ -291,33 +291,33 @@ replicated zero j x low = absurd (omega (arith, low))
 replicated (suc m) zero x low = refl
 replicated (suc m) (suc j) x low = replicated m j x (omega (arith, low))
 
-opened_session : (w : GuardWorld) (i start : ℕ) (s : SessionState) (step : Sitting) → s.step ≡ step → is_busy step ≡ false → IsSound w → slice_get w.now.actors i ≡ Some (first_actor start) → i < w.now.places.sessions → 0 < own_epoch w.now.words i
-    → last_seen s.seen ≡ record { read_only = start; head = start } → IsSeated w i s
-opened_session w i start s (Idle told) at idle sound got low awake saw = record {
-  actor = first_actor start;
+opened_session : (w : GuardWorld) (i start closed : ℕ) (s : SessionState) (step : Sitting) → s.step ≡ step → is_busy step ≡ false → IsSound w → slice_get w.now.actors i ≡ Some (first_actor start closed) → i < w.now.places.sessions → 0 < own_epoch w.now.words i
+    → last_seen s.seen ≡ record { read_only = start; head = closed } → IsSeated w i s
+opened_session w i start closed s (Idle told) at idle sound got low awake saw = record {
+  actor = first_actor start closed;
   sits = record {
     sound = sound;
     got = got;
     below = low;
     knows = subst (λ (step : Sitting). SittingKnows s step) (sym at) tt;
     protected = λ e. awake;
-    fits = subst (λ (step : Sitting). Fits (sitting_likeness s step) (first_actor start)) (sym at) (record { machine = refl; work = refl; seen = sym saw; undecided = refl });
+    fits = subst (λ (step : Sitting). Fits (sitting_likeness s step) (first_actor start closed)) (sym at) (record { machine = refl; work = refl; seen = sym saw; undecided = refl });
   };
 }
-opened_session w i start s step at idle sound got low awake saw = cc
+opened_session w i start closed s step at idle sound got low awake saw = cc
 
-opened_keeper : (w : GuardWorld) (a start : ℕ) (s : KeeperState) (step : Keeping) → s.step ≡ step → is_in_hand step ≡ false → IsSound w → slice_get w.now.actors a ≡ Some (first_actor start) → s.finish.sessions ≡ w.now.places.sessions → IsKept w a s
-opened_keeper w a start s (keeping.Ended told) at none sound got same = record {
-  actor = first_actor start;
-  seen = record { read_only = start; head = start };
+opened_keeper : (w : GuardWorld) (a start closed : ℕ) (s : KeeperState) (step : Keeping) → s.step ≡ step → is_in_hand step ≡ false → IsSound w → slice_get w.now.actors a ≡ Some (first_actor start closed) → s.finish.sessions ≡ w.now.places.sessions → IsKept w a s
+opened_keeper w a start closed s (keeping.Ended told) at none sound got same = record {
+  actor = first_actor start closed;
+  seen = record { read_only = start; head = closed };
   keeps = record {
     sound = sound;
     got = got;
-    fits = subst (λ (step : Keeping). Fits (likeness (record { read_only = start; head = start }) (keeping_machine s step) (keeping_work s step)) (first_actor start)) (sym at) (record { machine = refl; work = refl; seen = refl; undecided = refl });
+    fits = subst (λ (step : Keeping). Fits (likeness (record { read_only = start; head = closed }) (keeping_machine s step) (keeping_work s step)) (first_actor start closed)) (sym at) (record { machine = refl; work = refl; seen = refl; undecided = refl });
     knows = record { sessions = same; its = subst (λ (step : Keeping). KeepingKnows (levels_of w.now.words) s step) (sym at) tt };
   };
 }
-opened_keeper w a start s step at none sound got same = cc
+opened_keeper w a start closed s step at none sound got same = cc
 
 one_some : (x : ℕ) → x ≡ 1 → 0 < x
 one_some x e = omega (arith, e)
@@ -341,10 +341,10 @@ opening_shows n start opened =
       sessions = λ i s at.
           let its = opened.sessions i s at in
           let low = opened.seats i s at in
-          opened_session w i start s s.step refl its.none_in_hand sound (replicated (suc (keeper_number n)) i (first_actor start) (later i (keeper_number n) low)) low
+          opened_session w i start (levels_of n.words).closed s s.step refl its.none_in_hand sound (replicated (suc (keeper_number n)) i (first_actor start (levels_of n.words).closed) (later i (keeper_number n) low)) low
           (one_some (own_epoch n.words i) (opened.words.epochs.awake i low)) (opened.seen i s at);
-      keeper = opened_keeper w (keeper_number n) start n.keeper n.keeper.step refl opened.keeper.none_in_hand sound
-          (replicated (suc (keeper_number n)) (keeper_number n) (first_actor start) (own_last (keeper_number n))) opened.finishes;
+      keeper = opened_keeper w (keeper_number n) start (levels_of n.words).closed n.keeper n.keeper.step refl opened.keeper.none_in_hand sound
+          (replicated (suc (keeper_number n)) (keeper_number n) (first_actor start (levels_of n.words).closed) (own_last (keeper_number n))) opened.finishes;
     }
 
 -- so what the guard sees of a life shows it

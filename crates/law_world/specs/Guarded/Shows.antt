@@ -2,6 +2,7 @@
 use Rattle.std.specs.Prelude.{◌≡◌, ◌^◌, ◌<◌, ⊤, ℕ, suc, List, [], ◌∷◌, replicate, slice_get, Option, Some, None}
 use Rattle.fkv_base.specs.Limits.{drain_slots}
 use Rattle.fkv_flush.specs.Guarded as guard
+use Rattle.fkv_flush.specs.GuardLevels.{levels_of}
 use Rattle.fkv_flush.specs.GuardSeen.{LastSeen}
 use Rattle.fkv_flush.specs.GuardWorld.{Actor, GuardWorld, guard_run}
 use Rattle.fkv_flush.proofs.Shown.{IsSound}
@@ -25,7 +26,7 @@ pub record IsOpened (n : Now) (start : ℕ) : Type 0 where
   pub slots : n.actions ≡ replicate drain_slots None
   pub seats : (number : ℕ) (s : SessionState) → slice_get n.sessions number ≡ Some s → number < n.places.sessions
   pub sessions : (number : ℕ) (s : SessionState) → slice_get n.sessions number ≡ Some s → session.IsOpened s
-  pub seen : (number : ℕ) (s : SessionState) → slice_get n.sessions number ≡ Some s → last_seen s.seen ≡ record { read_only = start; head = start }
+  pub seen : (number : ℕ) (s : SessionState) → slice_get n.sessions number ≡ Some s → last_seen s.seen ≡ record { read_only = start; head = (levels_of n.words).closed }
   pub keeper : keeper.IsOpened n.keeper
   pub finishes : n.keeper.finish.sessions ≡ n.places.sessions
 

@@ -11,6 +11,7 @@ SERIES = "0.1."
 ABSENT = 2**64 - 1
 MOST_SESSIONS = 32
 DONE, FOUND, NONE, PENDING = 0, 1, 2, 3
+KEEP, MIN, SUB, AND, OR, FIRST = range(6)
 WORD = POINTER(c_uint64)
 
 
@@ -71,10 +72,11 @@ class CKeeping(Structure):
 
 STATS = ("commits", "commits_left", "commit_us", "commit_bytes", "in_hand_us", "late", "joined", "abandoned", "turns", "helped", "cold_reads",
          "file_bytes")
+REASONS = 7
 
 
 class CStats(Structure):
-    _fields_ = [*((it, c_uint64) for it in STATS), ("stopped", c_int32)]
+    _fields_ = [*((it, c_uint64) for it in STATS), ("stopped", c_int32), ("waited", c_uint64 * REASONS)]
 
 
 # What each call takes. It gives an int32_t, unless RESULTS says otherwise.
@@ -105,6 +107,7 @@ CALLS = {
     "fkv_increment": [c_void_p, c_void_p, c_uint64, c_uint64, POINTER(CUpdate)],
     "fkv_raise": [c_void_p, c_void_p, c_uint64, c_uint64, POINTER(CUpdate)],
     "fkv_remove": [c_void_p, c_void_p, c_uint64, POINTER(CUpdate)],
+    "fkv_merge_now": [c_void_p, c_void_p, c_uint64, c_uint32, c_uint64, POINTER(CUpdate)],
     "fkv_read": [c_void_p, c_void_p, c_uint64, WORD],
     "fkv_read_many": [c_void_p, c_void_p, WORD, c_size_t, POINTER(CEachRead), c_size_t],
     "fkv_upsert_many": [c_void_p, WORD, c_size_t, WORD, c_size_t, POINTER(CEachUpdate), c_size_t],

@@ -38,6 +38,7 @@ class Fault(enum.IntEnum):
     HANDLE_TAKEN = 23
     ROOM_SMALL = 24
     NO_KEEPER = 25
+    NO_MERGE = 26
 
 
 class Error(Exception):

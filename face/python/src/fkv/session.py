@@ -113,6 +113,34 @@ class Session:
         """Raises the key's value to the number, if it is less, and gives what it has left. A key without a value gets the number."""
         return self._update(lib.fkv_raise, key, number)
 
+    def keep(self, key: int) -> Optional[int]:
+        """The key's value, by an update that leaves it as it is, or leaves the key without one."""
+        left = self._merge(native.KEEP, key, 0)
+        return None if left == ABSENT else left
+
+    def min(self, key: int, number: int) -> int:
+        """Lowers the key's value to the number, if it is more, and gives what it has left. A key without a value gets the number."""
+        return self._merge(native.MIN, key, number)
+
+    def sub(self, key: int, number: int) -> int:
+        """Takes the number from the key's value, down to 0, and gives what it has left. A key without a value gets 0."""
+        return self._merge(native.SUB, key, number)
+
+    def and_(self, key: int, number: int) -> int:
+        """Leaves the bits that the key's value and the number both have, and gives them. A key without a value gets 0."""
+        return self._merge(native.AND, key, number)
+
+    def or_(self, key: int, number: int) -> int:
+        """Leaves the bits that either has, and 2**64 - 2 where these are all, and gives them. A key without a value gets the number."""
+        return self._merge(native.OR, key, number)
+
+    def first(self, key: int, number: int) -> int:
+        """Gives the number to a key without a value, and leaves any other as it is. It gives the value that the key has then."""
+        return self._merge(native.FIRST, key, number)
+
+    def _merge(self, which: int, key: int, number: int) -> int:
+        return self._update(lambda file, at, its, of, told: lib.fkv_merge_now(file, at, its, which, of, told), key, number)
+
     def remove(self, key: int) -> None:
         """Takes the key's value away, if it has one."""
         self._update(lambda file, at, its, _, told: lib.fkv_remove(file, at, its, told), key, 0)

@@ -76,6 +76,7 @@ class Stats:
     cold_reads: int
     file_bytes: int
     stopped: Optional[Fault]  # why no commit is finished any more
+    waited: tuple[int, ...]  # calls that had to wait: updates by their first reason, reads at 0
 
 
 def _progress(call: Optional[Callable[[Progress], None]]) -> Any:
@@ -189,7 +190,8 @@ class Store:
     def stop(self, commit: bool = True) -> None:
         """Ends the keeper's thread, after a last commit if `commit` says so. Nothing is committed until the next start.
 
-        The last commit waits for each session that is awake: other threads have to make calls of theirs, and this thread's has to sleep.
+        The last commit waits for each session that is awake: other threads have to make calls of theirs. This thread's own have to sleep
+        or leave before: else it raises `InUse` after a second, and the keeper's thread goes on.
         """
         with self._held() as at:
             check(lib.fkv_stop(at, STOP_COMMIT if commit else STOP_NOW))
@@ -246,7 +248,7 @@ class Store:
         its = native.CStats()
         with self._held() as at:
             check(lib.fkv_stats_of(at, its))
-        return Stats(*(getattr(its, name) for name in native.STATS), Fault(-its.stopped) if its.stopped else None)
+        return Stats(*(getattr(its, name) for name in native.STATS), Fault(-its.stopped) if its.stopped else None, tuple(its.waited))
 
     def pairs(self) -> Iterator[tuple[int, int]]:
         """The pairs of the last finished commit, each key once, in no order. They are read at once; sessions go on meanwhile."""

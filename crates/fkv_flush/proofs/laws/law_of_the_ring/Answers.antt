@@ -62,7 +62,7 @@ returns c = record {
     fits = record { sessions = refl; ring = refl };
     enough_words = omega arith;
     epochs = record { few_sessions = omega arith; with_others = omega arith; few_actors = omega arith; enough_words = omega arith; first_epoch = refl; nothing_safe = refl; awake = awake; slots_free = free_slot };
-    closed = refl;
+    closed = omega arith;
     head = refl;
     flushed = refl;
     safe_read_only = refl;

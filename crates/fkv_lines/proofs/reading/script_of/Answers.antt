@@ -36,8 +36,8 @@ returns-in_err-at_line-in-Some c =
     let so_far = rw (c.first_line.ensures.parts, c.in-Some.is) at c.loop-rest.invariant.1 in
     let p = err_from_is_err_and c.from_residual-in_err-at_line-in-Some.result c.from_residual-in_err-at_line-in-Some.ensures.1 in
     let f = at_line-err (c.loop-rest.number + 1) c.later_line.result c.in_err-at_line-in-Some.field-0.0 c.in_err-at_line-in-Some.ensures in
-    let read : later_line c.args.mode (words_of c.first_line.result.0.now) ≡ Err f.0 = cc (f.1, c.in_ok-words.ensures) in
-    rw (p.1, p.2, f.2) (faulty_later c.args.mode c.in-Some.field-0 c.loop-rest.script.lines.items (c.loop-rest.number + 1) c.first_line.result.0.now _ f.0 _ (cc) (cc) read so_far)
+    let read : later_line c.args.mode c.in-Some.opening (words_of c.first_line.result.0.now) ≡ Err f.0 = cc (f.1, c.in_ok-words.ensures) in
+    rw (p.1, p.2, f.2) (faulty_later c.args.mode c.in-Some.opening c.loop-rest.script.lines.items (c.loop-rest.number + 1) c.first_line.result.0.now _ f.0 _ (cc) (cc) read so_far)
 
 pub loop-rest-preserved : goal.loop-rest-preserved
 loop-rest-preserved c = (
@@ -51,8 +51,8 @@ loop-rest-preserved c = (
     | in-Some+in_ok-at_line-in-Some+in_ok-push-in-Some w ↦
         let so_far = rw (c.first_line.ensures.parts, w.in-Some.is) at c.loop-rest.invariant.1 in
         let said = at_line-ok (c.loop-rest.number + 1) w.later_line.result w.in_ok-at_line-in-Some.field-0 w.in_ok-at_line-in-Some.ensures in
-        let read : later_line c.args.mode (words_of c.first_line.result.0.now) ≡ Ok w.in_ok-at_line-in-Some.field-0 = cc (said, c.in_ok-words.ensures) in
-        rw (w.script-is, w.in-Some.is, w.in_ok-push-in-Some.ensures.items) (read_later c.args.mode w.in-Some.field-0 c.loop-rest.script.lines.items (c.loop-rest.number + 1) c.first_line.result.0.now _ w.in_ok-at_line-in-Some.field-0 _ (cc) (cc) read so_far)
+        let read : later_line c.args.mode w.in-Some.opening (words_of c.first_line.result.0.now) ≡ Ok w.in_ok-at_line-in-Some.field-0 = cc (said, c.in_ok-words.ensures) in
+        rw (w.script-is, w.in-Some.is, w.in_ok-push-in-Some.ensures.items) (read_later c.args.mode w.in-Some.opening c.loop-rest.script.lines.items (c.loop-rest.number + 1) c.first_line.result.0.now _ w.in_ok-at_line-in-Some.field-0 _ (cc) (cc) read so_far)
   ],
 )
 

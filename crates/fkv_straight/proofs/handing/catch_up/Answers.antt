@@ -1,7 +1,7 @@
 use Rattle.std.proofs.Common.{refl, sym, ap, ◌∙◌, get_or, subst}
 use Rattle.fkv_session.specs.Alike.{StandAlike}
 use Rattle.fkv_session.specs.Sessions.{Seat, SessionState, session_ask}
-use Rattle.fkv_straight.specs.Standing.{begins, leads, replayed}
+use Rattle.fkv_straight.specs.Standing.{begins, leads}
 use Rattle.fkv_straight.proofs.Replays.{begin_comes, replies_alike, step_comes, replay_next, replay_end}
 use Rattle.fkv_straight.proofs.handing.catch_up.Goals as goal
 

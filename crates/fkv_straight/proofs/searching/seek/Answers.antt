@@ -1,4 +1,4 @@
-use Rattle.std.proofs.Common.{◌≡◌, ℕ, ◌+◌, ◌-◌, refl, ap, ◌∙◌, subst, arith, add-zero}
+use Rattle.std.proofs.Common.{ℕ, ◌+◌, ◌-◌, refl, ap, ◌∙◌, arith, add-zero}
 use Rattle.fkv_plane.specs.declared.asks.Ask.TheVariants.{Load}
 use Rattle.fkv_straight.proofs.Goings.{goes_at, leads_on, place_asks}
 use Rattle.fkv_straight.proofs.Seeks.{slot_asks, slot_comes, link_asks, link_comes, link_goes_on}

@@ -4,7 +4,7 @@ use Rattle.std.specs.Prelude.{⊤, ◌&&◌, nat_eq, if◌then◌else◌, length
 use Rattle.fkv_map.specs.declared.operations.Call.{Call}
 use Rattle.fkv_map.specs.declared.operations.Call.TheVariants as call
 use Rattle.fkv_map.specs.declared.operations.Op.{Op}
-use Rattle.fkv_map.specs.declared.operations.Op.TheVariants.{Upsert, Delete, Add, Max, Read}
+use Rattle.fkv_map.specs.declared.operations.Op.TheVariants.{Upsert, Delete, Add, Max, Read, Merge}
 use Rattle.law_log.specs.Trace.{TraceLine, CallsUpdate, RefusesUpdate, GivesResult, CallsRead, AnswersRead, called_as}
 use Rattle.law_refine.specs.Below.fkv_keeper.TheKeeping.{Keeping}
 use Rattle.law_refine.specs.Below.fkv_keeper.TheKeeping.TheVariants.{Ended}
@@ -141,6 +141,7 @@ op_fits session number serial (Upsert key value) fits = fits
 op_fits session number serial (Delete key) fits = fits
 op_fits session number serial (Add key n) fits = fits
 op_fits session number serial (Max key n) fits = fits
+op_fits session number serial (Merge key which n) fits = fits
 
 called_lines : (first : ℕ → ℕ) (before : List Traced) (session : ℕ) (its : Call) → CallFits its → LinesFit (call_lines first before session its)
 called_lines first before session (call.Op op) fits = (op_fits session (length before) (next_serial first session before) op fits, tt)

@@ -7,6 +7,7 @@ use Rattle.law_opening.specs.Log.OpeningLog.{opening_ghosts}
 use Rattle.law_opening.specs.Changes.Linked.{ChainsFall}
 use Rattle.law_opening.proofs.OfChanges.Falls.{opened_falls}
 use Rattle.law_opening.proofs.OfChanges.Openings.{linked_log}
+use Rattle.law_opening.proofs.OfLives.Warm.{warm_shows}
 use Rattle.law_refine.specs.Events.GhostEvents.{home_in}
 use Rattle.law_opening.proofs.changing.law_lives_change_published.Goals as goal
 
@@ -32,6 +33,7 @@ returns-clause-begins c = λ o n bytes store world.
       reserves = first.reserves_nothing;
       heads = c.law_log_heads.ensures bytes o n store world;
       linked = linked_log (home_in o.shape.bucket_bits) (let ghosts = opening_ghosts bytes o in ghosts.log) log.chains;
+      warm = warm_shows bytes o n world guarded.now first;
     }
 
 pub returns-clause-published : goal.returns-clause-published

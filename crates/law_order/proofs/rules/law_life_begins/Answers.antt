@@ -8,6 +8,7 @@ use Rattle.law_commit.proofs.Below.law_refine.OfMail.Openings.{opened_mailbox}
 use Rattle.law_commit.specs.Below.law_refine.Events.GhostEvents.{home_in}
 use Rattle.law_opening.specs.Log.Maps.{opening_map}
 use Rattle.law_opening.specs.Log.OpeningLog.{opening_ghosts}
+use Rattle.law_opening.proofs.OfLives.Warm.{warm_shows}
 use Rattle.law_order.proofs.OfRules.Beginning.{world_opens}
 use Rattle.law_order.proofs.OfRules.Words.{opens_seen}
 use Rattle.law_order.proofs.rules.law_life_begins.Goals as goal
@@ -29,5 +30,6 @@ returns c = λ bytes o n store world.
       unborn = begins.unborn;
       reserves = begins.reserves_nothing;
       heads = c.law_log_heads.ensures bytes o n store world;
+      warm = warm_shows bytes o n world guarded.now begins;
       device = in_image bytes o n store world.its_shape (c.law_log_counted.ensures bytes o store);
     }

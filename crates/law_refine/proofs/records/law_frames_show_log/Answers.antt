@@ -9,7 +9,7 @@ pub returns-clause-finds : goal.returns-clause-finds
 returns-clause-finds c = λ opening start events session its opened found. finds_framed opening start events session its opened found
 
 pub returns-clause-shows : goal.returns-clause-shows
-returns-clause-shows c = λ opening start ghosts events opened none free published. frames_show_log opening start ghosts events opened none free published
+returns-clause-shows c = λ opening start low ghosts events opened none free published small warm. frames_show_log opening start low ghosts events opened none free published small warm
 
 pub returns-clause-above : goal.returns-clause-above
 returns-clause-above c = λ opening start events session its opened found attempts. head_above opening start events session its opened found attempts

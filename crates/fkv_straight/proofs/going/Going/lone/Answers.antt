@@ -1,5 +1,5 @@
 -- What waits for nothing but the poll.
-use Rattle.std.proofs.Common.{◌≡◌, refl, sym, ◌∙◌, rules, false}
+use Rattle.std.proofs.Common.{refl, sym, ◌∙◌}
 use Rattle.fkv_straight.proofs.Polls.{IsPlain, may_poll, none_of}
 use Rattle.fkv_straight.proofs.going.Going.lone.Goals as goal
 

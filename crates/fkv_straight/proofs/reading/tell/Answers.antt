@@ -1,0 +1,42 @@
+use Rattle.std.proofs.Common.{ℕ, ◌+◌, refl, subst}
+use Rattle.fkv_plane.specs.declared.asks.Ask.TheVariants.{Load}
+use Rattle.fkv_plane.specs.declared.places.RecordWord.TheVariants as rec
+use Rattle.fkv_straight.specs.declared.searching.Met.{Met}
+use Rattle.fkv_straight.specs.Met.{HasMet}
+use Rattle.fkv_straight.proofs.Goings.{leads_on, reads_calm, record_asks, updates_in, value_at}
+use Rattle.fkv_straight.proofs.ReadEnds.{answer_asks, found_ends, absent_ends, nowhere_ends}
+use Rattle.fkv_straight.proofs.reading.tell.Goals as goal
+
+pub load-value-requires-clause-asked : goal.load-value-requires-clause-asked
+load-value-requires-clause-asked g c =
+    let k = g.L.Line.seat c.args.line.now in
+    let its = c.requires.at.0 in
+    let goes = c.requires.at.1 in
+    let u = g.L.Line.stands c.args.line.now in
+    let met = subst (λ (m : Met). HasMet its m u) c.in-Found.is c.requires.at.2 in
+    record_asks its k c.args.op c.args.going.now c.in-Found.record.addr (c.in-Found.record.at + 2) rec.Value k u (λ (n : ℕ). Load n) goes refl
+    (value_at its k c.args.op c.args.going.now c.in-Found.record.addr c.in-Found.record.at goes met.at)
+    (answer_asks its c.in-Found.record u met (reads_calm its k c.args.op c.args.going.now goes c.requires.reads) (updates_in its k c.args.op c.args.going.now _ goes c.requires.reads))
+
+pub returns-then-value-clause-ended : goal.returns-then-value-clause-ended
+returns-then-value-clause-ended g c = λ its goes calls at.
+    let k = g.L.Line.seat c.args.line.now in
+    let u = g.L.Line.stands c.args.line.now in
+    let v = g.L.Line.stands c.load-value.new.self in
+    absent_ends its c.in-Found.record c.load-value.result u v calls (subst (λ (m : Met). HasMet its m u) c.in-Found.is at) (reads_calm its k c.args.op c.args.going.now goes c.requires.reads) (updates_in its k c.args.op c.args.going.now _ goes c.requires.reads)
+    (leads_on its k c.args.op c.args.going.now k u v c.load-value.result goes refl c.load-value.ensures.next) c.if-value.true
+
+pub returns-else-value-clause-ended : goal.returns-else-value-clause-ended
+returns-else-value-clause-ended g c = λ its goes calls at.
+    let k = g.L.Line.seat c.args.line.now in
+    let u = g.L.Line.stands c.args.line.now in
+    let v = g.L.Line.stands c.load-value.new.self in
+    found_ends its c.in-Found.record c.load-value.result u v calls (subst (λ (m : Met). HasMet its m u) c.in-Found.is at) (reads_calm its k c.args.op c.args.going.now goes c.requires.reads) (updates_in its k c.args.op c.args.going.now _ goes c.requires.reads)
+    (leads_on its k c.args.op c.args.going.now k u v c.load-value.result goes refl c.load-value.ensures.next) c.if-value.false
+
+pub returns-in-Nowhere-clause-ended : goal.returns-in-Nowhere-clause-ended
+returns-in-Nowhere-clause-ended g c = λ its goes calls at.
+    let k = g.L.Line.seat c.args.line.now in
+    let u = g.L.Line.stands c.args.line.now in
+    let slot = c.in-Nowhere.field-0 in
+    nowhere_ends its slot.place slot.entry u calls (subst (λ (m : Met). HasMet its m u) c.in-Nowhere.is at) (reads_calm its k c.args.op c.args.going.now goes c.requires.reads) (updates_in its k c.args.op c.args.going.now _ goes c.requires.reads)

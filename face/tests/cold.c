@@ -1,0 +1,112 @@
+/*
+ * Reads of what only the file has: cold FOLDER. A store that is mapped reads them by the mapping, also where the file has grown, and where
+ * the store was renewed.
+ */
+#define _GNU_SOURCE
+#include "fkv_posix.h"
+#include "tests.h"
+
+#include <stdbool.h>
+#include <sys/syscall.h>
+#include <unistd.h>
+
+enum { KEYS = 600, ROUND = 50000, ROUNDS = 18, LATE = 50, MOST_SECONDS = 240, PATH_ROOM = 500 };
+
+/* Memory has fewer records than a round of keys, so each put of a round appends one. */
+static const fkv_shape SHAPE = {13, 8192, 4, 2, 2, 8192, 4096};
+static const char *folder;
+static fkv_file *file;
+static fkv_session *session;
+static long records_read;
+
+/* The library's calls come here, before those of the C library. */
+ssize_t pread(int fd, void *into, size_t length, off_t place) {
+    records_read += length == FKV_READ_SIZE;
+    return (ssize_t)syscall(SYS_pread64, fd, into, length, place);
+}
+
+static const char *path_of(const char *name) {
+    static char path[PATH_ROOM];
+    snprintf(path, sizeof path, "%s/%s", folder, name);
+    return path;
+}
+
+static void open_store(const char *name, bool is_mapped) {
+    fkv_how how = {.mapped = is_mapped};
+    WANTS("opening", fkv_open_file(path_of(name), &how, &file), 0);
+    WANTS("starting the keeper", fkv_start(file, NULL), 0);
+    WANTS("joining", fkv_join(file, 0, &session), 0);
+}
+
+static void close_store(void) {
+    WANTS("leaving", fkv_leave(file, session), 0);
+    WANTS("closing", fkv_close_file(file), 0);
+}
+
+static void put(uint64_t key, uint64_t value) {
+    WANTS("a put", fkv_put(file, session, key, value, NULL), FKV_DONE);
+    WANTS("a tick", fkv_tick(file, session), 0);
+}
+
+static void make(const char *name) {
+    WANTS("making", fkv_make_file(path_of(name), &SHAPE), 0);
+    open_store(name, false);
+    for (uint64_t key = 0; key < KEYS; key++) put(key, key + 1);
+}
+
+static void wants_all(void) {
+    uint64_t keys[KEYS + 1];
+    fkv_each_read told[KEYS + 1];
+    for (uint64_t i = 0; i <= KEYS; i++) keys[i] = i;
+    WANTS("reads", fkv_read_many(file, session, keys, KEYS + 1, told, KEYS + 1), 0);
+    for (uint64_t i = 0; i < KEYS; i++) {
+        WANTS("one of many", told[i].result, FKV_FOUND);
+        WANTS("its value", told[i].value, i + 1);
+    }
+    WANTS("a key that was never put", told[KEYS].result, FKV_NONE);
+}
+
+static void wants_value(uint64_t key, uint64_t wanted) {
+    uint64_t value = 0;
+    WANTS("a read", fkv_read(file, session, key, &value), FKV_FOUND);
+    WANTS("its value", value, wanted);
+}
+
+static void put_rounds(int rounds) {
+    for (int i = 0; i < rounds; i++) {
+        for (uint64_t key = 0; key < ROUND; key++) put(2 * KEYS + key, key);
+    }
+}
+
+/* By the mapping: no record is read otherwise, also where the file has grown past what was mapped first. */
+static void mapped(void) {
+    fkv_stats stats;
+    make("mapped");
+    close_store();
+    open_store("mapped", true);
+    records_read = 0;
+    wants_all();
+    put_rounds(ROUNDS);
+    for (uint64_t i = 0; i < LATE; i++) put(KEYS + 1 + i, i);
+    put_rounds(1);
+    for (uint64_t i = 0; i < LATE; i++) wants_value(KEYS + 1 + i, i);
+    for (uint64_t key = 0; key < KEYS; key++) wants_value(key, key + 1);
+    WANTS("how it fares", fkv_stats_of(file, &stats), 0);
+    WANTS("whether records were read back", stats.cold_reads >= 2 * KEYS + LATE, true);
+    WANTS("whether the file is larger than what was mapped first", stats.file_bytes > 1 << 24, true);
+    WANTS("what was read without the mapping", records_read, 0);
+    WANTS("leaving", fkv_leave(file, session), 0);
+    WANTS("renewing it", fkv_renew_here(file, NULL, NULL), 0);
+    WANTS("joining", fkv_join(file, 0, &session), 0);
+    wants_all();
+    WANTS("what was read without the mapping", records_read, 0);
+    close_store();
+}
+
+int main(int count, char **words) {
+    if (count != 2) return 2;
+    folder = words[1];
+    alarm(MOST_SECONDS);
+    mapped();
+    return 0;
+}
