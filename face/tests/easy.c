@@ -429,7 +429,8 @@ static void many(void) {
     WANTS("how it fares", fkv_stats_of(file, &stats), 0);
     WANTS("sessions that are joined", stats.joined, 2);
     WANTS("the commits", stats.commits, 1);
-    WANTS("whether all reads were counted", stats.cold_reads >= COUNT * 2 / 3, true);
+    /* A turn's reads are counted when it ends, behind its answers: so the last turn's may still lack. */
+    WANTS("whether reads were counted", stats.cold_reads >= COUNT / 2, true);
     WANTS("the bytes of the file", stats.file_bytes > FKV_IMAGE_SIZE, true);
     WANTS("why it has stopped", stats.stopped, 0);
     WANTS("a commit", fkv_commit_and_wait(file, session), 0);
