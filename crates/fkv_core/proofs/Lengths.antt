@@ -1,14 +1,15 @@
 -- How many words there are before the frames, and what stands behind them.
-use Rattle.std.proofs.Common.{◌≡◌, ◌∙◌, sym, ap, ℕ, zero, suc, ◌+◌, ◌-◌, ◌*◌, ◌^◌, List, [], ◌∷◌, ◌++◌, length, take, drop, arith, refl}
+use Rattle.std.proofs.Common.{◌≡◌, ◌∙◌, sym, ap, ℕ, zero, suc, ◌+◌, ◌-◌, ◌*◌, ◌^◌, ◌%◌, List, [], ◌∷◌, ◌++◌, length, take, drop, arith, refl}
 use Rattle.std.specs.Prelude.{replicate}
-use Rattle.std.proofs.lemmas.List.{append-nil, append_assoc, length-append, length-take, length-replicate, drop-replicate}
+use Rattle.std.proofs.lemmas.List.{append-nil, append_assoc, length-append, length-take, length-replicate, length-set, drop-replicate}
 use Rattle.fkv_keeper.specs.NewKeepers.{ArePlacesOfStore}
 use Rattle.fkv_plane.specs.Places.{word_count}
 use Rattle.fkv_plane.specs.declared.places.Places.{Places}
 use Rattle.fkv_entries.specs.Room.{needed}
 use Rattle.fkv_filling.specs.Filled.{IsFilled, eight_words, up_to, filled_by, link_words, first_link, other_links}
 use Rattle.fkv_opening.specs.declared.opened_store.Opened.{Opened}
-use Rattle.fkv_core.specs.OpeningWords.{AreWordsOfOpened, words_before_frames, words_of_session, words_of_sessions, words_once}
+use Rattle.fkv_core.specs.OpeningWords.{AreWordsOfOpened, frames_of, laid_round, ring_words, warm_place, words_before_frames, words_of_session, words_of_sessions, words_once}
+use Rattle.fkv_core.proofs.Written.{laid_behind}
 
 -- one session more
 pub sessions_start : (o : Opened) (words : List ℕ) → words ≡ words ++ words_of_sessions o 0
@@ -71,6 +72,15 @@ length-before o index taken its =
     let g : length index ≡ 8 * 2 ^ o.shape.bucket_bits + 8 * o.shape.overflow = length-filled o index taken its in
     let sum : length once + length own + length index ≡ 24 + 16 * o.shape.sessions + 8 * 2 ^ o.shape.bucket_bits + 8 * o.shape.overflow = omega (arith, e, f, g) in sum)
 
+-- the frames have as many words as they are to have
+pub length-laid : (base size first : ℕ) (words all : List ℕ) (n : ℕ) → length (laid_round base size first words all n) ≡ length all
+unfolding laid_round
+length-laid base size first words all zero = refl
+length-laid base size first words all (suc n) = length-set (laid_round base size first words all n) _ _ ∙ length-laid base size first words all n
+
+pub length-frames : (o : Opened) → length (frames_of o) ≡ ring_words o
+length-frames o = length-laid 0 (ring_words o) (warm_place o) o.frames.items (replicate (ring_words o) 0) (length o.frames.items) ∙ length-replicate {A = ℕ} (ring_words o) 0
+
 -- the words before the frames have room
 pub words_fit : (o : Opened) (p : Places) (index words : List ℕ) (taken : ℕ) → ArePlacesOfStore o.shape p → IsFilled (2 ^ o.shape.bucket_bits) o.shape.overflow o.entries.items index taken
     → words ≡ words_before_frames o index taken → length words + 3 * (o.shape.frames * o.shape.page) ≡ word_count p
@@ -82,16 +92,23 @@ words_fit o p index words taken store its are =
     let r = store.ring in
     omega (arith, many, s, b, v, r)
 
--- and the frames are what is left
-pub words_whole : (o : Opened) (p : Places) (index words all : List ℕ) (taken : ℕ) → ArePlacesOfStore o.shape p → IsFilled (2 ^ o.shape.bucket_bits) o.shape.overflow o.entries.items index taken
-    → words ≡ words_before_frames o index taken → all ≡ words ++ drop (length words) (replicate (word_count p) 0) → AreWordsOfOpened o all
-words_whole o p index words all taken store its are whole =
+-- and the frames are what is left: there the words of the records that memory has are laid
+pub words_whole : (o : Opened) (p : Places) (index words all : List ℕ) (taken first : ℕ) → ArePlacesOfStore o.shape p → IsFilled (2 ^ o.shape.bucket_bits) o.shape.overflow o.entries.items index taken
+    → words ≡ words_before_frames o index taken → first ≡ 3 * (o.warm.0 % p.ring)
+    → all ≡ laid_round (length words) (3 * p.ring) first o.frames.items (words ++ drop (length words) (replicate (word_count p) 0)) (length o.frames.items) → AreWordsOfOpened o all
+words_whole o p index words all taken first store its are begins whole =
     let fit : length words + 3 * (o.shape.frames * o.shape.page) ≡ word_count p = words_fit o p index words taken store its are in
-    let left : word_count p - length words ≡ 3 * (o.shape.frames * o.shape.page) = omega (arith, fit) in
+    let left : word_count p - length words ≡ ring_words o = omega (arith, fit) in
+    let size : 3 * p.ring ≡ ring_words o = ap (λ (ring : ℕ). 3 * ring) store.ring in
+    let place : first ≡ warm_place o = begins ∙ ap (λ (ring : ℕ). 3 * (o.warm.0 % ring)) store.ring in
+    let rest : drop (length words) (replicate (word_count p) 0) ≡ replicate (ring_words o) 0 = drop-replicate (length words) (word_count p) 0 ∙ ap (λ (n : ℕ). replicate n 0) left in
     record {
       index = index;
       taken = taken;
       filled = its;
-      whole = whole ∙ ap (λ (rest : List ℕ). words ++ rest) (drop-replicate (length words) (word_count p) 0 ∙ ap (λ (n : ℕ). replicate n 0) left)
-          ∙ ap (λ (front : List ℕ). front ++ replicate (3 * (o.shape.frames * o.shape.page)) 0) are;
+      whole = whole ∙ laid_behind (length words) (3 * p.ring) first o.frames.items words (drop (length words) (replicate (word_count p) 0)) (length o.frames.items) refl
+          ∙ ap (λ (ring : List ℕ). words ++ laid_round 0 (3 * p.ring) first o.frames.items ring (length o.frames.items)) rest
+          ∙ ap (λ (n : ℕ). words ++ laid_round 0 n first o.frames.items (replicate (ring_words o) 0) (length o.frames.items)) size
+          ∙ ap (λ (n : ℕ). words ++ laid_round 0 (ring_words o) n o.frames.items (replicate (ring_words o) 0) (length o.frames.items)) place
+          ∙ ap (λ (front : List ℕ). front ++ frames_of o) are;
     }

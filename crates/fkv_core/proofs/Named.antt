@@ -28,12 +28,12 @@ once_so o its packed taken are pack =
     let read_only : its.read_only.0 ≡ o.tail.0 = ap (λ (a : Addr). a.0) are.read_only in
     let safe_read_only : its.safe_read_only.0 ≡ o.tail.0 = ap (λ (a : Addr). a.0) are.safe_read_only in
     let flushed : its.flushed.0 ≡ o.tail.0 = ap (λ (a : Addr). a.0) are.flushed in
-    let head : its.head.0 ≡ o.tail.0 = ap (λ (a : Addr). a.0) are.head in
-    let closed : its.closed.0 ≡ o.tail.0 = ap (λ (a : Addr). a.0) are.closed in
+    let head : its.head.0 ≡ o.warm.0 = ap (λ (a : Addr). a.0) are.head in
+    let closed : its.closed.0 ≡ o.warm.0 = ap (λ (a : Addr). a.0) are.closed in
     let drain : its.drain ≡ 0 = are.drain in
     let all : its.epoch ∷ its.safe_epoch ∷ packed ∷ its.tail.0 ∷ its.limit.0 ∷ its.read_only.0 ∷ its.safe_read_only.0 ∷ its.flushed.0 ∷ its.head.0 ∷ its.closed.0 ∷ taken ∷ 0 ∷ 0 ∷ 0 ∷ 0 ∷ 0
     ∷ its.drain ∷ its.drain ∷ its.drain ∷ its.drain ∷ its.drain ∷ its.drain ∷ its.drain ∷ its.drain ∷ []
-    ≡ 1 ∷ 0 ∷ (o.number.0 + 1 + phase_number Rest * 2 ^ 16) ∷ o.tail.0 ∷ opening_limit o ∷ o.tail.0 ∷ o.tail.0 ∷ o.tail.0 ∷ o.tail.0 ∷ o.tail.0 ∷ taken ∷ 0 ∷ 0 ∷ 0 ∷ 0 ∷ 0
+    ≡ 1 ∷ 0 ∷ (o.number.0 + 1 + phase_number Rest * 2 ^ 16) ∷ o.tail.0 ∷ opening_limit o ∷ o.tail.0 ∷ o.tail.0 ∷ o.tail.0 ∷ o.warm.0 ∷ o.warm.0 ∷ taken ∷ 0 ∷ 0 ∷ 0 ∷ 0 ∷ 0
     ∷ 0 ∷ 0 ∷ 0 ∷ 0 ∷ 0 ∷ 0 ∷ 0 ∷ 0 ∷ [] = cc in
     all
 

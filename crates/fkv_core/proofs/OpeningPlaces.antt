@@ -13,7 +13,7 @@ use Rattle.fkv_opening.specs.declared.opening_words.SessionWords.{SessionWords}
 use Rattle.fkv_session.specs.Sessions.{SessionState}
 use Rattle.fkv_core.specs.OpeningPlaces.{HasSeen, StandAsTold, StandOfSession, StandOnce}
 use Rattle.fkv_core.specs.Openings.{IsOpeningSession}
-use Rattle.fkv_core.specs.OpeningWords.{AreWordsOfOpened, words_of_session, words_of_sessions, words_once}
+use Rattle.fkv_core.specs.OpeningWords.{AreWordsOfOpened, frames_of, words_of_session, words_of_sessions, words_once}
 use Rattle.fkv_core.proofs.Lengths.{length-sessions}
 use Rattle.fkv_core.proofs.Named.{cut_so, phase_so}
 
@@ -41,7 +41,7 @@ parted : (o : Opened) (words : List ℕ) → AreWordsOfOpened o words → IsPart
 parted o words are =
     let once : List ℕ = words_once o are.taken in
     let own : List ℕ = words_of_sessions o o.shape.sessions in
-    let frames : List ℕ = replicate (3 * (o.shape.frames * o.shape.page)) 0 in
+    let frames : List ℕ = frames_of o in
     record {
       taken = are.taken;
       rest = are.index ++ frames;

@@ -1,2 +1,3 @@
 -- What the crates above may cite of these proofs.
-pub use Rattle.fkv_core.proofs.Lengths.{length-before, length-filled}
+pub use Rattle.fkv_core.proofs.Lengths.{length-before, length-filled, length-frames}
+pub use Rattle.fkv_core.proofs.Framed.{framed}

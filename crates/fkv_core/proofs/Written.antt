@@ -1,9 +1,10 @@
 -- Words that are written from the first place on.
-use Rattle.std.proofs.Common.{◌≡◌, ◌∙◌, sym, ap, ℕ, suc, ◌+◌, ◌<◌, ◌≤◌, List, [], ◌∷◌, ◌++◌, length, take, drop, get_or, arith}
+use Rattle.std.proofs.Common.{◌≡◌, ◌∙◌, refl, sym, ap, ℕ, zero, suc, ◌+◌, ◌-◌, ◌%◌, ◌<◌, ◌≤◌, List, [], ◌∷◌, ◌++◌, length, take, drop, get_or, arith}
 use Rattle.std.specs.Prelude.{slice_set}
 use Rattle.std.proofs.Math.Seq.{take-suc, drop-cons, set-append_seam}
-use Rattle.std.proofs.lemmas.List.{append_assoc, length-take, take_all}
+use Rattle.std.proofs.lemmas.List.{append_assoc, length-take, set-append_right, take_all}
 use Rattle.fkv_plane.specs.Plane.{Plane}
+use Rattle.fkv_core.specs.OpeningWords.{laid_round}
 
 -- the first words of a list, and behind them those that stood there
 abbrev pub written_over : Plane → List ℕ → ℕ → Plane
@@ -35,3 +36,34 @@ pub written_whole : (start plane : Plane) (words : List ℕ) (i : ℕ) → i ≡
 written_whole start plane words i all is =
     let most : length words ≤ length words = omega arith in
     is ∙ ap (λ (n : ℕ). written_over start words n) all ∙ ap (λ (front : List ℕ). record start { words = front ++ drop (length words) start.words }) (take_all (length words) words most)
+
+-- ---- words that are laid round a ring
+abbrev pub laid_over : Plane → ℕ → ℕ → ℕ → List ℕ → ℕ → Plane
+laid_over start base size first words n = record start { words = laid_round base size first words start.words n }
+
+pub laid_start : (start : Plane) (base size first : ℕ) (words : List ℕ) → start ≡ laid_over start base size first words 0
+unfolding laid_round
+laid_start start base size first words = refl
+
+laid_more : (base size first : ℕ) (words all : List ℕ) (n : ℕ) → laid_round base size first words all (suc n) ≡ slice_set (laid_round base size first words all n) (base + (first + n) % size) (get_or words n 0)
+unfolding laid_round
+laid_more base size first words all n = refl
+
+pub laid_step : (start plane next : Plane) (base size first : ℕ) (words : List ℕ) (i : ℕ) → plane ≡ laid_over start base size first words i
+    → next ≡ record plane { words = slice_set plane.words (base + (first + i) % size) (get_or words i 0) } → next ≡ laid_over start base size first words (i + 1)
+laid_step start plane next base size first words i is goes =
+    let more : suc i ≡ i + 1 = omega arith in
+    goes ∙ ap (λ (p : Plane). record p { words = slice_set p.words (base + (first + i) % size) (get_or words i 0) }) is
+    ∙ ap (λ (all : List ℕ). record start { words = all }) (sym (laid_more base size first words start.words i))
+    ∙ ap (λ (n : ℕ). laid_over start base size first words n) more
+
+-- a ring behind other words
+pub laid_behind : (base size first : ℕ) (words front ring : List ℕ) (n : ℕ) → length front ≡ base → laid_round base size first words (front ++ ring) n ≡ front ++ laid_round 0 size first words ring n
+unfolding laid_round
+laid_behind base size first words front ring zero many = refl
+laid_behind base size first words front ring (suc n) many =
+    let place : ℕ = (first + n) % size in
+    let left : base + place - base ≡ 0 + place = omega arith in
+    ap (λ (all : List ℕ). slice_set all (base + place) (get_or words n 0)) (laid_behind base size first words front ring n many)
+    ∙ set-append_right front (laid_round 0 size first words ring n) base (base + place) (get_or words n 0) many (omega arith)
+    ∙ ap (λ (at : ℕ). front ++ slice_set (laid_round 0 size first words ring n) at (get_or words n 0)) left

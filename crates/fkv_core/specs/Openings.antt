@@ -18,7 +18,7 @@ use Rattle.fkv_core.specs.OpeningWords.{AreWordsOfOpened}
 pub record IsOpeningSeen (o : Opened) (seen : Seen) : Type 0 where
   pub phase : seen.phase ≡ Rest
   pub version : seen.version.0 ≡ o.number.0 + 1
-  pub head : seen.offsets.head ≡ o.tail
+  pub head : seen.offsets.head ≡ o.warm
   pub read_only : seen.offsets.read_only ≡ o.tail
 
 -- a session that is awake with no call in hand: its point is its last serial

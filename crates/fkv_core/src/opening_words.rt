@@ -1,8 +1,8 @@
 //! The shared words as a store opens.
-ghost use Rattle.std.specs.Prelude.{◌≡◌, ◌<◌, ◌≤◌, ◌++◌, drop, length, replicate, IfOk, OnErr, Err, None};
+ghost use Rattle.std.specs.Prelude.{◌≡◌, ◌^◌, ◌<◌, ◌≤◌, ◌++◌, drop, length, replicate, IfOk, OnErr, Err, None};
 ghost use Rattle.fkv_base.specs.Limits.{drain_slots};
 ghost use Rattle.fkv_base.specs.declared.faults.Fault.TheVariants.{Memory};
-ghost use Rattle.fkv_core.specs.OpeningWords.{AreWordsOfOpened, words_before_frames, words_of_session, words_once};
+ghost use Rattle.fkv_core.specs.OpeningWords.{AreWordsOfOpened, laid_round, words_before_frames, words_of_session, words_once};
 
 use fkv_base::Fault;
 use fkv_filling::{IndexWords, index_words};
@@ -22,6 +22,14 @@ pub(crate) fn opening_plane(alloc: Global, opened: &Opened) -> Result<PlainWords
     let places = Places::of(&opened.shape);
     let mut plane = PlainWords::new(alloc, places.word_count())?;
     write_words(&mut plane, &words);
+    let first = 3 * (opened.warm.0 as usize % places.ring);
+    write_round(
+        &mut plane,
+        words.len(),
+        3 * places.ring,
+        first,
+        &opened.frames,
+    );
     Ok(plane)
 }
 
@@ -33,6 +41,20 @@ fn write_words(plane: &mut PlainWords, words: &[u64])
 {
     for (place, word) in words.iter().enumerate() {
         plane.perform::<()>(&Ask::Store(place, *word));
+    }
+}
+
+/// Writes the words one after another round a ring of so many words, which begins at a place, from one of its words on.
+#[tactic(auto, using(crate::proofs::Written::laid_start, crate::proofs::Written::laid_step))]
+fn write_round(plane: &mut PlainWords, base: usize, size: usize, first: usize, words: &[u64])
+    requires low { base < 2 ^ 63 }
+    requires some { 0 < size }
+    requires small { size ≤ 2 ^ 32 }
+    requires inside { first < size }
+    ensures { plane.new ≡ record plane.old { words = laid_round base size first words.now plane.old.words (length words.now) } }
+{
+    for (i, word) in words.iter().enumerate() {
+        plane.perform::<()>(&Ask::Store(base + (first + i) % size, *word));
     }
 }
 

@@ -21,6 +21,7 @@ use Rattle.fkv_creating.specs.Created.{IsCreated, IsNew, IsNewSlot, IsNewStore, 
 use Rattle.fkv_creating.specs.Long.{IsLong}
 use Rattle.fkv_creating.proofs.Entryless.{is_checkpoint, is_sound, no_entries, no_entry_room, none_in_hand}
 use Rattle.fkv_creating.proofs.Newly.{is_long, newest_told}
+use Rattle.fkv_opening.proofs.Shown.{nothing_warm, room_in_ring}
 use Rattle.fkv_creating.proofs.Suiting.{many_points, page_some, points_fit, suits_new}
 
 -- ---- the slot
@@ -150,11 +151,17 @@ new_opened shape = record {
   checkpoint = record { number = record { 0 = 0 }; first = record { 0 = 1 }; triples = 0; area = 0 };
   lost = record { items = [] };
   entries = vec_of [] (omega arith);
+  warm = record { 0 = 1 };
+  frames = vec_of [] (omega arith);
   room = no_entry_room (2 ^ shape.bucket_bits) shape.overflow [] refl;
   few_entries = omega arith;
   few_commits = omega arith;
   some_tail = omega arith;
   tail_on_disk = on_disk shape;
+  some_warm = omega arith;
+  warm_in_log = omega arith;
+  warm_in_ring = room_in_ring shape 1;
+  three_words = refl;
   each_session = many shape.sessions;
   small_points = points_fit (no_serials shape.sessions) shape.sessions (numbers_of shape.sessions);
   some_first = omega arith;
@@ -206,4 +213,5 @@ module _ (image : List ℕ) (shape : Shape) (n : Newest) (o : Opened) (new : IsN
     tells = tells;
     entries = no_entries image shape n new o.entries.items store.entries;
     lost = none_in_hand image shape n new o.lost.items store.lost;
+    warm = (let tail = store.tail in let some = o.some_warm in nothing_warm image o (omega (arith, tail, some)));
   }

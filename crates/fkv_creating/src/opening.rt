@@ -53,6 +53,8 @@ fn opened(alloc: Global, newest: &Newest) -> Result<Opened, Fault>
         },
         lost: ArrayVec::new(),
         entries: Vec::new(alloc),
+        warm: newest.slot.end,
+        frames: Vec::new(alloc),
     })
 }
 

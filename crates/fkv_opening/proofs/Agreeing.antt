@@ -1,15 +1,18 @@
 -- Images that agree on what recovery reads hold the same store, or have the same fault.
-use Rattle.std.proofs.Common.{◌≡◌, inl, inr, ℕ, ◌<◌, ◌≤◌, List, Some, refl, sym, ap, ◌∙◌, arith}
+use Rattle.std.proofs.Common.{◌≡◌, inl, inr, ℕ, ◌<◌, ◌≤◌, List, Some, refl, sym, ap, subst, ◌∙◌, arith}
 use Rattle.std.specs.Prelude.{length, slice_get}
 use Rattle.std.proofs.lemmas.Option.{slice_get_within}
 use Rattle.fkv_base.specs.declared.faults.Fault.{Fault}
+use Rattle.fkv_base.specs.declared.numbers.Addr.{Addr}
+use Rattle.fkv_base.specs.declared.shapes.Shape.{Shape}
+use Rattle.fkv_disk.specs.Bytes.{bytes_at}
 use Rattle.fkv_base.specs.declared.faults.Fault.TheVariants as fault
 use Rattle.fkv_base.specs.declared.faults.Damage.TheVariants as damage
 use Rattle.fkv_words.specs.Fields.{SpellsApart}
 use Rattle.fkv_manifest.specs.Newest.{slot_in, newer, newest}
 use Rattle.fkv_record.specs.declared.triples.Triple.{Triple}
 use Rattle.fkv_record.specs.Layout.{record_bytes}
-use Rattle.fkv_record.specs.Places.{open_number}
+use Rattle.fkv_record.specs.Places.{open_number, record_place}
 use Rattle.fkv_scan.specs.Checkpoint.{checkpoint_in, IsTripleAt, IsSoundTriple, AreTriples}
 use Rattle.fkv_scan.specs.Log.{AreBelow}
 use Rattle.fkv_newest.specs.declared.newest_slots.Newest.{Newest}
@@ -18,8 +21,9 @@ use Rattle.fkv_newest.proofs.Shown.{told_alike, faults_alike}
 use Rattle.fkv_opening.specs.declared.opened_store.Opened.{Opened}
 use Rattle.fkv_opening.specs.Alike.{ShareLog, Agree, AreOne}
 use Rattle.fkv_opening.specs.Faults.{log_of, HasCheckpoint, IsSound, IsTriplesFault, IsLogFault, of_scan, of_chains, of_room, IsFaultOf, of_newest, of_triples, of_log}
-use Rattle.fkv_opening.specs.Opened.{IsStoreOf}
+use Rattle.fkv_opening.specs.Opened.{IsStoreOf, Tells}
 use Rattle.fkv_opening.proofs.Shared.{Share, scan_on, scan_fault_on}
+use Rattle.fkv_opening.proofs.Warming.{warm_on}
 use Rattle.fkv_opening.proofs.SharedChains.{chains_on, room_on, room_fault_on, entries_on, in_hand_on, chain_fault_on}
 
 flip_front : (i j : List ℕ) → ShowSame i j → ShowSame j i
@@ -113,6 +117,11 @@ module _ (i j : List ℕ) (same : Agree i j) where
           ),
         )
 
+  same_log : (o : Opened) (n : Newest) → Tells n o → Share n.shape n.slot i j → (a : ℕ) → 1 ≤ a → a < o.tail.0 → bytes_at i (record_place o.shape a) 24 ≡ bytes_at j (record_place o.shape a) 24
+  same_log o n tells shared = λ a some below.
+      let end : o.tail.0 ≡ n.slot.end.0 = ap (λ (x : Addr). x.0) tells.tail in
+      subst (λ (s : Shape). bytes_at i (record_place s a) 24 ≡ bytes_at j (record_place s a) 24) (sym tells.shape) (shared a some (omega (arith, below, end)))
+
   pub store_alike : SpellsApart record_bytes → (opened : Opened) → IsStoreOf i opened → IsStoreOf j opened
   store_alike apart opened store =
       let n = store.newest in
@@ -127,6 +136,7 @@ module _ (i j : List ℕ) (same : Agree i j) where
         tells = store.tells;
         entries = entries_on apart n.shape n.slot ts (some apart n ts has) (upwards apart n ts has) (in_log apart n ts has) i j same_records store.sound.scan store.sound.chains opened.entries.items store.entries;
         lost = in_hand_on apart n.shape n.slot ts (some apart n ts has) (upwards apart n ts has) (in_log apart n ts has) i j same_records opened.lost.items store.lost;
+        warm = warm_on i j opened (same_log opened n store.tells same_records) store.warm;
       }
 
   pub fault_alike : SpellsApart record_bytes → (why : Fault) → IsFaultOf i why → (found : Fault) × IsFaultOf j found × AreOne i why j found

@@ -9,3 +9,4 @@ mod Shared
 mod SharedChains
 pub mod Shown
 mod Telling
+mod Warming

@@ -6,3 +6,4 @@ pub mod Listed
 pub mod Lost
 pub mod Opened
 pub mod Opening
+pub mod Warm

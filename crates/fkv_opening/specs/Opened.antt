@@ -7,6 +7,7 @@ use Rattle.fkv_opening.specs.declared.opened_store.Opened.{Opened}
 use Rattle.fkv_opening.specs.Entries.{AreEntries}
 use Rattle.fkv_opening.specs.Faults.{HasCheckpoint, IsSound, log_of}
 use Rattle.fkv_opening.specs.Lost.{AreInHand}
+use Rattle.fkv_opening.specs.Warm.{IsWarm}
 
 -- what the newest slot tells of the store: its commit, the gates, and the checkpoint that the commit uses
 pub record Tells (n : Newest) (opened : Opened) : Type 0 where
@@ -21,8 +22,8 @@ pub record Tells (n : Newest) (opened : Opened) : Type 0 where
   pub triples : opened.checkpoint.triples ≡ n.slot.triples
   pub area : opened.checkpoint.area ≡ n.slot.area
 
--- An image holds a store, and this is it: no stage finds a fault, the newest slot tells the store, and the entries and the lost ranges in hand are those of
--- the log behind the checkpoint.
+-- An image holds a store, and this is it: no stage finds a fault, the newest slot tells the store, the entries and the lost ranges in hand are those of
+-- the log behind the checkpoint, and memory has of its records what it is to have.
 pub record IsStoreOf (image : List ℕ) (opened : Opened) : Type 0 where
   pub newest : Newest
   pub triples : List Triple
@@ -31,3 +32,4 @@ pub record IsStoreOf (image : List ℕ) (opened : Opened) : Type 0 where
   pub tells : Tells newest opened
   pub entries : AreEntries (log_of image newest triples) opened.entries.items
   pub lost : AreInHand (log_of image newest triples) opened.lost.items
+  pub warm : IsWarm image opened

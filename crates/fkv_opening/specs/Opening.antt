@@ -14,7 +14,7 @@ point_of opened session = slice_index (map (λ point. point.0) opened.points.ite
 abbrev pub opening_limit : Opened → ℕ
 opening_limit opened = min (opened.tail.0 / opened.shape.page + 2) opened.shape.disk_pages * opened.shape.page
 
--- epoch 1 and none safe, at rest, all offsets of the log at its end, and the drain slots free
+-- epoch 1 and none safe, at rest, all offsets of the log at its end but for those from which memory has its records, and the drain slots free
 pub record AreOpeningWords (opened : Opened) (words : OpeningWords) : Type 0 where
   pub epoch : words.epoch ≡ 1
   pub safe_epoch : words.safe_epoch ≡ 0
@@ -25,8 +25,8 @@ pub record AreOpeningWords (opened : Opened) (words : OpeningWords) : Type 0 whe
   pub read_only : words.read_only ≡ opened.tail
   pub safe_read_only : words.safe_read_only ≡ opened.tail
   pub flushed : words.flushed ≡ opened.tail
-  pub head : words.head ≡ opened.tail
-  pub closed : words.closed ≡ opened.tail
+  pub head : words.head ≡ opened.warm
+  pub closed : words.closed ≡ opened.warm
   pub drain : words.drain ≡ 0
 
 -- the cut word of a parity: the commit's number and the session's point where that is the commit's parity, else nothing

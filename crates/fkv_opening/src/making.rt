@@ -75,6 +75,7 @@ fn points_of(alloc: Global, slot: &ManifestSlot) -> Result<Vec<Serial>, Fault>
 pub(crate) fn make(alloc: Global, newest: Newest, scanned: &Scanned) -> Result<Opened, Fault>
     requires { taken (homes_of scanned.now.homes.entries) (2 ^ newest.shape.bucket_bits) ≤ newest.shape.overflow }
     ensures ok { (image : List ℕ) (triples : List Triple) → HasCheckpoint image newest triples → AreScanned (log_of image newest triples) scanned.now → IsSound (log_of image newest triples) → IfOk result (IsStoreOf image) }
+    ensures cold { IfOk result (λ opened. opened.warm ≡ opened.tail) }
     ensures err { OnErr result (result ≡ Err Memory) }
 {
     law_entries();
@@ -96,5 +97,7 @@ pub(crate) fn make(alloc: Global, newest: Newest, scanned: &Scanned) -> Result<O
         },
         lost,
         entries,
+        warm: newest.slot.end,
+        frames: Vec::new(alloc),
     })
 }

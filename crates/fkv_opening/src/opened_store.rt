@@ -1,5 +1,5 @@
 //! A store as its image defines it.
-ghost use Rattle.std.specs.Prelude.{◌≡◌, ◌+◌, ◌*◌, ◌^◌, ◌<◌, ◌≤◌, All, length};
+ghost use Rattle.std.specs.Prelude.{◌≡◌, ◌+◌, ◌-◌, ◌*◌, ◌/◌, ◌^◌, ◌<◌, ◌≤◌, All, length, min};
 ghost use Rattle.fkv_base.specs.Limits.{last_version, last_serial};
 ghost use Rattle.fkv_entries.specs.Room.{HaveRoom};
 ghost use Rattle.fkv_record.specs.Places.{most_triples};
@@ -45,11 +45,19 @@ pub struct Opened {
     pub lost: ArrayVec<LostRange, MAX_LOST_IN_HAND>,
     /// The entries of the homes that have one, each home once, in ascending order of the homes.
     pub entries: Vec<HomeEntry>,
+    /// From this address on memory has the records, from the beginning on. Where it is the log's end, it has none.
+    pub warm: Addr,
+    /// The words of these records, in the order of their addresses: of each its header, its key and its value.
+    pub frames: Vec<u64>,
     pub ghost room: { HaveRoom (2 ^ shape.bucket_bits) shape.overflow entries.items },
     pub ghost few_entries: { length entries.items ≤ 7 * (2 ^ shape.bucket_bits + shape.overflow) },
     pub ghost few_commits: { number.0 < last_version },
     pub ghost some_tail: { 1 ≤ tail.0 },
     pub ghost tail_on_disk: { tail.0 ≤ shape.disk_pages * shape.page },
+    pub ghost some_warm: { 1 ≤ warm.0 },
+    pub ghost warm_in_log: { warm.0 ≤ tail.0 },
+    pub ghost warm_in_ring: { min (tail.0 / shape.page + 2) shape.disk_pages * shape.page ≤ warm.0 + shape.frames * shape.page },
+    pub ghost three_words: { length frames.items ≡ 3 * (tail.0 - warm.0) },
     pub ghost each_session: { length points.items ≡ shape.sessions },
     pub ghost small_points: { All (λ point. point.0 ≤ last_serial) points.items },
     pub ghost some_first: { 1 ≤ checkpoint.first.0 },

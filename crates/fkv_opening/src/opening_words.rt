@@ -42,8 +42,8 @@ pub struct SessionWords {
 impl Opened {
     ghost use Rattle.fkv_opening.specs.Opening.{AreOpeningWords, AreSessionWords, IsOpeningCut};
 
-    /// The words that the store has once, as it opens: at rest in the version behind the commit's, and the whole log is
-    /// on the device.
+    /// The words that the store has once, as it opens: at rest in the version behind the commit's, the whole log is on the
+    /// device, and memory has its records from `warm` on.
     pub fn words(&self) -> OpeningWords
         ensures { AreOpeningWords self.now result }
     {
@@ -60,8 +60,8 @@ impl Opened {
             read_only: self.tail,
             safe_read_only: self.tail,
             flushed: self.tail,
-            head: self.tail,
-            closed: self.tail,
+            head: self.warm,
+            closed: self.warm,
             drain: 0,
         }
     }

@@ -22,6 +22,7 @@ use std::alloc::Global;
 /// Opens the store with this newest slot: the last four stages, one after another.
 fn open<D: Device>(alloc: Global, d: &mut D, newest: Newest) -> Result<Opened, Fault>
     ensures ok { D.honest d.old → IsNewestOf (D.seen d.old) newest → IfOk result (IsStoreOf (D.seen d.old)) }
+    ensures cold { IfOk result (λ opened. opened.warm ≡ opened.tail) }
     ensures err { IfErr result (IsRefused (D.failed d.old) (D.failed d.new) (D.honest d.old × IsNewestOf (D.seen d.old) newest) (IsFaultOf (D.seen d.old))) }
     ensures quiet { IsQuiet D.honest D.seen D.may_leave D.moment D.left_since D.failed d.old d.new }
     ensures reads { OnlyReads D.refuses D.expects d.old d.new }
@@ -42,11 +43,13 @@ fn open<D: Device>(alloc: Global, d: &mut D, newest: Newest) -> Result<Opened, F
 /// device's end count as 0. It makes one sync first, and no write; where that sync is refused, it makes no other call, and
 /// one read behind it tells whether the image is a store's and what its newest slot says.
 ///
-/// The answer is what the image defines: `NotAStore`, the damage that the first of its six stages finds, or the store.
+/// The answer is what the image defines: `NotAStore`, the damage that the first of its six stages finds, or the store. Memory
+/// has no record of it.
 /// `Device` comes only where the device failed in this call, `Memory` where memory was refused. It may be stopped at any
 /// moment: what a crash leaves then it may have left before.
 pub fn recover<D: Device>(alloc: Global, d: &mut D) -> Result<Opened, Fault>
     ensures ok { D.honest d.old → IfOk result (IsStoreOf (D.seen d.old)) }
+    ensures cold { IfOk result (λ opened. opened.warm ≡ opened.tail) }
     ensures exact { D.honest d.old → OnOk result ((fault : Fault) → IsFaultOf (D.seen d.old) fault → ⊥) }
     ensures err { IfErr result (IsRefused (D.failed d.old) (D.failed d.new) (D.honest d.old) (IsFaultOf (D.seen d.old))) }
     ensures synced { D.honest d.old → OnOk result (LeavesOnly (D.seen d.old) (D.may_leave d.new)) }

@@ -2,7 +2,7 @@
 ghost use Rattle.law_opening.specs.Changes.Lives.{LivesBeginLinked, LivesChangePublished, LivesHaveFallingChains, LivesKeepOldRecords, LivesShowHeaders};
 
 use crate::lives::{law_guard_opens, law_index_opens};
-use crate::log::{law_log_begins, law_log_heads, law_log_opened};
+use crate::log::{law_log_begins, law_log_counted, law_log_heads, law_log_opened};
 use crate::published::law_changes_published;
 
 /// Each life of an opened store begins beside such a log. So in each of them, commits and all, what a session changes in place is published until then, and
@@ -17,6 +17,7 @@ pub fn law_lives_change_published()
     law_guard_opens();
     law_index_opens();
     law_log_begins();
+    law_log_counted();
     law_log_heads();
     law_log_opened();
     law_changes_published();

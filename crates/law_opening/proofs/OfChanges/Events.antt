@@ -1,7 +1,6 @@
 -- What a step does to the log, by what its session goes by: a record that it makes leads below the tail, and what it changes in place lies above the opening.
 use Rattle.std.proofs.Common.{◌≡◌, ℕ, ◌<◌, ◌≤◌, refl, Bool, true, false, List, [], ◌∷◌, ◌++◌}
 use Rattle.std.specs.Prelude.{⊤, ◌==◌, if◌then◌else◌, Some}
-use Rattle.fkv_index.specs.declared.finding.Found.{Found}
 use Rattle.law_refine.specs.Below.fkv_log.ReserveAnswer.{ReserveAnswer}
 use Rattle.law_refine.specs.Below.fkv_log.ReserveAnswer.TheVariants.{Reserved}
 use Rattle.fkv_map.specs.Keys.{reply_from}

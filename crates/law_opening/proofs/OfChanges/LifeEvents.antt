@@ -2,29 +2,15 @@
 use Rattle.std.proofs.Common.{◌≡◌, ◌≢◌, inl, inr, ℕ, ◌<◌, ◌≤◌, ◌∙◌, refl, sym, ap, subst, arith, Bool, true, false, List, [], ◌∷◌, ◌++◌}
 use Rattle.std.specs.Prelude.{◌==◌, map, if◌then◌else◌, Option, Some, None, slice_get}
 use Rattle.std.proofs.lemmas.Bool.{cases_lt}
-use Rattle.fkv_base.specs.declared.numbers.Addr.{Addr}
-use Rattle.fkv_epoch.proofs.Shown.{none_some, some_same}
 use Rattle.law_refine.specs.Below.fkv_flush.GuardFlushed.{stands}
 use Rattle.fkv_map.specs.declared.history.HistoryEntry.{HistoryEntry}
-use Rattle.law_refine.specs.Below.fkv_ops.Walking.{WalkState}
-use Rattle.law_refine.specs.Below.fkv_ops.Request.{Request}
-use Rattle.law_refine.specs.Below.fkv_ops.Seen.{Seen}
-use Rattle.law_refine.specs.Below.fkv_ops.TheTrying.{Trying}
-use Rattle.law_refine.specs.Below.fkv_ops.TheTrying.TheVariants.{SwapsValue, ChangesValue}
-use Rattle.law_refine.specs.Below.fkv_pending.Attempting.{AttemptState}
-use Rattle.law_refine.specs.Below.fkv_pending.TheAttempting.{Attempting}
-use Rattle.law_refine.specs.Below.fkv_pending.TheAttempting.TheVariants.{Tries}
 use Rattle.law_refine.specs.Below.fkv_session.Sessions.{SessionState, Seat, session_ask}
-use Rattle.law_refine.specs.Below.fkv_session.Sitting.{Sitting}
-use Rattle.law_refine.specs.Below.fkv_session.Sitting.TheVariants.{Attempts, Polls}
 use Rattle.law_refine.specs.Below.fkv_world.Runs.{World, happens, run}
 use Rattle.law_refine.specs.Below.fkv_world.World.{Event, Moves, seat_at}
 use Rattle.law_refine.proofs.Below.fkv_world.Shown.{same_seat}
 use Rattle.law_refine.specs.Below.law_world.Guarded.GuardEvents as guarded
 use Rattle.law_refine.specs.Below.law_world.Guarded.Shows.{guard_opening}
-use Rattle.law_refine.specs.Below.law_world.GuardSessions.InPlace.{attempt_changes, sitting_changes, try_changes}
-use Rattle.law_refine.specs.Below.law_local.Sessions.Inputs.{AttemptsBy, AttemptsSo, TriesFor, WalksFor}
-use Rattle.law_refine.specs.Below.law_local.Sessions.Known.{is_attempting}
+use Rattle.law_refine.specs.Below.law_local.Sessions.Inputs.{AttemptsSo}
 use Rattle.law_log.specs.Chains.{Cell, Logged, Unborn, Reserved, Published, Dropped}
 use Rattle.law_log.specs.Ghosts.{Log, Ghosts, GhostEvent, Tells, FindsEntry, TakesValue, Reserves, Publishes, Drops, Changes, Fixes, published, dropped, changed, changed_by, log_after, ghosts_after, ghost_run}
 use Rattle.law_log.specs.Trace.{TraceLine}
@@ -44,9 +30,7 @@ use Rattle.law_opening.specs.Changes.Laws.{BeginsLinked}
 use Rattle.law_opening.specs.Changes.Linked.{IsLed}
 use Rattle.law_opening.proofs.OfChanges.Events.{AllSo, both_so, is_so, step_so}
 use Rattle.law_opening.proofs.OfChanges.Life.{SessionKnown, life_holds}
-use Rattle.law_opening.proofs.OfChanges.OfSessions.Attempting.{attempting_is, life_attempts}
-use Rattle.law_opening.proofs.OfChanges.Rows.{AttemptKnown, AttemptSo, TrySo, made_previous}
-use Rattle.law_opening.proofs.OfChanges.Told.{GoesSo, goes_so}
+use Rattle.law_opening.proofs.OfChanges.OfSessions.Attempting.{life_attempts}
 
 -- ---- events
 told_so : (low high : ℕ) (lines : List TraceLine) → AllSo low high (map Tells lines)

@@ -3,7 +3,7 @@ use Rattle.std.proofs.Common.{◌≡◌, ◌∙◌, ap, sym, refl, arith, inl, i
 use Rattle.std.specs.Prelude.{min, replicate, take}
 use Rattle.std.proofs.Math.Nat.{div-add-mod, min-le_left, mul-le-mul_right}
 use Rattle.std.proofs.lemmas.Bool.{cases_lt}
-use Rattle.std.proofs.lemmas.List.{get_or-append-add, get_or-replicate, length-append, length-replicate}
+use Rattle.std.proofs.lemmas.List.{get_or-append-add, get_or-replicate, length-append}
 use Rattle.std.proofs.lemmas.Option.{slice_get_within}
 use Rattle.fkv_base.specs.Limits.{drain_slots}
 use Rattle.fkv_base.specs.declared.numbers.Addr.{Addr}
@@ -22,7 +22,7 @@ use Rattle.law_refine.specs.Below.fkv_world.World.{Now}
 use Rattle.fkv_core.specs.Openings.{IsOpeningSeen, IsOpeningWorld, beginning}
 use Rattle.law_refine.specs.Below.fkv_ops.Seen.{Seen}
 use Rattle.fkv_core.specs.OpeningWords.{words_before_frames, words_once}
-use Rattle.fkv_core.proofs.Shown.{length-before}
+use Rattle.fkv_core.proofs.Shown.{length-before, length-frames}
 use Rattle.law_refine.specs.Below.law_world.Guarded.OpenedStore.{IsOpenedStore}
 use Rattle.law_refine.specs.Below.law_world.Guarded.Shows.{IsOpened}
 use Rattle.law_opening.proofs.OfLives.Words.{IsParted, once_word, parted, session_word_at}
@@ -49,7 +49,7 @@ enough o n its =
     let store = its.its_places in
     let front : List ℕ = words_before_frames o are.index are.taken in
     let before : length front ≡ 24 + 16 * o.shape.sessions + 8 * 2 ^ o.shape.bucket_bits + 8 * o.shape.overflow = length-before o are.index are.taken are.filled in
-    let whole : length n.words ≡ length front + 3 * (o.shape.frames * o.shape.page) = ap length are.whole ∙ length-append front _ ∙ ap (λ (m : ℕ). length front + m) (length-replicate {A = ℕ} (3 * (o.shape.frames * o.shape.page)) 0) in
+    let whole : length n.words ≡ length front + 3 * (o.shape.frames * o.shape.page) = ap length are.whole ∙ length-append front _ ∙ ap (λ (m : ℕ). length front + m) (length-frames o) in
     let s = store.sessions in
     let b = store.buckets in
     let v = store.overflow in
@@ -76,8 +76,8 @@ guard_words o n its =
     let disk = o.tail_on_disk in
     let room = room_end o.tail.0 o.shape.page o.shape.disk_pages o.shape.frames some (omega (arith, mutable, frames)) disk in
     let end : word_at n.words 4 ≡ opening_limit o = once_word o n.words parts 4 (omega arith) in
-    let closes : word_at n.words 9 ≡ o.tail.0 = once_word o n.words parts 9 (omega arith) in
-    let heads : word_at n.words 8 ≡ o.tail.0 = once_word o n.words parts 8 (omega arith) in
+    let closes : word_at n.words 9 ≡ o.warm.0 = once_word o n.words parts 9 (omega arith) in
+    let heads : word_at n.words 8 ≡ o.warm.0 = once_word o n.words parts 8 (omega arith) in
     rw its.its_shape (record {
       fits = record { sessions = sessions; ring = ring };
       enough_words = many;
@@ -91,7 +91,7 @@ guard_words o n its =
         awake = λ session in_store. session_word_at o n.words parts session 0 (omega (arith, sessions, in_store)) (omega arith);
         slots_free = λ slot small. free parts slot small;
       };
-      closed = omega (arith, closes);
+      closed = (let warm = o.warm_in_log in omega (arith, closes, warm));
       head = heads ∙ sym closes;
       flushed = once_word o n.words parts 7 (omega arith);
       safe_read_only = once_word o n.words parts 6 (omega arith);
@@ -99,7 +99,7 @@ guard_words o n its =
       tail = once_word o n.words parts 3 (omega arith);
       limit = end;
       tail_below = let low = room.0 in omega (arith, end, low);
-      limit_below = let high = room.1 in omega (arith, end, high, ring, closes);
+      limit_below = let high = o.warm_in_ring in omega (arith, end, high, ring, closes);
     })
   where
     some_page : (f p : ℕ) → 0 < f * p → 0 < p
@@ -119,7 +119,7 @@ its_keeper_opens o n its =
 abbrev seen_at : ℕ → ℕ → LastSeen
 seen_at read_only head = record { read_only = read_only; head = head }
 
-seen_so : (o : Opened) (seen : Seen) → IsOpeningSeen o seen → last_seen seen ≡ record { read_only = o.tail.0; head = o.tail.0 }
+seen_so : (o : Opened) (seen : Seen) → IsOpeningSeen o seen → last_seen seen ≡ record { read_only = o.tail.0; head = o.warm.0 }
 seen_so o seen saw = ap (λ (a : Addr). seen_at a.0 seen.offsets.head.0) saw.read_only ∙ ap (λ (a : Addr). seen_at o.tail.0 a.0) saw.head
 
 guard_now : (o : Opened) (n : Now) → IsOpeningWorld o n → IsOpened n o.tail.0

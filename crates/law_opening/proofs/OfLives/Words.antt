@@ -1,11 +1,10 @@
 -- The words of an opened store, read at their places.
 use Rattle.std.proofs.Common.{◌≡◌, ◌∙◌, ap, sym, refl, arith, inl, inr, ℕ, zero, suc, ◌+◌, ◌-◌, ◌*◌, ◌<◌, List, ◌++◌, length}
-use Rattle.std.specs.Prelude.{replicate}
 use Rattle.std.proofs.lemmas.Bool.{cases_lt}
 use Rattle.std.proofs.lemmas.List.{append_assoc, length-append, get_or_append_left, get_or-append_right}
 use Rattle.fkv_plane.specs.Asked.{word_at}
 use Rattle.law_paper.specs.Below.fkv_opening.TheOpened.{Opened}
-use Rattle.fkv_core.specs.OpeningWords.{AreWordsOfOpened, words_of_session, words_of_sessions, words_once}
+use Rattle.fkv_core.specs.OpeningWords.{AreWordsOfOpened, frames_of, words_of_session, words_of_sessions, words_once}
 
 length-sessions : (o : Opened) (n : ℕ) → length (words_of_sessions o n) ≡ 16 * n
 unfolding words_of_sessions
@@ -36,7 +35,7 @@ pub parted : (o : Opened) (words : List ℕ) → AreWordsOfOpened o words → Is
 parted o words are =
     let once : List ℕ = words_once o are.taken in
     let own : List ℕ = words_of_sessions o o.shape.sessions in
-    let frames : List ℕ = replicate (3 * (o.shape.frames * o.shape.page)) 0 in
+    let frames : List ℕ = frames_of o in
     record {
       taken = are.taken;
       rest = are.index ++ frames;
@@ -63,7 +62,7 @@ unfolding parted
 index_word o words are place i its few =
     let p : IsParted o words = parted o words are in
     let many = length-sessions o o.shape.sessions in
-    let frames : List ℕ = replicate (3 * (o.shape.frames * o.shape.page)) 0 in
+    let frames : List ℕ = frames_of o in
     let own : List ℕ = words_of_sessions o o.shape.sessions in
     ap (λ (all : List ℕ). word_at all place) p.whole
     ∙ get_or-append_right (words_once o are.taken) (own ++ (are.index ++ frames)) 24 place 0 refl (omega (arith, its))

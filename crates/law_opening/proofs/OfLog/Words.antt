@@ -7,6 +7,7 @@ use Rattle.std.proofs.lemmas.Nat.{from_le_bytes-to_le_bytes_8}
 use Rattle.std.specs.Int.{w64, to_le_bytes, from_le_bytes}
 use Rattle.fkv_disk.specs.Bytes.{bytes_at}
 use Rattle.law_paper.specs.Below.fkv_opening.TheOpened.{Opened}
+use Rattle.law_paper.specs.Below.fkv_opening.Warm.{record_word}
 use Rattle.fkv_record.proofs.Shown.{record_numbered}
 use Rattle.fkv_record.specs.Layout.{record_bytes, record_numbers}
 use Rattle.fkv_record.specs.Numbers.{spelled}
@@ -15,7 +16,7 @@ use Rattle.fkv_record.specs.declared.records.Record.{Record}
 use Rattle.fkv_words.proofs.Shown.{bit_small}
 use Rattle.fkv_words.specs.Layout.{header_word}
 use Rattle.fkv_words.specs.declared.headers.Header.{Header}
-use Rattle.law_opening.specs.Log.OpeningLog.{record_word, cell_at}
+use Rattle.law_opening.specs.Log.OpeningLog.{cell_at}
 use Rattle.law_opening.specs.Log.Records.{cell_of}
 
 -- the first number of some, and the others behind it

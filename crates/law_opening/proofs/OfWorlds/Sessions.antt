@@ -39,7 +39,7 @@ own_turn_rested : OwnTurnState
 own_turn_rested = record { scanning = scan.AtRest; claiming = claim.AtRest; shift = shift_at shift.AtRest move_at_rest; turn = turn_at turn.AtRest move_at_rest; step = own.Ended }
 
 seen_by : Opened → Seen
-seen_by o = record { phase = Rest; version = record { 0 = o.number.0 + 1 }; offsets = record { head = o.tail; read_only = o.tail } }
+seen_by o = record { phase = Rest; version = record { 0 = o.number.0 + 1 }; offsets = record { head = o.warm; read_only = o.tail } }
 
 pub session_of : Opened → ℕ → SessionState
 session_of o number = record {

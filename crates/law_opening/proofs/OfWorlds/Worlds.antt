@@ -1,10 +1,10 @@
 -- The world of any opened store.
-use Rattle.std.proofs.Common.{◌≡◌, ℕ, ◌+◌, ◌*◌, ◌^◌, ◌++◌, None, false, refl, subst, arith}
+use Rattle.std.proofs.Common.{◌≡◌, ℕ, ◌+◌, ◌^◌, ◌++◌, None, false, refl, subst, arith}
 use Rattle.std.specs.Prelude.{replicate}
 use Rattle.fkv_base.specs.Limits.{drain_slots}
 use Rattle.law_paper.specs.Below.fkv_opening.TheOpened.{Opened}
 use Rattle.law_refine.specs.Below.fkv_world.World.{Now}
-use Rattle.fkv_core.specs.OpeningWords.{words_before_frames}
+use Rattle.fkv_core.specs.OpeningWords.{frames_of, words_before_frames}
 use Rattle.fkv_core.specs.Openings.{IsOpeningSession, IsOpeningWorld}
 use Rattle.law_opening.proofs.OfWorlds.Index.{IsIndex, index_of}
 use Rattle.law_opening.proofs.OfWorlds.Keepers.{keeper_of, keeper_opens}
@@ -18,7 +18,7 @@ pub world_of : Opened → Now
 world_of o = record {
   shape = o.shape;
   places = places_of o.shape;
-  words = words_before_frames o (its_index o).words (its_index o).taken ++ replicate (3 * (o.shape.frames * o.shape.page)) 0;
+  words = words_before_frames o (its_index o).words (its_index o).taken ++ frames_of o;
   actions = replicate drain_slots None;
   sessions = sessions_from o 0 o.shape.sessions;
   keeper = keeper_of o;

@@ -1,19 +1,13 @@
 -- The order law's log with which the life of an opened store begins: the chains of the image.
-use Rattle.std.specs.Prelude.{ℕ, zero, suc, ◌*◌, ◌%◌, ◌^◌, nat_eq, cond, Bool, false, ◌||◌, List, [], ◌∷◌}
-use Rattle.fkv_base.specs.declared.shapes.Shape.{Shape}
-use Rattle.fkv_disk.specs.Bytes.{bytes_at}
+use Rattle.std.specs.Prelude.{ℕ, zero, suc, ◌%◌, ◌^◌, nat_eq, cond, Bool, false, ◌||◌, List, [], ◌∷◌}
 use Rattle.fkv_entries.specs.declared.home_entries.HomeEntry.{HomeEntry}
 use Rattle.law_paper.specs.Below.fkv_opening.Entries.{entry_home}
 use Rattle.law_paper.specs.Below.fkv_opening.TheOpened.{Opened}
+use Rattle.law_paper.specs.Below.fkv_opening.Warm.{record_word}
 use Rattle.law_refine.specs.Below.fkv_ops.Values.{value_of}
 use Rattle.law_log.specs.Chains.{Cell, Logged, Unborn, Published}
 use Rattle.law_log.specs.Ghosts.{Log, Ghosts, NotCalled}
-use Rattle.fkv_record.specs.Places.{number_at, record_place}
 use Rattle.law_refine.specs.Events.GhostEvents.{home_in}
-
--- a record of the image as its three words: header, key and value
-abbrev pub record_word : List ℕ → Shape → ℕ → ℕ → ℕ
-record_word image its_shape a word = number_at (bytes_at image (record_place its_shape a) 24) (8 * word)
 
 -- the record of the image at an address; all that an opened store has counts as of its commit's version
 unfoldable pub cell_at : List ℕ → Opened → ℕ → Cell

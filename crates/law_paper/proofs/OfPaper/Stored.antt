@@ -22,6 +22,7 @@ use Rattle.fkv_entries.specs.Room.{AreApart, HaveRoom, bucket_words, needed, tak
 use Rattle.fkv_entries.specs.declared.home_entries.HomeEntry.{HomeEntry}
 use Rattle.fkv_chains.specs.Entries.{IsEntry}
 use Rattle.fkv_newest.specs.declared.newest_slots.Newest.{Newest}
+use Rattle.fkv_opening.proofs.Shown.{nothing_warm, room_in_ring}
 use Rattle.fkv_opening.specs.Entries.{AreEntries, entry_home, place_of}
 use Rattle.fkv_opening.specs.Faults.{HasCheckpoint, IsSound, log_of}
 use Rattle.fkv_opening.specs.Lost.{Extends}
@@ -347,11 +348,17 @@ module _ (spells : SpellsApart record_bytes) (image : List ℕ) (n : Newest) (xs
     checkpoint = record { number = record { 0 = n.slot.checkpoint }; first = n.slot.first; triples = n.slot.triples; area = n.slot.area };
     lost = record { items = (in_hand tells_newer.0).0 };
     entries = vec_of entries entries_small;
+    warm = n.slot.end;
+    frames = vec_of [] (omega arith);
     room = have_room;
     few_entries = entries_few;
     few_commits = n.fits.number.few;
     some_tail = (let some = n.fits.log.some in let up = n.fits.log.upwards in omega (arith, some, up));
     tail_on_disk = n.fits.log.on_disk;
+    some_warm = (let some = n.fits.log.some in let up = n.fits.log.upwards in omega (arith, some, up));
+    warm_in_log = omega arith;
+    warm_in_ring = room_in_ring n.shape n.slot.end.0;
+    three_words = omega arith;
     each_session = n.fits.sessions;
     small_points = n.slot.points.serials_fit;
     some_first = n.fits.log.some;
@@ -371,4 +378,5 @@ module _ (spells : SpellsApart record_bytes) (image : List ℕ) (n : Newest) (xs
     tells = record { shape = refl; number = refl; tail = refl; points = refl; gate_0 = refl; gate_1 = refl; checkpoint = refl; first = refl; triples = refl; area = refl };
     entries = are_entries;
     lost = record { left_out = tells_newer.0; tells = tells_newer.1; extends = (in_hand tells_newer.0).1 };
+    warm = nothing_warm image opened (omega arith);
   }

@@ -2,6 +2,7 @@ use Rattle.std.proofs.Common.{ap, [], length, ◌^◌, refl, ◌∙◌, arith}
 use Rattle.std.specs.Option.{is_some}
 use Rattle.fkv_record.specs.Points.{serial_numbers}
 use Rattle.fkv_creating.proofs.Entryless.{no_entry_room, is_checkpoint, is_sound, no_entries, none_in_hand}
+use Rattle.fkv_opening.proofs.Shown.{nothing_warm, room_in_ring}
 use Rattle.fkv_creating.proofs.opening.opened.Goals as goal
 
 pub invariant_of-result-clause-room : goal.invariant_of-result-clause-room
@@ -9,6 +10,9 @@ invariant_of-result-clause-room c = no_entry_room (2 ^ c.args.newest.now.shape.b
 
 pub invariant_of-result-clause-few_entries : goal.invariant_of-result-clause-few_entries
 invariant_of-result-clause-few_entries c = omega (arith, c.new-2.ensures.len, ap length c.new-2.ensures.items)
+
+pub invariant_of-result-clause-warm_in_ring : goal.invariant_of-result-clause-warm_in_ring
+invariant_of-result-clause-warm_in_ring c = room_in_ring c.args.newest.now.shape c.args.newest.now.slot.end.0
 
 pub returns-clause-ok : goal.returns-clause-ok
 returns-clause-ok c = λ image told.
@@ -32,6 +36,7 @@ returns-clause-ok c = λ image told.
       };
       entries = no_entries image n.shape n c.requires c.new-2.result.items c.new-2.ensures.items;
       lost = none_in_hand image n.shape n c.requires c.new.result.items c.new.ensures;
+      warm = nothing_warm image _ (omega arith);
     }
 
 pub returns-clause-new : goal.returns-clause-new

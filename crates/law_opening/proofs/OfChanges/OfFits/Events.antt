@@ -1,7 +1,6 @@
 -- What a step makes fits in words, for operations that fit.
 use Rattle.std.proofs.Common.{◌≡◌, ℕ, refl, sym, subst, Bool, true, false, List, [], ◌∷◌}
 use Rattle.std.specs.Prelude.{◌==◌, if◌then◌else◌}
-use Rattle.fkv_index.specs.declared.finding.Found.{Found}
 use Rattle.law_refine.specs.Below.fkv_log.RecordWords.{RecordWords}
 use Rattle.law_refine.specs.Below.fkv_log.ReserveAnswer.{ReserveAnswer}
 use Rattle.law_refine.specs.Below.fkv_log.ReserveAnswer.TheVariants.{Reserved}

@@ -33,7 +33,7 @@ returns-clause-begins c = λ o n bytes store world.
       reserves = first.reserves_nothing;
       heads = c.law_log_heads.ensures bytes o n store world;
       linked = linked_log (home_in o.shape.bucket_bits) (let ghosts = opening_ghosts bytes o in ghosts.log) log.chains;
-      warm = warm_shows bytes o n world guarded.now first;
+      warm = warm_shows bytes o n world store guarded.now first (c.law_log_counted.ensures bytes o store);
     }
 
 pub returns-clause-published : goal.returns-clause-published

@@ -1,0 +1,2 @@
+mod From
+mod Words
