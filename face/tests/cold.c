@@ -1,16 +1,20 @@
 /*
  * Reads of what only the file has: cold FOLDER. A store that is mapped reads them by the mapping, also where the file has grown, and where
- * the store was renewed.
+ * the store was renewed. Of a slow disk, who reads many keys asks for them ahead.
  */
 #define _GNU_SOURCE
 #include "fkv_posix.h"
 #include "tests.h"
 
+#include <fcntl.h>
+#include <pthread.h>
+#include <stdatomic.h>
 #include <stdbool.h>
 #include <sys/syscall.h>
+#include <time.h>
 #include <unistd.h>
 
-enum { KEYS = 600, ROUND = 50000, ROUNDS = 18, LATE = 50, MOST_SECONDS = 240, PATH_ROOM = 500 };
+enum { KEYS = 600, ROUND = 50000, ROUNDS = 18, LATE = 50, MOST_SECONDS = 240, PATH_ROOM = 500, SLOW_NS = 50000, MOST_ASKED = 10000 };
 
 /* Memory has fewer records than a round of keys, so each put of a round appends one. */
 static const fkv_shape SHAPE = {13, 8192, 4, 2, 2, 8192, 4096};
@@ -18,10 +22,35 @@ static const char *folder;
 static fkv_file *file;
 static fkv_session *session;
 static long records_read;
+/* Whether the disk is slow; the places that it was asked for; and records that were read there and not asked for before. */
+static atomic_bool is_slow;
+static pthread_mutex_t lock = PTHREAD_MUTEX_INITIALIZER;
+static off_t asked[MOST_ASKED];
+static int asked_count, unasked;
 
 /* The library's calls come here, before those of the C library. */
+int posix_fadvise(int fd, off_t place, off_t length, int advice) {
+    WANTS("the advice", advice, POSIX_FADV_WILLNEED);
+    WANTS("the length", length, FKV_READ_SIZE);
+    pthread_mutex_lock(&lock);
+    WANTS("whether there is room", asked_count < MOST_ASKED, true);
+    asked[asked_count++] = place;
+    pthread_mutex_unlock(&lock);
+    return (int)syscall(SYS_fadvise64, fd, place, length, advice);
+}
+
+static void read_slowly(off_t place) {
+    int i = 0;
+    pthread_mutex_lock(&lock);
+    while (i < asked_count && asked[i] != place) i++;
+    unasked += i == asked_count;
+    pthread_mutex_unlock(&lock);
+    nanosleep(&(struct timespec){0, SLOW_NS}, NULL);
+}
+
 ssize_t pread(int fd, void *into, size_t length, off_t place) {
     records_read += length == FKV_READ_SIZE;
+    if (length == FKV_READ_SIZE && is_slow) read_slowly(place);
     return (ssize_t)syscall(SYS_pread64, fd, into, length, place);
 }
 
@@ -54,17 +83,19 @@ static void make(const char *name) {
     for (uint64_t key = 0; key < KEYS; key++) put(key, key + 1);
 }
 
-static void wants_all(void) {
+static void wants_all_of(fkv_session *its) {
     uint64_t keys[KEYS + 1];
     fkv_each_read told[KEYS + 1];
     for (uint64_t i = 0; i <= KEYS; i++) keys[i] = i;
-    WANTS("reads", fkv_read_many(file, session, keys, KEYS + 1, told, KEYS + 1), 0);
+    WANTS("reads", fkv_read_many(file, its, keys, KEYS + 1, told, KEYS + 1), 0);
     for (uint64_t i = 0; i < KEYS; i++) {
         WANTS("one of many", told[i].result, FKV_FOUND);
         WANTS("its value", told[i].value, i + 1);
     }
     WANTS("a key that was never put", told[KEYS].result, FKV_NONE);
 }
+
+static void wants_all(void) { wants_all_of(session); }
 
 static void wants_value(uint64_t key, uint64_t wanted) {
     uint64_t value = 0;
@@ -104,10 +135,55 @@ static void mapped(void) {
     close_store();
 }
 
+/* Two reads have to wait for the disk. All later ones are of what was asked for. */
+static void ahead(void) {
+    fkv_stats stats;
+    make("ahead");
+    put_rounds(1);
+    asked_count = unasked = 0;
+    is_slow = true;
+    wants_all();
+    is_slow = false;
+    WANTS("how it fares", fkv_stats_of(file, &stats), 0);
+    WANTS("whether what memory has let go was asked for", asked_count >= KEYS - 2, true);
+    WANTS("what was asked for", stats.fetched, asked_count);
+    WANTS("whether two alone were read unasked", unasked <= 2, true);
+    WANTS("where the log begins", stats.begin, 1);
+    WANTS("where it ends", stats.tail, 1 + KEYS + ROUND);
+    WANTS("whether records have left memory", stats.head > KEYS && stats.head <= stats.flushed, true);
+    WANTS("whether the others lie in their order", stats.flushed <= stats.read_only && stats.read_only <= stats.tail, true);
+    WANTS("overflow buckets", stats.overflow <= SHAPE.overflow, true);
+}
+
+static void *reads_all(void *its) {
+    wants_all_of(its);
+    return NULL;
+}
+
+/* Two threads read many, and ask for what they read. */
+static void ahead_by_two(void) {
+    fkv_session *other;
+    fkv_stats stats;
+    pthread_t thread;
+    WANTS("joining", fkv_join(file, 1, &other), 0);
+    is_slow = true;
+    WANTS("starting a thread", pthread_create(&thread, NULL, reads_all, other), 0);
+    wants_all();
+    pthread_join(thread, NULL);
+    is_slow = false;
+    WANTS("how it fares", fkv_stats_of(file, &stats), 0);
+    WANTS("whether each has asked", asked_count >= 3 * KEYS - 4, true);
+    WANTS("what was asked for", stats.fetched, asked_count);
+    WANTS("leaving", fkv_leave(file, other), 0);
+    close_store();
+}
+
 int main(int count, char **words) {
     if (count != 2) return 2;
     folder = words[1];
     alarm(MOST_SECONDS);
     mapped();
+    ahead();
+    ahead_by_two();
     return 0;
 }

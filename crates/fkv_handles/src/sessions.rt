@@ -1,14 +1,14 @@
 //! A session's handle.
-ghost use Rattle.std.specs.Prelude.{◌≡◌, ◌≤◌, None};
+ghost use Rattle.std.specs.Prelude.{◌≡◌, ◌<◌, ◌≤◌, ◌^◌, None};
 ghost use Rattle.fkv_handles.specs.Said as said;
 
-use fkv_base::{Fault, Key, Serial};
+use fkv_base::{Addr, Fault, Key, Serial};
 use fkv_disk::Device;
 use fkv_map::{Call, Op};
 use fkv_posted::Posted;
 use fkv_session::{Finished, Told};
 use fkv_spread::Keys;
-use fkv_threads::Seated;
+use fkv_threads::{Offsets, Seated};
 
 /// A session's handle, until it is ended. It may go into any thread.
 #[derive(Drop)]
@@ -110,6 +110,43 @@ impl Session {
         if let Some(seated) = &self.seated {
             seated.fetch_record(self.keys.laid(key));
         }
+    }
+
+    /// A hint at where the key's entry leads: the address of the newest record of its home, which may be another key's. 0 where none is seen, and once the
+    /// handle is ended. Nothing is claimed of it, and nothing changes. The key is the caller's.
+    pub fn where_led(&self, key: Key) -> u64
+        ensures fits { result < 2 ^ 48 }
+    {
+        match &self.seated {
+            Some(seated) => seated.where_led(self.keys.laid(key)),
+            None => 0,
+        }
+    }
+
+    /// A hint at how far the log has come. None once the handle is ended.
+    pub fn offsets(&self) -> Option<Offsets>
+        ensures some { said.is_some result ≡ said.is_some (said.sitting_of self.now) }
+    {
+        match &self.seated {
+            Some(seated) => Some(seated.offsets()),
+            None => None,
+        }
+    }
+
+    /// A hint at the keys of the records in memory from this address on, as many as there are places. Each is the caller's. Gives their count, 0 once the
+    /// handle is ended.
+    pub fn keys_from(&self, from: Addr, keys: &mut [u64]) -> usize
+        ensures count { result ≤ said.length keys.new }
+        ensures room { said.length keys.new ≡ said.length keys.old }
+    {
+        let Some(seated) = &self.seated else {
+            return 0;
+        };
+        let count = seated.keys_from(from, keys);
+        for i in 0..count {
+            keys[i] = self.keys.told(Key(keys[i])).0;
+        }
+        count
     }
 
     /// Ends the handle, and gives its share of the table up. A session that is awake holds each later commit up: it sleeps first.

@@ -10,7 +10,7 @@ use fkv_base::{Fault, Serial, Shape, Version};
 use fkv_disk::Device;
 use fkv_posted::Posted;
 use fkv_spread::Keys;
-use fkv_threads::{KeeperSeat, OpenSeats, Seated, Table, open_seats};
+use fkv_threads::{KeeperSeat, Offsets, OpenSeats, Seated, Table, open_seats};
 use std::alloc::Global;
 use std::sync::Arc;
 
@@ -87,6 +87,16 @@ impl Store {
         match self.keeper.take() {
             None => Err(Refusal::HandleTaken),
             Some(seat) => Ok(Keeper { seat: Some(seat) }),
+        }
+    }
+
+    /// A hint at how far the log has come. None once the store is closed.
+    pub fn offsets(&self) -> Option<Offsets>
+        ensures some { said.is_some result ≡ said.store_is_open self.now }
+    {
+        match &self.table {
+            Some(table) => Some(table.offsets()),
+            None => None,
         }
     }
 

@@ -5,7 +5,7 @@ use fkv_disk::Device;
 impl<D: Device> Table<D> {
     /// Frees the words, and drops what the slots hold.
     pub fn close(self) {
-        let Table { table } = self;
+        let Table { table, .. } = self;
         drop(table);
     }
 }

@@ -10,11 +10,11 @@ use fkv_base::Key;
 use fkv_disk::Device;
 
 /// The slots of a bucket. Behind them stands one word more, the link.
-const SLOTS: usize = 7;
+pub(crate) const SLOTS: usize = 7;
 
 /// The word at a place, as it is just now, for its cache line. 0 where the table has none there: it may be that of a smaller store.
 #[inline(always)]
-fn glance<D: Device>(table: &Table<D>, place: usize) -> u64
+pub(crate) fn glance<D: Device>(table: &Table<D>, place: usize) -> u64
     requires { place < 2 ^ 62 }
 {
     let at = position(place);

@@ -8,6 +8,7 @@ mod desks;
 mod fetching;
 mod guessing;
 mod happenings;
+mod hints;
 mod hot;
 mod joining;
 mod keepers;
@@ -23,6 +24,7 @@ mod turns;
 
 pub use crossing::crosses;
 pub use happenings::Happening;
+pub use hints::Offsets;
 pub use joining::join;
 pub use keepers::{Keeper, KeeperPass};
 pub use opening::OpenTable;

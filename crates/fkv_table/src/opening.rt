@@ -50,7 +50,8 @@ impl<D: Device + Drop> Table<D> {
         ensures device { IfOk result (λ t. t.device ≡ device) }
         ensures err { OnErr result (result ≡ Err said.Memory) }
     {
-        let count = Places::of(&opened.shape).word_count();
+        let places = Places::of(&opened.shape);
+        let count = places.word_count();
         let world = World::open(alloc, opened, device)?;
         let about = Snapshot::of(&world);
         let (plane, machines, machine, device) = world.into_parts();
@@ -61,7 +62,7 @@ impl<D: Device + Drop> Table<D> {
         let (table, mut rest) = shared_table(alloc, &words, slots, &about)?;
         let sessions = seat_sessions(alloc, &table.shared, &mut rest, machines)?;
         Ok(OpenTable {
-            table: Table { table },
+            table: Table { table, places },
             sessions,
             keeper: Keeper { machine },
             pass: KeeperPass { seat: rest },

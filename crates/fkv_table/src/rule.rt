@@ -3,7 +3,7 @@ use crate::happenings::Happening;
 use atomic_table::{Seat, Shared, TableRule};
 use fkv_core::World;
 use fkv_disk::Device;
-use fkv_plane::Action;
+use fkv_plane::{Action, Places};
 use fkv_seats::{Held, View};
 use std::alloc::Global;
 use std::marker::PhantomData;
@@ -38,6 +38,8 @@ impl<D: Device> TableRule<Slot, Knows<D>, Opening<D>> for Engine<D> {
 #[derive(Drop)]
 pub struct Table<D: Device> {
     pub(crate) table: atomic_table::Table<Slot, Knows<D>, Opening<D>, Engine<D>, Global>,
+    /// Where the words lie, for hints.
+    pub(crate) places: Places,
 }
 
 /// The right of one session to step at the table. It has no bytes.

@@ -3,4 +3,6 @@
 #![tactic(auto)]
 
 #[cfg(test)]
+mod hints;
+#[cfg(test)]
 mod one_thread;

@@ -13,4 +13,6 @@ pub use passes::{close, join};
 pub use seated::Seated;
 
 // What crates above name of the table.
-pub use law_threads::{Happening, Keeper, KeeperPass, OpenTable, Pass, Session, Table, TurnAsk};
+pub use law_threads::{
+    Happening, Keeper, KeeperPass, Offsets, OpenTable, Pass, Session, Table, TurnAsk,
+};

@@ -1,12 +1,12 @@
 //! A session that sits at a table: with its pass, and a share of the table.
-ghost use Rattle.std.specs.Prelude.{◌≡◌, ◌≤◌, length};
+ghost use Rattle.std.specs.Prelude.{◌≡◌, ◌<◌, ◌≤◌, ◌^◌, length};
 ghost use Rattle.fkv_threads.specs.Said as said;
 
-use fkv_base::{Key, Serial};
+use fkv_base::{Addr, Key, Serial};
 use fkv_disk::Device;
 use fkv_map::{Call, Op};
 use fkv_session::{Finished, Told};
-use law_threads::{Pass, Session, Table, World, law_threads};
+use law_threads::{Offsets, Pass, Session, Table, World, law_threads};
 use std::alloc::Global;
 use std::marker::Model;
 use std::snapshot::Snapshot;
@@ -100,5 +100,25 @@ impl<D: Device> Seated<D> {
     #[inline(always)]
     pub fn fetch_record(&self, key: Key) {
         self.session.fetch_record(&self.table, key);
+    }
+
+    /// A hint at where the key's entry leads: the address of the newest record of its home, or 0. Nothing is claimed of it, and nothing changes.
+    pub fn where_led(&self, key: Key) -> u64
+        ensures fits { result < 2 ^ 48 }
+    {
+        self.table.where_led(key)
+    }
+
+    /// A hint at how far the log has come.
+    pub fn offsets(&self) -> Offsets {
+        self.table.offsets()
+    }
+
+    /// A hint at the keys of the records in memory from this address on, each as it lies in the store: as many as there are places. Gives their count.
+    pub fn keys_from(&self, from: Addr, keys: &mut [u64]) -> usize
+        ensures count { result ≤ length keys.new }
+        ensures room { length keys.new ≡ length keys.old }
+    {
+        self.table.keys_from(from, keys)
     }
 }

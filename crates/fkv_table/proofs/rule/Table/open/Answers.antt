@@ -14,10 +14,10 @@ use Rattle.fkv_table.proofs.rule.Table.open.Goals as goal
 
 pub laid_words-requires-clause-count : goal.laid_words-requires-clause-count
 laid_words-requires-clause-count g c =
-    let of = c.of.ensures in
+    let of = c.of-places.ensures in
     let world = c.in_ok-world.ensures.world in
     c.word_count-count.ensures
-    ∙ (words_counted c.args.opened c.of.result c.in_ok-world.world.now.words world.its_words of.sessions of.buckets of.overflow of.ring
+    ∙ (words_counted c.args.opened c.of-places.result c.in_ok-world.world.now.words world.its_words of.sessions of.buckets of.overflow of.ring
     ∙ ap (λ (x : Plane). length x.words) (sym c.into_parts-plane.ensures.words))
 
 pub desk_slot-requires : goal.desk_slot-requires
