@@ -1,2 +1,3 @@
 mod Calling
+pub mod Shown
 mod Walks

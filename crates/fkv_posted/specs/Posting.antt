@@ -1,6 +1,7 @@
 -- What a caller has told of the call that comes next.
-use Rattle.std.specs.Prelude.{ℕ, zero, List, ◌∷◌, Bool, true, false, nat_eq, ◌&&◌, Option, Some, None}
+use Rattle.std.specs.Prelude.{ℕ, zero, List, [], ◌∷◌, Bool, true, false, nat_eq, ◌&&◌, Option, Some, None}
 use Rattle.std.specs.Borrow.{Bor}
+use Rattle.fkv_disk.specs.Kinds.{Kind, Writing}
 use Rattle.fkv_posted.specs.Outcomes.{Outcome, Gave}
 use Rattle.fkv_posted.specs.declared.outcomes.Told.{Told}
 use Rattle.fkv_posted.specs.declared.outcomes.Told.TheVariants.{Read, Written, Synced}
@@ -35,3 +36,14 @@ with_told failures told before = with_read (told_now failures told) before
 abbrev pub shown_or : Option (Bor (List ℕ)) → List ℕ → List ℕ
 shown_or (Some bytes) seen = bytes.now
 shown_or None seen = seen
+
+-- none of these is a write
+abbrev pub writes_none : List Kind → Bool
+writes_none [] = true
+writes_none (Writing ∷ later) = false
+writes_none (kind ∷ later) = writes_none later
+
+-- No call has failed while bytes are shown, and none will that isn't a write.
+abbrev pub stays_shown : Option (Bor (List ℕ)) → ℕ → List Kind → Bool
+stays_shown (Some bytes) zero later = writes_none later
+stays_shown shown failures later = false

@@ -5,7 +5,7 @@ ghost use Rattle.fkv_disk.specs.Calls.{Sync, Write, reads_as};
 ghost use Rattle.fkv_disk.specs.Device.{Elapses, HasCause, LeavesNoMore, LeavesOnly, LeavesTorn, MakesCalls, Writes};
 ghost use Rattle.fkv_disk.specs.Kinds.{Reading, Syncing, Writing, after_kind};
 ghost use Rattle.fkv_posted.specs.Outcomes.{AlwaysBytes, AreOutcomes, Made, MayRemain, RemainsSince, calls_in};
-ghost use Rattle.fkv_posted.specs.Posting.{has_read, has_synced, has_written, shown_or, told_now, with_told};
+ghost use Rattle.fkv_posted.specs.Posting.{has_read, has_synced, has_written, shown_or, stays_shown, told_now, with_told};
 ghost use Rattle.fkv_posted.specs.Remains.{counts_now, only_now, reads_remain, remains_bytes};
 
 use crate::log::{Log, Note, Shown};
@@ -160,7 +160,7 @@ impl<'a> Device for Posted<'a> {
 
     ghost refuses = { λ _ _. false };
 
-    ghost expects = { λ _ _. false };
+    ghost expects = { λ p. stays_shown p.shown p.failures };
 
     ghost counts_now = { λ p t image claim le left. counts_now p.log.opened (calls_in p.log.outcomes) t image le left };
 

@@ -206,13 +206,13 @@ not_yet : (full : Bool) → Ended (Turned false false) ≡ Ended (Turned true fu
 not_yet full e = cc
 
 module _ (opening : World) (full : Bool) (opened : IsOpenedWorld opening) (no_call : opening.now.keeper.step ≡ Ended (Turned false false)) where
-  abbrev keeper_at : List Event → KeeperState
+  abbrev pub keeper_at : List Event → KeeperState
   keeper_at events = (run opening events).now.keeper
 
-  abbrev HasMadeHere : Event → List Event → Type 0
+  abbrev pub HasMadeHere : Event → List Event → Type 0
   HasMadeHere event before = (((keeper_at before).step ≡ Finishes) × (life_begun opening (event ∷ before) ≡ with_finished (life_begun opening before))) ⊎ (((keeper_at before).step ≡ Ended (Turned true full)) × (life_begun opening (event ∷ before) ≡ life_begun opening before))
 
-  life_made : (event : Event) (before : List Event) → (keeper_at (event ∷ before)).step ≡ Ended (Turned true full)
+  pub life_made : (event : Event) (before : List Event) → (keeper_at (event ∷ before)).step ≡ Ended (Turned true full)
       → HasMadeHere event before
   unfolding keeper_events
   life_made event before e =

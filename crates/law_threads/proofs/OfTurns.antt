@@ -1,6 +1,7 @@
 -- What a turn tells as finished, by the law of prefixes.
 use Rattle.std.proofs.Common.{◌≡◌, ◌⊎◌, inl, inr, ℕ, ◌∙◌, List, ◌∷◌, refl, ap, sym, subst, Bool, true, false}
 use Rattle.std.specs.Prelude.{Option, Some, None, Result, Ok, Err}
+use Rattle.fkv_base.specs.declared.commits.CommitKind.{CommitKind}
 use Rattle.fkv_base.specs.declared.faults.Fault.{Fault}
 use Rattle.fkv_base.specs.declared.numbers.Serial.{Serial}
 use Rattle.fkv_base.specs.declared.shapes.Shape.{Shape}
@@ -28,7 +29,6 @@ use Rattle.law_order.specs.Below.law_commit.LastSerials.{serial_at}
 use Rattle.law_order.specs.Below.law_commit.BegunCommits.{BegunCommit, life_begun}
 use Rattle.law_order.specs.Below.law_commit.HeldCommits.{AtEnd, AtKeeping, HaveFinished, IsAsLast, OneIsOpen}
 use Rattle.law_order.proofs.Below.law_commit.Shown.{life_stands}
-use Rattle.law_log.specs.Trace.{IsIn}
 use Rattle.law_order.specs.OneHistory.EachLife.{IsLife}
 use Rattle.law_order.specs.Prefix.Law.{BeginsWithTaken, HasFairPoints, IsFairPoint, IsInHandAsTaken, PrefixLaw, TakesFairPoints, past_so_far}
 use Rattle.law_order.specs.Rules.Ordered.{now_after}
@@ -37,10 +37,12 @@ use Rattle.fkv_table.specs.declared.happenings.Happening.{Happening}
 use Rattle.fkv_table.specs.Planes.{plane}
 use Rattle.fkv_table.proofs.Lives.{led_run}
 use Rattle.law_threads.specs.Calls.{IsOver, events_of}
+use Rattle.law_threads.specs.Kinds.{IsOfKind}
 use Rattle.law_threads.specs.Laws.{IsWithin}
 use Rattle.law_threads.specs.Turns.{HasTurned, IsTakenFairly, IsToldFinished, OfEachTurn, TellsFinish}
 use Rattle.law_threads.proofs.Numbers.{calls_fit}
 use Rattle.law_threads.proofs.OfFinishes.{HasFinished, has_finished}
+use Rattle.law_threads.proofs.OfKinds.{NewestIsOfKind, alive_at, newest_of_kind}
 
 -- ---- the turn's own words
 not_both : (A : Type 0) (x : A) → ◌≡◌ {A = Option A} None (Some x) → ⊥
@@ -103,6 +105,12 @@ at_end begun s false its = inl its
 at_told : (begun : List BegunCommit) (s : KeeperState) (told : KeeperTold) → s.step ≡ Ended told → AtKeeping begun s s.step → HaveFinished begun s.last ⊎ OneIsOpen begun s.last
 at_told begun s told e stands = at_end begun s s.is_broken (subst (λ (step : Keeping). AtKeeping begun s step) e stands)
 
+tails_of : (a b : BegunCommit) (more rest : List BegunCommit) → (a ∷ more) ≡ (b ∷ rest) → more ≡ rest
+tails_of a b more rest same = cc
+
+kind_there : (kind : CommitKind) (a b : BegunCommit) (more rest : List BegunCommit) → (a ∷ more) ≡ (b ∷ rest) → IsOfKind kind a more → IsOfKind kind b rest
+kind_there kind a b more rest same its = subst (λ (those : List BegunCommit). IsOfKind kind b those) (tails_of a b more rest same) (subst (λ (c : BegunCommit). IsOfKind kind c more) (head_of a b more rest same) its)
+
 -- ---- and the moment at which it was in hand
 module _ (o : Opened) (n : Now) (bytes : List ℕ) (events : List Event) (law : HasFairPoints o n bytes events) (was : HasFinished (beginning n bytes) events) where
   fair_then : TakesFairPoints (now_after n bytes was.before) (past_so_far n bytes was.before) × BeginsWithTaken (now_after n bytes was.before) (past_so_far n bytes was.before).begun
@@ -158,10 +166,20 @@ module _ {K : Type 0} (at : K → World) (prefix : PrefixLaw) (key : K) (seen : 
   is_life : IsLife (record { bytes = bytes; opened = o; world = n; events = events })
   is_life = record { store = over.store; begins = over.begins; fits = calls_fit at seen (subst (AreAllowed (plane at)) turned.seen turned.ready.keeping.allowed); few = within }
 
-  pub told_finished : IsToldFinished o n bytes events its
+  of_kind : NewestIsOfKind (beginning n bytes) seen
+  of_kind = newest_of_kind (beginning n bytes) finishes.full opened over.begins.its_keeper.no_call (alive_at (beginning n bytes) opened) seen ends
+
+  both : of_kind.newest ∷ of_kind.older ≡ record was.commit { is_finished = true } ∷ was.older
+  both = sym of_kind.its ∙ was.now
+
+  pub told_finished : IsToldFinished o n bytes seen its
   told_finished = record {
     commit = record was.commit { is_finished = true };
-    begun = subst (λ (xs : List BegunCommit). IsIn (record was.commit { is_finished = true }) xs) (sym was.now) (inl refl);
+    older = was.older;
+    newest = was.now;
+    kind = of_kind.kind;
+    asked = of_kind.asked;
+    is_of_kind = kind_there of_kind.kind of_kind.newest (record was.commit { is_finished = true }) of_kind.older was.older both of_kind.is_of_kind;
     is_sealed = was.is_sealed;
     is_finished = refl;
     number = told_so.0 ∙ sym newest.number;

@@ -2,6 +2,7 @@ pub mod Below
 pub mod Calls
 pub mod Durable
 pub mod Images
+pub mod Kinds
 pub mod Laws
 pub mod Polls
 pub mod Said

@@ -6,5 +6,6 @@ pub use Rattle.law_order.specs.Below.fkv_world.Runs.{World}
 pub use Rattle.law_threads.specs.Calls.{OfEachRun}
 pub use Rattle.law_threads.specs.Durable.{ItsDurableNeverFalls, RecoversItsDurable, TellsItsDurable}
 pub use Rattle.law_threads.specs.Images.{RecoversWithin}
+pub use Rattle.law_threads.specs.Kinds.{TellsKinds}
 pub use Rattle.law_threads.specs.Laws.{IsThreadLaw, IsWithin, SharesOneHistory}
 pub use Rattle.law_threads.specs.Turns.{OfEachTurn}

@@ -1,8 +1,10 @@
 -- What a turn of the keeper at a table tells as finished.
-use Rattle.std.specs.Prelude.{◌≡◌, ℕ, List, ◌++◌, true, Some, Result, Ok}
+use Rattle.std.specs.Prelude.{◌≡◌, ℕ, List, ◌∷◌, ◌++◌, true, Some, Result, Ok}
 use Rattle.atomic_table.specs.Seated.{TableId}
 use Rattle.atomic_table.specs.Table.{Me}
+use Rattle.fkv_base.specs.declared.commits.CommitKind.{CommitKind}
 use Rattle.fkv_base.specs.declared.faults.Fault.{Fault}
+use Rattle.law_order.specs.Below.fkv_core.Openings.{beginning}
 use Rattle.law_order.specs.Below.fkv_keeper.Finished.{Finished}
 use Rattle.law_order.specs.Below.fkv_keeper.Turn.{Turn}
 use Rattle.law_order.specs.Below.fkv_keeper.Keeping.{KeeperModel, keeper_ask}
@@ -13,13 +15,13 @@ use Rattle.law_order.specs.Below.fkv_world.Runs.{World}
 use Rattle.law_order.specs.Below.fkv_world.World.{Event, Now}
 use Rattle.law_order.specs.Below.law_commit.LastSerials.{serial_at}
 use Rattle.law_order.specs.Below.law_commit.BegunCommits.{BegunCommit}
-use Rattle.law_log.specs.Trace.{IsIn}
 use Rattle.law_order.specs.Prefix.Law.{IsFairPoint, IsInHandAsTaken, past_so_far}
 use Rattle.law_order.specs.Rules.Ordered.{now_after}
 use Rattle.fkv_table.specs.declared.happenings.Happening.{Happening}
 use Rattle.fkv_table.specs.Desks.{Slot, Knows}
 use Rattle.fkv_table.specs.Keeps.{IsKeeperReady}
 use Rattle.law_threads.specs.Calls.{IsOver, events_of}
+use Rattle.law_threads.specs.Kinds.{IsOfKind, kinds_told}
 use Rattle.law_threads.specs.Laws.{IsWithin}
 
 -- a turn tells this commit as finished
@@ -35,15 +37,20 @@ pub record IsTakenFairly (o : Opened) (n : Now) (bytes : List ℕ) (events : Lis
   pub taken : IsInHandAsTaken (now_after n bytes before) c
   pub fair : (session : ℕ) → IsFairPoint ((past_so_far n bytes before).asked session) (serial_at (now_after n bytes before) session) (point_of (now_after n bytes before).keeper.last.points session) (point_of c.points session)
 
--- A commit of a life is sealed and finished. It has the number and the points that are told, and these are fair.
-pub record IsToldFinished (o : Opened) (n : Now) (bytes : List ℕ) (events : List Event) (its : Finished) : Type 0 where
+-- The newest commit of a life is sealed and finished. It has the number and the points that are told, and these are fair. It is of the kind for which the call had
+-- asked that has begun it.
+pub record IsToldFinished (o : Opened) (n : Now) (bytes : List ℕ) (seen : List Happening) (its : Finished) : Type 0 where
   pub commit : BegunCommit
-  pub begun : IsIn commit (past_so_far n bytes events).begun
+  pub older : List BegunCommit
+  pub newest : (let c = commit in let before = older in (past_so_far n bytes (events_of seen)).begun ≡ c ∷ before)
   pub is_sealed : (let c = commit in c.is_sealed ≡ true)
   pub is_finished : (let c = commit in c.is_finished ≡ true)
   pub number : (let c = commit in its.number ≡ c.number)
   pub points : (let c = commit in its.points.items ≡ c.points)
-  pub fair : IsTakenFairly o n bytes events commit
+  pub fair : IsTakenFairly o n bytes (events_of seen) commit
+  pub kind : CommitKind
+  pub asked : (let k = kind in (kinds_told (beginning n bytes) seen).begun ≡ Some k)
+  pub is_of_kind : (let c = commit in IsOfKind kind c older)
 
 module _ {K : Type 0} (at : K → World) where
   -- The keeper has made a turn at a table, and its pass then has seen these: what `Keeper::turn` ensures.
@@ -59,7 +66,7 @@ module _ {K : Type 0} (at : K → World) where
   -- What it tells as finished is so in each life that keeps to the premise of the law of prefixes.
   abbrev pub TellsItsFinish : K → List Happening → Result Turn Fault → Type 0
   TellsItsFinish key seen told = (o : Opened) (n : Now) (bytes : List ℕ) → IsOver at key o n bytes → IsWithin o n bytes (events_of seen)
-      → (its : Finished) → TellsFinish told its → IsToldFinished o n bytes (events_of seen) its
+      → (its : Finished) → TellsFinish told its → IsToldFinished o n bytes seen its
 
   -- So it is of each turn that was made.
   abbrev pub OfEachTurn : Type 0

@@ -21,7 +21,9 @@ pub use fkv_table::{
 /// (`polled`). The calls stand once in one legal history. It begins with the history of what the pass had seen before. By the law of prefixes a point that is
 /// told as durable is a sealed commit's (`durable`). It is no less than what the session was told before the call (`never_falls`). Each image that is left then
 /// or later recovers a point at or above it (`recovered`). Each image that a crash may leave in the middle of a turn holds a prefix of the life as it was at
-/// some moment of the turn (`turns`). A commit that a turn tells as finished is sealed, and its points are fair (`finished`). Of two passes at one moment one has seen a beginning of what the other has, and so are their histories.
+/// some moment of the turn (`turns`). A commit that a turn tells as finished is sealed, and its points are fair (`finished`).
+/// It is of the kind for which the call had asked that has begun it: a full one has a checkpoint of its own, and a log commit has that of the commit before it. A call
+/// that is told a number has begun a commit of its kind, and no turn begins one (`kinds`). Of two passes at one moment one has seen a beginning of what the other has, and so are their histories.
 pub fn law_threads<K>()
     ensures in_lives { (at : K → said.World) → said.IsThreadLaw at said.IsWithin }
     ensures durable { (at : K → said.World) → said.OfEachRun at said.IsWithin said.TellsItsDurable }
@@ -29,6 +31,7 @@ pub fn law_threads<K>()
     ensures recovered { (at : K → said.World) → said.OfEachRun at said.IsWithin (said.RecoversItsDurable at) }
     ensures turns { (at : K → said.World) (key : K) (seen seen' : List said.Happening) → said.AreAllowed (said.plane at) seen' → said.RecoversWithin at key seen seen' }
     ensures finished { (at : K → said.World) → said.OfEachTurn at }
+    ensures kinds { (at : K → said.World) → said.TellsKinds at }
     ensures views { (at : K → said.World) → said.SharesOneHistory at }
 {
     law_order();

@@ -3,6 +3,7 @@ use Rattle.fkv_seats.proofs.Seats.{in_order}
 use Rattle.fkv_table.specs.Planes.{plane}
 use Rattle.law_threads.proofs.OfDurable.{durable_never_falls, recovers_durable, tells_durable}
 use Rattle.law_threads.proofs.OfImages.{recovers_within}
+use Rattle.law_threads.proofs.OfKinds.{tells_kinds}
 use Rattle.law_threads.proofs.OfLaws.{in_lives, shares, thread_law}
 use Rattle.law_threads.proofs.OfTurns.{tells_finish}
 use Rattle.law_threads.proofs.law_threads.Goals as goal
@@ -24,6 +25,9 @@ returns-clause-turns g c = λ at key seen seen'. recovers_within at key seen see
 
 pub returns-clause-finished : goal.returns-clause-finished
 returns-clause-finished g c = λ at. tells_finish at c.law_prefix.ensures
+
+pub returns-clause-kinds : goal.returns-clause-kinds
+returns-clause-kinds g c = λ at. tells_kinds at
 
 pub returns-clause-views : goal.returns-clause-views
 returns-clause-views g c = λ at. shares at (in_order (plane at))
