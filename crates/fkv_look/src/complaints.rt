@@ -12,17 +12,19 @@ pub(crate) enum Complaint<'a> {
     File { path: &'a str, trouble: Trouble },
     /// Memory was refused.
     MemoryRefused,
+    /// The picture's file was made, and could not be written.
+    PictureFailed(io::Error),
     /// Standard output could not be written.
     OutputFailed(io::Error),
 }
 
 impl Complaint<'_> {
-    /// What stopped a run.
-    pub(crate) fn of_stop(error: io::Error) -> Complaint<'static> {
-        if error.kind() == ErrorKind::OutOfMemory {
-            Complaint::MemoryRefused
-        } else {
-            Complaint::OutputFailed(error)
+    /// What stopped a run. Whoever reads a pipe may close it when he has seen enough, so that alone is no complaint.
+    pub(crate) fn of_stop(error: io::Error) -> Option<Complaint<'static>> {
+        match error.kind() {
+            ErrorKind::OutOfMemory => Some(Complaint::MemoryRefused),
+            ErrorKind::BrokenPipe => None,
+            _ => Some(Complaint::OutputFailed(error)),
         }
     }
 }
@@ -44,6 +46,9 @@ impl fmt::Display for Complaint<'_> {
             }
             Complaint::MemoryRefused => {
                 f.write_str("memory was refused: what is written is a beginning")
+            }
+            Complaint::PictureFailed(error) => {
+                write!(f, "the picture could not be written: {error}")
             }
             Complaint::OutputFailed(error) => write!(
                 f,

@@ -26,7 +26,9 @@ fn main(rt: HostRuntime) -> ExitCode {
     match looked(&rt) {
         Ok(status) => ExitCode::from(status),
         Err(error) => {
-            complain(&mut rt.stderr(), Complaint::of_stop(error));
+            if let Some(complaint) = Complaint::of_stop(error) {
+                complain(&mut rt.stderr(), complaint);
+            }
             ExitCode::from(WANT)
         }
     }

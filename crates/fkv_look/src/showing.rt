@@ -4,7 +4,7 @@ ghost use Rattle.std.specs.Prelude.{◌<◌};
 use crate::complaints::{Complaint, complain};
 use crate::json::json_of;
 use crate::options::Options;
-use crate::picture_file::write_picture;
+use crate::picture_file::{PictureFault, write_picture};
 use crate::store_file::open_shared;
 use crate::text::write_look;
 use fkv_base::{Fault, Key, Value};
@@ -89,8 +89,12 @@ fn draw(rt: &HostRuntime, path: &str, found: &Found) -> u8 {
     };
     match write_picture(rt, path, store) {
         Ok(()) => 0,
-        Err(trouble) => {
+        Err(PictureFault::NotMade(trouble)) => {
             complain_of_file(rt, path, trouble);
+            NO_PICTURE
+        }
+        Err(PictureFault::NotWritten(error)) => {
+            complain(&mut rt.stderr(), Complaint::PictureFailed(error));
             NO_PICTURE
         }
     }
