@@ -72,7 +72,7 @@ class CKeeping(Structure):
 
 STATS = ("commits", "commits_left", "commit_us", "commit_bytes", "in_hand_us", "late", "joined", "abandoned", "turns", "helped", "cold_reads",
          "file_bytes")
-REASONS = 7
+REASONS = 6
 
 
 class CStats(Structure):
