@@ -186,15 +186,16 @@ enum {
     FKV_FIRST = 5 /* gives the number to a key without a value, and leaves any other as it is */
 };
 
-/* Why an update is pending. */
+/*
+ * Why an update is pending. One that finds the index or the log full at its call is refused. One that finds it full at a later poll stays
+ * pending, and a poll gives no reason: fkv_settle of fkv_posix.h finds that out.
+ */
 enum {
     FKV_FUZZY = 1,     /* its record is about to become read-only */
     FKV_DISK = 2,      /* its record may lie in the file alone */
     FKV_LATCH = 3,     /* a commit holds its bucket */
     FKV_CONTENDED = 4, /* another session was quicker: poll at once */
-    FKV_NO_ROOM = 5,   /* the next page isn't open yet: the keeper is behind */
-    FKV_FULL = 6       /* never reported: an update that finds the index or the log full at its call is refused. One that finds it full at a
-                          later poll stays pending, and a poll gives no reason. fkv_settle of fkv_posix.h finds that out */
+    FKV_NO_ROOM = 5    /* the next page isn't open yet: the keeper is behind */
 };
 
 /* Kinds of a finished request. */

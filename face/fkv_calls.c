@@ -42,7 +42,7 @@ static void take_update(void *its, const fkv_finished *finished) {
 
 /* Notes that a call waits: a read (0), or an update, for this reason. */
 static void note_waiting(fkv_file *file, const fkv_session *session, uint64_t reason) {
-    atomic_ullong *count = &file->seats[session - file->sessions].waited[reason < FKV_FULL ? reason : 0];
+    atomic_ullong *count = &file->seats[session - file->sessions].waited[reason < FKV_REASONS ? reason : 0];
     atomic_store_explicit(count, atomic_load_explicit(count, memory_order_relaxed) + 1, memory_order_relaxed);
 }
 

@@ -15,8 +15,8 @@ struct seat {
     uint32_t phase;                 /* that the last refresh has seen */
     atomic_ullong begun;            /* how many commits had begun by the last refresh that this library made */
     atomic_uintptr_t thread;        /* and which thread made it, or joined */
-    atomic_ullong waited[FKV_FULL]; /* so many calls had to wait, by their reasons: since the opening, whoever had the session */
-    char apart[104 - 8 * FKV_FULL]; /* each seat has two cache lines of its own */
+    atomic_ullong waited[FKV_REASONS]; /* so many calls had to wait, by their reasons: since the opening, whoever had the session */
+    char apart[104 - 8 * FKV_REASONS]; /* each seat has two cache lines of its own */
 };
 
 /* All bytes of a file, in memory of their own or mapped: for munmap. */

@@ -364,7 +364,7 @@ void fkv_nudge(fkv_file *file);
 int32_t fkv_keeper_fault(fkv_file *file);
 
 /* Of why calls have waited: 0 stands for a read, and each other number is a reason of fkv.h. */
-#define FKV_REASONS 7
+#define FKV_REASONS 6
 
 /* How a store fares since its opening. */
 typedef struct {

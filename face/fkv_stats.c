@@ -57,6 +57,6 @@ int32_t fkv_stats_of(fkv_file *file, fkv_stats *stats) {
         .stopped = atomic_load(&file->ends),
     };
     pthread_mutex_unlock(&file->lock);
-    for (int i = 0; i < FKV_FULL; i++) stats->waited[i] = waited_for(file, i);
+    for (int i = 0; i < FKV_REASONS; i++) stats->waited[i] = waited_for(file, i);
     return is_known ? 0 : -FKV_DEVICE;
 }

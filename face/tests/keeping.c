@@ -215,6 +215,35 @@ static void full_and_abandoned(void) {
     WANTS("closing", fkv_close_file(file), -FKV_LOG_FULL);
 }
 
+/* Updates waited for a page, and then find the index full, for good: who waits for them is told so, and so are a tick and a hook. */
+static void index_full(void) {
+    enum { ENTRIES = 14, ALL = 40 };
+    static const fkv_shape small = {1, 4, 2, 1, 1, 0, 64};
+    fkv_file *file = opened_with("index_full", &small);
+    fkv_session *session;
+    fkv_update told;
+    uint64_t done = 0;
+    _Atomic int32_t stopped = 0;
+    fkv_keeping keeping = {.stopped = note_stopped, .user = &stopped};
+    WANTS("joining", fkv_join(file, 0, &session), 0);
+    for (uint64_t key = 0; key < ALL; key++) {
+        int32_t result = fkv_upsert(session, key, key, &told);
+        WANTS("whether an update is accepted", result >= 0, true);
+        done += result == FKV_DONE;
+    }
+    WANTS("whether some wait", done < ENTRIES, true);
+    WANTS("starting the keeper", fkv_start(file, &keeping), 0);
+    WANTS("settling", fkv_settle(file, session, count_finished, &done), -FKV_INDEX_FULL);
+    WANTS("how many updates are done", done, ENTRIES);
+    WANTS("a tick", fkv_tick(file, session), -FKV_INDEX_FULL);
+    WANTS("an update", fkv_put(file, session, 1000, 1, &told), -FKV_INDEX_FULL);
+    WANTS("its serial", told.serial, 0);
+    for (int i = 0; i < 1000 && !stopped; i++) nanosleep(&(struct timespec){0, 1000000}, NULL);
+    WANTS("what the hook was told", stopped, -FKV_INDEX_FULL);
+    fkv_abandon(file, session);
+    WANTS("closing", fkv_close_file(file), -FKV_INDEX_FULL);
+}
+
 /* A commit is held up by a session that doesn't refresh, and goes on behind that. */
 static void waited_for(void) {
     fkv_file *file = opened("waited_for");
@@ -383,6 +412,7 @@ int main(int count, char **words) {
     abandoned_in_turn();
     full();
     full_and_abandoned();
+    index_full();
     waited_for();
     ended_by_itself();
     ended_by_two();

@@ -27,7 +27,7 @@ def injected(pair, call, what, number):
 
 
 def fail_each(folder, call):
-    """Each such call fails in turn: the renewal is refused, or what it wrote last was its answer. Nothing is left."""
+    """Each such call fails in turn: the renewal is refused, or what it wrote last was its answer. Nothing is left, and the reason is told."""
     for number in range(1, MOST):
         pair = Pair(folder, TWO_HOMES.image())
         run, happened = injected(pair, call, "error=EIO", number)
@@ -35,6 +35,7 @@ def fail_each(folder, call):
             need(f"a renewal without a {call} that fails", (run.returncode, pair.names()), (0, ["new", "old"]))
             return number - 1
         name = f"{call} {number} that fails"
+        need(f"{name}: whether the system's reason is told", "(os error 5)" in run.stderr, True)
         if run.returncode == 4:
             need(f"{name}: the new store", played(pair.new, "open\n"), OPENED)
         else:

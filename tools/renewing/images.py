@@ -1,5 +1,5 @@
 """Stored images: what `fkv` opens is renewed with the same pairs and points, and what it refuses is refused so."""
-from files import Pair, need, played, renew
+from files import Pair, held, need, played, renew
 from samples import CROWD, TABLE, TWO_HOMES, changed_images
 from tables import rows
 
@@ -13,7 +13,9 @@ def sizes_of(image):
 
 
 def bytes_to(sizes, tail):
-    """Where the log of a store of these sizes ends."""
+    """Where the log of a store of these sizes ends, or what stands before its areas if the log has no record."""
+    if tail == 1:
+        return 1536
     return 1536 + 2 * 16 * 7 * (2 ** sizes[0] + sizes[5]) + 24 * tail
 
 
@@ -56,6 +58,7 @@ def renews(folder, name, image, answer, words=(), is_spread=False):
     flag = ["--spread"] if is_spread else []
     need(name, renew(pair.old, pair.new, *words, *flag), (0, saved(old, tail, number, new, pairs), ""))
     need(f"{name}: the folder", pair.names(), ["new", "old"])
+    need(f"{name}: the bytes of the new file", len(held(pair.new)), bytes_to(new, len(pairs) + 1))
     pair.need_old(name)
     more = ["0"] * (new[4] - len(points))
     laid = sorted((spread(key), value) for key, value in pairs) if is_spread else pairs

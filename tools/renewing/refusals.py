@@ -2,8 +2,9 @@
 program says of itself."""
 import fcntl
 import os
+import subprocess
 
-from files import FKV_RENEW, OPTIONS, Pair, held, need, renew, run_of
+from files import FKV_RENEW, OPTIONS, SECONDS, Pair, held, need, renew, run_of
 from samples import CROWD, TWO_HOMES
 
 # the sixteen pairs of CROWD have as many homes; the two points of TWO_HOMES are of two sessions
@@ -62,6 +63,17 @@ def of_itself():
     return 2
 
 
+def to_nobody(folder):
+    """A pipe that nobody reads any more is no complaint."""
+    pair = Pair(folder, CROWD.image())
+    reader, writer = os.pipe()
+    os.close(reader)
+    run = subprocess.run([FKV_RENEW, pair.old, pair.new], stdout=writer, stderr=subprocess.PIPE, timeout=SECONDS)
+    os.close(writer)
+    need("a pipe that nobody reads", (run.returncode, run.stderr), (4, b""))
+    return 1
+
+
 def by_files(folder):
     pair = Pair(folder, CROWD.image())
     missing = os.path.join(folder, "missing")
@@ -102,4 +114,4 @@ def there_already(folder):
 
 def refused(folder):
     """How many of these there are; it ends the program where one goes wrong."""
-    return by_sizes(folder) + by_words(folder) + of_itself() + by_files(folder)
+    return by_sizes(folder) + by_words(folder) + of_itself() + to_nobody(folder) + by_files(folder)

@@ -13,6 +13,7 @@ mod stores;
 mod telling;
 mod words;
 
+use fkv_noting::{Noted, Notes};
 use help::text_asked_for;
 use runs::{refuse_unread, run};
 use std::env;
@@ -55,7 +56,10 @@ fn answered<E: Write>(rt: &HostRuntime, teller: &mut Teller<E>) -> io::Result<u8
         output.flush()?;
         return Ok(0);
     }
-    let status = run(rt, rt.alloc(), words.as_slice(), &mut output, teller)?;
+    let notes = Notes::new();
+    let files = Noted::new(rt, &notes);
+    let status = run(&files, rt.alloc(), words.as_slice(), &mut output, teller)?;
+    teller.tell_notes(&notes);
     output.flush()?;
     Ok(status)
 }

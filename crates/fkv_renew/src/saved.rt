@@ -1,9 +1,9 @@
 //! What a renewal saves.
-ghost use Rattle.std.specs.Prelude.{◌≡◌, ◌*◌, ◌<◌, ◌≤◌};
+ghost use Rattle.std.specs.Prelude.{◌≡◌, ◌*◌, ◌^◌, ◌<◌, ◌≤◌};
 ghost use Rattle.fkv_renew.specs.Said as said;
 
 use fkv_base::{Addr, Shape, Version};
-use fkv_record::record_place;
+use fkv_record::{area_place, record_place};
 use std::io::{self, Write};
 
 /// How much of its capacities a store takes.
@@ -11,7 +11,7 @@ use std::io::{self, Write};
 pub(crate) struct Taken {
     /// The addresses of its log that have a record.
     pub(crate) records: u64,
-    /// The bytes of its image up to the log's end.
+    /// The bytes of its image up to the log's end, or those before its areas where the log has no record.
     pub(crate) bytes: u64,
     /// How many commits it can make still.
     pub(crate) commits_left: u64,
@@ -36,9 +36,21 @@ impl Taken {
     {
         Taken {
             records: tail.0 - 1,
-            bytes: record_place(shape, tail),
+            bytes: bytes_up_to(shape, tail),
             commits_left: Version::LAST - 1 - number.0,
         }
+    }
+}
+
+/// The bytes of an image whose log ends at this address. Without records it has no area with triples either.
+fn bytes_up_to(shape: Shape, tail: Addr) -> u64
+    requires { tail.0 < 2 ^ 48 }
+    ensures { result ≡ said.bytes_up_to shape tail.0 }
+{
+    if tail.0 > 1 {
+        record_place(shape, tail)
+    } else {
+        area_place(shape, 0)
     }
 }
 

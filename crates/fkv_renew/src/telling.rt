@@ -1,6 +1,7 @@
 //! What is told on standard error. No clause speaks of it.
 use crate::complaints::Complaint;
 use fkv_files::complain;
+use fkv_noting::Notes;
 use std::io::{self, ErrorKind, Write};
 
 /// What each line on standard error begins with.
@@ -31,11 +32,18 @@ impl<E: Write> Teller<E> {
         complain(&mut self.stream, PROGRAM, &complaint);
     }
 
-    /// Tells why the program stopped: memory was refused, or standard output failed.
+    /// Tells why the program stopped: memory was refused, or standard output failed. Whoever reads a pipe may close it when he has seen
+    /// enough, so that alone is no complaint.
     pub(crate) fn complain_of_stop(&mut self, error: io::Error) {
-        self.complain(match error.kind() {
-            ErrorKind::OutOfMemory => Complaint::MemoryRefused,
-            _ => Complaint::OutputFailed(error),
-        });
+        match error.kind() {
+            ErrorKind::OutOfMemory => self.complain(Complaint::MemoryRefused),
+            ErrorKind::BrokenPipe => {}
+            _ => self.complain(Complaint::OutputFailed(error)),
+        }
+    }
+
+    /// Tells what is noted of the files.
+    pub(crate) fn tell_notes(&mut self, notes: &Notes) {
+        notes.tell(&mut self.stream, PROGRAM);
     }
 }

@@ -169,7 +169,7 @@ pub struct Keeping {
     pub stopped: Option<TellStopped>,
 }
 
-pub const REASONS: usize = 7;
+pub const REASONS: usize = 6;
 pub const MOST_SESSIONS: usize = 32;
 pub const MOST_PENDING: usize = 64;
 pub const ANY_SESSION: u64 = u64::MAX;

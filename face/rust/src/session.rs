@@ -111,7 +111,8 @@ pub struct Made {
     pub value: u64,
 }
 
-/// Why an update is pending.
+/// Why an update is pending. One that finds the index or the log full at its call is refused. One that finds it full at a poll stays pending,
+/// and only a call that waits finds that out.
 #[derive(Clone, Copy, Debug, PartialEq, Eq)]
 pub enum Reason {
     /// Its record is about to become read-only.
@@ -124,8 +125,6 @@ pub enum Reason {
     Contended,
     /// The next page isn't open yet: the keeper is behind.
     NoRoom,
-    /// Never told: what finds the index or the log full at its call is refused, and what finds it so at a poll gives no reason.
-    Full,
 }
 
 impl Reason {
@@ -135,8 +134,7 @@ impl Reason {
             2 => Reason::Disk,
             3 => Reason::Latch,
             4 => Reason::Contended,
-            5 => Reason::NoRoom,
-            _ => Reason::Full,
+            _ => Reason::NoRoom,
         }
     }
 }

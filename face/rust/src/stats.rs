@@ -49,7 +49,7 @@ pub struct Stats {
     /// The number of the fault for which no commit is finished any more; 0 while commits go on.
     pub stopped: i32,
     /// Calls that had to wait: updates by the number of their first [`Reason`](crate::Reason) in C, and reads at 0.
-    pub waited: [u64; 7],
+    pub waited: [u64; 6],
 }
 
 impl Store {

@@ -72,7 +72,7 @@ class CKeeping(Structure):
 
 STATS = ("commits", "commits_left", "commit_us", "commit_bytes", "in_hand_us", "late", "joined", "abandoned", "turns", "helped", "cold_reads",
          "fetched", "file_bytes", "begin", "head", "flushed", "read_only", "tail", "overflow")
-REASONS = 7
+REASONS = 6
 
 
 class CStats(Structure):
