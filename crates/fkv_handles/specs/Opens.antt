@@ -2,7 +2,7 @@
 use Rattle.std.specs.Prelude.{◌≡◌, ◌⊎◌, ℕ, true, List, [], length, Option, Some, slice_get}
 use Rattle.atomic_table.specs.Seated.{TableId}
 use Rattle.fkv_base.specs.declared.faults.Fault.{Fault}
-use Rattle.fkv_base.specs.declared.faults.Fault.TheVariants.{Device, Memory}
+use Rattle.fkv_base.specs.declared.faults.Fault.TheVariants.{Memory}
 use Rattle.fkv_opening.specs.declared.opened_store.Opened.{Opened}
 use Rattle.fkv_opening.specs.Faults.{IsFaultOf}
 use Rattle.fkv_opening.specs.Opened.{IsStoreOf}
@@ -26,9 +26,9 @@ abbrev pub AreFirst : Opening → TableId → List (Option Sitting) → Type 0
 AreFirst key table places = (i : ℕ) (its : Option Sitting) → slice_get places i ≡ Some its
     → (finished : List Finished) × (its ≡ Some (record { key = key; table = table; number = i; seen = []; finished = finished }))
 
--- the image has this fault, or memory was refused; or the device was, which never comes while bytes are shown
+-- memory was refused, or the image has this fault
 abbrev pub IsOpeningRefused : List ℕ → Fault → Type 0
-IsOpeningRefused bytes fault = ((fault ≡ Memory) ⊎ (fault ≡ Device)) ⊎ IsFaultOf bytes fault
+IsOpeningRefused bytes fault = (fault ≡ Memory) ⊎ IsFaultOf bytes fault
 
 module _ (at : Opening → World) where
   -- The handles are those of a table over the store that the image defines.

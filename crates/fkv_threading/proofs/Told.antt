@@ -9,8 +9,10 @@ use Rattle.std.proofs.lemmas.Option.{get_or_from_slice_get, slice_get_read, slic
 use Rattle.std.specs.Iterator.{Yields}
 use Rattle.std.specs.Vec.Iter.{into_iter_items, into_iter_len, into_iter_steps}
 use Rattle.std.specs.declared.vec.IntoIter.{IntoIter}
+use Rattle.fkv_base.specs.declared.commits.CommitKind.{CommitKind}
 use Rattle.fkv_base.specs.declared.faults.Fault.{Fault}
 use Rattle.fkv_base.specs.declared.numbers.Serial.{Serial}
+use Rattle.fkv_base.specs.declared.numbers.Version.{Version}
 use Rattle.fkv_disk.specs.declared.devices.Device.{Ghosts}
 use Rattle.fkv_keeper.specs.declared.answers.Finished.{Finished}
 use Rattle.fkv_keeper.specs.declared.answers.Turn.{Turn}
@@ -18,12 +20,11 @@ use Rattle.fkv_lines.specs.declared.scripts.Line.{Line}
 use Rattle.fkv_map.specs.declared.operations.Call.{Call}
 use Rattle.fkv_map.specs.declared.operations.Op.{Op}
 use Rattle.fkv_opening.specs.declared.opened_store.Opened.{Opened}
-use Rattle.fkv_seats.specs.Rule.{IsSeenBy}
 use Rattle.fkv_session.specs.declared.answers.Answer.{Answer}
 use Rattle.fkv_threads.specs.Below.fkv_table.Happening.{Happening}
+use Rattle.fkv_threads.specs.Below.fkv_table.Happening.TheVariants.{Commits, Turns}
 use Rattle.fkv_threads.specs.Below.fkv_table.KeeperCalls.{HasKept}
 use Rattle.fkv_threads.specs.Below.fkv_table.Keeps.{IsAfterSeen}
-use Rattle.fkv_threads.specs.Below.fkv_table.Planes.{plane}
 use Rattle.fkv_threads.specs.Below.fkv_table.Starts.{EachAt}
 use Rattle.fkv_threads.proofs.Below.fkv_table.Starts.{one_more}
 use Rattle.fkv_thread_scripts.specs.Calls.{calls_of}
@@ -31,9 +32,10 @@ use Rattle.fkv_thread_scripts.specs.Logs.{accepted_by, durable_by, told_by}
 use Rattle.fkv_thread_scripts.specs.declared.logs.Log.{Log}
 use Rattle.fkv_threads.specs.Begun.{AreFirst, IsOverStore}
 use Rattle.fkv_threads.specs.Models.{IsWatching, Opening, Sitting, Watch, opening}
-use Rattle.fkv_threads.specs.Watches.{IsTurnOf}
+use Rattle.fkv_threads.specs.Watches.{HasAsked as IsAsked, IsTurnOf}
 use Rattle.fkv_threads.specs.Runs.{run_of}
-use Rattle.fkv_threading.specs.Told.{AreLogs, AreTurns, HasMade, IsKept, IsLogOf, IsNoted, IsPlayed, IsTold, Part, TurnRun, WasFinished, WasTold, WerePlayed, finish_by, is_full, is_own, part_at, part_of, point_at}
+use Rattle.fkv_threading.specs.Told.{AreLogs, HasAsked, HasMade, IsKept, IsLogOf, IsNoted, IsPlayed, IsTold, Part, WasKept, WasTold, WerePlayed, begun_by, fault_by, finish_by, is_full, is_own, part_at, part_of, point_at}
+use Rattle.fkv_threading.specs.Told.{Asked, Turned}
 use Rattle.fkv_threads.specs.Below.fkv_world.Runs.{World}
 use Rattle.fkv_threads.specs.Below.law_threads.Calls.{CallRun, HasRun}
 use Rattle.fkv_threads.specs.Below.law_threads.Turns.{HasTurned}
@@ -150,27 +152,26 @@ module _ {K : Type 0} (at : K → World) where
   pub told_less : (part : Part K) (whole whole' : Bool) (log : Log) → (whole' ≡ true → whole ≡ true) → IsTold at part whole log → IsTold at part whole' log
   told_less part whole whole' log less its = record { seen = its.seen; answered = its.answered; left = its.left; calls = its.calls; all = λ is. its.all (less is); told = its.told }
 
-  seen_on : (less more most : List Happening) → IsSeenBy (plane at) less more → IsSeenBy (plane at) more most → IsSeenBy (plane at) less most
-  seen_on less more most first second = (second.0 ++ first.0, second.1 ∙ (ap (λ (es : List Happening). second.0 ++ es) first.1 ∙ sym (append_assoc second.0 first.0 less)))
+  -- a commit that is asked for is one call more
+  pub asked_more : (key : K) (kind : CommitKind) (finished : Option Finished) (begun begun' : Option Version) (fault : Option Fault) (answer : Result Version Fault) (seen behind : List Happening) → HasAsked at key behind answer → HasKept (Commits kind) seen behind
+      → begun' ≡ begun_by begun answer → WasKept at key finished begun fault seen → WasKept at key finished begun' fault behind
+  asked_more key kind finished begun begun' fault answer seen behind asked kept next was = record {
+    runs = record { call = Asked kind answer; before = seen; behind = behind } ∷ was.runs;
+    kept = ((kept, asked), refl, was.kept);
+    last = was.last;
+    last_begun = next ∙ ap (λ (b : Option Version). begun_by b answer) was.last_begun;
+    refused = was.refused;
+  }
 
-  kept_seen : (start : Happening) (seen seen' : List Happening) → HasKept start seen seen' → IsSeenBy (plane at) seen seen'
-  kept_seen start seen seen' kept = (kept.steps ++ start ∷ kept.others, kept.so ∙ sym (append_assoc kept.steps (start ∷ kept.others) seen))
-
-  turns_on : (key : K) (turns : List TurnRun) (seen seen' : List Happening) → IsSeenBy (plane at) seen seen' → AreTurns at key turns seen → AreTurns at key turns seen'
-  turns_on key [] seen seen' later are = tt
-  turns_on key (its ∷ before) seen seen' later are = (are.0, seen_on its.behind seen seen' are.1 later, are.2)
-
-  -- the start of a commit tells none as finished
-  pub finished_on : (key : K) (start : Happening) (finished : Option Finished) (seen seen' : List Happening) → HasKept start seen seen' → WasFinished at key finished seen → WasFinished at key finished seen'
-  finished_on key start finished seen seen' kept was = record { turns = was.turns; turned = turns_on key was.turns seen seen' (kept_seen start seen seen' kept) was.turned; last = was.last }
-
-  -- a turn is one more
-  pub finished_more : (key : K) (start : Happening) (finished finished' : Option Finished) (answer : Result Turn Fault) (seen behind : List Happening) → HasTurned at key behind answer → HasKept start seen behind → finished' ≡ finish_by finished answer
-      → WasFinished at key finished seen → WasFinished at key finished' behind
-  finished_more key start finished finished' answer seen behind turned kept next was = record {
-    turns = record { behind = behind; answer = answer } ∷ was.turns;
-    turned = (turned, ([], refl), turns_on key was.turns seen behind (kept_seen start seen behind kept) was.turned);
+  -- and so is a turn
+  pub turned_more : (key : K) (finished finished' : Option Finished) (begun : Option Version) (fault fault' : Option Fault) (answer : Result Turn Fault) (seen behind : List Happening) → HasTurned at key behind answer → HasKept Turns seen behind
+      → finished' ≡ finish_by finished answer → fault' ≡ fault_by fault answer → WasKept at key finished begun fault seen → WasKept at key finished' begun fault' behind
+  turned_more key finished finished' begun fault fault' answer seen behind turned kept next refuses was = record {
+    runs = record { call = Turned answer; before = seen; behind = behind } ∷ was.runs;
+    kept = ((kept, turned), refl, was.kept);
     last = next ∙ ap (λ (f : Option Finished). finish_by f answer) was.last;
+    last_begun = was.last_begun;
+    refused = refuses ∙ ap (λ (f : Option Fault). fault_by f answer) was.refused;
   }
 
   -- one log more, that of the session at the next number
@@ -183,16 +184,16 @@ module _ {K : Type 0} (at : K → World) where
       (told_less (part_at key points lines (length logs)) its_whole whole' log this (subst (λ (p : Part K). IsTold at p its_whole log) part_is its))
 
 -- what threads leave at the table of a store that was opened
-pub is_played : {X E D : Type 0} (device : Ghosts D) (whole : X → Bool) (logs : X → List Log) (medium : X → D) (finished : X → Option Finished) (r : Result X E) (key : Opening D) (opened : Opened) (lines : List Line) (first : D) (points : List Serial) (sessions : ℕ)
-    → IsOverStore (opening device) key opened (device.seen first) → sessions ≡ opened.shape.sessions → points ≡ opened.points.items → IfOk r (λ x. WerePlayed device key points lines sessions (whole x) (logs x) (medium x) (finished x))
-    → IfOk r (λ x. IsPlayed device opened lines first (whole x) (logs x) (medium x) (finished x))
-is_played device whole logs medium finished (Ok x) key opened lines first points sessions over count same played = record {
+pub is_played : {X E D : Type 0} (device : Ghosts D) (whole : X → Bool) (logs : X → List Log) (medium : X → D) (finished : X → Option Finished) (begun : X → Option Version) (fault : X → Option Fault) (r : Result X E) (key : Opening D) (opened : Opened) (lines : List Line) (first : D) (points : List Serial) (sessions : ℕ)
+    → IsOverStore (opening device) key opened (device.seen first) → sessions ≡ opened.shape.sessions → points ≡ opened.points.items → IfOk r (λ x. WerePlayed device key points lines sessions (whole x) (logs x) (medium x) (finished x) (begun x) (fault x))
+    → IfOk r (λ x. IsPlayed device opened lines first (whole x) (logs x) (medium x) (finished x) (begun x) (fault x))
+is_played device whole logs medium finished begun fault (Ok x) key opened lines first points sessions over count same played = record {
   key = key;
   over = over;
-  played = subst (λ (n : ℕ). WerePlayed device key opened.points.items lines n (whole x) (logs x) (medium x) (finished x)) count
-      (subst (λ (ps : List Serial). WerePlayed device key ps lines sessions (whole x) (logs x) (medium x) (finished x)) same played);
+  played = subst (λ (n : ℕ). WerePlayed device key opened.points.items lines n (whole x) (logs x) (medium x) (finished x) (begun x) (fault x)) count
+      (subst (λ (ps : List Serial). WerePlayed device key ps lines sessions (whole x) (logs x) (medium x) (finished x) (begun x) (fault x)) same played);
 }
-is_played device whole logs medium finished (Err e) key opened lines first points sessions over count same played = tt
+is_played device whole logs medium finished begun fault (Err e) key opened lines first points sessions over count same played = tt
 
 -- as many as there were taken, and one more of each
 pub counted : {X Y : Type 0} (xs all : List X) (more : X) (ys : List Y) (next : Y) → all ≡ xs ++ more ∷ [] → length xs ≡ length ys → length all ≡ length (ys ++ next ∷ [])
@@ -218,11 +219,25 @@ has_turned {D} device w w' answer turned =
       told = turned.told;
     })
 
+-- a commit that was asked for
+pub has_asked : {D : Type 0} (device : Ghosts D) (kind : CommitKind) (w w' : Watch (Opening D) D) (answer : Result Version Fault) → IsAsked device kind w answer w' → HasAsked (opening device) w.key w'.seen answer
+has_asked {D} device kind w w' answer asked =
+    subst (λ (key : Opening D). HasAsked (opening device) key w'.seen answer) asked.same.key
+    (let its = asked.watching in record {
+      table = w'.table;
+      seat = its.pass;
+      me = its.me;
+      machine = w'.machine;
+      ready = record { opened = its.its.work.opened; same_table = its.its.work.same_table; keeping = its.its.work.keeping; idle = its.its.so.idle asked.over };
+      seen = its.seen;
+      told = asked.told;
+    })
+
 -- the keeper's device, as the keeper has seen it
-pub is_kept : {D : Type 0} (device : Ghosts D) (w : Watch (Opening D) D) (key : Opening D) (medium : D) (finished : Option Finished) → w.key ≡ key → medium ≡ w.device → IsWatching device w → WasFinished (opening device) w.key finished w.seen
-    → IsKept device key medium finished
-is_kept {D} device w key medium finished same is its was =
-    subst (λ (z : Opening D × D). IsKept device z.0 z.1 finished) (λ i. (same i, sym is i))
+pub is_kept : {D : Type 0} (device : Ghosts D) (w : Watch (Opening D) D) (key : Opening D) (medium : D) (finished : Option Finished) (begun : Option Version) (fault : Option Fault) → w.key ≡ key → medium ≡ w.device → IsWatching device w
+    → WasKept (opening device) w.key finished begun fault w.seen → IsKept device key medium finished begun fault
+is_kept {D} device w key medium finished begun fault same is its was =
+    subst (λ (z : Opening D × D). IsKept device z.0 z.1 finished begun fault) (λ i. (same i, sym is i))
     (record {
       seen = w.seen;
       is_honest = its.its.honest;

@@ -1,9 +1,15 @@
 -- What threads were told at a table: each session by its calls, and the keeper by its turns.
-use Rattle.std.specs.Prelude.{◌≡◌, ◌⊎◌, ⊤, ℕ, Bool, true, false, ◌||◌, List, [], ◌∷◌, ◌++◌, length, Option, Some, None, Result, Ok, Err, slice_index_or}
+use Rattle.std.specs.Prelude.{◌≡◌, ◌⊎◌, ℕ, Bool, true, false, ◌||◌, List, [], ◌∷◌, ◌++◌, length, Option, Some, None, Result, Ok, Err, slice_index_or}
+use Rattle.atomic_table.specs.Seated.{TableId}
+use Rattle.atomic_table.specs.Table.{Me}
+use Rattle.fkv_base.specs.declared.commits.CommitKind.{CommitKind}
 use Rattle.fkv_base.specs.declared.faults.Fault.{Fault}
-use Rattle.fkv_base.specs.declared.faults.Fault.TheVariants.{PendingFull}
+use Rattle.fkv_base.specs.declared.faults.Fault.TheVariants.{Memory, PendingFull}
 use Rattle.fkv_base.specs.declared.numbers.Serial.{Serial}
+use Rattle.fkv_base.specs.declared.numbers.Version.{Version}
 use Rattle.fkv_disk.specs.declared.devices.Device.{Ghosts}
+use Rattle.fkv_keeper.specs.Keeping.{KeeperModel, keeper_ask}
+use Rattle.fkv_keeper.specs.Running.{IsBeginTold}
 use Rattle.fkv_keeper.specs.declared.answers.Finished.{Finished}
 use Rattle.fkv_keeper.specs.declared.answers.Turn.{Turn}
 use Rattle.fkv_lines.specs.declared.scripts.Line.{Line}
@@ -11,12 +17,13 @@ use Rattle.fkv_map.specs.declared.operations.Call.{Call}
 use Rattle.fkv_map.specs.declared.operations.Call.TheVariants.{Refresh, Poll, Sleep}
 use Rattle.fkv_map.specs.declared.operations.Op.{Op}
 use Rattle.fkv_opening.specs.declared.opened_store.Opened.{Opened}
-use Rattle.fkv_seats.specs.Rule.{IsSeenBy}
 use Rattle.fkv_session.specs.declared.answers.Answer.{Answer}
 use Rattle.fkv_session.specs.declared.answers.Answer.TheVariants.{Refused}
+use Rattle.fkv_threads.specs.Below.fkv_table.Desks.{Slot, Knows}
 use Rattle.fkv_threads.specs.Below.fkv_table.Happening.{Happening}
-use Rattle.fkv_threads.specs.Below.fkv_table.Keeps.{IsAfterSeen}
-use Rattle.fkv_threads.specs.Below.fkv_table.Planes.{plane}
+use Rattle.fkv_threads.specs.Below.fkv_table.Happening.TheVariants.{Commits, Turns}
+use Rattle.fkv_threads.specs.Below.fkv_table.KeeperCalls.{HasKept}
+use Rattle.fkv_threads.specs.Below.fkv_table.Keeps.{IsAfterSeen, IsKeeperReady}
 use Rattle.fkv_threads.specs.Below.fkv_table.Starts.{EachAt}
 use Rattle.fkv_thread_scripts.specs.Calls.{calls_of}
 use Rattle.fkv_thread_scripts.specs.Logs.{accepted_by, durable_by, told_by}
@@ -102,10 +109,16 @@ abbrev pub AreSeated : {K : Type 0} → K → List Serial → List Line → List
 AreSeated key points lines parts = EachAt parts (λ number part. part ≡ part_at key points lines number)
 
 -- ---- the keeper
--- a turn's answer, and what the keeper's pass had seen behind it
-pub record TurnRun : Type 0 where
+-- a turn that was made, or a commit of a kind that was asked for, with the answer
+pub data KeeperCall : Type 0 where
+  Turned : Result Turn Fault → KeeperCall
+  Asked : CommitKind → Result Version Fault → KeeperCall
+
+-- A call of the keeper. `before` is what its pass had seen when it was called, and `behind` what it has seen behind the answer.
+pub record KeeperRun : Type 0 where
+  pub call : KeeperCall
+  pub before : List Happening
   pub behind : List Happening
-  pub answer : Result Turn Fault
 
 -- the commit that a turn tells as finished, or the one before
 abbrev pub newer : Option Finished → Option Finished → Option Finished
@@ -116,10 +129,41 @@ abbrev pub finish_by : Option Finished → Result Turn Fault → Option Finished
 finish_by before (Ok turn) = newer turn.finished before
 finish_by before (Err fault) = before
 
--- the last commit that these turns tell as finished; the newest turn stands first
-abbrev pub last_finish : List TurnRun → Option Finished
+-- the number that is told as begun
+abbrev pub begun_by : Option Version → Result Version Fault → Option Version
+begun_by before (Ok number) = Some number
+begun_by before (Err fault) = before
+
+-- the fault for which a turn ends the run; a refusal of memory doesn't end it
+abbrev pub fault_by : Option Fault → Result Turn Fault → Option Fault
+fault_by before (Ok turn) = before
+fault_by before (Err Memory) = before
+fault_by before (Err fault) = Some fault
+
+abbrev pub finish_in : Option Finished → KeeperCall → Option Finished
+finish_in before (Turned answer) = finish_by before answer
+finish_in before (Asked kind answer) = before
+
+abbrev pub begun_in : Option Version → KeeperCall → Option Version
+begun_in before (Turned answer) = before
+begun_in before (Asked kind answer) = begun_by before answer
+
+abbrev pub fault_in : Option Fault → KeeperCall → Option Fault
+fault_in before (Turned answer) = fault_by before answer
+fault_in before (Asked kind answer) = before
+
+-- Of these calls, the newest first: the last commit that a turn tells as finished, the last number that is told as begun, and the last fault that ends the run.
+abbrev pub last_finish : List KeeperRun → Option Finished
 last_finish [] = None
-last_finish (its ∷ before) = finish_by (last_finish before) its.answer
+last_finish (its ∷ before) = finish_in (last_finish before) its.call
+
+abbrev pub last_begun : List KeeperRun → Option Version
+last_begun [] = None
+last_begun (its ∷ before) = begun_in (last_begun before) its.call
+
+abbrev pub last_fault : List KeeperRun → Option Fault
+last_fault [] = None
+last_fault (its ∷ before) = fault_in (last_fault before) its.call
 
 module _ {K : Type 0} (at : K → World) where
   -- The calls that a session has made at a table, the newest first, where its pass has seen these events. Each call's list goes on from that of the one before,
@@ -151,39 +195,58 @@ module _ {K : Type 0} (at : K → World) where
     pub all : whole ≡ true → left ≡ []
     pub told : WasTold part answered log seen
 
-  -- The turns that the keeper has made at the table, the newest first, where its pass has seen these events.
-  abbrev pub AreTurns : K → List TurnRun → List Happening → Type 0
-  AreTurns key [] seen = ⊤
-  AreTurns key (its ∷ before) seen = HasTurned at key its.behind its.answer × IsSeenBy (plane at) its.behind seen × AreTurns key before its.behind
+  -- The keeper was asked for a commit at a table, and its pass then has seen these: what `KeeperSeat::ask_commit` ensures.
+  pub record HasAsked (key : K) (behind : List Happening) (answer : Result Version Fault) : Type 0 where
+    pub table : TableId
+    pub seat : TableId
+    pub me : Me Slot (Knows K)
+    pub machine : KeeperModel
+    pub ready : IsKeeperReady at key table seat me machine
+    pub seen : (let pass = me in pass.0.seen ≡ behind)
+    pub told : (let k = machine in IsBeginTold (keeper_ask k.shape k.places k.state) answer)
 
-  -- This is the last commit that a turn has told as finished.
-  pub record WasFinished (key : K) (finished : Option Finished) (seen : List Happening) : Type 0 where
-    pub turns : List TurnRun
-    pub turned : AreTurns key turns seen
-    pub last : finished ≡ last_finish turns
+  -- A call of the keeper stands in the list, once, and is answered so.
+  abbrev pub HasKeptCall : K → KeeperCall → List Happening → List Happening → Type 0
+  HasKeptCall key (Turned answer) before behind = HasKept Turns before behind × HasTurned at key behind answer
+  HasKeptCall key (Asked kind answer) before behind = HasKept (Commits kind) before behind × HasAsked key behind answer
+
+  -- All calls that the keeper has made at the table, the newest first, where its pass has seen these events. Each call's list goes on from that of the one before, and
+  -- the first began with nothing seen. So each turn that stands in the list is one of these.
+  abbrev pub AreKept : K → List KeeperRun → List Happening → Type 0
+  AreKept key [] seen = seen ≡ []
+  AreKept key (its ∷ before) seen = HasKeptCall key its.call its.before its.behind × (its.behind ≡ seen) × AreKept key before its.before
+
+  -- Of all its calls this is the last commit that a turn has told as finished, the last number that was told as begun, and the fault for which a turn has ended the run.
+  pub record WasKept (key : K) (finished : Option Finished) (begun : Option Version) (fault : Option Fault) (seen : List Happening) : Type 0 where
+    pub runs : List KeeperRun
+    pub kept : AreKept key runs seen
+    pub last : finished ≡ last_finish runs
+    pub last_begun : begun ≡ last_begun runs
+    pub refused : fault ≡ last_fault runs
 
   -- each log is what its session was told
   abbrev pub AreLogs : K → List Serial → List Line → Bool → List Log → Type 0
   AreLogs key points lines whole logs = EachAt logs (λ number log. IsTold (part_at key points lines number) whole log)
 
 module _ {D : Type 0} (device : Ghosts D) where
-  -- The keeper's medium is honest and is as the calls leave it that the list of events gives, and this is the last commit that a turn has told as finished.
-  pub record IsKept (key : Opening D) (medium : D) (finished : Option Finished) : Type 0 where
+  -- The keeper's medium is honest and is as the calls leave it that the list of events gives. These are the last commit that a turn has told as finished, the last number
+  -- that was told as begun, and the fault for which a turn has ended the run.
+  pub record IsKept (key : Opening D) (medium : D) (finished : Option Finished) (begun : Option Version) (fault : Option Fault) : Type 0 where
     pub seen : List Happening
     pub is_honest : device.honest medium
     pub behind : IsAfterSeen (opening device) key seen (device.seen medium) (device.may_leave medium)
-    pub told : WasFinished (opening device) key finished seen
+    pub told : WasKept (opening device) key finished begun fault seen
 
   -- ---- a run
   -- What threads leave that have played lines at a table: a log of each session, which is what it was told from its point on, and the keeper's medium and
-  -- last commit.
-  pub record WerePlayed (key : Opening D) (points : List Serial) (lines : List Line) (sessions : ℕ) (whole : Bool) (logs : List Log) (medium : D) (finished : Option Finished) : Type 0 where
+  -- what it was told.
+  pub record WerePlayed (key : Opening D) (points : List Serial) (lines : List Line) (sessions : ℕ) (whole : Bool) (logs : List Log) (medium : D) (finished : Option Finished) (begun : Option Version) (fault : Option Fault) : Type 0 where
     pub count : length logs ≡ sessions
     pub each : AreLogs (opening device) key points lines whole logs
-    pub kept : IsKept key medium finished
+    pub kept : IsKept key medium finished begun fault
 
   -- So it is at the table of this store, which the medium held as it was opened.
-  pub record IsPlayed (opened : Opened) (lines : List Line) (first : D) (whole : Bool) (logs : List Log) (medium : D) (finished : Option Finished) : Type 0 where
+  pub record IsPlayed (opened : Opened) (lines : List Line) (first : D) (whole : Bool) (logs : List Log) (medium : D) (finished : Option Finished) (begun : Option Version) (fault : Option Fault) : Type 0 where
     pub key : Opening D
     pub over : IsOverStore (opening device) key opened (device.seen first)
-    pub played : WerePlayed key opened.points.items lines opened.shape.sessions whole logs medium finished
+    pub played : WerePlayed key opened.points.items lines opened.shape.sessions whole logs medium finished begun fault

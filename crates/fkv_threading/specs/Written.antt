@@ -4,6 +4,7 @@ use Rattle.fkv_base.specs.declared.faults.Fault.{Fault}
 use Rattle.fkv_base.specs.declared.faults.Fault.TheVariants.{BadShape}
 use Rattle.fkv_base.specs.declared.numbers.Key.{Key}
 use Rattle.fkv_base.specs.declared.numbers.Value.{Value}
+use Rattle.fkv_base.specs.declared.numbers.Version.{Version}
 use Rattle.fkv_base.specs.declared.shapes.Shape.{Shape}
 use Rattle.fkv_creating.specs.Created.{IsNewStore}
 use Rattle.fkv_disk.specs.declared.devices.Device.{Ghosts}
@@ -33,12 +34,13 @@ pub record HasSizes (sizes : Sizes) (shape : Shape) : Type 0 where
   pub overflow : shape.overflow ≡ sizes.overflow
   pub disk_pages : shape.disk_pages ≡ sizes.disk_pages
 
--- Threads have played lines over a new store of a shape, and each session has made all calls of its lines.
+-- Threads have played lines over a new store of a shape. Each session has made all calls of its lines, and no turn was refused but for memory.
 pub record IsPlayedNew {D : Type 0} (device : Ghosts D) (shape : Shape) (lines : List Line) (logs : List Log) (medium : D) (finished : Option Finished) : Type 0 where
   pub opened : Opened
   pub first : D
   pub new : IsNewStore shape opened
-  pub played : IsPlayed device opened lines first true logs medium finished
+  pub begun : Option Version
+  pub played : IsPlayed device opened lines first true logs medium finished begun None
 
 -- ---- what a report says
 -- bytes hold a store, with these pairs

@@ -2,7 +2,7 @@
 ghost use Rattle.std.specs.Prelude.{◌≡◌};
 ghost use Rattle.fkv_threading.specs.Said as said;
 
-use crate::keeping::{Keeping, Turned};
+use crate::keeping::Keeping;
 use crate::progress::Progress;
 use fkv_base::{CommitKind, Fault, Version};
 use fkv_disk::Device;
@@ -23,13 +23,6 @@ pub struct KeeperEnd<D: Device + Drop> {
     pub fault: Option<Fault>,
 }
 
-/// What the keeper's thread was told beside its last finished commit.
-#[derive(Drop)]
-struct Told {
-    begun: Option<Version>,
-    fault: Option<Fault>,
-}
-
 /// Plays the keeper's lines, and makes turns until all sessions have ended.
 pub(crate) fn play_keeper<D: Device + Drop, R: Wait>(
     rt: &R,
@@ -38,26 +31,15 @@ pub(crate) fn play_keeper<D: Device + Drop, R: Wait>(
     sessions: u64,
     mut keeping: Keeping<D>,
 ) -> KeeperEnd<D>
-    ensures { said.IsKept D.Device keeping result.device result.finished }
+    ensures { said.IsKept D.Device keeping result.device result.finished result.begun result.fault }
 {
-    let mut told = Told {
-        begun: None,
-        fault: None,
-    };
-    play_lines(rt, progress, lines, &mut keeping, &mut told);
+    play_lines(rt, progress, lines, &mut keeping);
     progress.end_keeper_lines();
-    turn_until_ended(rt, progress, sessions, &mut keeping, &mut told);
-    if told.fault.is_some() {
+    turn_until_ended(rt, progress, sessions, &mut keeping);
+    if keeping.has_refused() {
         progress.stop();
     }
-    let Told { begun, fault } = told;
-    let (device, finished) = keeping.end();
-    KeeperEnd {
-        device,
-        finished,
-        begun,
-        fault,
-    }
+    keeping.end()
 }
 
 fn play_lines<D: Device + Drop, R: Wait>(
@@ -65,19 +47,18 @@ fn play_lines<D: Device + Drop, R: Wait>(
     progress: &Progress,
     lines: &[Line],
     keeping: &mut Keeping<D>,
-    told: &mut Told,
 )
     ensures { keeping.new ≡ keeping.old }
 {
     let mut runs = false;
     for line in lines {
-        if has_stopped(progress, told) {
+        if has_stopped(progress, keeping) {
             break;
         }
         match *line {
-            Line::Commit(kind) => runs = begin(rt, progress, keeping, kind, told),
+            Line::Commit(kind) => runs = begin(rt, progress, keeping, kind),
             Line::Finish if runs => {
-                finish(rt, progress, keeping, told);
+                finish(rt, progress, keeping);
                 runs = false;
             }
             _ => {}
@@ -85,8 +66,8 @@ fn play_lines<D: Device + Drop, R: Wait>(
     }
 }
 
-fn has_stopped(progress: &Progress, told: &Told) -> bool {
-    told.fault.is_some() || progress.is_stopped()
+fn has_stopped<D: Device + Drop>(progress: &Progress, keeping: &Keeping<D>) -> bool {
+    keeping.has_refused() || progress.is_stopped()
 }
 
 /// Begins a commit, and makes turns as long as no drain slot is free for it. Whether it runs: one that is refused for good is left out.
@@ -95,21 +76,17 @@ fn begin<D: Device + Drop, R: Wait>(
     progress: &Progress,
     keeping: &mut Keeping<D>,
     kind: CommitKind,
-    told: &mut Told,
 ) -> bool
     ensures { keeping.new ≡ keeping.old }
 {
     for _ in rt.forever() {
         match keeping.ask_commit(kind) {
-            Ok(number) => {
-                told.begun = Some(number);
-                return true;
-            }
+            Ok(_) => return true,
             Err(Fault::DrainFull) => {}
             Err(_) => break,
         }
-        make_turn(keeping, told);
-        if has_stopped(progress, told) {
+        keeping.turn();
+        if has_stopped(progress, keeping) {
             break;
         }
         yield_now();
@@ -118,17 +95,12 @@ fn begin<D: Device + Drop, R: Wait>(
 }
 
 /// Makes turns until the commit is finished.
-fn finish<D: Device + Drop, R: Wait>(
-    rt: &R,
-    progress: &Progress,
-    keeping: &mut Keeping<D>,
-    told: &mut Told,
-)
+fn finish<D: Device + Drop, R: Wait>(rt: &R, progress: &Progress, keeping: &mut Keeping<D>)
     ensures { keeping.new ≡ keeping.old }
 {
     for _ in rt.forever() {
-        let is_finished = make_turn(keeping, told);
-        if is_finished || has_stopped(progress, told) {
+        let is_finished = keeping.turn();
+        if is_finished || has_stopped(progress, keeping) {
             break;
         }
         yield_now();
@@ -140,29 +112,14 @@ fn turn_until_ended<D: Device + Drop, R: Wait>(
     progress: &Progress,
     sessions: u64,
     keeping: &mut Keeping<D>,
-    told: &mut Told,
 )
     ensures { keeping.new ≡ keeping.old }
 {
     for _ in rt.forever() {
-        if has_stopped(progress, told) || progress.have_ended(sessions) {
+        if has_stopped(progress, keeping) || progress.have_ended(sessions) {
             break;
         }
-        make_turn(keeping, told);
+        keeping.turn();
         yield_now();
-    }
-}
-
-/// Makes a turn. Whether a commit is finished.
-fn make_turn<D: Device + Drop>(keeping: &mut Keeping<D>, told: &mut Told) -> bool
-    ensures { keeping.new ≡ keeping.old }
-{
-    match keeping.turn() {
-        Turned::Finished => true,
-        Turned::Open => false,
-        Turned::Refused(fault) => {
-            told.fault = Some(fault);
-            false
-        }
     }
 }

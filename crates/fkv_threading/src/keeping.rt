@@ -1,28 +1,22 @@
-//! The keeper at a table, and the last commit that it has told as finished.
+//! The keeper at a table, and what its calls have told.
 ghost use Rattle.std.specs.Prelude.{◌≡◌};
 ghost use Rattle.fkv_threading.specs.Said as said;
 
+use crate::keepers::KeeperEnd;
 use fkv_base::{CommitKind, Fault, Version};
 use fkv_disk::Device;
 use fkv_keeper::{Finished, Turn};
 use fkv_threads::KeeperSeat;
 use std::marker::Model;
 
-/// A keeper that is ready for its next call, and the last commit that a turn told as finished. A contract sees it as the table's key.
+/// A keeper that is ready for its next call, with what all its calls have told: the last commit that a turn told as finished, the last number that was told as
+/// begun, and the fault for which a turn has ended the run. A contract sees it as the table's key.
 #[derive(Drop)]
 pub(crate) struct Keeping<D: Device + Drop> {
     pub(crate) seat: KeeperSeat<D>,
     pub(crate) finished: Option<Finished>,
-}
-
-/// What a turn has come to.
-#[derive(Clone, Copy)]
-pub(crate) enum Turned {
-    /// It finished a commit.
-    Finished,
-    /// It finished none. One that was refused memory has left its copy to a later one.
-    Open,
-    Refused(Fault),
+    pub(crate) begun: Option<Version>,
+    pub(crate) fault: Option<Fault>,
 }
 
 impl<D: Device + Drop> Model for Keeping<D> {
@@ -33,48 +27,82 @@ impl<D: Device + Drop> Model for Keeping<D> {
 
     ghost view = { λ s. s.seat.key };
 
-    ghost invariant = { λ s. (s.seat.in_turn ≡ false) × said.WasFinished (said.opening D.Device) s.seat.key s.finished s.seat.seen };
+    ghost invariant = { λ s. (s.seat.in_turn ≡ false) × said.WasKept (said.opening D.Device) s.seat.key s.finished s.begun s.fault s.seat.seen };
 }
 
 impl<D: Device + Drop> Keeping<D> {
-    /// Makes a turn to its end, and keeps the commit that it tells as finished.
-    pub(crate) fn turn(&mut self) -> Turned
+    /// Makes a turn to its end, and keeps what it tells. Whether it has finished a commit. One that was refused memory has left its copy to a later one.
+    pub(crate) fn turn(&mut self) -> bool
         ensures { self.new ≡ self.old }
     {
-        let told = self.seat.turn();
-        note(&mut self.finished, told)
+        let answer = self.seat.turn();
+        note(&mut self.finished, &mut self.fault, answer)
     }
 
-    /// Begins a commit.
+    /// Begins a commit, and keeps its number.
     pub(crate) fn ask_commit(&mut self, kind: CommitKind) -> Result<Version, Fault>
         ensures { self.new ≡ self.old }
     {
-        self.seat.ask_commit(kind)
+        let answer = self.seat.ask_commit(kind);
+        note_begun(&mut self.begun, &answer);
+        answer
     }
 
-    /// The device, behind the turns' calls, and the last commit that one of them told as finished.
-    pub(crate) fn end(self) -> (D, Option<Finished>)
-        ensures { said.IsKept D.Device self result.0 result.1 }
+    /// Whether a turn was refused, but for memory.
+    pub(crate) fn has_refused(&self) -> bool {
+        self.fault.is_some()
+    }
+
+    /// The device, behind the turns' calls, and what all calls have told.
+    pub(crate) fn end(self) -> KeeperEnd<D>
+        ensures { said.IsKept D.Device self result.device result.finished result.begun result.fault }
     {
-        let Keeping { seat, finished } = self;
-        (seat.into_device(), finished)
+        let Keeping {
+            seat,
+            finished,
+            begun,
+            fault,
+        } = self;
+        KeeperEnd {
+            device: seat.into_device(),
+            finished,
+            begun,
+            fault,
+        }
     }
 }
 
-/// Notes the last commit that is told as finished behind a turn with this answer, and gives what that turn has come to.
-fn note(finished: &mut Option<Finished>, answer: Result<Turn, Fault>) -> Turned
-    ensures { finished.new ≡ said.finish_by finished.old answer }
+/// Notes what a turn with this answer has told. Whether it has finished a commit.
+fn note(
+    finished: &mut Option<Finished>,
+    fault: &mut Option<Fault>,
+    answer: Result<Turn, Fault>,
+) -> bool
+    ensures finished { finished.new ≡ said.finish_by finished.old answer }
+    ensures fault { fault.new ≡ said.fault_by fault.old answer }
 {
     match answer {
         Ok(turn) => {
             let Turn { finished: its, .. } = turn;
             if its.is_none() {
-                return Turned::Open;
+                return false;
             }
             *finished = its;
-            Turned::Finished
+            true
         }
-        Err(Fault::Memory) => Turned::Open,
-        Err(fault) => Turned::Refused(fault),
+        Err(Fault::Memory) => false,
+        Err(why) => {
+            *fault = Some(why);
+            false
+        }
+    }
+}
+
+/// Notes the number that was told as begun, if one was.
+fn note_begun(begun: &mut Option<Version>, answer: &Result<Version, Fault>)
+    ensures { begun.new ≡ said.begun_by begun.old answer.now }
+{
+    if let Ok(number) = answer {
+        *begun = Some(*number);
     }
 }

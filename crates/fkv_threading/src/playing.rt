@@ -32,7 +32,7 @@ pub struct Played<D: Device + Drop> {
 
 /// Plays lines over a store that was opened from this device: each session's on a thread of its own, and the keeper's on the caller's. It returns
 /// when they have all ended. Each log is what its session was told by its calls at the table, which are those of its lines. The keeper's last commit is
-/// what a turn told as finished. `Memory` where memory or a thread was refused; then the store is dropped, the device too.
+/// the last that a turn told as finished, of all turns, and its fault that for which a turn has ended the run. `Memory` where memory or a thread was refused; then the store is dropped, the device too.
 pub fn play<D: Device + Drop + Send, G: Gate + Sync, R: Threads + Wait + Sync>(
     rt: &R,
     alloc: Global,
@@ -44,7 +44,7 @@ pub fn play<D: Device + Drop + Send, G: Gate + Sync, R: Threads + Wait + Sync>(
     requires store { said.IsStoreOf (D.seen device) opened }
     requires honest { D.honest device }
     requires leaves { said.LeavesOnly (D.seen device) (D.may_leave device) }
-    ensures { said.IfOk result (λ its. said.IsPlayed D.Device opened lines.now device its.is_whole its.logs.items its.keeper.device its.keeper.finished) }
+    ensures { said.IfOk result (λ its. said.IsPlayed D.Device opened lines.now device its.is_whole its.logs.items its.keeper.device its.keeper.finished its.keeper.begun its.keeper.fault) }
 {
     let points = copy_of(alloc, &opened.points)?;
     let OpenSeats {
@@ -55,6 +55,8 @@ pub fn play<D: Device + Drop + Send, G: Gate + Sync, R: Threads + Wait + Sync>(
     let keeping = Keeping {
         seat: keeper,
         finished: None,
+        begun: None,
+        fault: None,
     };
     play_over(rt, alloc, &table, sessions, keeping, &points, lines, gate)
 }
@@ -73,7 +75,7 @@ fn play_over<'t, D: Device + Drop + Send, G: Gate + Sync, R: Threads + Wait + Sy
     requires first { said.AreFirst table.now.table.shared.key table.now.table.shared.table_id sessions.items }
     requires keeper { keeping ≡ table.now.table.shared.key }
     ensures { said.IfOk result (λ its. said.WerePlayed D.Device table.now.table.shared.key points.now lines.now
-        (length sessions.items) its.is_whole its.logs.items its.keeper.device its.keeper.finished) }
+        (length sessions.items) its.is_whole its.logs.items its.keeper.device its.keeper.finished its.keeper.begun its.keeper.fault) }
 {
     let players = seated(alloc, table, sessions, points, lines)?;
     play_seats(rt, alloc, table, players, keeping, points, lines, gate)
@@ -133,7 +135,7 @@ fn play_seats<'t, D: Device + Drop + Send, G: Gate + Sync, R: Threads + Wait + S
     requires seats { said.AreSeated table.now.table.shared.key points.now lines.now players.items }
     requires keeper { keeping ≡ table.now.table.shared.key }
     ensures { said.IfOk result (λ its. said.WerePlayed D.Device table.now.table.shared.key points.now lines.now
-        (length players.items) its.is_whole its.logs.items its.keeper.device its.keeper.finished) }
+        (length players.items) its.is_whole its.logs.items its.keeper.device its.keeper.finished its.keeper.begun its.keeper.fault) }
 {
     let progress = Progress::new();
     let shared = &progress;
@@ -143,7 +145,7 @@ fn play_seats<'t, D: Device + Drop + Send, G: Gate + Sync, R: Threads + Wait + S
         |scope| -> Result<Played<D>, Fault>
             requires { said.AreSeated table.now.table.shared.key points.now lines.now players.items × (keeping ≡ table.now.table.shared.key) }
             ensures { said.IfOk result (λ its. said.WerePlayed D.Device table.entry.now.table.shared.key points.entry.now lines.entry.now
-                (length players.items) its.is_whole its.logs.items its.keeper.device its.keeper.finished) }
+                (length players.items) its.is_whole its.logs.items its.keeper.device its.keeper.finished its.keeper.begun its.keeper.fault) }
         {
             let played = play_in(
                 scope, rt, alloc, shared, gate, lines, table, points, players, keeping,
@@ -172,7 +174,7 @@ fn play_in<'s, 't: 's, E, D: Device + Drop + Send, G: Gate + Sync, R: Threads + 
     requires seats { said.AreSeated table.now.table.shared.key points.now lines.now players.items }
     requires keeper { keeping ≡ table.now.table.shared.key }
     ensures { said.IfOk result (λ its. said.WerePlayed D.Device table.now.table.shared.key points.now lines.now
-        (length players.items) its.is_whole its.logs.items its.keeper.device its.keeper.finished) }
+        (length players.items) its.is_whole its.logs.items its.keeper.device its.keeper.finished its.keeper.begun its.keeper.fault) }
 {
     let count = players.len() as u64;
     let handles = spawn_all(

@@ -1,16 +1,15 @@
 -- The turn is one more that the keeper has made.
 use Rattle.std.proofs.Common.{sym, subst}
-use Rattle.fkv_threads.specs.Below.fkv_table.Happening.TheVariants.{Turns}
-use Rattle.fkv_threads.specs.Models.{Opening, opening}
-use Rattle.fkv_threading.specs.Told.{WasFinished}
-use Rattle.fkv_threading.proofs.Told.{finished_more, has_turned}
+use Rattle.fkv_threads.specs.Models.{opening}
+use Rattle.fkv_threading.specs.Told.{WasKept}
+use Rattle.fkv_threading.proofs.Told.{has_turned, turned_more}
 use Rattle.fkv_threading.proofs.keeping.Keeping.turn.Goals as goal
 
 pub invariant_of-self : goal.invariant_of-self
 invariant_of-self g c =
-    let did = c.turn-told.ensures.turned in
+    let did = c.turn-answer.ensures.turned in
     let at = opening g.D.Device in (
       did.over,
-      subst (λ key. WasFinished at key c.note.new.finished c.turn-told.new.self.seen) (sym did.same.key)
-          (finished_more at _ Turns _ c.note.new.finished c.turn-told.result _ _ (has_turned g.D.Device _ _ _ did) did.kept c.note.ensures c.self.invariant.1),
+      subst (λ key. WasKept at key c.note.new.finished c.self.inside.begun c.note.new.fault c.turn-answer.new.self.seen) (sym did.same.key)
+          (turned_more at _ _ c.note.new.finished _ _ c.note.new.fault c.turn-answer.result _ _ (has_turned g.D.Device _ _ _ did) did.kept c.note.ensures.finished c.note.ensures.fault c.self.invariant.1),
     )
