@@ -180,9 +180,10 @@ FAILING = [
 ]
 
 
-def refusal(path, complaint):
-    """How a run ends over a file that is refused."""
-    return 3, REFUSED, f'fkv: the file "{path}" {complaint}\n'
+def refusal(path, complaint, reason=None):
+    """How a run ends over a file that is refused, or of which the system refuses a call for this reason."""
+    noted = f"fkv: the system refused a call of the store's file: {reason}\n" if reason else ""
+    return 3, REFUSED, f'fkv: the file "{path}" {complaint}\n{noted}'
 
 
 def failing_call_is_told(path):
@@ -202,8 +203,8 @@ def no_file_is_refused(path):
     os.mkfifo(fifo)
     with socket.socket(socket.AF_UNIX) as bound:
         bound.bind(other)
-        for script in ("open\n", SHAPE):
-            need(f"{script.split()[0]} over a FIFO", ran(fifo, script), refusal(fifo, "could not be read or written"))
+        for script, reason in (("open\n", "Invalid argument (os error 22)"), (SHAPE, "Illegal seek (os error 29)")):
+            need(f"{script.split()[0]} over a FIFO", ran(fifo, script), refusal(fifo, "could not be read or written", reason))
             unopened = refusal(other, "can't be opened: No such device or address (os error 6)")
             need(f"{script.split()[0]} over a socket", ran(other, script), unopened)
 

@@ -5,7 +5,38 @@ from rows import Row
 from samples import NEW, ONE, Sample, changed
 from shapes import LARGE_ONE, ONE as SHAPE
 
-WORDS = "; the words are --seed N, --threads, --check, --torn B and --file PATH, and the first two don't go together"
+USAGE = """\
+fkv 0.1.0 plays a script from standard input over one store, and prints the answers, one a line
+
+Usage: fkv [--seed N | --threads] [--check] [--torn B] [--file PATH] < SCRIPT
+
+Options:
+  --seed N     Interleaves neighbouring calls step by step; a generator with seed N picks who is next
+  --threads    Plays each session's lines on a thread of their own, and the keeper's on another
+  --check      Says after each crash's report whether the recovered store equals a replay
+  --torn B     A crash sets to B, 0 to 255, each byte that wasn't synced; 0 by default
+  --file PATH  Keeps the store in this file; a line that makes a store wipes an older one in it
+
+Lines of a script, the first of which makes or opens the store:
+  shape K P F M S O D       Makes a store: 2^K buckets, pages of P records, F of them in memory and M of these mutable,
+                            S sessions, O overflow buckets, D pages of the log in all
+  large K P F M S O D       The same with sizes beyond those of shape
+  open                      Opens the store in the file
+  N up K V, N add K V       Session N, from 0, sets key K to V; adds V
+  N max K V, N del K        Raises it to V; deletes it
+  N get K                   Reads it
+  N keep K                  Behind large alone: leaves it as it is, and prints it
+  N min K V, N sub K V      Behind large alone: lowers it to V; takes V off, down to 0
+  N and K V, N or K V       Behind large alone: keeps the bits that both have; sets those of V
+  N first K V               Behind large alone: sets it to V if it has no value
+  N refresh, N poll         Sees how far the store has come; tries what is pending once more
+  N sleep, N wake           Nobody waits for the session; it comes back
+  k commit, k commit log    Begins a commit; one that copies no index
+  k turn, k finish          A turn of the keeper; turns up to a commit's end
+  crash, crash J, fail J    Crashes and recovers; in the J-th call of the device; that call and all later ones fail
+
+Status: 0; 1 if a check differs; 2 if words, a line or sizes are refused; 3 if a store is; 4 if memory or a stream failed
+"""
 MOST = 2**64 - 1
 
 OPTIONS = [
@@ -13,6 +44,8 @@ OPTIONS = [
     (("--", "--check"), 'the word "--check" is unknown'),
     (("y" * 99,), f'the word "{"y" * 40}.." is unknown'),
     (("a\n",), 'the word "a\\n" is unknown'),
+    (("--help",), 'the word "--help" is unknown'),
+    (("--version",), 'the word "--version" is unknown'),
     (("--seed",), "--seed needs a value"),
     (("--file", "--check"), '--file needs a value, and "--check" is none'),
     (("--seed", "-1"), '--seed needs a value, and "-1" is none'),
@@ -102,13 +135,13 @@ TAKEN = [
 ]
 
 
-def complained(name, script, wanted, status, complaint, **more):
-    return Row(name, script, wanted, status, complaint=f"fkv: {complaint}\n", **more)
+def complained(name, script, wanted, status, complaint, behind="", **more):
+    return Row(name, script, wanted, status, complaint=f"fkv: {complaint}\n{behind}", **more)
 
 
 def complaints():
     for words, complaint in OPTIONS:
-        yield complained(f"the words {words}", "", "options\n", 2, complaint + WORDS, words=words)
+        yield complained(f"the words {words}", "", "options\n", 2, complaint, USAGE, words=words)
     for sizes, complaint in SIZES:
         yield complained(f"the sizes {sizes}", f"shape {sizes}\n", "refused 1 BadShape\n", 2, f"the size {complaint}")
     for sizes, complaint in LARGE_SIZES:

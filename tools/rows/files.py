@@ -26,6 +26,11 @@ def after_again(form):
     return Sample((replace(ONE.commits[1], form=form), SECOND_COMMIT), (*ONE.records, (SECOND + 1, 1, 11))).image()
 
 
+def wiped(commits):
+    """What is said where a store is made over one of so many commits."""
+    return f"fkv: the file held a store of {commits}, which the new store has wiped\n"
+
+
 # words that name a file, and its name
 NAMED = [
     (("--file", "image"), "image"),
@@ -41,7 +46,9 @@ LEFT = [
     told("a store is made in a file", COMMITTED, FILE, left=ONE.image()),
     told("and under a seed", UPDATED_FIRST, f"{FILE} --seed 5 --check --torn 165", left=ONE.image()),
     told("a store without a commit", SHAPE, FILE, left=NEW_FRONT),
-    told("a store is made over an older one, which is not cut", SHAPE, FILE, image=ONE.image(), left=NEW_FRONT + ONE.image()[1536:]),
+    told("a store is made over an older one, which is not cut", SHAPE, FILE, image=ONE.image(), left=NEW_FRONT + ONE.image()[1536:], complaint=wiped("1 commit")),
+    told("and over one of two commits", SHAPE, FILE, image=after_again(1), complaint=wiped("2 commits")),
+    told("and over one that has no commit", SHAPE, FILE, image=NEW_FRONT, left=NEW_FRONT, complaint=""),
     *(
         told(f"one more commit over format {form}", OPENED + AGAIN, FILE, image=in_form(ONE, form).image(), left=after_again(form))
         for form in (1, 2, 3)
@@ -174,7 +181,9 @@ def unmade():
         for line in ("open", SHAPE):
             yield Row(f"{line} over the file {path!r}", f"{line}\n0 get 1\n", "refused 14 Device\n", 3, ("--file", path), left=None)
     yield Row("a file that isn't there is not opened", "open\n0 get 1\n", "refused 14 Device\n", 3, tuple(FILE.split()), left=None)
-    unwritten = 'fkv: the file "/dev/full" could not be read or written\n'
+    unwritten = """fkv: the file "/dev/full" could not be read or written
+fkv: the system refused a call of the store's file: No space left on device (os error 28)
+"""
     yield Row("a device that is full", f"{SHAPE}\n0 get 1\n", "refused 14 Device\n", 3, ("--file", "/dev/full"), complaint=unwritten)
 
 

@@ -8,6 +8,8 @@ STORE = "store"  # a row's file, as its words name it
 UNREAD = object()  # the file is not looked at after the run
 SECONDS = 60
 FAILED_TURN = b"k refused 14 Device\n"
+# what the usage begins with
+USAGE = b"fkv 0.1.0 plays a script"
 
 
 @dataclass(frozen=True)
@@ -84,14 +86,18 @@ def difference(program, row):
 
 
 def other_complaint(ran, row):
-    """What is on standard error otherwise than it has to be: a line where the status is above 0, one where a turn's device failed, and
-    nothing else; and these words, where the row has them."""
-    if row.complaint is not None and ran.stderr != spelled(row.complaint):
-        return f"on standard error stands {ran.stderr!r}, and not {row.complaint!r}"
-    lines = ran.stderr.splitlines(keepends=True)
+    """What is on standard error otherwise than it has to be: these words, where the row has them. Else a line where the status is above 0,
+    one where a turn's device failed, behind words that are refused the usage, and nothing more."""
+    if row.complaint is not None:
+        is_other = ran.stderr != spelled(row.complaint)
+        return f"on standard error stands {ran.stderr!r}, and not {row.complaint!r}" if is_other else None
+    told, usage, _ = ran.stderr.partition(USAGE)
+    lines = told.splitlines(keepends=True)
     count = (ran.returncode > 0) + (FAILED_TURN in ran.stdout)
     if len(lines) != count or not all(it.startswith(b"fkv: ") and it.endswith(b"\n") for it in lines):
         return f"on standard error stands {ran.stderr!r}, and not {count} lines"
+    if bool(usage) != ran.stdout.startswith(b"options"):
+        return f"the usage stands on standard error where words aren't refused, or not where they are: {ran.stderr!r}"
     return None
 
 

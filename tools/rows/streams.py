@@ -75,11 +75,12 @@ def without_complaints(program):
 
 
 def to_nobody(program, script):
+    """The status, and what is on standard error."""
     reader, writer = os.pipe()
     os.close(reader)
-    status = ended(program, (), script, stdout=writer)
+    ran = subprocess.run([program], input=spelled(script), stdout=writer, stderr=subprocess.PIPE, timeout=SECONDS)
     os.close(writer)
-    return status
+    return ran.returncode, ran.stderr
 
 
 def broken_off(program, script):
@@ -114,7 +115,7 @@ def streams(program):
         expect("options to /dev/full", ended(program, ("--help",), script, stdout=full), 4)
     expect("answers to a stream that is closed", ended(program, (), script, preexec_fn=lambda: os.close(1)), 4)
     expect("the same beside a store in a file", beside_store(program), (4, False))
-    expect("answers to a pipe that nobody reads", to_nobody(program, script), 4)
+    expect("answers to a pipe that nobody reads", to_nobody(program, script), (4, b""))
     for room in range(len(wanted) + 1):
         got = ended(program, (), script, room)
         expect(f"answers to a file that takes {room} bytes", got, (4 if room < len(wanted) else 0, wanted[:room]))

@@ -1,5 +1,8 @@
 """Scripts whose sessions and keeper run on threads. What they write is the same for every schedule."""
+from complaints import USAGE
+from files import wiped
 from rows import STORE, Row, whole
+from samples import ONE as OLDER
 from shapes import LARGE_ONE, LARGE_TWO
 
 ONE, SMALL = "shape 4 16 4 2 1 0 64", "shape 4 16 4 2 2 0 64"
@@ -65,15 +68,14 @@ FILE = ("--threads", "--file", STORE)
 TEXT = b"not a store\n"
 
 TOGETHER = "--seed and --threads don't go together; those that --threads goes with are --check, --torn B and --file PATH"
-KNOWN = "; the words are --seed N, --threads, --check, --torn B and --file PATH, and the first two don't go together"
 WORDS = [
     (("--threads", "--seed", "1"), "options seed and threads\n", TOGETHER),
     (("--seed=1", "--threads", "--check"), "options seed and threads\n", TOGETHER),
-    (("--threads", "--threads"), "options\n", f"--threads stands twice{KNOWN}"),
-    (("--threads=1",), "options\n", f"--threads takes no value{KNOWN}"),
-    (("--threads", "x"), "options\n", f'the word "x" is unknown{KNOWN}'),
-    (("--threads", "--file"), "options\n", f"--file needs a value{KNOWN}"),
-    (("--thread",), "options\n", f'the word "--thread" is unknown{KNOWN}'),
+    (("--threads", "--threads"), "options\n", "--threads stands twice"),
+    (("--threads=1",), "options\n", "--threads takes no value"),
+    (("--threads", "x"), "options\n", 'the word "x" is unknown'),
+    (("--threads", "--file"), "options\n", "--file needs a value"),
+    (("--thread",), "options\n", 'the word "--thread" is unknown'),
 ]
 
 
@@ -89,4 +91,6 @@ def threads():
     rows += [Row("threads, sizes of no shape make no file", "shape 4 6 4 2 1 0 64\n", "refused 1 BadShape\n", 2, FILE, left=None)]
     foreign = f'fkv: the file "{STORE}" holds something that is no store, and is left as it is\n'
     rows += [Row("threads over a foreign file", whole([SMALL]), "refused 14 Device\n", 3, FILE, image=TEXT, left=TEXT, complaint=foreign)]
-    return rows + [Row(f"threads, {' '.join(words)}", whole([SMALL]), wanted, 2, words, complaint=f"fkv: {why}\n") for words, wanted, why in WORDS]
+    wipes = wiped("1 commit")
+    rows += [Row(f"{name}, over an older store", whole(lines), wanted, words=FILE, image=OLDER.image(), complaint=wipes) for name, lines, wanted in RUNS[:1]]
+    return rows + [Row(f"threads, {' '.join(words)}", whole([SMALL]), wanted, 2, words, complaint=f"fkv: {why}\n{USAGE}") for words, wanted, why in WORDS]

@@ -3,6 +3,7 @@ mod lines;
 mod options;
 mod quoted;
 mod sizes;
+mod usage;
 
 use fkv_files::{FileTrouble, Trouble};
 pub(crate) use lines::LineFault;
@@ -10,6 +11,7 @@ pub(crate) use options::WordFault;
 pub(crate) use sizes::SizeFault;
 use std::fmt;
 use std::io::{self, Cursor, Write};
+pub use usage::tell_usage;
 
 /// Why a run ended as it did.
 #[derive(Clone, Copy)]

@@ -8,5 +8,6 @@ mod programs;
 mod scripts;
 mod watched;
 
+pub use complaints::tell_usage;
 pub use programs::{complain_of_stop, refuse_unread, run};
 pub use watched::Watched;

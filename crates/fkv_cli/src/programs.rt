@@ -9,7 +9,7 @@ ghost use Rattle.fkv_runs.specs.Beginnings.{BreaksOff};
 ghost use Rattle.fkv_runs.specs.Openings.{RefusesNoCall, medium_of};
 ghost use Rattle.fkv_cli.specs.Output.{AreUnreadWords, IsOutputOf, IsRunOfText, line_fault_text, mode_of, script_limit};
 
-use crate::complaints::{Complaint, LineFault, WordFault, complain};
+use crate::complaints::{Complaint, LineFault, WordFault, complain, tell_usage};
 use crate::scripts::run_script;
 use fkv_base::{Fault, ScriptFault};
 use fkv_disk::{Device, FileDisk, Fuse, MemDisk};
@@ -27,7 +27,8 @@ const SCRIPT_LIMIT: u64 = 65536 * 201 + 1;
 /// Runs the program: by the words after its name and the script that the input gives, writes its answers. The status: 0; 1 where a check
 /// differs; 2 where the words, the script or its shape are refused; 3 where a store is; 4 where memory was refused outside of a line's own answer,
 /// or a stream failed: then what is written is a beginning of what the script writes. Where the status is above 0, a line of complaint
-/// says in words what it means; one that can't be written is lost.
+/// says in words what it means; of words that are refused the usage comes behind it. A line that can't be written is lost. Of an output
+/// that is a pipe which nobody reads any more nothing is said.
 pub fn run<H: Files, R: Read + Drop, W: Write, E: Write>(
     rt: &H,
     alloc: Global,
@@ -45,7 +46,7 @@ where
     match run_words(rt, alloc, words, memory, input, output, complaints) {
         Ok(status) => status,
         Err(stop) => {
-            complain(complaints, stop.complaint());
+            stop.complain(complaints);
             4
         }
     }
@@ -67,20 +68,24 @@ impl From<io::Error> for Stop {
 }
 
 impl Stop {
-    fn complaint(&self) -> Complaint<'static> {
-        match self {
+    /// Whoever reads a pipe may close it when he has seen enough, so that alone is no complaint.
+    fn complain<E: Write>(&self, complaints: &mut E) {
+        let complaint = match self {
             Stop::Input(error) | Stop::Other(error) if error.kind() == ErrorKind::OutOfMemory => {
                 Complaint::MemoryRefused
             }
             Stop::Input(error) => Complaint::InputFailed(*error),
+            Stop::Other(error) if error.kind() == ErrorKind::BrokenPipe => return,
             Stop::Other(error) => Complaint::OutputFailed(*error),
-        }
+        };
+        complain(complaints, complaint);
     }
 }
 
-/// Writes a line of complaint for an error that stopped the program outside of `run`: memory that was refused, or standard output.
+/// Writes a line of complaint for an error that stopped the program outside of `run`: memory that was refused, or standard output. A pipe
+/// that nobody reads any more is none.
 pub fn complain_of_stop<E: Write>(complaints: &mut E, error: io::Error) {
-    complain(complaints, Stop::Other(error).complaint());
+    Stop::Other(error).complain(complaints);
 }
 
 /// Words of which one is no text are none that the program takes: writes the line `options`, and a line of complaint. The status: 2;
@@ -92,6 +97,7 @@ pub fn refuse_unread<W: Write, E: Write>(output: &mut W, complaints: &mut E) -> 
     match write_options(output) {
         Ok(()) => {
             complain(complaints, Complaint::Words(WordFault::NoText));
+            tell_usage(complaints);
             2
         }
         Err(failed) => {
@@ -152,10 +158,11 @@ fn script_bytes<R: Read + Drop>(alloc: Global, input: R) -> Result<Vec<u8>, Stop
     }
 }
 
-/// Tells which of these words is refused. Refused memory is told where it ends the run.
+/// Tells which of these words is refused, and the usage. Refused memory is told where it ends the run.
 fn complain_of_words<E: Write>(complaints: &mut E, words: &[&str], fault: &RunFault) {
     if fault.status != 4 {
         complain(complaints, Complaint::Words(WordFault::of(words)));
+        tell_usage(complaints);
     }
 }
 

@@ -164,8 +164,6 @@ impl fmt::Display for WordFault<'_> {
             WordFault::NoText => f.write_str("a word is no UTF-8 text")?,
             WordFault::Other => f.write_str("these words don't go together")?,
         }
-        f.write_str(
-            "; the words are --seed N, --threads, --check, --torn B and --file PATH, and the first two don't go together",
-        )
+        Ok(())
     }
 }
