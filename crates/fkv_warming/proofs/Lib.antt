@@ -1,2 +1,3 @@
 mod From
+mod Hindered
 mod Words

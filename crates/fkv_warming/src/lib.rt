@@ -2,6 +2,8 @@
 #![tactic(auto)]
 
 mod records;
+mod recovering;
 mod warming;
 
+pub use recovering::recover_warm;
 pub use warming::warm;

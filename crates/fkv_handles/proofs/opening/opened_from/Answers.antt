@@ -9,4 +9,4 @@ pub returns-in-Err-clause-refused : goal.returns-in-Err-clause-refused
 returns-in-Err-clause-refused c =
     let p = c.new-shown.result in
     let err = rw c.new-shown.ensures.outcomes at c.in-Err.ensures.err in
-    rw (← c.new-shown.ensures.opened) (refused_by p.failures c.recover.new.d.failures (AreOutcomes p.log.opened (with_told p.failures p.told [])) p.log.opened c.in-Err.why (rw (c.new-shown.ensures.failures, c.new-shown.ensures.told) tt) err)
+    rw (← c.new-shown.ensures.opened) (refused_by p.failures c.recover_warm.new.d.failures (AreOutcomes p.log.opened (with_told p.failures p.told [])) p.log.opened c.in-Err.why (rw (c.new-shown.ensures.failures, c.new-shown.ensures.told) tt) err)
