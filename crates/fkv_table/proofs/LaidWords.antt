@@ -1,9 +1,8 @@
 -- The words of a table are laid one after the other.
 use Rattle.std.proofs.Common.{◌≡◌, ℕ, zero, suc, ◌+◌, ◌*◌, ◌∙◌, ap, arith, List, [], ◌∷◌, ◌++◌, length, length-append}
-use Rattle.std.specs.Prelude.{replicate, ◌^◌}
-use Rattle.std.proofs.lemmas.List.{length-replicate}
-use Rattle.fkv_core.specs.OpeningWords.{AreWordsOfOpened, words_before_frames}
-use Rattle.fkv_core.proofs.Shown.{length-before}
+use Rattle.std.specs.Prelude.{◌^◌}
+use Rattle.fkv_core.specs.OpeningWords.{AreWordsOfOpened, frames_of, words_before_frames}
+use Rattle.fkv_core.proofs.Shown.{length-before, length-frames}
 use Rattle.fkv_opening.specs.declared.opened_store.Opened.{Opened}
 use Rattle.fkv_plane.specs.Places.{word_count}
 use Rattle.fkv_plane.specs.declared.places.Places.{Places}
@@ -27,6 +26,6 @@ pub words_counted : (o : Opened) (p : Places) (words : List ℕ) → AreWordsOfO
     → p.ring ≡ o.shape.frames * o.shape.page → word_count p ≡ length words
 words_counted o p words are sessions buckets overflow ring =
     let before = length-before o are.index are.taken are.filled in
-    let whole = ap length are.whole ∙ length-append (words_before_frames o are.index are.taken) (replicate (3 * (o.shape.frames * o.shape.page)) 0) in
-    let frames = length-replicate {A = ℕ} (3 * (o.shape.frames * o.shape.page)) 0 in
+    let whole = ap length are.whole ∙ length-append (words_before_frames o are.index are.taken) (frames_of o) in
+    let frames = length-frames o in
     omega (arith, before, whole, frames, sessions, buckets, overflow, ring)

@@ -1,11 +1,11 @@
 -- The world of the worked lives is one with which a new store of their shape opens.
-use Rattle.std.proofs.Common.{◌≡◌, ℕ, zero, suc, ◌+◌, ◌*◌, ◌/◌, ◌%◌, ◌^◌, ◌<◌, List, [], ◌∷◌, ◌++◌, refl, sym, ◌∙◌, ap, subst, arith}
+use Rattle.std.proofs.Common.{◌≡◌, ℕ, zero, suc, ◌+◌, ◌*◌, ◌/◌, ◌%◌, ◌^◌, ◌<◌, List, [], ◌∷◌, ◌++◌, length, refl, sym, ◌∙◌, ap, subst, arith}
 use Rattle.std.specs.Prelude.{Some, if◌then◌else◌, min, nat_eq, replicate, slice_get, slice_index, slice_index_or}
 use Rattle.std.proofs.lemmas.List.Sorted.{IsPermutation-refl}
 use Rattle.fkv_base.specs.declared.numbers.Addr.{Addr}
 use Rattle.fkv_base.specs.declared.phases.Phase.TheVariants.{Rest}
 use Rattle.fkv_base.specs.declared.shapes.Shape.{Shape}
-use Rattle.law_opening.specs.Below.fkv_core.OpeningWords.{AreWordsOfOpened, words_before_frames, words_of_sessions, words_once}
+use Rattle.law_opening.specs.Below.fkv_core.OpeningWords.{AreWordsOfOpened, frames_of, laid_round, ring_words, warm_place, words_before_frames, words_of_sessions, words_once}
 use Rattle.law_opening.specs.Below.fkv_core.Openings.{IsOpeningSession, IsOpeningWorld, newest_commit}
 use Rattle.law_opening.specs.Below.fkv_creating.Created.{IsNewStore}
 use Rattle.fkv_record.specs.Points.{serial_numbers}
@@ -33,22 +33,22 @@ unfoldable pub worked_now : KeeperState → SessionState → SessionState → No
 worked_now keeper one other = let first : World = first_world shape places keeper one other in first.now
 
 -- ---- its words
-once_of : ℕ → ℕ → ℕ → List ℕ
-once_of number tail limit = 1 ∷ 0 ∷ (number + 1 + phase_number Rest * 2 ^ 16) ∷ tail ∷ limit ∷ tail ∷ tail ∷ tail ∷ tail ∷ tail ∷ 0 ∷ [] ++ replicate 5 0 ++ replicate 8 0
+once_of : ℕ → ℕ → ℕ → ℕ → List ℕ
+once_of number tail warm limit = 1 ∷ 0 ∷ (number + 1 + phase_number Rest * 2 ^ 16) ∷ tail ∷ limit ∷ tail ∷ tail ∷ tail ∷ warm ∷ warm ∷ 0 ∷ [] ++ replicate 5 0 ++ replicate 8 0
 
 own_of : ℕ → ℕ → List ℕ
 own_of number point =
     1 ∷ (if nat_eq (number % 2) 0 then point + number * 2 ^ 48 else 0) ∷ (if nat_eq (number % 2) 1 then point + number * 2 ^ 48 else 0) ∷ 0 ∷ point ∷ 0 ∷ 0 ∷ 0 ∷ 0 ∷ 0 ∷ [] ++ replicate 6 0
 
-all_of : ℕ → ℕ → ℕ → ℕ → ℕ → List ℕ
-all_of number tail limit point other = once_of number tail limit ++ ([] ++ own_of number point ++ own_of number other) ++ replicate 8 0 ++ replicate 24 0
+all_of : ℕ → ℕ → ℕ → ℕ → ℕ → ℕ → List ℕ
+all_of number tail warm limit point other = once_of number tail warm limit ++ ([] ++ own_of number point ++ own_of number other) ++ replicate 8 0 ++ replicate 24 0
 
-all_first : all_of 0 1 8 0 0 ≡ first_words
+all_first : all_of 0 1 1 8 0 0 ≡ first_words
 unfolding all_of once_of own_of
 all_first = refl
 
-same_all : (number tail limit point other : ℕ) → number ≡ 0 → tail ≡ 1 → limit ≡ 8 → point ≡ 0 → other ≡ 0 → all_of number tail limit point other ≡ all_of 0 1 8 0 0
-same_all number tail limit point other a b c d e = cc
+same_all : (number tail warm limit point other : ℕ) → number ≡ 0 → tail ≡ 1 → warm ≡ 1 → limit ≡ 8 → point ≡ 0 → other ≡ 0 → all_of number tail warm limit point other ≡ all_of 0 1 1 8 0 0
+same_all number tail warm limit point other a b w c d e = cc
 
 -- the words of an index of one bucket without entries
 no_homes : List HomeEntry
@@ -81,9 +81,13 @@ one_addr x e = ap addr_at (sym e)
 words_at : Opened → Shape → List ℕ
 words_at o s = words_once o 0 ++ words_of_sessions o s.sessions ++ replicate 8 0 ++ replicate (3 * (s.frames * s.page)) 0
 
-as_computed : (o : Opened) → words_at o shape ≡ all_of o.number.0 o.tail.0 (opening_limit o) (point_of o 0) (point_of o 1)
+as_computed : (o : Opened) → words_at o shape ≡ all_of o.number.0 o.tail.0 o.warm.0 (opening_limit o) (point_of o 0) (point_of o 1)
 unfolding shape words_at words_of_sessions all_of once_of own_of
 as_computed o = refl
+
+none_laid : (o : Opened) → length o.frames.items ≡ 0 → frames_of o ≡ replicate (ring_words o) 0
+unfolding laid_round
+none_laid o none = ap (λ (n : ℕ). laid_round 0 (ring_words o) (warm_place o) o.frames.items (replicate (ring_words o) 0) n) none
 
 module _ (o : Opened) (new : IsNewStore shape o) where
   point : (number : ℕ) → point_of o number ≡ 0
@@ -98,11 +102,19 @@ module _ (o : Opened) (new : IsNewStore shape o) where
       ap (λ (s : Shape). min (o.tail.0 / s.page + 2) s.disk_pages * s.page) new.its_shape
       ∙ ap (λ (tail : ℕ). min (tail / 4 + 2) 64 * 4) new.tail
 
-  words_are : first_words ≡ words_before_frames o (replicate 8 0) 0 ++ replicate (3 * (o.shape.frames * o.shape.page)) 0
+  -- memory has no record
+  warm : o.warm.0 ≡ 1
+  warm = let some = o.some_warm in let up = o.warm_in_log in omega (arith, some, up, new.tail)
+
+  frames_are : frames_of o ≡ replicate (ring_words o) 0
+  frames_are = none_laid o (let three = o.three_words in omega (arith, three, new.tail, warm))
+
+  words_are : first_words ≡ words_before_frames o (replicate 8 0) 0 ++ frames_of o
   unfolding words_at
   words_are =
       let by_shape : words_at o o.shape ≡ words_at o shape = ap (words_at o) new.its_shape in
-      sym (by_shape ∙ as_computed o ∙ same_all o.number.0 o.tail.0 (opening_limit o) (point_of o 0) (point_of o 1) new.number new.tail limit (point 0) (point 1) ∙ all_first)
+      sym (by_shape ∙ as_computed o ∙ same_all o.number.0 o.tail.0 o.warm.0 (opening_limit o) (point_of o 0) (point_of o 1) new.number new.tail warm limit (point 0) (point 1) ∙ all_first)
+      ∙ ap (λ (frames : List ℕ). words_before_frames o (replicate 8 0) 0 ++ frames) (sym frames_are)
 
   is_filled : IsFilled (2 ^ o.shape.bucket_bits) o.shape.overflow o.entries.items (replicate 8 0) 0
   unfolding shape
@@ -118,7 +130,7 @@ module _ (o : Opened) (new : IsNewStore shape o) where
   session_opens its number = record {
     opened = record { awake = refl; none_wait = refl; no_ticket = refl; no_orphan = refl; no_spare = refl; no_asks = refl; no_effect = refl; none_finished = refl; none_in_hand = refl; serial_fits = omega arith };
     serial = sym (point number);
-    saw = record { phase = refl; version = omega (arith, new.number); head = one_addr o.tail new.tail; read_only = one_addr o.tail new.tail };
+    saw = record { phase = refl; version = omega (arith, new.number); head = one_addr o.warm warm; read_only = one_addr o.tail new.tail };
   }
 
   sessions_open : (one other : SessionState) (number : ℕ) (s : SessionState) → slice_get (first_session one ∷ first_session other ∷ []) number ≡ Some s → IsOpeningSession o number s

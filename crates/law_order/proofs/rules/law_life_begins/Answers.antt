@@ -30,6 +30,6 @@ returns c = λ bytes o n store world.
       unborn = begins.unborn;
       reserves = begins.reserves_nothing;
       heads = c.law_log_heads.ensures bytes o n store world;
-      warm = warm_shows bytes o n world guarded.now begins;
+      warm = warm_shows bytes o n world store guarded.now begins (c.law_log_counted.ensures bytes o store);
       device = in_image bytes o n store world.its_shape (c.law_log_counted.ensures bytes o store);
     }
