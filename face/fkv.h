@@ -207,6 +207,9 @@ enum { FKV_REST = 0, FKV_PREPARE = 1, FKV_IN_PROGRESS = 2, FKV_WAIT_PENDING = 3,
 /* How keys are placed, the same at each opening of a store. See fkv_open. */
 enum { FKV_SPREAD = 0, FKV_SPREAD_ALREADY = 1 };
 
+/* In place of a number of records: an opening gives memory none. See fkv_open. */
+#define FKV_COLD UINT64_MAX
+
 /* How a renewal places the old store's keys. See fkv_renew. */
 enum { FKV_AS_THEY_LIE = 0, FKV_SPREAD_NOW = 1 };
 
@@ -263,6 +266,9 @@ int32_t fkv_image(const fkv_shape *shape, uint8_t *into, size_t room);
  * are hashes, or random. Say the same at each opening. A store that is opened the other way finds none of its keys, and nothing tells
  * so.
  *
+ * `warm` is how many of the newest records memory gets at most, 0 for as many as fit. They are found in memory from the beginning on. A
+ * read of any other record waits for the keeper, and so does each with FKV_COLD.
+ *
  * Each session is awake after the call, whether it is taken or not, and commits wait for its refresh: take them all, and put those
  * to sleep that you don't use.
  *
@@ -270,7 +276,7 @@ int32_t fkv_image(const fkv_shape *shape, uint8_t *into, size_t room);
  * `room`. What lies behind the last session's says nothing. `points` isn't NULL, though `room` may be 0.
  * 0; -FKV_NOT_A_STORE, -FKV_DAMAGED (`*opened` says where), -FKV_MEMORY.
  */
-int32_t fkv_open(const uint8_t *bytes, size_t size, uint32_t keys, void **out, fkv_shape *shape, fkv_opened *opened,
+int32_t fkv_open(const uint8_t *bytes, size_t size, uint32_t keys, uint64_t warm, void **out, fkv_shape *shape, fkv_opened *opened,
                  uint64_t *points, size_t room);
 
 /*

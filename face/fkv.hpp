@@ -256,10 +256,13 @@ public:
     Store &operator=(Store &&) noexcept = default;
 
     static void make(const std::string &path, const Shape &shape) { check(fkv_make_file(path.c_str(), &shape)); }
-    /* `opened`, if it isn't null, says what was found, after FKV_DAMAGED too. */
-    static Store open(const std::string &path, std::uint32_t keys = FKV_SPREAD, Opened *opened = nullptr) {
+    /*
+     * `opened`, if it isn't null, says what was found, after FKV_DAMAGED too. `warm` is how many of the newest records memory gets at most, 0 for as
+     * many as fit, and FKV_COLD for none.
+     */
+    static Store open(const std::string &path, std::uint32_t keys = FKV_SPREAD, Opened *opened = nullptr, std::uint64_t warm = 0) {
         fkv_how how{};
-        how.keys = keys, how.opened = opened;
+        how.keys = keys, how.opened = opened, how.warm = warm;
         Store store;
         check(fkv_open_file(path.c_str(), &how, &store.file_->at));
         return store;

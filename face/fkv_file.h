@@ -47,6 +47,7 @@ struct fkv_file {
     int fd;
     char *path; /* without links; NULL where the system didn't say */
     uint32_t keys; /* how they are placed: see fkv_open */
+    uint64_t warm; /* how many records an opening gives memory: see fkv_open */
     fkv_shape shape;
     fkv_store store;
     fkv_keeper keeper; /* of whoever has the turn, and so are the next three */
@@ -136,7 +137,7 @@ void fkv_give_bytes(struct bytes *bytes);
 int fkv_write_bytes(void *its, int fd);
 
 /* Opens the store of these bytes, which no file has yet. 0, or the refusals of fkv_open. */
-int32_t fkv_open_bytes(const struct bytes *bytes, uint32_t keys, fkv_file **out);
+int32_t fkv_open_bytes(const struct bytes *bytes, uint32_t keys, uint64_t warm, fkv_file **out);
 
 /* Gives back what was taken and opened, and closes the file. */
 void fkv_give_up(fkv_file *file);

@@ -292,7 +292,7 @@ static int32_t open_store(fkv_file *file, const char *path, const fkv_how *how) 
     if (write_slots_anew(file->fd) || fsync(file->fd) || fkv_sync_folder_of(path)) return -FKV_DEVICE;
     int32_t result = fkv_show_bytes(file->fd, how, &shown);
     if (result == 0) {
-        result = fkv_open(shown.at, shown.size, how->keys, &file->store.at, &file->shape, &opened, file->points, FKV_MOST_SESSIONS);
+        result = fkv_open(shown.at, shown.size, how->keys, how->warm, &file->store.at, &file->shape, &opened, file->points, FKV_MOST_SESSIONS);
     }
     int why = errno;
     if (shown.at) munmap(shown.at, shown.size);
@@ -300,6 +300,7 @@ static int32_t open_store(fkv_file *file, const char *path, const fkv_how *how) 
     file->number = opened.number;
     file->keys = how->keys;
     file->is_mapped = how->mapped != 0;
+    file->warm = how->warm;
     if (how->opened) *how->opened = opened;
     return result;
 }
@@ -381,12 +382,13 @@ no_clock:
     return NULL;
 }
 
-int32_t fkv_open_bytes(const struct bytes *bytes, uint32_t keys, fkv_file **out) {
+int32_t fkv_open_bytes(const struct bytes *bytes, uint32_t keys, uint64_t warm, fkv_file **out) {
     fkv_file *file = new_file();
     fkv_opened opened;
     if (!file) return -FKV_MEMORY;
     file->keys = keys;
-    int32_t result = fkv_open(bytes->at, bytes->size, keys, &file->store.at, &file->shape, &opened, file->points, FKV_MOST_SESSIONS);
+    file->warm = warm;
+    int32_t result = fkv_open(bytes->at, bytes->size, keys, warm, &file->store.at, &file->shape, &opened, file->points, FKV_MOST_SESSIONS);
     if (result == 0) result = take_handles(file);
     if (result < 0) {
         fkv_give_up(file);

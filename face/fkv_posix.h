@@ -110,6 +110,7 @@ typedef struct {
     fkv_progress_fn *progress; /* called while the file is read, or NULL */
     void *user;                /* handed to it */
     fkv_opened *opened;        /* becomes what fkv_open found, after -FKV_DAMAGED too; or NULL */
+    uint64_t warm;             /* how many of the newest records memory gets at most: 0 for as many as fit, FKV_COLD for none (fkv_open) */
 } fkv_how;
 
 /*

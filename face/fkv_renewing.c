@@ -57,7 +57,7 @@ static void swap(fkv_file *file, fkv_file *fresh) {
 /* Puts the new store's file in place of the old one's, and syncs the folder. Where that alone fails, the store commits no more. */
 static int32_t replace(fkv_file *file, struct bytes *new) {
     fkv_file *fresh;
-    int32_t result = fkv_open_bytes(new, file->keys, &fresh);
+    int32_t result = fkv_open_bytes(new, file->keys, file->warm, &fresh);
     if (result < 0) return result;
     fresh->fd = fkv_make_over(file->path, fkv_write_bytes, new);
     if (fresh->fd < 0) {

@@ -18,7 +18,7 @@ struct opened {
 
 static struct opened open_bytes(const uint8_t *bytes, size_t size, uint32_t keys) {
     struct opened it = {0};
-    WANTS("opening", fkv_open(bytes, size, keys, &it.store.at, &it.shape, &it.told, it.points, FKV_MOST_SESSIONS), 0);
+    WANTS("opening", fkv_open(bytes, size, keys, FKV_COLD, &it.store.at, &it.shape, &it.told, it.points, FKV_MOST_SESSIONS), 0);
     for (uint64_t i = 0; i < SESSIONS; i++) WANTS("taking a session", fkv_take_session(&it.store, i, &it.sessions[i].at), 0);
     WANTS("taking the keeper", fkv_take_keeper(&it.store, &it.keeper.at), 0);
     return it;
@@ -464,7 +464,7 @@ static void refusals(void) {
     bad.page = 5;
     WANTS("an image of a bad shape", fkv_image(&bad, device.now, FKV_IMAGE_SIZE), -FKV_BAD_SHAPE);
     WANTS("an image in a small room", fkv_image(&SHAPE, device.now, FKV_IMAGE_SIZE - 1), -FKV_ROOM_SMALL);
-    WANTS("no store", fkv_open((const uint8_t *)"no store", 8, FKV_SPREAD, &store.at, &shape, &told, points, 1), -FKV_NOT_A_STORE);
+    WANTS("no store", fkv_open((const uint8_t *)"no store", 8, FKV_SPREAD, FKV_COLD, &store.at, &shape, &told, points, 1), -FKV_NOT_A_STORE);
     begin_device(&device, &SHAPE);
     struct opened it = open_bytes(device.now, device.size, FKV_SPREAD);
     WANTS("a session that is out", fkv_take_session(&it.store, 0, &handle), -FKV_HANDLE_TAKEN);

@@ -410,7 +410,8 @@ static void many(void) {
     }
     WANTS("leaving", fkv_leave(file, session), 0);
     WANTS("closing", fkv_close_file(file), 0);
-    open_at("many", NULL, &(fkv_keeping){0});
+    WANTS("opening", fkv_open_file(path_of("many"), &(fkv_how){.warm = FKV_COLD}, &file), 0);
+    WANTS("starting the keeper", fkv_start(file, &(fkv_keeping){0}), 0);
     session = joined(1);
     WANTS("reads with too little room", fkv_read_many(file, session, keys, COUNT, told, COUNT - 1), -FKV_ROOM_SMALL);
     /* Other requests have taken all places but a few. */

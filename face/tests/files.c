@@ -317,7 +317,7 @@ static void own_turns(void) {
     WANTS("making a file", fkv_make_file(path_of("own_turns"), &shape), 0);
     int fd = open(path_of("own_turns"), O_RDWR);
     ssize_t size = read(fd, bytes, sizeof bytes);
-    WANTS("opening its bytes", fkv_open(bytes, (size_t)size, FKV_SPREAD, &store.at, &shape, &opened, points, FKV_MOST_SESSIONS), 0);
+    WANTS("opening its bytes", fkv_open(bytes, (size_t)size, FKV_SPREAD, FKV_COLD, &store.at, &shape, &opened, points, FKV_MOST_SESSIONS), 0);
     WANTS("taking the session", fkv_take_session(&store, 0, &session.at), 0);
     WANTS("taking the keeper", fkv_take_keeper(&store, &keeper.at), 0);
     WANTS("an upsert", fkv_upsert(&session, 7, 10, &update), FKV_DONE);

@@ -129,7 +129,7 @@ static void *check(void *its) {
 /* The keeper's thread rests so long that sessions make the turns. */
 static void open_and_start(const char *path, uint32_t commit_ms) {
     fkv_keeping keeping = {.commit_ms = commit_ms, .log_commits = 5, .turn_us = commit_ms ? 0 : 60000000};
-    WANTS("opening", fkv_open_file(path, NULL, &file), 0);
+    WANTS("opening", fkv_open_file(path, &(fkv_how){.warm = FKV_COLD}, &file), 0);
     WANTS("starting the keeper", fkv_start(file, &keeping), 0);
 }
 
@@ -187,7 +187,7 @@ static bool tell_a_failure(const char *path) {
     atomic_int told = 0;
     fkv_keeping keeping = {.turn_us = 60000000, .stopped = note_stopped, .user = &told};
     failed_in_workers = failed_elsewhere = 0;
-    WANTS("opening", fkv_open_file(path, NULL, &file), 0);
+    WANTS("opening", fkv_open_file(path, &(fkv_how){.warm = FKV_COLD}, &file), 0);
     WANTS("starting the keeper", fkv_start(file, &keeping), 0);
     run_workers(read_on);
     WANTS("how many reads failed", failed_in_workers + failed_elsewhere, 1);

@@ -20,7 +20,7 @@ static void open_bytes(uint64_t round) {
     fkv_update update;
     fkv_turned turned;
     WANTS("an image", fkv_image(&SHAPE, image, sizeof image), 0);
-    WANTS("opening", fkv_open(image, sizeof image, FKV_SPREAD, &store.at, &shape, &told, points, FKV_MOST_SESSIONS), 0);
+    WANTS("opening", fkv_open(image, sizeof image, FKV_SPREAD, FKV_COLD, &store.at, &shape, &told, points, FKV_MOST_SESSIONS), 0);
     for (uint64_t i = 0; i < round % (SESSIONS + 1); i++) {
         WANTS("taking a session", fkv_take_session(&store, i, &session.at), 0);
         WANTS("an add", fkv_add(&session, 7, 1, &update), FKV_DONE);

@@ -14,7 +14,7 @@ static int32_t open_image(const uint8_t *image) {
     fkv_store store;
     fkv_shape shape;
     fkv_opened told;
-    int32_t result = fkv_open(image, FKV_IMAGE_SIZE, FKV_SPREAD, &store.at, &shape, &told, points, FKV_MOST_SESSIONS);
+    int32_t result = fkv_open(image, FKV_IMAGE_SIZE, FKV_SPREAD, FKV_COLD, &store.at, &shape, &told, points, FKV_MOST_SESSIONS);
     if (result < 0) return result;
     WANTS("closing", fkv_close(&store), 0);
     fkv_free_store(store);

@@ -106,7 +106,7 @@ static void make(void) {
 
 /* Rounds of both ways, each by 1, 2 and 4 threads. */
 static void time_rounds(const char *where, int is_on_disk) {
-    fkv_how how = {.mapped = strcmp(where, "mapped") == 0};
+    fkv_how how = {.mapped = strcmp(where, "mapped") == 0, .warm = FKV_COLD};
     must(fkv_open_file(path, &how, &file), "open");
     must(fkv_start(file, NULL), "start");
     blocks = is_on_disk ? DISK_BLOCKS : BLOCKS;

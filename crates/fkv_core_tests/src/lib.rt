@@ -19,3 +19,5 @@ mod million;
 mod stopped_calls;
 #[cfg(test)]
 mod stores;
+#[cfg(test)]
+mod warm;

@@ -1,5 +1,5 @@
 -- What a store's exports tell.
-use Rattle.std.specs.Prelude.{◌≡◌, ◌⊎◌, ◌<◌, ◌≤◌, ◌++◌, ℕ, zero, suc, ℤ, pos, neg_ℤ, true, false, List, [], length, drop, Result, Ok, Err}
+use Rattle.std.specs.Prelude.{◌≡◌, ◌⊎◌, ◌<◌, ◌≤◌, ◌-◌, ◌^◌, ◌++◌, ℕ, zero, suc, nat_eq, if◌then◌else◌, ℤ, pos, neg_ℤ, true, false, List, [], length, drop, Result, Ok, Err}
 use Rattle.fkv_base.specs.declared.faults.Fault.{Fault}
 use Rattle.fkv_base.specs.declared.shapes.Shape.{Shape}
 use Rattle.fkv_creating.specs.Created.{created_bytes}
@@ -19,6 +19,10 @@ use Rattle.fkv_face.specs.Sizes.{HasSizes, are_sizes, damaged_by}
 use Rattle.fkv_spread.specs.declared.keys.Keys.{Keys}
 use Rattle.fkv_spread.specs.declared.keys.Keys.TheVariants.{Spread, AsTheyAre}
 pub use Rattle.fkv_handles.specs.Below.fkv_threads.Models.{opening}
+
+-- at most so many records are given memory: 0 stands for all that fit, and the greatest number for none
+abbrev pub most_told : ℕ → ℕ
+most_told warm = if nat_eq warm 0 then 2 ^ 64 - 1 else if nat_eq warm (2 ^ 64 - 1) then 0 else warm
 
 abbrev pub keys_told : ℕ → Keys
 keys_told zero = Spread
@@ -67,8 +71,8 @@ pub record IsClosed (before : Store) (result : ℤ) (after : Store) : Type 0 whe
 
 module _ (at : Opening → World) where
   -- The store was opened from its image, and C is told of it; or the image was refused, or memory was.
-  pub data IsOpening {P : Type 0} (bytes : List ℕ) (keys : ℕ) (result : ℤ) (out out' : P) (sizes sizes' : Sizes) (image image' : Image) (points points' : List ℕ) : Type 0 where
-    Opened : (store : Store) (told : Recovered) → IsOpenedFrom at bytes (keys_told keys) store told → (result ≡ pos 0) ⊎ IsOutOfMemory result
-        → HasSizes sizes' told.shape → image' ≡ record image { number = told.number.0 } → ArePoints told.points.items points points' → IsOpening bytes keys result out out' sizes sizes' image image' points points'
+  pub data IsOpening {P : Type 0} (bytes : List ℕ) (keys warm : ℕ) (result : ℤ) (out out' : P) (sizes sizes' : Sizes) (image image' : Image) (points points' : List ℕ) : Type 0 where
+    Opened : (store : Store) (told : Recovered) → IsOpenedFrom at bytes (keys_told keys) (most_told warm) store told → (result ≡ pos 0) ⊎ IsOutOfMemory result
+        → HasSizes sizes' told.shape → image' ≡ record image { number = told.number.0 } → ArePoints told.points.items points points' → IsOpening bytes keys warm result out out' sizes sizes' image image' points points'
     Refused : (fault : Fault) → IsOpeningRefused bytes fault → result ≡ fault_told fault → out' ≡ out → sizes' ≡ sizes → image' ≡ damaged_by fault image → points' ≡ points
-        → IsOpening bytes keys result out out' sizes sizes' image image' points points'
+        → IsOpening bytes keys warm result out out' sizes sizes' image image' points points'

@@ -25,6 +25,19 @@ fn keys_told(keys: u32) -> Keys
     }
 }
 
+/// How many records memory is given at most: 0 says all that fit, and the greatest number none.
+fn most_told(warm: u64) -> u64
+    ensures { result ≡ says.most_told warm }
+{
+    if warm == 0 {
+        u64::MAX
+    } else if warm == u64::MAX {
+        0
+    } else {
+        warm
+    }
+}
+
 /// Writes the bytes to the front of the room.
 pub(crate) fn put(bytes: &[u8], into: &mut [u8]) -> i32
     ensures { says.IsPut bytes.now result into.old into.new }
@@ -51,22 +64,24 @@ pub extern "C" fn fkv_image(alloc: Global, sizes: &Sizes, into: &mut [u8]) -> i3
     }
 }
 
-/// Opens the store of this image: the bytes of its file, all of them synced. They aren't needed behind the call. It tells the sizes, the number of
+/// Opens the store of this image: the bytes of its file, all of them synced. They aren't needed behind the call. Memory gets its newest records, at
+/// most so many: 0 says all that fit, and the greatest number none. It tells the sizes, the number of
 /// the last commit, and the points, as many as there is room for. `NotAStore`, `Damaged` with the part and its place, `Memory`.
 #[unsafe(no_mangle)]
 pub extern "C" fn fkv_open(
     alloc: Global,
     bytes: &[u8],
     keys: u32,
+    warm: u64,
     out: &mut *mut u8,
     sizes: &mut Sizes,
     image: &mut Image,
     points: &mut [u64],
 ) -> i32
-    ensures { says.IsOpening (says.opening ⟦<Posted<'static> as Device>⟧) bytes.now keys result out.old out.new sizes.old sizes.new image.old image.new
+    ensures { says.IsOpening (says.opening ⟦<Posted<'static> as Device>⟧) bytes.now keys warm result out.old out.new sizes.old sizes.new image.old image.new
         points.old points.new }
 {
-    match Store::open(alloc, bytes, keys_told(keys)) {
+    match Store::open(alloc, bytes, keys_told(keys), most_told(warm)) {
         Ok((store, recovered)) => {
             tell(&recovered, sizes, image, points);
             match Box::new(alloc, store) {

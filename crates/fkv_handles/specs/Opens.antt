@@ -14,6 +14,7 @@ use Rattle.fkv_handles.specs.declared.stores.Recovered.{Recovered}
 use Rattle.fkv_handles.specs.declared.stores.Store.{Store}
 use Rattle.fkv_handles.specs.Handles.{Opening, Sitting, Watch, store_is_open, store_keeper, store_keys, store_sessions}
 use Rattle.fkv_threads.specs.Begun.{IsFirstWatch, IsOverStore}
+use Rattle.fkv_warming.specs.Warmed.{warm_from}
 
 -- what the opened store tells
 pub record IsRecovered (opened : Opened) (told : Recovered) : Type 0 where
@@ -31,10 +32,11 @@ abbrev pub IsOpeningRefused : List ℕ → Fault → Type 0
 IsOpeningRefused bytes fault = (fault ≡ Memory) ⊎ IsFaultOf bytes fault
 
 module _ (at : Opening → World) where
-  -- The handles are those of a table over the store that the image defines.
-  pub record IsOpenedFrom (bytes : List ℕ) (keys : Keys) (store : Store) (told : Recovered) : Type 0 where
+  -- The handles are those of a table over the store that the image defines, with its newest records in memory, at most so many.
+  pub record IsOpenedFrom (bytes : List ℕ) (keys : Keys) (most : ℕ) (store : Store) (told : Recovered) : Type 0 where
     pub opened : Opened
     pub is_store : IsStoreOf bytes opened
+    pub warm : opened.warm.0 ≡ warm_from opened most
     pub recovered : IsRecovered opened told
     pub key : Opening
     pub table : TableId

@@ -13,4 +13,5 @@ pub use Rattle.fkv_handles.specs.declared.refusals.Refusal.TheVariants.{HandleOu
 pub use Rattle.fkv_map.specs.declared.operations.Call.TheVariants.{Op}
 pub use Rattle.fkv_opening.specs.Opened.{IsStoreOf}
 pub use Rattle.fkv_threads.specs.Models.{opening}
+pub use Rattle.fkv_warming.specs.Warmed.{warm_from}
 pub use Rattle.std.specs.Prelude.{Err, IfErr, IfOk, Ok, OnErr, OnOk, Some, is_some, length, map}

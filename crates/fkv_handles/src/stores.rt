@@ -35,13 +35,18 @@ pub struct Recovered {
 }
 
 impl Store {
-    /// Opens the store of this image, as `recover` does. The bytes are those of the file, all of them synced. They aren't needed behind the call.
-    /// `NotAStore`, `Damaged` or `Memory`.
-    pub fn open(alloc: Global, bytes: &[u8], keys: Keys) -> Result<(Store, Recovered), Fault>
-        ensures opened { said.IfOk result (λ r. said.IsOpenedFrom (said.opening ⟦<Posted<'static> as Device>⟧) bytes.now keys r.0 r.1) }
+    /// Opens the store of this image, as `recover` does, and gives memory its newest records, at most so many. The bytes are those of the file, all of
+    /// them synced. They aren't needed behind the call. `NotAStore`, `Damaged` or `Memory`.
+    pub fn open(
+        alloc: Global,
+        bytes: &[u8],
+        keys: Keys,
+        most: u64,
+    ) -> Result<(Store, Recovered), Fault>
+        ensures opened { said.IfOk result (λ r. said.IsOpenedFrom (said.opening ⟦<Posted<'static> as Device>⟧) bytes.now keys most r.0 r.1) }
         ensures refused { said.IfErr result (said.IsOpeningRefused bytes.now) }
     {
-        let (opened, medium) = opened_from(alloc, bytes)?;
+        let (opened, medium) = opened_from(alloc, bytes, most)?;
         let told = told_of(alloc, &opened)?;
         let OpenSeats {
             table,

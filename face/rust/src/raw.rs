@@ -156,6 +156,7 @@ pub struct How {
     pub progress: Option<TellProgress>,
     pub user: *mut c_void,
     pub opened: *mut Opened,
+    pub warm: u64,
 }
 
 #[repr(C)]

@@ -134,6 +134,7 @@ impl Progress {
 pub struct How<'a> {
     is_spread: bool,
     is_mapped: bool,
+    warm: u64,
     progress: Option<&'a mut dyn FnMut(Progress)>,
 }
 
@@ -148,6 +149,13 @@ impl<'a> How<'a> {
     /// The file is mapped and not read, for one that memory can't hold. A bad disk then kills the process.
     pub fn mapped(mut self) -> How<'a> {
         self.is_mapped = true;
+        self
+    }
+
+    /// Memory gets at most so many of the newest records, and not as many as fit. They are found there from the beginning on. With 0 it gets
+    /// none, and each first read waits for the keeper.
+    pub fn warm(mut self, records: u64) -> How<'a> {
+        self.warm = if records == 0 { u64::MAX } else { records };
         self
     }
 
@@ -260,6 +268,7 @@ impl Store {
             },
             user,
             opened: &mut opened,
+            warm: how.warm,
         };
         let result = unsafe { raw::fkv_open_file(path.as_ptr(), &its, &mut at) };
         if result < 0 {

@@ -9,6 +9,7 @@ from ctypes import CFUNCTYPE, POINTER, Structure, c_char_p, c_int32, c_size_t, c
 NAME = "libfkv.so.0"
 SERIES = "0.1."
 ABSENT = 2**64 - 1
+COLD = 2**64 - 1
 MOST_SESSIONS = 32
 DONE, FOUND, NONE, PENDING = 0, 1, 2, 3
 KEEP, MIN, SUB, AND, OR, FIRST = range(6)
@@ -62,7 +63,8 @@ class CSize(Structure):
 
 
 class CHow(Structure):
-    _fields_ = [("keys", c_uint32), ("mapped", c_uint32), ("progress", PROGRESS), ("user", c_void_p), ("opened", POINTER(COpened))]
+    _fields_ = [("keys", c_uint32), ("mapped", c_uint32), ("progress", PROGRESS), ("user", c_void_p), ("opened", POINTER(COpened)),
+                ("warm", c_uint64)]
 
 
 class CKeeping(Structure):

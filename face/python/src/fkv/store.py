@@ -343,16 +343,17 @@ def make_file(path: Path, shape: Shape) -> None:
 
 
 def open(path: Path, wish: Optional[Wish] = None, keeping: Optional[Keeping] = Keeping(), *, make: bool = True, is_spread: bool = False,
-         mapped: bool = False, progress: Optional[Callable[[Progress], None]] = None) -> Store:
+         mapped: bool = False, progress: Optional[Callable[[Progress], None]] = None, warm: Optional[int] = None) -> Store:
     """Opens the store in this file, and starts its keeper, unless `keeping` is None.
 
     If there is no file, and `make` is true, it is made for the wish. A store that is there keeps its own sizes.
 
     `is_spread` is for keys that are hashes, or random: say the same at each opening. `mapped` is for a file that memory can't hold.
+    `warm` is how many of the newest records memory gets at most: as many as fit, if it isn't said.
     AlreadyOpen, NoFile, NoRight, other DeviceErrors; NotAStore, Damaged, BadShape, NoMemory.
     """
     name, out, opened = os.fsencode(path), ctypes.c_void_p(), native.COpened()
-    how = native.CHow(int(is_spread), int(mapped), _progress(progress), None, ctypes.pointer(opened))
+    how = native.CHow(int(is_spread), int(mapped), _progress(progress), None, ctypes.pointer(opened), 0 if warm is None else warm or native.COLD)
     result = lib.fkv_open_file(name, how, out)
     if make and result == -Fault.DEVICE and not os.path.exists(path):
         result = lib.fkv_make_file(name, shape_for(wish).in_c())

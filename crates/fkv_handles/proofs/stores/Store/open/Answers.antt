@@ -12,6 +12,7 @@ returns-clause-opened c =
     record {
       opened = c.in_ok-opened.opened;
       is_store = c.in_ok-opened.ensures.store;
+      warm = c.in_ok-opened.ensures.warm;
       recovered = c.in_ok-told.ensures.told;
       key = c.in_ok-table.field-0.table.value.table.shared.key;
       table = c.in_ok-table.field-0.table.value.table.shared.table_id;
