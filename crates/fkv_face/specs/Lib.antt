@@ -1,4 +1,5 @@
 pub mod Calls
+pub mod Hints
 pub mod Holding
 pub mod Lending
 pub mod Many

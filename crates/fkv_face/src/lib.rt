@@ -5,6 +5,7 @@ mod answers;
 mod held_keeper;
 mod held_session;
 mod held_store;
+mod hints;
 mod keepers;
 mod many;
 mod names;
