@@ -146,6 +146,20 @@ typedef struct {
     uint64_t version; /* the commit in hand, or the one that comes next */
 } fkv_seen;
 
+/*
+ * How far the log has come. Records have the addresses 1, 2, 3 .., in the order in which they were made. No offset is below the one
+ * before it here, and none ever falls.
+ */
+typedef struct {
+    uint64_t closed;         /* records below it have left memory */
+    uint64_t head;           /* those below it are read from the file, by each session that has seen it */
+    uint64_t flushed;        /* those below it are in the file, and synced */
+    uint64_t safe_read_only; /* those below it change no more */
+    uint64_t read_only;      /* those below it aren't updated in place, by each session that has seen it */
+    uint64_t tail;           /* the next record's address */
+    uint64_t overflow;       /* no offset: how many overflow buckets of the index are taken */
+} fkv_offsets;
+
 /* What a turn of the keeper has posted, or what it has done. */
 typedef struct {
     uint64_t place;       /* after FKV_READ and FKV_WRITE: where in the file, in bytes */
@@ -432,6 +446,25 @@ void fkv_end_keeper(fkv_keeper *keeper);
 
 /* Frees the handle's own block, after fkv_end_keeper. The word is dead then. */
 static inline void fkv_free_keeper(fkv_keeper keeper) { free(keeper.at); }
+
+/* ---- Hints ---------------------------------------------------------------------------------------------------------------- */
+
+/*
+ * What the store's memory says just now, for who plans his calls by it. Hints change nothing, hold nobody up, and wait for nobody. A session
+ * that sleeps may ask too. It is proved that they return, and nothing of what they tell: by the time that it is read it may be otherwise.
+ *
+ *   fkv_hint_offsets   how far the log has come. 0; -FKV_NO_SESSION after fkv_end_session
+ *   fkv_hint_store     the same, by the store's handle. 0; -FKV_BROKEN after an fkv_close that gave 0
+ *   fkv_hint_where     the address of the newest record of the key's home, or 0: there is none, or it wasn't seen in eight buckets. A home
+ *                      has few keys, mostly one, so that record may be another key's.
+ *   fkv_hint_keys      the keys of the records in memory from an address on, as many as `room` takes: their count is the answer. A
+ *                      record may be none that counts; if fkv_hint_where of its key is its address, it is the newest of its home.
+ *                      `keys` isn't NULL, though `room` may be 0
+ */
+int32_t fkv_hint_offsets(fkv_session *session, fkv_offsets *offsets);
+int32_t fkv_hint_store(fkv_store *store, fkv_offsets *offsets);
+uint64_t fkv_hint_where(fkv_session *session, uint64_t key);
+size_t fkv_hint_keys(fkv_session *session, uint64_t address, uint64_t *keys, size_t room);
 
 /* ---- Keys ----------------------------------------------------------------------------------------------------------------- */
 

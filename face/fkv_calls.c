@@ -153,13 +153,15 @@ static int32_t read_batch(fkv_file *file, fkv_session *session, const uint64_t *
 
 /*
  * Records in memory are read faster by many, whose cache lines are fetched ahead. Reads that wait go better one by one: the file is read
- * for one of a session at a time, and each poll tries all that are pending. So a batch is halved where some of it had to wait.
+ * for one of a session at a time, and each poll tries all that are pending. So a batch is halved where some of it had to wait. If the system
+ * has to wait for a disk, it is asked ahead, and waits for many at once.
  */
 int32_t fkv_read_many(fkv_file *file, fkv_session *session, const uint64_t *keys, size_t count, fkv_each_read *told, size_t room) {
-    size_t size = 1, since_refresh = 0, waited;
+    size_t size = 1, since_refresh = 0, fetched = 0, waited;
     if (room < count) return -FKV_ROOM_SMALL;
     for (size_t at = 0; at < count;) {
         size_t batch = count - at < size ? count - at : size;
+        fetched = fkv_fetch_ahead(file, session, keys, count, at, fetched);
         int32_t result = read_batch(file, session, keys + at, batch, told + at, &waited);
         at += batch, since_refresh += batch;
         if (result == 0 && since_refresh >= TICKS) {

@@ -49,9 +49,10 @@ struct fkv_file {
     uint32_t keys; /* how they are placed: see fkv_open */
     fkv_shape shape;
     fkv_store store;
-    fkv_keeper keeper; /* of whoever has the turn, and so are the next two */
+    fkv_keeper keeper; /* of whoever has the turn, and so are the next three */
     bool is_mapped;    /* records are read back by a mapping, as long as the system gives one */
     struct bytes map;  /* of the file, and of bytes behind it that it hasn't yet */
+    unsigned near;     /* so many reads more count as near to one that has waited for a disk */
     /* A joined session is its thread's, an abandoned one the keeper's thread's, and the others are whoever's has the lock. */
     fkv_session sessions[FKV_MOST_SESSIONS];
     struct seat seats[FKV_MOST_SESSIONS];
@@ -64,6 +65,9 @@ struct fkv_file {
     atomic_int ends;         /* what fkv_tick answers */
     atomic_ullong begun;     /* how many commits have begun since the opening */
     atomic_int why;          /* errno of a fault that is -FKV_DEVICE. It is written before `ends` */
+    /* These are written by who has the turn, and by sessions that read many. */
+    atomic_uint slow;        /* so many reads more are asked for ahead: some of the last have waited for a disk */
+    atomic_ullong fetched;   /* records that the system was asked for ahead of their reads */
 
     pthread_mutex_t lock;  /* of all that follows */
     pthread_cond_t work;   /* the keeper's thread waits for it: something is asked */
@@ -147,6 +151,15 @@ bool fkv_read_mapped(fkv_file *file, uint64_t place, uint8_t into[FKV_READ_SIZE]
 
 /* Gives the mapping back. The next read makes it anew. The caller has the turn. */
 void fkv_drop_map(fkv_file *file);
+
+/* Notes how long a read has taken that began then. The caller has the turn. */
+void fkv_note_read(fkv_file *file, struct timespec begun);
+
+/*
+ * Asks the system for the records of keys that will be read next, if its last reads had to wait for a disk. Of `count` keys those from `at` on
+ * are to be read, and those below `fetched` were asked for. Up to which key they are asked for then.
+ */
+size_t fkv_fetch_ahead(fkv_file *file, fkv_session *session, const uint64_t *keys, size_t count, size_t at, size_t fetched);
 
 /* ---- Of turns. The lock is held, but for the next two. -------------------------------------------------------------------------- */
 

@@ -279,6 +279,7 @@ int32_t fkv_read(fkv_file *file, fkv_session *session, uint64_t key, uint64_t *v
 
 /*
  * fkv_read of `count` keys: the results stand in their places in `results`, which has `room` of them. Keys in memory are read many at once.
+ * Where the system has to fetch the file's bytes from a disk, it is asked for those of 64 keys ahead (posix_fadvise).
  * 0; -FKV_ROOM_SMALL where `room` is below `count`, and the refusals of fkv_settle. After these a `result` of FKV_PENDING is that of a read
  * that stays so, and the keys after it weren't read.
  */
@@ -365,7 +366,7 @@ int32_t fkv_keeper_fault(fkv_file *file);
 /* Of why calls have waited: 0 stands for a read, and each other number is a reason of fkv.h. */
 #define FKV_REASONS 7
 
-/* How a store fares since its opening, as far as it is seen from outside of the engine. */
+/* How a store fares since its opening. */
 typedef struct {
     uint64_t commits;       /* the number of the last finished commit */
     uint64_t commits_left;  /* so many more the store takes */
@@ -378,7 +379,14 @@ typedef struct {
     uint64_t turns;         /* turns of the keeper */
     uint64_t helped;        /* of which so many were made by threads of sessions that waited */
     uint64_t cold_reads;    /* records that were read back from the file */
+    uint64_t fetched;       /* records that the system was asked for ahead of their reads, by fkv_read_many */
     uint64_t file_bytes;    /* bytes of the file */
+    uint64_t begin;         /* where the log begins: the address of its first record, which is 1. The next four are of fkv_offsets */
+    uint64_t head;          /* records below it are read from the file */
+    uint64_t flushed;       /* records below it are in the file, and synced */
+    uint64_t read_only;     /* records below it aren't updated in place */
+    uint64_t tail;          /* the next record's address */
+    uint64_t overflow;      /* overflow buckets of the index that are taken, of the shape's `overflow` */
     int32_t stopped;        /* what fkv_tick answers of the store, 0 while commits go on */
     uint64_t waited[FKV_REASONS]; /* calls of this header that had to wait: updates by their first reason (FKV_FUZZY ..), reads at 0 */
 } fkv_stats;

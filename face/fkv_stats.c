@@ -5,6 +5,9 @@
 #include <errno.h>
 #include <sys/stat.h>
 
+/* The log begins at its first record: nothing of it is ever cut off. */
+enum { FIRST_ADDRESS = 1 };
+
 /* The joined sessions that haven't been refreshed since the commit in hand began, as far as this library has done so. */
 static uint64_t late_sessions(const fkv_file *file) {
     uint64_t late = 0;
@@ -25,9 +28,12 @@ static uint64_t waited_for(const fkv_file *file, int reason) {
 
 int32_t fkv_stats_of(fkv_file *file, fkv_stats *stats) {
     struct stat known;
+    fkv_offsets offsets = {.head = 0};
     pthread_mutex_lock(&file->lock);
     bool is_known = fstat(file->fd, &known) == 0;
     bool is_in_hand = atomic_load(&file->in_hand);
+    /* (it tells them as long as the store is open) */
+    (void)fkv_hint_store(&file->store, &offsets);
     *stats = (fkv_stats){
         .commits = file->number,
         .commits_left = file->number < FKV_MOST_COMMITS ? FKV_MOST_COMMITS - file->number : 0,
@@ -40,7 +46,14 @@ int32_t fkv_stats_of(fkv_file *file, fkv_stats *stats) {
         .turns = file->turns,
         .helped = file->helped,
         .cold_reads = file->cold_reads,
+        .fetched = atomic_load_explicit(&file->fetched, memory_order_relaxed),
         .file_bytes = is_known ? (uint64_t)known.st_size : 0,
+        .begin = FIRST_ADDRESS,
+        .head = offsets.head,
+        .flushed = offsets.flushed,
+        .read_only = offsets.read_only,
+        .tail = offsets.tail,
+        .overflow = offsets.overflow,
         .stopped = atomic_load(&file->ends),
     };
     pthread_mutex_unlock(&file->lock);

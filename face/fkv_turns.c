@@ -106,8 +106,11 @@ static void note_call(struct turn *turn, int32_t call) {
 
 /* Makes a call that a turn has posted. 0, or -1 where it has failed, with errno. */
 static int make_call(fkv_file *file, int32_t call, const fkv_turned *turned, uint8_t into[FKV_READ_SIZE]) {
-    if (call == FKV_READ && fkv_read_mapped(file, turned->place, into)) return 0;
-    return fkv_call_file(file->fd, call, turned, into);
+    if (call != FKV_READ) return fkv_call_file(file->fd, call, turned, into);
+    struct timespec begun = fkv_now();
+    int failed = fkv_read_mapped(file, turned->place, into) ? 0 : fkv_call_file(file->fd, call, turned, into);
+    fkv_note_read(file, begun);
+    return failed;
 }
 
 int32_t fkv_make_turn(fkv_file *file, struct turn *turn, tell_turn_fn *tell, void *user) {

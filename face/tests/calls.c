@@ -1,4 +1,4 @@
-/* The calls of fkv.h over a device in memory: each once, many keys, what they refuse, a crash at each call of a commit, and renewals. */
+/* The calls of fkv.h over a device in memory: each once, many keys, hints, what they refuse, a crash at each call of a commit, and renewals. */
 #include "device.h"
 
 enum { SESSIONS = 2, KEYS = 100, MOST_TURNS = 1000 };
@@ -400,6 +400,60 @@ static void many(uint32_t keys_lie) {
 }
 
 /* What openings and handles refuse. */
+static void wants_offsets(const fkv_offsets *its, uint64_t tail) {
+    WANTS("the tail", its->tail, tail);
+    WANTS("whether the first offsets are in order", its->closed <= its->head && its->head <= its->flushed, true);
+    WANTS("whether the next are", its->flushed <= its->safe_read_only && its->safe_read_only <= its->read_only, true);
+    WANTS("whether the tail is the last", its->read_only <= its->tail, true);
+}
+
+/* Hints of a session that has made no call, that sleeps, and that is ended. The key of each record is told as the caller knows it. */
+static void hints(uint32_t keys_lie) {
+    enum { RECORDS = 20 };
+    fkv_offsets its;
+    fkv_update told;
+    fkv_seen seen;
+    uint64_t keys[RECORDS + 2] = {0};
+    begin_device(&device, &SHAPE);
+    struct opened it = open_bytes(device.now, device.size, keys_lie);
+    fkv_session *session = &it.sessions[0], *other = &it.sessions[1];
+    WANTS("offsets of a new store", fkv_hint_store(&it.store, &its), 0);
+    wants_offsets(&its, 1);
+    WANTS("its overflow buckets", its.overflow, 0);
+    WANTS("where no key leads", fkv_hint_where(session, 5), 0);
+    WANTS("keys of no records", fkv_hint_keys(session, 1, keys, RECORDS), 0);
+    for (uint64_t key = 0; key < RECORDS; key++) {
+        WANTS("an upsert", fkv_upsert(session, key * 1000, key, &told), FKV_DONE);
+        WANTS("where its key leads", fkv_hint_where(other, key * 1000), key + 1);
+    }
+    WANTS("an upsert in place", fkv_upsert(session, 3000, 9, &told), FKV_DONE);
+    WANTS("where its key leads", fkv_hint_where(session, 3000), 4);
+    WANTS("offsets", fkv_hint_offsets(session, &its), 0);
+    wants_offsets(&its, RECORDS + 1);
+    WANTS("keys from the third record on", fkv_hint_keys(session, 3, keys, RECORDS + 2), RECORDS - 2);
+    for (uint64_t i = 0; i < RECORDS - 2; i++) WANTS("one of them", keys[i], (i + 2) * 1000);
+    WANTS("what lies behind them", keys[RECORDS - 2], 0);
+    WANTS("keys in less room", fkv_hint_keys(session, 1, keys, 2), 2);
+    WANTS("no room", fkv_hint_keys(session, 1, keys, 0), 0);
+    WANTS("keys before the first record", fkv_hint_keys(session, 0, keys, RECORDS), 0);
+    WANTS("keys behind the last one", fkv_hint_keys(session, RECORDS + 1, keys, RECORDS), 0);
+    WANTS("keys far behind it", fkv_hint_keys(session, UINT64_MAX, keys, RECORDS), 0);
+    WANTS("sleeping", fkv_sleep(other), 0);
+    WANTS("where a key leads", fkv_hint_where(other, 3000), 4);
+    WANTS("waking", fkv_wake(other, &seen), 0);
+    settle(&it);
+    for (int i = 0; i < SESSIONS; i++) WANTS("ending a session", fkv_end_session(&it.sessions[i]), 0);
+    WANTS("offsets of an ended session", fkv_hint_offsets(session, &its), -FKV_NO_SESSION);
+    WANTS("where it says that a key leads", fkv_hint_where(session, 3000), 0);
+    WANTS("the keys that it tells", fkv_hint_keys(session, 1, keys, RECORDS), 0);
+    fkv_end_keeper(&it.keeper);
+    WANTS("closing", fkv_close(&it.store), 0);
+    WANTS("offsets of a closed store", fkv_hint_store(&it.store, &its), -FKV_BROKEN);
+    for (int i = 0; i < SESSIONS; i++) fkv_free_session(it.sessions[i]);
+    fkv_free_keeper(it.keeper);
+    fkv_free_store(it.store);
+}
+
 static void refusals(void) {
     fkv_shape bad = SHAPE, shape;
     fkv_opened told;
@@ -590,6 +644,8 @@ int main(void) {
     refusals();
     many(FKV_SPREAD);
     many(FKV_SPREAD_ALREADY);
+    hints(FKV_SPREAD);
+    hints(FKV_SPREAD_ALREADY);
     reopening(FKV_SPREAD);
     reopening(FKV_SPREAD_ALREADY);
     renewing();

@@ -1,16 +1,19 @@
 /*
  * Reads of what only the file has: cold FOLDER. A store that is mapped reads them by the mapping, also where the file has grown, and where
- * the store was renewed.
+ * the store was renewed. Of a slow disk, who reads many keys asks for them ahead.
  */
 #define _GNU_SOURCE
 #include "fkv_posix.h"
 #include "tests.h"
 
+#include <fcntl.h>
+#include <stdatomic.h>
 #include <stdbool.h>
 #include <sys/syscall.h>
+#include <time.h>
 #include <unistd.h>
 
-enum { KEYS = 600, ROUND = 50000, ROUNDS = 18, LATE = 50, MOST_SECONDS = 240, PATH_ROOM = 500 };
+enum { KEYS = 600, ROUND = 50000, ROUNDS = 18, LATE = 50, MOST_SECONDS = 240, PATH_ROOM = 500, SLOW_NS = 50000, MOST_ASKED = 10000 };
 
 /* Memory has fewer records than a round of keys, so each put of a round appends one. */
 static const fkv_shape SHAPE = {13, 8192, 4, 2, 2, 8192, 4096};
@@ -18,10 +21,31 @@ static const char *folder;
 static fkv_file *file;
 static fkv_session *session;
 static long records_read;
+/* Whether the disk is slow; the places that it was asked for; and records that were read there and not asked for before. */
+static atomic_bool is_slow;
+static off_t asked[MOST_ASKED];
+static atomic_int asked_count, unasked;
 
 /* The library's calls come here, before those of the C library. */
+int posix_fadvise(int fd, off_t place, off_t length, int advice) {
+    WANTS("the advice", advice, POSIX_FADV_WILLNEED);
+    WANTS("the length", length, FKV_READ_SIZE);
+    WANTS("whether there is room", asked_count < MOST_ASKED, true);
+    asked[asked_count] = place;
+    asked_count++;
+    return (int)syscall(SYS_fadvise64, fd, place, length, advice);
+}
+
+static void read_slowly(off_t place) {
+    int i = 0;
+    while (i < asked_count && asked[i] != place) i++;
+    unasked += i == asked_count;
+    nanosleep(&(struct timespec){0, SLOW_NS}, NULL);
+}
+
 ssize_t pread(int fd, void *into, size_t length, off_t place) {
     records_read += length == FKV_READ_SIZE;
+    if (length == FKV_READ_SIZE && is_slow) read_slowly(place);
     return (ssize_t)syscall(SYS_pread64, fd, into, length, place);
 }
 
@@ -104,10 +128,32 @@ static void mapped(void) {
     close_store();
 }
 
+/* Two reads have to wait for the disk. All later ones are of what was asked for. */
+static void ahead(void) {
+    fkv_stats stats;
+    make("ahead");
+    put_rounds(1);
+    asked_count = unasked = 0;
+    is_slow = true;
+    wants_all();
+    is_slow = false;
+    WANTS("how it fares", fkv_stats_of(file, &stats), 0);
+    WANTS("whether what memory has let go was asked for", asked_count >= KEYS - 2, true);
+    WANTS("what was asked for", stats.fetched, asked_count);
+    WANTS("whether two alone were read unasked", unasked <= 2, true);
+    WANTS("where the log begins", stats.begin, 1);
+    WANTS("where it ends", stats.tail, 1 + KEYS + ROUND);
+    WANTS("whether records have left memory", stats.head > KEYS && stats.head <= stats.flushed, true);
+    WANTS("whether the others lie in their order", stats.flushed <= stats.read_only && stats.read_only <= stats.tail, true);
+    WANTS("overflow buckets", stats.overflow <= SHAPE.overflow, true);
+    close_store();
+}
+
 int main(int count, char **words) {
     if (count != 2) return 2;
     folder = words[1];
     alarm(MOST_SECONDS);
     mapped();
+    ahead();
     return 0;
 }

@@ -70,6 +70,7 @@ static void use_store(const std::string &path) {
         session = std::move(moved);
         WANT(session.read(8) == 3u);
         std::thread([its = std::move(session)]() mutable { its.increment(8); }).join();
+        WANT(store.stats().begin == 1 && store.stats().head <= store.stats().tail);
         WANT(store.stats().joined == 0 && refused([&] { store.close(); }).fault() == FKV_HANDLE_OUT);
     }
     store.commit();

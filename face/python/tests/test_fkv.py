@@ -147,6 +147,10 @@ class Keys(OverFile):
             self.assertEqual([session[key] for key in range(1000)], values)
             self.assertGreater(store.stats.cold_reads, 0)
             self.assertGreater(store.stats.waited[0], 0)
+            its = store.stats
+            self.assertEqual(its.begin, 1)
+            self.assertTrue(1 < its.head <= its.flushed <= its.read_only <= its.tail)
+            self.assertLessEqual(its.overflow, shape.overflow)
 
 
 class Stores(OverFile):

@@ -4,7 +4,7 @@ use crate::raw;
 use crate::store::Store;
 use std::time::Duration;
 
-/// How a store fares since its opening, as far as it is seen from outside of the engine.
+/// How a store fares since its opening.
 #[derive(Clone, Copy, Debug, PartialEq, Eq)]
 pub struct Stats {
     /// The number of the last finished commit.
@@ -30,8 +30,22 @@ pub struct Stats {
     pub helped: u64,
     /// Records that were read back from the file.
     pub cold_reads: u64,
+    /// Records that the system was asked for ahead of their reads, by [`Session::read_many`](crate::Session::read_many).
+    pub fetched: u64,
     /// Bytes of the file.
     pub file_bytes: u64,
+    /// The address of the log's first record, which is 1. Records have addresses in the order in which they were made.
+    pub begin: u64,
+    /// Records below this address are read from the file.
+    pub head: u64,
+    /// Records below it are in the file, and synced.
+    pub flushed: u64,
+    /// Records below it aren't updated in place.
+    pub read_only: u64,
+    /// The next record's address.
+    pub tail: u64,
+    /// Overflow buckets of the index that are taken, of the shape's `overflow`.
+    pub overflow: u64,
     /// The number of the fault for which no commit is finished any more; 0 while commits go on.
     pub stopped: i32,
     /// Calls that had to wait: updates by the number of their first [`Reason`](crate::Reason) in C, and reads at 0.
@@ -56,7 +70,14 @@ impl Store {
             turns: its.turns,
             helped: its.helped,
             cold_reads: its.cold_reads,
+            fetched: its.fetched,
             file_bytes: its.file_bytes,
+            begin: its.begin,
+            head: its.head,
+            flushed: its.flushed,
+            read_only: its.read_only,
+            tail: its.tail,
+            overflow: its.overflow,
             stopped: -its.stopped,
             waited: its.waited,
         })

@@ -236,7 +236,11 @@ fn what_is_done_is_kept_as_the_keeper_is_dropped() {
     } = stats;
     assert_eq!((joined, stopped), (1, 0));
     assert!(stats.in_hand.is_none() && stats.commit_time.is_none());
+    assert_eq!((stats.begin, stats.tail, stats.flushed), (1, 1001, 1001));
+    assert!(stats.begin <= stats.head && stats.head <= stats.flushed);
+    assert!(stats.flushed <= stats.read_only && stats.read_only <= stats.tail);
     session.put(7, 1).unwrap();
+    assert_eq!(store.stats().unwrap().tail, 1002);
     // A session is out, so no last commit waits for it.
     drop(keeper);
     drop((session, store));

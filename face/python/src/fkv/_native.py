@@ -71,7 +71,7 @@ class CKeeping(Structure):
 
 
 STATS = ("commits", "commits_left", "commit_us", "commit_bytes", "in_hand_us", "late", "joined", "abandoned", "turns", "helped", "cold_reads",
-         "file_bytes")
+         "fetched", "file_bytes", "begin", "head", "flushed", "read_only", "tail", "overflow")
 REASONS = 7
 
 

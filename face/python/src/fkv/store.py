@@ -74,7 +74,14 @@ class Stats:
     turns: int
     helped: int
     cold_reads: int
+    fetched: int
     file_bytes: int
+    begin: int
+    head: int
+    flushed: int
+    read_only: int
+    tail: int
+    overflow: int
     stopped: Optional[Fault]  # why no commit is finished any more
     waited: tuple[int, ...]  # calls that had to wait: updates by their first reason, reads at 0
 
