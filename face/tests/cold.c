@@ -7,6 +7,7 @@
 #include "tests.h"
 
 #include <fcntl.h>
+#include <pthread.h>
 #include <stdatomic.h>
 #include <stdbool.h>
 #include <sys/syscall.h>
@@ -23,23 +24,27 @@ static fkv_session *session;
 static long records_read;
 /* Whether the disk is slow; the places that it was asked for; and records that were read there and not asked for before. */
 static atomic_bool is_slow;
+static pthread_mutex_t lock = PTHREAD_MUTEX_INITIALIZER;
 static off_t asked[MOST_ASKED];
-static atomic_int asked_count, unasked;
+static int asked_count, unasked;
 
 /* The library's calls come here, before those of the C library. */
 int posix_fadvise(int fd, off_t place, off_t length, int advice) {
     WANTS("the advice", advice, POSIX_FADV_WILLNEED);
     WANTS("the length", length, FKV_READ_SIZE);
+    pthread_mutex_lock(&lock);
     WANTS("whether there is room", asked_count < MOST_ASKED, true);
-    asked[asked_count] = place;
-    asked_count++;
+    asked[asked_count++] = place;
+    pthread_mutex_unlock(&lock);
     return (int)syscall(SYS_fadvise64, fd, place, length, advice);
 }
 
 static void read_slowly(off_t place) {
     int i = 0;
+    pthread_mutex_lock(&lock);
     while (i < asked_count && asked[i] != place) i++;
     unasked += i == asked_count;
+    pthread_mutex_unlock(&lock);
     nanosleep(&(struct timespec){0, SLOW_NS}, NULL);
 }
 
@@ -78,17 +83,19 @@ static void make(const char *name) {
     for (uint64_t key = 0; key < KEYS; key++) put(key, key + 1);
 }
 
-static void wants_all(void) {
+static void wants_all_of(fkv_session *its) {
     uint64_t keys[KEYS + 1];
     fkv_each_read told[KEYS + 1];
     for (uint64_t i = 0; i <= KEYS; i++) keys[i] = i;
-    WANTS("reads", fkv_read_many(file, session, keys, KEYS + 1, told, KEYS + 1), 0);
+    WANTS("reads", fkv_read_many(file, its, keys, KEYS + 1, told, KEYS + 1), 0);
     for (uint64_t i = 0; i < KEYS; i++) {
         WANTS("one of many", told[i].result, FKV_FOUND);
         WANTS("its value", told[i].value, i + 1);
     }
     WANTS("a key that was never put", told[KEYS].result, FKV_NONE);
 }
+
+static void wants_all(void) { wants_all_of(session); }
 
 static void wants_value(uint64_t key, uint64_t wanted) {
     uint64_t value = 0;
@@ -146,6 +153,28 @@ static void ahead(void) {
     WANTS("whether records have left memory", stats.head > KEYS && stats.head <= stats.flushed, true);
     WANTS("whether the others lie in their order", stats.flushed <= stats.read_only && stats.read_only <= stats.tail, true);
     WANTS("overflow buckets", stats.overflow <= SHAPE.overflow, true);
+}
+
+static void *reads_all(void *its) {
+    wants_all_of(its);
+    return NULL;
+}
+
+/* Two threads read many, and ask for what they read. */
+static void ahead_by_two(void) {
+    fkv_session *other;
+    fkv_stats stats;
+    pthread_t thread;
+    WANTS("joining", fkv_join(file, 1, &other), 0);
+    is_slow = true;
+    WANTS("starting a thread", pthread_create(&thread, NULL, reads_all, other), 0);
+    wants_all();
+    pthread_join(thread, NULL);
+    is_slow = false;
+    WANTS("how it fares", fkv_stats_of(file, &stats), 0);
+    WANTS("whether each has asked", asked_count >= 3 * KEYS - 4, true);
+    WANTS("what was asked for", stats.fetched, asked_count);
+    WANTS("leaving", fkv_leave(file, other), 0);
     close_store();
 }
 
@@ -155,5 +184,6 @@ int main(int count, char **words) {
     alarm(MOST_SECONDS);
     mapped();
     ahead();
+    ahead_by_two();
     return 0;
 }
