@@ -12,7 +12,7 @@
 enum { FEW = 400, MANY = 3000, ASKED = 50, SURE = 800, MOST_SECONDS = 240, PATH_ROOM = 500 };
 
 /* Memory has 1,024 records. An opening leaves two pages of them for new ones at most. */
-static const fkv_shape SHAPE = {8, 64, 16, 8, 1, 256, 4096};
+static const fkv_shape SHAPE = {9, 64, 16, 8, 1, 1024, 4096};
 static const char *folder;
 static fkv_file *file;
 static fkv_session *session;
