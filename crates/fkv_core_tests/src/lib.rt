@@ -19,5 +19,3 @@ mod million;
 mod stopped_calls;
 #[cfg(test)]
 mod stores;
-#[cfg(test)]
-mod warm;

@@ -3,6 +3,4 @@
 #![tactic(auto)]
 
 #[cfg(test)]
-mod hints;
-#[cfg(test)]
 mod one_thread;
