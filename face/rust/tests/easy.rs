@@ -1,7 +1,7 @@
 //! The calls that just work: a session's own order beside commits, a tick that says why commits end, sizes for a wish, a keeper that keeps
 //! what was done.
 use fkv::{
-    Error, Keeping, Made, Merge, RenewedKeys, Shape, Stats, Store, Update, Wish, Work, renew_file,
+    Error, How, Keeping, Made, Merge, RenewedKeys, Shape, Stats, Store, Update, Wish, Work, renew_file,
 };
 use std::io::ErrorKind;
 use std::path::PathBuf;
@@ -217,7 +217,7 @@ fn what_is_done_is_kept_as_the_keeper_is_dropped() {
         session.tick().unwrap();
     }
     drop((session, keeper, store));
-    let store = path.store(0);
+    let store = Store::open_with(&path.0, How::default().warm(0)).unwrap();
     assert_eq!(store.last_commit().number, 1);
     let keeper = store.start(Keeping::default()).unwrap();
     let mut session = store.join_any().unwrap();
