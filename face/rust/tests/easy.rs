@@ -1,7 +1,8 @@
 //! The calls that just work: a session's own order beside commits, a tick that says why commits end, sizes for a wish, a keeper that keeps
 //! what was done.
 use fkv::{
-    Error, How, Keeping, Made, Merge, RenewedKeys, Shape, Stats, Store, Update, Wish, Work, renew_file,
+    Error, How, Keeping, Made, Merge, RenewedKeys, Shape, Stats, Store, Update, Wish, Work,
+    renew_file,
 };
 use std::io::ErrorKind;
 use std::path::PathBuf;
