@@ -51,14 +51,23 @@ def opened(path):
     return int(words[2]), [int(it) for it in words[4:at]], {int(key): int(value) for _, key, value in map(str.split, others)}
 
 
+def wiped(commits):
+    """What is said where a store is made over one of so many commits."""
+    if commits == 0:
+        return ""
+    return f"fkv: the file held a store of {commits} commit{'s' if commits > 1 else ''}, which the new store has wiped\n"
+
+
 def reopened(folder):
-    """How many runs there are; it ends the program where one goes wrong."""
+    """How many runs there are, each over the file of the one before; it ends the program where one goes wrong."""
     path = os.path.join(os.path.realpath(folder), "threads")
+    before = 0
     for shape, lines, commits in SCRIPTS:
         name = f"threads over a file, {shape}, {len(lines)} lines"
         count = len({it.split()[2] for it in lines if " add " in it})
         told = f"commit {commits}\npoints agree\nkeys agree {count}\n"
-        need(name, run_of(path, "\n".join([shape, *lines, ""]), "--threads"), (0, told, ""))
+        need(name, run_of(path, "\n".join([shape, *lines, ""]), "--threads"), (0, told, wiped(before)))
+        before = commits
         number, points, pairs = opened(path)
         need(f"{name}: the commit in the file", number, commits)
         need(f"{name}: the pairs in the file", pairs, sums(lines, points))
