@@ -13,7 +13,7 @@
 # make rows    runs the built program on whole scripts, and compares what it writes
 # make renewing   renews stored files by that program, and compares what fkv says of the old and of the new ones
 # make memory  runs stored scripts, a store's creation and its opening, a commit's copy and the options' words, with each request for memory refused in turn
-# make large   plays scripts of 2^20 keys over a large store, in a file and in memory, and compares with a plain map
+# make large   plays scripts of 2^20 keys over a living store of large sizes, in a file and in memory, and compares with a plain map
 # make bench   times the proved program on scripts of up to 65,536 lines, and recovery of images of up to 2^20 records
 # make bench-peers  plays the same calls over the library of `make face` and over other maps and stores, and writes docs/BENCH.md with
 #              pictures, in twenty-five minutes; with QUICK=1 fewer of them, in a minute

@@ -55,8 +55,8 @@ const char *fkv_version(void);
 
 /*
  * The formats of files that this library opens, with a blank between two: "FKVSTOR1 FKVSTOR2". A store's file begins with the name of
- * its format, 8 bytes. The first is of small stores, and the second of large ones. Of each, all three kinds of commits' slots are read.
- * Any other file is FKV_NOT_A_STORE. Never NULL.
+ * its format, 8 bytes. The first is of specified stores, and the second of living ones, which alone this library makes. Of each, all
+ * three kinds of commits' slots are read. Any other file is FKV_NOT_A_STORE. Never NULL.
  */
 const char *fkv_formats(void);
 
@@ -83,19 +83,19 @@ typedef struct { void *at; } fkv_session;
 typedef struct { void *at; } fkv_keeper;
 
 /*
- * How large a store is. A store is small or large. It is small if no size is above the first limit, and large otherwise.
+ * How large a store is. This library makes living stores. It opens specified ones too, of which some sizes have lower limits.
  *
  * After a commit each key's first update appends a record. One page past the last record's is opened ahead, and no more. If a page
  * holds as many records as keys are updated during a commit, an update seldom waits for room (FKV_NO_ROOM).
  */
 typedef struct {
-    uint64_t bucket_bits;   /* the index has 2^bucket_bits buckets of seven entries: 0 to 10, of a large store to 24 */
-    uint64_t page;          /* records in a page: a power of two from 4 to 1,024, of a large store to 65,536 */
-    uint64_t frames;        /* pages in memory: a power of two from 2 to 64, of a large store to 4,096 */
+    uint64_t bucket_bits;   /* the index has 2^bucket_bits buckets of seven entries: 0 to 24, of a specified store to 10 */
+    uint64_t page;          /* records in a page: a power of two from 4 to 65,536, of a specified store to 1,024 */
+    uint64_t frames;        /* pages in memory: a power of two from 2 to 4,096, of a specified store to 64 */
     uint64_t mutable_pages; /* pages whose records are updated in place: 1 to frames - 1 */
     uint64_t sessions;      /* 1 to 32 */
-    uint64_t overflow;      /* buckets that full ones overflow to: 0 to 1,024, of a large store to 2^24 */
-    uint64_t disk_pages;    /* pages that the log may have in the file: 1 to 65,536, of a large store to 2^30 */
+    uint64_t overflow;      /* buckets that full ones overflow to: 0 to 2^24, of a specified store to 1,024 */
+    uint64_t disk_pages;    /* pages that the log may have in the file: 1 to 2^30, of a specified store to 65,536 */
 } fkv_shape;
 
 /* What an opening found. */
@@ -252,7 +252,7 @@ const char *fkv_text_of(int32_t result);
 /* ---- The store ------------------------------------------------------------------------------------------------------------ */
 
 /*
- * Writes a new store's file of this shape, FKV_IMAGE_SIZE bytes. The caller puts them into a file, syncs it and its folder.
+ * Writes a new living store's file of this shape, FKV_IMAGE_SIZE bytes. The caller puts them into a file, syncs it and its folder.
  * 0; -FKV_BAD_SHAPE, -FKV_MEMORY, -FKV_ROOM_SMALL.
  */
 int32_t fkv_image(const fkv_shape *shape, uint8_t *into, size_t room);
@@ -306,7 +306,8 @@ static inline void fkv_free_store(fkv_store store) { free(store.at); }
  * spent. `bytes` are all `size` bytes of the old store's file, synced, and no store need be open. Nothing is kept after the call.
  * fkv_renew of the repository is a program that does so from file to file.
  *
- * `*shape` has the new store's sizes. A shape whose sizes are all 0 stands for the old store's own.
+ * `*shape` has the sizes of the new store, which is a living one then. If its sizes are all 0, the new store has the old one's sizes and
+ * class.
  *
  * `keys` says how keys come to lie. With FKV_AS_THEY_LIE the new store is opened as the old one. FKV_SPREAD_NOW is for an old store of
  * FKV_SPREAD_ALREADY: each key is spread, and the new store is opened with FKV_SPREAD from then on. Nothing tells whether keys lie

@@ -94,7 +94,7 @@ int32_t fkv_size_of(const fkv_shape *shape, fkv_size *size);
 /* ---- The file ------------------------------------------------------------------------------------------------------------- */
 
 /*
- * Makes the file of a new store of this shape. It is written under another name in the same folder, synced, and put in place by a
+ * Makes the file of a new living store of this shape. It is written under another name in the same folder, synced, and put in place by a
  * rename that replaces nothing; then the folder is synced. So a crash leaves the whole file or none of this name. It may leave one of
  * another name, `path` with ".new" and eight digits, which no store needs. The file isn't open after the call.
  * 0; -FKV_BAD_SHAPE, -FKV_MEMORY, -FKV_DEVICE (errno EEXIST: there is a file of this name, and it stays as it is). If the folder's
@@ -173,7 +173,7 @@ int32_t fkv_each(fkv_file *file, fkv_pair_fn *each, void *user);
 
 /*
  * Renews the store of the old file in a new one, as fkv_renew does, and puts that in place as fkv_make_file does. The old one is locked
- * meanwhile, and stays as it is. `shape` is NULL or all zeros for its own; `renewed` may be NULL.
+ * meanwhile, and stays as it is. `shape` is NULL or all zeros for its own sizes and class; `renewed` may be NULL.
  * The refusals are those of fkv_renew but -FKV_ROOM_SMALL; -FKV_DEVICE (errno EWOULDBLOCK: the old store is open; EEXIST: there is a file
  * of the new name).
  */

@@ -353,7 +353,7 @@ static void refused_call(void) {
     fkv_turned turned = {.place = 0, .length = FKV_READ_SIZE};
     int fd = open(path_of("own_turns"), O_RDONLY);
     WANTS("a read", fkv_call_file(fd, FKV_READ, &turned, into), 0);
-    WANTS("what it has read", memcmp(into, "FKVSTOR1", 8), 0);
+    WANTS("what it has read", memcmp(into, "FKVSTOR2", 8), 0);
     close(fd);
     errno = 0;
     WANTS("a read of a closed descriptor", fkv_call_file(fd, FKV_READ, &turned, into), -1);

@@ -1,4 +1,5 @@
-/* The library's version and the formats that it opens, which it prints: a store of each is made and opened, and any other refused. */
+/* The library's version and the formats that it opens, which it prints: it makes stores of the second, opens those of both, and refuses any
+   other. */
 #include "fkv.h"
 #include "tests.h"
 
@@ -21,17 +22,36 @@ static int32_t open_image(const uint8_t *image) {
     return 0;
 }
 
-/* A store of this shape has this format, and opens. With another text it doesn't. */
-static void opens(const fkv_shape *shape, const char *format) {
+/* A new store of this shape has the second format, and opens. With the first one's text it is a specified store, which has small sizes alone. With
+   another text it doesn't open. */
+static void opens(const fkv_shape *shape, const char *formats, int32_t as_specified) {
+    const char *specified = formats, *living = formats + TEXT + 1;
     uint8_t image[FKV_IMAGE_SIZE];
     WANTS("an image", fkv_image(shape, image, sizeof image), 0);
-    WANTS("its text", memcmp(image, format, TEXT), 0);
+    WANTS("its text", memcmp(image, living, TEXT), 0);
     WANTS("opening it", open_image(image), 0);
+    memcpy(image, specified, TEXT);
+    WANTS("opening it as a specified store", open_image(image), as_specified);
+    memcpy(image, living, TEXT);
     for (size_t i = 0; i < TEXT; i++) {
         image[i] ^= 4;
         WANTS("opening another format", open_image(image), -FKV_NOT_A_STORE);
         image[i] ^= 4;
     }
+}
+
+/* A specified store is renewed: without sizes it keeps its class, and with its own sizes it becomes a living one. */
+static void renews(const char *formats) {
+    static const fkv_shape own;
+    const char *specified = formats, *living = formats + TEXT + 1;
+    uint8_t image[FKV_IMAGE_SIZE], renewed[8 * FKV_IMAGE_SIZE];
+    fkv_renewed told;
+    WANTS("an image", fkv_image(&SMALL, image, sizeof image), 0);
+    memcpy(image, specified, TEXT);
+    WANTS("renewing it as it is", fkv_renew(image, sizeof image, &own, FKV_AS_THEY_LIE, &told, renewed, sizeof renewed), 0);
+    WANTS("its text", memcmp(renewed, specified, TEXT), 0);
+    WANTS("renewing it with sizes", fkv_renew(image, sizeof image, &SMALL, FKV_AS_THEY_LIE, &told, renewed, sizeof renewed), 0);
+    WANTS("its text then", memcmp(renewed, living, TEXT), 0);
 }
 
 int main(void) {
@@ -41,8 +61,9 @@ int main(void) {
     WANTS("whether the version begins with its numbers", strncmp(version, numbers, strlen(numbers)), 0);
     WANTS("the length of two formats", strlen(formats), 2 * TEXT + 1);
     WANTS("what parts them", formats[TEXT], ' ');
-    opens(&SMALL, formats);
-    opens(&LARGE, formats + TEXT + 1);
+    opens(&SMALL, formats, 0);
+    opens(&LARGE, formats, -FKV_NOT_A_STORE);
+    renews(formats);
     printf("%s\n%s\n", version, formats);
     return 0;
 }

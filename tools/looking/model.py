@@ -142,7 +142,7 @@ def lines_of(value):
     if shape is None:
         yield "no shape"
     else:
-        yield ("shape" if shape["small"] else "large") + words(shape[size] for size in sizes)
+        yield ("shape" if shape["specified"] else "large") + words(shape[size] for size in sizes)
     for index, slot in enumerate(value["slots"]):
         yield f"slot {index} {slot_words(slot)}"
     yield "no slot is in force" if value["in_force"] is None else f"slot {value['in_force']} is in force"

@@ -5,7 +5,7 @@ from xml.etree import ElementTree
 
 from model import buckets_by_entries, class_of, entries_by_bucket
 from samples import FIRST, INVALID, Commit, Sample, spelled
-from slow_opening import LARGE_TEXT, Log, newest, shape_of, slot_of
+from slow_opening import LIVING_TEXT, Log, newest, shape_of, slot_of
 
 MOST_BARS = 112
 MOST_SQUARES = 1024
@@ -74,7 +74,7 @@ class LargeSample(Sample):
         return (12, 4, 4, 2, 1, 100, 400)
 
     def image(self):
-        return spelled(LARGE_TEXT) + super().image()[8:]
+        return spelled(LIVING_TEXT) + super().image()[8:]
 
 
 # more pages and more buckets than there are bars and squares; each seventh record is invalid

@@ -2,7 +2,7 @@
 import random
 from dataclasses import dataclass, replace
 
-from slow_opening import ABSENT, OPEN, PLACES, TEXT, most_triples
+from slow_opening import ABSENT, OPEN, PLACES, SPECIFIED_TEXT, most_triples
 
 FIRST = 1 << 48  # the header of a record of version 1
 SECOND = 2 << 48
@@ -67,7 +67,7 @@ class Sample:
         def put(at, part):
             image[at : at + len(part)] = part
 
-        put(0, spelled(TEXT, *self.shape()))
+        put(0, spelled(SPECIFIED_TEXT, *self.shape()))
         for commit in self.commits:
             put(commit.place(), commit.slot())
             triples = [spelled(bucket | tag << 32, address) for bucket, tag, address in commit.triples]

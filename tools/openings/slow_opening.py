@@ -3,8 +3,9 @@ MAX_SESSIONS = 32
 LAST_VERSION = 8191
 LAST_SERIAL = 2**48 - 1
 MAX_LOST = 8
-TEXT = int.from_bytes(b"FKVSTOR1", "little")
-LARGE_TEXT = int.from_bytes(b"FKVSTOR2", "little")
+# what bucket bits, page, frames, overflow buckets and disk pages are at most, by the text that begins the image
+SPECIFIED_TEXT, LIVING_TEXT = (int.from_bytes(text, "little") for text in (b"FKVSTOR1", b"FKVSTOR2"))
+MOST = {SPECIFIED_TEXT: (10, 1024, 64, 1024, 65536), LIVING_TEXT: (24, 65536, 4096, 2**24, 2**30)}
 OPEN = 0xA5
 INVALID = 62
 ABSENT = 2**64 - 1
@@ -73,10 +74,8 @@ def shape_of(image):
     if not (is_open(image, 0) or is_open(image, 1)):
         return None
     shape = tuple(number_at(image, 8 + 8 * size) for size in range(7))
-    small = fits(shape, (10, 1024, 64, 1024, 65536))
-    large = fits(shape, (24, 65536, 4096, 2**24, 2**30)) and not small
     text = number_at(image, 0)
-    return shape if (text == TEXT and small) or (text == LARGE_TEXT and large) else None
+    return shape if text in MOST and fits(shape, MOST[text]) else None
 
 
 def newest(image):

@@ -163,12 +163,13 @@ LAST_CHANGED = """
     520=0 521=32: Manifest 0
 """
 
-# the block: a size outside its limits is no store's; with the most buckets, or overflow buckets, the areas lie elsewhere
+# the block: a size outside the limits of its text is no store's, and the living text takes small sizes too; with the most buckets, or
+# overflow buckets, the areas lie elsewhere
 BLOCK_CHANGED = """
-    7=50: NotAStore
+    7=50: commit 1 tail 2 points 1, checkpoint 1 from 2 triples 1 area 1, lost, entries 1.0:1, pairs 1=10
     7=51: NotAStore
     7=51 8=11: NotAStore
-    7=50 8=10: NotAStore
+    7=50 8=10: Triple 0
     7=50 8=11: Triple 0
     7=50 8=25: NotAStore
     7=50 16=0 17=8: commit 1 tail 2 points 1, checkpoint 1 from 2 triples 1 area 1, lost, entries 1.0:1, pairs 1=10
@@ -177,7 +178,7 @@ BLOCK_CHANGED = """
     7=50 24=0 25=32: NotAStore
     7=50 48=1 49=4: Triple 0
     7=50 56=1 58=1: commit 1 tail 2 points 1, checkpoint 1 from 2 triples 1 area 1, lost, entries 1.0:1, pairs 1=10
-    7=50 56=0 58=1: NotAStore
+    7=50 56=0 58=1: commit 1 tail 2 points 1, checkpoint 1 from 2 triples 1 area 1, lost, entries 1.0:1, pairs 1=10
     7=50 56=1 59=64: NotAStore
     8=11: NotAStore
     8=10: Triple 0

@@ -6,6 +6,8 @@ from tables import rows
 # of the images with bytes changed one in so many
 EACH = 16
 LAST = 8190
+# the text of a new store, by the word in front of its sizes
+TEXTS = {"--shape": b"FKVSTOR1", "--large": b"FKVSTOR2"}
 
 
 def sizes_of(image):
@@ -63,6 +65,7 @@ def renews(folder, name, image, answer, words=(), is_spread=False):
     more = ["0"] * (new[4] - len(points))
     laid = sorted((spread(key), value) for key, value in pairs) if is_spread else pairs
     need(f"{name}: the new store", played(pair.new, "open\n"), (0, opened(1, points[: new[4]] + more, laid)))
+    need(f"{name}: its text", held(pair.new)[:8], TEXTS[words[0]] if words else image[:8])
 
 
 def refuses(folder, name, image):
@@ -86,17 +89,16 @@ def agrees(folder, name, image):
     need(f"{name}: the new store", played(pair.new, "open\n"), (0, [" ".join([*words[:2], "1", *words[3:]]), *lines[1:]]))
 
 
-def made_large(folder):
-    """A large store, as a script makes it: its image, and what is told of it."""
+def made_living(folder):
+    """A living store of large sizes, as a script makes it: its image, and what is told of it."""
     pair = Pair(folder)
     updates = [f"{key % 2} up {key * 4096} {key + 7}" for key in range(40)]
     # a turn behind each quarter of a page, so that no update waits for room
     lines = [line for key, update in enumerate(updates) for line in (update, "k turn")[: 2 if key % 4 == 3 else 1]]
     script = ["large 12 16 4 2 2 8 64", *lines, "0 del 0", "k commit", "k finish"]
-    need("a large store", played(pair.old, "\n".join(script) + "\n")[1][-1], "k finished 1 points 21 20")
-    with open(pair.old, "rb") as file:
-        image = file.read()
-    need("a large store's text", image[:8], b"FKVSTOR2")
+    need("a living store", played(pair.old, "\n".join(script) + "\n")[1][-1], "k finished 1 points 21 20")
+    image = held(pair.old)
+    need("a living store's text", image[:8], b"FKVSTOR2")
     # where the slot of commit 1 says that the log ends
     tail = int.from_bytes(image[1024 + 24 : 1024 + 32], "little")
     pairs = " ".join(f"{key * 4096}={key + 7}" for key in range(1, 40))
@@ -120,14 +122,16 @@ def renewed(folder):
 def to_other_sizes(folder):
     """Stores of both classes, to sizes of both."""
     answers = {name: answer for name, _, answer in TABLE}
-    large, told_large = made_large(folder)
+    living, told_living = made_living(folder)
     cases = [
-        ("a small store to a large one", TWO_HOMES.image(), answers["two homes"], "--large 12 16 4 2 2 0 64"),
-        ("a small store with more sessions", TWO_HOMES.image(), answers["two homes"], "--shape 0 4 2 1 5 0 1"),
-        ("a small store with fewer overflow buckets", CROWD.image(), answers["crowd"], "--shape 4 16 4 2 1 0 2"),
-        ("a large store", large, told_large, ""),
-        ("a large store to a small one", large, told_large, "--shape 3 8 2 1 2 9 5"),
-        ("a large store to another", large, told_large, "--large 11 65536 8 3 2 2048 100000"),
+        ("a specified store to a living one", TWO_HOMES.image(), answers["two homes"], "--large 12 16 4 2 2 0 64"),
+        ("a specified store to a living one of small sizes", CROWD.image(), answers["crowd"], "--large 4 16 4 2 1 0 64"),
+        ("a specified store with more sessions", TWO_HOMES.image(), answers["two homes"], "--shape 0 4 2 1 5 0 1"),
+        ("a specified store with fewer overflow buckets", CROWD.image(), answers["crowd"], "--shape 4 16 4 2 1 0 2"),
+        ("a living store", living, told_living, ""),
+        ("a living store to a specified one", living, told_living, "--shape 3 8 2 1 2 9 5"),
+        ("a living store to one of small sizes", living, told_living, "--large 3 8 2 1 2 9 5"),
+        ("a living store to another", living, told_living, "--large 11 65536 8 3 2 2048 100000"),
     ]
     for name, image, answer, words in cases:
         renews(folder, name, image, answer, tuple(words.split()))
@@ -137,11 +141,11 @@ def to_other_sizes(folder):
 def with_spread_keys(folder):
     """Stores whose keys are spread, by their own sizes and by others, and one whose keys are spread twice."""
     answers = {name: answer for name, _, answer in TABLE}
-    large, told_large = made_large(folder)
+    living, told_living = made_living(folder)
     cases = [
         ("spread keys", TWO_HOMES.image(), answers["two homes"], "--shape 4 16 4 2 2 4 64"),
-        ("spread keys of a large store", large, told_large, ""),
-        ("spread keys of a small store", large, told_large, "--shape 6 8 2 1 2 16 5"),
+        ("spread keys of a living store", living, told_living, ""),
+        ("spread keys of a specified store", living, told_living, "--shape 6 8 2 1 2 16 5"),
     ]
     for name, image, answer, words in cases:
         renews(folder, name, image, answer, tuple(words.split()), is_spread=True)

@@ -13,8 +13,8 @@ SIZES = [
     ("a log without a place for each pair", CROWD, "--shape 4 4 2 1 1 0 4", 3, "refused 5 LogFull\n"),
     ("fewer sessions than have points", TWO_HOMES, "--shape 4 16 4 2 1 0 64", 3, "refused 19 NoSession\n"),
     ("a page that is no power of two", CROWD, "--shape 4 15 4 2 1 0 64", 2, "refused 1 BadShape\n"),
-    ("small sizes of a large store", CROWD, "--large 4 16 4 2 1 0 64", 2, "refused 1 BadShape\n"),
-    ("large sizes of a small store", CROWD, "--shape 12 16 4 2 1 0 64", 2, "refused 1 BadShape\n"),
+    ("large sizes of a specified store", CROWD, "--shape 12 16 4 2 1 0 64", 2, "refused 1 BadShape\n"),
+    ("sizes past the large ones", CROWD, "--large 25 16 4 2 1 0 64", 2, "refused 1 BadShape\n"),
 ]
 # and the fitting ones beside them
 FITTING = [(CROWD, "--shape 0 16 4 2 1 2 64"), (CROWD, "--shape 4 4 2 1 1 0 5"), (TWO_HOMES, "--shape 4 16 4 2 2 0 64")]

@@ -73,7 +73,6 @@ LARGE_SIZES = [
     ("11 16 8192 2 1 0 64", "the size F, the frames, is 8192, and has to be a power of two from 2 to 4096"),
     ("11 16 4 2 1 16777217 64", "the size O, the overflow buckets, is 16777217, and has to be from 0 to 16777216"),
     ("11 16 4 2 1 0 1073741825", "the size D, the pages on the device, is 1073741825, and has to be from 1 to 1073741824"),
-    ("4 16 4 2 1 0 64", "the sizes are those of a small store, which a line of the word shape makes"),
 ]
 
 SESSION = "up, del, add, max, get, refresh, poll, sleep or wake"
@@ -145,11 +144,11 @@ def complaints():
     for sizes, complaint in SIZES:
         yield complained(f"the sizes {sizes}", f"shape {sizes}\n", "refused 1 BadShape\n", 2, f"the size {complaint}")
     for sizes, complaint in LARGE_SIZES:
-        yield complained(f"the sizes {sizes} of a large store", f"large {sizes}\n", "refused 1 BadShape\n", 2, complaint)
+        yield complained(f"the sizes {sizes} of a living store", f"large {sizes}\n", "refused 1 BadShape\n", 2, complaint)
     for line, kind, complaint in LINES:
         yield complained(f"the line {line}", f"{SHAPE}\n{line}\n", f"script line 2 {kind}\n", 2, f"line 2 of the script: {complaint}")
     for line, kind, complaint in LARGE_LINES:
-        yield complained(f"the line {line} of a large store", f"\n# large\n{LARGE_ONE}\n{line}\n", f"script line 4 {kind}\n", 2, f"line 4 of the script: {complaint}")
+        yield complained(f"the line {line} of a living store", f"\n# large\n{LARGE_ONE}\n{line}\n", f"script line 4 {kind}\n", 2, f"line 4 of the script: {complaint}")
     for line, complaint in LINES_OF_FILE:
         script = f"{SHAPE}\n{line}\n"
         yield complained(f"the line {line} over a file", script, "script line 2 Mode\n", 2, f"line 2 of the script: {complaint}", words=tuple(FILE.split()), left=None)

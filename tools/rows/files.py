@@ -31,6 +31,11 @@ def wiped(commits):
     return f"fkv: the file held a store of {commits}, which the new store has wiped\n"
 
 
+def living(image):
+    """The image of a living store of the same sizes."""
+    return changed(image, (7, ord("2")))
+
+
 # words that name a file, and its name
 NAMED = [
     (("--file", "image"), "image"),
@@ -46,6 +51,8 @@ LEFT = [
     told("a store is made in a file", COMMITTED, FILE, left=ONE.image()),
     told("and under a seed", UPDATED_FIRST, f"{FILE} --seed 5 --check --torn 165", left=ONE.image()),
     told("a store without a commit", SHAPE, FILE, left=NEW_FRONT),
+    told("a living store of small sizes", SHAPE.replace("shape", "large"), FILE, left=living(NEW_FRONT)),
+    told("a living store is opened, and stays one", OPENED + AGAIN, FILE, image=living(ONE.image()), left=living(after_again(3))),
     told("a store is made over an older one, which is not cut", SHAPE, FILE, image=ONE.image(), left=NEW_FRONT + ONE.image()[1536:], complaint=wiped("1 commit")),
     told("and over one of two commits", SHAPE, FILE, image=after_again(1), complaint=wiped("2 commits")),
     told("and over one that has no commit", SHAPE, FILE, image=NEW_FRONT, left=NEW_FRONT, complaint=""),

@@ -365,32 +365,35 @@ MERGES = [
                    | pair 2 3
         """,
     ),
-    told(
-        "merges that wait for the disk",
-        """
-        large 11 4 2 1 1 0 64
-        0 up 1 12   | 0 #1 done
-        0 up 2 20   | 0 #2 done
-        0 up 3 30   | 0 #3 done
-        0 up 4 40   | 0 #4 done
-        0 up 5 50   | 0 #5 done
-        0 up 6 60   | 0 #6 done
-        0 up 7 70   | 0 #7 done
-        k turn      | k turn rest 1
-        0 refresh   | 0 refresh rest 1
-        k turn      | k turn rest 1
-        0 refresh   | 0 refresh rest 1
-        k turn      | k turn rest 1
-        0 up 8 80   | 0 #8 done
-        0 sub 1 2   | 0 #9 pending
-        0 keep 2    | 0 #10 pending
-        k turn      | k turn rest 1
-        0 poll      | 0 #9 = 10
-                    | 0 poll left 1
-        k turn      | k turn rest 1
-        0 poll      | 0 #10 = 20
-                    | 0 poll left 0
-        """,
+    *(
+        told(
+            f"merges that wait for the disk, behind {opening}",
+            f"""
+            {opening}
+            0 up 1 12   | 0 #1 done
+            0 up 2 20   | 0 #2 done
+            0 up 3 30   | 0 #3 done
+            0 up 4 40   | 0 #4 done
+            0 up 5 50   | 0 #5 done
+            0 up 6 60   | 0 #6 done
+            0 up 7 70   | 0 #7 done
+            k turn      | k turn rest 1
+            0 refresh   | 0 refresh rest 1
+            k turn      | k turn rest 1
+            0 refresh   | 0 refresh rest 1
+            k turn      | k turn rest 1
+            0 up 8 80   | 0 #8 done
+            0 sub 1 2   | 0 #9 pending
+            0 keep 2    | 0 #10 pending
+            k turn      | k turn rest 1
+            0 poll      | 0 #9 = 10
+                        | 0 poll left 1
+            k turn      | k turn rest 1
+            0 poll      | 0 #10 = 20
+                        | 0 poll left 0
+            """,
+        )
+        for opening in ("large 4 4 2 1 1 0 64", "large 11 4 2 1 1 0 64")
     ),
 ]
 

@@ -119,7 +119,7 @@ SHAPES = [
     "18446744073709551615 16 4 2 1 0 64",
 ]
 
-# sizes behind `large`: each outside of its limits, and those of a small store
+# sizes behind `large`: each outside of its limits
 LARGE = [
     "25 16 4 2 1 0 64",
     "11 6 4 2 1 0 64",
@@ -130,9 +130,14 @@ LARGE = [
     "11 16 4 2 1 16777217 64",
     "11 16 4 2 1 0 0",
     "11 16 4 2 1 0 1073741825",
+    "11 16 4 2 0 0 64",
+]
+
+# and the sizes that are taken behind both words: the least of them, and the greatest small ones
+BOTH = [
+    "0 4 2 1 1 0 1",
     "4 16 4 2 1 0 64",
     "10 1024 64 63 32 1024 65536",
-    "11 16 4 2 0 0 64",
 ]
 
 WORDS = [
@@ -199,6 +204,7 @@ def refused():
     yield from (Row(f"script line {fault} over a file", it, f"script line {fault}\n", 2, over_file, left=None) for it, fault in LINES_OF_FILE)
     yield from (Row(f"shape {sizes}", f"shape {sizes}\n0 get 1\n", "refused 1 BadShape\n", 2) for sizes in SHAPES)
     yield from (Row(f"large {sizes}", f"large {sizes}\n0 get 1\n", "refused 1 BadShape\n", 2) for sizes in LARGE)
+    yield from (Row(f"{word} {sizes}", f"{word} {sizes}\n0 get 1\n", "0 get 1 absent\n") for word in ("shape", "large") for sizes in BOTH)
     # before the script is looked at
     yield from (Row(f"the words {words}", "0 up\n", "options\n", 2, words) for words in WORDS)
     yield from (Row(f"the words {words}", SHAPE + "0 get 1\n", "0 get 1 absent\n", 0, words) for words in ACCEPTED)

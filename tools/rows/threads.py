@@ -43,7 +43,8 @@ RUNS = [
     ("more pending requests than fit", [TIGHT, *full()], agree(1, 7)),
     ("sums past the most are not compared", [SMALL, "0 add 1 18446744073709551614", "1 add 1 1", "k commit log", "k finish"], agree(1, 0)),
     ("a session that the shape hasn't", [SMALL, "9 up 1 1", "0 up 2 2", "k commit", "k finish"], agree(1, 2)),
-    ("a large store", [LARGE_TWO, "0 up 1 1", "1 up 2 2", "k commit", "k finish"], agree(1, 2)),
+    ("a living store", [LARGE_TWO, "0 up 1 1", "1 up 2 2", "k commit", "k finish"], agree(1, 2)),
+    ("a living store of small sizes", ["large 4 16 4 2 2 0 64", "0 up 1 1", "1 max 2 2", "1 min 2 1", "k commit", "k finish"], agree(1, 2)),
     ("merges of one session", [LARGE_ONE, "0 min 1 9", "0 sub 1 2", "0 and 1 6", "0 or 2 1", "0 first 3 5", "0 keep 4", "k commit", "k finish"], agree(1, 4)),
     ("merges of two sessions are compared of no key", [LARGE_TWO, "0 min 1 9", "1 min 1 5", "0 add 2 1", "1 sub 2 1", "0 keep 3", "k commit", "k finish"], agree(1, 1)),
 ]
@@ -85,7 +86,7 @@ def threads():
     rows += [Row(f"threads, line {wanted}", whole(lines), f"script line {wanted}\n", 2, ("--threads",)) for lines, wanted in FAULTS]
     rows += [Row("threads, an empty script", "", "", words=("--threads",))]
     rows += [Row("threads, sizes of no shape", "shape 4 6 4 2 1 0 64\n", "refused 1 BadShape\n", 2, ("--threads",))]
-    rows += [Row("threads, sizes of a large store alone", "shape 11 16 4 2 2 0 64\n", "refused 1 BadShape\n", 2, ("--threads",))]
+    rows += [Row("threads, sizes of a living store alone", "shape 11 16 4 2 2 0 64\n", "refused 1 BadShape\n", 2, ("--threads",))]
     rows += [Row(f"{name}, in a file", whole(lines), wanted, words=FILE) for name, lines, wanted in RUNS]
     rows += [Row("threads, a faulty line makes no file", whole([SMALL, "crash"]), "script line 2 Mode\n", 2, FILE, left=None)]
     rows += [Row("threads, sizes of no shape make no file", "shape 4 6 4 2 1 0 64\n", "refused 1 BadShape\n", 2, FILE, left=None)]

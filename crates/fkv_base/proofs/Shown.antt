@@ -8,7 +8,7 @@ use Rattle.std.proofs.Math.Nat.{pow-succ', pow-le-pow_right}
 use Rattle.std.proofs.lemmas.Nat.{zero_from_ones, ones_le_self, and_mask, pow-add}
 use Rattle.std.proofs.lemmas.Bool.{leb-true}
 use Rattle.std.proofs.lemmas.Bool.Decides.{nat_tests}
-use Rattle.fkv_base.specs.Limits.{max_bucket_bits, max_buckets, max_overflow, most_slots, is_ring_size, IsSmall, is_small, small_bucket_bits, small_page, small_frames, small_overflow, small_disk_pages}
+use Rattle.fkv_base.specs.Limits.{max_bucket_bits, max_buckets, max_overflow, most_slots, is_ring_size}
 
 -- by the lowest binary digit: where it is 0 the half has one digit too, and else nothing is left
 by_digit : (n : ℕ) → ones n ≡ 1 → (ones (n / 2) ≡ 1 → IsPowerOfTwo (n / 2)) → (even : Bool) → (n % 2 == 0) ≡ even → IsPowerOfTwo n
@@ -56,35 +56,3 @@ buckets_few bits few = let most : 2 ^ bits ≤ 2 ^ max_bucket_bits = pow-le-pow_
 
 pub slots_few : (bits overflow : ℕ) → bits ≤ max_bucket_bits → overflow ≤ max_overflow → 7 * (2 ^ bits + overflow) ≤ most_slots
 slots_few bits overflow few few_overflow = omega (arith, buckets_few bits few, few_overflow)
-
--- a shape is small where the test says so
-pub small_tested : (bits page frames overflow disk_pages : ℕ) → IsSmall bits page frames overflow disk_pages → is_small bits page frames overflow disk_pages ≡ true
-small_tested bits page frames overflow disk_pages s = grind (arith, nat_tests, s.small_buckets, s.small_pages, s.small_ring, s.small_chains, s.small_disk)
-
-five_true : (a b c d e : Bool) → (a && b && c && d && e) ≡ true → (a ≡ true) × (b ≡ true) × (c ≡ true) × (d ≡ true) × (e ≡ true)
-five_true true true true true e t = (refl, refl, refl, refl, t)
-five_true true true true false e t = cc
-five_true true true false d e t = cc
-five_true true false c d e t = cc
-five_true false b c d e t = cc
-
-pub small_is : (bits page frames overflow disk_pages : ℕ) → is_small bits page frames overflow disk_pages ≡ true → IsSmall bits page frames overflow disk_pages
-small_is bits page frames overflow disk_pages t =
-    let five = five_true (nat_le bits small_bucket_bits) (nat_le page small_page) (nat_le frames small_frames) (nat_le overflow small_overflow) (nat_le disk_pages small_disk_pages) t in
-    record {
-      small_buckets = leb-true bits small_bucket_bits five.0;
-      small_pages = leb-true page small_page five.1;
-      small_ring = leb-true frames small_frames five.2;
-      small_chains = leb-true overflow small_overflow five.3;
-      small_disk = leb-true disk_pages small_disk_pages five.4;
-    }
-
-pub not_small_tested : (bits page frames overflow disk_pages : ℕ) → (IsSmall bits page frames overflow disk_pages → ⊥) → is_small bits page frames overflow disk_pages ≡ false
-not_small_tested bits page frames overflow disk_pages large = tested_so (is_small bits page frames overflow disk_pages) refl
-  where
-    tested_so : (t : Bool) → is_small bits page frames overflow disk_pages ≡ t → t ≡ false
-    tested_so true e = absurd (large (small_is bits page frames overflow disk_pages e))
-    tested_so false e = refl
-
-pub not_small_is : (bits page frames overflow disk_pages : ℕ) → is_small bits page frames overflow disk_pages ≡ false → IsSmall bits page frames overflow disk_pages → ⊥
-not_small_is bits page frames overflow disk_pages f s = let t = small_tested bits page frames overflow disk_pages s in let never : true ≡ false = sym t ∙ f in cc

@@ -1,6 +1,8 @@
 -- The limits of a shape's seven sizes, and of the numbers that a store counts.
-use Rattle.std.specs.Prelude.{ℕ, ◌-◌, ◌^◌, ◌≤◌, ◌<◌, Bool, ◌&&◌, nat_le, nat_lt, IsTrue}
+use Rattle.std.specs.Prelude.{◌≡◌, ℕ, ◌-◌, ◌^◌, ◌≤◌, ◌<◌, Bool, true, false, ◌&&◌, nat_le, nat_lt, IsTrue}
 use Rattle.std.specs.Int.{is_power_of_two}
+use Rattle.fkv_base.specs.declared.classes.StoreClass.{StoreClass}
+use Rattle.fkv_base.specs.declared.classes.StoreClass.TheVariants.{Specified, Living}
 
 -- at most so many sessions, and requests of one session that are pending
 abbrev pub max_sessions : ℕ
@@ -49,7 +51,7 @@ max_ring = 268435456
 abbrev pub max_log : ℕ
 max_log = 70368744177664
 
--- what a small store has of these at most
+-- what a specified store has of these at most
 abbrev pub small_bucket_bits : ℕ
 small_bucket_bits = 10
 
@@ -99,7 +101,7 @@ is_shape bucket_bits page frames mutable sessions overflow disk_pages =
     nat_le bucket_bits max_bucket_bits && is_ring_size page min_page max_page && is_ring_size frames min_frames max_frames && nat_le 1 mutable && nat_lt mutable frames
     && nat_le 1 sessions && nat_le sessions max_sessions && nat_le overflow max_overflow && nat_le 1 disk_pages && nat_le disk_pages max_disk_pages
 
--- a shape is small if none of five sizes is above what a small store has
+-- sizes are small if none of five is above what a specified store has
 pub record IsSmall (bucket_bits page frames overflow disk_pages : ℕ) : Type 0 where
   pub small_buckets : bucket_bits ≤ small_bucket_bits
   pub small_pages : page ≤ small_page
@@ -111,3 +113,11 @@ pub record IsSmall (bucket_bits page frames overflow disk_pages : ℕ) : Type 0 
 abbrev pub is_small : ℕ → ℕ → ℕ → ℕ → ℕ → Bool
 is_small bucket_bits page frames overflow disk_pages =
     nat_le bucket_bits small_bucket_bits && nat_le page small_page && nat_le frames small_frames && nat_le overflow small_overflow && nat_le disk_pages small_disk_pages
+
+-- a specified store has small sizes; a living one may have them
+abbrev pub IsOfClass : StoreClass → Type 0 → Type 0
+IsOfClass class small = class ≡ Specified → small
+
+abbrev pub is_specified : StoreClass → Bool
+is_specified Specified = true
+is_specified Living = false

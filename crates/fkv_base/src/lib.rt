@@ -1,6 +1,7 @@
 //! What every crate of the store speaks of: wrapped numbers, the shape of a store, phases, kinds of commits and faults.
 #![tactic(auto)]
 
+mod classes;
 mod commits;
 mod faults;
 mod limits;
@@ -8,6 +9,7 @@ mod numbers;
 mod phases;
 mod shapes;
 
+pub use classes::StoreClass;
 pub use commits::CommitKind;
 pub use faults::{Damage, Fault, ScriptFault};
 pub use limits::{

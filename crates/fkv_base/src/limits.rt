@@ -20,15 +20,15 @@ pub const MAX_PAGE: u64 = 65536;
 pub const MIN_FRAMES: u64 = 2;
 /// Frames, at most.
 pub const MAX_FRAMES: u64 = 4096;
-/// Bits of the number of a bucket in a small store, at most.
+/// Bits of the number of a bucket in a specified store, at most.
 pub const SMALL_BUCKET_BITS: u64 = 10;
-/// Overflow buckets of a small store, at most.
+/// Overflow buckets of a specified store, at most.
 pub const SMALL_OVERFLOW: u64 = 1024;
-/// Pages of a small store's log on the device, at most.
+/// Pages of a specified store's log on the device, at most.
 pub const SMALL_DISK_PAGES: u64 = 65536;
-/// Records of a page in a small store, at most.
+/// Records of a page in a specified store, at most.
 pub const SMALL_PAGE: u64 = 1024;
-/// Frames of a small store, at most.
+/// Frames of a specified store, at most.
 pub const SMALL_FRAMES: u64 = 64;
 /// From this epoch on, 2^48 - 1024, nobody raises it: so raises that are under way together stay below 2^48.
 pub const LAST_EPOCH: u64 = 281474976709632;

@@ -3,7 +3,7 @@ use Rattle.std.specs.Prelude.{◌≡◌, ◌⊎◌, ◌*◌, ◌+◌, ℕ, Bool,
 use Rattle.fkv_base.specs.declared.numbers.Key.{Key}
 use Rattle.fkv_base.specs.declared.numbers.Value.{Value}
 use Rattle.fkv_base.specs.Fault.{script_fault_name}
-use Rattle.fkv_base.specs.Limits.{IsShape, IsSmall}
+use Rattle.fkv_base.specs.Limits.{IsShape, IsSmall, IsOfClass}
 use Rattle.fkv_base.specs.declared.faults.Fault.{Fault}
 use Rattle.fkv_base.specs.declared.faults.Fault.TheVariants.{BadShape, Device}
 use Rattle.fkv_base.specs.declared.shapes.Shape.{Shape}
@@ -12,8 +12,6 @@ use Rattle.fkv_runs.specs.Below.fkv_core.Worlds.{WorldModel}
 use Rattle.fkv_runs.specs.Below.fkv_core.Event.{Event}
 use Rattle.fkv_runs.specs.Below.fkv_core.TheTold.{Told}
 use Rattle.fkv_lines.specs.Script.{LineFault, ScriptText, script_of}
-use Rattle.fkv_lines.specs.declared.scripts.Class.{Class}
-use Rattle.fkv_lines.specs.declared.scripts.Class.TheVariants.{Small, Large}
 use Rattle.fkv_lines.specs.declared.scripts.Line.{Line}
 use Rattle.fkv_lines.specs.declared.scripts.Mode.{Mode}
 use Rattle.fkv_lines.specs.declared.scripts.Mode.TheVariants as mode
@@ -53,11 +51,7 @@ ComesTo wanted status = (status ≡ wanted) ⊎ (status ≡ 4)
 abbrev pub Refuses : Fault → ℕ → ℕ → List ℕ → Type 0
 Refuses fault wanted status text = ComesTo wanted status × (text ≡ last_refusal fault)
 
--- behind `shape` stand the sizes of a small store, and behind `large` those of a store that isn't small
-abbrev pub IsOfClass : Class → Type 0 → Type 0
-IsOfClass Small small = small
-IsOfClass Large small = small → ⊥
-
+-- behind `shape` stand sizes within the small limits, and behind `large` those within the large ones
 abbrev pub AreSizes : Sizes → Type 0
 AreSizes sizes =
     IsShape sizes.bucket_bits sizes.page sizes.frames sizes.mutable sizes.sessions sizes.overflow sizes.disk_pages
@@ -66,6 +60,7 @@ AreSizes sizes =
 -- The shape of these sizes, where a store of their line's class may have them.
 pub record HasSizes (sizes : Sizes) (shape : Shape) : Type 0 where
   pub of_its_class : AreSizes sizes
+  pub class : shape.class ≡ sizes.class
   pub bucket_bits : shape.bucket_bits ≡ sizes.bucket_bits
   pub page : shape.page ≡ sizes.page
   pub frames : shape.frames ≡ sizes.frames

@@ -22,8 +22,6 @@ pub(crate) enum Complaint<'a> {
     Line { number: u64, fault: LineFault<'a> },
     /// A size of the shape is outside its limits.
     SizeOutside(SizeFault),
-    /// The sizes behind `large` are those of a small store.
-    SizesOfSmallStore,
     /// The sizes are no shape's, and which of them is outside its limits isn't known.
     SizesRefused,
     /// No store could be made or opened in the file of this path.
@@ -50,9 +48,6 @@ impl fmt::Display for Complaint<'_> {
             Complaint::Words(fault) => write!(f, "{fault}"),
             Complaint::Line { number, fault } => write!(f, "line {number} of the script: {fault}"),
             Complaint::SizeOutside(fault) => write!(f, "{fault}"),
-            Complaint::SizesOfSmallStore => f.write_str(
-                "the sizes are those of a small store, which a line of the word shape makes",
-            ),
             Complaint::SizesRefused => f.write_str("a size is outside its limits"),
             Complaint::File { path, trouble } => {
                 let fault = FileTrouble {

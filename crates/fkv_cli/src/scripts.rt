@@ -10,10 +10,10 @@ ghost use Rattle.fkv_cli.specs.Output.{AreSizes, HasSizes, IsRunOfOldStore, IsRu
 use crate::complaints::{Complaint, SizeFault, complain};
 use crate::file_runs::{play_new_file, play_old_file};
 use crate::memory_runs::play_memory;
-use fkv_base::{Fault, Shape};
+use fkv_base::{Fault, Shape, StoreClass};
 use fkv_disk::{Device, FileDisk};
 use fkv_files::Lockable;
-use fkv_lines::{Class, Opening, Script, Sizes};
+use fkv_lines::{Opening, Script, Sizes};
 use fkv_options::Options;
 use fkv_runs::{Breaks, Crashes, Picks, Piece, pieces_of, write_text};
 use fkv_texts::write_refusal;
@@ -127,7 +127,7 @@ fn shape_of(sizes: Sizes) -> Result<Shape, Fault>
     ensures refused { IfErr result (λ fault. (¬ (AreSizes sizes)) × (fault ≡ BadShape)) }
 {
     match sizes.class {
-        Class::Small => Shape::new(
+        StoreClass::Specified => Shape::new(
             sizes.bucket_bits,
             sizes.page,
             sizes.frames,
@@ -136,7 +136,7 @@ fn shape_of(sizes: Sizes) -> Result<Shape, Fault>
             sizes.overflow,
             sizes.disk_pages,
         ),
-        Class::Large => Shape::large(
+        StoreClass::Living => Shape::large(
             sizes.bucket_bits,
             sizes.page,
             sizes.frames,
@@ -150,10 +150,9 @@ fn shape_of(sizes: Sizes) -> Result<Shape, Fault>
 
 /// Tells which of these sizes is none of a shape.
 fn complain_of_sizes<E: Write>(complaints: &mut E, sizes: Sizes) {
-    let complaint = match (SizeFault::of(sizes), sizes.class) {
-        (Some(fault), _) => Complaint::SizeOutside(fault),
-        (None, Class::Large) => Complaint::SizesOfSmallStore,
-        (None, Class::Small) => Complaint::SizesRefused,
+    let complaint = match SizeFault::of(sizes) {
+        Some(fault) => Complaint::SizeOutside(fault),
+        None => Complaint::SizesRefused,
     };
     complain(complaints, complaint);
 }

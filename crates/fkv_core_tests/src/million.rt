@@ -1,4 +1,4 @@
-//! 2^20 keys of a large store in memory: commits of both kinds, crashes and recovery, compared pair by pair with the plain map. Over a file
+//! 2^20 keys of a living store in memory: commits of both kinds, crashes and recovery, compared pair by pair with the plain map. Over a file
 //! tools/large plays the same by the built program, whose scripts are too short for so many keys in memory.
 use crate::lines::Line;
 use crate::lines::Line::{Commit, Finish, LogCommit, Refresh, Turn, Up};

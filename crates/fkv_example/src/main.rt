@@ -22,8 +22,8 @@ fn main(rt: HostRuntime) -> ExitCode {
 
 fn play(rt: &HostRuntime, out: &mut impl Write) -> Result<(), Error> {
     let alloc = rt.alloc();
-    // 2^4 buckets, pages of 16 records, 4 frames of which 2 are mutable, 2 sessions, no overflow bucket, 64 pages on the device
-    let shape = Shape::new(4, 16, 4, 2, 2, 0, 64)?;
+    // A living store: 2^4 buckets, pages of 16 records, 4 frames of which 2 are mutable, 2 sessions, no overflow bucket, 64 pages on the device
+    let shape = Shape::large(4, 16, 4, 2, 2, 0, 64)?;
     let mut device = Fuse::new(MemDisk::new(alloc));
     let opened = create_opened(alloc, &mut device, shape)?;
     let mut store = World::open(alloc, opened, device)?;

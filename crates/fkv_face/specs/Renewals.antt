@@ -9,7 +9,7 @@ use Rattle.fkv_spread.specs.declared.keys.Keys.TheVariants.{Spread, AsTheyAre}
 use Rattle.fkv_face.specs.declared.renewals.Renewal.{Renewal}
 use Rattle.fkv_face.specs.declared.sizes.Sizes.{Sizes}
 use Rattle.fkv_face.specs.Numbers.{fault_told}
-use Rattle.fkv_face.specs.Sizes.{HasSizes, are_sizes, damage_number}
+use Rattle.fkv_face.specs.Sizes.{IsLivingOf, are_sizes, damage_number}
 use Rattle.fkv_face.specs.Stores.{IsPut}
 pub use Rattle.fkv_base.specs.declared.faults.Fault.TheVariants.{BadShape}
 pub use Rattle.std.specs.Prelude.{IfErr, IfOk}
@@ -19,16 +19,16 @@ abbrev pub keys_laid : ℕ → Keys
 keys_laid zero = AsTheyAre
 keys_laid (suc n) = Spread
 
--- each size is 0: the old store's own shape is wanted
+-- each size is 0: the old store's own shape is wanted, with its class
 abbrev pub all_zero : Sizes → Bool
 all_zero s = (s.bucket_bits == 0) && (s.page == 0) && (s.frames == 0) && (s.mutable_pages == 0) && (s.sessions == 0) && (s.overflow == 0) && (s.disk_pages == 0)
 
--- the shape of these sizes; or none, where each is 0
+-- the shape of a living store of these sizes; or none, where each is 0
 pub record IsWanted (sizes : Sizes) (wanted : Option Shape) : Type 0 where
   pub own : all_zero sizes ≡ true → wanted ≡ None
-  pub given : all_zero sizes ≡ false → IsSomeAnd wanted (HasSizes sizes)
+  pub given : all_zero sizes ≡ false → IsSomeAnd wanted (IsLivingOf sizes)
 
--- no shape has these sizes
+-- no living store has these sizes
 abbrev pub AreNone : Sizes → Type 0
 AreNone sizes = (all_zero sizes ≡ false) × (are_sizes sizes ≡ false)
 

@@ -1,6 +1,7 @@
 -- Sizes of a store, and what its image has told.
 use Rattle.std.specs.Prelude.{◌≡◌, ℕ, Bool}
 use Rattle.fkv_base.specs.Limits.{is_shape}
+use Rattle.fkv_base.specs.declared.classes.StoreClass.TheVariants.{Living}
 use Rattle.fkv_base.specs.declared.faults.Damage.{Damage}
 use Rattle.fkv_base.specs.declared.faults.Damage.TheVariants as damage
 use Rattle.fkv_base.specs.declared.faults.Fault.{Fault}
@@ -22,7 +23,12 @@ pub record HasSizes (sizes : Sizes) (shape : Shape) : Type 0 where
   pub overflow : shape.overflow ≡ sizes.overflow
   pub disk_pages : shape.disk_pages ≡ sizes.disk_pages
 
--- they are those of a shape, small or large
+-- it is the shape of a living store, and has these sizes
+pub record IsLivingOf (sizes : Sizes) (shape : Shape) : Type 0 where
+  pub class : shape.class ≡ Living
+  pub its_sizes : HasSizes sizes shape
+
+-- a living store may have these sizes
 abbrev pub are_sizes : Sizes → Bool
 are_sizes s = is_shape s.bucket_bits s.page s.frames s.mutable_pages s.sessions s.overflow s.disk_pages
 

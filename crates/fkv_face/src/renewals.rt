@@ -63,7 +63,7 @@ fn all_zero(sizes: &Sizes) -> bool
         && disk_pages == 0
 }
 
-/// The shape that is wanted: none where each size is 0. `BadShape`.
+/// The shape that is wanted: a living store's of these sizes, and none where each is 0. `BadShape`.
 fn wanted_of(sizes: &Sizes) -> Result<Option<Shape>, Fault>
     ensures wanted { says.IfOk result (says.IsWanted sizes.now) }
     ensures refused { says.IfErr result (λ fault. (fault ≡ says.BadShape) × says.AreNone sizes.now) }
@@ -78,8 +78,8 @@ fn wanted_of(sizes: &Sizes) -> Result<Option<Shape>, Fault>
 }
 
 /// Writes the image of a new store: the renewal of the one whose bytes these are, all of them synced. It has the old one's points, and just its
-/// pairs, their keys as they lie or spread now; the sizes that are given, or the old one's where each is 0. It tells how many bytes the image
-/// has, also where the room is smaller: `ROOM_SMALL`, with nothing written.
+/// pairs, their keys as they lie or spread now. It is a living store of the sizes that are given; where each is 0 it has the old one's sizes and
+/// class. It tells how many bytes the image has, also where the room is smaller: `ROOM_SMALL`, with nothing written.
 ///
 /// `BadShape`, `NotAStore`, `Damaged` with the part and its place, `IndexFull`, `LogFull`, `NoSession`, `Memory`.
 #[unsafe(no_mangle)]

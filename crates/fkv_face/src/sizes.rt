@@ -52,9 +52,9 @@ impl Image {
     }
 }
 
-/// The shape of these sizes, small or large. `BadShape`.
+/// The shape of a living store of these sizes: the library makes no others. `BadShape`.
 pub(crate) fn shape_of(sizes: &Sizes) -> Result<Shape, Fault>
-    ensures sizes { says.IfOk result (says.HasSizes sizes.now) }
+    ensures living { says.IfOk result (says.IsLivingOf sizes.now) }
     ensures tested { says.is_ok result ≡ says.are_sizes sizes.now }
     ensures refused { says.OnErr result (result ≡ says.Err says.BadShape) }
 {
@@ -67,18 +67,6 @@ pub(crate) fn shape_of(sizes: &Sizes) -> Result<Shape, Fault>
         overflow,
         disk_pages,
     } = *sizes;
-    let small = Shape::new(
-        bucket_bits,
-        page,
-        frames,
-        mutable_pages,
-        sessions,
-        overflow,
-        disk_pages,
-    );
-    if small.is_ok() {
-        return small;
-    }
     Shape::large(
         bucket_bits,
         page,
@@ -90,7 +78,7 @@ pub(crate) fn shape_of(sizes: &Sizes) -> Result<Shape, Fault>
     )
 }
 
-/// Tells what the image has told.
+/// Tells what the image has told. A store of either class may have told it.
 pub(crate) fn tell(recovered: &Recovered, sizes: &mut Sizes, image: &mut Image, points: &mut [u64])
     ensures sizes { says.HasSizes sizes.new recovered.now.shape }
     ensures number { image.new ≡ record image.old { number = recovered.now.number.0 } }

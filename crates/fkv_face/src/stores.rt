@@ -50,7 +50,7 @@ pub(crate) fn put(bytes: &[u8], into: &mut [u8]) -> i32
     0
 }
 
-/// Writes the image of a new store: 1,536 bytes, for a file that the caller makes. `BadShape`, `Memory`; `ROOM_SMALL` where there is less room.
+/// Writes the image of a new living store: 1,536 bytes, for a file that the caller makes. `BadShape`, `Memory`; `ROOM_SMALL` where there is less room.
 #[unsafe(no_mangle)]
 pub extern "C" fn fkv_image(alloc: Global, sizes: &Sizes, into: &mut [u8]) -> i32
     ensures { says.IsImage sizes.now result into.old into.new }
@@ -64,7 +64,7 @@ pub extern "C" fn fkv_image(alloc: Global, sizes: &Sizes, into: &mut [u8]) -> i3
     }
 }
 
-/// Opens the store of this image: the bytes of its file, all of them synced. They aren't needed behind the call. Memory gets its newest records, at
+/// Opens the store of this image, of either class: the bytes of its file, all of them synced. They aren't needed behind the call. Memory gets its newest records, at
 /// most so many: 0 says all that fit, and the greatest number none. It tells the sizes, the number of
 /// the last commit, and the points, as many as there is room for. `NotAStore`, `Damaged` with the part and its place, `Memory`.
 #[unsafe(no_mangle)]

@@ -10,7 +10,7 @@ use std::rt::Files;
 /// The bytes of a store before its first area: the shape's block and two slots.
 const FRONT: usize = 1536;
 
-/// What the first bytes of a store are, of a small one and of a large one.
+/// What the first bytes of a store are, of a specified one and of a living one.
 const STORE_TEXTS: [&[u8]; 2] = [b"FKVSTOR1", b"FKVSTOR2"];
 
 /// A file that one open handle can have alone.

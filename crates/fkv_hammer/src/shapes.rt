@@ -4,10 +4,11 @@ use fkv_base::{Fault, Shape};
 /// How many shapes there are.
 pub(crate) const COUNT: u64 = 32;
 
-/// How many of them are of small stores.
-const SMALL: u64 = 20;
+/// How many of them are of specified stores.
+const SPECIFIED: u64 = 20;
 
-/// The shape of this number: few buckets or more, small pages, and two frames or more. The last dozen are of large stores.
+/// The shape of this number: few buckets or more, small pages, and two frames or more. The last dozen are of living stores, and half of
+/// these have overflow buckets and pages past the small limits.
 pub(crate) fn shape_of(number: u64) -> Result<Shape, Fault> {
     let (bits, page, frames) = (
         number % 5,
@@ -15,8 +16,10 @@ pub(crate) fn shape_of(number: u64) -> Result<Shape, Fault> {
         power(1 + (number / 3) % 3),
     );
     let mutable = if frames == 2 { 1 } else { 1 + number % 3 };
-    if number < SMALL {
+    if number < SPECIFIED {
         Shape::new(bits, page, frames, mutable, 4, 256, 65536)
+    } else if number % 2 == 0 {
+        Shape::large(bits, page, frames, mutable, 4, 256, 65536)
     } else {
         Shape::large(
             bits,

@@ -1,4 +1,4 @@
-use fkv_base::{Damage, Fault, Phase, ScriptFault, Shape};
+use fkv_base::{Damage, Fault, Phase, ScriptFault, Shape, StoreClass};
 use std::test::Fail;
 
 #[test]
@@ -20,8 +20,8 @@ fn faults_and_phases_have_their_names(rt: HostRuntime) -> Result<(), Fail> {
 #[test]
 fn a_shape_within_its_limits_is_kept(rt: HostRuntime) {
     for (sizes, small, large) in [
-        ([4, 16, 4, 2, 1, 0, 64], true, false),
-        ([10, 1024, 64, 63, 32, 1024, 65536], true, false),
+        ([4, 16, 4, 2, 1, 0, 64], true, true),
+        ([10, 1024, 64, 63, 32, 1024, 65536], true, true),
         ([11, 16, 4, 2, 1, 0, 64], false, true),
         (
             [24, 65536, 4096, 4095, 32, 16777216, 1073741824],
@@ -39,4 +39,14 @@ fn a_shape_within_its_limits_is_kept(rt: HostRuntime) {
         let shape = Shape::large(bits, page, frames, mutable, sessions, overflow, pages);
         assert!(rt; shape.is_ok() == large);
     }
+}
+
+#[test]
+fn shapes_of_equal_sizes_differ_by_class(rt: HostRuntime) -> Result<(), Fail> {
+    let specified = Shape::new(4, 16, 4, 2, 1, 0, 64)?;
+    let living = Shape::large(4, 16, 4, 2, 1, 0, 64)?;
+    assert!(rt; specified != living);
+    assert!(rt; specified.class == StoreClass::Specified && living.class == StoreClass::Living);
+    assert!(rt; specified.is_specified() && !living.is_specified());
+    Ok(())
 }

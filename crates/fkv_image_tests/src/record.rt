@@ -71,17 +71,19 @@ fn a_shape_has_its_bytes_and_places(rt: HostRuntime) -> Result<(), Fail> {
     Ok(())
 }
 
-/// A large store's image begins with another text, behind which no small store's sizes are read.
+/// A living store's image begins with another text. Behind it small sizes are read too, and behind a specified store's text they alone.
 #[test]
-fn a_large_shape_has_another_text(rt: HostRuntime) -> Result<(), Fail> {
+fn a_living_shape_has_another_text(rt: HostRuntime) -> Result<(), Fail> {
     let shape = Shape::large(11, 16, 4, 2, 1, 0, 64)?;
     let mut bytes = write_shape(shape);
     assert!(rt; bytes[..8] == [0x46, 0x4b, 0x56, 0x53, 0x54, 0x4f, 0x52, 0x32][..]);
     assert!(rt; read_shape(&bytes) == Some(shape));
     bytes[8] = 10;
-    assert!(rt; read_shape(&bytes).is_none());
+    let living = Shape::large(10, 16, 4, 2, 1, 0, 64)?;
+    assert!(rt; read_shape(&bytes) == Some(living));
     bytes[7] = 0x31;
-    assert!(rt; read_shape(&bytes).is_some());
+    let specified = Shape::new(10, 16, 4, 2, 1, 0, 64)?;
+    assert!(rt; read_shape(&bytes) == Some(specified));
     bytes[8] = 11;
     assert!(rt; read_shape(&bytes).is_none());
     Ok(())

@@ -20,8 +20,8 @@ use Rattle.fkv_lines.specs.declared.scripts.Line.TheVariants as line
 use Rattle.fkv_lines.specs.declared.scripts.Mode.{Mode}
 use Rattle.fkv_lines.specs.declared.scripts.Mode.TheVariants.{Memory, File}
 use Rattle.fkv_lines.specs.declared.scripts.Opening.{Opening}
-use Rattle.fkv_lines.specs.declared.scripts.Class.{Class}
-use Rattle.fkv_lines.specs.declared.scripts.Class.TheVariants.{Small, Large}
+use Rattle.fkv_base.specs.declared.classes.StoreClass.{StoreClass}
+use Rattle.fkv_base.specs.declared.classes.StoreClass.TheVariants.{Specified, Living}
 use Rattle.fkv_lines.specs.declared.scripts.Opening.TheVariants.{Shape, Open}
 use Rattle.fkv_lines.specs.declared.scripts.Sizes.{Sizes}
 use Rattle.fkv_lines.specs.Words.{words_of, says_nothing, is_oversized}
@@ -241,7 +241,7 @@ unfolding open_line
 open_words Memory words opening e = no_err fault.Mode opening (bound (alone words Open) (λ said. Err fault.Mode) opening e).2
 open_words File words opening e = alone_words IsOpeningOfWords words Open opening tt e
 
-shape_words : (class : Class) (words : List (List ℕ)) (opening : Opening) → shape_line class words ≡ Ok opening → IsOpeningOfWords opening
+shape_words : (class : StoreClass) (words : List (List ℕ)) (opening : Opening) → shape_line class words ≡ Ok opening → IsOpeningOfWords opening
 unfolding shape_line
 shape_words class words opening e = made IsOpeningOfWords 7 words (λ n. Shape (sizes_of class n)) opening (λ ns small. (small 0, small 1, small 2, small 3, small 4, small 5, small 6)) e
 
@@ -249,8 +249,8 @@ opening_words : (mode : Mode) (words : List (List ℕ)) (opening : Opening) → 
 unfolding opening_line
 opening_words mode [] opening e = no_err fault.Order opening e
 opening_words mode (head ∷ words) opening e =
-    by_if (bytes_eq head (codes "shape")) _ _ opening (shape_words Small words opening)
-    (by_if (bytes_eq head (codes "large")) _ _ opening (shape_words Large words opening)
+    by_if (bytes_eq head (codes "shape")) _ _ opening (shape_words Specified words opening)
+    (by_if (bytes_eq head (codes "large")) _ _ opening (shape_words Living words opening)
     (by_if (bytes_eq head (codes "open")) _ _ opening (open_words mode words opening) (no_err fault.Order opening))) e
 
 -- ---- the script

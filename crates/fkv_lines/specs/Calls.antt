@@ -9,8 +9,8 @@ use Rattle.fkv_map.specs.declared.operations.Call.TheVariants as call
 use Rattle.fkv_map.specs.declared.operations.Op.{Op}
 use Rattle.fkv_map.specs.declared.operations.Op.TheVariants.{Upsert, Delete, Add, Max, Read, Merge}
 use Rattle.fkv_map.specs.declared.merges.Merge.TheVariants.{Keep, Min, Sub, And, Or, First}
-use Rattle.fkv_lines.specs.declared.scripts.Class.{Class}
-use Rattle.fkv_lines.specs.declared.scripts.Class.TheVariants.{Small, Large}
+use Rattle.fkv_base.specs.declared.classes.StoreClass.{StoreClass}
+use Rattle.fkv_base.specs.declared.classes.StoreClass.TheVariants.{Specified, Living}
 use Rattle.fkv_lines.specs.declared.scripts.Opening.{Opening}
 use Rattle.fkv_lines.specs.declared.scripts.Opening.TheVariants.{Shape, Open}
 use Rattle.fkv_lines.specs.Numbers.{◌>>=◌, arguments_of}
@@ -24,12 +24,12 @@ abbrev pub key_in : List ℕ → Key
 key_in n = record { 0 = slice_index n 0 }
 
 -- merges stand behind a `large` line alone
-abbrev pub is_large : Class → Bool
-is_large Small = false
-is_large Large = true
+abbrev pub is_living : StoreClass → Bool
+is_living Specified = false
+is_living Living = true
 
 abbrev pub takes_merges : Opening → Bool
-takes_merges (Shape sizes) = is_large sizes.class
+takes_merges (Shape sizes) = is_living sizes.class
 takes_merges Open = false
 
 -- `keep K`, `min K V`, `sub K V`, `and K V`, `or K V` and `first K V`

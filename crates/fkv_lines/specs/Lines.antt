@@ -5,8 +5,8 @@ use Rattle.std.specs.Char.{is_ascii_digit}
 use Rattle.fkv_base.specs.declared.faults.ScriptFault.{ScriptFault}
 use Rattle.fkv_base.specs.declared.faults.ScriptFault.TheVariants as fault
 use Rattle.fkv_base.specs.declared.commits.CommitKind.TheVariants.{Full, Log}
-use Rattle.fkv_lines.specs.declared.scripts.Class.{Class}
-use Rattle.fkv_lines.specs.declared.scripts.Class.TheVariants.{Small, Large}
+use Rattle.fkv_base.specs.declared.classes.StoreClass.{StoreClass}
+use Rattle.fkv_base.specs.declared.classes.StoreClass.TheVariants.{Specified, Living}
 use Rattle.fkv_lines.specs.declared.scripts.Line.{Line}
 use Rattle.fkv_lines.specs.declared.scripts.Line.TheVariants.{Call, Commit, Turn, Finish, Crash, CrashAt, FailAt}
 use Rattle.fkv_lines.specs.declared.scripts.Mode.{Mode}
@@ -20,11 +20,11 @@ use Rattle.fkv_lines.specs.Calls.{alone, call_of}
 -- ---- the line that opens the store
 
 -- `shape K P F M S O D` and `large K P F M S O D` have the seven sizes in this order
-abbrev pub sizes_of : Class → List ℕ → Sizes
+abbrev pub sizes_of : StoreClass → List ℕ → Sizes
 sizes_of class n = record { class = class; bucket_bits = slice_index n 0; page = slice_index n 1; frames = slice_index n 2; mutable = slice_index n 3; sessions = slice_index n 4; overflow = slice_index n 5; disk_pages = slice_index n 6 }
 
 -- behind `shape` and `large` stand the sizes
-unfoldable pub shape_line : Class → List (List ℕ) → Result Opening ScriptFault
+unfoldable pub shape_line : StoreClass → List (List ℕ) → Result Opening ScriptFault
 shape_line class words = arguments_of 7 words >>= λ n. Ok (Shape (sizes_of class n))
 
 -- `open` stands alone, and only a store in a file can be opened
@@ -40,8 +40,8 @@ is_opening head = bytes_eq head (codes "shape") || bytes_eq head (codes "large")
 unfoldable pub opening_line : Mode → List (List ℕ) → Result Opening ScriptFault
 opening_line mode [] = Err fault.Order
 opening_line mode (head ∷ words) =
-    if bytes_eq head (codes "shape") then shape_line Small words
-    else if bytes_eq head (codes "large") then shape_line Large words
+    if bytes_eq head (codes "shape") then shape_line Specified words
+    else if bytes_eq head (codes "large") then shape_line Living words
     else if bytes_eq head (codes "open") then open_line mode words
     else Err fault.Order
 

@@ -6,4 +6,4 @@ mod reading;
 mod scripts;
 
 pub use reading::{MOST_BYTES, MOST_LINES, script_of};
-pub use scripts::{Class, Line, Mode, Opening, Script, Sizes};
+pub use scripts::{Line, Mode, Opening, Script, Sizes};

@@ -2,7 +2,7 @@
 ghost use Rattle.std.specs.Prelude.{◌≡◌};
 ghost use Rattle.fkv_lines.specs.Calls.{takes_merges};
 
-use fkv_base::CommitKind;
+use fkv_base::{CommitKind, StoreClass};
 use fkv_map::Call;
 
 /// Where the store of a run lies. A store in memory is crashed by its script, and one in a file is opened again.
@@ -14,19 +14,11 @@ pub enum Mode {
     File,
 }
 
-/// Which limits the sizes of a store have.
-#[derive(Clone, Copy, Debug, PartialEq, Eq)]
-pub enum Class {
-    /// Those of small stores: the line begins with `shape`.
-    Small,
-    /// Those of large stores: the line begins with `large`.
-    Large,
-}
-
 /// The sizes of a `shape` or a `large` line, in its order, each below 2^64 and not yet judged.
 #[derive(Clone, Copy, Debug, PartialEq, Eq)]
 pub struct Sizes {
-    pub class: Class,
+    /// `Specified` behind `shape`, `Living` behind `large`.
+    pub class: StoreClass,
     pub bucket_bits: u64,
     pub page: u64,
     pub frames: u64,
@@ -51,7 +43,7 @@ impl Opening {
         ensures { result ≡ takes_merges self }
     {
         match self {
-            Opening::Shape(sizes) => matches!(sizes.class, Class::Large),
+            Opening::Shape(sizes) => matches!(sizes.class, StoreClass::Living),
             Opening::Open => false,
         }
     }

@@ -87,7 +87,12 @@ fn json_of_shape(alloc: Global, shape: Option<Shape>) -> Result<Value, AllocErro
         ("disk_pages", shape.disk_pages),
     ];
     let mut object = object_of(alloc, &sizes)?;
-    put(&mut object, alloc, "small", Value::Bool(shape.is_small()))?;
+    put(
+        &mut object,
+        alloc,
+        "specified",
+        Value::Bool(shape.is_specified()),
+    )?;
     Ok(Value::Object(object))
 }
 

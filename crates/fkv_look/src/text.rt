@@ -40,7 +40,11 @@ fn write_numbers<W: Write>(output: &mut W, numbers: &[(&str, u64)]) -> io::Resul
 }
 
 fn write_shape<W: Write>(output: &mut W, shape: Shape) -> io::Result<()> {
-    let class = if shape.is_small() { "shape " } else { "large " };
+    let class = if shape.is_specified() {
+        "shape "
+    } else {
+        "large "
+    };
     let sizes = [
         (class, shape.bucket_bits),
         (" ", shape.page),

@@ -95,7 +95,7 @@ merge_reply And old n = Number (record { 0 = bits_in_both old n })
 merge_reply Or old n = Number (record { 0 = bits_in_either old n })
 merge_reply First old n = Number (record { 0 = first_of old n })
 
--- what the map replies to an operation: to add and max the new value, to upsert and delete nothing
+-- what the map replies to an operation: to add and max the new value, to upsert and delete nothing, to a merge what its kind tells
 abbrev pub reply_to : Map → Op → Reply
 reply_to m (Upsert key value) = Nothing
 reply_to m (Delete key) = Nothing

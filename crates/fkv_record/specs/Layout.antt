@@ -1,8 +1,9 @@
 -- Which bytes spell each thing on the device.
-use Rattle.std.specs.Prelude.{ℕ, List, [], ◌∷◌, ◌++◌, length, codes, Bool, if◌then◌else◌}
+use Rattle.std.specs.Prelude.{ℕ, List, [], ◌∷◌, ◌++◌, length, codes}
 use Rattle.std.specs.Int.{w16, w32, w64, to_le_bytes}
 use Rattle.fkv_base.specs.declared.shapes.Shape.{Shape}
-use Rattle.fkv_base.specs.Limits.{is_small}
+use Rattle.fkv_base.specs.declared.classes.StoreClass.{StoreClass}
+use Rattle.fkv_base.specs.declared.classes.StoreClass.TheVariants.{Specified, Living}
 use Rattle.fkv_words.specs.Layout.{header_word}
 use Rattle.fkv_record.specs.declared.records.Record.{Record}
 use Rattle.fkv_record.specs.declared.triples.Triple.{Triple}
@@ -22,12 +23,13 @@ record_bytes x = spelled (record_numbers x)
 unfoldable pub triple_bytes : Triple → List ℕ
 triple_bytes x = to_le_bytes w32 x.bucket ++ to_le_bytes w16 x.tag ++ 0 ∷ 0 ∷ [] ++ to_le_bytes w64 x.addr.0
 
--- the text that begins an image: one for small stores, one for all others
-abbrev pub image_text : Bool → List ℕ
-image_text small = if small then codes "FKVSTOR1" else codes "FKVSTOR2"
+-- the text that begins an image, by the class of its store
+abbrev pub image_text : StoreClass → List ℕ
+image_text Specified = codes "FKVSTOR1"
+image_text Living = codes "FKVSTOR2"
 
 abbrev pub shape_text : Shape → List ℕ
-shape_text x = image_text (is_small x.bucket_bits x.page x.frames x.overflow x.disk_pages)
+shape_text x = image_text x.class
 
 -- the text, and the seven sizes
 abbrev pub size_numbers : Shape → List ℕ

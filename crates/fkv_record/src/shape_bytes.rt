@@ -5,15 +5,15 @@ ghost use Rattle.fkv_words.specs.Fields.{Reads};
 ghost use Rattle.fkv_record.specs.Layout.{shape_bytes, shape_text};
 
 use crate::numbers::{numbers, spell};
-use fkv_base::Shape;
+use fkv_base::{Shape, StoreClass};
 
-/// The text that begins the image of a small store.
-const SMALL_TEXT: [u8; 8] = *b"FKVSTOR1";
-/// The text that begins the image of a large store.
-const LARGE_TEXT: [u8; 8] = *b"FKVSTOR2";
+/// The text that begins the image of a specified store.
+const SPECIFIED_TEXT: [u8; 8] = *b"FKVSTOR1";
+/// The text that begins the image of a living store.
+const LIVING_TEXT: [u8; 8] = *b"FKVSTOR2";
 
-/// The shape that the bytes spell, if they spell one: the text of small stores, or that of large ones, and seven sizes of eight bytes
-/// that such a store may have.
+/// The shape that the bytes spell, if they spell one: the text of a class, and seven sizes of eight bytes that a store
+/// of this class may have.
 pub fn read_shape(bytes: &[u8; 64]) -> Option<Shape>
     ensures { Reads shape_bytes bytes.now result }
 {
@@ -27,7 +27,7 @@ pub fn read_shape(bytes: &[u8; 64]) -> Option<Shape>
         overflow,
         disk_pages,
     ] = numbers::<8>(bytes);
-    if text == u64::from_le_bytes(SMALL_TEXT) {
+    if text == u64::from_le_bytes(SPECIFIED_TEXT) {
         return Shape::new(
             bucket_bits,
             page,
@@ -39,7 +39,7 @@ pub fn read_shape(bytes: &[u8; 64]) -> Option<Shape>
         )
         .ok();
     }
-    if text == u64::from_le_bytes(LARGE_TEXT) {
+    if text == u64::from_le_bytes(LIVING_TEXT) {
         return Shape::large(
             bucket_bits,
             page,
@@ -75,9 +75,8 @@ pub fn write_shape(shape: Shape) -> [u8; 64]
 fn text_of(shape: Shape) -> u64
     ensures { result ≡ from_le_bytes w64 (shape_text shape) }
 {
-    if shape.is_small() {
-        u64::from_le_bytes(SMALL_TEXT)
-    } else {
-        u64::from_le_bytes(LARGE_TEXT)
+    match shape.class {
+        StoreClass::Specified => u64::from_le_bytes(SPECIFIED_TEXT),
+        StoreClass::Living => u64::from_le_bytes(LIVING_TEXT),
     }
 }

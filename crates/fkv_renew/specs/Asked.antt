@@ -8,8 +8,8 @@ use Rattle.clap.specs.Simple.{App, Shape as CommandShape, matches_of, new_app, n
 use Rattle.clap.specs.Walk.{Row, Rule, Text, all_of, first_of, one_of}
 use Rattle.clap.specs.declared.builder.action.ArgAction.TheVariants.{SetTrue}
 use Rattle.clap.specs.declared.builder.value_parser.ValueParser.TheVariants as vp
-use Rattle.fkv_lines.specs.declared.scripts.Class.{Class}
-use Rattle.fkv_lines.specs.declared.scripts.Class.TheVariants.{Small, Large}
+use Rattle.fkv_base.specs.declared.classes.StoreClass.{StoreClass}
+use Rattle.fkv_base.specs.declared.classes.StoreClass.TheVariants.{Specified, Living}
 use Rattle.fkv_lines.specs.declared.scripts.Sizes.{Sizes}
 use Rattle.fkv_spread.specs.declared.keys.Keys.{Keys}
 use Rattle.fkv_spread.specs.declared.keys.Keys.TheVariants.{AsTheyAre, Spread}
@@ -60,7 +60,7 @@ abbrev pub IsSpelledAt : List Text → ℕ → ℕ → Type 0
 IsSpelledAt words place number = (text : Text) × (slice_get words place ≡ Some text) × Spells text number
 
 -- Seven words spell sizes, for a store of this class.
-pub record AreSizesOf (class : Class) (words : List Text) (sizes : Sizes) : Type 0 where
+pub record AreSizesOf (class : StoreClass) (words : List Text) (sizes : Sizes) : Type 0 where
   pub its_class : sizes.class ≡ class
   pub seven : length words ≡ 7
   pub bucket_bits : IsSpelledAt words 0 sizes.bucket_bits
@@ -74,8 +74,8 @@ pub record AreSizesOf (class : Class) (words : List Text) (sizes : Sizes) : Type
 -- the sizes that are asked for: those behind `--shape`, or those behind `--large`, which don't go together; or none
 abbrev pub AreAskedSizes : Option (List Text) → Option (List Text) → Option Sizes → Type 0
 AreAskedSizes None None sizes = sizes ≡ None
-AreAskedSizes (Some words) None sizes = IsSomeAnd sizes (AreSizesOf Small words)
-AreAskedSizes None (Some words) sizes = IsSomeAnd sizes (AreSizesOf Large words)
+AreAskedSizes (Some words) None sizes = IsSomeAnd sizes (AreSizesOf Specified words)
+AreAskedSizes None (Some words) sizes = IsSomeAnd sizes (AreSizesOf Living words)
 AreAskedSizes (Some small) (Some large) sizes = ⊥
 
 -- ---- keys

@@ -1,15 +1,8 @@
 -- Which shape has which sizes.
 use Rattle.std.specs.Prelude.{◌≡◌}
-use Rattle.fkv_base.specs.Limits.{IsShape, IsSmall}
+use Rattle.fkv_base.specs.Limits.{IsShape, IsSmall, IsOfClass}
 use Rattle.fkv_base.specs.declared.shapes.Shape.{Shape}
-use Rattle.fkv_lines.specs.declared.scripts.Class.{Class}
-use Rattle.fkv_lines.specs.declared.scripts.Class.TheVariants.{Small, Large}
 use Rattle.fkv_lines.specs.declared.scripts.Sizes.{Sizes}
-
--- a shape of these sizes is of their class: the small ones, and the others
-abbrev pub IsOfClass : Class → Type 0 → Type 0
-IsOfClass Small small = small
-IsOfClass Large small = small → ⊥
 
 -- a store of their class may have these sizes
 abbrev pub AreSizes : Sizes → Type 0
@@ -20,6 +13,7 @@ AreSizes sizes =
 -- The shape of these sizes, where a store of their class may have them.
 pub record HasSizes (sizes : Sizes) (shape : Shape) : Type 0 where
   pub of_its_class : AreSizes sizes
+  pub class : shape.class ≡ sizes.class
   pub bucket_bits : shape.bucket_bits ≡ sizes.bucket_bits
   pub page : shape.page ≡ sizes.page
   pub frames : shape.frames ≡ sizes.frames

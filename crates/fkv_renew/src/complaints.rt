@@ -1,9 +1,9 @@
 //! Why a run ended early, in words.
 use crate::renewals::Refusal;
 use crate::words::Asked;
-use fkv_base::Fault;
+use fkv_base::{Fault, StoreClass};
 use fkv_files::{FileTrouble, Trouble};
-use fkv_lines::{Class, Sizes};
+use fkv_lines::Sizes;
 use std::{fmt, io};
 
 /// Why a run ended early.
@@ -61,10 +61,8 @@ fn write_refusal<W: fmt::Write>(
 /// Why no store has these sizes.
 fn refused_sizes(sizes: Sizes) -> &'static str {
     match sizes.class {
-        Class::Small => "a size behind --shape is outside the limits of a small store",
-        Class::Large => {
-            "a size behind --large is outside its limits, or all are those of a small store"
-        }
+        StoreClass::Specified => "a size behind --shape is outside the limits of a specified store",
+        StoreClass::Living => "a size behind --large is outside the limits of a living store",
     }
 }
 

@@ -14,8 +14,8 @@ Arguments:
   NEW  The new store's file; a file that is there is refused
 
 Options:
-      --shape K P F M S O D  The sizes of the new store, a small one
-      --large K P F M S O D  The sizes of the new store, a large one
+      --shape K P F M S O D  The sizes of the new store, a specified one
+      --large K P F M S O D  The sizes of the new store, a living one
       --spread               Spreads the keys, as the library does
   -h, --help                 Print help
   -V, --version              Print version

@@ -2,11 +2,11 @@
 ghost use Rattle.std.specs.Prelude.{◌≡◌, ℕ, None};
 ghost use Rattle.fkv_renew.specs.Said as said;
 
-use fkv_base::{Fault, Shape};
-use fkv_lines::{Class, Sizes};
+use fkv_base::{Fault, Shape, StoreClass};
+use fkv_lines::Sizes;
 
 /// The sizes that seven words spell, for a store of this class.
-pub(crate) fn read_sizes(class: Class, words: &[&str]) -> Option<Sizes>
+pub(crate) fn read_sizes(class: StoreClass, words: &[&str]) -> Option<Sizes>
     ensures some { said.IfSome result (said.AreSizesOf class (said.texts words.now)) }
     ensures none { result ≡ None → (sizes : said.TheSizes) → said.AreSizesOf class (said.texts words.now) sizes → ⊥ }
 {
@@ -51,7 +51,7 @@ pub(crate) fn shape_of(sizes: Sizes) -> Result<Shape, Fault>
     ensures refused { said.IfErr result (λ fault. (¬ (said.AreSizes sizes)) × (fault ≡ said.BadShape)) }
 {
     match sizes.class {
-        Class::Small => Shape::new(
+        StoreClass::Specified => Shape::new(
             sizes.bucket_bits,
             sizes.page,
             sizes.frames,
@@ -60,7 +60,7 @@ pub(crate) fn shape_of(sizes: Sizes) -> Result<Shape, Fault>
             sizes.overflow,
             sizes.disk_pages,
         ),
-        Class::Large => Shape::large(
+        StoreClass::Living => Shape::large(
             sizes.bucket_bits,
             sizes.page,
             sizes.frames,

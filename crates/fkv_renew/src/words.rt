@@ -5,7 +5,8 @@ ghost use Rattle.fkv_renew.specs.Said as said;
 use crate::sizes::read_sizes;
 use clap::error::ErrorKind;
 use clap::{Arg, ArgAction, Command, value_parser};
-use fkv_lines::{Class, Sizes};
+use fkv_base::StoreClass;
+use fkv_lines::Sizes;
 use fkv_spread::Keys;
 use std::alloc::{AllocError, Global};
 
@@ -98,11 +99,11 @@ fn sizes_of(small: Option<&[&str]>, large: Option<&[&str]>) -> Result<Option<Siz
 {
     match (small, large) {
         (None, None) => Ok(None),
-        (Some(words), None) => match read_sizes(Class::Small, words) {
+        (Some(words), None) => match read_sizes(StoreClass::Specified, words) {
             Some(sizes) => Ok(Some(sizes)),
             None => Err(WordFault::Refused),
         },
-        (None, Some(words)) => match read_sizes(Class::Large, words) {
+        (None, Some(words)) => match read_sizes(StoreClass::Living, words) {
             Some(sizes) => Ok(Some(sizes)),
             None => Err(WordFault::Refused),
         },

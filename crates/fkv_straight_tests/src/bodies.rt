@@ -19,7 +19,7 @@ const SESSIONS: u64 = 3;
 type Scene = ([u64; 6], u64, u64);
 
 /// A roomy log; one bucket, with overflow buckets and with none; long chains; a log of which two pages lie in memory; more homes than slots;
-/// and large stores, of one bucket and of long chains.
+/// and living stores, of one bucket and of long chains.
 const SCENES: [Scene; 8] = [
     ([3, 64, 8, 6, 8, 65_536], 40, 1),
     ([0, 64, 8, 6, 8, 65_536], 45, 1),
@@ -31,7 +31,7 @@ const SCENES: [Scene; 8] = [
     ([2, 32, 4, 3, 1100, 65_600], 4, 10),
 ];
 
-/// The shape of these sizes, small or large.
+/// The shape of these sizes: of a specified store where one may have them, and else of a living one.
 fn shape_of(sizes: [u64; 6]) -> Result<Shape, Fault> {
     let [bits, page, frames, mutable, overflow, pages] = sizes;
     match Shape::new(bits, page, frames, mutable, SESSIONS, overflow, pages) {

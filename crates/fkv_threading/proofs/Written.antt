@@ -1,6 +1,7 @@
 -- What is written is the report of a run, or a refusal.
 use Rattle.std.proofs.Common.{◌≡◌, ◌↔◌, ◌∙◌, inr, ℕ, List, [], true, Option, Some, Result, Ok, Err, IfOk, OnErr, OnOk, subst, sym, refl, append-nil}
 use Rattle.std.specs.Io.KnownBytes.{Appends, Keeps}
+use Rattle.fkv_base.specs.declared.classes.StoreClass.{StoreClass}
 use Rattle.fkv_base.specs.declared.faults.Fault.{Fault}
 use Rattle.fkv_base.specs.declared.numbers.Key.{Key}
 use Rattle.fkv_base.specs.declared.numbers.Value.{Value}
@@ -23,11 +24,13 @@ use Rattle.fkv_thread_scripts.specs.declared.reports.Report.{Report}
 use Rattle.fkv_threading.specs.Program.{IsTextOnThreads, WithSomeStatus}
 use Rattle.fkv_threading.specs.Written.{HasSizes, HoldsPairs, IsPlayedNew, IsReportOfRun, IsReportOn, IsRunOnThreads, reported_status, reported_text}
 
--- the shape that a call gives has the sizes that were asked for
-pub sized : {E : Type 0} (sizes : Sizes) (r : Result Shape E) → IfOk r (λ shape. shape.bucket_bits ≡ sizes.bucket_bits) → IfOk r (λ shape. shape.page ≡ sizes.page) → IfOk r (λ shape. shape.frames ≡ sizes.frames) → IfOk r (λ shape. shape.mutable ≡ sizes.mutable)
+-- the shape that a call gives has the class and the sizes that were asked for
+pub sized : {E : Type 0} (sizes : Sizes) (r : Result Shape E) (class : StoreClass) → sizes.class ≡ class → IfOk r (λ shape. shape.class ≡ class)
+    → IfOk r (λ shape. shape.bucket_bits ≡ sizes.bucket_bits) → IfOk r (λ shape. shape.page ≡ sizes.page) → IfOk r (λ shape. shape.frames ≡ sizes.frames) → IfOk r (λ shape. shape.mutable ≡ sizes.mutable)
     → IfOk r (λ shape. shape.sessions ≡ sizes.sessions) → IfOk r (λ shape. shape.overflow ≡ sizes.overflow) → IfOk r (λ shape. shape.disk_pages ≡ sizes.disk_pages) → IfOk r (HasSizes sizes)
-sized sizes (Ok shape) bucket_bits page frames mutable sessions overflow disk_pages = record { bucket_bits = bucket_bits; page = page; frames = frames; mutable = mutable; sessions = sessions; overflow = overflow; disk_pages = disk_pages }
-sized sizes (Err e) bucket_bits page frames mutable sessions overflow disk_pages = tt
+sized sizes (Ok shape) class asked its bucket_bits page frames mutable sessions overflow disk_pages =
+    record { class = its ∙ sym asked; bucket_bits = bucket_bits; page = page; frames = frames; mutable = mutable; sessions = sessions; overflow = overflow; disk_pages = disk_pages }
+sized sizes (Err e) class asked its bucket_bits page frames mutable sessions overflow disk_pages = tt
 
 -- a store that is recovered, and then its pairs, which are read from a device that stays as it was
 pub held : {D : Type 0} (honest : D → Type 0) (shows : D → List ℕ) (device device' : D) (recovered : Opened) (pairs : List (Key × Value)) → (honest device → IsStoreOf (shows device) recovered) → (honest device ↔ honest device') → (honest device → shows device' ≡ shows device)

@@ -24,8 +24,9 @@ use Rattle.fkv_thread_scripts.specs.declared.reports.Report.{Report}
 use Rattle.fkv_threading.specs.Told.{IsPlayed}
 
 -- ---- what is played
--- the shape has the sizes of a script's first line
+-- the shape has the class and the sizes of a script's first line
 pub record HasSizes (sizes : Sizes) (shape : Shape) : Type 0 where
+  pub class : shape.class ≡ sizes.class
   pub bucket_bits : shape.bucket_bits ≡ sizes.bucket_bits
   pub page : shape.page ≡ sizes.page
   pub frames : shape.frames ≡ sizes.frames

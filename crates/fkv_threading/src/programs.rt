@@ -5,12 +5,12 @@ ghost use Rattle.fkv_threading.specs.Said as said;
 use crate::gates::Gate;
 use crate::keepers::KeeperEnd;
 use crate::playing::{Played, play};
-use fkv_base::{Fault, Shape};
+use fkv_base::{Fault, Shape, StoreClass};
 use fkv_creating::create_opened;
 use fkv_disk::{Device, FileDisk, Fuse, MemDisk, PageSize, Pages, ReadAhead};
 use fkv_files::{Lockable, Mirror, Trouble, make_alone, open_alone};
 use fkv_keeper::Finished;
-use fkv_lines::{Class, Line, Opening, Script, Sizes};
+use fkv_lines::{Line, Opening, Script, Sizes};
 use fkv_opening::recover;
 use fkv_pairs::content;
 use fkv_runs::write_text;
@@ -248,7 +248,7 @@ fn shape_of(sizes: Sizes) -> Result<Shape, Fault>
         disk_pages,
     } = sizes;
     match class {
-        Class::Small => Shape::new(
+        StoreClass::Specified => Shape::new(
             bucket_bits,
             page,
             frames,
@@ -257,7 +257,7 @@ fn shape_of(sizes: Sizes) -> Result<Shape, Fault>
             overflow,
             disk_pages,
         ),
-        Class::Large => Shape::large(
+        StoreClass::Living => Shape::large(
             bucket_bits,
             page,
             frames,

@@ -240,6 +240,22 @@ class Stores(OverFile):
         with self.open(shape=SMALL) as store:
             self.assertEqual(store.shape, SMALL)
 
+    def text(self):
+        with open(self.path, "rb") as file:
+            return file.read(8)
+
+    def test_both_classes(self):
+        fkv.make_file(self.path, SMALL)
+        self.assertEqual(self.text(), b"FKVSTOR2")
+        with open(self.path, "r+b") as file:
+            file.write(b"FKVSTOR1")
+        with self.open() as store:
+            self.assertEqual(store.shape, SMALL)
+            store.renew()
+            self.assertEqual(self.text(), b"FKVSTOR1")
+            store.renew(SMALL)
+            self.assertEqual(self.text(), b"FKVSTOR2")
+
     def test_a_log_that_is_full(self):
         with self.open(shape=TINY) as store:
             session = store.join()

@@ -15,8 +15,8 @@ pub enum RenewedKeys {
 }
 
 /// The bytes of a new store that is a renewal of an old one: its points, and just its keys with their values, as commit 1. So a store that
-/// has no room or no commits left lives on. `bytes` are all bytes of the old store's file. `shape` is the new one's, or `None` for the old
-/// one's own. The caller writes the new file, and syncs it and its folder.
+/// has no room or no commits left lives on. `bytes` are all bytes of the old store's file. `shape` is the new one's, which is a living store
+/// then, or `None` for the old one's sizes and class. The caller writes the new file, and syncs it and its folder.
 ///
 /// `BadShape`, `NotAStore`, `Damaged`, `Memory`; where the shape is too small `IndexFull`, `LogFull`, `NoSession`.
 pub fn renew(bytes: &[u8], shape: Option<&Shape>, keys: RenewedKeys) -> Result<Vec<u8>, Error> {

@@ -11,23 +11,23 @@ use std::sync::Arc;
 use std::sync::atomic::{AtomicU64, Ordering};
 use std::{io, ptr};
 
-/// How large a store is. A store is small if no size is above the first limit, and large otherwise.
+/// How large a store is. The library makes living stores. It opens specified ones too, of which some sizes have lower limits.
 #[derive(Clone, Copy, Debug, PartialEq, Eq)]
 pub struct Shape {
-    /// The index has 2^bucket_bits buckets of seven entries: 0 to 10, of a large store to 24.
+    /// The index has 2^bucket_bits buckets of seven entries: 0 to 24, of a specified store to 10.
     pub bucket_bits: u64,
-    /// Records in a page: a power of two from 4 to 1,024, of a large store to 65,536. If a page holds as many records as keys are updated during a commit, an
-    /// update seldom waits for room.
+    /// Records in a page: a power of two from 4 to 65,536, of a specified store to 1,024. If a page holds as many records as keys are updated during a
+    /// commit, an update seldom waits for room.
     pub page: u64,
-    /// Pages in memory: a power of two from 2 to 64, of a large store to 4,096.
+    /// Pages in memory: a power of two from 2 to 4,096, of a specified store to 64.
     pub frames: u64,
     /// Pages whose records are updated in place: 1 to frames - 1.
     pub mutable_pages: u64,
     /// Sessions: 1 to 32.
     pub sessions: u64,
-    /// Buckets that full ones overflow to: 0 to 1,024, of a large store to 2^24.
+    /// Buckets that full ones overflow to: 0 to 2^24, of a specified store to 1,024.
     pub overflow: u64,
-    /// Pages that the log may have in the file: 1 to 65,536, of a large store to 2^30.
+    /// Pages that the log may have in the file: 1 to 2^30, of a specified store to 65,536.
     pub disk_pages: u64,
 }
 
@@ -212,7 +212,7 @@ pub(crate) fn path_for_c(path: &Path) -> Result<CString, Error> {
 }
 
 impl Store {
-    /// Makes the file of a new store of this shape, which isn't open after the call. A crash leaves the whole file, or none of this name.
+    /// Makes the file of a new living store of this shape, which isn't open after the call. A crash leaves the whole file, or none of this name.
     ///
     /// `BadShape`, `Memory`, or `Device`: with `AlreadyExists` there is a file of this name, and it stays as it is. If the sync of its folder
     /// alone has failed, the new file stays in place. An opening syncs the folder again.

@@ -92,7 +92,7 @@ fn is_session(head: &[u8]) -> bool {
     matches!(head, [b'0'..=b'9', ..])
 }
 
-/// Whether the script makes a large store: behind that line alone there are merges.
+/// Whether the script makes a living store: behind that line alone there are merges.
 fn takes_merges(script: &[u8]) -> bool {
     for line in script.split(|byte| *byte == b'\n') {
         match word_at(line, 0) {

@@ -2,8 +2,9 @@
 use fkv_base::{
     MAX_BUCKET_BITS, MAX_DISK_PAGES, MAX_FRAMES, MAX_OVERFLOW, MAX_PAGE, MAX_SESSIONS, MIN_FRAMES,
     MIN_PAGE, SMALL_BUCKET_BITS, SMALL_DISK_PAGES, SMALL_FRAMES, SMALL_OVERFLOW, SMALL_PAGE,
+    StoreClass,
 };
-use fkv_lines::{Class, Sizes};
+use fkv_lines::Sizes;
 use std::fmt;
 
 /// The first size that is outside its limits.
@@ -67,8 +68,8 @@ const MOST_LARGE: Most = Most {
 /// The sizes by their names, with the limits of each.
 fn limited(sizes: Sizes) -> [(&'static str, u64, Limits); 7] {
     let most = match sizes.class {
-        Class::Small => MOST_SMALL,
-        Class::Large => MOST_LARGE,
+        StoreClass::Specified => MOST_SMALL,
+        StoreClass::Living => MOST_LARGE,
     };
     let bucket_bits = within(0, most.bucket_bits);
     let page = power_of_two(MIN_PAGE, most.page);

@@ -5,8 +5,8 @@ ghost use Rattle.fkv_lines.specs.Lines.{is_opening, opening_line, shape_line, op
 
 use crate::reading::calls::{alone, call_of};
 use crate::reading::numbers::{arguments_of, number_of};
-use crate::scripts::{Class, Line, Mode, Opening, Sizes};
-use fkv_base::{CommitKind, ScriptFault};
+use crate::scripts::{Line, Mode, Opening, Sizes};
+use fkv_base::{CommitKind, ScriptFault, StoreClass};
 
 /// The first line that says something: `shape` or `large` and seven numbers, or `open`.
 #[tactic(auto, unfolding(crate::specs::Lines::opening_line))]
@@ -17,8 +17,8 @@ pub(super) fn opening_line(mode: Mode, words: &[&[u8]]) -> Result<Opening, Scrip
         return Err(ScriptFault::Order);
     };
     match *head {
-        b"shape" => shape_line(Class::Small, words),
-        b"large" => shape_line(Class::Large, words),
+        b"shape" => shape_line(StoreClass::Specified, words),
+        b"large" => shape_line(StoreClass::Living, words),
         b"open" => open_line(mode, words),
         _ => Err(ScriptFault::Order),
     }
@@ -26,7 +26,7 @@ pub(super) fn opening_line(mode: Mode, words: &[&[u8]]) -> Result<Opening, Scrip
 
 /// What stands behind `shape` or `large`: seven numbers.
 #[tactic(auto, unfolding(crate::specs::Lines::shape_line))]
-fn shape_line(class: Class, words: &[&[u8]]) -> Result<Opening, ScriptFault>
+fn shape_line(class: StoreClass, words: &[&[u8]]) -> Result<Opening, ScriptFault>
     ensures { result ≡ shape_line class (texts words.now) }
 {
     let [

@@ -338,7 +338,7 @@ class Store:
 
 
 def make_file(path: Path, shape: Shape) -> None:
-    """Makes the file of a new store. FileThere if there is one of this name; BadShape."""
+    """Makes the file of a new living store. FileThere if there is one of this name; BadShape."""
     check(lib.fkv_make_file(os.fsencode(path), shape.in_c()), os.fspath(path))
 
 
