@@ -3,26 +3,26 @@ use Rattle.std.proofs.Common.{◌≡◌, ◌∙◌, ap, ℕ, Bool, true, false, 
 use Rattle.fkv_base.specs.declared.numbers.Addr.{Addr}
 use Rattle.fkv_base.specs.declared.phases.Phase.{Phase}
 use Rattle.fkv_base.specs.declared.phases.Phase.TheVariants.{Rest}
-use Rattle.fkv_words.specs.Layout.{cut_word, phase_word}
+use Rattle.fkv_words.specs.Layout.{cut_word, phase_spelled, wide_word}
 use Rattle.fkv_words.specs.Phases.{phase_number}
 use Rattle.fkv_words.specs.declared.cut_word.CutWord.{CutWord}
-use Rattle.fkv_words.specs.declared.phase_word.PhaseWord.{PhaseWord}
+use Rattle.fkv_words.specs.declared.wide_phase.WidePhase.{WidePhase}
 use Rattle.fkv_opening.specs.Opening.{AreOpeningWords, AreSessionWords, IsOpeningCut, opening_limit, point_of}
 use Rattle.fkv_opening.specs.declared.opened_store.Opened.{Opened}
 use Rattle.fkv_opening.specs.declared.opening_words.OpeningWords.{OpeningWords}
 use Rattle.fkv_opening.specs.declared.opening_words.SessionWords.{SessionWords}
 use Rattle.fkv_core.specs.OpeningWords.{opening_cut, words_of_session, words_once}
 
-pub phase_so : (o : Opened) (its : PhaseWord) → its.version.0 ≡ o.number.0 + 1 → its.phase ≡ Rest → phase_word its ≡ o.number.0 + 1 + phase_number Rest * 2 ^ 16
-phase_so o its version phase = ap (λ (n : ℕ). n + phase_number its.phase * 2 ^ 16) version ∙ ap (λ (it : Phase). o.number.0 + 1 + phase_number it * 2 ^ 16) phase
+pub phase_so : (o : Opened) (its : WidePhase) → its.version.0 ≡ o.number.0 + 1 → its.phase ≡ Rest → wide_word its ≡ phase_spelled (o.number.0 + 1) (phase_number Rest)
+phase_so o its version phase = ap (λ (n : ℕ). phase_spelled n (phase_number its.phase)) version ∙ ap (λ (it : Phase). phase_spelled (o.number.0 + 1) (phase_number it)) phase
 
-pub once_so : (o : Opened) (its : OpeningWords) (packed taken : ℕ) → AreOpeningWords o its → packed ≡ phase_word its.phase
+pub once_so : (o : Opened) (its : OpeningWords) (packed taken : ℕ) → AreOpeningWords o its → packed ≡ wide_word its.phase
     → its.epoch ∷ its.safe_epoch ∷ packed ∷ its.tail.0 ∷ its.limit.0 ∷ its.read_only.0 ∷ its.safe_read_only.0 ∷ its.flushed.0 ∷ its.head.0 ∷ its.closed.0 ∷ taken ∷ 0 ∷ 0 ∷ 0 ∷ 0 ∷ 0
     ∷ its.drain ∷ its.drain ∷ its.drain ∷ its.drain ∷ its.drain ∷ its.drain ∷ its.drain ∷ its.drain ∷ [] ≡ words_once o taken
 once_so o its packed taken are pack =
     let epoch : its.epoch ≡ 1 = are.epoch in
     let safe : its.safe_epoch ≡ 0 = are.safe_epoch in
-    let phase : packed ≡ o.number.0 + 1 + phase_number Rest * 2 ^ 16 = pack ∙ phase_so o its.phase are.version are.phase in
+    let phase : packed ≡ phase_spelled (o.number.0 + 1) (phase_number Rest) = pack ∙ phase_so o its.phase are.version are.phase in
     let tail : its.tail.0 ≡ o.tail.0 = ap (λ (a : Addr). a.0) are.tail in
     let limit : its.limit.0 ≡ opening_limit o = are.limit in
     let read_only : its.read_only.0 ≡ o.tail.0 = ap (λ (a : Addr). a.0) are.read_only in
@@ -33,7 +33,7 @@ once_so o its packed taken are pack =
     let drain : its.drain ≡ 0 = are.drain in
     let all : its.epoch ∷ its.safe_epoch ∷ packed ∷ its.tail.0 ∷ its.limit.0 ∷ its.read_only.0 ∷ its.safe_read_only.0 ∷ its.flushed.0 ∷ its.head.0 ∷ its.closed.0 ∷ taken ∷ 0 ∷ 0 ∷ 0 ∷ 0 ∷ 0
     ∷ its.drain ∷ its.drain ∷ its.drain ∷ its.drain ∷ its.drain ∷ its.drain ∷ its.drain ∷ its.drain ∷ []
-    ≡ 1 ∷ 0 ∷ (o.number.0 + 1 + phase_number Rest * 2 ^ 16) ∷ o.tail.0 ∷ opening_limit o ∷ o.tail.0 ∷ o.tail.0 ∷ o.tail.0 ∷ o.warm.0 ∷ o.warm.0 ∷ taken ∷ 0 ∷ 0 ∷ 0 ∷ 0 ∷ 0
+    ≡ 1 ∷ 0 ∷ phase_spelled (o.number.0 + 1) (phase_number Rest) ∷ o.tail.0 ∷ opening_limit o ∷ o.tail.0 ∷ o.tail.0 ∷ o.tail.0 ∷ o.warm.0 ∷ o.warm.0 ∷ taken ∷ 0 ∷ 0 ∷ 0 ∷ 0 ∷ 0
     ∷ 0 ∷ 0 ∷ 0 ∷ 0 ∷ 0 ∷ 0 ∷ 0 ∷ 0 ∷ [] = cc in
     all
 

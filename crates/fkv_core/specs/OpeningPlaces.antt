@@ -1,7 +1,7 @@
 -- Where the words of a store that opens stand, as the opened store tells them, and that its sessions have seen them.
 use Rattle.std.specs.Prelude.{◌≡◌, ℕ, ◌<◌, List, Some, slice_get}
 use Rattle.fkv_base.specs.Limits.{drain_slots}
-use Rattle.fkv_words.specs.Layout.{cut_word, phase_word}
+use Rattle.fkv_words.specs.Layout.{cut_word, wide_word}
 use Rattle.fkv_plane.specs.Asked.{word_at}
 use Rattle.fkv_plane.specs.Places.{drain_place, session_place, shared_place}
 use Rattle.fkv_plane.specs.declared.places.SessionWord.TheVariants as own
@@ -16,7 +16,7 @@ use Rattle.fkv_session.specs.Sessions.{SessionState}
 pub record StandOnce (its : OpeningWords) (words : List ℕ) : Type 0 where
   pub epoch : word_at words (shared_place one.Epoch) ≡ its.epoch
   pub safe_epoch : word_at words (shared_place one.SafeEpoch) ≡ its.safe_epoch
-  pub phase : word_at words (shared_place one.Phase) ≡ phase_word its.phase
+  pub phase : word_at words (shared_place one.Phase) ≡ wide_word its.phase
   pub tail : word_at words (shared_place one.Tail) ≡ its.tail.0
   pub limit : word_at words (shared_place one.Limit) ≡ its.limit.0
   pub read_only : word_at words (shared_place one.ReadOnly) ≡ its.read_only.0

@@ -2,6 +2,7 @@
 use Rattle.std.specs.Prelude.{◌≡◌, ℕ, zero, suc, ◌+◌, ◌*◌, ◌^◌, ◌%◌, nat_eq, if◌then◌else◌, List, [], ◌∷◌, ◌++◌, length, map, replicate, slice_index, slice_set}
 use Rattle.fkv_base.specs.Limits.{drain_slots}
 use Rattle.fkv_base.specs.declared.phases.Phase.TheVariants.{Rest}
+use Rattle.fkv_words.specs.Layout.{phase_spelled}
 use Rattle.fkv_words.specs.Phases.{phase_number}
 use Rattle.fkv_plane.specs.declared.places.SharedWord.{SharedWord}
 use Rattle.fkv_plane.specs.declared.places.SharedWord.TheVariants as one
@@ -16,7 +17,7 @@ use Rattle.fkv_opening.specs.declared.opened_store.Opened.{Opened}
 abbrev pub shared_word : Opened → ℕ → SharedWord → ℕ
 shared_word o taken one.Epoch = 1
 shared_word o taken one.SafeEpoch = 0
-shared_word o taken one.Phase = o.number.0 + 1 + phase_number Rest * 2 ^ 16
+shared_word o taken one.Phase = phase_spelled (o.number.0 + 1) (phase_number Rest)
 shared_word o taken one.Tail = o.tail.0
 shared_word o taken one.Limit = opening_limit o
 shared_word o taken one.ReadOnly = o.tail.0

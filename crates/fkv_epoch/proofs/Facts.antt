@@ -1,9 +1,10 @@
 -- What crates above need of a sound world, besides the law.
 use Rattle.std.proofs.Common.{◌≡◌, ℕ, ◌-◌, ◌^◌, ◌<◌, ◌≤◌, arith, ap}
-use Rattle.std.specs.Prelude.{Some, None, slice_get}
-use Rattle.fkv_words.specs.declared.phase_word.PhaseWord.{PhaseWord}
-use Rattle.fkv_words.specs.Layout.{phase_word}
+use Rattle.std.specs.Prelude.{Some, None, max, min, slice_get}
+use Rattle.fkv_words.specs.declared.wide_phase.WidePhase.{WidePhase}
+use Rattle.fkv_words.specs.Layout.{max_version, phase_spelled, wide_word}
 use Rattle.fkv_plane.specs.Plane.{action_at}
+use Rattle.fkv_words.specs.Phases.{phase_number}
 use Rattle.fkv_epoch.specs.Claiming.{phase_stored}
 use Rattle.fkv_epoch.specs.declared.claiming.Claiming.TheVariants as claim
 use Rattle.fkv_epoch.specs.EpochWorld.{Claims, HasRaised, Sight, EpochWorld, Armed, epoch_of, safe_of, own_epoch, drain_word}
@@ -55,5 +56,7 @@ pub no_claim_waits : (w : EpochWorld) (a slot c safe : ℕ) → IsSound w → sl
 no_claim_waits w a slot c safe sound got = sound.slots.holds a (Claims (claim.Receives slot c safe)) got
 
 -- a phase word is stored as it is spelled
-pub phase_is_stored : (x : PhaseWord) → phase_stored x.phase x.version ≡ phase_word x
-phase_is_stored x = omega (arith, x.some_version, x.version_fits)
+pub phase_is_stored : (x : WidePhase) → phase_stored x.phase x.version ≡ wide_word x
+phase_is_stored x =
+    let within : max (min x.version.0 max_version) 1 ≡ x.version.0 = omega (arith, x.some_version, x.version_fits) in
+    ap (λ (n : ℕ). phase_spelled n (phase_number x.phase)) within

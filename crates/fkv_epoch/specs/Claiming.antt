@@ -1,10 +1,10 @@
 -- How armed actions are claimed and run.
 use Rattle.std.specs.Prelude.{ℕ, ◌+◌, ◌-◌, ◌*◌, ◌<◌, ◌==◌, nat_lt, nat_le, min, max, if◌then◌else◌, Bool, true, false, Option, Some, None, ⊤}
 use Rattle.std.proofs.Common.{arith}
-use Rattle.fkv_base.specs.Limits.{drain_slots, last_version}
+use Rattle.fkv_base.specs.Limits.{drain_slots}
 use Rattle.fkv_base.specs.declared.phases.Phase.{Phase}
 use Rattle.fkv_base.specs.declared.numbers.Version.{Version}
-use Rattle.fkv_words.specs.Layout.{phase_word}
+use Rattle.fkv_words.specs.Layout.{max_version, wide_word}
 use Rattle.fkv_plane.specs.declared.actions.Action.{Action}
 use Rattle.fkv_plane.specs.declared.actions.Action.TheVariants as act
 use Rattle.fkv_plane.specs.declared.asks.Ask.{Ask}
@@ -27,13 +27,13 @@ IsClaimInRange (Receives slot epoch safe) = slot < drain_slots
 IsClaimInRange (Runs slot epoch safe action) = slot < drain_slots
 IsClaimInRange (FreesSlot slot safe) = slot < drain_slots
 
--- a version as it stands, and past its limits the nearest that there is
+-- a version as it stands, and past the limits of a phase word the nearest that it has room for
 abbrev pub version_within : Version → Version
-version_within version = record { 0 = max (min version.0 last_version) 1 }
+version_within version = record { 0 = max (min version.0 max_version) 1 }
 
 -- the phase word of a phase and a version
 abbrev pub phase_stored : Phase → Version → ℕ
-phase_stored phase version = phase_word (record { version = version_within version; phase = phase; some_version = omega arith; version_fits = omega arith })
+phase_stored phase version = wide_word (record { version = version_within version; phase = phase; some_version = omega arith; version_fits = omega arith })
 
 -- what running an action asks
 abbrev pub run_of : Action → Ask (Unit {0})

@@ -1,8 +1,8 @@
 -- What the machines load and store, said by the words and the replies alone, beside their tables.
 use Rattle.std.specs.Prelude.{◌≡◌, ℕ, ◌<◌, ◌≤◌, List, [], ◌∷◌, Option, Some, None}
 use Rattle.fkv_base.specs.Limits.{last_epoch}
-use Rattle.fkv_words.specs.declared.phase_word.PhaseWord.{PhaseWord}
-use Rattle.fkv_words.specs.Layout.{phase_word}
+use Rattle.fkv_words.specs.declared.wide_phase.WidePhase.{WidePhase}
+use Rattle.fkv_words.specs.Layout.{wide_word}
 use Rattle.fkv_plane.specs.declared.actions.Action.TheVariants as act
 use Rattle.fkv_plane.specs.declared.asks.Ask.{Ask}
 use Rattle.fkv_plane.specs.declared.asks.Ask.TheVariants.{Load, Store, Done}
@@ -114,4 +114,4 @@ pub record RaiseIsTold : Type 0 where
 
 -- A claimer that runs a phase's action stores the word of that phase and version.
 abbrev pub StoresPhase : Type 0
-StoresPhase = (slot epoch safe : ℕ) (x : PhaseWord) → claim_ask (claim.Runs slot epoch safe (act.Phase x.phase x.version)) ≡ Store (sight_place OfPhase) (phase_word x)
+StoresPhase = (slot epoch safe : ℕ) (x : WidePhase) → claim_ask (claim.Runs slot epoch safe (act.Phase x.phase x.version)) ≡ Store (sight_place OfPhase) (wide_word x)

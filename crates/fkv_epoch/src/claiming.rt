@@ -6,7 +6,7 @@ ghost use Rattle.fkv_epoch.specs.declared.claiming.Claiming.TheVariants.{AtRest,
 
 use fkv_base::{DRAIN_SLOTS, Phase, Version};
 use fkv_plane::{Action, Ask, SharedWord, drain_place};
-use fkv_words::PhaseWord;
+use fkv_words::WidePhase;
 use std::marker::Model;
 use std::mem;
 
@@ -172,10 +172,10 @@ fn run_of(action: &Action) -> Ask<()>
     }
 }
 
-/// The phase word of a phase and a version. For a version past its limits it has the nearest that there is.
+/// The phase word of a phase and a version. For a version past the word's limits it has the nearest that there is room for.
 fn phase_stored(phase: Phase, version: Version) -> u64
     ensures { result ≡ phase_stored phase version }
 {
-    let version = Version(version.0.min(Version::LAST).max(1));
-    PhaseWord { version, phase }.pack()
+    let version = Version(version.0.min(WidePhase::LAST).max(1));
+    WidePhase { version, phase }.pack()
 }

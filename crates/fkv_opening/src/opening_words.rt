@@ -3,14 +3,14 @@ ghost use Rattle.std.specs.Prelude.{◌<◌};
 
 use crate::opened_store::Opened;
 use fkv_base::{Addr, Phase, Serial, Version};
-use fkv_words::{CutWord, PhaseWord};
+use fkv_words::{CutWord, WidePhase};
 
 /// The words that a store has once.
 #[derive(Clone, Copy)]
 pub struct OpeningWords {
     pub epoch: u64,
     pub safe_epoch: u64,
-    pub phase: PhaseWord,
+    pub phase: WidePhase,
     pub tail: Addr,
     /// The room up to this address is open to new records.
     pub limit: Addr,
@@ -51,7 +51,7 @@ impl Opened {
         OpeningWords {
             epoch: 1,
             safe_epoch: 0,
-            phase: PhaseWord {
+            phase: WidePhase {
                 version: Version(self.number.0 + 1),
                 phase: Phase::Rest,
             },

@@ -1,13 +1,16 @@
 //! Words that were spelled by hand, and what each says; none where it says nothing.
 use fkv_base::{Addr, Key, Phase, Serial, Version};
 use fkv_words::{
-    BucketTail, CutWord, Entry, Header, PhaseSaid, PhaseWord, bucket_of, phase_said, tag_of,
+    BucketTail, CutWord, Entry, Header, PhaseSaid, PhaseWord, WidePhase, bucket_of, phase_said,
+    tag_of,
 };
 use std::process::Abort;
 
 const BIT_13: u64 = 8192;
 
 const BIT_19: u64 = 524288;
+
+const BIT_51: u64 = 2251799813685248;
 
 const BIT_61: u64 = 2305843009213693952;
 
@@ -105,11 +108,42 @@ fn phases(rt: &impl Abort) {
     }
 }
 
-/// A word that says no phase is spoiled.
+/// From bit 19 on stands what a version has above its low thirteen bits. There is no version 0 and no phase 5, and bits
+/// 13 and 51 are 0.
+fn wide_phases(rt: &impl Abort) {
+    let flush = WidePhase {
+        version: Version(7),
+        phase: Phase::WaitFlush,
+    };
+    let first_wide = WidePhase {
+        version: Version(8192),
+        phase: Phase::Prepare,
+    };
+    let last = WidePhase {
+        version: Version(WidePhase::LAST),
+        phase: Phase::WaitFlush,
+    };
+    for (word, said) in [
+        (262151, Some(flush)),
+        (BIT_19 + 65536, Some(first_wide)),
+        (2251799813431295, Some(last)),
+        (262144, None),
+        (327687, None),
+        (BIT_13 + 7, None),
+        (BIT_51 + 7, None),
+    ] {
+        assert!(rt; WidePhase::unpack(word) == said, "{word}");
+        if let Some(phase) = said {
+            assert!(rt; phase.pack() == word);
+        }
+    }
+}
+
+/// A word that says no phase, or a version behind the last, is spoiled.
 fn phases_are_said(rt: &impl Abort) {
     let said = phase_said(196615);
     assert!(rt; matches!(said, PhaseSaid::Says(Phase::WaitPending, Version(7))));
-    for word in [65536, 196615 + BIT_13] {
+    for word in [65536, 196615 + BIT_13, 196615 + BIT_19] {
         assert!(rt; matches!(phase_said(word), PhaseSaid::Spoiled), "{word}");
     }
 }
@@ -129,6 +163,7 @@ fn words_are_as_they_were_spelled(rt: HostRuntime) {
     tails(&rt);
     cuts(&rt);
     phases(&rt);
+    wide_phases(&rt);
     phases_are_said(&rt);
     homes(&rt);
 }

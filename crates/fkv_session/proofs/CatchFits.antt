@@ -20,13 +20,9 @@ use Rattle.fkv_session.specs.declared.catching_up.Catching.{Catching}
 use Rattle.fkv_session.specs.declared.catching_up.Catching.TheVariants.{Ended, Refreshes, Protects, StoresCut, StoresOwing, Latches, Finishes}
 use Rattle.fkv_words.specs.PhaseWords.{phase_said}
 use Rattle.fkv_session.specs.CatchingUp.{CatchState, seen_after, finishes, latch_begun, latch_wanted, latches, cuts, is_same_version, enters_prepare, takes_up, refresh_ledto, protect_ledto, latch_ledto, finish_ledto, catch_requests, catching_next, catch_next}
-use Rattle.std.proofs.Common.{arith}
-use Rattle.std.specs.Prelude.{◌≤◌, ◌/◌, ◌%◌, ◌^◌, ◌==◌}
-use Rattle.std.proofs.lemmas.Bool.Decides.{nat_tests}
 use Rattle.fkv_words.specs.declared.phase_words.PhaseSaid.{PhaseSaid}
 use Rattle.fkv_words.specs.declared.phase_words.PhaseSaid.TheVariants.{Says, Spoiled}
-use Rattle.fkv_words.specs.PhaseWords.{has_spare_bits, phase_numbered, phase_with}
-use Rattle.fkv_base.specs.declared.phases.Phase.{Phase}
+use Rattle.fkv_words.proofs.Shown.{said_version}
 use Rattle.fkv_session.specs.Versions.{IsVersion}
 
 abbrev IsFit : CatchState → Type 0
@@ -37,21 +33,12 @@ abbrev IsSaidFit : PhaseSaid → Type 0
 IsSaidFit Spoiled = Unit {0}
 IsSaidFit (Says phase version) = IsVersion version.0
 
-with_fit : (its : Option Phase) (version : ℕ) → version ≤ 8191 → IsSaidFit (phase_with its version)
-with_fit None version few = tt
-with_fit (Some its) version few = tested (version == 0) refl
-  where
-    tested : (c : Bool) → (version == 0) ≡ c → IsSaidFit (if c then Spoiled else Says its (record { 0 = version }))
-    tested true e = tt
-    tested false e = (grind (arith, nat_tests, e), few)
+says_fit : (word : ℕ) (said : PhaseSaid) → phase_said word ≡ said → IsSaidFit said
+says_fit word Spoiled e = tt
+says_fit word (Says phase version) e = said_version word phase version e
 
 said_fit : (word : ℕ) → IsSaidFit (phase_said word)
-unfolding phase_said
-said_fit word = tested (has_spare_bits word)
-  where
-    tested : (c : Bool) → IsSaidFit (if c then phase_with (phase_numbered (word / 2 ^ 16 % 2 ^ 3)) (word % 2 ^ 13) else Spoiled)
-    tested true = with_fit (phase_numbered (word / 2 ^ 16 % 2 ^ 3)) (word % 2 ^ 13) (omega arith)
-    tested false = tt
+said_fit word = says_fit word (phase_said word) refl
 
 seen_fit : (seen : Seen) (values : loaded.Seen) (said : PhaseSaid) → IsVersion seen.version.0 → IsSaidFit said → IsVersion (seen_after seen values said).version.0
 seen_fit seen values Spoiled fit so = fit

@@ -36,10 +36,10 @@ use Rattle.fkv_pending.specs.declared.pending_requests.PendingRequest.{PendingRe
 use Rattle.fkv_pending.specs.Pending.{with_latch, is_unlatched, is_update_of}
 use Rattle.fkv_pending.specs.Mailing.{mail_next}
 use Rattle.fkv_pending.specs.Attempting.{attempt_begun}
-use Rattle.fkv_base.specs.declared.phases.Phase.{Phase}
 use Rattle.fkv_words.specs.declared.phase_words.PhaseSaid.{PhaseSaid}
 use Rattle.fkv_words.specs.declared.phase_words.PhaseSaid.TheVariants.{Says, Spoiled}
-use Rattle.fkv_words.specs.PhaseWords.{phase_numbered, has_spare_bits, phase_with, phase_said}
+use Rattle.fkv_words.specs.PhaseWords.{phase_said}
+use Rattle.fkv_words.proofs.Shown.{said_version}
 use Rattle.fkv_session.specs.declared.answers.Told.{Told}
 use Rattle.fkv_session.specs.declared.answers.Told.TheVariants as told
 use Rattle.fkv_session.specs.declared.catching_up.Catching.{Catching}
@@ -408,17 +408,12 @@ abbrev pub SaysVersion : PhaseSaid → Type 0
 SaysVersion Spoiled = Unit {0}
 SaysVersion (Says phase version) = FitsVersion version.0
 
-either_says : (c : Bool) (a b : PhaseSaid) → (c ≡ true → SaysVersion a) → (c ≡ false → SaysVersion b) → SaysVersion (if c then a else b)
-either_says true a b one other = one refl
-either_says false a b one other = other refl
-
-with_fits : (its : Option Phase) (version : ℕ) → version ≤ last_version → SaysVersion (phase_with its version)
-with_fits None version few = tt
-with_fits (Some its) version few = either_says (version == 0) Spoiled (Says its (record { 0 = version })) (λ e. tt) (λ e. (grind (arith, nat_tests, e), few))
+says_fits : (word : ℕ) (said : PhaseSaid) → phase_said word ≡ said → SaysVersion said
+says_fits word Spoiled e = tt
+says_fits word (Says phase version) e = said_version word phase version e
 
 phase_fits : (word : ℕ) → SaysVersion (phase_said word)
-unfolding phase_said
-phase_fits word = either_says (has_spare_bits word) (phase_with (phase_numbered (word / 2 ^ 16 % 2 ^ 3)) (word % 2 ^ 13)) Spoiled (λ e. with_fits (phase_numbered (word / 2 ^ 16 % 2 ^ 3)) (word % 2 ^ 13) (omega arith)) (λ e. tt)
+phase_fits word = says_fits word (phase_said word) refl
 
 seen_fits : (seen : Seen) (values : loaded.Seen) (said : PhaseSaid) → SaysVersion said → is_same_version seen (seen_after seen values said) ≡ false → FitsVersion (seen_after seen values said).version.0
 seen_fits seen values Spoiled says e = let same : (seen.version.0 == seen.version.0) ≡ true = grind (arith, nat_tests) in cc

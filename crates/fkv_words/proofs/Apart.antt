@@ -6,10 +6,11 @@ use Rattle.fkv_words.specs.declared.entries.Entry.{Entry}
 use Rattle.fkv_words.specs.declared.bucket_tail.BucketTail.{BucketTail}
 use Rattle.fkv_words.specs.declared.headers.Header.{Header}
 use Rattle.fkv_words.specs.declared.phase_word.PhaseWord.{PhaseWord}
+use Rattle.fkv_words.specs.declared.wide_phase.WidePhase.{WidePhase}
 use Rattle.fkv_words.specs.declared.cut_word.CutWord.{CutWord}
 use Rattle.fkv_words.specs.Fields.{SpellsApart}
-use Rattle.fkv_words.specs.Layout.{entry_word, tail_word, header_word, phase_word, cut_word}
-use Rattle.fkv_words.proofs.Bits.{same_bit, bit_small, same_phase}
+use Rattle.fkv_words.specs.Layout.{entry_word, tail_word, header_word, phase_word, wide_word, cut_word}
+use Rattle.fkv_words.proofs.Bits.{same_bit, bit_small, same_phase, few_phases}
 use Rattle.fkv_words.proofs.Spelled.{same_made}
 
 entry_same : (x y : Entry) → x.addr.0 ≡ y.addr.0 → x.tag ≡ y.tag → x ≡ y
@@ -61,6 +62,20 @@ phase_same x y v p =
 
 pub phase_apart : SpellsApart phase_word
 phase_apart x y e = phase_same x y (omega arith) (same_phase x.phase y.phase (omega arith))
+
+wide_same : (x y : WidePhase) → x.version.0 ≡ y.version.0 → x.phase ≡ y.phase → x ≡ y
+wide_same x y v p =
+    let parts : ◌≡◌ {A = ℕ × Phase} (x.version.0, x.phase) (y.version.0, y.phase) = cc in
+    same_made {A = ℕ × Phase} {P = λ p. (0 < p.0) × (p.0 < 2 ^ 45)}
+    (λ p h. record { version = record { 0 = p.0 }; phase = p.1; some_version = h.0; version_fits = h.1 })
+    (λ p. hlevel le_prop) (x.version.0, x.phase) (y.version.0, y.phase)
+    (x.some_version, x.version_fits) (y.some_version, y.version_fits) parts
+
+pub wide_apart : SpellsApart wide_word
+wide_apart x y e =
+    let a = few_phases x.phase in
+    let b = few_phases y.phase in
+    wide_same x y (omega (arith, e, a, b)) (same_phase x.phase y.phase (omega (arith, e, a, b)))
 
 cut_same : (x y : CutWord) → x.serial.0 ≡ y.serial.0 → x.version.0 ≡ y.version.0 → x ≡ y
 cut_same x y s v =

@@ -30,3 +30,11 @@ same_phase InProgress InProgress e = refl
 same_phase WaitPending WaitPending e = refl
 same_phase WaitFlush WaitFlush e = refl
 same_phase p q e = absurd (omega arith)
+
+-- there are five of them
+pub few_phases : (its : Phase) → phase_number its < 5
+few_phases Rest = omega arith
+few_phases Prepare = omega arith
+few_phases InProgress = omega arith
+few_phases WaitPending = omega arith
+few_phases WaitFlush = omega arith

@@ -11,12 +11,14 @@ mod laws;
 mod phase_number;
 mod phase_word;
 mod phase_words;
+mod wide_phase;
 
 pub use bucket_tail::BucketTail;
 pub use cut_word::CutWord;
 pub use entries::Entry;
 pub use headers::Header;
 pub use home::{bucket_of, tag_of};
-pub use laws::law_words_apart;
+pub use laws::{law_phases_agree, law_words_apart};
 pub use phase_word::PhaseWord;
 pub use phase_words::{PhaseSaid, phase_said};
+pub use wide_phase::WidePhase;

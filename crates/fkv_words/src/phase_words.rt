@@ -2,7 +2,7 @@
 ghost use Rattle.std.specs.Prelude.{◌≡◌};
 ghost use Rattle.fkv_words.specs.PhaseWords.{phase_said};
 
-use crate::phase_word::PhaseWord;
+use crate::wide_phase::WidePhase;
 use fkv_base::{Phase, Version};
 
 /// What a phase word says.
@@ -14,12 +14,18 @@ pub enum PhaseSaid {
 }
 
 /// What this word says as a phase word: total, so a machine's table may go by any reply. It says a phase and version
-/// exactly where [`PhaseWord::unpack`] gives them.
+/// exactly where [`WidePhase::unpack`] gives them and the version is no later than the last that there is.
 pub fn phase_said(word: u64) -> PhaseSaid
     ensures { result ≡ phase_said word }
 {
-    match PhaseWord::unpack(word) {
-        Some(its) => PhaseSaid::Says(its.phase, its.version),
+    match WidePhase::unpack(word) {
+        Some(its) => {
+            if its.version.0 <= Version::LAST {
+                PhaseSaid::Says(its.phase, its.version)
+            } else {
+                PhaseSaid::Spoiled
+            }
+        }
         None => PhaseSaid::Spoiled,
     }
 }

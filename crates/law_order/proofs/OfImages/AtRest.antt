@@ -1,5 +1,5 @@
 -- An opened store opens at rest, so the numbers of its commits are in turn.
-use Rattle.std.proofs.Common.{◌≡◌, ℕ, ◌+◌, ◌*◌, ◌<◌, ◌≤◌, ◌^◌, ◌∙◌, arith, refl, sym, ap, subst, List}
+use Rattle.std.proofs.Common.{◌≡◌, ℕ, ◌+◌, ◌<◌, ◌≤◌, ◌∙◌, arith, refl, sym, ap, subst, List}
 use Rattle.std.specs.Prelude.{max, min}
 use Rattle.fkv_base.specs.Limits.{last_version}
 use Rattle.fkv_base.specs.declared.phases.Phase.TheVariants.{Rest}
@@ -11,6 +11,7 @@ use Rattle.law_opening.specs.Below.fkv_opening.TheOpened.{Opened}
 use Rattle.fkv_plane.specs.Asked.{word_at}
 use Rattle.fkv_plane.specs.Places.{shared_place}
 use Rattle.fkv_plane.specs.declared.places.SharedWord.TheVariants as one
+use Rattle.fkv_words.specs.Layout.{max_version, phase_spelled}
 use Rattle.fkv_words.specs.Phases.{phase_number}
 use Rattle.fkv_words.specs.PhaseWords.{phase_said}
 use Rattle.fkv_words.specs.declared.phase_words.PhaseSaid.TheVariants.{Says}
@@ -21,11 +22,11 @@ use Rattle.law_commit.specs.Phases.Staged.{OpensAtRest}
 use Rattle.law_commit.proofs.OfPhases.StageWords.{stored_says}
 use Rattle.law_commit.specs.Below.law_world.Guarded.OpenedStore.{IsOpenedStore}
 
-word_there : (o : Opened) (words : List ℕ) → AreWordsOfOpened o words → word_at words (shared_place one.Phase) ≡ o.number.0 + 1 + phase_number Rest * 2 ^ 16
+word_there : (o : Opened) (words : List ℕ) → AreWordsOfOpened o words → word_at words (shared_place one.Phase) ≡ phase_spelled (o.number.0 + 1) (phase_number Rest)
 word_there o words are = ap (λ (all : List ℕ). word_at all (shared_place one.Phase)) are.whole
 
-stored_there : (n : ℕ) → 0 < n → n ≤ last_version → n + phase_number Rest * 2 ^ 16 ≡ phase_stored Rest (record { 0 = n })
-stored_there n some low = let within : max (min n last_version) 1 ≡ n = omega (arith, some, low) in omega (arith, within)
+stored_there : (n : ℕ) → 0 < n → n ≤ last_version → phase_spelled n (phase_number Rest) ≡ phase_stored Rest (record { 0 = n })
+stored_there n some low = let within : max (min n max_version) 1 ≡ n = omega (arith, some, low) in ap (λ (m : ℕ). phase_spelled m (phase_number Rest)) (sym within)
 
 pub opens_at_rest : (o : Opened) (n : Now) → IsOpeningWorld o n → OpensAtRest n
 opens_at_rest o n its =

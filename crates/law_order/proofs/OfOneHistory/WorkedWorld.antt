@@ -19,6 +19,7 @@ use Rattle.law_opening.specs.Below.fkv_opening.TheOpened.{Opened}
 use Rattle.law_commit.specs.Below.fkv_session.Sessions.{SessionState}
 use Rattle.law_commit.specs.Below.fkv_world.Runs.{World}
 use Rattle.law_commit.specs.Below.fkv_world.World.{Now}
+use Rattle.fkv_words.specs.Layout.{phase_spelled}
 use Rattle.fkv_words.specs.Phases.{phase_number}
 use Rattle.law_commit.specs.WorkedRuns.{resting_keeper}
 use Rattle.law_commit.specs.Below.law_refine.Events.Worked.{first_session, first_words, first_world}
@@ -34,7 +35,7 @@ worked_now keeper one other = let first : World = first_world shape places keepe
 
 -- ---- its words
 once_of : ℕ → ℕ → ℕ → ℕ → List ℕ
-once_of number tail warm limit = 1 ∷ 0 ∷ (number + 1 + phase_number Rest * 2 ^ 16) ∷ tail ∷ limit ∷ tail ∷ tail ∷ tail ∷ warm ∷ warm ∷ 0 ∷ [] ++ replicate 5 0 ++ replicate 8 0
+once_of number tail warm limit = 1 ∷ 0 ∷ phase_spelled (number + 1) (phase_number Rest) ∷ tail ∷ limit ∷ tail ∷ tail ∷ tail ∷ warm ∷ warm ∷ 0 ∷ [] ++ replicate 5 0 ++ replicate 8 0
 
 own_of : ℕ → ℕ → List ℕ
 own_of number point =

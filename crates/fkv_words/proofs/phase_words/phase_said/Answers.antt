@@ -1,45 +1,17 @@
 -- What a phase word says is what is read where one is spelled.
-use Rattle.std.proofs.Common.{◌≡◌, ℕ, ◌+◌, ◌*◌, ◌<◌, ◌^◌, ◌%◌, ◌/◌, arith, refl, subst, Bool, true, false}
-use Rattle.std.specs.Prelude.{◌==◌, ◌&&◌, if◌then◌else◌, Option, Some, None}
+use Rattle.std.proofs.Common.{◌≡◌, ℕ, ◌<◌, ◌≤◌, ◌^◌, ◌%◌, ◌/◌, arith, refl, sym, ap, subst, ◌∙◌, Bool, true, false}
+use Rattle.std.specs.Prelude.{◌==◌, ◌&&◌, nat_le, if◌then◌else◌, Option, Some, None}
 use Rattle.std.proofs.lemmas.Bool.Decides.{nat_tests}
+use Rattle.fkv_base.specs.Limits.{last_version}
 use Rattle.fkv_base.specs.declared.phases.Phase.{Phase}
 use Rattle.fkv_base.specs.declared.phases.Phase.TheVariants as phase
-use Rattle.fkv_words.specs.declared.phase_word.PhaseWord.{PhaseWord}
+use Rattle.fkv_words.specs.declared.wide_phase.WidePhase.{WidePhase}
 use Rattle.fkv_words.specs.Phases.{phase_number}
-use Rattle.fkv_words.specs.Layout.{phase_word}
+use Rattle.fkv_words.specs.Layout.{wide_word}
 use Rattle.fkv_words.specs.declared.phase_words.PhaseSaid.TheVariants.{Says, Spoiled}
-use Rattle.fkv_words.specs.PhaseWords.{phase_numbered, phase_with, phase_said}
+use Rattle.fkv_words.specs.PhaseWords.{phase_numbered, phase_with, phase_said, has_spare_bits, is_version, version_in}
+use Rattle.fkv_words.proofs.Said.{spelled_as, spelled_says}
 use Rattle.fkv_words.proofs.phase_words.phase_said.Goals as goal
-
-numbered : (its : Phase) → phase_numbered (phase_number its) ≡ Some its
-numbered phase.Rest = refl
-numbered phase.Prepare = refl
-numbered phase.InProgress = refl
-numbered phase.WaitPending = refl
-numbered phase.WaitFlush = refl
-
-few : (its : Phase) → phase_number its < 5
-few phase.Rest = omega arith
-few phase.Prepare = omega arith
-few phase.InProgress = omega arith
-few phase.WaitPending = omega arith
-few phase.WaitFlush = omega arith
-
-spelled : (word version number : ℕ) (its : Phase) → phase_numbered number ≡ Some its → number < 5 → version + number * 2 ^ 16 ≡ word → 0 < version → version < 2 ^ 13 → Says its (record { 0 = version }) ≡ phase_said word
-unfolding phase_said
-spelled word version number its named small is some fits =
-    let a : word % 2 ^ 13 ≡ version = omega (arith, is, fits) in
-    let n : word / 2 ^ 16 % 2 ^ 3 ≡ number = omega (arith, is, fits, small) in
-    let low : (word / 2 ^ 13 % 2 ^ 3 == 0) ≡ true = (let h : word / 2 ^ 13 % 2 ^ 3 ≡ 0 = omega (arith, is, fits, small) in grind (arith, nat_tests, h)) in
-    let high : (word / 2 ^ 19 == 0) ≡ true = (let h : word / 2 ^ 19 ≡ 0 = omega (arith, is, fits, small) in grind (arith, nat_tests, h)) in
-    let v : (version == 0) ≡ false = grind (arith, nat_tests, some) in
-    rw (low, high, n, a, named, v) refl
-
-pub returns-in-Some : goal.returns-in-Some
-returns-in-Some c =
-    let its = c.in-Some.its in
-    let is : phase_word its ≡ c.args.word = (c.unpack.ensures its).0 c.in-Some.is in
-    spelled c.args.word its.version.0 (phase_number its.phase) its.phase (numbered its.phase) (few its.phase) is its.some_version its.version_fits
 
 -- the number of the phase that a number has
 named_number : (n : ℕ) (its : Phase) → phase_numbered n ≡ Some its → phase_number its ≡ n
@@ -54,28 +26,46 @@ named_number n its is = tested (n == 0) (n == 1) (n == 2) (n == 3) (n == 4) refl
     tested false false false false true ea eb ed ee ef is = (let h : phase.WaitFlush ≡ its = cc in subst (λ x. phase_number x ≡ n) h (let m : n ≡ 4 = grind (arith, nat_tests, ef) in omega (arith, m)))
     tested false false false false false ea eb ed ee ef is = cc
 
+pub returns-then-its-le-LAST : goal.returns-then-its-le-LAST
+returns-then-its-le-LAST c =
+    let its = c.in-Some.its in
+    let is : wide_word its ≡ c.args.word = (c.unpack.ensures its).0 c.in-Some.is in
+    let few = c.if-its-le-LAST.true in
+    sym (spelled_says c.args.word its.version.0 its.phase is its.some_version (omega (arith, few)))
+
+pub returns-else-its-le-LAST : goal.returns-else-its-le-LAST
+returns-else-its-le-LAST c =
+    let its = c.in-Some.its in
+    let is : wide_word its ≡ c.args.word = (c.unpack.ensures its).0 c.in-Some.is in
+    let many = c.if-its-le-LAST.false in
+    let late : nat_le its.version.0 last_version ≡ false = (let h : ¬ (its.version.0 ≤ last_version) = (λ low. omega (arith, many, low)) in grind (arith, nat_tests, h)) in
+    let there : is_version its.version.0 ≡ false = (let a : nat_le 1 its.version.0 ≡ true = (let some = its.some_version in grind (arith, nat_tests, some)) in rw (a, late) refl) in
+    sym (spelled_as c.args.word its.version.0 its.phase is ∙ ap (λ (b : Bool). if b then Says its.phase (record { 0 = its.version.0 }) else Spoiled) there)
+
 pub returns-in-None : goal.returns-in-None
 unfolding phase_said
-returns-in-None c = tested (word / 2 ^ 13 % 2 ^ 3 == 0) (word / 2 ^ 19 == 0) refl refl
+returns-in-None c = tested (has_spare_bits word) refl
   where
     word : ℕ
     word = c.args.word
 
-    versioned : (its : Phase) → phase_numbered (word / 2 ^ 16 % 2 ^ 3) ≡ Some its → word / 2 ^ 13 % 2 ^ 3 ≡ 0 → word / 2 ^ 19 ≡ 0 → (z : Bool) → (word % 2 ^ 13 == 0) ≡ z → Spoiled ≡ (if z then Spoiled else Says its (record { 0 = word % 2 ^ 13 }))
-    versioned its named low high true ez = refl
-    versioned its named low high false ez =
-        let some : 0 < word % 2 ^ 13 = grind (arith, nat_tests, ez) in
+    versioned : (its : Phase) → phase_numbered (word / 2 ^ 16 % 2 ^ 3) ≡ Some its → word / 2 ^ 13 % 2 ^ 3 ≡ 0 → (a b : Bool) → nat_le 1 (version_in word) ≡ a → nat_le (version_in word) last_version ≡ b
+        → Spoiled ≡ (if a && b then Says its (record { 0 = version_in word }) else Spoiled)
+    versioned its named low false b ea eb = refl
+    versioned its named low true false ea eb = refl
+    versioned its named low true true ea eb =
+        let some : 1 ≤ version_in word = grind (arith, nat_tests, ea) in
+        let few : version_in word ≤ last_version = grind (arith, nat_tests, eb) in
         let n : phase_number its ≡ word / 2 ^ 16 % 2 ^ 3 = named_number (word / 2 ^ 16 % 2 ^ 3) its named in
-        let w : PhaseWord = record { version = record { 0 = word % 2 ^ 13 }; phase = its; some_version = some; version_fits = omega arith } in
-        let e : c.unpack.result ≡ Some w = (c.unpack.ensures w).1 (omega (arith, n, low, high)) in
+        let w : WidePhase = record { version = record { 0 = version_in word }; phase = its; some_version = omega (arith, some); version_fits = omega (arith, few) } in
+        let e : c.unpack.result ≡ Some w = (c.unpack.ensures w).1 (omega (arith, n, low)) in
         let none = c.in-None.is in
         cc
 
-    numbered_so : (its : Option Phase) → phase_numbered (word / 2 ^ 16 % 2 ^ 3) ≡ its → word / 2 ^ 13 % 2 ^ 3 ≡ 0 → word / 2 ^ 19 ≡ 0 → Spoiled ≡ phase_with its (word % 2 ^ 13)
-    numbered_so None named low high = refl
-    numbered_so (Some its) named low high = versioned its named low high (word % 2 ^ 13 == 0) refl
+    numbered_so : (its : Option Phase) → phase_numbered (word / 2 ^ 16 % 2 ^ 3) ≡ its → word / 2 ^ 13 % 2 ^ 3 ≡ 0 → Spoiled ≡ phase_with its (version_in word)
+    numbered_so None named low = refl
+    numbered_so (Some its) named low = versioned its named low (nat_le 1 (version_in word)) (nat_le (version_in word) last_version) refl refl
 
-    tested : (a b : Bool) → (word / 2 ^ 13 % 2 ^ 3 == 0) ≡ a → (word / 2 ^ 19 == 0) ≡ b → Spoiled ≡ (if a && b then phase_with (phase_numbered (word / 2 ^ 16 % 2 ^ 3)) (word % 2 ^ 13) else Spoiled)
-    tested true true ea eb = numbered_so (phase_numbered (word / 2 ^ 16 % 2 ^ 3)) refl (grind (arith, nat_tests, ea)) (grind (arith, nat_tests, eb))
-    tested true false ea eb = refl
-    tested false b ea eb = refl
+    tested : (a : Bool) → has_spare_bits word ≡ a → Spoiled ≡ (if a then phase_with (phase_numbered (word / 2 ^ 16 % 2 ^ 3)) (version_in word) else Spoiled)
+    tested true ea = numbered_so (phase_numbered (word / 2 ^ 16 % 2 ^ 3)) refl (grind (arith, nat_tests, ea))
+    tested false ea = refl
