@@ -2,6 +2,7 @@
 use Rattle.std.proofs.Common.{◌≡◌, ℕ, ◌+◌, ◌*◌, ◌<◌, ◌≤◌, ◌^◌, ◌⊎◌, refl, inl, inr, arith, sym, ap, ◌∙◌, subst, Bool, true, false}
 use Rattle.std.specs.Prelude.{◌≢◌, ◌==◌, ◌&&◌, nat_lt, if◌then◌else◌, ⊤}
 use Rattle.fkv_base.specs.declared.numbers.Addr.{Addr}
+use Rattle.fkv_marks.specs.Marks.{mark}
 use Rattle.fkv_words.specs.declared.headers.Header.{Header}
 use Rattle.fkv_words.specs.Fields.{bit_of}
 use Rattle.fkv_words.specs.Layout.{header_word}
@@ -75,7 +76,7 @@ AppendEnd c told last append.Contended = IsContended c told
 
 -- the slot and the record are the request's
 abbrev pub IsMadeFor : Trial → FoundSlot → RecordWords → Type 0
-IsMadeFor c slot words = (slot.tag ≡ (home_at c).tag) × (words.header.version.0 ≡ c.request.version.0)
+IsMadeFor c slot words = (slot.tag ≡ (home_at c).tag) × (words.header.version.0 ≡ mark c.request.version.0)
 
 -- the Cas of the entry was lost, and the record is to be invalidated
 pub record LosesSlot (c : Trial) (told : Told) (slot : FoundSlot) (words : RecordWords) (a : AppendState) : Type 0 where
@@ -239,7 +240,7 @@ invalidated_true c told slot words a addr works reserved lost its_header = recor
     slot = works.has_slot;
     reserved = reserved.its_cas;
     its_cas = subst (λ tag. IsLost told slot.place slot.entry (new_entry addr.0 tag)) works.made_for.0 lost;
-    its_header = subst (IsStored told (record_place c.places addr.0 rec.Header)) (invalid_word words.header.previous.0 words.header.version.0 (entry_addr slot.entry) c.request.version.0 works.previous works.made_for.1) its_header;
+    its_header = subst (IsStored told (record_place c.places addr.0 rec.Header)) (invalid_word words.header.previous.0 words.header.version.0 (entry_addr slot.entry) (mark c.request.version.0) works.previous works.made_for.1) its_header;
   });
 }
 

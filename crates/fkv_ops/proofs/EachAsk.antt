@@ -2,6 +2,7 @@
 use Rattle.std.proofs.Common.{◌≡◌, ℕ, ◌*◌, ◌^◌, refl, inl, inr, sym, ap, ◌∙◌, subst, Bool, true, false}
 use Rattle.std.specs.Prelude.{◌==◌, if◌then◌else◌, Option, Some, None}
 use Rattle.fkv_base.specs.declared.numbers.Addr.{Addr}
+use Rattle.fkv_marks.specs.Marks.{mark}
 use Rattle.fkv_map.specs.declared.operations.Reply.{Reply}
 use Rattle.fkv_map.specs.Keys.{reply_from}
 use Rattle.fkv_words.specs.Layout.{header_word}
@@ -106,7 +107,7 @@ fill_so c told place entry old is_current addr (fill.StoresKey it its) reply eff
 fill_so c told place entry old is_current addr (fill.StoresHeader it its) reply effect slot made_of reserved row = record {
   addr = addr.0;
   reserved = reserved.its_cas;
-  its_word = ItsHeader slot (ap (λ a. record_place c.places a.0 rec.Header) row.0) (ap (λ w. header_word w.header) row.1 ∙ plain (entry_addr entry) (c.request.version.0 * 2 ^ 48));
+  its_word = ItsHeader slot (ap (λ a. record_place c.places a.0 rec.Header) row.0) (ap (λ w. header_word w.header) row.1 ∙ plain (entry_addr entry) ((mark c.request.version.0) * 2 ^ 48));
 }
 
 -- where the Cas of the slot is won the append has published
@@ -136,7 +137,7 @@ unfolding invalidate_ask passed
 invalidate_so c told place entry old addr reply effect slot reserved lost = record {
   addr = addr.0;
   reserved = reserved.its_cas;
-  its_word = Invalid slot lost refl (invalid_word (entry_addr entry) c.request.version.0 (entry_addr entry) c.request.version.0 refl refl);
+  its_word = Invalid slot lost refl (invalid_word (entry_addr entry) (mark c.request.version.0) (entry_addr entry) (mark c.request.version.0) refl refl);
 }
 
 append_so : (c : Trial) (told : Told) (t : TryState) (its : Reply) (place entry : ℕ) (old : Option ℕ) (is_current : Bool) (last : Appending) (a : AppendState) (step : Appending) (reply : ℕ) → HasEntry c told place entry → IsMadeOf c told place entry old is_current

@@ -2,6 +2,7 @@
 use Rattle.std.proofs.Common.{◌≡◌, ℕ, ◌+◌, ◌*◌, ◌^◌, List, ◌∷◌, refl, arith, sym, ap, ◌∙◌, subst, Bool, true, false}
 use Rattle.std.specs.Prelude.{◌==◌, ◌&&◌, not, if◌then◌else◌, ⊤, Option, Some, None}
 use Rattle.fkv_base.specs.declared.numbers.Addr.{Addr}
+use Rattle.fkv_marks.specs.Marks.{mark}
 use Rattle.fkv_words.specs.Fields.{bit_of}
 use Rattle.fkv_map.specs.declared.operations.Op.{Op}
 use Rattle.fkv_map.specs.declared.operations.Op.TheVariants.{Upsert, Delete, Add as Adds, Max as Maxes, Read, Merge as Merges}
@@ -163,7 +164,7 @@ published_effect c told place entry old is_current ask reply its by slot made_of
   above = by.reserved.above;
   its_value = by.filled.its_value;
   its_key = by.filled.its_key;
-  its_header = subst (IsStored told (record_place c.places by.addr.0 rec.Header)) (plain (entry_addr entry) (c.request.version.0 * 2 ^ 48)) by.filled.its_header;
+  its_header = subst (IsStored told (record_place c.places by.addr.0 rec.Header)) (plain (entry_addr entry) ((mark c.request.version.0) * 2 ^ 48)) by.filled.its_header;
   its_reply = told_so;
 }))
 

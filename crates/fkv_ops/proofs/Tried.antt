@@ -3,6 +3,7 @@ use Rattle.std.proofs.Common.{◌≡◌, ℕ, ◌<◌, ◌≤◌, ◌⊎◌, [],
 use Rattle.std.specs.Prelude.{◌≢◌, ◌==◌, ◌&&◌, not, nat_lt, nat_le, if◌then◌else◌, Option, Some, None}
 use Rattle.fkv_base.specs.declared.numbers.Addr.{Addr}
 use Rattle.fkv_base.specs.declared.numbers.Version.{Version}
+use Rattle.fkv_marks.specs.Marks.{mark}
 use Rattle.fkv_map.specs.declared.operations.Op.{Op}
 use Rattle.fkv_map.specs.declared.operations.Op.TheVariants.{Upsert, Delete, Add as Adds, Max as Maxes, Read, Merge as Merges}
 use Rattle.fkv_map.specs.Map.{absent_word}
@@ -114,7 +115,7 @@ disk_true c told t addr quiet not_alone under stays leaves = by_read (is_read c.
     by_read true e = awaits_true c told t addr quiet under (BelowHead leaves (read_counts c.request.op e) (AsRead e))
     by_read false e = by_blind (is_blind c.request.op) refl e
 
-may_change : (c : Trial) (told : Told) (w : WalkState) (addr : Addr) (version : Version) → FoundRow c told w addr version → version.0 ≡ c.request.version.0 → c.seen.offsets.read_only.0 ≤ addr.0 → MayChange c told addr.0
+may_change : (c : Trial) (told : Told) (w : WalkState) (addr : Addr) (version : Version) → FoundRow c told w addr version → version.0 ≡ mark c.request.version.0 → c.seen.offsets.read_only.0 ≤ addr.0 → MayChange c told addr.0
 may_change c told w addr version found own mutable = record { place = w.place; entry = w.entry; found = subst (HasFound c told w.place w.entry addr.0) own found.its.its_record; mutable = mutable }
 
 changes_true : (c : Trial) (told : Told) (t : TryState) (addr : Addr) (version : Version) → t.effect ≡ None → Updates c told t → FoundRow c told t.walk addr version → MayChange c told addr.0 → Comes c told None [] (latch_held t) (changes (norm c t) addr)
@@ -134,13 +135,13 @@ region_true : (c : Trial) (told : Told) (t : TryState) (addr : Addr) (version : 
     → Comes c told None [] (latch_held t) (region_met c.places (norm c t) addr version (if nat_lt addr.0 c.seen.offsets.head.0 then Some region.Disk else if nat_le c.seen.offsets.read_only.0 addr.0 then Some region.Mutable else None))
 region_true c told t addr version quiet not_alone updates found = by_head (nat_lt addr.0 c.seen.offsets.head.0) refl
   where
-    by_version : (b : Bool) → (version.0 == c.request.version.0) ≡ b → c.seen.offsets.read_only.0 ≤ addr.0 → Comes c told None [] (latch_held t) (if b then changes (norm c t) addr else copies c.places (norm c t) InMemory false)
-    by_version true e mutable = changes_true c told t addr version quiet updates found (may_change c told t.walk addr version found (eq_true version.0 c.request.version.0 e) mutable)
+    by_version : (b : Bool) → (version.0 == mark c.request.version.0) ≡ b → c.seen.offsets.read_only.0 ≤ addr.0 → Comes c told None [] (latch_held t) (if b then changes (norm c t) addr else copies c.places (norm c t) InMemory false)
+    by_version true e mutable = changes_true c told t addr version quiet updates found (may_change c told t.walk addr version found (eq_true version.0 (mark c.request.version.0) e) mutable)
     by_version false e mutable = copies_true c told t InMemory false quiet not_alone updates found.its.its_record.walk.slot
-        (record { addr = addr; version = version; found = found; may = OfAnother mutable (eq_false version.0 c.request.version.0 e); current = e })
+        (record { addr = addr; version = version; found = found; may = OfAnother mutable (eq_false version.0 (mark c.request.version.0) e); current = e })
 
     by_read_only : (b : Bool) → nat_le c.seen.offsets.read_only.0 addr.0 ≡ b → Comes c told None [] (latch_held t) (region_met c.places (norm c t) addr version (if b then Some region.Mutable else None))
-    by_read_only true e = by_version (version.0 == c.request.version.0) refl (le_true c.seen.offsets.read_only.0 addr.0 e)
+    by_read_only true e = by_version (version.0 == mark c.request.version.0) refl (le_true c.seen.offsets.read_only.0 addr.0 e)
     by_read_only false e = record {
       same = refl;
       owes = refl;
@@ -183,7 +184,7 @@ first_some c told place entry (Some version) knows = knows
 -- the first record that was met is of no version above
 some_stays : (c : Trial) (told : Told) (place entry : ℕ) (version : Version) → HasFirst c told place entry version.0 → is_above (Some version) c.request.version ≡ false → MayStay c told
 some_stays c told place entry version knows e =
-    let low = lt_false c.request.version.0 version.0 e in
+    let low = lt_false (mark c.request.version.0) version.0 e in
     let its = knows.its_version in
     record { place = place; entry = entry; slot = knows.slot; its_first = FirstInMemory knows.header knows.its_header (omega (arith, low, its)) }
 
@@ -237,7 +238,7 @@ first_known c told w walk.Contended e knows = cc
 others_by_record : (c : Trial) (told : Told) (place entry : ℕ) (first : Option Version) → FirstTrue c told place entry first → is_above first c.request.version ≡ true → OthersWentOn c told
 others_by_record c told place entry None knows e = cc
 others_by_record c told place entry (Some version) knows e =
-    let high = lt_true c.request.version.0 version.0 e in
+    let high = lt_true (mark c.request.version.0) version.0 e in
     let its = knows.its_version in
     ByRecord knows.header knows.slot knows.its_header (omega (arith, high, its))
 
@@ -275,8 +276,8 @@ pub safe_true : (c : Trial) (told : Told) (t : TryState) (addr : Addr) (version 
     → Loaded told (shared_place one.SafeReadOnly) safe → Comes c told None [] (latch_held t) (safe_loaded c.places (norm c t) addr version safe)
 safe_true c told t addr version safe quiet not_alone updates found below was = by_safe (nat_le safe addr.0) refl
   where
-    by_safe : (b : Bool) → nat_le safe addr.0 ≡ b → Comes c told None [] (latch_held t) (if b then ends c.places (norm c t) (answer.Wait reason.Fuzzy) else copies c.places (norm c t) InMemory (version.0 == c.request.version.0))
+    by_safe : (b : Bool) → nat_le safe addr.0 ≡ b → Comes c told None [] (latch_held t) (if b then ends c.places (norm c t) (answer.Wait reason.Fuzzy) else copies c.places (norm c t) InMemory (version.0 == mark c.request.version.0))
     by_safe true e = quiet_end c told t (answer.Wait reason.Fuzzy) quiet updates.under refl
         (record { place = t.walk.place; entry = t.walk.entry; addr = addr.0; version = version.0; safe = safe; found = found.its.its_record; below_seen = below; its_safe = was; above_safe = le_true safe addr.0 e })
-    by_safe false e = copies_true c told t InMemory (version.0 == c.request.version.0) quiet not_alone updates found.its.its_record.walk.slot
+    by_safe false e = copies_true c told t InMemory (version.0 == mark c.request.version.0) quiet not_alone updates found.its.its_record.walk.slot
         (record { addr = addr; version = version; found = found; may = BelowSafe safe below was (le_false safe addr.0 e); current = refl })

@@ -3,6 +3,7 @@ use Rattle.std.proofs.Common.{◌≡◌, ℕ, ◌+◌, ◌<◌, List, [], ◌∷
 use Rattle.std.specs.Prelude.{◌==◌, ◌&&◌, ◌||◌, not, if◌then◌else◌, Option, Some}
 use Rattle.fkv_base.specs.declared.numbers.Addr.{Addr}
 use Rattle.fkv_base.specs.declared.numbers.Version.{Version}
+use Rattle.fkv_marks.specs.Marks.{mark}
 use Rattle.fkv_words.specs.Fields.{bit_of}
 use Rattle.fkv_map.specs.declared.operations.Reply.{Reply}
 use Rattle.fkv_map.specs.Keys.{reply_from}
@@ -76,7 +77,7 @@ pub record CopyRow (c : Trial) (told : Told) (w : WalkState) (is_current : Bool)
   pub version : Version
   pub found : FoundRow c told w addr version
   pub may : MayCopy c told addr.0 version.0
-  pub current : (version.0 == c.request.version.0) ≡ is_current
+  pub current : (version.0 == mark c.request.version.0) ≡ is_current
 
 -- what a new record is to be made of
 abbrev pub OldRow : Trial → Told → WalkState → OldValue → Bool → Type 0
@@ -102,7 +103,7 @@ pub record OldKnows (c : Trial) (told : Told) (t : TryState) : Type 0 where
   pub version : ℕ
   pub found : HasFound c told t.walk.place t.walk.entry addr.0 version
   pub may : MayCopy c told addr.0 version
-  pub alone : Alone c told (version == c.request.version.0)
+  pub alone : Alone c told (version == mark c.request.version.0)
   pub loads : LoadsRecord t.walk addr
 
 pub record AppendsKnow (c : Trial) (told : Told) (t : TryState) (its : Reply) : Type 0 where

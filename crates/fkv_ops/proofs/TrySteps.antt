@@ -2,6 +2,7 @@
 use Rattle.std.proofs.Common.{◌≡◌, ℕ, ◌+◌, ◌<◌, ◌≤◌, [], ◌∷◌, refl, inl, inr, sym, ap, ◌∙◌, subst, Bool, true, false}
 use Rattle.std.specs.Prelude.{◌==◌, ◌&&◌, ◌||◌, not, if◌then◌else◌, Option, Some, None}
 use Rattle.fkv_base.specs.declared.numbers.Addr.{Addr}
+use Rattle.fkv_marks.specs.Marks.{mark}
 use Rattle.fkv_words.specs.Fields.{bit_of}
 use Rattle.fkv_map.specs.declared.operations.Reply.{Reply}
 use Rattle.fkv_map.specs.Map.{absent_word}
@@ -126,14 +127,14 @@ shared_true c told t step reply next quiet not_alone not_shared at wants has_non
 
 -- what is made of no record of the request's version
 made_of_none : (c : Trial) (told : Told) (place entry : ℕ) (old : Option ℕ) (is_current : Bool) → IsMadeOf c told place entry old is_current → is_current ≡ false → HasNoneOfVersion c told
-made_of_none c told place entry old is_current (OfRecord {version = version} found may its_old) e = FoundAnother found (eq_false version c.request.version.0 e)
+made_of_none c told place entry old is_current (OfRecord {version = version} found may its_old) e = FoundAnother found (eq_false version (mark c.request.version.0) e)
 made_of_none c told place entry old is_current (OfNone walks) e = FoundNone walks
 made_of_none c told place entry old is_current (OfAny leaves blind) e = FoundBelow leaves
 made_of_none c told place entry old is_current (OfHeld holds same its_key) e = FoundBelow holds.leaves
 made_of_none c told place entry old is_current (OfNoneBehind holds same other none) e = FoundBelow holds.leaves
 
 none_of_version : (c : Trial) (told : Told) (w : WalkState) (old : OldValue) (is_current : Bool) → OldRow c told w old is_current → is_current ≡ false → HasNoneOfVersion c told
-none_of_version c told w InMemory is_current row e = FoundAnother row.found.its.its_record (eq_false row.version.0 c.request.version.0 (row.current ∙ e))
+none_of_version c told w InMemory is_current row e = FoundAnother row.found.its.its_record (eq_false row.version.0 (mark c.request.version.0) (row.current ∙ e))
 none_of_version c told w (Known word) is_current row e = made_of_none c told w.place w.entry (value_of word) is_current row e
 
 waits_for_latch : (c : Trial) (told : Told) (t : TryState) (old : OldValue) (is_current : Bool) → Updates c told t → OldRow c told t.walk old is_current → needs_exclusive c is_current ≡ true → HasMetLatch c told → IsTrue c told (answer.Wait reason.Latch)
@@ -282,15 +283,15 @@ row_true c told t (TakesExclusive old) reply at row was =
     Quietly (alone_true c told (record t { effect = None; latching = latch_next t.latching reply }) old t.latching reply row.is_current refl refl row.not_alone at (record { under = row.updates.under; update = row.updates.update; stays = row.updates.stays }) row.slot row.its_old row.need row.its_latching was)
 row_true c told t LoadsOld reply at row was =
     Quietly (subst (λ ask. Comes c told None [] (latch_held t) (old_ledto c.places (norm c (record t { effect = None; walk = walk_next c.places t.walk reply })) ask)) (sym (loads_value c.places t.walk row.addr reply row.loads))
-    (old_true c told (record t { effect = None; walk = walk_next c.places t.walk reply }) reply (row.version == c.request.version.0) refl (record { under = row.updates.under; update = row.updates.update; stays = row.updates.stays })
+    (old_true c told (record t { effect = None; walk = walk_next c.places t.walk reply }) reply (row.version == mark c.request.version.0) refl (record { under = row.updates.under; update = row.updates.update; stays = row.updates.stays })
     (subst (λ p. HasEntry c told p (walk_next c.places t.walk reply).entry) (sym same.0) (subst (λ e. HasEntry c told t.walk.place e) (sym same.1) row.found.walk.slot))
-    (subst (λ p. IsMadeOf c told p (walk_next c.places t.walk reply).entry (value_of reply) (row.version == c.request.version.0)) (sym same.0)
-    (subst (λ e. IsMadeOf c told t.walk.place e (value_of reply) (row.version == c.request.version.0)) (sym same.1) made)) row.alone))
+    (subst (λ p. IsMadeOf c told p (walk_next c.places t.walk reply).entry (value_of reply) (row.version == mark c.request.version.0)) (sym same.0)
+    (subst (λ e. IsMadeOf c told t.walk.place e (value_of reply) (row.version == mark c.request.version.0)) (sym same.1) made)) row.alone))
   where
     same : ((walk_next c.places t.walk reply).place ≡ t.walk.place) × ((walk_next c.places t.walk reply).entry ≡ t.walk.entry)
     same = loads_same c.places t.walk row.addr reply row.loads
 
-    made : IsMadeOf c told t.walk.place t.walk.entry (value_of reply) (row.version == c.request.version.0)
+    made : IsMadeOf c told t.walk.place t.walk.entry (value_of reply) (row.version == mark c.request.version.0)
     made = OfRecord row.found row.may (IsLoaded reply (subst (λ a. told a reply) (loads_place c.places t.walk row.addr row.loads) was))
 row_true c told t (Appends its) reply at row was =
     append_led_true c told (record t { effect = None; append = append_next c.places c.room t.append reply }) its row.place row.entry row.old row.is_current t.append.step (append_ask c.places (append_next c.places c.room t.append reply)) refl at

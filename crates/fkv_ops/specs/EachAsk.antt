@@ -1,6 +1,7 @@
 -- What each ask of a try is, by what the try asked and was replied before it, and whether it makes an effect. So a try swaps nothing, wins
 -- no Cas and stores no word besides.
 use Rattle.std.specs.Prelude.{◌≡◌, ℕ, ◌+◌, ◌-◌, ◌*◌, ◌^◌, ◌<◌, ◌≤◌, ◌⊎◌, Bool, false, List, ◌∷◌, ⊤, Option, Some}
+use Rattle.fkv_marks.specs.Marks.{mark}
 use Rattle.fkv_map.specs.declared.operations.Reply.{Reply}
 use Rattle.fkv_map.specs.Keys.{key_of, value_applied}
 use Rattle.fkv_plane.specs.declared.asks.Ask.{Ask}
@@ -23,8 +24,8 @@ use Rattle.fkv_ops.specs.Effects.{IsMadeOf}
 pub data IsRecordWord (c : Trial) (told : Told) (addr place word : ℕ) : Type 0 where
   ItsValue : {slot entry : ℕ} {old : Option ℕ} {is_current : Bool} → IsMadeOf c told slot entry old is_current → place ≡ record_place c.places addr rec.Value → word ≡ word_of (value_applied old c.request.op) → IsRecordWord c told addr place word
   ItsKey : place ≡ record_place c.places addr rec.Key → word ≡ (key_of c.request.op).0 → IsRecordWord c told addr place word
-  ItsHeader : {slot entry : ℕ} → HasEntry c told slot entry → place ≡ record_place c.places addr rec.Header → word ≡ entry_addr entry + c.request.version.0 * 2 ^ 48 → IsRecordWord c told addr place word
-  Invalid : {slot entry : ℕ} → HasEntry c told slot entry → IsLost told slot entry (new_entry addr (home_at c).tag) → place ≡ record_place c.places addr rec.Header → word ≡ entry_addr entry + c.request.version.0 * 2 ^ 48 + 2 ^ 62
+  ItsHeader : {slot entry : ℕ} → HasEntry c told slot entry → place ≡ record_place c.places addr rec.Header → word ≡ entry_addr entry + mark c.request.version.0 * 2 ^ 48 → IsRecordWord c told addr place word
+  Invalid : {slot entry : ℕ} → HasEntry c told slot entry → IsLost told slot entry (new_entry addr (home_at c).tag) → place ≡ record_place c.places addr rec.Header → word ≡ entry_addr entry + mark c.request.version.0 * 2 ^ 48 + 2 ^ 62
       → IsRecordWord c told addr place word
 
 -- a word of the record whose address was reserved

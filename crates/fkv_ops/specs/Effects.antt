@@ -1,6 +1,7 @@
 -- The effect of a try, by what the try asked and was replied: one of three asks makes it, and what was done before shows that it may.
 use Rattle.std.specs.Prelude.{◌≡◌, ◌≢◌, ℕ, ◌+◌, ◌*◌, ◌^◌, ◌<◌, ◌≤◌, ◌==◌, ◌&&◌, ◌||◌, not, Bool, true, false, List, ◌∷◌, Option, Some, None}
 use Rattle.fkv_base.specs.declared.numbers.Key.{Key}
+use Rattle.fkv_marks.specs.Marks.{mark}
 use Rattle.fkv_map.specs.declared.operations.Op.{Op}
 use Rattle.fkv_map.specs.declared.operations.Op.TheVariants.{Read}
 use Rattle.fkv_map.specs.declared.operations.Reply.{Reply}
@@ -22,16 +23,16 @@ use Rattle.fkv_ops.specs.Trying.{is_prepare, is_wait, TryState, try_ask}
 use Rattle.fkv_ops.specs.TryRun.{Trial, home_at, try_run, trial_begun, Told, told_by, effects_of, reply_told}
 use Rattle.fkv_ops.specs.Reasons.{latch_place, Loaded, IsStored, Won, HasEntry, WalksTo, HasFound, LeavesMemory, HoldsFrom, needs_exclusive}
 
--- a record of the request's version, at or above the read-only offset that the session has seen: such a one is changed in place
+-- a record with the mark of the request's version, at or above the read-only offset that the session has seen: such a one is changed in place
 pub record MayChange (c : Trial) (told : Told) (addr : ℕ) : Type 0 where
   pub place : ℕ
   pub entry : ℕ
-  pub found : HasFound c told place entry addr c.request.version.0
+  pub found : HasFound c told place entry addr (mark c.request.version.0)
   pub mutable : c.seen.offsets.read_only.0 ≤ addr
 
--- one of another version there, or one below the safe read-only offset that was loaded: such a one is copied, and none that may be fuzzy
+-- one with another mark there, or one below the safe read-only offset that was loaded: such a one is copied, and none that may be fuzzy
 pub data MayCopy (c : Trial) (told : Told) (addr version : ℕ) : Type 0 where
-  OfAnother : c.seen.offsets.read_only.0 ≤ addr → version ≢ c.request.version.0 → MayCopy c told addr version
+  OfAnother : c.seen.offsets.read_only.0 ≤ addr → version ≢ mark c.request.version.0 → MayCopy c told addr version
   BelowSafe : (safe : ℕ) → addr < c.seen.offsets.read_only.0 → Loaded told (shared_place one.SafeReadOnly) safe → addr < safe → MayCopy c told addr version
 
 -- the old value that a new record is made of: it is loaded where it counts
@@ -39,11 +40,11 @@ pub data IsOld (c : Trial) (told : Told) (addr : ℕ) : Option ℕ → Type 0 wh
   CountsNot : {old : Option ℕ} → is_blind c.request.op ≡ true → IsOld c told addr old
   IsLoaded : (word : ℕ) → Loaded told (record_place c.places addr rec.Value) word → IsOld c told addr (value_of word)
 
--- What a new record is made of, and whether the walk found a record of the request's version: a record in memory that may be copied, none
+-- What a new record is made of, and whether the walk found a record with the mark of the request's version: a record in memory that may be copied, none
 -- where the chain ends, any below the head where the old value doesn't count, and else the one that the request holds.
 pub data IsMadeOf (c : Trial) (told : Told) (place entry : ℕ) : Option ℕ → Bool → Type 0 where
   OfRecord : {addr version : ℕ} {old : Option ℕ} → HasFound c told place entry addr version → MayCopy c told addr version → IsOld c told addr old
-      → IsMadeOf c told place entry old (version == c.request.version.0)
+      → IsMadeOf c told place entry old (version == mark c.request.version.0)
   OfNone : WalksTo c told place entry 0 → IsMadeOf c told place entry None false
   OfAny : {addr : ℕ} → LeavesMemory c told place entry addr → is_blind c.request.op ≡ true → IsMadeOf c told place entry None false
   OfHeld : {held : HeldRecord} → HoldsFrom c told place held → held.entry ≡ entry → held.key.0 ≡ (key_of c.request.op).0 → IsMadeOf c told place entry (value_of held.value) false
@@ -87,7 +88,7 @@ pub record IsPublished (c : Trial) (told : Told) (ask : Ask TryAnswer) (reply : 
   pub above : entry_addr reply < addr
   pub its_value : IsStored told (record_place c.places addr rec.Value) (word_of (value_applied old c.request.op))
   pub its_key : IsStored told (record_place c.places addr rec.Key) (key_of c.request.op).0
-  pub its_header : IsStored told (record_place c.places addr rec.Header) (entry_addr reply + c.request.version.0 * 2 ^ 48)
+  pub its_header : IsStored told (record_place c.places addr rec.Header) (entry_addr reply + mark c.request.version.0 * 2 ^ 48)
   pub its_reply : its ≡ reply_from old c.request.op
 
 pub data IsEffect (c : Trial) (told : Told) (ask : Ask TryAnswer) (reply : ℕ) (its : Reply) : Type 0 where
@@ -132,9 +133,9 @@ pub record SharesBefore (c : Trial) (spare : ℕ) : Type 0 where
 abbrev pub SharesFirst : Type 0
 SharesFirst = (c : Trial) (spare : ℕ) → shares_latch c ≡ true → c.request.has_latch ≡ false → SharesBefore c spare
 
--- the first record of the chain is of no version above the request's, by its header, or it isn't in memory
+-- the first record of the chain has no mark above that of the request's version, or it isn't in memory
 pub data FirstIsNotAbove (c : Trial) (told : Told) (entry : ℕ) : Type 0 where
-  FirstInMemory : (header : ℕ) → Loaded told (record_place c.places (entry_addr entry) rec.Header) header → version_in header ≤ c.request.version.0 → FirstIsNotAbove c told entry
+  FirstInMemory : (header : ℕ) → Loaded told (record_place c.places (entry_addr entry) rec.Header) header → version_in header ≤ mark c.request.version.0 → FirstIsNotAbove c told entry
   FirstBelowHead : entry_addr entry < c.seen.offsets.head.0 → FirstIsNotAbove c told entry
   FirstNowhere : entry_addr entry ≡ 0 → FirstIsNotAbove c told entry
 

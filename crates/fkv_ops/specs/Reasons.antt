@@ -1,5 +1,6 @@
 -- What a try's answer says, by what the try asked and was replied, and by no state of its machine.
 use Rattle.std.specs.Prelude.{◌≡◌, ◌≢◌, ℕ, ◌+◌, ◌*◌, ◌^◌, ◌<◌, ◌≤◌, ◌⊎◌, ◌==◌, ◌&&◌, not, Bool, true, false, List, Some, None}
+use Rattle.fkv_marks.specs.Marks.{mark}
 use Rattle.fkv_map.specs.Map.{absent_word}
 use Rattle.fkv_map.specs.Keys.{key_of, value_applied}
 use Rattle.fkv_plane.specs.declared.asks.Ask.TheVariants.{Load, Store, Cas, Add, Done}
@@ -158,9 +159,9 @@ pub data HasMetLatch (c : Trial) (told : Told) : Type 0 where
 abbrev pub needs_exclusive : Trial → Bool → Bool
 needs_exclusive c is_current = is_moving_on c.seen.phase && c.request.version.0 == c.seen.version.0 && not is_current
 
--- the walk found no record of the request's version: one of another version, or none, or it left memory
+-- the walk found no record with the mark of the request's version: one with another mark, or none, or it left memory
 pub data HasNoneOfVersion (c : Trial) (told : Told) : Type 0 where
-  FoundAnother : {place entry addr version : ℕ} → HasFound c told place entry addr version → version ≢ c.request.version.0 → HasNoneOfVersion c told
+  FoundAnother : {place entry addr version : ℕ} → HasFound c told place entry addr version → version ≢ mark c.request.version.0 → HasNoneOfVersion c told
   FoundNone : {place entry : ℕ} → WalksTo c told place entry 0 → HasNoneOfVersion c told
   FoundBelow : {place entry addr : ℕ} → LeavesMemory c told place entry addr → HasNoneOfVersion c told
 
@@ -185,11 +186,11 @@ pub record IsIndexFull (c : Trial) (told : Told) : Type 0 where
   pub its_count : Loaded told (shared_place one.Taken) taken
   pub all : c.places.overflow ≤ taken
 
--- another session has gone on to the next version: it holds the latch alone, or the first record of the chain is its own
+-- another session has gone on to the next version: it holds the latch alone, or the first record of the chain has a later mark
 pub data OthersWentOn (c : Trial) (told : Told) : Type 0 where
   ByLatch : (word : ℕ) → told (Add (latch_place c) one_share) word → exclusive_bit ≤ word → OthersWentOn c told
   ByRecord : {place entry : ℕ} (header : ℕ) → HasEntry c told place entry → Loaded told (record_place c.places (entry_addr entry) rec.Header) header
-      → c.request.version.0 < version_in header → OthersWentOn c told
+      → mark c.request.version.0 < version_in header → OthersWentOn c told
 
 pub record MustShift (c : Trial) (told : Told) : Type 0 where
   pub in_prepare : is_prepare c.seen.phase ≡ true
@@ -235,7 +236,7 @@ pub record LosesEntry (c : Trial) (told : Told) : Type 0 where
   pub slot : HasEntry c told place entry
   pub reserved : Won told (shared_place one.Tail) addr (addr + 1)
   pub its_cas : IsLost told place entry (new_entry addr (home_at c).tag)
-  pub its_header : IsStored told (record_place c.places addr rec.Header) (entry_addr entry + c.request.version.0 * 2 ^ 48 + 2 ^ 62)
+  pub its_header : IsStored told (record_place c.places addr rec.Header) (entry_addr entry + mark c.request.version.0 * 2 ^ 48 + 2 ^ 62)
 
 -- A Cas was lost: of the count of taken overflow buckets, of a link, of the tail, of the entry, or of the value that was to be changed in place.
 -- What such a Cas expects was loaded there. Or others have filled the bucket that the try linked, or a reply is none that a store gives.
@@ -244,7 +245,7 @@ pub data IsContended (c : Trial) (told : Told) : Type 0 where
   LinkLost : {links : ℕ} {own : Bool} {base : ℕ} (word number : ℕ) → ComesTo c told links own base → number ≤ c.places.overflow → Loaded told (base + bucket_slots) word → IsLost told (base + bucket_slots) word (word + number) → IsContended c told
   TailLost : (tail : ℕ) → Loaded told (shared_place one.Tail) tail → IsLost told (shared_place one.Tail) tail (tail + 1) → IsContended c told
   EntryLost : LosesEntry c told → IsContended c told
-  ValueLost : {place entry addr : ℕ} (old : ℕ) → HasFound c told place entry addr c.request.version.0 → Loaded told (record_place c.places addr rec.Value) old
+  ValueLost : {place entry addr : ℕ} (old : ℕ) → HasFound c told place entry addr (mark c.request.version.0) → Loaded told (record_place c.places addr rec.Value) old
       → IsLost told (record_place c.places addr rec.Value) old (word_of (value_applied (value_of old) c.request.op))
       → IsContended c told
   OwnIsFull : HasEnd c told true → IsContended c told

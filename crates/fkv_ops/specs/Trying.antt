@@ -5,6 +5,8 @@ use Rattle.fkv_base.specs.declared.numbers.Addr.{Addr}
 use Rattle.fkv_base.specs.declared.numbers.Version.{Version}
 use Rattle.fkv_base.specs.declared.phases.Phase.{Phase}
 use Rattle.fkv_base.specs.declared.phases.Phase.TheVariants as phase
+use Rattle.fkv_marks.specs.Marks.{mark}
+use Rattle.fkv_marks.proofs.Shown.{mark_some, mark_fits}
 use Rattle.fkv_map.specs.declared.operations.Reply.{Reply}
 use Rattle.fkv_map.specs.Map.{absent_word}
 use Rattle.fkv_map.specs.Keys.{key_of, value_applied, reply_from}
@@ -157,10 +159,10 @@ shared_ledto p t (Done latch.Taken) = walks p (record t { has_shared = true })
 shared_ledto p t (Done its) = ends p t answer.Shift
 shared_ledto p t ask = t
 
--- so is one that has published a record of the next version at the head of the chain
+-- so is one that has published a record of the next version at the head of the chain, whose header has this mark
 abbrev pub is_above : Option Version → Version → Bool
 is_above None version = false
-is_above (Some first) version = nat_lt version.0 first.0
+is_above (Some first) version = nat_lt (mark version.0) first.0
 
 abbrev pub must_shift : TryState → Bool
 must_shift t = is_prepare t.seen.phase && not (is_read t.request.op) && is_above t.walk.first t.request.version
@@ -170,9 +172,9 @@ must_shift t = is_prepare t.seen.phase && not (is_read t.request.op) && is_above
 abbrev pub wants_exclusive : TryState → Bool → Bool
 wants_exclusive t is_current = is_moving_on t.seen.phase && t.request.version.0 == t.seen.version.0 && not is_current
 
--- the header of the new record: before it comes the record that the entry names
+-- the header of the new record: before it comes the record that the entry names, and of its version it has the mark
 abbrev pub header_of : Request → ℕ → Header
-header_of request entry = record { previous = record { 0 = entry_addr entry }; version = request.version; invalid = false; previous_fits = omega arith; some_version = request.some_version; version_fits = request.version_fits }
+header_of request entry = record { previous = record { 0 = entry_addr entry }; version = record { 0 = mark request.version.0 }; invalid = false; previous_fits = omega arith; some_version = mark_some request.version.0 request.some_version; version_fits = mark_fits request.version.0 }
 
 abbrev pub words_of : Request → ℕ → Option ℕ → RecordWords
 words_of request entry old = record { header = header_of request entry; key = key_of request.op; value = word_of (value_applied old request.op) }
@@ -211,12 +213,12 @@ met_nowhere p t = if is_read t.request.op then ends p t answer.Absent else copie
 abbrev pub met_disk : Places → TryState → Addr → TryState
 met_disk p t addr = if is_read t.request.op then awaits p t addr else if is_blind t.request.op then copies p t (Known absent_word) false else held_used p t addr t.request.held
 
--- a record of the update's version is changed in place, where the session may: by one Swap where the old value doesn't count
+-- a record with the mark of the update's version is changed in place, where the session may: by one Swap where the old value doesn't count
 abbrev pub changes : TryState → Addr → TryState
 changes t addr = if is_blind t.request.op then record t { step = SwapsValue addr } else record t { walk = walk_on t.walk; step = LoadsCurrent addr }
 
 abbrev pub is_own_version : TryState → Version → Bool
-is_own_version t version = version.0 == t.request.version.0
+is_own_version t version = version.0 == mark t.request.version.0
 
 -- by the region of the record: else the safe read-only offset is loaded, or the record is copied
 abbrev pub region_met : Places → TryState → Addr → Version → Option Region → TryState

@@ -11,6 +11,7 @@ use crate::values::{value_of_word, word_of_value};
 use fkv_base::{Addr, Phase, Value};
 use fkv_latch::LatchTask;
 use fkv_log::RecordWords;
+use fkv_marks::mark;
 use fkv_words::Header;
 
 impl Try {
@@ -73,9 +74,10 @@ impl Try {
     fn header(&self) -> Header
         ensures { result ≡ header_of self.now.state.request self.now.state.walk.entry }
     {
+        let own = mark(self.request.version);
         Header {
             previous: Addr(self.walk.entry() & (1 << 48) - 1),
-            version: self.request.version,
+            version: own,
             invalid: false,
         }
     }

@@ -16,6 +16,7 @@ use fkv_base::{Addr, Phase, Value, Version};
 use fkv_latch::LatchAnswer;
 use fkv_log::{Region, seen_region};
 use fkv_map::Reply;
+use fkv_marks::mark;
 use fkv_plane::Ask;
 
 impl Try {
@@ -121,9 +122,16 @@ impl Try {
     {
         match region {
             None => self.step = Trying::LoadsSafe(addr, version),
-            Some(_) if version == self.request.version => self.changes(addr),
+            Some(_) if self.is_own_version(version) => self.changes(addr),
             Some(_) => self.copies(OldValue::InMemory, false),
         }
+    }
+
+    /// Whether this is the mark of the request's version.
+    fn is_own_version(&self, version: Version) -> bool
+        ensures { result ≡ is_own_version self.now.state version }
+    {
+        version == mark(self.request.version)
     }
 
     /// The record is changed in place.
@@ -145,8 +153,7 @@ impl Try {
         if addr.0 >= safe {
             self.ends(TryAnswer::Wait(Reason::Fuzzy));
         } else {
-            let is_current = version == self.request.version;
-            self.copies(OldValue::InMemory, is_current);
+            self.copies(OldValue::InMemory, self.is_own_version(version));
         }
     }
 
@@ -257,10 +264,12 @@ fn has_walked(answer: WalkAnswer) -> bool
     )
 }
 
+/// Whether a record with this mark was met first, and is of a later version.
 fn is_above(first: Option<Version>, version: Version) -> bool
     ensures { result ≡ is_above first version }
 {
-    first.is_some_and(|first| first > version)
+    let own = mark(version);
+    first.is_some_and(|first| first > own)
 }
 
 /// What a read tells of its key's value.

@@ -3,6 +3,7 @@ use Rattle.std.proofs.Common.{◌≡◌, ℕ, ◌+◌, ◌*◌, ◌^◌, ◌<◌
 use Rattle.std.specs.Prelude.{◌==◌, nat_lt, Option}
 use Rattle.std.proofs.lemmas.Bool.Decides.{nat_tests}
 use Rattle.fkv_map.specs.Keys.{key_of, value_applied, reply_from}
+use Rattle.fkv_marks.specs.Marks.{mark}
 use Rattle.fkv_words.specs.Layout.{header_word}
 use Rattle.fkv_plane.specs.declared.asks.Ask.TheVariants.{Load, Store, Cas}
 use Rattle.fkv_plane.specs.declared.places.RecordWord.TheVariants as rec
@@ -155,8 +156,8 @@ unfolding IsAtFill trying_ask appending_ask fill_ask passed
 header_stores c place entry old addr s at =
     asks_store c (filling c at.0 place entry old addr (fill.StoresHeader (record { 0 = addr }) (words_of (request_in c) entry old))) (record_place c.seat.places addr rec.Header) (header_word (header_of (request_in c) entry)) s at.1 refl
 
-pub header_is : (c : Course) (entry version word : ℕ) → (request_in c).version.0 ≡ version → word ≡ entry_addr entry + version * 2 ^ 48 → header_word (header_of (request_in c) entry) ≡ word
-header_is c entry version word its e = omega (arith, its, e)
+pub header_is : (c : Course) (entry its_mark word : ℕ) → mark (request_in c).version.0 ≡ its_mark → word ≡ entry_addr entry + its_mark * 2 ^ 48 → header_word (header_of (request_in c) entry) ≡ word
+header_is c entry its_mark word its e = omega (arith, its, e)
 
 has_header : (c : Course) (w : WalkState) (place entry : ℕ) (old : Option ℕ) (addr found : ℕ)
     → next_try c (filling c w place entry old addr (fill.StoresHeader (record { 0 = addr }) (words_of (request_in c) entry old))) found ≡ publishing c w place entry old addr

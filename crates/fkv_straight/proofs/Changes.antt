@@ -6,6 +6,7 @@ use Rattle.fkv_base.specs.declared.numbers.Version.{Version}
 use Rattle.fkv_map.specs.declared.operations.Op.{Op}
 use Rattle.fkv_map.specs.declared.operations.Reply.{Reply}
 use Rattle.fkv_map.specs.Keys.{key_of, value_applied, reply_from}
+use Rattle.fkv_marks.specs.Marks.{mark}
 use Rattle.fkv_plane.specs.declared.asks.Ask.TheVariants.{Load, Swap, Cas}
 use Rattle.fkv_plane.specs.declared.places.RecordWord.TheVariants as rec
 use Rattle.fkv_plane.specs.Passing.{passed}
@@ -39,7 +40,7 @@ use Rattle.fkv_straight.proofs.Walks.{past}
 
 -- what the table tests of the record that an update has met
 pub record MetBy (c : Course) (r : Record) : Type 0 where
-  pub said : header_said r.header ≡ Says (record { 0 = r.previous }) (record { 0 = r.version })
+  pub said : header_said r.header ≡ Says (record { 0 = r.previous }) (record { 0 = r.mark })
   pub below : nat_lt r.previous r.addr ≡ true
   pub mine : ((key_of c.op).0 == (key_of c.op).0) ≡ true
   pub stays : IsUnshifted c r
@@ -64,30 +65,30 @@ and_not : (b d : Bool) → d ≡ false → (b && d) ≡ false
 and_not true d e = e
 and_not false d e = refl
 
-own_above : (version own : ℕ) → version ≡ own → nat_lt own version ≡ false
-own_above version own e = grind (arith, nat_tests)
+own_above : (met own : ℕ) → met ≡ own → nat_lt own met ≡ false
+own_above met own e = grind (arith, nat_tests)
 
 -- so does one that has met a record of its own version as the first of its chain
-pub first_stays : (c : Course) (r : Record) → r.addr ≡ entry_addr r.entry → r.version ≡ (request_in c).version.0 → IsUnshifted c r
+pub first_stays : (c : Course) (r : Record) → r.addr ≡ entry_addr r.entry → r.mark ≡ mark (request_in c).version.0 → IsUnshifted c r
 first_stays c r first own = λ trail at.
     let none : trail.first ≡ None = at.fresh first in
-    and_not (shares c) (is_above (first_met trail.first (record { 0 = r.version })) (request_in c).version)
-    (ap (λ (o : Option Version). is_above (first_met o (record { 0 = r.version })) (request_in c).version) none ∙ own_above r.version (request_in c).version.0 own)
+    and_not (shares c) (is_above (first_met trail.first (record { 0 = r.mark })) (request_in c).version)
+    (ap (λ (o : Option Version). is_above (first_met o (record { 0 = r.mark })) (request_in c).version) none ∙ own_above r.mark (mark (request_in c).version.0) own)
 
 -- and where the session may change it
 pub record MayChange (c : Course) (r : Record) : Type 0 where
   pub mutable : nat_le c.lasts.seen.offsets.read_only.0 r.addr ≡ true
-  pub own : (r.version == (request_in c).version.0) ≡ true
+  pub own : (r.mark == mark (request_in c).version.0) ≡ true
 
-pub may_change : (c : Course) (k : Seat) (op : Op) (g : Going) (r : Record) → Goes c k op g → g.read_only ≤ r.addr → r.version ≡ g.version → MayChange c r
+pub may_change : (c : Course) (k : Seat) (op : Op) (g : Going) (r : Record) → Goes c k op g → g.read_only ≤ r.addr → r.mark ≡ g.mark → MayChange c r
 may_change c k op g r goes high own = record {
   mutable = (let h : c.lasts.seen.offsets.read_only.0 ≤ r.addr = subst (λ (n : ℕ). n ≤ r.addr) (sym goes.its_read_only) high in grind (arith, nat_tests));
-  own = (let h : r.version ≡ (request_in c).version.0 = own ∙ sym goes.its_version in grind (arith, nat_tests));
+  own = (let h : r.mark ≡ mark (request_in c).version.0 = own ∙ sym goes.its_mark in grind (arith, nat_tests));
 }
 
 -- where the walk stands then
 abbrev at_record : Course → Trail → Record → WalkState
-at_record c trail r = walking c (past trail (record { 0 = r.version })) r.place r.entry (load.HasKey (record { 0 = r.addr }) r.header (key_of c.op).0) (HasFound (record { 0 = r.addr }) (record { 0 = r.version }))
+at_record c trail r = walking c (past trail (record { 0 = r.mark })) r.place r.entry (load.HasKey (record { 0 = r.addr }) r.header (key_of c.op).0) (HasFound (record { 0 = r.addr }) (record { 0 = r.mark }))
 
 -- ---- by one Swap
 turns_to_swap : (c : Course) (trail : Trail) (r : Record) → IsTrail trail r.entry r.addr → MetBy c r → MayChange c r → is_blind c.op ≡ true
@@ -111,7 +112,7 @@ swap_changes c addr reply s u at e = (at.0, SwapsValue (record { 0 = addr }), le
 
 -- ---- by a load and a Cas
 turns_to_load : (c : Course) (trail : Trail) (r : Record) → IsTrail trail r.entry r.addr → MetBy c r → MayChange c r → is_blind c.op ≡ false
-    → next_try c (meeting c trail r.place r.entry r.addr (load.LoadsKey (record { 0 = r.addr }) r.header)) (key_of c.op).0 ≡ holding c (past trail (record { 0 = r.version })) r (LoadsCurrent (record { 0 = r.addr }))
+    → next_try c (meeting c trail r.place r.entry r.addr (load.LoadsKey (record { 0 = r.addr }) r.header)) (key_of c.op).0 ≡ holding c (past trail (record { 0 = r.mark })) r (LoadsCurrent (record { 0 = r.addr }))
 unfolding trying_next walk_ledto walking_ask walking_next load_ledto load_ask load_next load_next_ask load_on walking_on passed
 turns_to_load c trail r walked met may seeing = rw (met.said, met.below, met.mine, met.stays trail walked, met.updates, met.above, may.mutable, may.own, seeing) refl
 
@@ -119,7 +120,7 @@ pub met_currents : (c : Course) (r : Record) (s : SessionState) → IsMet c r s 
 unfolding HasKey IsAtCurrent trying_ask walking_ask load_ask passed
 met_currents c r s met by may seeing =
     let has = met.key in
-    (past has.0 (record { 0 = r.version }), stays c (holding c (past has.0 (record { 0 = r.version })) r (LoadsCurrent (record { 0 = r.addr }))) s (subst (λ (t : TryState). IsLed c t s) (turns_to_load c has.0 r has.1 by may seeing) has.2) refl refl)
+    (past has.0 (record { 0 = r.mark }), stays c (holding c (past has.0 (record { 0 = r.mark })) r (LoadsCurrent (record { 0 = r.addr }))) s (subst (λ (t : TryState). IsLed c t s) (turns_to_load c has.0 r has.1 by may seeing) has.2) refl refl)
 
 pub current_asks : (c : Course) (r : Record) (s : SessionState) → IsAtCurrent c r s → asked c.seat s ≡ Load (record_place c.seat.places r.addr rec.Value)
 unfolding IsAtCurrent trying_ask walking_ask load_ask passed

@@ -4,6 +4,7 @@ use Rattle.std.specs.Prelude.{◌==◌, ◌&&◌, nat_lt, nat_le, None}
 use Rattle.std.proofs.lemmas.Bool.Decides.{nat_tests}
 use Rattle.fkv_map.specs.declared.operations.Op.{Op}
 use Rattle.fkv_map.specs.Keys.{key_of}
+use Rattle.fkv_marks.specs.Marks.{mark}
 use Rattle.fkv_plane.specs.declared.asks.Ask.TheVariants.{Load}
 use Rattle.fkv_plane.specs.declared.places.RecordWord.TheVariants as rec
 use Rattle.fkv_plane.specs.declared.places.SharedWord.TheVariants as one
@@ -39,21 +40,21 @@ use Rattle.fkv_straight.proofs.Tests.{and_false}
 use Rattle.fkv_straight.proofs.Walks.{past}
 
 -- ---- a record of another version, that the session could change
-turns_to_copy : (c : Course) (trail : Trail) (r : Record) → IsTrail trail r.entry r.addr → MetBy c r → nat_le c.lasts.seen.offsets.read_only.0 r.addr ≡ true → (r.version == (request_in c).version.0) ≡ false → is_moving_on c.lasts.seen.phase ≡ false
-    → next_try c (meeting c trail r.place r.entry r.addr (load.LoadsKey (record { 0 = r.addr }) r.header)) (key_of c.op).0 ≡ copies_from (finding c (past trail (record { 0 = r.version })) r Walks) InMemory
+turns_to_copy : (c : Course) (trail : Trail) (r : Record) → IsTrail trail r.entry r.addr → MetBy c r → nat_le c.lasts.seen.offsets.read_only.0 r.addr ≡ true → (r.mark == mark (request_in c).version.0) ≡ false → is_moving_on c.lasts.seen.phase ≡ false
+    → next_try c (meeting c trail r.place r.entry r.addr (load.LoadsKey (record { 0 = r.addr }) r.header)) (key_of c.op).0 ≡ copies_from (finding c (past trail (record { 0 = r.mark })) r Walks) InMemory
 unfolding trying_next walk_ledto walking_ask walking_next load_ledto load_ask load_next load_next_ask copies passed
 turns_to_copy c trail r walked met mutable other still = rw (met.said, met.below, met.mine, met.stays trail walked, met.updates, met.above, mutable, other, still) refl
 
-pub later_copied : (c : Course) (r : Record) (s : SessionState) → IsMet c r s → MetBy c r → nat_le c.lasts.seen.offsets.read_only.0 r.addr ≡ true → (r.version == (request_in c).version.0) ≡ false → is_moving_on c.lasts.seen.phase ≡ false → IsCopied c r s
+pub later_copied : (c : Course) (r : Record) (s : SessionState) → IsMet c r s → MetBy c r → nat_le c.lasts.seen.offsets.read_only.0 r.addr ≡ true → (r.mark == mark (request_in c).version.0) ≡ false → is_moving_on c.lasts.seen.phase ≡ false → IsCopied c r s
 unfolding HasKey IsCopied
 later_copied c r s met by mutable other still =
     let has = met.key in
-    (past has.0 (record { 0 = r.version }), Walks, subst (λ (t : TryState). IsLed c t s) (turns_to_copy c has.0 r has.1 by mutable other still) has.2)
+    (past has.0 (record { 0 = r.mark }), Walks, subst (λ (t : TryState). IsLed c t s) (turns_to_copy c has.0 r has.1 by mutable other still) has.2)
 
 -- ---- a record below the read-only offset: the safe one is loaded
 turns_to_safe : (c : Course) (trail : Trail) (r : Record) → IsTrail trail r.entry r.addr → MetBy c r → nat_le c.lasts.seen.offsets.read_only.0 r.addr ≡ false
     → next_try c (meeting c trail r.place r.entry r.addr (load.LoadsKey (record { 0 = r.addr }) r.header)) (key_of c.op).0
-    ≡ finding c (past trail (record { 0 = r.version })) r (LoadsSafe (record { 0 = r.addr }) (record { 0 = r.version }))
+    ≡ finding c (past trail (record { 0 = r.mark })) r (LoadsSafe (record { 0 = r.addr }) (record { 0 = r.mark }))
 unfolding trying_next walk_ledto walking_ask walking_next load_ledto load_ask load_next load_next_ask passed
 turns_to_safe c trail r walked met low = rw (met.said, met.below, met.mine, met.stays trail walked, met.updates, met.above, low) refl
 
@@ -61,49 +62,49 @@ pub met_safe : (c : Course) (r : Record) (s : SessionState) → IsMet c r s → 
 unfolding HasKey IsAtSafe trying_ask
 met_safe c r s met by low =
     let has = met.key in (
-      past has.0 (record { 0 = r.version }),
-      stays c (finding c (past has.0 (record { 0 = r.version })) r (LoadsSafe (record { 0 = r.addr }) (record { 0 = r.version }))) s
+      past has.0 (record { 0 = r.mark }),
+      stays c (finding c (past has.0 (record { 0 = r.mark })) r (LoadsSafe (record { 0 = r.addr }) (record { 0 = r.mark }))) s
           (subst (λ (t : TryState). IsLed c t s) (turns_to_safe c has.0 r has.1 by low) has.2) refl refl,
     )
 
 pub safe_asks : (c : Course) (r : Record) (s : SessionState) → IsAtSafe c r s → asked c.seat s ≡ Load (shared_place one.SafeReadOnly)
 unfolding IsAtSafe trying_ask
-safe_asks c r s at = asks_load c (finding c at.0 r (LoadsSafe (record { 0 = r.addr }) (record { 0 = r.version }))) (shared_place one.SafeReadOnly) s at.1 refl
+safe_asks c r s at = asks_load c (finding c at.0 r (LoadsSafe (record { 0 = r.addr }) (record { 0 = r.mark }))) (shared_place one.SafeReadOnly) s at.1 refl
 
 pub safe_comes : (c : Course) (r : Record) (safe : ℕ) (s u : SessionState) → IsAtSafe c r s → u ≡ leads c.seat s safe → HasSafe c r safe u
 unfolding IsAtSafe HasSafe
-safe_comes c r safe s u at e = (at.0, led_on c (finding c at.0 r (LoadsSafe (record { 0 = r.addr }) (record { 0 = r.version }))) safe s u at.1 e)
+safe_comes c r safe s u at e = (at.0, led_on c (finding c at.0 r (LoadsSafe (record { 0 = r.addr }) (record { 0 = r.mark }))) safe s u at.1 e)
 
 copies_still : (c : Course) (trail : Trail) (r : Record) (safe : ℕ) → nat_le safe r.addr ≡ false → is_moving_on c.lasts.seen.phase ≡ false
-    → next_try c (finding c trail r (LoadsSafe (record { 0 = r.addr }) (record { 0 = r.version }))) safe ≡ copies_from (finding c trail r (LoadsSafe (record { 0 = r.addr }) (record { 0 = r.version }))) InMemory
+    → next_try c (finding c trail r (LoadsSafe (record { 0 = r.addr }) (record { 0 = r.mark }))) safe ≡ copies_from (finding c trail r (LoadsSafe (record { 0 = r.addr }) (record { 0 = r.mark }))) InMemory
 unfolding trying_next copies
 copies_still c trail r safe below still = rw (below, still) refl
 
-copies_own : (c : Course) (trail : Trail) (r : Record) (safe : ℕ) → nat_le safe r.addr ≡ false → (r.version == (request_in c).version.0) ≡ true
-    → next_try c (finding c trail r (LoadsSafe (record { 0 = r.addr }) (record { 0 = r.version }))) safe ≡ copies_from (finding c trail r (LoadsSafe (record { 0 = r.addr }) (record { 0 = r.version }))) InMemory
+copies_own : (c : Course) (trail : Trail) (r : Record) (safe : ℕ) → nat_le safe r.addr ≡ false → (r.mark == mark (request_in c).version.0) ≡ true
+    → next_try c (finding c trail r (LoadsSafe (record { 0 = r.addr }) (record { 0 = r.mark }))) safe ≡ copies_from (finding c trail r (LoadsSafe (record { 0 = r.addr }) (record { 0 = r.mark }))) InMemory
 unfolding trying_next copies
 copies_own c trail r safe below own = rw (below, own, and_false (is_moving_on c.lasts.seen.phase && ((request_in c).version.0 == c.lasts.seen.version.0))) refl
 
 pub still_copied : (c : Course) (r : Record) (safe : ℕ) (s : SessionState) → HasSafe c r safe s → nat_le safe r.addr ≡ false → is_moving_on c.lasts.seen.phase ≡ false → IsCopied c r s
 unfolding HasSafe IsCopied
 still_copied c r safe s has below still =
-    (has.0, LoadsSafe (record { 0 = r.addr }) (record { 0 = r.version }), subst (λ (t : TryState). IsLed c t s) (copies_still c has.0 r safe below still) has.1)
+    (has.0, LoadsSafe (record { 0 = r.addr }) (record { 0 = r.mark }), subst (λ (t : TryState). IsLed c t s) (copies_still c has.0 r safe below still) has.1)
 
-pub own_copied : (c : Course) (r : Record) (safe : ℕ) (s : SessionState) → HasSafe c r safe s → nat_le safe r.addr ≡ false → (r.version == (request_in c).version.0) ≡ true → IsCopied c r s
+pub own_copied : (c : Course) (r : Record) (safe : ℕ) (s : SessionState) → HasSafe c r safe s → nat_le safe r.addr ≡ false → (r.mark == mark (request_in c).version.0) ≡ true → IsCopied c r s
 unfolding HasSafe IsCopied
 own_copied c r safe s has below own =
-    (has.0, LoadsSafe (record { 0 = r.addr }) (record { 0 = r.version }), subst (λ (t : TryState). IsLed c t s) (copies_own c has.0 r safe below own) has.1)
+    (has.0, LoadsSafe (record { 0 = r.addr }) (record { 0 = r.mark }), subst (λ (t : TryState). IsLed c t s) (copies_own c has.0 r safe below own) has.1)
 
 -- ---- the copy's old value
 copies_blindly : (c : Course) (trail : Trail) (r : Record) (step : Trying) → is_blind c.op ≡ true
-    → copies_from (finding c trail r step) InMemory ≡ reserving c (walking c trail r.place r.entry (load.HasKey (record { 0 = r.addr }) r.header (key_of c.op).0) (walk.HasFound (record { 0 = r.addr }) (record { 0 = r.version }))) r.place r.entry None reserve.LoadsLimit
+    → copies_from (finding c trail r step) InMemory ≡ reserving c (walking c trail r.place r.entry (load.HasKey (record { 0 = r.addr }) r.header (key_of c.op).0) (walk.HasFound (record { 0 = r.addr }) (record { 0 = r.mark }))) r.place r.entry None reserve.LoadsLimit
 unfolding copies_from appends
 copies_blindly c trail r step blind = rw blind refl
 
 pub copied_reserves : (c : Course) (r : Record) (s : SessionState) → IsCopied c r s → is_blind c.op ≡ true → IsAtReserve c r.place r.entry None reserve.LoadsLimit s
 unfolding IsCopied IsAtReserve trying_ask appending_ask reserve_ask passed
 copied_reserves c r s at blind =
-    let w = walking c at.0 r.place r.entry (load.HasKey (record { 0 = r.addr }) r.header (key_of c.op).0) (walk.HasFound (record { 0 = r.addr }) (record { 0 = r.version })) in
+    let w = walking c at.0 r.place r.entry (load.HasKey (record { 0 = r.addr }) r.header (key_of c.op).0) (walk.HasFound (record { 0 = r.addr }) (record { 0 = r.mark })) in
     (w, stays c (reserving c w r.place r.entry None reserve.LoadsLimit) s (subst (λ (t : TryState). IsLed c t s) (copies_blindly c at.0 r at.1 blind) at.2) refl refl)
 
 copies_seeing : (c : Course) (trail : Trail) (r : Record) (step : Trying) → is_blind c.op ≡ false → copies_from (finding c trail r step) InMemory ≡ holding c trail r LoadsOld
@@ -166,8 +167,8 @@ is_high c k op g r goes high = let h : c.lasts.seen.offsets.read_only.0 ≤ r.ad
 pub is_low : (c : Course) (k : Seat) (op : Op) (g : Going) (r : Record) → Goes c k op g → r.addr < g.read_only → nat_le c.lasts.seen.offsets.read_only.0 r.addr ≡ false
 is_low c k op g r goes low = let h : r.addr < c.lasts.seen.offsets.read_only.0 = subst (λ (n : ℕ). r.addr < n) (sym goes.its_read_only) low in grind (arith, nat_tests)
 
-pub is_other : (c : Course) (k : Seat) (op : Op) (g : Going) (r : Record) → Goes c k op g → ¬ (r.version ≡ g.version) → (r.version == (request_in c).version.0) ≡ false
-is_other c k op g r goes other = let h : ¬ (r.version ≡ (request_in c).version.0) = (λ e. other (e ∙ goes.its_version)) in grind (arith, nat_tests, h)
+pub is_other : (c : Course) (k : Seat) (op : Op) (g : Going) (r : Record) → Goes c k op g → ¬ (r.mark ≡ g.mark) → (r.mark == mark (request_in c).version.0) ≡ false
+is_other c k op g r goes other = let h : ¬ (r.mark ≡ mark (request_in c).version.0) = (λ e. other (e ∙ goes.its_mark)) in grind (arith, nat_tests, h)
 
-pub is_own : (c : Course) (k : Seat) (op : Op) (g : Going) (r : Record) → Goes c k op g → r.version ≡ g.version → (r.version == (request_in c).version.0) ≡ true
-is_own c k op g r goes own = let h : r.version ≡ (request_in c).version.0 = own ∙ sym goes.its_version in grind (arith, nat_tests)
+pub is_own : (c : Course) (k : Seat) (op : Op) (g : Going) (r : Record) → Goes c k op g → r.mark ≡ g.mark → (r.mark == mark (request_in c).version.0) ≡ true
+is_own c k op g r goes own = let h : r.mark ≡ mark (request_in c).version.0 = own ∙ sym goes.its_mark in grind (arith, nat_tests)

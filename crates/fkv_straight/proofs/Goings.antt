@@ -130,6 +130,7 @@ goes_on_by m n s g e seen awake spare room by =
       version = ap (λ (x : Seen). x.version.0) seen ∙ by.version;
       some_version = by.some_version;
       version_fits = by.version_fits;
+      its_mark = by.its_mark;
       moves_on = ap (λ (x : Seen). is_moving_on x.phase) seen ∙ by.moves_on;
       prepares = ap (λ (x : Seen). is_prepare x.phase) seen ∙ by.prepares;
       awake = awake ∙ by.awake;

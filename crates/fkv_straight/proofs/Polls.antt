@@ -8,6 +8,7 @@ use Rattle.fkv_base.specs.declared.numbers.Version.{Version}
 use Rattle.fkv_map.specs.declared.operations.Call.TheVariants as call
 use Rattle.fkv_map.specs.declared.operations.Op.{Op}
 use Rattle.fkv_map.specs.declared.operations.Reply.{Reply}
+use Rattle.fkv_marks.specs.Marks.{mark}
 use Rattle.fkv_plane.specs.declared.asks.Ask.TheVariants.{Done}
 use Rattle.fkv_plane.specs.declared.places.Places.{Places}
 use Rattle.fkv_words.proofs.Shown.{same_made}
@@ -77,6 +78,7 @@ may_poll k s l g its by only plain calm none updates =
         its_head = by.head;
         its_read_only = by.read_only;
         its_version = ap (λ (v : ℕ). version_within v) by.version ∙ version_same g.version by.some_version by.version_fits;
+        its_mark = ap mark (ap (λ (v : ℕ). version_within v) by.version ∙ version_same g.version by.some_version by.version_fits) ∙ by.its_mark;
         moves_on = by.moves_on;
         prepares = by.prepares;
         spare_fits = subst (λ (p : Places). s.spare ≤ p.overflow) (sym by.places) by.spare_fits;

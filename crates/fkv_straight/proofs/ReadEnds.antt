@@ -31,9 +31,9 @@ use Rattle.fkv_straight.proofs.Tests.{same}
 use Rattle.fkv_straight.proofs.Walks.{past}
 
 -- ---- the record was met: its value is loaded
-reads_on : (c : Course) (trail : Trail) (r : Record) → header_said r.header ≡ Says (record { 0 = r.previous }) (record { 0 = r.version }) → nat_lt r.previous r.addr ≡ true → ((key_of c.op).0 == (key_of c.op).0) ≡ true
+reads_on : (c : Course) (trail : Trail) (r : Record) → header_said r.header ≡ Says (record { 0 = r.previous }) (record { 0 = r.mark }) → nat_lt r.previous r.addr ≡ true → ((key_of c.op).0 == (key_of c.op).0) ≡ true
     → shares c ≡ false → is_read c.op ≡ true
-    → next_try c (meeting c trail r.place r.entry r.addr (load.LoadsKey (record { 0 = r.addr }) r.header)) (key_of c.op).0 ≡ holding c (past trail (record { 0 = r.version })) r LoadsAnswer
+    → next_try c (meeting c trail r.place r.entry r.addr (load.LoadsKey (record { 0 = r.addr }) r.header)) (key_of c.op).0 ≡ holding c (past trail (record { 0 = r.mark })) r LoadsAnswer
 unfolding trying_next walk_ledto walking_ask walking_next load_ledto load_ask load_next load_next_ask load_on walking_on passed
 reads_on c trail r said below mine calm reads = rw (said, below, mine, calm, reads) refl
 
@@ -42,8 +42,8 @@ unfolding HasKey IsAtAnswer trying_ask walking_ask load_ask passed
 met_answers c r s met calm reads =
     let below : nat_lt r.previous r.addr ≡ true = (let h = met.below in grind (arith, nat_tests)) in
     let has = met.key in (
-      past has.0 (record { 0 = r.version }),
-      stays c (holding c (past has.0 (record { 0 = r.version })) r LoadsAnswer) s
+      past has.0 (record { 0 = r.mark }),
+      stays c (holding c (past has.0 (record { 0 = r.mark })) r LoadsAnswer) s
           (subst (λ (t : TryState). IsLed c t s) (reads_on c has.0 r met.said below (same (key_of c.op).0) calm reads) has.2) refl refl,
     )
 

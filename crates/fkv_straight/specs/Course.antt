@@ -1,6 +1,7 @@
 -- What a call goes by in which an operation is tried, from its begin to its end: a call of the operation, or a poll in which it alone waits.
 use Rattle.std.specs.Prelude.{◌≡◌, ℕ, ◌+◌, ◌&&◌, ◌≤◌, not, if◌then◌else◌, Bool, true, false, None, List, [], ◌∷◌}
 use Rattle.fkv_base.specs.Limits.{last_version}
+use Rattle.fkv_marks.specs.Marks.{mark}
 use Rattle.fkv_map.specs.declared.operations.Call.{Call}
 use Rattle.fkv_map.specs.declared.operations.Call.TheVariants.{Poll}
 use Rattle.fkv_map.specs.declared.operations.Op.{Op}
@@ -98,6 +99,7 @@ pub record Goes (c : Course) (k : Seat) (op : Op) (g : Going) : Type 0 where
   pub its_head : head_in c ≡ g.head
   pub its_read_only : c.lasts.seen.offsets.read_only.0 ≡ g.read_only
   pub its_version : (request_in c).version.0 ≡ g.version
+  pub its_mark : mark (request_in c).version.0 ≡ g.mark
   pub moves_on : is_moving_on c.lasts.seen.phase ≡ g.is_moving_on
   pub prepares : is_prepare c.lasts.seen.phase ≡ g.is_preparing
   pub spare_fits : c.lasts.spare ≤ c.seat.places.overflow
@@ -113,6 +115,7 @@ pub record GoesBy (k : Seat) (s : SessionState) (g : Going) : Type 0 where
   pub version : s.seen.version.0 ≡ g.version
   pub some_version : ¬ (g.version ≡ 0)
   pub version_fits : g.version ≤ last_version
+  pub its_mark : mark g.version ≡ g.mark
   pub moves_on : is_moving_on s.seen.phase ≡ g.is_moving_on
   pub prepares : is_prepare s.seen.phase ≡ g.is_preparing
   pub awake : s.is_awake ≡ true

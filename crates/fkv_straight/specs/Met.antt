@@ -160,14 +160,14 @@ HasKey c place entry addr header key s = (trail : Trail) × IsTrail trail entry 
 -- the record of the operation's key was met in memory
 pub record IsMet (c : Course) (r : Record) (s : SessionState) : Type 0 where
   pub key : HasKey c r.place r.entry r.addr r.header (key_of c.op).0 s
-  pub said : header_said r.header ≡ Says (record { 0 = r.previous }) (record { 0 = r.version })
+  pub said : header_said r.header ≡ Says (record { 0 = r.previous }) (record { 0 = r.mark })
   pub below : r.previous < r.addr
   pub here : IsInMemory c r.addr
   pub at : r.at ≡ record_place c.seat.places r.addr Header
 
 -- by whatever trail it was met, the update stays at its version: in prepare the chain's first record is of no later one
 abbrev pub IsUnshifted : Course → Record → Type 0
-IsUnshifted c r = (trail : Trail) → IsTrail trail r.entry r.addr → (shares c && is_above (first_met trail.first (record { 0 = r.version })) (request_in c).version) ≡ false
+IsUnshifted c r = (trail : Trail) → IsTrail trail r.entry r.addr → (shares c && is_above (first_met trail.first (record { 0 = r.mark })) (request_in c).version) ≡ false
 
 -- what a search has met: its key's record; the chain's end; or where the chain leaves memory
 abbrev pub HasMet : Course → Met → SessionState → Type 0
@@ -203,14 +203,14 @@ HasLost c s = (walk : WalkState) × (step : Trying) × IsLed c (ends c.seat.plac
 
 -- the try that has found the record, and goes by neither its region nor its version yet
 abbrev pub finding : Course → Trail → Record → Trying → TryState
-finding c trail r step = trying c (walking c trail r.place r.entry (load.HasKey (record { 0 = r.addr }) r.header (key_of c.op).0) (HasFound (record { 0 = r.addr }) (record { 0 = r.version }))) append_rested step
+finding c trail r step = trying c (walking c trail r.place r.entry (load.HasKey (record { 0 = r.addr }) r.header (key_of c.op).0) (HasFound (record { 0 = r.addr }) (record { 0 = r.mark }))) append_rested step
 
 -- the safe read-only offset is loaded; the word has come and isn't judged yet
 unfoldable pub IsAtSafe : Course → Record → SessionState → Type 0
-IsAtSafe c r s = (trail : Trail) × Tries c (finding c trail r (LoadsSafe (record { 0 = r.addr }) (record { 0 = r.version }))) s
+IsAtSafe c r s = (trail : Trail) × Tries c (finding c trail r (LoadsSafe (record { 0 = r.addr }) (record { 0 = r.mark }))) s
 
 unfoldable pub HasSafe : Course → Record → ℕ → SessionState → Type 0
-HasSafe c r safe s = (trail : Trail) × IsLed c (next_try c (finding c trail r (LoadsSafe (record { 0 = r.addr }) (record { 0 = r.version }))) safe) s
+HasSafe c r safe s = (trail : Trail) × IsLed c (next_try c (finding c trail r (LoadsSafe (record { 0 = r.addr }) (record { 0 = r.mark }))) safe) s
 
 -- the record is copied; its value is loaded, where it counts
 unfoldable pub IsCopied : Course → Record → SessionState → Type 0

@@ -25,14 +25,14 @@ use fkv_map::Op;
 use fkv_ops::word_of_value;
 use fkv_plane::{RecordWord, SharedWord};
 
-/// The word of a header of this version.
+/// The word of a header with this mark.
 #[inline(always)]
-fn header_of(previous: u64, version: u64) -> u64
+fn header_of(previous: u64, mark: u64) -> u64
     requires previous { previous < 2 ^ 48 }
-    requires version { version < 2 ^ 13 }
-    ensures { result ≡ previous + version * 2 ^ 48 }
+    requires mark { mark < 2 ^ 13 }
+    ensures { result ≡ previous + mark * 2 ^ 48 }
 {
-    previous + (version << 48)
+    previous + (mark << 48)
 }
 
 /// The word of an entry.
@@ -198,7 +198,7 @@ fn fill<L: Line>(line: &mut L, going: &Going, op: Op, slot: Slot, old: Option<Va
     let _ = line.store(key_place, key.0);
     let header_place = going.record(Addr(addr), RecordWord::Header);
     let previous = addr_of(slot.entry);
-    let header = header_of(previous, going.version);
+    let header = header_of(previous, going.mark);
     let _ = line.store(header_place, header);
 }
 

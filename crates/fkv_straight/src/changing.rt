@@ -26,7 +26,7 @@ fn swap_value<L: Line>(line: &mut L, going: &Going, op: Op, its: Record) -> Repl
     requires updates { is_read op ≡ false }
     requires blind { is_blind op ≡ true }
     requires mutable { going.now.read_only ≤ its.addr }
-    requires own { its.version ≡ going.now.version }
+    requires own { its.mark ≡ going.now.mark }
     ensures seat { L.seat line.new ≡ L.seat line.old }
     ensures led { (start : L) (call : Call) → L.led start call line.old → L.led start call line.new }
     ensures kept { L.kept line.new ≤ L.kept line.old + 2 }
@@ -48,7 +48,7 @@ fn change_value<L: Line>(line: &mut L, going: &Going, op: Op, its: Record) -> Op
     requires updates { is_read op ≡ false }
     requires seeing { is_blind op ≡ false }
     requires mutable { going.now.read_only ≤ its.addr }
-    requires own { its.version ≡ going.now.version }
+    requires own { its.mark ≡ going.now.mark }
     ensures seat { L.seat line.new ≡ L.seat line.old }
     ensures led { (start : L) (call : Call) → L.led start call line.old → L.led start call line.new }
     ensures kept { L.kept line.new ≤ L.kept line.old + 2 }
@@ -78,7 +78,7 @@ pub(crate) fn change<L: Line>(line: &mut L, going: &Going, op: Op, its: Record) 
     requires room { L.kept line.old ≤ 49 }
     requires updates { is_read op ≡ false }
     requires mutable { going.now.read_only ≤ its.addr }
-    requires own { its.version ≡ going.now.version }
+    requires own { its.mark ≡ going.now.mark }
     ensures seat { L.seat line.new ≡ L.seat line.old }
     ensures led { (start : L) (call : Call) → L.led start call line.old → L.led start call line.new }
     ensures kept { L.kept line.new ≤ L.kept line.old + 2 }
@@ -109,7 +109,7 @@ fn update_record<L: Line>(line: &mut L, going: &Going, op: Op, its: Record) -> O
     if its.addr < going.read_only {
         return copy_below(line, going, op, its);
     }
-    if its.version != going.version {
+    if its.mark != going.mark {
         return copy_later(line, going, op, its);
     }
     let changed = change(line, going, op, its);

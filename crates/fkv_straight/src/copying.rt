@@ -62,7 +62,7 @@ pub(crate) fn copy_below<L: Line>(line: &mut L, going: &Going, op: Op, its: Reco
     if safe <= its.addr {
         return Outcome::Unusual;
     }
-    if going.is_moving_on && its.version != going.version {
+    if going.is_moving_on && its.mark != going.mark {
         return Outcome::Unusual;
     }
     copy(line, going, op, its)
@@ -76,7 +76,7 @@ pub(crate) fn copy_later<L: Line>(line: &mut L, going: &Going, op: Op, its: Reco
     requires updates { is_read op ≡ false }
     requires calm { going.now.is_preparing ≡ false }
     requires mutable { going.now.read_only ≤ its.addr }
-    requires other { its.version ≡ going.now.version → ⊥ }
+    requires other { its.mark ≡ going.now.mark → ⊥ }
     ensures seat { L.seat line.new ≡ L.seat line.old }
     ensures led { (start : L) (call : Call) → L.led start call line.old → L.led start call line.new }
     ensures done { (c : Course) → Goes c (L.seat line.old) op going.now → IsMet c its (L.stands line.old) → ComesTo c result (L.stands line.new) }

@@ -6,6 +6,7 @@ ghost use Rattle.fkv_plane.specs.Places.{bucket_place, frames_start};
 use crate::words::{is_moving_on, is_preparing, is_read};
 use fkv_base::{Addr, Serial, Version};
 use fkv_map::Op;
+use fkv_marks::mark;
 use fkv_pending::RequestName;
 use fkv_plane::{Places, RecordWord};
 use fkv_session::Session;
@@ -24,14 +25,16 @@ pub struct Going {
     pub bucket_mask: u64,
     pub head: u64,
     pub read_only: u64,
-    /// The session's version, which is that of each record that it makes.
+    /// The session's version.
     pub version: u64,
+    /// Its mark, which each record has that the session makes.
+    pub mark: u64,
     /// Whether a commit's sessions go on to the next version: then a new record wants a latch.
     pub is_moving_on: bool,
     /// Whether updates share the latch of their bucket.
     pub is_preparing: bool,
     pub ghost buckets: { places.buckets ≡ 2 ^ bits },
-    pub ghost version_fits: { version < 2 ^ 13 },
+    pub ghost mark_fits: { mark < 2 ^ 13 },
     pub ghost starts: { frames ≡ frames_start places },
     pub ghost starts_first: { first_bucket ≡ bucket_place places 0 0 },
     pub ghost masks: { (n : ℕ) → bit_and n bucket_mask ≡ n % 2 ^ bits },
@@ -78,6 +81,7 @@ impl Going {
         if head == 0 || head >= 1 << 62 {
             return None;
         }
+        let own = mark(seen.version);
         let moves_on = is_moving_on(seen.phase);
         let prepares = is_preparing(seen.phase);
         let first_bucket = places.bucket(0, 0);
@@ -91,6 +95,7 @@ impl Going {
             head,
             read_only: seen.offsets.read_only.0,
             version,
+            mark: own.0,
             is_moving_on: moves_on,
             is_preparing: prepares,
         })

@@ -59,7 +59,7 @@ fn update_hot<L: Line>(
     let Met::Found(record) = met else {
         return Err(Due::Met(met));
     };
-    if record.addr < going.read_only || record.version != going.version {
+    if record.addr < going.read_only || record.mark != going.mark {
         return Err(Due::Met(met));
     }
     let changed = change(line, going, op, record);

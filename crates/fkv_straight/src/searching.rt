@@ -35,7 +35,8 @@ pub struct Record {
     pub addr: u64,
     pub header: u64,
     pub previous: u64,
-    pub version: u64,
+    /// The mark of its version.
+    pub mark: u64,
     /// The place of its header.
     pub at: usize,
 }
@@ -213,7 +214,7 @@ fn walk<L: Line>(line: &mut L, going: &Going, op: Op, slot: Slot) -> Option<Met>
                 addr,
                 header,
                 previous: previous.0,
-                version: version.0,
+                mark: version.0,
                 at,
             }));
         }

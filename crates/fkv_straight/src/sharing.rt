@@ -87,7 +87,7 @@ fn change_shared<L: Line>(line: &mut L, going: &Going, op: Op, its: Record) -> O
     if its.addr != newest {
         return Outcome::Unusual;
     }
-    if its.addr < going.read_only || its.version != going.version {
+    if its.addr < going.read_only || its.mark != going.mark {
         return Outcome::Unusual;
     }
     let changed = change(line, going, op, its);

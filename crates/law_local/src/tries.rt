@@ -13,7 +13,8 @@ pub fn law_walk_rows()
 
 /// The same of a try: it begins with what it has to know, where its request knows what it has to; that stays, as long as a record of an older version
 /// of which it is about to make one keeps its value, where it isn't fixed; and each true reply leads it on. One reply needs more than that. If it ends
-/// the walk of an update at a record of the key, and the try passes its test for a later version, then its home has no record of one.
+/// the walk of an update at a record of the key, and the try passes its test for a later version, then its home has no record of one. If the session
+/// may change that record in place, and its header has the mark of the request's version, then the record is of that version.
 pub fn law_try_rows()
     ensures later { RequestsKnowLater }
     ensures begins { TriesBegin }

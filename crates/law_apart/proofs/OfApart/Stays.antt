@@ -42,7 +42,7 @@ module _ (home : ℕ → ℕ) (m : Map) (log log' : Log) (held : Held home m log
   met_stays : (from : ℕ) (version : Version) → HasMet log from version → HasMet log' from version
   met_stays from version met =
       let stays = grows.published from met.cell met.its in
-      record { cell = record met.cell { value = stays.value }; its = stays.still; its_version = met.its_version }
+      record { cell = record met.cell { value = stays.value }; its = stays.still; its_mark = met.its_mark }
 
   come_stays : (from at : ℕ) (first : Option Version) → HasComeTo log from first at → HasComeTo log' from first at
   come_stays from at None come = come

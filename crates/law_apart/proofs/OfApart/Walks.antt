@@ -5,6 +5,7 @@ use Rattle.std.proofs.lemmas.Bool.Decides.{nat_tests}
 use Rattle.fkv_base.specs.declared.numbers.Addr.{Addr}
 use Rattle.fkv_base.specs.declared.numbers.Key.{Key}
 use Rattle.fkv_base.specs.declared.numbers.Version.{Version}
+use Rattle.fkv_marks.specs.Marks.{mark}
 use Rattle.fkv_plane.specs.declared.asks.Ask.{Ask}
 use Rattle.fkv_plane.specs.declared.asks.Ask.TheVariants.{Done}
 use Rattle.fkv_plane.specs.declared.places.Places.{Places}
@@ -182,8 +183,8 @@ module _ (home : ℕ → ℕ) (log : Log) (request : Request) (seen : Seen) (p :
       by_links false is = inr (subst (λ (s : Walking). WalkApart home log request seen next s) (sym at) (first, goes_busy w.finding reply going, is))
 
   -- ---- a record that is met
-  first_so : (from addr : ℕ) (first : Option Version) (version : Version) (cell : Cell) → HasComeTo log from first addr → log.cells addr ≡ Published cell → cell.version ≡ version.0 → HasMetFirst log from (first_met first version)
-  first_so from addr None version cell come its is = record { cell = cell; its = sym (ap log.cells come) ∙ its; its_version = is }
+  first_so : (from addr : ℕ) (first : Option Version) (version : Version) (cell : Cell) → HasComeTo log from first addr → log.cells addr ≡ Published cell → version.0 ≡ mark cell.version → HasMetFirst log from (first_met first version)
+  first_so from addr None version cell come its is = record { cell = cell; its = sym (ap log.cells come) ∙ its; its_mark = is }
   first_so from addr (Some was) version cell come its is = come
 
   come_so : (from at : ℕ) (first : Option Version) → HasMetFirst log from first → HasComeTo log from first at
@@ -195,7 +196,7 @@ module _ (home : ℕ → ℕ) (log : Log) (request : Request) (seen : Seen) (p :
   met_apart w addr header key its_key head way some has key_is shows come = subst (λ said. Apart (record_met p w addr (record { 0 = key }) said)) (sym has.says) (by_previous (nat_lt has.cell.previous addr.0) refl)
     where
       version : Version
-      version = record { 0 = has.cell.version }
+      version = record { 0 = mark has.cell.version }
 
       first : HasMetFirst log (begin_of w) (first_met w.first version)
       first = first_so (begin_of w) addr.0 w.first version has.cell come has.its refl
@@ -274,13 +275,13 @@ module _ (home : ℕ → ℕ) (log : Log) (request : Request) (seen : Seen) (p :
   find_met w (Done its) met = slot_met (record w { spare = its.spare }) its.found met
   find_met w ask met = met
 
-  first_in : (first : Option Version) (version : Version) (cell : Cell) (at : ℕ) → IsIn at Its → log.cells at ≡ Published cell → cell.version ≡ version.0 → MetIn log Its first → MetIn log Its (first_met first version)
-  first_in None version cell at is_in its is met = record { at = at; is_in = is_in; met = record { cell = cell; its = its; its_version = is } }
+  first_in : (first : Option Version) (version : Version) (cell : Cell) (at : ℕ) → IsIn at Its → log.cells at ≡ Published cell → version.0 ≡ mark cell.version → MetIn log Its first → MetIn log Its (first_met first version)
+  first_in None version cell at is_in its is met = record { at = at; is_in = is_in; met = record { cell = cell; its = its; its_mark = is } }
   first_in (Some was) version cell at is_in its is met = met
 
   met_met : (w : WalkState) (addr : Addr) (header key : ℕ) → IsIn addr.0 Its → (has : IsHeaderOf (log.cells addr.0) header) → Met w → Met (record_met p w addr (record { 0 = key }) (header_said header))
   met_met w addr header key is_in has met =
-      let version : Version = record { 0 = has.cell.version } in
+      let version : Version = record { 0 = mark has.cell.version } in
       let first : MetIn log Its (first_met w.first version) = first_in w.first version has.cell addr.0 is_in has.its refl met in
       let found : WalkState = record w { first = first_met w.first version; step = HasFound addr version } in
       let on : WalkState = reached p (record w { first = first_met w.first version }) has.cell.previous in

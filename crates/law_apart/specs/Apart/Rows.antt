@@ -1,6 +1,7 @@
 -- What updates know of the versions at their homes, by control state: those that share a latch, and those that make a new record.
-use Rattle.std.specs.Prelude.{◌≡◌, ◌⊎◌, ◌+◌, ◌<◌, ◌≤◌, ◌||◌, ⊤, ℕ, Bool, true, false, List, Option, Some, None}
+use Rattle.std.specs.Prelude.{◌≡◌, ◌⊎◌, ◌+◌, ◌^◌, ◌<◌, ◌≤◌, ◌||◌, ⊤, ℕ, Bool, true, false, List, Option, Some, None}
 use Rattle.fkv_base.specs.declared.numbers.Version.{Version}
+use Rattle.fkv_marks.specs.Marks.{mark}
 use Rattle.fkv_plane.specs.declared.asks.Ask.TheVariants.{Done}
 use Rattle.fkv_plane.specs.declared.places.Places.{Places}
 use Rattle.fkv_plane.specs.Passing.{is_done}
@@ -50,30 +51,30 @@ abbrev pub ShowsLater : (ℕ → ℕ) → Log → Request → Seen → ℕ → T
 ShowsLater home log request seen from = (a : ℕ) → IsLater home log request a → (head_in seen ≤ from) × (request.version.0 < version_at (log.cells from))
 
 -- ---- what a walk has met first
--- this is the version of the record to which its entry leads
-pub record HasMet (log : Log) (from : ℕ) (version : Version) : Type 0 where
+-- the header of the record to which its entry leads has said this mark of the record's version
+pub record HasMet (log : Log) (from : ℕ) (said : Version) : Type 0 where
   pub cell : Cell
   pub its : log.cells from ≡ Published cell
-  pub its_version : cell.version ≡ version.0
+  pub its_mark : said.0 ≡ mark cell.version
 
 -- or it has met none yet, and comes to that record
 abbrev pub HasComeTo : Log → ℕ → Option Version → ℕ → Type 0
 HasComeTo log from None at = at ≡ from
-HasComeTo log from (Some version) at = HasMet log from version
+HasComeTo log from (Some said) at = HasMet log from said
 
 abbrev pub HasMetFirst : Log → ℕ → Option Version → Type 0
 HasMetFirst log from None = ⊥
-HasMetFirst log from (Some version) = HasMet log from version
+HasMetFirst log from (Some said) = HasMet log from said
 
 -- what it has met first is some record of the chain
-pub record MetAt (log : Log) (chain : List ℕ) (version : Version) : Type 0 where
+pub record MetAt (log : Log) (chain : List ℕ) (said : Version) : Type 0 where
   pub at : ℕ
   pub is_in : IsIn at chain
-  pub met : HasMet log at version
+  pub met : HasMet log at said
 
 abbrev pub MetIn : Log → List ℕ → Option Version → Type 0
 MetIn log chain None = ⊤
-MetIn log chain (Some version) = MetAt log chain version
+MetIn log chain (Some said) = MetAt log chain said
 
 -- ---- a search that links an overflow bucket
 abbrev pub is_link_step : FindStep → Bool
@@ -186,6 +187,10 @@ shares_now a Tries = a.trial.has_shared
 shares_now a step = a.pending.request.has_latch
 
 -- ---- what is given
+-- The version of each record takes 13 bits, so that it is told by its mark.
+abbrev pub VersionsFit : Log → Type 0
+VersionsFit log = (a : ℕ) → version_at (log.cells a) < 2 ^ 13
+
 -- What a search is told. It is lost only if it links. At the load of an eighth word that leads nowhere its home is empty.
 pub record SearchTells (log : Log) (h : ℕ) (p : Places) (f : Finding) (reply : ℕ) : Type 0 where
   pub lost : (its : FindAnswer) → (f.step ≡ AtRest → ⊥) → find_next_ask p f reply ≡ Done its → is_lost its.found ≡ true → is_linking f ≡ true

@@ -35,7 +35,7 @@ use Rattle.fkv_pending.specs.Attempting.{AttemptState, attempt_ended, waits_for_
 use Rattle.law_local.specs.Tries.OnWay.{IsOrderly}
 use Rattle.law_local.specs.Tries.HeldRows.{HeldKnows, IsSoughtFrom, SoughtKnows}
 use Rattle.law_local.specs.Tries.MailRows.{MailKnows, PutsThere, PutsSought}
-use Rattle.law_local.specs.Tries.TryRows.{key_in, head_in, NoneLaterPast}
+use Rattle.law_local.specs.Tries.TryRows.{key_in, head_in, MarksTell, NoneLaterPast}
 use Rattle.law_local.specs.Tries.AttemptRows.{PendingKnows, AsksAtPoll, TriesFor, AttemptRow, AttemptKnows, IsTrueOfAttempt}
 use Rattle.law_local.proofs.OfTries.Tests.{eq_false, some_where, not_both}
 use Rattle.law_local.proofs.OfTries.HeldSteps.{held_knows, moved_knows}
@@ -234,17 +234,17 @@ put_knows home log a (Done other) at pending row = record { pending = pending; r
 put_knows home log a ask at pending row = record { pending = pending; row = subst (AttemptRow home log a) (sym at) row }
 
 -- ---- by the control state
-row_leads : (home : ℕ → ℕ) (log : Log) (p : Places) (bits room session : ℕ) (a : AttemptState) (step : Attempting) (reply : ℕ) → IsOrderly home log → (a.step ≡ Tries → NoneLaterPast home log p a.trial reply) → a.step ≡ step
+row_leads : (home : ℕ → ℕ) (log : Log) (p : Places) (bits room session : ℕ) (a : AttemptState) (step : Attempting) (reply : ℕ) → IsOrderly home log → (a.step ≡ Tries → NoneLaterPast home log p a.trial reply) → (a.step ≡ Tries → MarksTell log p a.trial reply) → a.step ≡ step
     → PendingKnows home log a.pending a.seen → AttemptRow home log a step → IsTrueOfAttempt home log p a step reply → AttemptKnows home log (attempting_next p bits room session (record a { effect = None }) step reply)
 unfolding attempting_next
-row_leads home log p bits room session a (Ended its) reply orderly newest at pending row says = record { pending = pending; row = subst (AttemptRow home log (record a { effect = None })) (sym at) tt }
-row_leads home log p bits room session a Looks reply orderly newest at pending row says =
+row_leads home log p bits room session a (Ended its) reply orderly newest marks at pending row says = record { pending = pending; row = subst (AttemptRow home log (record a { effect = None })) (sym at) tt }
+row_leads home log p bits room session a Looks reply orderly newest marks at pending row says =
     look_knows home log p bits session (record a { effect = None; mailing = mail_next a.mailing reply }) (mail_ask session (mail_next a.mailing reply)) orderly.chains at pending row.0 row.1
     (mail_leads home log (key_in a.pending.request) (head_in a.seen) a.pending.sought a.mailing reply orderly.chains pending.sought row.2 says) refl
-row_leads home log p bits room session a Tries reply orderly newest at pending row says =
+row_leads home log p bits room session a Tries reply orderly newest marks at pending row says =
     try_led_knows home log p (record a { effect = (try_next p room a.trial reply).effect; trial = try_next p room a.trial reply }) (try_ask p (try_next p room a.trial reply)) at pending
     (record {
-      knows = try_leads home log p room a.trial reply orderly (newest at) row.knows says;
+      knows = try_leads home log p room a.trial reply orderly (newest at) (marks at) row.knows says;
       its_request = kept.request ∙ row.its_request;
       its_seen = kept.seen ∙ row.its_seen;
       not_asked = row.not_asked;
@@ -252,9 +252,9 @@ row_leads home log p bits room session a Tries reply orderly newest at pending r
   where
     kept : KeepsRequest a.trial (try_next p room a.trial reply)
     kept = try_kept p room a.trial reply
-row_leads home log p bits room session a Puts reply orderly newest at pending row says =
+row_leads home log p bits room session a Puts reply orderly newest marks at pending row says =
     put_knows home log (record a { effect = None; mailing = mail_next a.mailing reply }) (mail_ask session (mail_next a.mailing reply)) at pending (puts_leads a.pending.sought a.mailing reply row)
 
-pub attempt_leads : (home : ℕ → ℕ) (log : Log) (p : Places) (bits room session : ℕ) (a : AttemptState) (reply : ℕ) → IsOrderly home log → (a.step ≡ Tries → NoneLaterPast home log p a.trial reply) → AttemptKnows home log a
+pub attempt_leads : (home : ℕ → ℕ) (log : Log) (p : Places) (bits room session : ℕ) (a : AttemptState) (reply : ℕ) → IsOrderly home log → (a.step ≡ Tries → NoneLaterPast home log p a.trial reply) → (a.step ≡ Tries → MarksTell log p a.trial reply) → AttemptKnows home log a
     → IsTrueOfAttempt home log p a a.step reply → AttemptKnows home log (attempt_next p bits room session a reply)
-attempt_leads home log p bits room session a reply orderly newest knows says = row_leads home log p bits room session a a.step reply orderly newest refl knows.pending knows.row says
+attempt_leads home log p bits room session a reply orderly newest marks knows says = row_leads home log p bits room session a a.step reply orderly newest marks refl knows.pending knows.row says

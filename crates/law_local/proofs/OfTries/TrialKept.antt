@@ -3,6 +3,7 @@ use Rattle.std.proofs.Common.{◌≡◌, ℕ, ◌∙◌, refl, ap, Bool, true, f
 use Rattle.std.specs.Prelude.{◌==◌, ◌&&◌, not, nat_le, if◌then◌else◌}
 use Rattle.fkv_base.specs.declared.numbers.Addr.{Addr}
 use Rattle.fkv_base.specs.declared.numbers.Version.{Version}
+use Rattle.fkv_marks.specs.Marks.{mark}
 use Rattle.fkv_map.specs.declared.operations.Reply.{Reply}
 use Rattle.fkv_map.specs.Map.{absent_word}
 use Rattle.fkv_map.specs.Keys.{key_of, reply_from}
@@ -201,9 +202,9 @@ row_kept p room t (try.Ended its) reply = record { request = refl; seen = refl }
 row_kept p room t try.TakesShared reply = let kept = shared_kept p (record t { effect = None; latching = latch_next t.latching reply }) (latch_next_ask t.latching reply) in record { request = kept.request; seen = kept.seen }
 row_kept p room t try.Walks reply = let kept = walk_led_keeps p (record t { effect = None; walk = walk_next p t.walk reply }) (walk_ask p (walk_next p t.walk reply)) in record { request = kept.request; seen = kept.seen }
 row_kept p room t (try.LoadsSafe addr version) reply =
-    by_choice t (nat_le reply addr.0) (ends p (record t { effect = None }) (answer.Wait reason.Fuzzy)) (copies p (record t { effect = None }) InMemory (version.0 == t.request.version.0))
+    by_choice t (nat_le reply addr.0) (ends p (record t { effect = None }) (answer.Wait reason.Fuzzy)) (copies p (record t { effect = None }) InMemory (version.0 == mark t.request.version.0))
     (as_kept t (record t { effect = None }) (ends p (record t { effect = None }) (answer.Wait reason.Fuzzy)) refl refl (ends_keeps p (record t { effect = None }) (answer.Wait reason.Fuzzy)))
-    (as_kept t (record t { effect = None }) (copies p (record t { effect = None }) InMemory (version.0 == t.request.version.0)) refl refl (copies_keeps p (record t { effect = None }) InMemory (version.0 == t.request.version.0)))
+    (as_kept t (record t { effect = None }) (copies p (record t { effect = None }) InMemory (version.0 == mark t.request.version.0)) refl refl (copies_keeps p (record t { effect = None }) InMemory (version.0 == mark t.request.version.0)))
 row_kept p room t (try.SwapsValue addr) reply = let kept = effect_kept p (record t { effect = None }) (reply_from None t.request.op) in record { request = kept.request; seen = kept.seen }
 row_kept p room t (try.LoadsCurrent addr) reply = let kept = current_keeps p (record t { effect = None; walk = walk_next p t.walk reply }) addr (walk_ask p (walk_next p t.walk reply)) in record { request = kept.request; seen = kept.seen }
 row_kept p room t (try.ChangesValue addr old) reply =

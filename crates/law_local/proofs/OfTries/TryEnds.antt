@@ -4,6 +4,7 @@ use Rattle.std.specs.Prelude.{◌&&◌, not, if◌then◌else◌}
 use Rattle.fkv_base.specs.declared.numbers.Addr.{Addr}
 use Rattle.fkv_base.specs.declared.numbers.Key.{Key}
 use Rattle.fkv_base.specs.declared.numbers.Version.{Version}
+use Rattle.fkv_marks.proofs.Shown.{mark_small}
 use Rattle.fkv_map.specs.Map.{absent_word}
 use Rattle.fkv_plane.specs.declared.places.Places.{Places}
 use Rattle.fkv_latch.specs.declared.latching.LatchTask.TheVariants.{DropShared, DropExclusive, TakeExclusive}
@@ -79,20 +80,20 @@ unfolding appends
 appends_knows home log t old request update begins still its_old = record {
   request = request;
   free = update_free t.request t.has_shared t.has_exclusive update;
-  row = (update, (refl, made_so home log t.request t.walk.entry old request.plain begins still its_old));
+  row = (update, (mark_small t.request.version.0 t.request.version_fits, made_so home log t.request t.walk.entry old request.plain begins still its_old));
 }
 
 -- the record that the walk stands at is the request's first one
-pub found_for : (home : ℕ → ℕ) (log : Log) (request : Request) (seen : Seen) (w : WalkState) (addr : Addr) (version : Version) → StandsAt home log request seen w addr version → IsFoundAt home log (key_in request) (begin_of w) addr.0 version.0
-found_for home log request seen w addr version stands = subst (λ (k : Key). IsFoundAt home log k.0 (begin_of w) addr.0 version.0) stands.its.its_key stands.knows.found
+pub found_for : (home : ℕ → ℕ) (log : Log) (request : Request) (seen : Seen) (w : WalkState) (addr : Addr) (version : Version) → (stands : StandsAt home log request seen w addr version) → IsFoundAt home log (key_in request) (begin_of w) addr.0 (let its = stands.knows in its.version)
+found_for home log request seen w addr version stands = subst (λ (k : Key). IsFoundAt home log k.0 (begin_of w) addr.0 stands.knows.version) stands.its.its_key stands.knows.found
 
 -- and so it is where the walk goes on to the value
-pub found_on : (home : ℕ → ℕ) (log : Log) (request : Request) (seen : Seen) (w : WalkState) (addr : Addr) (version : Version) → StandsAt home log request seen w addr version → IsFoundAt home log (key_in request) (begin_of (walk_on w)) addr.0 version.0
-found_on home log request seen w addr version stands = subst (λ n. IsFoundAt home log (key_in request) (entry_addr n) addr.0 version.0) (sym (same_on w)) (found_for home log request seen w addr version stands)
+pub found_on : (home : ℕ → ℕ) (log : Log) (request : Request) (seen : Seen) (w : WalkState) (addr : Addr) (version : Version) → (stands : StandsAt home log request seen w addr version) → IsFoundAt home log (key_in request) (begin_of (walk_on w)) addr.0 (let its = stands.knows in its.version)
+found_on home log request seen w addr version stands = subst (λ n. IsFoundAt home log (key_in request) (entry_addr n) addr.0 stands.knows.version) (sym (same_on w)) (found_for home log request seen w addr version stands)
 
 pub loads_found : (home : ℕ → ℕ) (log : Log) (request : Request) (seen : Seen) (w : WalkState) (addr : Addr) (version : Version) → StandsAt home log request seen w addr version → LoadsFound home log request seen (walk_on w) addr
 loads_found home log request seen w addr version stands = record {
-  version = version.0;
+  version = stands.knows.version;
   found = found_on home log request seen w addr version stands;
   in_memory = subst (λ (a : Addr). a.0 ≤ addr.0) stands.its.its_head stands.knows.in_memory;
   loads = loads_on home log w addr version stands.at stands.knows;
@@ -102,7 +103,7 @@ copies_memory_knows : (home : ℕ → ℕ) (log : Log) (t : TryState) → Reques
 unfolding copies_from
 copies_memory_knows home log t request update copy = by_blind (is_blind t.request.op) refl
   where
-    found : IsFoundAt home log (key_in t.request) (begin_of t.walk) copy.addr.0 copy.version.0
+    found : IsFoundAt home log (key_in t.request) (begin_of t.walk) copy.addr.0 copy.stands.knows.version
     found = found_for home log t.request t.seen t.walk copy.addr copy.version copy.stands
 
     by_blind : (b : Bool) → is_blind t.request.op ≡ b → TryKnows home log (if b then appends t absent_word else record t { walk = walk_on t.walk; step = LoadsOld })

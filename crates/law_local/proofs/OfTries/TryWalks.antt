@@ -4,6 +4,7 @@ use Rattle.std.specs.Prelude.{◌≢◌, ◌==◌, ◌&&◌, nat_lt, nat_le, if�
 use Rattle.fkv_base.specs.declared.numbers.Addr.{Addr}
 use Rattle.fkv_base.specs.declared.numbers.Key.{Key}
 use Rattle.fkv_base.specs.declared.numbers.Version.{Version}
+use Rattle.fkv_marks.specs.Marks.{mark}
 use Rattle.fkv_map.specs.Map.{absent_word}
 use Rattle.fkv_map.specs.Keys.{key_of}
 use Rattle.fkv_plane.specs.declared.asks.Ask.{Ask}
@@ -122,12 +123,16 @@ nowhere_knows home log p t orderly request free finds = by_read (is_read t.reque
     by_read false e = copies_knows home log p t (Known absent_word) false request e (none_old home log t.request (begin_of t.walk) orderly finds)
 
 -- ---- a record in memory
+-- the version with which it is found is that of the record there
+its_own : {home : ℕ → ℕ} {log : Log} {key from at version own : ℕ} → IsFoundAt home log key from at version → version_at (log.cells at) ≡ own → version ≡ own
+its_own found own = sym (ap version_at found.its ∙ found.its_version) ∙ own
+
 changes_knows : (home : ℕ → ℕ) (log : Log) (t : TryState) (addr : Addr) (version : Version) → RequestKnows home log t.request t.seen → IsUpdate t.request → StandsAt home log t.request t.seen t.walk addr version
-    → version.0 ≡ t.request.version.0 → t.seen.offsets.read_only.0 ≤ addr.0 → (b : Bool) → is_blind t.request.op ≡ b → TryKnows home log (if b then record t { step = SwapsValue addr } else record t { walk = walk_on t.walk; step = LoadsCurrent addr })
+    → version_at (log.cells addr.0) ≡ t.request.version.0 → t.seen.offsets.read_only.0 ≤ addr.0 → (b : Bool) → is_blind t.request.op ≡ b → TryKnows home log (if b then record t { step = SwapsValue addr } else record t { walk = walk_on t.walk; step = LoadsCurrent addr })
 changes_knows home log t addr version request update stands own mutable true e = record {
   request = request;
   free = update_free t.request t.has_shared t.has_exclusive update;
-  row = (update, e, record { found = subst (IsFoundAt home log (key_in t.request) (begin_of t.walk) addr.0) own (found_for home log t.request t.seen t.walk addr version stands); mutable = mutable });
+  row = (update, e, record { found = subst (IsFoundAt home log (key_in t.request) (begin_of t.walk) addr.0) (its_own (found_for home log t.request t.seen t.walk addr version stands) own) (found_for home log t.request t.seen t.walk addr version stands); mutable = mutable });
 }
 changes_knows home log t addr version request update stands own mutable false e = record {
   request = request;
@@ -135,9 +140,13 @@ changes_knows home log t addr version request update stands own mutable false e 
   row = (
     update,
     loads_on home log t.walk addr version stands.at stands.knows,
-    record { found = subst (IsFoundAt home log (key_in t.request) (begin_of (walk_on t.walk)) addr.0) own (found_on home log t.request t.seen t.walk addr version stands); mutable = mutable },
+    record { found = subst (IsFoundAt home log (key_in t.request) (begin_of (walk_on t.walk)) addr.0) (its_own (found_for home log t.request t.seen t.walk addr version stands) own) (found_on home log t.request t.seen t.walk addr version stands); mutable = mutable },
   );
 }
+
+-- where the session may change the record, and its header has the mark of the request's version, the record is of that version
+abbrev Tells : Log → TryState → Addr → Version → Type 0
+Tells log t addr said = t.seen.offsets.read_only.0 ≤ addr.0 → said.0 ≡ mark t.request.version.0 → version_at (log.cells addr.0) ≡ t.request.version.0
 
 -- a record of another version than the request's is of an older one, as none is of a later
 older_there : (home : ℕ → ℕ) (log : Log) (request : Request) (from at version : ℕ) → IsOrderly home log → NoneAbove log (home (key_in request)) request.version.0 → IsFoundAt home log (key_in request) from at version → version ≢ request.version.0
@@ -151,21 +160,24 @@ older_there home log request from at version orderly newest found other =
     less : (x v w : ℕ) → x ≡ w → x ≤ v → w ≢ v → x < v
     less x v w same most other = grind (arith, same, most, other)
 
-region_knows : (home : ℕ → ℕ) (log : Log) (p : Places) (t : TryState) (addr : Addr) (version : Version) → IsOrderly home log → NoneAbove log (home (key_in t.request)) t.request.version.0 → RequestKnows home log t.request t.seen → IsUpdate t.request
+region_knows : (home : ℕ → ℕ) (log : Log) (p : Places) (t : TryState) (addr : Addr) (version : Version) → IsOrderly home log → NoneAbove log (home (key_in t.request)) t.request.version.0 → Tells log t addr version → RequestKnows home log t.request t.seen → IsUpdate t.request
     → StandsAt home log t.request t.seen t.walk addr version
     → TryKnows home log (region_met p t addr version (if nat_lt addr.0 t.seen.offsets.head.0 then Some region.Disk else if nat_le t.seen.offsets.read_only.0 addr.0 then Some region.Mutable else None))
-region_knows home log p t addr version orderly newest request update stands = by_head (nat_lt addr.0 t.seen.offsets.head.0) refl
+region_knows home log p t addr version orderly newest tells request update stands = by_head (nat_lt addr.0 t.seen.offsets.head.0) refl
   where
-    found : IsFoundAt home log (key_in t.request) (begin_of t.walk) addr.0 version.0
+    found : IsFoundAt home log (key_in t.request) (begin_of t.walk) addr.0 stands.knows.version
     found = found_for home log t.request t.seen t.walk addr version stands
 
-    by_version : (b : Bool) → (version.0 == t.request.version.0) ≡ b → t.seen.offsets.read_only.0 ≤ addr.0 → TryKnows home log (if b then changes t addr else copies p t InMemory false)
-    by_version true e mutable = changes_knows home log t addr version request update stands (eq_true version.0 t.request.version.0 e) mutable (is_blind t.request.op) refl
+    by_version : (b : Bool) → (version.0 == mark t.request.version.0) ≡ b → t.seen.offsets.read_only.0 ≤ addr.0 → TryKnows home log (if b then changes t addr else copies p t InMemory false)
+    by_version true e mutable = changes_knows home log t addr version request update stands (tells mutable (eq_true version.0 (mark t.request.version.0) e)) mutable (is_blind t.request.op) refl
     by_version false e mutable = copies_knows home log p t InMemory false request update
-        (record { addr = addr; version = version; stands = stands; still = inr (older_there home log t.request (begin_of t.walk) addr.0 version.0 orderly newest found (eq_false version.0 t.request.version.0 e)) })
+        (record { addr = addr; version = version; stands = stands; still = inr (older_there home log t.request (begin_of t.walk) addr.0 stands.knows.version orderly newest found other) })
+      where
+        other : stands.knows.version ≢ t.request.version.0
+        other same = eq_false version.0 (mark t.request.version.0) e (stands.knows.its_mark ∙ ap mark same)
 
     by_read_only : (b : Bool) → nat_le t.seen.offsets.read_only.0 addr.0 ≡ b → TryKnows home log (region_met p t addr version (if b then Some region.Mutable else None))
-    by_read_only true e = by_version (version.0 == t.request.version.0) refl (le_true t.seen.offsets.read_only.0 addr.0 e)
+    by_read_only true e = by_version (version.0 == mark t.request.version.0) refl (le_true t.seen.offsets.read_only.0 addr.0 e)
     by_read_only false e = record { request = request; free = update_free t.request t.has_shared t.has_exclusive update; row = (update, stands) }
 
     by_head : (b : Bool) → nat_lt addr.0 t.seen.offsets.head.0 ≡ b
@@ -177,46 +189,46 @@ region_knows home log p t addr version orderly newest request update stands = by
         absurd (omega (arith, low, high, same))
     by_head false e = by_read_only (nat_le t.seen.offsets.read_only.0 addr.0) refl
 
-record_knows : (home : ℕ → ℕ) (log : Log) (p : Places) (t : TryState) (addr : Addr) (version : Version) → IsOrderly home log → NoneIsLater home log t.request → RequestKnows home log t.request t.seen
+record_knows : (home : ℕ → ℕ) (log : Log) (p : Places) (t : TryState) (addr : Addr) (version : Version) → IsOrderly home log → NoneIsLater home log t.request → Tells log t addr version → RequestKnows home log t.request t.seen
     → IsFree t.request t.has_shared t.has_exclusive → StandsAt home log t.request t.seen t.walk addr version → TryKnows home log (met_record p t addr version)
-record_knows home log p t addr version orderly newest request free stands = by_read (is_read t.request.op) refl
+record_knows home log p t addr version orderly newest tells request free stands = by_read (is_read t.request.op) refl
   where
     by_read : (b : Bool) → is_read t.request.op ≡ b
         → TryKnows home log (if b then record t { walk = walk_on t.walk; step = LoadsAnswer } else region_met p t addr version (if nat_lt addr.0 t.seen.offsets.head.0 then Some region.Disk else if nat_le t.seen.offsets.read_only.0 addr.0 then Some region.Mutable else None))
     by_read true e = record { request = request; free = free; row = record { addr = addr; its = loads_found home log t.request t.seen t.walk addr version stands } }
-    by_read false e = region_knows home log p t addr version orderly (newest e) request e stands
+    by_read false e = region_knows home log p t addr version orderly (newest e) tells request e stands
 
 -- ---- where the walk has ended
-walked_knows : (home : ℕ → ℕ) (log : Log) (p : Places) (t : TryState) (its : WalkAnswer) → IsOrderly home log → ((addr : Addr) (version : Version) → its ≡ walk.Found addr version → NoneIsLater home log t.request) → RequestKnows home log t.request t.seen → IsFree t.request t.has_shared t.has_exclusive
+walked_knows : (home : ℕ → ℕ) (log : Log) (p : Places) (t : TryState) (its : WalkAnswer) → IsOrderly home log → ((addr : Addr) (version : Version) → its ≡ walk.Found addr version → NoneIsLater home log t.request) → ((addr : Addr) (version : Version) → its ≡ walk.Found addr version → Tells log t addr version) → RequestKnows home log t.request t.seen → IsFree t.request t.has_shared t.has_exclusive
     → IsWalkFor t.request t.seen t.walk → WalkTells home log t.walk its → TryKnows home log (walked p t its)
-walked_knows home log p t (walk.Found addr version) orderly newest request free walks tells = record_knows home log p t addr version orderly (newest addr version refl) request free (record { its = walks; at = tells.0; knows = tells.1 })
-walked_knows home log p t walk.Nowhere orderly newest request free walks tells = nowhere_knows home log p t orderly request free (subst (λ (k : Key). FindsNone home log k.0 (begin_of t.walk)) walks.its_key tells)
-walked_knows home log p t (walk.OnDisk addr) orderly newest request free walks tells = disk_knows home log p t addr orderly request free
+walked_knows home log p t (walk.Found addr version) orderly newest marks request free walks tells = record_knows home log p t addr version orderly (newest addr version refl) (marks addr version refl) request free (record { its = walks; at = tells.0; knows = tells.1 })
+walked_knows home log p t walk.Nowhere orderly newest marks request free walks tells = nowhere_knows home log p t orderly request free (subst (λ (k : Key). FindsNone home log k.0 (begin_of t.walk)) walks.its_key tells)
+walked_knows home log p t (walk.OnDisk addr) orderly newest marks request free walks tells = disk_knows home log p t addr orderly request free
     (subst (λ (a : Addr). ComesBelow home log (key_in t.request) (begin_of t.walk) addr.0 a.0) walks.its_head (subst (λ (k : Key). ComesBelow home log k.0 (begin_of t.walk) addr.0 t.walk.head.0) walks.its_key tells))
-walked_knows home log p t (walk.Value value) orderly newest request free walks tells = ends_knows home log p t (answer.Wait reason.Contended) request free tt
-walked_knows home log p t walk.Full orderly newest request free walks tells = full_knows home log p t answer.IndexFull t.occasion request free tt
-walked_knows home log p t walk.Contended orderly newest request free walks tells = ends_knows home log p t (answer.Wait reason.Contended) request free tt
+walked_knows home log p t (walk.Value value) orderly newest marks request free walks tells = ends_knows home log p t (answer.Wait reason.Contended) request free tt
+walked_knows home log p t walk.Full orderly newest marks request free walks tells = full_knows home log p t answer.IndexFull t.occasion request free tt
+walked_knows home log p t walk.Contended orderly newest marks request free walks tells = ends_knows home log p t (answer.Wait reason.Contended) request free tt
 
 -- a walk that has ended at a record has passed the test where the try goes on
 passed : (its : WalkAnswer) (shifts : Bool) (addr : Addr) (version : Version) → its ≡ walk.Found addr version → (has_walked its && shifts) ≡ false → shifts ≡ false
 passed its shifts addr version is e = subst (λ (x : WalkAnswer). (has_walked x && shifts) ≡ false) is e
 
-pub walk_led_knows : (home : ℕ → ℕ) (log : Log) (p : Places) (t : TryState) (ask : Ask WalkAnswer) → IsOrderly home log → ((addr : Addr) (version : Version) → ask ≡ Done (walk.Found addr version) → must_shift t ≡ false → NoneIsLater home log t.request) → RequestKnows home log t.request t.seen → IsFree t.request t.has_shared t.has_exclusive
+pub walk_led_knows : (home : ℕ → ℕ) (log : Log) (p : Places) (t : TryState) (ask : Ask WalkAnswer) → IsOrderly home log → ((addr : Addr) (version : Version) → ask ≡ Done (walk.Found addr version) → must_shift t ≡ false → NoneIsLater home log t.request) → ((addr : Addr) (version : Version) → ask ≡ Done (walk.Found addr version) → Tells log t addr version) → RequestKnows home log t.request t.seen → IsFree t.request t.has_shared t.has_exclusive
     → t.step ≡ Walks → IsWalkFor t.request t.seen t.walk → WalkKnows home log t.walk → walk_ask p t.walk ≡ ask → TryKnows home log (walk_ledto p t ask)
 unfolding walk_ledto
-walk_led_knows home log p t (Done its) orderly newest request free at walks knows asks = by_test (has_walked its && must_shift (record t { spare = t.walk.spare })) refl
+walk_led_knows home log p t (Done its) orderly newest marks request free at walks knows asks = by_test (has_walked its && must_shift (record t { spare = t.walk.spare })) refl
   where
     by_test : (b : Bool) → (has_walked its && must_shift (record t { spare = t.walk.spare })) ≡ b → TryKnows home log (if b then ends p (record t { spare = t.walk.spare }) answer.Shift else walked p (record t { spare = t.walk.spare }) its)
     by_test true e = ends_knows home log p (record t { spare = t.walk.spare }) answer.Shift request free tt
-    by_test false e = walked_knows home log p (record t { spare = t.walk.spare }) its orderly (λ addr version is. newest addr version (ap Done is) (passed its (must_shift t) addr version is e)) request free walks (walk_tells home log p t.walk its knows asks)
-walk_led_knows home log p t ask orderly newest request free at walks knows asks = record { request = request; free = free; row = subst (TryRow home log t) (sym at) (walks, knows) }
+    by_test false e = walked_knows home log p (record t { spare = t.walk.spare }) its orderly (λ addr version is. newest addr version (ap Done is) (passed its (must_shift t) addr version is e)) (λ addr version is. marks addr version (ap Done is)) request free walks (walk_tells home log p t.walk its knows asks)
+walk_led_knows home log p t ask orderly newest marks request free at walks knows asks = record { request = request; free = free; row = subst (TryRow home log t) (sym at) (walks, knows) }
 
 -- ---- the safe read-only offset
 pub safe_knows : (home : ℕ → ℕ) (log : Log) (p : Places) (t : TryState) (addr : Addr) (version : Version) (safe : ℕ) → RequestKnows home log t.request t.seen → IsUpdate t.request → StandsAt home log t.request t.seen t.walk addr version → safe ≡ log.fixed
     → TryKnows home log (safe_loaded p t addr version safe)
 safe_knows home log p t addr version safe request update stands is_fixed = by_test (nat_le safe addr.0) refl
   where
-    by_test : (b : Bool) → nat_le safe addr.0 ≡ b → TryKnows home log (if b then ends p t (answer.Wait reason.Fuzzy) else copies p t InMemory (version.0 == t.request.version.0))
+    by_test : (b : Bool) → nat_le safe addr.0 ≡ b → TryKnows home log (if b then ends p t (answer.Wait reason.Fuzzy) else copies p t InMemory (version.0 == mark t.request.version.0))
     by_test true e = ends_knows home log p t (answer.Wait reason.Fuzzy) request (update_free t.request t.has_shared t.has_exclusive update) tt
-    by_test false e = copies_knows home log p t InMemory (version.0 == t.request.version.0) request update
+    by_test false e = copies_knows home log p t InMemory (version.0 == mark t.request.version.0) request update
         (record { addr = addr; version = version; stands = stands; still = inl (subst (λ n. addr.0 < n) is_fixed (le_false safe addr.0 e)) })

@@ -3,6 +3,7 @@ use Rattle.std.proofs.Common.{◌≡◌, ℕ, ◌-◌, ◌<◌, ◌≤◌, refl,
 use Rattle.std.specs.Prelude.{◌==◌, nat_lt, if◌then◌else◌}
 use Rattle.fkv_base.specs.declared.numbers.Addr.{Addr}
 use Rattle.fkv_base.specs.declared.numbers.Version.{Version}
+use Rattle.fkv_marks.specs.Marks.{mark}
 use Rattle.fkv_map.specs.Map.{Map}
 use Rattle.fkv_plane.specs.declared.asks.Ask.{Ask}
 use Rattle.fkv_plane.specs.declared.asks.Ask.TheVariants.{Done}
@@ -45,7 +46,9 @@ load_grows home m log log' addr loading grows knows = absurd knows
 
 pub found_knows_grows : (home : ℕ → ℕ) (m : Map) (log log' : Log) (w : WalkState) (addr : Addr) (version : Version) → Held home m log → Grows home m log log' → FoundKnows home log w addr version → FoundKnows home log' w addr version
 found_knows_grows home m log log' w addr version held grows knows = record {
-  found = found_grows home m log log' w.key.0 (begin_of w) addr.0 version.0 held grows knows.found;
+  version = knows.version;
+  found = found_grows home m log log' w.key.0 (begin_of w) addr.0 knows.version held grows knows.found;
+  its_mark = knows.its_mark;
   in_memory = knows.in_memory;
   header = knows.header;
   key = knows.key;
@@ -118,11 +121,13 @@ record_knows : (home : ℕ → ℕ) (log : Log) (p : Places) (w : WalkState) (ad
 record_knows home log p w addr header key chains way some in_memory has its_key loading = subst (λ said. WalkKnows home log (record_met p w addr (record { 0 = key }) said)) (sym has.says) (by_previous (nat_lt has.cell.previous addr.0))
   where
     version : Version
-    version = record { 0 = has.cell.version }
+    version = record { 0 = mark has.cell.version }
 
     by_key : (b : Bool) → (key == w.key.0) ≡ b
         → WalkKnows home log (if b then record w { first = first_met w.first version; step = HasFound addr version } else reached p (record w { first = first_met w.first version }) has.cell.previous)
     by_key true e = record {
+      version = has.cell.version;
+      its_mark = refl;
       found = is_found home log w.key.0 (begin_of w) addr.0 has.cell chains way some has.its (sym its_key ∙ eq_true key w.key.0 e);
       in_memory = in_memory;
       header = header;

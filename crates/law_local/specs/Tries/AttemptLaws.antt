@@ -16,7 +16,7 @@ use Rattle.law_local.specs.Tries.Laws.{StaysWhere, Stays}
 use Rattle.law_local.specs.Tries.OnWay.{IsOrderly}
 use Rattle.law_local.specs.Tries.ReadRows.{SoughtReads, AttemptReads, reading_after}
 use Rattle.law_local.specs.Tries.Replies.{IsTrueReply}
-use Rattle.law_local.specs.Tries.TryRows.{key_in, head_in, NoneLaterPast, TryKnows}
+use Rattle.law_local.specs.Tries.TryRows.{key_in, head_in, MarksTell, NoneLaterPast, TryKnows}
 use Rattle.law_local.specs.Tries.WordsShow.{WordsShow, TrySearches, AttemptMeets}
 use Rattle.law_local.specs.Tries.AttemptRows.{PendingKnows, AsksAtPoll, AttemptKnows, IsTrueOfAttempt, KeepsForAttempt, AttemptTells}
 
@@ -41,7 +41,7 @@ abbrev pub AttemptRowsStayAtRest : Type 0
 AttemptRowsStayAtRest = (a : AttemptState) → StaysWhere (λ home log after. OlderAreFixed log a.pending.request.version.0) (λ home log. AttemptKnows home log a)
 
 abbrev pub AttemptsLeadOn : Type 0
-AttemptsLeadOn = (home : ℕ → ℕ) (log : Log) (p : Places) (bits room session : ℕ) (a : AttemptState) (reply : ℕ) → IsOrderly home log → (a.step ≡ Tries → NoneLaterPast home log p a.trial reply) → AttemptKnows home log a
+AttemptsLeadOn = (home : ℕ → ℕ) (log : Log) (p : Places) (bits room session : ℕ) (a : AttemptState) (reply : ℕ) → IsOrderly home log → (a.step ≡ Tries → NoneLaterPast home log p a.trial reply) → (a.step ≡ Tries → MarksTell log p a.trial reply) → AttemptKnows home log a
     → IsTrueOfAttempt home log p a a.step reply → AttemptKnows home log (attempt_next p bits room session a reply)
 
 -- behind a step that changes the log an attempt needs nothing to be kept

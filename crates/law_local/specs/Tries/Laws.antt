@@ -30,7 +30,7 @@ use Rattle.law_local.specs.Tries.Kept.{KeepsForTry}
 use Rattle.law_local.specs.Tries.OnWay.{IsOrderly}
 use Rattle.law_local.specs.Tries.Replies.{IsTrueOfWalk, IsTrueReply}
 use Rattle.law_local.specs.Tries.Tells.{TryTells, WalkBegins, TryGoesFrom}
-use Rattle.law_local.specs.Tries.TryRows.{key_in, head_in, RequestKnows, cell_of, IsEntryOf, NoneLaterPast, TryKnows}
+use Rattle.law_local.specs.Tries.TryRows.{key_in, head_in, RequestKnows, cell_of, IsEntryOf, MarksTell, NoneLaterPast, TryKnows}
 use Rattle.law_local.specs.Tries.WalkRows.{WalkKnows, WalkTells}
 
 -- What is known of a log is known after each further event that keeps to its rule, whatever list of such events was before, from whatever
@@ -77,7 +77,7 @@ abbrev pub TryRowsStay : Type 0
 TryRowsStay = (t : TryState) → StaysWhere (λ home log after. KeepsForTry home log after t t.step) (λ home log. TryKnows home log t)
 
 abbrev pub TriesLeadOn : Type 0
-TriesLeadOn = (home : ℕ → ℕ) (log : Log) (p : Places) (room : ℕ) (t : TryState) (reply : ℕ) → IsOrderly home log → NoneLaterPast home log p t reply → TryKnows home log t → IsTrueReply home log p t t.step reply → TryKnows home log (try_next p room t reply)
+TriesLeadOn = (home : ℕ → ℕ) (log : Log) (p : Places) (room : ℕ) (t : TryState) (reply : ℕ) → IsOrderly home log → NoneLaterPast home log p t reply → MarksTell log p t reply → TryKnows home log t → IsTrueReply home log p t t.step reply → TryKnows home log (try_next p room t reply)
 
 -- the won Cas of the tail reserves an address above what its record leads to, which is made as it has to be
 abbrev pub ReservesAreEnabled : Type 0

@@ -1,5 +1,6 @@
 -- What the reply to each ask tells where it is true of the log.
 use Rattle.std.specs.Prelude.{◌≡◌, ℕ, ◌<◌, ⊤}
+use Rattle.fkv_marks.specs.Marks.{mark}
 use Rattle.fkv_plane.specs.declared.asks.Ask.{Ask}
 use Rattle.fkv_plane.specs.declared.asks.Ask.TheVariants.{Done}
 use Rattle.fkv_plane.specs.declared.places.Places.{Places}
@@ -30,9 +31,9 @@ use Rattle.fkv_ops.specs.Walking.{WalkState}
 use Rattle.fkv_ops.specs.Trying.{TryState}
 
 -- ---- a word of a record, where the record is published
--- the header says what the record leads to, and its version
+-- the header says what the record leads to, and the mark of its version
 abbrev pub SaysHeader : Logged → ℕ → Type 0
-SaysHeader logged word = (cell : Cell) → logged ≡ Published cell → header_said word ≡ Says (record { 0 = cell.previous }) (record { 0 = cell.version })
+SaysHeader logged word = (cell : Cell) → logged ≡ Published cell → header_said word ≡ Says (record { 0 = cell.previous }) (record { 0 = mark cell.version })
 
 abbrev pub SaysKey : Logged → ℕ → Type 0
 SaysKey logged word = (cell : Cell) → logged ≡ Published cell → word ≡ cell.key

@@ -2,13 +2,14 @@
 use Rattle.std.specs.Prelude.{◌≡◌, ℕ, ◌≤◌, ⊤, Bool, true, false, Option}
 use Rattle.fkv_base.specs.declared.numbers.Addr.{Addr}
 use Rattle.fkv_base.specs.declared.numbers.Version.{Version}
+use Rattle.fkv_marks.specs.Marks.{mark}
 use Rattle.fkv_map.specs.declared.history.HistoryEntry.{HistoryEntry}
 use Rattle.fkv_map.specs.declared.operations.Op.{Op}
 use Rattle.fkv_map.specs.declared.operations.Reply.{Reply}
 use Rattle.fkv_map.specs.Map.{IsReserved}
 use Rattle.fkv_map.specs.Keys.{key_of, value_applied, reply_from}
 use Rattle.fkv_log.specs.declared.record_words.RecordWords.{RecordWords}
-use Rattle.law_log.specs.Chains.{Cell, value_at, IsWithin}
+use Rattle.law_log.specs.Chains.{Cell, value_at, version_at, IsWithin}
 use Rattle.law_log.specs.Ghosts.{Log, first_from}
 use Rattle.law_log.specs.Enabled.{IsFixed, StandsStill, IsMade, NoneAbove}
 use Rattle.fkv_ops.specs.declared.answers.TryAnswer.{TryAnswer}
@@ -137,6 +138,13 @@ abbrev pub NoneLaterPast : (ℕ → ℕ) → Log → Places → TryState → ℕ
 NoneLaterPast home log p t reply =
     t.step ≡ Walks → (addr : Addr) (version : Version) → walk_ask p (walk_next p t.walk reply) ≡ Done (walked.Found addr version) → must_shift (record t { walk = walk_next p t.walk reply }) ≡ false
     → NoneIsLater home log t.request
+
+-- If the reply ends the walk at a record that the session may change in place, and its header has the mark of the request's version, then the
+-- record is of that version.
+abbrev pub MarksTell : Log → Places → TryState → ℕ → Type 0
+MarksTell log p t reply =
+    t.step ≡ Walks → (addr : Addr) (said : Version) → walk_ask p (walk_next p t.walk reply) ≡ Done (walked.Found addr said) → t.seen.offsets.read_only.0 ≤ addr.0 → said.0 ≡ mark t.request.version.0
+    → version_at (log.cells addr.0) ≡ t.request.version.0
 
 abbrev pub TryRow : (ℕ → ℕ) → Log → TryState → Trying → Type 0
 TryRow home log t (Ended its) = AnswerKnows home log t.request t.seen its

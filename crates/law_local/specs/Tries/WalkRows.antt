@@ -2,6 +2,7 @@
 use Rattle.std.specs.Prelude.{◌≡◌, ℕ, ◌<◌, ◌≤◌, ⊤}
 use Rattle.fkv_base.specs.declared.numbers.Addr.{Addr}
 use Rattle.fkv_base.specs.declared.numbers.Version.{Version}
+use Rattle.fkv_marks.specs.Marks.{mark}
 use Rattle.fkv_log.specs.declared.loading.Loading.{Loading}
 use Rattle.fkv_log.specs.declared.loading.Loading.TheVariants as load
 use Rattle.fkv_index.specs.Slots.{entry_addr}
@@ -20,11 +21,11 @@ use Rattle.law_local.specs.Tries.OnWay.{IsOnWay, ComesBelow, FindsNone, IsFoundA
 abbrev pub begin_of : WalkState → ℕ
 begin_of w = entry_addr w.entry
 
--- a published record is there, and this word is its header
+-- a published record is there, and this word is its header, which has the mark of its version
 pub record IsHeaderOf (logged : Logged) (word : ℕ) : Type 0 where
   pub cell : Cell
   pub its : logged ≡ Published cell
-  pub says : header_said word ≡ Says (record { 0 = cell.previous }) (record { 0 = cell.version })
+  pub says : header_said word ≡ Says (record { 0 = cell.previous }) (record { 0 = mark cell.version })
 
 -- what is loaded so far of the record that is met
 abbrev pub LoadKnows : Log → Addr → Loading → Type 0
@@ -39,9 +40,11 @@ pub record MeetKnows (home : ℕ → ℕ) (log : Log) (w : WalkState) (addr : Ad
   pub in_memory : w.head.0 ≤ addr.0
   pub its_load : LoadKnows log addr w.loading
 
--- the record of the key is found, in memory, and its value can be loaded
-pub record FoundKnows (home : ℕ → ℕ) (log : Log) (w : WalkState) (addr : Addr) (version : Version) : Type 0 where
-  pub found : IsFoundAt home log w.key.0 (begin_of w) addr.0 version.0
+-- The record of the key is found, in memory, and its value can be loaded. Its header said this mark of its version.
+pub record FoundKnows (home : ℕ → ℕ) (log : Log) (w : WalkState) (addr : Addr) (said : Version) : Type 0 where
+  pub version : ℕ
+  pub found : IsFoundAt home log w.key.0 (begin_of w) addr.0 version
+  pub its_mark : said.0 ≡ mark version
   pub in_memory : w.head.0 ≤ addr.0
   pub header : ℕ
   pub key : ℕ

@@ -2,6 +2,7 @@
 use Rattle.std.proofs.Common.{◌≡◌, ◌∙◌, inl, inr, ap, subst, refl, ℕ, ◌+◌, ◌*◌, ◌/◌, ◌%◌, ◌^◌, ◌<◌, ◌≤◌, Bool, true, false, cond, arith, List, []}
 use Rattle.std.specs.Prelude.{◌==◌}
 use Rattle.std.proofs.lemmas.Bool.{cases_lt}
+use Rattle.fkv_marks.proofs.Shown.{mark_small}
 use Rattle.fkv_core.specs.Openings.{IsOpeningWorld, beginning}
 use Rattle.fkv_core.proofs.Shown.{framed}
 use Rattle.fkv_plane.specs.Places.{record_number}
@@ -70,7 +71,8 @@ module _ (bytes : List ℕ) (o : Opened) (n : Now) (world : IsOpeningWorld o n) 
       let few = o.few_commits in
       record {
         header = ap header_said (stands_framed a 0 rec.Header guarded above below refl (omega arith))
-            ∙ header_says (warm_word o a 0) (record_word bytes o.shape a 0 % 2 ^ 48) o.number.0 (omega arith) some (omega (arith, few)) (store.warm.header a above below);
+            ∙ header_says (warm_word o a 0) (record_word bytes o.shape a 0 % 2 ^ 48) o.number.0 (omega arith) some (omega (arith, few)) (store.warm.header a above below)
+            ∙ ap (λ (n : ℕ). Says (record { 0 = record_word bytes o.shape a 0 % 2 ^ 48 }) (record { 0 = n })) (sym (mark_small o.number.0 (omega (arith, few))));
         key = stands_framed a 1 rec.Key guarded above below refl (omega arith) ∙ store.warm.key a above below;
         value = ap value_of (stands_framed a 2 rec.Value guarded above below refl (omega arith) ∙ store.warm.value a above below);
       }

@@ -32,7 +32,7 @@ use Rattle.law_commit.specs.Below.law_local.Sessions.Known.{attempt_after, is_at
 use Rattle.law_commit.specs.Below.law_local.Tries.AttemptRows.{AttemptRow, IsTrueOfAttempt}
 use Rattle.law_commit.specs.Below.law_local.Tries.AttemptRows as local
 use Rattle.law_commit.specs.Below.law_local.Tries.Replies.{IsTrueReply}
-use Rattle.law_commit.specs.Below.law_local.Tries.TryRows.{NoneIsLater, NoneLaterPast, key_in}
+use Rattle.law_commit.specs.Below.law_local.Tries.TryRows.{MarksTell, NoneIsLater, NoneLaterPast, key_in}
 use Rattle.law_commit.proofs.Below.law_local.OfTries.AttemptSteps.{attempt_leads}
 use Rattle.law_commit.proofs.Below.law_local.OfTries.OnWay.{orderly}
 use Rattle.law_commit.proofs.Below.law_local.OfTries.TrySteps.{try_leads}
@@ -47,7 +47,7 @@ use Rattle.law_order.specs.Known.Told.{AreToldTruly, reply_in}
 use Rattle.law_order.proofs.OfApart.Along.{PublishesApart, takes_along}
 use Rattle.law_order.proofs.OfApart.Heart.{Sharer, became, making_of, publishes_apart, publishes_own}
 use Rattle.law_order.proofs.OfApart.Moments.{attempt_left, waiting_left}
-use Rattle.law_order.proofs.OfApart.Newest.{held, none_said, passes, tells}
+use Rattle.law_order.proofs.OfApart.Newest.{held, marks, none_said, passes, tells, versions_fit}
 use Rattle.law_order.proofs.OfApart.Sharers.{attempts_held, waits_held}
 use Rattle.law_commit.specs.Below.law_refine.Events.Effects.{Stepped, mover_step, no_step, step_at}
 use Rattle.law_commit.specs.Below.law_refine.Events.GhostEvents.{ghost_events, life_ghosts, mapped, serials_in}
@@ -213,9 +213,12 @@ module _ (given : Given) (life : BegunLife) (apart : OpensApart life) (before : 
       passes_so : (attempts : is_attempting s.step ≡ true) (tries : s.attempt.step ≡ Tries) → NoneLaterPast H L N.places s.attempt.trial reply
       passes_so attempts tries = passes given life apart before enabled_so session s was attempts tries (known session s was) (all_apart session s was) (says_so attempts tries)
 
+      marks_so : (attempts : is_attempting s.step ≡ true) (tries : s.attempt.step ≡ Tries) → MarksTell L N.places s.attempt.trial reply
+      marks_so attempts tries = marks given life apart before enabled_so session s was attempts tries (known session s was) (all_apart session s was) (says_so attempts tries)
+
       same_request : is_attempting s.step ≡ true → (attempt_after K s reply).step ≡ Tries → (attempt_after K s reply).trial.request ≡ (attempt_after K s reply).pending.request
       same_request attempts tries =
-          let after = attempt_leads H L K.places (bits_of K) (room_of K) K.number s.attempt reply (orderly H life.map L is_held) (passes_so attempts) ((known session s was).attempted attempts) (told session s was attempts) in
+          let after = attempt_leads H L K.places (bits_of K) (room_of K) K.number s.attempt reply (orderly H life.map L is_held) (passes_so attempts) (marks_so attempts) ((known session s was).attempted attempts) (told session s was attempts) in
           let row : local.TriesFor H L (attempt_after K s reply).pending (attempt_after K s reply).seen (attempt_after K s reply).trial = subst (AttemptRow H L (attempt_after K s reply)) tries after.row in
           row.its_request
 
@@ -231,10 +234,11 @@ module _ (given : Given) (life : BegunLife) (apart : OpensApart life) (before : 
       facts = record {
         orderly = orderly H life.map L is_held;
         falls = is_held.falls;
+        fit = versions_fit given life apart before enabled_so;
         attempt = λ attempts. (known session s was).attempted attempts;
         says = λ attempts. told session s was attempts;
         tells = λ attempts tries. tells given life apart before enabled_so session s was attempts tries (known session s was) (all_apart session s was);
-        leads = λ attempts tries. try_leads H L N.places (room_of K) s.attempt.trial reply (orderly H life.map L is_held) (passes_so attempts tries) (row_of attempts tries).knows (says_so attempts tries);
+        leads = λ attempts tries. try_leads H L N.places (room_of K) s.attempt.trial reply (orderly H life.map L is_held) (passes_so attempts tries) (marks_so attempts tries) (row_of attempts tries).knows (says_so attempts tries);
         waiting = waiting_on;
         trying = trying_on;
         latches = λ cause i at takes index pending got. latched cause i at takes index pending got;

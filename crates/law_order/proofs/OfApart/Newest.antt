@@ -1,8 +1,14 @@
 -- What the log and the words tell a session's try: so none that has passed its walk has a later version at its home.
-use Rattle.std.proofs.Common.{◌≡◌, ℕ, ◌+◌, ◌<◌, ◌≤◌, refl, sym, ap, ◌∙◌, subst, arith, eqb-true, Bool, true, false, List, Some}
-use Rattle.std.specs.Prelude.{◌==◌, nat_le, nat_lt, slice_get}
+use Rattle.std.proofs.Common.{◌≡◌, ℕ, ◌+◌, ◌%◌, ◌/◌, ◌^◌, ◌<◌, ◌≤◌, refl, sym, ap, ◌∙◌, subst, arith, eqb-true, Bool, true, false, List, Option, Some, None}
+use Rattle.std.specs.Prelude.{◌==◌, nat_le, nat_lt, slice_get, if◌then◌else◌}
 use Rattle.std.proofs.lemmas.Bool.Decides.{nat_tests}
 use Rattle.fkv_base.specs.declared.numbers.Version.{Version}
+use Rattle.fkv_base.specs.declared.phases.Phase.{Phase}
+use Rattle.fkv_plane.specs.Places.{shared_place}
+use Rattle.fkv_plane.specs.Asked.{word_at}
+use Rattle.fkv_plane.specs.declared.places.SharedWord.TheVariants as one
+use Rattle.fkv_words.specs.PhaseWords.{has_spare_bits, phase_numbered, phase_said, phase_with}
+use Rattle.fkv_words.specs.declared.phase_words.PhaseSaid.TheVariants.{Says, Spoiled}
 use Rattle.fkv_index.specs.declared.finding.FindAnswer.{FindAnswer}
 use Rattle.fkv_index.specs.declared.finding.FindStep.{FindStep}
 use Rattle.fkv_index.specs.declared.finding.FindStep.TheVariants as find
@@ -37,11 +43,11 @@ use Rattle.law_commit.specs.Below.fkv_world.Opened.{HasBecome}
 use Rattle.law_commit.specs.Below.fkv_world.Runs.{run}
 use Rattle.law_commit.specs.Below.fkv_world.World.{Event, Now}
 use Rattle.law_commit.proofs.Below.fkv_world.Shown.{shape_stays}
-use Rattle.law_apart.specs.Apart.Rows.{AttemptApart, IsLater, SearchTells, TellsApart, TellsSharer, TryApart, has_linked, is_linking, is_lost}
+use Rattle.law_apart.specs.Apart.Rows.{AttemptApart, IsLater, SearchTells, TellsApart, TellsSharer, TryApart, VersionsFit, has_linked, is_linking, is_lost}
 use Rattle.law_apart.proofs.OfApart.Links.{full_links}
-use Rattle.law_apart.proofs.OfApart.Tries.{sharers_pass}
+use Rattle.law_apart.proofs.OfApart.Tries.{marks_told, sharers_pass}
 use Rattle.law_opening.proofs.OfChanges.OfSessions.Attempting.{attempting_is}
-use Rattle.law_commit.specs.PhaseVersions.{phase_version}
+use Rattle.law_commit.specs.PhaseVersions.{phase_version, version_said}
 use Rattle.law_commit.specs.Shares.Tries.{SharesAttempting, SharesInHand, SharesSo, SharesTrying}
 use Rattle.law_commit.specs.Versions.Laws.{OpensWithLog}
 use Rattle.law_commit.specs.Versions.Cells.{made_in}
@@ -59,7 +65,7 @@ use Rattle.law_commit.specs.Below.law_local.Sessions.Known.{is_attempting}
 use Rattle.law_commit.specs.Below.law_local.Tries.AttemptRows.{AttemptRow}
 use Rattle.law_commit.specs.Below.law_local.Tries.AttemptRows as local
 use Rattle.law_commit.specs.Below.law_local.Tries.Replies.{IsTrueReply}
-use Rattle.law_commit.specs.Below.law_local.Tries.TryRows.{NoneIsLater, NoneLaterPast, head_in, key_in}
+use Rattle.law_commit.specs.Below.law_local.Tries.TryRows.{MarksTell, NoneIsLater, NoneLaterPast, head_in, key_in}
 use Rattle.law_commit.proofs.Below.law_local.OfTries.OnWay.{orderly}
 use Rattle.law_log.specs.Chains.{Dropped, Logged, Published, Reserved, Unborn, head_of, version_at}
 use Rattle.law_log.specs.Enabled.{AreEnabled, NoneAbove}
@@ -121,6 +127,23 @@ sitting_work s (Attempts has_shifted) attempts tries walks finds = rw (tries, wa
 sitting_work s (Polls index) attempts tries walks finds = rw (tries, walks, finds) refl
 sitting_work s step attempts tries walks finds = cc
 
+-- the phase word says a version of 13 bits
+said_small : (word : ℕ) → version_said (phase_said word) < 2 ^ 13
+unfolding phase_said
+said_small word = by_bits (has_spare_bits word)
+  where
+    by_version : (b : Bool) (its : Phase) → version_said (if b then Spoiled else Says its (record { 0 = word % 2 ^ 13 })) < 2 ^ 13
+    by_version true its = omega arith
+    by_version false its = omega arith
+
+    by_phase : (its : Option Phase) → version_said (phase_with its (word % 2 ^ 13)) < 2 ^ 13
+    by_phase None = omega arith
+    by_phase (Some its) = by_version (word % 2 ^ 13 == 0) its
+
+    by_bits : (b : Bool) → version_said (if b then phase_with (phase_numbered (word / 2 ^ 16 % 2 ^ 3)) (word % 2 ^ 13) else Spoiled) < 2 ^ 13
+    by_bits true = by_phase (phase_numbered (word / 2 ^ 16 % 2 ^ 3))
+    by_bits false = omega arith
+
 module _ (given : Given) (life : BegunLife) (apart : OpensApart life) (before : List Event) (enabled : AreEnabled (home_of_world life.opening) life.ghosts (mapped life.opening before)) where
   abbrev N : Now
   N = (run life.opening before).now
@@ -146,6 +169,10 @@ module _ (given : Given) (life : BegunLife) (apart : OpensApart life) (before : 
       by_cell Unborn its = omega arith
       by_cell (Reserved entry cell) its = omega arith
       by_cell (Dropped cell) its = omega arith
+
+  -- so as yet each takes 13 bits
+  pub versions_fit : VersionsFit L
+  versions_fit a = let low = version_low a in let small = said_small (word_at N.words (shared_place one.Phase)) in omega (arith, low, small)
 
   pub none_said : (h w : ℕ) → phase_version N.words ≤ w → NoneAbove L h w
   none_said h w high a is_in = let low = version_low a in omega (arith, low, high)
@@ -309,5 +336,9 @@ module _ (given : Given) (life : BegunLife) (apart : OpensApart life) (before : 
     passes says at addr version ends past update = by_share t.has_shared refl
       where
         by_share : (b : Bool) → t.has_shared ≡ b → NoneAbove L (H (key_in t.request)) t.request.version.0
-        by_share true e = sharers_pass H L N.places t (reply_in N session s) (orderly H life.map L held) (held.falls (H (key_in t.request))) tells row.knows says trial_apart e at addr version ends past update
+        by_share true e = sharers_pass H L N.places t (reply_in N session s) (orderly H life.map L held) (held.falls (H (key_in t.request))) versions_fit tells row.knows says trial_apart e at addr version ends past update
         by_share false e = unshared_none (subst (SharesTrying s.seen t) at shares) e update
+
+    -- and a record that it may change is of the version whose mark its header has
+    pub marks : IsTrueReply H L N.places t t.step (reply_in N session s) → MarksTell L N.places t (reply_in N session s)
+    marks says = marks_told H L N.places t (reply_in N session s) (orderly H life.map L held) versions_fit row.knows says

@@ -1,7 +1,8 @@
 -- What an image shows of a record, by the words that stand for it, or by the opened bytes.
-use Rattle.std.proofs.Common.{◌≡◌, ℕ, ◌+◌, ◌*◌, ◌<◌, ◌≤◌, ◌%◌, ◌^◌, ◌∙◌, inr, sym, ap, subst, arith, false, List, [], ◌∷◌, ◌++◌, length}
+use Rattle.std.proofs.Common.{◌≡◌, ℕ, ◌+◌, ◌*◌, ◌<◌, ◌≤◌, ◌%◌, ◌^◌, ◌∙◌, inr, sym, ap, subst, arith, Bool, false, List, [], ◌∷◌, ◌++◌, length}
 use Rattle.std.specs.Int.{to_le_bytes, w64}
 use Rattle.fkv_base.specs.declared.shapes.Shape.{Shape}
+use Rattle.fkv_marks.proofs.Shown.{mark_small}
 use Rattle.fkv_disk.specs.Bytes.{bytes_at}
 use Rattle.fkv_disk.specs.Calls.{Call, MayLeave}
 use Rattle.law_commit.specs.Below.fkv_flush.GuardFlushed.{IsSynced}
@@ -21,6 +22,10 @@ use Rattle.law_log.specs.Chains.{Cell}
 use Rattle.law_opening.specs.Log.Records.{IsCellOf, cell_of}
 use Rattle.law_commit.specs.Below.law_paper.Paper.Images.{ShowsCell, ShowsDropped}
 use Rattle.law_commit.specs.Below.law_refine.Records.Headers.{IsGivenUp, IsHeaderOf}
+
+-- as yet a header says the version itself, which is its own mark
+its_version : {cell : Cell} {invalid : Bool} {word : ℕ} (is : IsHeaderOf cell invalid word) → (let x = is.header in x.version.0) ≡ cell.version
+its_version {cell} is = is.its_mark ∙ mark_small cell.version is.fits
 
 -- the image has the three words in the place of the record
 abbrev pub HasWords : scan.Log → ℕ → (RecordWord → ℕ) → Type 0
@@ -42,8 +47,8 @@ shows_words from image a words cell there is key value fits = record {
   its_key = key;
   its_value = value;
   leads = is.leads;
-  low = (let same = is.version in omega (arith, same));
-  same = λ high. is.version;
+  low = (let same = its_version is in omega (arith, same));
+  same = λ high. its_version is;
 }
 
 -- the bytes of a record go by what eight bytes hold of each of its words
@@ -66,7 +71,7 @@ shows_given_up image a words cell there gives =
       };
       stands = ap (λ (h : ℕ). spelled (h ∷ words rec.Key % 2 ^ 64 ∷ words rec.Value % 2 ^ 64 ∷ [])) (sym is.spells) ∙ low_spelled (words rec.Header) (words rec.Key) (words rec.Value) ∙ sym there;
       invalid = is.bit;
-      same = is.version;
+      same = its_version is;
       leads = is.leads;
       falls = gives.falls;
     }

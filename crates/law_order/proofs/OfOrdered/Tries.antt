@@ -4,6 +4,7 @@ use Rattle.std.specs.Prelude.{◌==◌, ◌&&◌, ⊤, not, nat_lt, if◌then◌
 use Rattle.std.proofs.lemmas.Bool.Decides.{nat_tests}
 use Rattle.fkv_base.specs.declared.numbers.Addr.{Addr}
 use Rattle.fkv_base.specs.declared.numbers.Version.{Version}
+use Rattle.fkv_marks.specs.Marks.{mark}
 use Rattle.fkv_index.specs.declared.finding.FindAnswer.{FindAnswer}
 use Rattle.fkv_index.specs.declared.finding.Found.{Found}
 use Rattle.fkv_index.specs.declared.finding.Found.TheVariants as found
@@ -179,7 +180,7 @@ module _ (home : ℕ → ℕ) (log : Log) (p : Places) (orderly : IsOrderly home
   met_tells w addr header key in_ring way some has key_is = subst (λ said. Tells p (record_met p w addr (record { 0 = key }) said)) (sym has.says) (by_previous (nat_lt has.cell.previous addr.0) refl)
     where
       version : Version
-      version = record { 0 = has.cell.version }
+      version = record { 0 = mark has.cell.version }
 
       met : WalkState
       met = record w { first = first_met w.first version }

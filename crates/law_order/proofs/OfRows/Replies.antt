@@ -30,7 +30,7 @@ use Rattle.law_commit.proofs.Below.law_local.OfSessions.Known.{begun_known, next
 use Rattle.law_commit.specs.Below.law_local.Tries.AttemptRows.{AttemptKnows, IsTrueOfAttempt, PendingKnows}
 use Rattle.law_commit.specs.Below.law_local.Tries.HeldRows.{SoughtKnows}
 use Rattle.law_commit.specs.Below.law_local.Tries.OnWay.{IsOrderly}
-use Rattle.law_commit.specs.Below.law_local.Tries.TryRows.{NoneLaterPast, RequestKnows, head_in, key_in}
+use Rattle.law_commit.specs.Below.law_local.Tries.TryRows.{MarksTell, NoneLaterPast, RequestKnows, head_in, key_in}
 use Rattle.law_commit.proofs.Below.law_local.OfTries.AttemptSteps.{attempt_begins, attempt_leads}
 use Rattle.law_order.specs.Rows.Asked.{SeeksWhereAsked, AttemptSeeks}
 use Rattle.law_order.proofs.OfRows.Seeks.{attempt_seeks, attempt_begun_seeks}
@@ -101,6 +101,7 @@ module _ (home : ℕ → ℕ) where
       pub orderly : IsOrderly home log
       pub inputs : AttemptsSo k s
       pub newest : is_attempting s.step ≡ true → s.attempt.step ≡ Tries → NoneLaterPast home log k.places s.attempt.trial reply
+      pub marks : is_attempting s.step ≡ true → s.attempt.step ≡ Tries → MarksTell log k.places s.attempt.trial reply
       pub says : is_attempting s.step ≡ true → IsTrueOfAttempt home log k.places s.attempt s.attempt.step reply
       -- what is known stays
       pub waiting : (pending : PendingRequest) → PendingKnows home log pending s.seen → PendingKnows home log' pending s.seen
@@ -114,7 +115,7 @@ module _ (home : ℕ → ℕ) where
       goes : (attempting : is_attempting s.step ≡ true) → TriesSo log s.attempt → TriesSo log' (attempt_after k s reply)
       goes attempting its = (
         facts.trying attempting
-            (attempt_leads home log k.places (bits_of k) (room_of k) k.number s.attempt reply facts.orderly (facts.newest attempting) its.0 (facts.says attempting)),
+            (attempt_leads home log k.places (bits_of k) (room_of k) k.number s.attempt reply facts.orderly (facts.newest attempting) (facts.marks attempting) its.0 (facts.says attempting)),
         attempt_seeks k.places (bits_of k) (room_of k) k.number s.attempt reply its.1,
       )
 

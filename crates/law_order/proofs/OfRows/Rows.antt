@@ -50,7 +50,7 @@ use Rattle.law_order.specs.Apart.Given.{Given}
 use Rattle.law_order.specs.Apart.Lives.{AllApartBehind, OpensApart}
 use Rattle.law_order.proofs.OfApart.Beside.{spares}
 use Rattle.law_order.proofs.OfApart.Heart.{Makes}
-use Rattle.law_order.proofs.OfApart.Newest.{passes}
+use Rattle.law_order.proofs.OfApart.Newest.{marks, passes}
 use Rattle.law_order.proofs.OfEnabled.Own.{sitting_attempts, sitting_tries}
 use Rattle.law_commit.specs.Below.law_refine.Seen.Ops.{HasPlainOp, OpIsPlain}
 use Rattle.law_commit.proofs.Below.law_refine.OfSeen.Lives.{head_rises, life_head_fixed}
@@ -195,6 +195,7 @@ module _ (life : BegunLife) (before : List Event) (event : Event)
         orderly = orderly H life.map L (run_held H life.map life.number life.ghosts (mapped life.opening before) life.begins.log enabled_so);
         inputs = subst (λ (k : Seat). AttemptsSo k s) (sym (same_seat life.opening before session)) (life_attempts life.opening before session s life.begins.world was);
         newest = λ attempting tries. passes given life opens before enabled_so session s was attempting tries (all_know session s was) (all_apart session s was) (says attempting tries);
+        marks = λ attempting tries. marks given life opens before enabled_so session s was attempting tries (all_know session s was) (all_apart session s was) (says attempting tries);
         says = λ attempting. told session s was attempting;
         waiting = waiting;
         trying = λ attempting its. attempt_stays life before event (attempt_after K s reply) enabled leaves_own its;

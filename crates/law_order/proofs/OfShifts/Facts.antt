@@ -5,6 +5,8 @@ use Rattle.std.proofs.lemmas.Bool.Decides.{nat_tests}
 use Rattle.fkv_base.specs.declared.numbers.Version.{Version}
 use Rattle.fkv_base.specs.declared.phases.Phase.{Phase}
 use Rattle.fkv_base.specs.declared.phases.Phase.TheVariants.{InProgress, Prepare, Rest, WaitFlush, WaitPending}
+use Rattle.fkv_marks.specs.Marks.{mark}
+use Rattle.fkv_marks.proofs.Shown.{mark_low, mark_small}
 use Rattle.fkv_epoch.specs.declared.refreshing.Refreshing.{Refreshing}
 use Rattle.fkv_epoch.specs.declared.refreshing.Refreshing.TheVariants as refresh
 use Rattle.fkv_epoch.specs.Refreshing.{refresh_ask}
@@ -83,7 +85,7 @@ use Rattle.law_order.specs.Known.Knows.{AllKnowBehind}
 use Rattle.law_order.specs.Known.Told.{AreToldTruly, reply_in}
 use Rattle.law_order.proofs.OfApart.Heart.{became, try_in}
 use Rattle.law_order.proofs.OfApart.Moments.{attempt_prepared, awake}
-use Rattle.law_order.proofs.OfApart.Newest.{held, same_seen, shares, tells, trial_apart, version_low}
+use Rattle.law_order.proofs.OfApart.Newest.{held, same_seen, shares, tells, trial_apart, version_low, versions_fit}
 use Rattle.law_order.proofs.OfShifts.Catches.{HasPassed, SaysElse, loads_next}
 use Rattle.law_order.proofs.OfShifts.Sessions.{Come, RepliesSo}
 use Rattle.law_order.proofs.OfShifts.Tries.{ShiftsBy}
@@ -208,8 +210,9 @@ module _ (given : Given) (life : BegunLife) (apart : OpensApart life) (before : 
     version_said_by a version met =
         let low = version_low given life apart before enabled a in
         let is = ap version_at met.its in
-        let same = met.its_version in
-        omega (arith, low, is, same)
+        let same = met.its_mark in
+        let under = mark_low met.cell.version in
+        omega (arith, low, is, same, under)
 
     first_said : t.step ≡ Walks → t.has_shared ≡ true → (version : Version) → (walk_next N.places t.walk reply).first ≡ Some version → version.0 ≤ phase_version N.words
     first_said at has version first =
@@ -233,8 +236,9 @@ module _ (given : Given) (life : BegunLife) (apart : OpensApart life) (before : 
     later_so None is above at has = cc
     later_so (Some version) is above at has =
         let up = first_said at has version is in
-        let high : t.request.version.0 < version.0 = grind (arith, nat_tests, above) in
-        omega (arith, up, high)
+        let high : mark t.request.version.0 < version.0 = grind (arith, nat_tests, above) in
+        let own = mark_small t.request.version.0 t.request.version_fits in
+        omega (arith, up, high, own)
 
     walk_passes : t.step ≡ Walks → must_shift (record t { walk = walk_next N.places t.walk reply }) ≡ true → HasPassed top s.seen
     walk_passes at must =
@@ -248,7 +252,7 @@ module _ (given : Given) (life : BegunLife) (apart : OpensApart life) (before : 
     walk_never : t.step ≡ Walks → must_shift (record t { walk = walk_next N.places t.walk reply }) ≡ true → (is_prepare s.seen.phase ≡ true → is_read t.request.op ≡ false → t.request.has_latch ≡ true) → ⊥
     walk_never at must came =
         let so = shift_so (is_prepare t.seen.phase) (is_read t.request.op) (is_above (walk_next N.places t.walk reply).first t.request.version) must in
-        let stays = came_stays H L N.places t reply row.knows its_apart at (shared at so.0 so.1) (came (prepares_so so.0) so.1) in
+        let stays = came_stays H L N.places t reply (versions_fit given life apart before enabled) row.knows its_apart at (shared at so.0 so.1) (came (prepares_so so.0) so.1) in
         clash (must_shift (record t { walk = walk_next N.places t.walk reply })) must stays
 
     -- ---- where a share meets bit 63

@@ -4,6 +4,7 @@ use Rattle.std.specs.Prelude.{◌==◌, ◌&&◌, not, nat_le, nat_lt, if◌then
 use Rattle.std.proofs.lemmas.Bool.Decides.{nat_tests}
 use Rattle.fkv_base.specs.declared.numbers.Addr.{Addr}
 use Rattle.fkv_base.specs.declared.numbers.Version.{Version}
+use Rattle.fkv_marks.proofs.Shown.{mark_small}
 use Rattle.fkv_map.specs.declared.operations.Reply.{Reply}
 use Rattle.fkv_map.specs.Map.{absent_word}
 use Rattle.fkv_map.specs.Keys.{key_of, reply_from}
@@ -145,9 +146,12 @@ ends_at p request t its e =
 takes_at : (p : Places) (request : Request) (t : TryState) (its : Reply) → t.request ≡ request → IsTryAt request (takes_effect p t its)
 takes_at p request t its e = ends_at p request (record t { effect = Some its }) (answer.Done its) e
 
+its_number : ℕ → Version
+its_number n = record { 0 = n }
+
 appends_at : (request : Request) (t : TryState) (old : ℕ) → t.request ≡ request → IsTryAt request (appends t old)
-unfolding appends
-appends_at request t old e = record { same = e; knows = record { same = record { its_version = ap (λ (r : Request). r.version) e; its_key = ap (λ (r : Request). key_of r.op) e; previous = refl }; holds = tt } }
+unfolding appends its_number
+appends_at request t old e = record { same = e; knows = record { same = record { its_version = ap (λ (n : ℕ). its_number n) (mark_small t.request.version.0 t.request.version_fits) ∙ ap (λ (r : Request). r.version) e; its_key = ap (λ (r : Request). key_of r.op) e; previous = refl }; holds = tt } }
 
 from_at : (request : Request) (t : TryState) (old : OldValue) → t.request ≡ request → IsTryAt request (copies_from t old)
 unfolding copies_from

@@ -2,6 +2,7 @@
 use Rattle.std.proofs.Common.{◌≡◌, ℕ, ◌<◌, ◌^◌, ◌∙◌, arith, refl, sym, ap, subst, Bool, true, false, List, [], ◌∷◌, ◌++◌}
 use Rattle.std.specs.Prelude.{◌==◌, ◌&&◌, nat_lt, if◌then◌else◌, ⊤, Option, Some, None}
 use Rattle.std.proofs.lemmas.Bool.Decides.{nat_tests}
+use Rattle.fkv_marks.proofs.Shown.{mark_small}
 use Rattle.fkv_epoch.proofs.Shown.{some_same}
 use Rattle.fkv_map.specs.declared.history.HistoryEntry.{HistoryEntry}
 use Rattle.fkv_map.specs.declared.operations.Op.{Op}
@@ -134,7 +135,8 @@ dropped_fit stands after Writes changed word a entry (invalidating.StoresHeader 
         header = invalidated a.its_words.header;
         spells = writes written ∙ ap (λ (x : Header). header_word (invalidated x)) gives.0;
         leads = refl;
-        version = refl;
+        its_mark = sym (mark_small a.its_words.header.version.0 a.its_words.header.version_fits);
+        fits = a.its_words.header.version_fits;
         bit = refl;
       };
       falls = gives.1;
@@ -143,7 +145,7 @@ dropped_fit stands after Writes changed word a entry (invalidating.StoresHeader 
 valid_shows : (words : RecordWord → ℕ) (its : RecordWords) → IsFilled words its → its.header.invalid ≡ false → ShowsValid words (cell_of its)
 valid_shows words its filled valid = record {
   shows = filled_shows words its filled;
-  header = record { header = its.header; spells = filled.header; leads = refl; version = refl; bit = valid };
+  header = record { header = its.header; spells = filled.header; leads = refl; its_mark = sym (mark_small its.header.version.0 its.header.version_fits); fits = its.header.version_fits; bit = valid };
 }
 
 filled_reserved : (stands : Standing) (a : AppendState) (entry : HistoryEntry) (addr : ℕ) → IsFilled (stands addr) a.its_words → a.its_words.header.invalid ≡ false → ReservedShows stands (Some (reservation a entry addr))

@@ -46,8 +46,8 @@ store-requires-3-clause-asked g c =
     let old = as_number c.args.old in
     let at = value_comes its c.args.slot.place c.args.slot.entry old c.args.addr c.store.result s u c.requires.at.2 (leads_on its k c.args.op c.args.going.now k s u c.store.result goes refl c.store.ensures.next) in
     let then = key_stored its c.args.slot.place c.args.slot.entry old c.args.addr c.store-2.result u v at (leads_on its k c.args.op c.args.going.now (g.L.Line.seat c.store.new.self) u v c.store-2.result goes c.store.ensures.seat c.store-2.ensures.next) in
-    let header = header_is its c.args.slot.entry c.args.going.now.version c.header_of-header.result goes.its_version
-    (c.header_of-header.ensures ∙ ap (λ (n : ℕ). n + c.args.going.now.version * 2 ^ 48) c.addr_of-previous.ensures) in
+    let header = header_is its c.args.slot.entry c.args.going.now.mark c.header_of-header.result goes.its_mark
+    (c.header_of-header.ensures ∙ ap (λ (n : ℕ). n + c.args.going.now.mark * 2 ^ 48) c.addr_of-previous.ensures) in
     record_asks its k c.args.op c.args.going.now c.args.addr c.record-header_place.result rec.Header (g.L.Line.seat c.store-2.new.self) v (λ (n : ℕ). Store n c.header_of-header.result) goes (c.store-2.ensures.seat ∙ c.store.ensures.seat) c.record-header_place.ensures
     (header_stores its c.args.slot.place c.args.slot.entry old c.args.addr v then ∙ ap (λ (n : ℕ). Store (record_place its.seat.places c.args.addr rec.Header) n) header)
 

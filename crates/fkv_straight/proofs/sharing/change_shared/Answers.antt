@@ -6,7 +6,7 @@ use Rattle.fkv_straight.proofs.Goings.{goes_at, some_of}
 use Rattle.fkv_straight.proofs.sharing.change_shared.Goals as goal
 
 pub change-changed-requires-clause-stays : goal.change-changed-requires-clause-stays
-change-changed-requires-clause-stays g c = λ its goes. first_stays its c.args.its (c.if-its-newest.false ∙ c.addr_of-newest.ensures) (c.if-its-going-2.false ∙ sym goes.its_version)
+change-changed-requires-clause-stays g c = λ its goes. first_stays its c.args.its (c.if-its-newest.false ∙ c.addr_of-newest.ensures) (c.if-its-going-2.false ∙ sym goes.its_mark)
 
 pub drop_share-requires-clause-at : goal.drop_share-requires-clause-at
 drop_share-requires-clause-at g c =

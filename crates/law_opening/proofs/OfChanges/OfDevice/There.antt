@@ -3,6 +3,7 @@ use Rattle.std.proofs.Common.{◌≡◌, ◌⊎◌, ℕ, ◌+◌, ◌*◌, ◌<�
 use Rattle.std.proofs.lemmas.Bool.{cases_lt}
 use Rattle.fkv_base.specs.declared.numbers.Version.{Version}
 use Rattle.fkv_base.specs.declared.shapes.Shape.{Shape}
+use Rattle.fkv_marks.specs.Marks.{mark}
 use Rattle.fkv_disk.proofs.Shown.{length-bytes_at, reads_within}
 use Rattle.fkv_disk.specs.Bytes.{bytes_at}
 use Rattle.fkv_disk.specs.Calls.{Call, ReadsAs, reads_as}
@@ -68,7 +69,7 @@ since_there : CallsLaw → (opening : World) (start : ℕ) (events : List Event)
     → ShowsCell (stands_in opening start events a) cell → IsInImage opening.now.shape (read_then opening events) a cell
 since_there law opening start events a cell store permitted from to shows = record {
   words = stands_in opening start events a;
-  leads = record { version = record { 0 = cell.version }; says = shows.header };
+  leads = record { version = record { 0 = mark cell.version }; says = shows.header };
   key = shows.key;
   value = shows.value;
   there = (synced law opening start events opening.past.opened store permitted).records (read_then opening events) (inl (itself opening.past.opened (run opening events).past.calls)) a from to;

@@ -10,7 +10,7 @@ invariant_of-result c =
     let counted : c.places-places.result.buckets ≡ 2 ^ c.shape-shape.result.bucket_bits = c.places-places.ensures.buckets ∙ ap (λ (s : Shape). 2 ^ s.bucket_bits) (sym c.shape-shape.ensures) in
     record {
       buckets = counted;
-      version_fits = (let h = c.if-version-gt-LAST.false in omega (arith, h));
+      mark_fits = c.mark-own.ensures.fits;
       starts = search rules;
       starts_first = c.bucket-first_bucket.ensures;
       masks = λ n. ap (λ (count : ℕ). bit_and n (count - 1)) counted ∙ and_mask n c.shape-shape.result.bucket_bits;
