@@ -94,9 +94,9 @@ enter_tells : (number : Version) (told : List Exchange) → HasEntered number to
 enter_tells number told entered = deferral_tells entered.slot entered.epoch phase.WaitPending (version_after number) entered.before told entered.deferred
     ∙ ap (λ (l : List ℕ). phase_stored phase.WaitPending (version_after number) ∷ l) (held_tells entered.slot entered.before entered.held)
 
-seek_tells : (number : Version) (sessions : ℕ) (points : List Serial) (end : Addr) (epoch : ℕ) (told : List Exchange) → AllAreTaken number sessions points end epoch told
+seek_tells : (floor : List Serial) (number : Version) (sessions : ℕ) (points : List Serial) (end : Addr) (epoch : ℕ) (told : List Exchange) → AllAreTaken floor number sessions points end epoch told
     → phases_told told ≡ phase_stored phase.WaitFlush (version_after number) ∷ []
-seek_tells number sessions points end epoch told taken = offset_tells taken.slot epoch end _ told taken.deferred
+seek_tells floor number sessions points end epoch told taken = offset_tells taken.slot epoch end _ told taken.deferred
     ∙ ap (λ (l : List ℕ). phase_stored phase.WaitFlush (version_after number) ∷ l) (all_tell number.0 taken.met taken.before ∙ held_tells taken.slot taken.before taken.held)
 
 finish_tells : (number : Version) (sessions : ℕ) (points : List Serial) (told : List Exchange) → HasFinished number sessions points told → phases_told told ≡ phase_stored phase.Rest (version_after number) ∷ []
@@ -106,11 +106,11 @@ pub in_order : PhasesInOrder
 in_order number c =
     let s = start_told c.starter c.kind c.lost c.start_replies in
     let e = enter_told c.enterer number c.enter_replies in
-    let k = seek_told c.seeker number c.seek_replies in
-    let points = (sought c.seeker number c.seek_replies).points in
+    let k = seek_told c.seeker number c.floor c.seek_replies in
+    let points = (sought c.seeker number c.floor c.seek_replies).points in
     let f = finish_told points c.finisher number c.finish_replies in
     let first = start_tells c.kind c.lost number c.first s (starts_end c.starter c.kind c.lost c.start_replies (Begun number c.first) c.begun) in
     let second = enter_tells number e (enters_end c.enterer number c.enter_replies Entered c.has_entered) in
-    let third = seek_tells number c.seeker.sessions points c.end c.epoch k (seeks_end c.seeker number c.seek_replies (Taken c.end c.epoch) c.taken) in
+    let third = seek_tells c.floor number c.seeker.sessions points c.end c.epoch k (seeks_end c.seeker number c.floor c.seek_replies (Taken c.end c.epoch) c.taken) in
     let fourth = finish_tells number c.finisher.sessions points f (finishes_end c.finisher number points c.finish_replies c.has_finished) in
     rw (joined f (k ++ (e ++ s)), joined k (e ++ s), joined e s, first, second, third, fourth) refl

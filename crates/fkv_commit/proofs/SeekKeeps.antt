@@ -1,7 +1,8 @@
 -- A search for points is of as many sessions as it began with.
 use Rattle.std.proofs.Common.{◌≡◌, ℕ, ◌+◌, refl, Bool, true, false, length}
-use Rattle.std.specs.Prelude.{[], ◌==◌, ◌∷◌, ◌++◌, nat_lt, nat_le, max, if◌then◌else◌}
+use Rattle.std.specs.Prelude.{List, [], ◌==◌, nat_lt, nat_le, max, if◌then◌else◌}
 use Rattle.fkv_base.specs.declared.numbers.Addr.{Addr}
+use Rattle.fkv_base.specs.declared.numbers.Serial.{Serial}
 use Rattle.fkv_base.specs.declared.numbers.Version.{Version}
 use Rattle.fkv_plane.specs.declared.asks.Ask.{Ask}
 use Rattle.fkv_plane.specs.declared.asks.Ask.TheVariants.{Load, Store, Swap, Cas, Add, Max, Put, Take, Done}
@@ -12,7 +13,7 @@ use Rattle.fkv_commit.specs.declared.seeking.Seeking.{Seeking}
 use Rattle.fkv_commit.specs.declared.seeking.Seeking.TheVariants.{Ended, LoadsOwing, SeeksSlot, LoadsCut, LoadsOther, LoadsAgain, StoresWaitFlush, LoadsTail, RaisesReadOnly, Defers}
 use Rattle.fkv_commit.specs.Cuts.{serial_said, version_said}
 use Rattle.fkv_commit.specs.Deferring.{defer_begun, defer_ask, defer_next}
-use Rattle.fkv_commit.specs.Seeking.{SeekState, seek_begun, owing_from, points_from, point_taken, slot_led, defer_led, seeking_next, seek_next}
+use Rattle.fkv_commit.specs.Seeking.{SeekState, seek_begun, owing_from, points_from, point_taken, with_point, slot_led, defer_led, seeking_next, seek_next}
 
 either : (b : Bool) (x y : SeekState) (n : ℕ) → x.sessions ≡ n → y.sessions ≡ n → (if b then x else y).sessions ≡ n
 either true x y n ex ey = ex
@@ -25,7 +26,7 @@ from_keeps : (s : SeekState) → (points_from s).sessions ≡ s.sessions
 from_keeps s = either (nat_lt (length s.points) s.sessions) (record s { step = LoadsCut }) (record s { step = StoresWaitFlush }) s.sessions refl refl
 
 taken_keeps : (s : SeekState) (serial : ℕ) → (point_taken s serial).sessions ≡ s.sessions
-taken_keeps s serial = from_keeps (record s { points = s.points ++ record { 0 = serial } ∷ [] })
+taken_keeps s serial = from_keeps (with_point s serial)
 
 slot_keeps : (s : SeekState) (ask : Ask DeferAnswer) → (slot_led s ask).sessions ≡ s.sessions
 unfolding slot_led
@@ -74,5 +75,5 @@ stepped s (Defers end) reply = defer_keeps end (record s { defer = defer_next s.
 pub seek_keeps : (s : SeekState) (reply : ℕ) → (seek_next s reply).sessions ≡ s.sessions
 seek_keeps s reply = stepped s s.step reply
 
-pub seek_begun_keeps : (s : SeekState) (number : Version) → (seek_begun s number).sessions ≡ s.sessions
-seek_begun_keeps s number = owing_keeps (record s { number = number; points = [] }) 0
+pub seek_begun_keeps : (s : SeekState) (number : Version) (floor : List Serial) → (seek_begun s number floor).sessions ≡ s.sessions
+seek_begun_keeps s number floor = owing_keeps (record s { number = number; floor = floor; points = [] }) 0

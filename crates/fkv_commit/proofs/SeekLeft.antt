@@ -1,10 +1,11 @@
 -- The search for points asks just where asks are left to it, and each reply leaves fewer.
 use Rattle.std.proofs.Common.{◌≡◌, ℕ, ◌+◌, ◌-◌, ◌*◌, ◌<◌, ◌≤◌, refl, arith, Bool, true, false, length}
-use Rattle.std.specs.Prelude.{[], ◌==◌, ◌∷◌, ◌++◌, nat_lt, nat_le, max, if◌then◌else◌}
+use Rattle.std.specs.Prelude.{List, [], ◌==◌, ◌∷◌, ◌++◌, nat_lt, nat_le, max, if◌then◌else◌}
 use Rattle.std.proofs.lemmas.Bool.Decides.{nat_tests}
 use Rattle.std.proofs.lemmas.List.{length-append}
 use Rattle.fkv_base.specs.Limits.{drain_slots}
 use Rattle.fkv_base.specs.declared.numbers.Addr.{Addr}
+use Rattle.fkv_base.specs.declared.numbers.Serial.{Serial}
 use Rattle.fkv_base.specs.declared.numbers.Version.{Version}
 use Rattle.fkv_plane.specs.declared.asks.Ask.{Ask}
 use Rattle.fkv_plane.specs.declared.asks.Ask.TheVariants.{Done}
@@ -17,7 +18,7 @@ use Rattle.fkv_commit.specs.declared.seeking.Seeking.TheVariants.{Ended, LoadsOw
 use Rattle.fkv_commit.specs.declared.seeking.SeekAnswer.TheVariants.{Idle, Owing}
 use Rattle.fkv_commit.specs.Cuts.{serial_said, version_said}
 use Rattle.fkv_commit.specs.Deferring.{defer_begun, defer_ask, defer_next}
-use Rattle.fkv_commit.specs.Seeking.{SeekState, seek_begun, owing_from, seeking_ask, seek_ask, seeking_next, seek_next, points_from, point_taken, slot_led, defer_led}
+use Rattle.fkv_commit.specs.Seeking.{SeekState, seek_begun, owing_from, seeking_ask, seek_ask, seeking_next, seek_next, points_from, point_taken, floor_of, with_point, slot_led, defer_led}
 use Rattle.fkv_plane.specs.AsksLeft.{AsksWhereLeft, sum_left}
 use Rattle.fkv_commit.specs.AsksLeft.{deferring_asks_left, defer_asks_left, defer_asks_later, most_slot_asks, most_raise_asks, points_left, seeking_asks_left, seek_asks_left}
 use Rattle.fkv_plane.proofs.Shown.{never, none, some_inside, sum_most, sum_whole, passed_left, passed_alone}
@@ -49,8 +50,8 @@ owing_left s session = tested (nat_lt session s.sessions) refl
     tested true e = let h : session < s.sessions = grind (arith, nat_tests, e) in omega (arith, h)
     tested false e = omega arith
 
-pub seek_begun_left : (s : SeekState) (number : Version) → seek_asks_left (seek_begun s number) ≤ 4 * s.sessions + 2 * drain_slots + 7
-seek_begun_left s number = let all = owing_left (record s { number = number; points = [] }) 0 in omega (arith, all)
+pub seek_begun_left : (s : SeekState) (number : Version) (floor : List Serial) → seek_asks_left (seek_begun s number floor) ≤ 4 * s.sessions + 2 * drain_slots + 7
+seek_begun_left s number floor = let all = owing_left (record s { number = number; floor = floor; points = [] }) 0 in omega (arith, all)
 
 -- from the session on that has no point yet
 from_left : (s : SeekState) → seek_asks_left (points_from s) ≤ points_left s (length s.points) + defer_asks_later s.defer
@@ -64,8 +65,9 @@ from_left s = tested (nat_lt (length s.points) s.sessions) refl
 
 taken_left : (s : SeekState) (serial : ℕ) → seek_asks_left (point_taken s serial) ≤ points_left s (length s.points + 1) + defer_asks_later s.defer
 taken_left s serial =
-    let more : length (s.points ++ record { 0 = serial } ∷ []) ≡ length s.points + 1 = length-append s.points (record { 0 = serial } ∷ []) in
-    let all = from_left (record s { points = s.points ++ record { 0 = serial } ∷ [] }) in
+    let least = max (floor_of s.floor (length s.points)) serial in
+    let more : length (s.points ++ record { 0 = least } ∷ []) ≡ length s.points + 1 = length-append s.points (record { 0 = least } ∷ []) in
+    let all = from_left (with_point s serial) in
     omega (arith, more, all)
 
 slot_left : (s : SeekState) (old : ℕ) (ask : Ask DeferAnswer) → s.step ≡ SeeksSlot → 0 < old → defer_asks_left s.defer < old → (ask ≡ Done Held → defer_asks_later s.defer ≤ most_raise_asks)

@@ -183,7 +183,7 @@ abbrev pub EpochComesFirst : Type 0
 EpochComesFirst =
     ((opening : StartState) (kind : CommitKind) (lost : ℕ) (replies : List ℕ) → AreSlotsBehind (start_told opening kind lost replies))
     × ((opening : EnterState) (number : Version) (replies : List ℕ) → AreSlotsBehind (enter_told opening number replies))
-    × ((opening : SeekState) (number : Version) (replies : List ℕ) → AreSlotsBehind (seek_told opening number replies))
+    × ((opening : SeekState) (number : Version) (floor : List Serial) (replies : List ℕ) → AreSlotsBehind (seek_told opening number floor replies))
 
 -- the four machines of a commit, each from its start to its end
 pub record WholeCommit (number : Version) : Type 0 where
@@ -197,17 +197,18 @@ pub record WholeCommit (number : Version) : Type 0 where
   pub enter_replies : List ℕ
   pub has_entered : (entered enterer number enter_replies).step ≡ enter.Ended enter_answer.Entered
   pub seeker : SeekState
+  pub floor : List Serial
   pub seek_replies : List ℕ
   pub end : Addr
   pub epoch : ℕ
-  pub taken : (sought seeker number seek_replies).step ≡ seek.Ended (seek_answer.Taken end epoch)
+  pub taken : (sought seeker number floor seek_replies).step ≡ seek.Ended (seek_answer.Taken end epoch)
   pub finisher : FinishState
   pub finish_replies : List ℕ
   pub has_finished : (finished finisher number finish_replies).step ≡ finish.Ended Finished
 
 -- what they have told, one after another; the points that are finished with are those that were taken
 abbrev pub commit_told : (number : Version) → WholeCommit number → List Exchange
-commit_told number c = finish_told (sought c.seeker number c.seek_replies).points c.finisher number c.finish_replies ++ (seek_told c.seeker number c.seek_replies ++ (enter_told c.enterer number c.enter_replies ++ start_told c.starter c.kind c.lost c.start_replies))
+commit_told number c = finish_told (sought c.seeker number c.floor c.seek_replies).points c.finisher number c.finish_replies ++ (seek_told c.seeker number c.floor c.seek_replies ++ (enter_told c.enterer number c.enter_replies ++ start_told c.starter c.kind c.lost c.start_replies))
 
 -- a commit goes through all its phases in order, each once
 abbrev pub PhasesInOrder : Type 0

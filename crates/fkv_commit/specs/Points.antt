@@ -17,7 +17,7 @@ use Rattle.fkv_words.specs.Layout.{cut_word}
 use Rattle.fkv_commit.specs.Commits.{version_after}
 use Rattle.fkv_commit.specs.Cuts.{serial_said, version_said, cut_of, other_cut_of}
 use Rattle.fkv_commit.specs.Exchanges.{Exchange, exchange, run_of, exchanges, AreIdle, WereTaken, WasEpochLast, HoldsSlot, IsDeferred}
-use Rattle.fkv_commit.specs.Seeking.{SeekState, seek_begun, seek_ask, seek_next}
+use Rattle.fkv_commit.specs.Seeking.{SeekState, floor_of, seek_begun, seek_ask, seek_next}
 use Rattle.fkv_commit.specs.declared.seeking.Seeking.TheVariants.{Ended}
 use Rattle.fkv_commit.specs.declared.seeking.SeekAnswer.{SeekAnswer}
 use Rattle.fkv_commit.specs.declared.seeking.SeekAnswer.TheVariants as answer
@@ -30,16 +30,17 @@ pub data CutsMet : Type 0 where
 
 -- The rule. The first word says where its version ends, and is believed where that is the version committed. A session that has slept
 -- through it has two older words, and came as far as the greater serial says. One whose other word is of a later version has gone on in
--- between, and its first word says the point by now.
-abbrev pub IsPointShown : ℕ → CutsMet → ℕ → Type 0
-IsPointShown v (First first) point = (version_said first ≡ v) × (point ≡ serial_said first)
-IsPointShown v (Both first other) point = (version_said first ≢ v) × (version_said other ≤ v) × (point ≡ max (serial_said first) (serial_said other))
-IsPointShown v (Again first other again) point = (version_said first ≢ v) × (v < version_said other) × (point ≡ serial_said again)
+-- between, and its first word says the point by now. The floor is the point where it is greater.
+abbrev pub IsPointShown : ℕ → ℕ → CutsMet → ℕ → Type 0
+IsPointShown floor v (First first) point = (version_said first ≡ v) × (point ≡ max floor (serial_said first))
+IsPointShown floor v (Both first other) point = (version_said first ≢ v) × (version_said other ≤ v) × (point ≡ max floor (max (serial_said first) (serial_said other)))
+IsPointShown floor v (Again first other again) point = (version_said first ≢ v) × (v < version_said other) × (point ≡ max floor (serial_said again))
 
--- each session's point is shown by its words; those of the last session stand first
-abbrev pub ArePointsShown : ℕ → List CutsMet → List Serial → Type 0
-ArePointsShown v [] points = points ≡ []
-ArePointsShown v (its ∷ before) points = (earlier : List Serial) × (point : Serial) × (points ≡ earlier ++ point ∷ []) × IsPointShown v its point.0 × ArePointsShown v before earlier
+-- each session's point is shown by its floor and its words; those of the last session stand first
+abbrev pub ArePointsShown : List Serial → ℕ → List CutsMet → List Serial → Type 0
+ArePointsShown floor v [] points = points ≡ []
+ArePointsShown floor v (its ∷ before) points =
+    (earlier : List Serial) × (point : Serial) × (points ≡ earlier ++ point ∷ []) × IsPointShown (floor_of floor (length earlier)) v its point.0 × ArePointsShown floor v before earlier
 
 -- the loads in which the words of a session were met
 abbrev pub first_met : ℕ → ℕ → ℕ → Exchange
@@ -62,11 +63,11 @@ all_loads v (its ∷ earlier) before = loads_of v (length earlier) its (all_load
 abbrev pub NoneOwes : ℕ → List Exchange → Type 0
 NoneOwes sessions told = (session : ℕ) → session < sessions → Among (exchange (Load (session_place session own.Owing)) 0) told
 
--- The points so far are shown by the cut words that were loaded behind all owing words, and with a drain slot held. What was told since is
+-- The points so far are shown by their floors and by the cut words that were loaded behind all owing words, and with a drain slot held. What was told since is
 -- loads alone, as long as a point is missing.
-pub record ArePointsTaken (v sessions : ℕ) (points : List Serial) (told : List Exchange) : Type 0 where
+pub record ArePointsTaken (floor : List Serial) (v sessions : ℕ) (points : List Serial) (told : List Exchange) : Type 0 where
   pub met : List CutsMet
-  pub shown : ArePointsShown v met points
+  pub shown : ArePointsShown floor v met points
   pub slot : ℕ
   pub before : List Exchange
   pub held : HoldsSlot slot before
@@ -76,14 +77,14 @@ pub record ArePointsTaken (v sessions : ℕ) (points : List Serial) (told : List
   pub first : AreIdle since ⊎ (length points ≡ sessions)
 
 -- no point is taken yet and nothing is changed, or the points are shown
-abbrev pub ArePointsRight : ℕ → ℕ → List Serial → List Exchange → Type 0
-ArePointsRight v sessions points told = ((points ≡ []) × AreIdle told) ⊎ ArePointsTaken v sessions points told
+abbrev pub ArePointsRight : List Serial → ℕ → ℕ → List Serial → List Exchange → Type 0
+ArePointsRight floor v sessions points told = ((points ≡ []) × AreIdle told) ⊎ ArePointsTaken floor v sessions points told
 
 -- All points are taken, and behind them: wait-flush is stored, the tail is loaded, the read-only offset is raised to it, and that the safe
 -- read-only offset follows is deferred.
-pub record AllAreTaken (number : Version) (sessions : ℕ) (points : List Serial) (end : Addr) (epoch : ℕ) (told : List Exchange) : Type 0 where
+pub record AllAreTaken (floor : List Serial) (number : Version) (sessions : ℕ) (points : List Serial) (end : Addr) (epoch : ℕ) (told : List Exchange) : Type 0 where
   pub met : List CutsMet
-  pub shown : ArePointsShown number.0 met points
+  pub shown : ArePointsShown floor number.0 met points
   pub all : length points ≡ sessions
   pub slot : ℕ
   pub before : List Exchange
@@ -100,27 +101,29 @@ abbrev pub SomeOwes : ℕ → List Exchange → Type 0
 SomeOwes sessions told = (session : ℕ) × (session < sessions) × ((word : ℕ) × (word ≢ 0) × Among (exchange (Load (session_place session own.Owing)) word) told)
 
 -- what an ended search has told: where no points are taken nothing is changed, and its reason was met
-abbrev pub IsSeekEnd : Version → ℕ → List Serial → SeekAnswer → List Exchange → Type 0
-IsSeekEnd number sessions points (answer.Taken end epoch) told = AllAreTaken number sessions points end epoch told
-IsSeekEnd number sessions points answer.Idle told = ⊥
-IsSeekEnd number sessions points answer.Owing told = (points ≡ []) × AreIdle told × SomeOwes sessions told
-IsSeekEnd number sessions points answer.DrainFull told = (points ≡ []) × AreIdle told × WereTaken drain_slots told
-IsSeekEnd number sessions points answer.EpochsSpent told = (points ≡ []) × AreIdle told × WasEpochLast told
+abbrev pub IsSeekEnd : List Serial → Version → ℕ → List Serial → SeekAnswer → List Exchange → Type 0
+IsSeekEnd floor number sessions points (answer.Taken end epoch) told = AllAreTaken floor number sessions points end epoch told
+IsSeekEnd floor number sessions points answer.Idle told = ⊥
+IsSeekEnd floor number sessions points answer.Owing told = (points ≡ []) × AreIdle told × SomeOwes sessions told
+IsSeekEnd floor number sessions points answer.DrainFull told = (points ≡ []) × AreIdle told × WereTaken drain_slots told
+IsSeekEnd floor number sessions points answer.EpochsSpent told = (points ≡ []) × AreIdle told × WasEpochLast told
 
-abbrev pub sought : SeekState → Version → List ℕ → SeekState
-sought opening number replies = run_of seek_next (seek_begun opening number) replies
+abbrev pub sought : SeekState → Version → List Serial → List ℕ → SeekState
+sought opening number floor replies = run_of seek_next (seek_begun opening number floor) replies
 
-abbrev pub seek_told : SeekState → Version → List ℕ → List Exchange
-seek_told opening number replies = exchanges seek_ask seek_next (seek_begun opening number) replies
+abbrev pub seek_told : SeekState → Version → List Serial → List ℕ → List Exchange
+seek_told opening number floor replies = exchanges seek_ask seek_next (seek_begun opening number floor) replies
 
 -- at each moment the points are right
 abbrev pub PointsAreRight : Type 0
-PointsAreRight = (opening : SeekState) (number : Version) (replies : List ℕ) → ArePointsRight number.0 opening.sessions (sought opening number replies).points (seek_told opening number replies)
+PointsAreRight =
+    (opening : SeekState) (number : Version) (floor : List Serial) (replies : List ℕ) → ArePointsRight floor number.0 opening.sessions (sought opening number floor replies).points (seek_told opening number floor replies)
 
 -- and so is the end
 abbrev pub SeeksEndRight : Type 0
-SeeksEndRight = (opening : SeekState) (number : Version) (replies : List ℕ) (its : SeekAnswer) → (sought opening number replies).step ≡ Ended its
-    → IsSeekEnd number opening.sessions (sought opening number replies).points its (seek_told opening number replies)
+SeeksEndRight =
+    (opening : SeekState) (number : Version) (floor : List Serial) (replies : List ℕ) (its : SeekAnswer) → (sought opening number floor replies).step ≡ Ended its
+    → IsSeekEnd floor number opening.sessions (sought opening number floor replies).points its (seek_told opening number floor replies)
 
 -- what a cut word says is what was packed into it, and a word that no cut has says nothing
 abbrev pub CutsAreRead : Type 0

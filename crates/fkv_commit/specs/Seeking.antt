@@ -1,6 +1,7 @@
--- How a commit finds each session's point, once no session owes an update of its version: by the session's cut words. Then wait-flush is
--- stored, and the log is made read-only up to its tail, which is the commit's end.
-use Rattle.std.specs.Prelude.{ℕ, ◌+◌, ◌<◌, ◌==◌, nat_lt, nat_le, max, if◌then◌else◌, List, [], ◌∷◌, ◌++◌, length, ⊤}
+-- How a commit finds each session's point, once no session owes an update of its version: by the session's cut words, and never below its
+-- point of the newest finished commit, its floor. Then wait-flush is stored, and the log is made read-only up to its tail, which is
+-- the commit's end.
+use Rattle.std.specs.Prelude.{ℕ, ◌+◌, ◌<◌, ◌==◌, nat_lt, nat_le, max, if◌then◌else◌, List, [], ◌∷◌, ◌++◌, length, slice_get, ⊤}
 use Rattle.fkv_base.specs.Limits.{max_sessions}
 use Rattle.fkv_base.specs.declared.numbers.Addr.{Addr}
 use Rattle.fkv_base.specs.declared.numbers.Serial.{Serial}
@@ -23,11 +24,14 @@ use Rattle.fkv_commit.specs.declared.seeking.Seeking.TheVariants.{Ended, LoadsOw
 use Rattle.fkv_commit.specs.Commits.{version_after}
 use Rattle.fkv_commit.specs.Cuts.{serial_said, version_said, cut_of, other_cut_of}
 use Rattle.fkv_commit.specs.Deferring.{DeferState, defer_begun, defer_ask, defer_next, defer_on}
+use Rattle.fkv_commit.specs.Finishing.{point_of}
 
 pub record SeekState : Type 0 where
   pub sessions : ℕ
   -- the commit's
   pub number : Version
+  -- the points of the newest finished commit
+  pub floor : List Serial
   -- those of the first sessions
   pub points : List Serial
   pub defer : DeferState
@@ -45,8 +49,8 @@ IsSeekInRange points step = ⊤
 abbrev pub owing_from : SeekState → ℕ → SeekState
 owing_from s session = if nat_lt session s.sessions then record s { step = LoadsOwing session } else record s { defer = defer_begun s.defer; step = SeeksSlot }
 
-abbrev pub seek_begun : SeekState → Version → SeekState
-seek_begun s number = owing_from (record s { number = number; points = [] }) 0
+abbrev pub seek_begun : SeekState → Version → List Serial → SeekState
+seek_begun s number floor = owing_from (record s { number = number; floor = floor; points = [] }) 0
 
 -- what each state asks
 unfoldable pub seeking_ask : SeekState → Seeking → Ask SeekAnswer
@@ -68,8 +72,16 @@ seek_ask s = seeking_ask s s.step
 abbrev pub points_from : SeekState → SeekState
 points_from s = if nat_lt (length s.points) s.sessions then record s { step = LoadsCut } else record s { step = StoresWaitFlush }
 
+-- A session's floor. One that has none there has floor 0.
+abbrev pub floor_of : List Serial → ℕ → ℕ
+floor_of floor session = point_of (slice_get floor session)
+
+-- the next session's point is the serial that its words say, or its floor if that is greater
+abbrev pub with_point : SeekState → ℕ → SeekState
+with_point s serial = record s { points = s.points ++ record { 0 = max (floor_of s.floor (length s.points)) serial } ∷ [] }
+
 abbrev pub point_taken : SeekState → ℕ → SeekState
-point_taken s serial = points_from (record s { points = s.points ++ record { 0 = serial } ∷ [] })
+point_taken s serial = points_from (with_point s serial)
 
 -- by what is asked next as a slot is sought
 unfoldable pub slot_led : SeekState → Ask DeferAnswer → SeekState
@@ -78,11 +90,11 @@ slot_led s (Done Spent) = record s { step = Ended EpochsSpent }
 slot_led s (Done its) = record s { step = Ended DrainFull }
 slot_led s ask = s
 
--- by the cut word of the version that is committed: it says the point, or the other one is loaded
+-- by the cut word of the version that is committed: it says where that ends, or the other one is loaded
 abbrev pub cut_met : SeekState → ℕ → SeekState
 cut_met s word = if version_said word == s.number.0 then point_taken s (serial_said word) else record s { step = LoadsOther word }
 
--- by the other one: where it is of no later version, the greater serial is the point; else the session has gone on in between
+-- by the other one: where it is of no later version, the greater serial is taken; else the session has gone on in between
 abbrev pub other_met : SeekState → ℕ → ℕ → SeekState
 other_met s first word = if nat_le (version_said word) s.number.0 then point_taken s (max (serial_said first) (serial_said word)) else record s { step = LoadsAgain }
 

@@ -127,7 +127,7 @@ fn durable_from(sessions: usize, session: usize) -> Finishing
 }
 
 /// The point of a session, 0 where it has none.
-fn point_of(points: &[Serial], session: usize) -> u64
+pub(crate) fn point_of(points: &[Serial], session: usize) -> u64
     ensures { result ≡ point_of (slice_get points.now session) }
 {
     match points.get(session) {

@@ -9,6 +9,7 @@ ghost use Rattle.fkv_commit.specs.declared.seeking.SeekAnswer.TheVariants.{Idle}
 
 use crate::cuts::{cut_of, cut_said, other_cut_of};
 use crate::deferring::{Defer, DeferAnswer, Deferred};
+use crate::finishing::point_of;
 use crate::phase_steps::{phase_stored, version_after};
 use arrayvec::ArrayVec;
 use fkv_base::{Addr, MAX_SESSIONS, Phase, Serial, Version};
@@ -61,6 +62,8 @@ pub(crate) enum Seeking {
 pub struct SeekPoints {
     sessions: usize,
     number: Version,
+    /// The points of the newest finished commit.
+    floor: ArrayVec<Serial, MAX_POINTS>,
     points: ArrayVec<Serial, MAX_POINTS>,
     defer: Defer,
     step: Seeking,
@@ -73,7 +76,7 @@ impl Model for SeekPoints {
 
     ghost Value = { SeekState };
 
-    ghost view = { λ m. record { sessions = m.sessions; number = m.number; points = m.points.items; defer = m.defer; step = m.step } };
+    ghost view = { λ m. record { sessions = m.sessions; number = m.number; floor = m.floor.items; points = m.points.items; defer = m.defer; step = m.step } };
 
     ghost invariant = { λ m. (m.sessions ≤ max_sessions) × IsSeekInRange m.points.items m.step };
 }
@@ -88,20 +91,25 @@ impl SeekPoints {
         SeekPoints {
             sessions,
             number: Version(1),
+            floor: ArrayVec::new(),
             points: ArrayVec::new(),
             defer: Defer::new(),
             step: Seeking::Ended(SeekAnswer::Idle),
         }
     }
 
-    /// The first ask, for the commit of this number. The points of the one before are gone then.
-    pub fn start(&mut self, number: Version) -> Ask<SeekAnswer>
-        ensures next { self.new ≡ seek_begun self.old number }
+    /// The first ask, for the commit of this number. No session's point will be below its floor, which is its point of the newest
+    /// finished commit.
+    pub fn start(&mut self, number: Version, floor: &[Serial]) -> Ask<SeekAnswer>
+        requires fits { length floor.now ≤ max_sessions }
+        ensures next { self.new ≡ seek_begun self.old number floor.now }
         ensures ask { result ≡ seek_ask self.new }
         ensures asks { AsksWhereLeft (seek_asks_left self.new) result }
         ensures bounded { seek_asks_left self.new ≤ 4 * self.old.sessions + 2 * drain_slots + 7 }
     {
         self.number = number;
+        self.floor.clear();
+        let _ = self.floor.try_extend_from_slice(floor);
         self.points.clear();
         self.owing_from(0);
         self.ask()
@@ -241,14 +249,15 @@ impl SeekPoints {
         }
     }
 
-    /// The point of a session is this serial.
+    /// The point of a session is this serial, or its floor if that is greater.
     fn takes(&mut self, serial: u64)
         requires { length self.old.points < max_sessions }
         ensures { self.new ≡ point_taken self.old serial }
     {
+        let floor = point_of(self.floor.as_slice(), self.points.len());
         // The last point leaves no session of which a word might be loaded.
         self.step = Seeking::StoresWaitFlush;
-        self.points.push(Serial(serial));
+        self.points.push(Serial(floor.max(serial)));
         self.points_from();
     }
 

@@ -144,7 +144,7 @@ goes_to p s reply granted a e its follows not_copies on = quiet p s LoadsPhase (
 over : (p : Places) (s : KeeperState) (reply : ℕ) (granted : Bool) → s.step ≡ LoadsPhase → IsMove p s (Replies reply granted) (turned s)
 over p s reply granted e = ends p s LoadsPhase (Replies reply granted) s _ e (nothing LoadsPhase s)
 
-seeks_move : (p : Places) (s : KeeperState) (c : Commit) (reply : ℕ) (granted : Bool) → s.step ≡ LoadsPhase → IsMove p s (Replies reply granted) (record s { seek = seek_begun s.seek c.number; has_points = false; step = Seeks })
+seeks_move : (p : Places) (s : KeeperState) (c : Commit) (reply : ℕ) (granted : Bool) → s.step ≡ LoadsPhase → IsMove p s (Replies reply granted) (record s { seek = seek_begun s.seek c.number s.last.points; has_points = false; step = Seeks })
 seeks_move p s c reply granted e = record {
   copies = record { begins = λ copies. cc; commit = same_commit s _ s.commit refl };
   lists = record { lists = inl (refl, refl); used = λ other. refl; points = λ other next. absurd (next refl) };
@@ -157,7 +157,7 @@ part_move p s c reply (Says phase.InProgress version) granted says e in_hand =
     (else_move p s c reply granted (turned s) c.is_copied refl e in_hand (rw says tt) (over p s reply granted e))
     (goes_to p s reply granted _ e (record { commit = refl; last = refl; lost = refl; used = refl; points = λ other. refl }) tt (λ copies. cc) (λ loads. cc))
 part_move p s c reply (Says phase.WaitPending version) granted says e in_hand =
-    else_move p s c reply granted (record s { seek = seek_begun s.seek c.number; has_points = false; step = Seeks }) c.is_copied refl e in_hand (rw says tt) (seeks_move p s c reply granted e)
+    else_move p s c reply granted (record s { seek = seek_begun s.seek c.number s.last.points; has_points = false; step = Seeks }) c.is_copied refl e in_hand (rw says tt) (seeks_move p s c reply granted e)
 part_move p s c reply (Says phase.WaitFlush version) granted says e in_hand =
     either_move s.has_points p s (Replies reply granted) _ _
     (goes_to p s reply granted _ e (record { commit = refl; last = refl; lost = refl; used = refl; points = λ other. refl }) tt (λ copies. cc) (λ loads. cc))

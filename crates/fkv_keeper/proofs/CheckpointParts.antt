@@ -1,8 +1,9 @@
 -- The drain slots of the parts of a commit are among the eight, whatever the replies.
-use Rattle.std.proofs.Common.{◌≡◌, ℕ, ◌+◌, [], ◌∷◌, sym, subst, Bool, true, false}
-use Rattle.std.specs.Prelude.{⊤, nat_lt, nat_le, ◌==◌, if◌then◌else◌, length, max, ◌++◌}
+use Rattle.std.proofs.Common.{◌≡◌, ℕ, ◌+◌, List, [], sym, subst, Bool, true, false}
+use Rattle.std.specs.Prelude.{⊤, nat_lt, nat_le, ◌==◌, if◌then◌else◌, length, max}
 use Rattle.fkv_base.specs.Limits.{last_version}
 use Rattle.fkv_base.specs.declared.numbers.Addr.{Addr}
+use Rattle.fkv_base.specs.declared.numbers.Serial.{Serial}
 use Rattle.fkv_base.specs.declared.numbers.Version.{Version}
 use Rattle.fkv_base.specs.declared.phases.Phase.TheVariants as phase
 use Rattle.fkv_words.specs.declared.phase_words.PhaseSaid.{PhaseSaid}
@@ -21,7 +22,7 @@ use Rattle.fkv_commit.specs.declared.starting.Starting.TheVariants as starts
 use Rattle.fkv_commit.specs.Cuts.{version_said, serial_said}
 use Rattle.fkv_commit.specs.Deferring.{defer_ask, defer_next}
 use Rattle.fkv_commit.specs.Entering.{EnterState, entering_next, seek_led as enter_sought, defer_led as enter_deferred}
-use Rattle.fkv_commit.specs.Seeking.{SeekState, seeking_next, seek_begun, owing_from, points_from, point_taken, slot_led, defer_led as seek_deferred}
+use Rattle.fkv_commit.specs.Seeking.{SeekState, seeking_next, seek_begun, owing_from, points_from, point_taken, with_point, slot_led, defer_led as seek_deferred}
 use Rattle.fkv_commit.specs.Starting.{StartState, starting_next, phase_found, is_lost_full, seek_led as start_sought, defer_led as start_deferred}
 use Rattle.fkv_keeper.proofs.CheckpointRanges.{IsDeferredIn, defer_in, defer_on_in}
 
@@ -120,10 +121,10 @@ points_in : (s : SeekState) → IsDeferredIn s.defer → IsSeekIn (points_from s
 points_in s fits = either_seek (nat_lt (length s.points) s.sessions) _ _ fits fits
 
 taken_in : (s : SeekState) (serial : ℕ) → IsDeferredIn s.defer → IsSeekIn (point_taken s serial)
-taken_in s serial fits = points_in (record s { points = s.points ++ record { 0 = serial } ∷ [] }) fits
+taken_in s serial fits = points_in (with_point s serial) fits
 
-pub seek_begun_in : (s : SeekState) (number : Version) → IsSeekIn (seek_begun s number)
-seek_begun_in s number = owing_in (record s { number = number; points = [] }) 0
+pub seek_begun_in : (s : SeekState) (number : Version) (floor : List Serial) → IsSeekIn (seek_begun s number floor)
+seek_begun_in s number floor = owing_in (record s { number = number; floor = floor; points = [] }) 0
 
 slot_in : (s : SeekState) (ask : Ask DeferAnswer) → s.step ≡ seeks.SeeksSlot → IsDeferredIn s.defer → IsSeekIn (slot_led s ask)
 unfolding slot_led

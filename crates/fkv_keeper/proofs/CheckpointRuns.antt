@@ -199,7 +199,7 @@ part_sound p replies told s c (Says phase.InProgress version) reply granted in_h
     (λ entered. else_sound p replies told s c reply granted (turned s) c.is_copied refl in_hand sound (λ is_copied. over p replies told s LoadsPhase _ tt sound))
     (keeps p replies told s _ LoadsPhase Enters refl refl refl (λ works. works) (λ so. tt) sound tt)
 part_sound p replies told s c (Says phase.WaitPending version) reply granted in_hand sound =
-    else_sound p replies told s c reply granted (record s { seek = seek_begun s.seek c.number; has_points = false; step = Seeks }) c.is_copied refl in_hand sound
+    else_sound p replies told s c reply granted (record s { seek = seek_begun s.seek c.number s.last.points; has_points = false; step = Seeks }) c.is_copied refl in_hand sound
     (λ is_copied. record {
       copied = λ its found full copied working early. sound.copied its found full copied working tt;
       points = λ its found taken. cc;

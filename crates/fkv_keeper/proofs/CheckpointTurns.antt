@@ -159,7 +159,7 @@ either_keeper false x y one other = other
 
 part_in : (p : Places) (s : KeeperState) (c : Commit) (said : PhaseSaid) (granted : Bool) → IsKeeperIn (part_begun p s c said granted)
 part_in p s c (Says phase.InProgress version) granted = either_keeper s.has_entered _ _ (either_keeper c.is_copied _ _ tt (either_keeper granted _ _ tt tt)) tt
-part_in p s c (Says phase.WaitPending version) granted = either_keeper c.is_copied _ _ (seek_begun_in s.seek c.number) (either_keeper granted _ _ tt tt)
+part_in p s c (Says phase.WaitPending version) granted = either_keeper c.is_copied _ _ (seek_begun_in s.seek c.number s.last.points) (either_keeper granted _ _ tt tt)
 part_in p s c (Says phase.WaitFlush version) granted = either_keeper s.has_points _ _ tt tt
 part_in p s c said granted = tt
 

@@ -5,6 +5,7 @@ use Rattle.fkv_base.specs.Limits.{drain_slots, last_version}
 use Rattle.fkv_base.specs.declared.faults.Fault.{Fault}
 use Rattle.fkv_base.specs.declared.faults.Fault.TheVariants as fault
 use Rattle.fkv_base.specs.declared.numbers.Addr.{Addr}
+use Rattle.fkv_base.specs.declared.numbers.Serial.{Serial}
 use Rattle.fkv_base.specs.declared.numbers.Version.{Version}
 use Rattle.fkv_base.specs.declared.phases.Phase.TheVariants as phase
 use Rattle.fkv_words.specs.declared.phase_words.PhaseSaid.{PhaseSaid}
@@ -27,7 +28,7 @@ use Rattle.fkv_commit.specs.declared.starting.StartAnswer.TheVariants as start
 use Rattle.fkv_commit.specs.Cuts.{serial_said, version_said}
 use Rattle.fkv_commit.specs.Deferring.{defer_begun, defer_ask, defer_next}
 use Rattle.fkv_commit.specs.Entering.{EnterState, enter_begun, seek_led as enter_led, defer_led as enter_deferred, entering_ask, enter_ask, entering_next, enter_next}
-use Rattle.fkv_commit.specs.Seeking.{SeekState, seek_begun, owing_from, points_from, point_taken, slot_led, defer_led as seek_deferred, seeking_ask, seek_ask, seeking_next, seek_next}
+use Rattle.fkv_commit.specs.Seeking.{SeekState, seek_begun, owing_from, points_from, point_taken, with_point, slot_led, defer_led as seek_deferred, seeking_ask, seek_ask, seeking_next, seek_next}
 use Rattle.fkv_commit.specs.Starting.{StartState, is_lost_full, phase_found, seek_led as start_led, defer_led as start_deferred, starting_ask, start_ask, starting_next, start_next}
 use Rattle.fkv_commit.specs.Exchanges.{Exchange, exchanged}
 use Rattle.fkv_keeper.specs.DrainLaws.{WereSought}
@@ -98,7 +99,7 @@ points_knows : (s : SeekState) (told : List Exchange) → SeekKnows (points_from
 points_knows s told = either_seek (nat_lt (length s.points) s.sessions) (record s { step = seeks.LoadsCut }) (record s { step = seeks.StoresWaitFlush }) told tt tt
 
 taken_knows : (s : SeekState) (serial : ℕ) (told : List Exchange) → SeekKnows (point_taken s serial) (point_taken s serial).step told
-taken_knows s serial told = points_knows (record s { points = s.points ++ record { 0 = serial } ∷ [] }) told
+taken_knows s serial told = points_knows (with_point s serial) told
 
 slot_on : (s : SeekState) (ask : Ask DeferAnswer) → is_done ask ≡ false → slot_led s ask ≡ s
 unfolding slot_led
@@ -138,8 +139,8 @@ seek_at s (seeks.Defers end) told reply e knows = seek_defers end (record s { de
 pub seek_step : (s : SeekState) (told : List Exchange) (reply : ℕ) → SeekKnows s s.step told → SeekKnows (seek_next s reply) (seek_next s reply).step (exchanged (seek_ask s) reply told)
 seek_step s told reply knows = seek_at s s.step told reply refl knows
 
-pub seek_begins : (s : SeekState) (number : Version) (told : List Exchange) → SeekKnows (seek_begun s number) (seek_begun s number).step told
-seek_begins s number told = owing_knows (record s { number = number; points = [] }) 0 told
+pub seek_begins : (s : SeekState) (number : Version) (floor : List Serial) (told : List Exchange) → SeekKnows (seek_begun s number floor) (seek_begun s number floor).step told
+seek_begins s number floor told = owing_knows (record s { number = number; floor = floor; points = [] }) 0 told
 
 pub seek_none : (s : SeekState) (step : Seeking) (told : List Exchange) → seeking_ask s step ≡ Done seek.DrainFull → SeekKnows s step told → WereSought drain_slots told
 unfolding seeking_ask

@@ -107,7 +107,7 @@ part_led : (p : Places) (s : KeeperState) (c : Commit) (said : PhaseSaid) (grant
 part_led p s c (Says phase.InProgress version) granted told full =
     either s.has_entered _ _ told (either c.is_copied _ _ told (over s told full) (copies_led p s granted told full)) (enter_begins s.enter c.number told, full)
 part_led p s c (Says phase.WaitPending version) granted told full =
-    either c.is_copied (record s { seek = seek_begun s.seek c.number; has_points = false; step = Seeks }) _ told (seek_begins s.seek c.number told, full) (copies_led p s granted told full)
+    either c.is_copied (record s { seek = seek_begun s.seek c.number s.last.points; has_points = false; step = Seeks }) _ told (seek_begins s.seek c.number s.last.points told, full) (copies_led p s granted told full)
 part_led p s c (Says phase.WaitFlush version) granted told full = either s.has_points _ _ told full (over s told full)
 part_led p s c said granted told full = over s told full
 

@@ -33,7 +33,7 @@ entered_says p s false is_copied copied entered granted = refl
 
 part_says : (p : Places) (s : KeeperState) (c : Commit) (said : PhaseSaid) (granted : Bool) → SaysGranted (part_begun p s c said) granted
 part_says p s c (Says phase.InProgress version) granted = entered_says p s s.has_entered c.is_copied (turned s) (record s { enter = enter_begun s.enter c.number; step = Enters }) granted
-part_says p s c (Says phase.WaitPending version) granted = either_says p s c.is_copied (record s { seek = seek_begun s.seek c.number; has_points = false; step = Seeks }) granted
+part_says p s c (Says phase.WaitPending version) granted = either_says p s c.is_copied (record s { seek = seek_begun s.seek c.number s.last.points; has_points = false; step = Seeks }) granted
 part_says p s c (Says phase.WaitFlush version) granted = refl
 part_says p s c (Says phase.Rest version) granted = refl
 part_says p s c (Says phase.Prepare version) granted = refl

@@ -92,12 +92,12 @@ enters : (shape : Shape) (p : Places) (s : KeeperState) (c : Commit) → IsBusyN
 unfolding keeping_ask entering_ask deferring_ask raise_ask passed
 enters shape p s c = refl
 
-seeks : (shape : Shape) (p : Places) (s : KeeperState) (c : Commit) → IsBusyNow shape p (record s { seek = seek_begun s.seek c.number; has_points = false; step = Seeks })
+seeks : (shape : Shape) (p : Places) (s : KeeperState) (c : Commit) → IsBusyNow shape p (record s { seek = seek_begun s.seek c.number s.last.points; has_points = false; step = Seeks })
 unfolding keeping_ask seeking_ask deferring_ask raise_ask passed
 seeks shape p s c = tested (nat_lt 0 s.seek.sessions)
   where
     first : SeekState
-    first = record s.seek { number = c.number; points = [] }
+    first = record s.seek { number = c.number; floor = s.last.points; points = [] }
 
     tested : (b : Bool) → is_busy (passed (seek_ask (if b then record first { step = seeking.LoadsOwing 0 } else record first { defer = defer_begun first.defer; step = seeking.SeeksSlot })) (turn_over s)) ≡ true
     tested true = refl
@@ -162,7 +162,7 @@ next_copied shape p s t c granted some held = either_busy c.is_copied shape p t 
 part_busy : (shape : Shape) (p : Places) (s : KeeperState) (c : Commit) (said : PhaseSaid) (granted : Bool) → 0 < p.buckets → IsBusyNow shape p (part_begun p s c said granted)
 part_busy shape p s c (Says phase.InProgress version) granted some =
     either_busy s.has_entered shape p (copies_next p s c granted (turned s)) (record s { enter = enter_begun s.enter c.number; step = Enters }) (next_copied shape p s (turned s) c granted some tt) (enters shape p s c)
-part_busy shape p s c (Says phase.WaitPending version) granted some = next_copied shape p s (record s { seek = seek_begun s.seek c.number; has_points = false; step = Seeks }) c granted some (seeks shape p s c)
+part_busy shape p s c (Says phase.WaitPending version) granted some = next_copied shape p s (record s { seek = seek_begun s.seek c.number s.last.points; has_points = false; step = Seeks }) c granted some (seeks shape p s c)
 part_busy shape p s c (Says phase.WaitFlush version) granted some = either_busy s.has_points shape p (record s { wait = wait_begun c.end c.epoch; step = Waits }) (turned s) (waits shape p s c) tt
 part_busy shape p s c said granted some = tt
 

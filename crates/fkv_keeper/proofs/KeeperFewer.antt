@@ -154,9 +154,9 @@ enters_led : (shape : Shape) (p : Places) (s : KeeperState) (c : Commit) → kee
 unfolding keeping_asks_left
 enters_led shape p s c = let most = enter_begun_left s.enter c.number in omega (arith, most)
 
-seeks_led : (shape : Shape) (p : Places) (s : KeeperState) (c : Commit) → keeper_asks_left shape p (record s { seek = seek_begun s.seek c.number; has_points = false; step = Seeks }) < most_part_asks p s.seek.sessions s.finish.sessions + 1
+seeks_led : (shape : Shape) (p : Places) (s : KeeperState) (c : Commit) → keeper_asks_left shape p (record s { seek = seek_begun s.seek c.number s.last.points; has_points = false; step = Seeks }) < most_part_asks p s.seek.sessions s.finish.sessions + 1
 unfolding keeping_asks_left
-seeks_led shape p s c = let most = seek_begun_left s.seek c.number in omega (arith, most)
+seeks_led shape p s c = let most = seek_begun_left s.seek c.number s.last.points in omega (arith, most)
 
 waits_led : (shape : Shape) (p : Places) (s : KeeperState) (c : Commit) → keeper_asks_left shape p (record s { wait = wait_begun c.end c.epoch; step = Waits }) < most_part_asks p s.seek.sessions s.finish.sessions + 1
 unfolding keeping_asks_left waiting_asks_left

@@ -300,7 +300,7 @@ unfolding phase_ledto
 copies_found p s None c said version e not_copied says = cc
 copies_found p s (Some its) c said version e not_copied says =
     let same : its ≡ c = cc in
-    ap (λ (x : PhaseSaid). part_begun p s its x true) says ∙ copies_either its.is_copied p s (record s { seek = seek_begun s.seek its.number; has_points = false; step = Seeks }) (ap (λ (x : Commit). x.is_copied) same ∙ not_copied)
+    ap (λ (x : PhaseSaid). part_begun p s its x true) says ∙ copies_either its.is_copied p s (record s { seek = seek_begun s.seek its.number s.last.points; has_points = false; step = Seeks }) (ap (λ (x : Commit). x.is_copied) same ∙ not_copied)
 
 pub copy_again : (shape : Shape) (p : Places) (s : KeeperState) → CopiesAgain shape p s
 unfolding keeper_happens keeping_next

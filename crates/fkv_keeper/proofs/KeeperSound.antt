@@ -131,7 +131,7 @@ part_step shape p w s c (Says phase.InProgress version) granted works in_hand =
     (else_step shape p w s c granted (turned s) c.is_copied refl works in_hand (turns shape w s s s.is_drain_full works refl))
     (going shape w s _ Enters tt refl works refl works)
 part_step shape p w s c (Says phase.WaitPending version) granted works in_hand =
-    else_step shape p w s c granted (record s { seek = seek_begun s.seek c.number; has_points = false; step = Seeks }) c.is_copied refl works in_hand (going shape w s _ Seeks tt refl works refl works)
+    else_step shape p w s c granted (record s { seek = seek_begun s.seek c.number s.last.points; has_points = false; step = Seeks }) c.is_copied refl works in_hand (going shape w s _ Seeks tt refl works refl works)
 part_step shape p w s c (Says phase.WaitFlush version) granted works in_hand =
     either_step s.has_points shape w s _ _ (going shape w s _ Waits tt refl works refl works) (turns shape w s s s.is_drain_full works refl)
 part_step shape p w s c said granted works in_hand = turns shape w s s s.is_drain_full works refl

@@ -19,7 +19,7 @@ use Rattle.fkv_commit.specs.declared.starting.StartAnswer.{StartAnswer}
 use Rattle.fkv_commit.specs.declared.starting.StartAnswer.TheVariants as start
 use Rattle.fkv_commit.specs.Cuts.{serial_said, version_said}
 use Rattle.fkv_commit.specs.Deferring.{defer_begun, defer_ask, defer_next}
-use Rattle.fkv_commit.specs.Seeking.{SeekState, seek_begun, owing_from, points_from, point_taken, slot_led, defer_led, seeking_next, seek_ask, seek_next}
+use Rattle.fkv_commit.specs.Seeking.{SeekState, seek_begun, owing_from, points_from, point_taken, with_point, slot_led, defer_led, seeking_next, seek_ask, seek_next}
 use Rattle.fkv_commit.specs.Starting.{start_ask, start_next}
 use Rattle.fkv_keeper.specs.declared.answers.KeeperTold.{KeeperTold}
 use Rattle.fkv_keeper.specs.declared.keepers.Keeping.{Keeping}
@@ -44,7 +44,7 @@ from_number : (s : SeekState) → (points_from s).number ≡ s.number
 from_number s = either (nat_lt (length s.points) s.sessions) (record s { step = seeks.LoadsCut }) (record s { step = seeks.StoresWaitFlush }) s.number refl refl
 
 taken_number : (s : SeekState) (serial : ℕ) → (point_taken s serial).number ≡ s.number
-taken_number s serial = from_number (record s { points = s.points ++ record { 0 = serial } ∷ [] })
+taken_number s serial = from_number (with_point s serial)
 
 slot_number : (s : SeekState) (ask : Ask DeferAnswer) → (slot_led s ask).number ≡ s.number
 unfolding slot_led
@@ -73,8 +73,8 @@ next_number s seeks.LoadsTail reply = refl
 next_number s (seeks.RaisesReadOnly end) reply = refl
 next_number s (seeks.Defers end) reply = defer_number end (record s { defer = defer_next s.defer reply }) (defer_ask (defer_next s.defer reply))
 
-begun_number : (s : SeekState) (number : Version) → (seek_begun s number).number ≡ number
-begun_number s number = owing_number (record s { number = number; points = [] }) 0
+begun_number : (s : SeekState) (number : Version) (floor : List Serial) → (seek_begun s number floor).number ≡ number
+begun_number s number floor = owing_number (record s { number = number; floor = floor; points = [] }) 0
 
 -- what holds at every moment
 pub record IsFound (found : Option Found) (s : KeeperState) : Type 0 where
@@ -222,7 +222,7 @@ begun_found p found event s a move part loads now fresh been = record {
     searching c in_hand (inl under_way) = absurd (seeks_loads s.step under_way loads)
     searching c in_hand (inr begun) =
         let was = kept_commit s a c move.copies.commit (λ starts. loads_starts s.step loads starts.starts) in_hand in
-        ap (λ (x : SeekState). x.number) begun.seek ∙ begun_number s.seek begun.commit.number ∙ ap (λ (x : Commit). x.number) (same_commit begun.commit was.0 (sym begun.in_hand ∙ was.1)) ∙ sym was.2
+        ap (λ (x : SeekState). x.number) begun.seek ∙ begun_number s.seek begun.commit.number s.last.points ∙ ap (λ (x : Commit). x.number) (same_commit begun.commit was.0 (sym begun.in_hand ∙ was.1)) ∙ sym was.2
 
 -- one goes on
 record IsToldAs (m : SeekState) (ask : Ask SeekAnswer) (f : Found) : Type 0 where

@@ -188,7 +188,7 @@ copies_next p s c granted else_next = if c.is_copied then else_next else copies 
 abbrev pub part_begun : Places → KeeperState → Commit → PhaseSaid → Bool → KeeperState
 part_begun p s c (Says phase.InProgress version) granted =
     if s.has_entered then copies_next p s c granted (turned s) else record s { enter = enter_begun s.enter c.number; step = Enters }
-part_begun p s c (Says phase.WaitPending version) granted = copies_next p s c granted (record s { seek = seek_begun s.seek c.number; has_points = false; step = Seeks })
+part_begun p s c (Says phase.WaitPending version) granted = copies_next p s c granted (record s { seek = seek_begun s.seek c.number s.last.points; has_points = false; step = Seeks })
 part_begun p s c (Says phase.WaitFlush version) granted = if s.has_points then record s { wait = wait_begun c.end c.epoch; step = Waits } else turned s
 part_begun p s c said granted = turned s
 

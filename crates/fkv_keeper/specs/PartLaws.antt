@@ -55,13 +55,14 @@ pub record IsEnterBegun (s : KeeperState) (event : KeeperEvent) (a : KeeperState
   pub not_entered : s.has_entered ≡ false
   pub enter : a.enter ≡ enter_begun s.enter commit.number
 
--- The points of the commit in hand, which is copied, are about to be sought, in wait-pending. None count as taken any more.
+-- The points of the commit in hand, which is copied, are about to be sought, in wait-pending. Their floors are the points of the newest
+-- finished commit. None count as taken any more.
 pub record IsSeekBegun (s : KeeperState) (event : KeeperEvent) (a : KeeperState) : Type 0 where
   pub phase : SaysPhase phase.WaitPending s event
   pub commit : Commit
   pub in_hand : s.commit ≡ Some commit
   pub copied : commit.is_copied ≡ true
-  pub seek : a.seek ≡ seek_begun s.seek commit.number
+  pub seek : a.seek ≡ seek_begun s.seek commit.number s.last.points
   pub anew : a.has_points ≡ false
 
 -- The flush up to the end of the commit in hand is about to be waited for, in wait-flush, and its points were taken.

@@ -203,7 +203,7 @@ impl Keeper {
             }
             PhaseSaid::Says(Phase::WaitPending, _) => {
                 if commit.is_copied {
-                    self.seek.start(commit.number);
+                    self.seek.start(commit.number, self.last.points.as_slice());
                     self.has_points = false;
                     self.step = Keeping::Seeks;
                 } else {

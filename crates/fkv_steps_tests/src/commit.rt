@@ -231,6 +231,8 @@ struct Search<'a> {
     words: &'a [(usize, u64)],
     sessions: usize,
     number: Version,
+    /// The points of the newest finished commit.
+    floor: &'a [Serial],
     /// The words that others store before the ask of this number.
     between: (usize, &'a [(usize, u64)]),
     asks: &'a [Ask<SeekAnswer>],
@@ -239,8 +241,8 @@ struct Search<'a> {
 }
 
 /// One session has left version 3, and another has slept through it, and its newer word says how far it came; a session wakes between
-/// the loads of its two words, of which the first is loaded again; and one owes an update still.
-const SEARCHES: [Search<'static>; 3] = [
+/// the loads of its two words, of which the first is loaded again; one owes an update still; and of one the words show less than its last point.
+const SEARCHES: [Search<'static>; 4] = [
     Search {
         words: &[
             (EPOCH, 4),
@@ -253,6 +255,7 @@ const SEARCHES: [Search<'static>; 3] = [
         ],
         sessions: 2,
         number: Version(3),
+        floor: &[Serial(5), Serial(6)],
         between: (0, &[]),
         asks: &[
             Ask::Load(27),
@@ -278,6 +281,7 @@ const SEARCHES: [Search<'static>; 3] = [
         words: &[(EPOCH, 4), (PHASE, 196610), (TAIL, 12)],
         sessions: 1,
         number: Version(1),
+        floor: &[],
         between: (5, &[(26, 8 + ONE), (25, 9 + 2 * ONE)]),
         asks: &[
             Ask::Load(27),
@@ -296,17 +300,36 @@ const SEARCHES: [Search<'static>; 3] = [
         words: &[(EPOCH, 4), (PHASE, 196610), (TAIL, 12), (43, 1)],
         sessions: 2,
         number: Version(1),
+        floor: &[],
         between: (0, &[]),
         asks: &[Ask::Load(27), Ask::Load(43), Ask::Done(SeekAnswer::Owing)],
         points: &[],
         left: &[(EPOCH, 4), (DRAIN, 0)],
     },
+    Search {
+        words: &[(EPOCH, 4), (PHASE, 196612), (TAIL, 12), (25, 4 + 2 * ONE)],
+        sessions: 1,
+        number: Version(3),
+        floor: &[Serial(5)],
+        between: (0, &[]),
+        asks: &[
+            Ask::Load(27),
+            Ask::Load(EPOCH),
+            Ask::Load(DRAIN),
+            Ask::Cas(DRAIN, 0, 1),
+            Ask::Load(26),
+            Ask::Load(25),
+            Ask::Store(PHASE, 262148),
+        ],
+        points: &[Serial(5)],
+        left: &[],
+    },
 ];
 
 fn is_made(rt: &impl Abort, plane: &mut PlainWords, search: &Search<'_>) {
-    assert!(rt; search.sessions <= 2);
+    assert!(rt; search.sessions <= 2 && search.floor.len() <= 2);
     let mut machine = SeekPoints::new(search.sessions);
-    let mut ask = machine.start(search.number);
+    let mut ask = machine.start(search.number, search.floor);
     for (number, wanted) in search.asks.iter().enumerate() {
         let (before, words) = search.between;
         if before == number {

@@ -151,14 +151,15 @@ pub record SleptAt (version point own_word before_word : ℕ) : Type 0 where
   pub own : own_word ≡ cut_at point version
   pub before : before_word ≡ cut_at serial (version - 1)
 
--- The first word is the cut of the version at the point; or the session sleeps since an earlier version, whose cut one of the words is.
-pub data ShowsPoint (version point first other : ℕ) : Type 0 where
-  SaysFirst : first ≡ cut_at point version → ShowsPoint version point first other
-  SleepsSince : (at : ℕ) → at < version → SleptAt at point first other ⊎ SleptAt at point other first → ShowsPoint version point first other
+-- The first word is the cut of the version at the point; or the session sleeps since an earlier version, whose cut one of the words is. Then its
+-- point is that of the version before.
+pub data ShowsPoint (version before point first other : ℕ) : Type 0 where
+  SaysFirst : first ≡ cut_at point version → ShowsPoint version before point first other
+  SleepsSince : (at : ℕ) → at < version → before ≡ point → SleptAt at point first other ⊎ SleptAt at point other first → ShowsPoint version before point first other
 
 -- in wait-pending they show the point of the commit's number
 abbrev pub CutsShowPoints : Type 0
 CutsShowPoints =
     (opening : World) (start : ℕ) (events : List Event) (version session : ℕ) (first its : SessionState) → OpensQuiet opening start → ShowCuts opening.now → HasBecome opening events session first its
     → rank_now opening events ≡ pending_rank version
-    → ShowsPoint version (point opening events session version) (word_now opening events (session_place session (cut_of version))) (word_now opening events (session_place session (other_cut_of version)))
+    → ShowsPoint version (point opening events session (version - 1)) (point opening events session version) (word_now opening events (session_place session (cut_of version))) (word_now opening events (session_place session (other_cut_of version)))

@@ -30,7 +30,7 @@ pub fn law_versions_end()
 
 /// While the phase is wait-pending, a session's two cut words show its point of the commit's number. Either the first is the cut of that version at the point: the
 /// session has left it, or has told so as it wakes. Or one of the two is the cut of an earlier version at the point, and the other that of the version before
-/// it, at no later serial: the session sleeps since then.
+/// it, at no later serial: the session sleeps since then. Then its point is that of the version before the commit's.
 pub fn law_cuts_show_points()
     ensures { said.CutsShowPoints }
 {

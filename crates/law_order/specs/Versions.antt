@@ -1,5 +1,5 @@
 -- What the laws of versions, of how they end and of points say of the lives of opened stores, in the words of `law_commit`.
-use Rattle.std.specs.Prelude.{◌≡◌, ◌≤◌, ◌∷◌, ◌++◌, ℕ, List, Some, true}
+use Rattle.std.specs.Prelude.{◌≡◌, ◌-◌, ◌≤◌, ◌∷◌, ◌++◌, ℕ, List, Some, true}
 use Rattle.law_commit.specs.Below.fkv_commit.Commit.{Commit}
 use Rattle.fkv_map.specs.History.{point_of}
 use Rattle.law_commit.specs.Below.fkv_session.InOrder.{owing_place}
@@ -123,7 +123,7 @@ BegunFlush opening events = (c : BegunCommit) → IsIn c (life_begun opening eve
 -- in wait-pending the two cut words of a session show its point of the commit's number
 abbrev pub CutsShowItsPoint : World → List Event → ℕ → SessionState → SessionState → Type 0
 CutsShowItsPoint opening events session first its =
-    (version : ℕ) → rank_now opening events ≡ pending_rank version → ShowsPoint version (point opening events session version) (first_cut opening events session version) (other_cut opening events session version)
+    (version : ℕ) → rank_now opening events ≡ pending_rank version → ShowsPoint version (point opening events session (version - 1)) (point opening events session version) (first_cut opening events session version) (other_cut opening events session version)
 
 -- as long as it is wait-pending, the first stays or becomes the cut at that point, and the other stays or becomes one of a later version
 abbrev pub ItsCutsGoOn : World → List Event → ℕ → SessionState → SessionState → Type 0

@@ -4,6 +4,7 @@ use Rattle.std.specs.Prelude.{⊤, [], ◌∷◌, ◌++◌, length, Option, Some
 use Rattle.fkv_base.specs.declared.commits.CommitKind.{CommitKind}
 use Rattle.fkv_base.specs.declared.faults.Fault.{Fault}
 use Rattle.fkv_base.specs.declared.faults.Fault.TheVariants as fault
+use Rattle.fkv_base.specs.declared.numbers.Serial.{Serial}
 use Rattle.fkv_base.specs.declared.numbers.Version.{Version}
 use Rattle.fkv_base.specs.declared.phases.Phase.TheVariants as phase
 use Rattle.fkv_base.specs.declared.shapes.Shape.{Shape}
@@ -104,14 +105,15 @@ enter_last s told knows e =
 pub record SeekKnows (s : SeekState) (told : List Exchange) : Type 0 where
   pub opening : SeekState
   pub number : Version
+  pub floor : List Serial
   pub replies : List ℕ
   pub before : List Exchange
-  pub is : s ≡ sought opening number replies
-  pub its : told ≡ seek_told opening number replies ++ before
+  pub is : s ≡ sought opening number floor replies
+  pub its : told ≡ seek_told opening number floor replies ++ before
 
-seek_begins : (s : SeekState) (number : Version) (told : List Exchange) → SeekKnows (seek_begun s number) told
+seek_begins : (s : SeekState) (number : Version) (floor : List Serial) (told : List Exchange) → SeekKnows (seek_begun s number floor) told
 unfolding run_of exchanges
-seek_begins s number told = record { opening = s; number = number; replies = []; before = told; is = refl; its = refl }
+seek_begins s number floor told = record { opening = s; number = number; floor = floor; replies = []; before = told; is = refl; its = refl }
 
 seek_replied : (s : SeekState) (told : List Exchange) (reply : ℕ) → SeekKnows s told → SeekKnows (seek_next s reply) (exchanged (seek_ask s) reply told)
 unfolding run_of exchanges
@@ -122,8 +124,8 @@ seek_replied s told reply knows = record {
   before = knows.before;
   is = ap (λ (x : SeekState). seek_next x reply) knows.is;
   its = ap (λ (x : SeekState). exchanged (seek_ask x) reply told) knows.is
-      ∙ (ap (λ (x : List Exchange). exchanged (seek_ask (sought knows.opening knows.number knows.replies)) reply x) knows.its
-      ∙ told_behind (seek_ask (sought knows.opening knows.number knows.replies)) reply (seek_told knows.opening knows.number knows.replies) knows.before);
+      ∙ (ap (λ (x : List Exchange). exchanged (seek_ask (sought knows.opening knows.number knows.floor knows.replies)) reply x) knows.its
+      ∙ told_behind (seek_ask (sought knows.opening knows.number knows.floor knows.replies)) reply (seek_told knows.opening knows.number knows.floor knows.replies) knows.before);
 }
 
 seek_at_end : (s : SeekState) (step : Seeking) → seeking_ask s step ≡ Done seek.EpochsSpent → step ≡ seeks.Ended seek.EpochsSpent
@@ -135,9 +137,9 @@ seek_at_end s step e = absurd (cc)
 
 seek_last : (s : SeekState) (told : List Exchange) → SeekKnows s told → seek_ask s ≡ Done seek.EpochsSpent → WasEpochLast told
 seek_last s told knows e =
-    let at : (sought knows.opening knows.number knows.replies).step ≡ seeks.Ended seek.EpochsSpent = sym (ap (λ (x : SeekState). x.step) knows.is) ∙ seek_at_end s s.step e in
+    let at : (sought knows.opening knows.number knows.floor knows.replies).step ≡ seeks.Ended seek.EpochsSpent = sym (ap (λ (x : SeekState). x.step) knows.is) ∙ seek_at_end s s.step e in
     let end = seeks_end knows.opening knows.number knows.replies seek.EpochsSpent at in
-    last_first (seek_told knows.opening knows.number knows.replies) told knows.before knows.its end.2
+    last_first (seek_told knows.opening knows.number knows.floor knows.replies) told knows.before knows.its end.2
 
 -- ---- while a call is in hand
 abbrev pub During : Option CommitKind → KeeperState → Keeping → List Exchange → Type 0
@@ -261,7 +263,7 @@ module _ (before : List KeeperEvent) (was : KeeperState) (event : KeeperEvent) (
   part_led p s c (Says phase.InProgress version) granted works refused =
       either s.has_entered _ _ (next_led p s c granted (turned s) works (over s works) refused) (record { broken = works; comes = enter_begins s.enter c.number told })
   part_led p s c (Says phase.WaitPending version) granted works refused =
-      next_led p s c granted (record s { seek = seek_begun s.seek c.number; has_points = false; step = Seeks }) works (record { broken = works; comes = seek_begins s.seek c.number told }) refused
+      next_led p s c granted (record s { seek = seek_begun s.seek c.number s.last.points; has_points = false; step = Seeks }) works (record { broken = works; comes = seek_begins s.seek c.number s.last.points told }) refused
   part_led p s c (Says phase.WaitFlush version) granted works refused = either s.has_points _ _ (record { broken = works; comes = tt }) (over s works)
   part_led p s c said granted works refused = over s works
 

@@ -37,7 +37,7 @@ use Rattle.law_refine.specs.Below.fkv_commit.Cuts.{serial_said, version_said}
 use Rattle.law_refine.specs.Below.fkv_commit.Deferring.{defer_ask, defer_begun, defer_next}
 use Rattle.law_refine.specs.Below.fkv_commit.Entering.{enter_ask, enter_begun, enter_next}
 use Rattle.law_refine.specs.Below.fkv_commit.Finishing.{finish_ask, finish_next}
-use Rattle.law_refine.specs.Below.fkv_commit.Seeking.{SeekState, defer_led, owing_from, point_taken, points_from, seek_ask, seek_begun, seek_next, seeking_ask, seeking_next, slot_led}
+use Rattle.law_refine.specs.Below.fkv_commit.Seeking.{SeekState, defer_led, owing_from, point_taken, with_point, points_from, seek_ask, seek_begun, seek_next, seeking_ask, seeking_next, slot_led}
 use Rattle.law_refine.specs.Below.fkv_commit.Starting.{StartState, defer_led as start_led, is_lost_full, phase_found, refused, seek_led, start_ask, start_begun, start_next, starting_ask, starting_next}
 use Rattle.law_refine.specs.Below.fkv_commit.Waiting.{wait_ask, wait_begun, wait_next}
 use Rattle.law_refine.specs.Below.fkv_manifest.WriteAnswer.{WriteAnswer}
@@ -238,20 +238,20 @@ module _ (F : Version → Addr → Type 0) (E : Span → Type 0) where
   owing_ends : (commit : Option Commit) (copy : Option Copier) (s : SeekState) (session : ℕ) → SeekEnds commit copy (owing_from s session).step
   owing_ends commit copy s session = either_seek commit copy (nat_lt session s.sessions) (record s { step = seek.LoadsOwing session }) (record s { defer = defer_begun s.defer; step = seek.SeeksSlot }) tt tt
 
-  seeks_ends : (s : KeeperState) (c : Commit) → s.is_broken ≡ false → s.commit ≡ Some c → Hand s → c.is_copied ≡ true → KeeperEnds (record s { seek = seek_begun s.seek c.number; has_points = false; step = Seeks })
+  seeks_ends : (s : KeeperState) (c : Commit) → s.is_broken ≡ false → s.commit ≡ Some c → Hand s → c.is_copied ≡ true → KeeperEnds (record s { seek = seek_begun s.seek c.number s.last.points; has_points = false; step = Seeks })
   seeks_ends s c works in_hand hand is_copied = record {
     works = works;
     none_yet = refl;
     first = hand.first;
     copied = λ d is. subst (λ (x : Commit). x.is_copied ≡ true) (some_same (sym in_hand ∙ is)) is_copied;
-    ends = owing_ends s.commit s.copy (record s.seek { number = c.number; points = [] }) 0;
+    ends = owing_ends s.commit s.copy (record s.seek { number = c.number; floor = s.last.points; points = [] }) 0;
   }
 
   part_ends : (p : Places) (s : KeeperState) (c : Commit) (said : PhaseSaid) (granted : Bool) → s.commit ≡ Some c → s.is_broken ≡ false → Hand s → KeeperEnds (part_begun p s c said granted)
   part_ends p s c (Says phase.InProgress version) granted in_hand works hand =
       either_ends s.has_entered (copies_next p s c granted (turned s)) (record s { enter = enter_begun s.enter c.number; step = Enters }) (λ yes. copies_next_ends p s c granted (turned s) in_hand hand (λ is_copied. (λ still. hand))) (λ no. hand)
   part_ends p s c (Says phase.WaitPending version) granted in_hand works hand =
-      copies_next_ends p s c granted (record s { seek = seek_begun s.seek c.number; has_points = false; step = Seeks }) in_hand hand (seeks_ends s c works in_hand hand)
+      copies_next_ends p s c granted (record s { seek = seek_begun s.seek c.number s.last.points; has_points = false; step = Seeks }) in_hand hand (seeks_ends s c works in_hand hand)
   part_ends p s c (Says phase.WaitFlush version) granted in_hand works hand =
       either_ends s.has_points (record s { wait = wait_begun c.end c.epoch; step = Waits }) (turned s) (λ yes. (yes, hand)) (λ no. (λ still. hand))
   part_ends p s c (Says phase.Rest version) granted in_hand works hand = λ still. hand
@@ -285,7 +285,7 @@ module _ (F : Version → Addr → Type 0) (E : Span → Type 0) where
   points_ends commit copy s = either_seek commit copy (nat_lt (length s.points) s.sessions) (record s { step = seek.LoadsCut }) (record s { step = seek.StoresWaitFlush }) tt tt
 
   taken_ends : (commit : Option Commit) (copy : Option Copier) (s : SeekState) (serial : ℕ) → SeekEnds commit copy (point_taken s serial).step
-  taken_ends commit copy s serial = points_ends commit copy (record s { points = s.points ++ record { 0 = serial } ∷ [] })
+  taken_ends commit copy s serial = points_ends commit copy (with_point s serial)
 
   held_ends : (commit : Option Commit) (copy : Option Copier) (s : SeekState) (ask : Ask DeferAnswer) → s.step ≡ seek.SeeksSlot → SeekEnds commit copy (slot_led s ask).step
   unfolding slot_led

@@ -101,8 +101,8 @@ part_fits : (g : Ground) (p : Places) (s : KeeperState) (c : Commit) (said : Pha
 part_fits g p s c (Says phase.InProgress version) granted is hand =
     either_fits g s.has_entered (copies_next p s c granted (turned s)) (record s { enter = enter_begun s.enter c.number; step = Enters }) (λ yes. copies_next_fits g p s c granted (turned s) hand (ended_fits g s _ hand)) (λ no. record { hand = hand; step = tt })
 part_fits g p s c (Says phase.WaitPending version) granted is hand =
-    copies_next_fits g p s c granted (record s { seek = seek_begun s.seek c.number; has_points = false; step = Seeks }) hand
-    (record { hand = record { first = hand.first; points = λ other in_hand yes. cc }; step = owing_fits g (record s.seek { number = c.number; points = [] }) 0 })
+    copies_next_fits g p s c granted (record s { seek = seek_begun s.seek c.number s.last.points; has_points = false; step = Seeks }) hand
+    (record { hand = record { first = hand.first; points = λ other in_hand yes. cc }; step = owing_fits g (record s.seek { number = c.number; floor = s.last.points; points = [] }) 0 })
 part_fits g p s c (Says phase.WaitFlush version) granted is hand =
     either_fits g s.has_points (record s { wait = wait_begun c.end c.epoch; step = Waits }) (turned s) (λ yes. record { hand = hand; step = (yes, hand.points c is yes) }) (λ no. ended_fits g s _ hand)
 part_fits g p s c (Says phase.Rest version) granted is hand = ended_fits g s _ hand

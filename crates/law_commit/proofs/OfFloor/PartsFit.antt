@@ -44,7 +44,7 @@ use Rattle.law_refine.specs.Below.fkv_commit.Deferring.{DeferState, arm_ledto, a
 use Rattle.law_refine.specs.Below.fkv_commit.Entering as entering
 use Rattle.law_refine.specs.Below.fkv_commit.Entering.{EnterState, entering_next}
 use Rattle.law_refine.specs.Below.fkv_commit.Seeking as seeking
-use Rattle.law_refine.specs.Below.fkv_commit.Seeking.{SeekState, cut_met, other_met, owing_from, point_taken, points_from, seeking_ask, seeking_next, slot_led}
+use Rattle.law_refine.specs.Below.fkv_commit.Seeking.{SeekState, cut_met, other_met, owing_from, point_taken, with_point, points_from, seeking_ask, seeking_next, slot_led}
 use Rattle.law_refine.specs.Below.fkv_commit.Starting as starting
 use Rattle.law_refine.specs.Below.fkv_commit.Starting.{StartState, is_lost_full, phase_found, starting_ask, starting_next}
 use Rattle.law_refine.specs.Below.fkv_commit.Waiting.{WaitState, waiting_next}
@@ -296,7 +296,7 @@ points_fit : (g : Ground) (s : SeekState) → SeekFits g (points_from s) (points
 points_fit g s = seek_either g (nat_lt (length s.points) s.sessions) (record s { step = seek.LoadsCut }) (record s { step = seek.StoresWaitFlush }) tt tt
 
 taken_fits : (g : Ground) (s : SeekState) (serial : ℕ) → SeekFits g (point_taken s serial) (point_taken s serial).step
-taken_fits g s serial = points_fit g (record s { points = s.points ++ record { 0 = serial } ∷ [] })
+taken_fits g s serial = points_fit g (with_point s serial)
 
 slot_fits : (g : Ground) (s : SeekState) (ask : Ask DeferAnswer) → s.step ≡ seek.SeeksSlot → SeekFits g (slot_led s ask) (slot_led s ask).step
 unfolding slot_led

@@ -1,9 +1,10 @@
 -- Each reply to a part of a commit leaves it at the stage to which it leads.
-use Rattle.std.proofs.Common.{◌≡◌, ◌⊎◌, inl, ℕ, ◌+◌, ◌<◌, ◌∙◌, ◌∷◌, [], ◌++◌, length, refl, arith, sym, ap, subst, Bool, true, false}
+use Rattle.std.proofs.Common.{◌≡◌, ◌⊎◌, inl, ℕ, ◌+◌, ◌<◌, ◌∙◌, List, ◌∷◌, [], ◌++◌, length, refl, arith, sym, ap, subst, Bool, true, false}
 use Rattle.std.specs.Prelude.{⊤, if◌then◌else◌, nat_le, nat_lt, ◌==◌, max}
 use Rattle.std.proofs.lemmas.Bool.Decides.{nat_tests}
 use Rattle.fkv_base.specs.Limits.{last_version}
 use Rattle.fkv_base.specs.declared.numbers.Addr.{Addr}
+use Rattle.fkv_base.specs.declared.numbers.Serial.{Serial}
 use Rattle.fkv_base.specs.declared.numbers.Version.{Version}
 use Rattle.fkv_base.specs.declared.phases.Phase.TheVariants.{InProgress, WaitPending}
 use Rattle.fkv_words.specs.declared.phase_words.PhaseSaid.{PhaseSaid}
@@ -33,7 +34,7 @@ use Rattle.law_refine.specs.Below.fkv_commit.Deferring.{DeferState, defer_begun,
 use Rattle.law_refine.specs.Below.fkv_commit.Entering as entering
 use Rattle.law_refine.specs.Below.fkv_commit.Entering.{EnterState, entering_next}
 use Rattle.law_refine.specs.Below.fkv_commit.Seeking as seeking
-use Rattle.law_refine.specs.Below.fkv_commit.Seeking.{SeekState, owing_from, points_from, point_taken, slot_led, cut_met, other_met, seeking_next}
+use Rattle.law_refine.specs.Below.fkv_commit.Seeking.{SeekState, owing_from, points_from, point_taken, with_point, slot_led, cut_met, other_met, seeking_next}
 use Rattle.law_refine.specs.Below.fkv_commit.Cuts.{version_said, serial_said}
 use Rattle.law_refine.specs.Below.fkv_commit.Starting as starting
 use Rattle.law_refine.specs.Below.fkv_commit.Starting.{StartState, is_lost_full, phase_found, starting_next}
@@ -250,14 +251,14 @@ seek_stays number stage s step at same is = record { same = same; at = subst (λ
 owing_at : (number : Version) (stage : Stage) (s : SeekState) (session : ℕ) → s.number ≡ number → stage ≡ Pends → SeeksAt number stage (owing_from s session)
 owing_at number stage s session same is = seek_either number stage (nat_lt session s.sessions) (record s { step = seek.LoadsOwing session }) (record s { defer = defer_begun s.defer; step = seek.SeeksSlot }) (record { same = same; at = is }) (record { same = same; at = (is, refl) })
 
-pub seek_begins : (number : Version) (stage : Stage) (s : SeekState) (its : Version) → its ≡ number → stage ≡ Pends → SeeksAt number stage (seeking.seek_begun s its)
-seek_begins number stage s its same is = owing_at number stage (record s { number = its; points = [] }) 0 same is
+pub seek_begins : (number : Version) (stage : Stage) (s : SeekState) (its : Version) (floor : List Serial) → its ≡ number → stage ≡ Pends → SeeksAt number stage (seeking.seek_begun s its floor)
+seek_begins number stage s its floor same is = owing_at number stage (record s { number = its; floor = floor; points = [] }) 0 same is
 
 points_at : (number : Version) (stage : Stage) (s : SeekState) → s.number ≡ number → stage ≡ Pends → s.defer.step ≡ defer.Holds → SeeksAt number stage (points_from s)
 points_at number stage s same is holds = seek_either number stage (nat_lt (length s.points) s.sessions) (record s { step = seek.LoadsCut }) (record s { step = seek.StoresWaitFlush }) (record { same = same; at = (is, holds) }) (record { same = same; at = (is, holds) })
 
 taken_at : (number : Version) (stage : Stage) (s : SeekState) (serial : ℕ) → s.number ≡ number → stage ≡ Pends → s.defer.step ≡ defer.Holds → SeeksAt number stage (point_taken s serial)
-taken_at number stage s serial same is holds = points_at number stage (record s { points = s.points ++ record { 0 = serial } ∷ [] }) same is holds
+taken_at number stage s serial same is holds = points_at number stage (with_point s serial) same is holds
 
 slot_at : (number : Version) (stage : Stage) (s : SeekState) (ask : Ask DeferAnswer) → s.step ≡ seek.SeeksSlot → s.number ≡ number → stage ≡ Pends → SoughtAt s.defer ask → SeeksAt number stage (slot_led s ask)
 unfolding slot_led

@@ -218,7 +218,7 @@ copies_next_none p s c granted other none = either_none c.is_copied other (copie
 part_none : (p : Places) (s : KeeperState) (c : Commit) (said : PhaseSaid) (granted : Bool) → HasNone (part_begun p s c said granted)
 part_none p s c (Says phase.InProgress version) granted =
     either_none s.has_entered (copies_next p s c granted (turned s)) (record s { enter = enter_begun s.enter c.number; step = Enters }) (copies_next_none p s c granted (turned s) refl) refl
-part_none p s c (Says phase.WaitPending version) granted = copies_next_none p s c granted (record s { seek = seek_begun s.seek c.number; has_points = false; step = Seeks }) refl
+part_none p s c (Says phase.WaitPending version) granted = copies_next_none p s c granted (record s { seek = seek_begun s.seek c.number s.last.points; has_points = false; step = Seeks }) refl
 part_none p s c (Says phase.WaitFlush version) granted = either_none s.has_points (record s { wait = wait_begun c.end c.epoch; step = Waits }) (turned s) refl refl
 part_none p s c said granted = refl
 

@@ -191,8 +191,8 @@ module _ (number : Version) (p : Places) (s : KeeperState) (c : Commit) (in_hand
   part_at Progresses has early = enters_at Progresses has (λ no. refl) early
   part_at DefersPending has early = enters_at DefersPending has (λ no. let clash : false ≡ true = early no in cc) early
   part_at Pends has early =
-      let begun : SeeksAt number Pends (seek_begun s.seek c.number) = seek_begins number Pends s.seek c.number (has.hand c in_hand).0 refl in
-      copies_next_at number Pends p s c granted (record s { seek = seek_begun s.seek c.number; has_points = false; step = Seeks }) has early
+      let begun : SeeksAt number Pends (seek_begun s.seek c.number s.last.points) = seek_begins number Pends s.seek c.number s.last.points (has.hand c in_hand).0 refl in
+      copies_next_at number Pends p s c granted (record s { seek = seek_begun s.seek c.number s.last.points; has_points = false; step = Seeks }) has early
       (record { has = record { next = has.next; hand = has.hand }; early = early; step = (begun.same, begun.at) })
   part_at Flushes has early =
       either_at number Flushes s.has_points (record s { wait = wait_begun c.end c.epoch; step = Waits }) (turned s)

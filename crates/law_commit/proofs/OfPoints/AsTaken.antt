@@ -101,7 +101,7 @@ module _ (count : ℕ) where
 
   run_has : (shape : Shape) (p : Places) (opening : KeeperState) (events : List KeeperEvent) → IsOpened opening → opening.seek.sessions ≡ count → Has (keeper_run shape p opening events)
   unfolding keeper_run
-  run_has shape p opening [] opened sessions = opened_takes count Met Again Met opening opening.step refl opened.none_in_hand opened.no_commit sessions
+  run_has shape p opening [] opened sessions = opened_takes count Met Again Met opening opening.step refl opened.none_in_hand opened.no_commit sessions (λ session low. tt)
   run_has shape p opening (event ∷ before) opened sessions = event_has shape p (keeper_run shape p opening before) event (run_has shape p opening before opened sessions)
 
   run_points : (shape : Shape) (p : Places) (opening : KeeperState) (events : List KeeperEvent) → IsOpened opening → opening.seek.sessions ≡ count → HasPoints (keeper_run shape p opening events) (keeper_run shape p opening events).step

@@ -17,20 +17,12 @@ use Rattle.law_commit.specs.Decided.Ended.{Span}
 use Rattle.law_commit.specs.Floor.Stands.{PaperIsSound}
 use Rattle.law_commit.specs.Points.{ArePointsOf, BegunHavePoints, OpensPointed}
 use Rattle.law_commit.specs.Quiet.{CutsShowPoints, LiveAreLater, pending_rank, rank_now, rank_said}
+use Rattle.law_commit.proofs.OfPoints.Rises.{point_opens}
 use Rattle.law_commit.proofs.OfPoints.Taken.{takes_points, writes_taken}
 use Rattle.law_commit.proofs.AllBegun.{AllBegun, event_begun, one_of, opened_begun, weaker}
 use Rattle.law_commit.proofs.OfQuiet.Begun.{written}
 use Rattle.law_commit.proofs.OfQuiet.Points.{points_stay}
 use Rattle.law_commit.proofs.OfQuiet.Ranks.{ranks_rise}
-
--- as a life begins a session's point of any version is its serial
-pub point_opens : (opening : World) (session version : ℕ) → point opening [] session version ≡ serial_at opening.now session
-unfolding session_events versions_taken
-point_opens opening session version = by_found (slice_get opening.now.sessions session) refl
-  where
-    by_found : (found : Option SessionState) → slice_get opening.now.sessions session ≡ found → point opening [] session version ≡ serial_at opening.now session
-    by_found None none = rw none refl
-    by_found (Some first) found = rw found (omega arith)
 
 module _ (live : LiveAreLater) (paper_sound : PaperIsSound) (cuts_show : CutsShowPoints) (opening : World) (start : ℕ) (opens : OpensPointed opening start) where
   -- from wait-pending on a point stays, of whatever session
@@ -56,7 +48,7 @@ module _ (live : LiveAreLater) (paper_sound : PaperIsSound) (cuts_show : CutsSho
   writes_pointed : (events : List Event) → (run opening events).now.keeper.step ≡ Writes → (c : Commit) → (run opening events).now.keeper.commit ≡ Some c → Pointed events c.number.0 (run opening events).now.keeper.seek.points
   writes_pointed events writes c in_hand =
       let flushed = written opening start opens.quiet events writes c in_hand in
-      let has_them = writes_taken live paper_sound cuts_show opening start opens.quiet opens.cuts events writes in
+      let has_them = writes_taken live paper_sound cuts_show opening start opens.quiet opens.cuts opens.points events writes in
       (omega (arith, flushed), takes_points live paper_sound cuts_show opening start events c opens in_hand has_them)
 
   -- so has each that has begun

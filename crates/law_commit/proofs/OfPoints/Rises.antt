@@ -66,6 +66,15 @@ event_rises opening event before session version = by_found (slice_get opening.n
     by_found None none = rw none (omega arith)
     by_found (Some first) found = rw (found_so opening before session first found, found_so opening (event ∷ before) session first found) (more (serial_at opening.now session) _ _ (run_more version (seat_at opening.now session) first _ (session_events opening session before)))
 
+-- as a life begins a session's point of any version is its serial
+pub point_opens : (opening : World) (session version : ℕ) → point opening [] session version ≡ serial_at opening.now session
+unfolding session_events versions_taken
+point_opens opening session version = by_found (slice_get opening.now.sessions session) refl
+  where
+    by_found : (found : Option SessionState) → slice_get opening.now.sessions session ≡ found → point opening [] session version ≡ serial_at opening.now session
+    by_found None none = rw none refl
+    by_found (Some first) found = rw found (omega arith)
+
 -- ---- what it has given
 pub point_given : (opening : World) (events : List Event) (session version : ℕ) (first its : SessionState) → HasBecome opening events session first its → point opening events session version ≤ its.serial
 point_given opening events session version first its became =

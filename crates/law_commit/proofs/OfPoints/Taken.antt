@@ -1,6 +1,7 @@
 -- In a life the points that the keeper takes are the sessions' points of the commit's number.
-use Rattle.std.proofs.Common.{◌≡◌, ◌⊎◌, inl, inr, ℕ, zero, suc, ◌<◌, ◌≤◌, ◌∙◌, List, [], ◌∷◌, length, refl, arith, ap, sym, subst, true}
+use Rattle.std.proofs.Common.{◌≡◌, ◌⊎◌, inl, inr, ℕ, zero, suc, ◌-◌, ◌<◌, ◌≤◌, ◌∙◌, List, [], ◌∷◌, length, refl, arith, ap, sym, subst, true}
 use Rattle.std.specs.Prelude.{max, Option, Some, None, slice_get}
+use Rattle.std.proofs.Math.Nat.{max-eq_right}
 use Rattle.std.proofs.lemmas.Option.{slice_get_within}
 use Rattle.fkv_base.specs.Limits.{last_serial, last_version}
 use Rattle.fkv_base.specs.declared.numbers.Serial.{Serial}
@@ -16,7 +17,7 @@ use Rattle.fkv_plane.specs.Places.{session_place}
 use Rattle.law_refine.specs.Below.fkv_commit.TheSeeking.{Seeking}
 use Rattle.law_refine.specs.Below.fkv_commit.TheSeeking.TheVariants as seek
 use Rattle.law_refine.specs.Below.fkv_commit.Cuts.{cut_of, other_cut_of, serial_said, version_said}
-use Rattle.law_refine.specs.Below.fkv_commit.Seeking.{seeking_ask}
+use Rattle.law_refine.specs.Below.fkv_commit.Seeking.{floor_of, seeking_ask}
 use Rattle.law_refine.specs.Below.fkv_keeper.KeeperTold.{KeeperTold}
 use Rattle.law_refine.specs.Below.fkv_keeper.TheKeeping.{Keeping}
 use Rattle.law_refine.specs.Below.fkv_keeper.TheKeeping.TheVariants.{Ended, Starts, Maintains, LoadsPhase, Enters, Copies, Seeks, Waits, Writes, Finishes}
@@ -34,15 +35,17 @@ use Rattle.law_refine.proofs.Below.fkv_world.Shown.{session_runs}
 use Rattle.law_refine.proofs.Below.law_world.OfSessions.OwnRun.{opened_so}
 use Rattle.law_commit.specs.Accepted.{point, versions_found}
 use Rattle.law_commit.specs.Cuts.{ShowCuts}
+use Rattle.law_commit.specs.LastSerials.{serial_at}
 use Rattle.law_commit.specs.Floor.Stands.{PaperIsSound, stage_number}
 use Rattle.law_commit.specs.Phases.Staged.{IsStaged, Pends, SeekAt, Stage, StepAt}
 use Rattle.law_commit.specs.Points.{ArePointsOf, TakesPoints, first_cut, other_cut}
-use Rattle.law_commit.specs.Quiet.{CutsShowPoints, LiveAreLater, OpensQuiet, ShowsPoint, pending_rank, rank_now}
+use Rattle.law_commit.specs.Quiet.{CutsShowPoints, LiveAreLater, OpensQuiet, ShowsPoint, pending_rank, rank_now, rank_said}
 use Rattle.law_commit.proofs.Counted.{life_counted}
 use Rattle.law_commit.proofs.OfCuts.Fits.{run_fits}
 use Rattle.law_commit.proofs.OfPhases.LifeStages.{event_on, life_staged}
 use Rattle.law_commit.proofs.OfPhases.StageMoves.{LedOn, QuietKeeper, Quietly, RunBySession}
 use Rattle.law_commit.proofs.OfPoints.GoOn.{event_goes, few}
+use Rattle.law_commit.proofs.OfPoints.Rises.{point_opens, rises_by_version}
 use Rattle.law_commit.proofs.OfPoints.Taking.{AreTaken, KeeperTakes, KeepingReply, KeepingTakes, SeekReply, StepTakes, asked_takes, called_takes, commit_takes, given_takes, has_taken, opened_takes, replied_takes, takes_on, turn_takes}
 use Rattle.law_commit.proofs.OfPoints.Words.{Meets, again_says, first_meets, first_says, goes_again, other_says, still_meets, still_says}
 use Rattle.law_commit.proofs.OfQuiet.Left.{put_no_load}
@@ -66,6 +69,11 @@ point_there [] session it got = cc
 point_there (x ∷ rest) zero it got = let same : x ≡ it = cc in ap (λ (y : Serial). y.0) same
 point_there (x ∷ rest) (suc i) it got = point_there rest i it got
 
+floor_point : (points : List Serial) (session : ℕ) → floor_of points session ≡ point_of points session
+floor_point [] session = refl
+floor_point (x ∷ rest) zero = refl
+floor_point (x ∷ rest) (suc i) = floor_point rest i
+
 pub point_past : (points : List Serial) (session : ℕ) → length points ≤ session → point_of points session ≡ 0
 point_past [] session past = refl
 point_past (x ∷ rest) zero past = absurd (omega (arith, past))
@@ -84,7 +92,8 @@ asks_again : (shape : Shape) (p : Places) (s : KeeperState) → s.step ≡ Seeks
 unfolding keeping_ask seeking_ask passed
 asks_again shape p s at loads = rw (at, loads) refl
 
-module _ (live : LiveAreLater) (paper_sound : PaperIsSound) (cuts_show : CutsShowPoints) (opening : World) (start : ℕ) (opens : OpensQuiet opening start) (shows : ShowCuts opening.now) where
+module _ (live : LiveAreLater) (paper_sound : PaperIsSound) (cuts_show : CutsShowPoints) (opening : World) (start : ℕ) (opens : OpensQuiet opening start) (shows : ShowCuts opening.now)
+    (opens_points : (session : ℕ) → point_of opening.now.keeper.last.points session ≡ serial_at opening.now session) where
   abbrev count : ℕ
   count = opening.now.places.sessions
 
@@ -116,7 +125,7 @@ module _ (live : LiveAreLater) (paper_sound : PaperIsSound) (cuts_show : CutsSho
   become events session first was = record { opened = opens.opened; was = was; is_now = session_runs opening session first events was }
 
   shown : (events : List Event) (version session : ℕ) (first : SessionState) → slice_get opening.now.sessions session ≡ Some first → rank_now opening events ≡ pending_rank version
-      → ShowsPoint version (At events version session) (first_cut opening events session version) (other_cut opening events session version)
+      → ShowsPoint version (At events (version - 1) session) (At events version session) (first_cut opening events session version) (other_cut opening events session version)
   shown events version session first was rank = cuts_show opening start events version session first _ opens shows (become events session first was) rank
 
   -- a point is a serial
@@ -150,9 +159,9 @@ module _ (live : LiveAreLater) (paper_sound : PaperIsSound) (cuts_show : CutsSho
               let rank = still_pends version its.from here in
               let goes = event_goes live paper_sound opening start before version session first opens was rank event in
               let same = same_point version session first was its.from in
-              let shows_now = subst (λ (n : ℕ). ShowsPoint version n (first_cut opening (event ∷ before) session version) (other_cut opening (event ∷ before) session version)) same (shown (event ∷ before) version session first was here) in
+              let shows_now = subst (λ (n : ℕ). ShowsPoint version (At (event ∷ before) (version - 1) session) n (first_cut opening (event ∷ before) session version) (other_cut opening (event ∷ before) session version)) same (shown (event ∷ before) version session first was here) in
               subst (λ (n : ℕ). Meets version n word (first_cut opening (event ∷ before) session version) (other_cut opening (event ∷ before) session version)) (sym same)
-              (still_meets version (At before version session) (small before version session first was) word (first_cut opening before session version) (other_cut opening before session version) (first_cut opening (event ∷ before) session version)
+              (still_meets version (At (event ∷ before) (version - 1) session) (At before version session) (small before version session first was) word (first_cut opening before session version) (other_cut opening before session version) (first_cut opening (event ∷ before) session version)
               (other_cut opening (event ∷ before) session version) goes.first goes.other shows_now (its.meets first was rank));
         }
 
@@ -166,7 +175,7 @@ module _ (live : LiveAreLater) (paper_sound : PaperIsSound) (cuts_show : CutsSho
               let rank = still_pends version its.from here in
               let goes = event_goes live paper_sound opening start before version session first opens was rank event in
               let same = same_point version session first was its.from in
-              still_says version (At before version session) (small before version session first was) (first_cut opening before session version) (first_cut opening (event ∷ before) session version) goes.first (its.says first was rank)
+              still_says version (At before (version - 1) session) (At before version session) (small before version session first was) (first_cut opening before session version) (first_cut opening (event ∷ before) session version) goes.first (its.says first was rank)
               ∙ ap (λ (n : ℕ). cut_at n version) (sym same);
         }
 
@@ -206,31 +215,54 @@ module _ (live : LiveAreLater) (paper_sound : PaperIsSound) (cuts_show : CutsSho
       read : (place : ℕ) → keeper_ask n.shape n.places n.keeper ≡ Load place → reply ≡ reply_to {A = KeeperTold} n.words (Load place)
       read place asks = ap (λ (ask : Ask KeeperTold). reply_to n.words ask) asks
 
+      -- its floor is the session's point of the newest finished commit
+      floor_is : Takes events n.keeper → n.keeper.step ≡ Seeks → (first : SessionState) → slice_get opening.now.sessions session ≡ Some first → floor_of n.keeper.seek.floor session ≡ At events n.keeper.last.number.0 session
+      floor_is takes at first was =
+          let sought = subst (λ (x : Keeping). KeepingTakes count (Met events) (Again events) (Point events) n.keeper x) at takes.step in
+          let many = opens.opened.seats in
+          let within = slice_get_within opening.now.sessions session first was in
+          ap (λ (points : List Serial). floor_of points session) sought.floor ∙ (takes.last session (omega (arith, many, within))).is first was
+
+      -- so it is no more than the one that is sought
+      floor_low : Takes events n.keeper → n.keeper.step ≡ Seeks → (first : SessionState) → slice_get opening.now.sessions session ≡ Some first → floor_of n.keeper.seek.floor session ≤ At events version session
+      floor_low takes at first was =
+          let is = floor_is takes at first was in
+          let next = staged.keeper.has.next in
+          let same = ap (λ (v : Version). v.0) (seek_at at).0 in
+          let up = rises_by_version opening events session n.keeper.last.number.0 version (omega (arith, next, same)) in
+          omega (arith, is, up)
+
+      -- and what the words say makes the point, with the floor or without
+      made : Takes events n.keeper → n.keeper.step ≡ Seeks → (first : SessionState) → slice_get opening.now.sessions session ≡ Some first → (serial : ℕ) → serial ≡ At events version session
+          → max (floor_of n.keeper.seek.floor session) serial ≡ At events version session
+      made takes at first was serial is = let low = floor_low takes at first was in max-eq_right (omega (arith, low, is)) ∙ is
+
       -- the version that it commits is no later than the last
       few_versions : (first : SessionState) → slice_get opening.now.sessions session ≡ Some first → rank_now opening events ≡ pending_rank version → version ≤ last_version
       few_versions first was rank = let low = few live paper_sound opening start events version session first opens was rank in omega (arith, low)
 
-      first_told : n.keeper.step ≡ Seeks → n.keeper.seek.step ≡ seek.LoadsCut → (first : SessionState) → slice_get opening.now.sessions session ≡ Some first → SeekReply count (Met events) (Again events) (Point events) n.keeper.seek seek.LoadsCut reply
-      first_told at loads first was =
+      first_told : Takes events n.keeper → n.keeper.step ≡ Seeks → n.keeper.seek.step ≡ seek.LoadsCut → (first : SessionState) → slice_get opening.now.sessions session ≡ Some first → SeekReply count (Met events) (Again events) (Point events) n.keeper.seek seek.LoadsCut reply
+      first_told takes at loads first was =
           let rank = pends_rank (seek_at at).0 (here at seek.LoadsCut loads).0 in
           let is : reply ≡ first_cut opening events session version = read (session_place session (cut_of version)) (asks_first n.shape n.places n.keeper at loads) in
           let from : pending_rank version ≤ rank_now opening events = omega (arith, rank) in (
             (λ same. record {
               from = from;
-              is = λ other found. ap serial_said is ∙ first_says version (At events version session) (small events version session first was) (first_cut opening events session version) (other_cut opening events session version)
-                  (shown events version session first was rank) (ap version_said (sym is) ∙ same);
+              is = λ other found. made takes at first was (serial_said reply)
+                  (ap serial_said is ∙ first_says version (At events (version - 1) session) (At events version session) (small events version session first was) (first_cut opening events session version) (other_cut opening events session version)
+                  (shown events version session first was rank) (ap version_said (sym is) ∙ same));
             }),
             (λ apart. record {
               from = from;
               meets = λ other found pending. subst (λ (word : ℕ). Meets version (At events version session) word (first_cut opening events session version) (other_cut opening events session version)) (sym is)
-                  (first_meets version (At events version session) (small events version session first was) (first_cut opening events session version) (other_cut opening events session version) (few_versions first was rank)
+                  (first_meets version (At events (version - 1) session) (At events version session) (small events version session first was) (first_cut opening events session version) (other_cut opening events session version) (few_versions first was rank)
                   (shown events version session first was rank) (λ same. apart (ap version_said is ∙ same)));
             }),
           )
 
-      other_told : (met : ℕ) → n.keeper.step ≡ Seeks → n.keeper.seek.step ≡ seek.LoadsOther met → Met events version session met → (first : SessionState) → slice_get opening.now.sessions session ≡ Some first
+      other_told : (met : ℕ) → Takes events n.keeper → n.keeper.step ≡ Seeks → n.keeper.seek.step ≡ seek.LoadsOther met → Met events version session met → (first : SessionState) → slice_get opening.now.sessions session ≡ Some first
           → SeekReply count (Met events) (Again events) (Point events) n.keeper.seek (seek.LoadsOther met) reply
-      other_told met at loads known first was =
+      other_told met takes at loads known first was =
           let rank = pends_rank (seek_at at).0 (here at (seek.LoadsOther met) loads).0 in
           let is : reply ≡ other_cut opening events session version = read (session_place session (other_cut_of version)) (asks_other n.shape n.places n.keeper met at loads) in
           let from : pending_rank version ≤ rank_now opening events = omega (arith, rank) in
@@ -238,52 +270,54 @@ module _ (live : LiveAreLater) (paper_sound : PaperIsSound) (cuts_show : CutsSho
           let meets = known.meets first was rank in (
             (λ low. record {
               from = from;
-              is = λ other found. ap (λ (word : ℕ). max (serial_said met) (serial_said word)) is
-                  ∙ other_says version (At events version session) (small events version session first was) met (first_cut opening events session version) (other_cut opening events session version) meets (omega (arith, said, low));
+              is = λ other found. made takes at first was (max (serial_said met) (serial_said reply))
+                  (ap (λ (word : ℕ). max (serial_said met) (serial_said word)) is
+                  ∙ other_says version (At events (version - 1) session) (At events version session) (small events version session first was) met (first_cut opening events session version) (other_cut opening events session version) meets (omega (arith, said, low)));
             }),
             (λ later. record {
               from = from;
-              says = λ other found pending. goes_again version (At events version session) (small events version session first was) met (first_cut opening events session version) (other_cut opening events session version) meets (omega (arith, said, later));
+              says = λ other found pending. goes_again version (At events (version - 1) session) (At events version session) (small events version session first was) met (first_cut opening events session version) (other_cut opening events session version) meets (omega (arith, said, later));
             }),
           )
 
-      again_told : n.keeper.step ≡ Seeks → n.keeper.seek.step ≡ seek.LoadsAgain → Again events version session → (first : SessionState) → slice_get opening.now.sessions session ≡ Some first
+      again_told : Takes events n.keeper → n.keeper.step ≡ Seeks → n.keeper.seek.step ≡ seek.LoadsAgain → Again events version session → (first : SessionState) → slice_get opening.now.sessions session ≡ Some first
           → SeekReply count (Met events) (Again events) (Point events) n.keeper.seek seek.LoadsAgain reply
-      again_told at loads known first was =
+      again_told takes at loads known first was =
           let rank = pends_rank (seek_at at).0 (here at seek.LoadsAgain loads).0 in
           let is : reply ≡ first_cut opening events session version = read (session_place session (cut_of version)) (asks_again n.shape n.places n.keeper at loads) in
           record {
             from = omega (arith, rank);
-            is = λ other found. ap serial_said is ∙ again_says version (At events version session) (small events version session first was) (first_cut opening events session version) (known.says first was rank);
+            is = λ other found. made takes at first was (serial_said reply)
+                (ap serial_said is ∙ again_says version (At events (version - 1) session) (At events version session) (small events version session first was) (first_cut opening events session version) (known.says first was rank));
           }
 
       -- the session whose point it seeks is there
       there : session < count → (first : SessionState) × (slice_get opening.now.sessions session ≡ Some first)
       there low = let many = opens.opened.seats in some_there opening.now.sessions session (omega (arith, low, many))
 
-      seek_told : (step : Seeking) → n.keeper.step ≡ Seeks → n.keeper.seek.step ≡ step → StepTakes count (Met events) (Again events) (Point events) n.keeper.seek step → SeekReply count (Met events) (Again events) (Point events) n.keeper.seek step reply
-      seek_told seek.LoadsCut at is knows = let its = there knows in first_told at is its.0 its.1
-      seek_told (seek.LoadsOther met) at is knows = let its = there knows.0 in other_told met at is knows.1 its.0 its.1
-      seek_told seek.LoadsAgain at is knows = let its = there knows.0 in again_told at is knows.1 its.0 its.1
-      seek_told (seek.Ended its) at is knows = tt
-      seek_told (seek.LoadsOwing other) at is knows = tt
-      seek_told seek.SeeksSlot at is knows = tt
-      seek_told seek.StoresWaitFlush at is knows = tt
-      seek_told seek.LoadsTail at is knows = tt
-      seek_told (seek.RaisesReadOnly end) at is knows = tt
-      seek_told (seek.Defers end) at is knows = tt
+      seek_told : (step : Seeking) → Takes events n.keeper → n.keeper.step ≡ Seeks → n.keeper.seek.step ≡ step → StepTakes count (Met events) (Again events) (Point events) n.keeper.seek step → SeekReply count (Met events) (Again events) (Point events) n.keeper.seek step reply
+      seek_told seek.LoadsCut takes at is knows = let its = there knows in first_told takes at is its.0 its.1
+      seek_told (seek.LoadsOther met) takes at is knows = let its = there knows.0 in other_told met takes at is knows.1 its.0 its.1
+      seek_told seek.LoadsAgain takes at is knows = let its = there knows.0 in again_told takes at is knows.1 its.0 its.1
+      seek_told (seek.Ended its) takes at is knows = tt
+      seek_told (seek.LoadsOwing other) takes at is knows = tt
+      seek_told seek.SeeksSlot takes at is knows = tt
+      seek_told seek.StoresWaitFlush takes at is knows = tt
+      seek_told seek.LoadsTail takes at is knows = tt
+      seek_told (seek.RaisesReadOnly end) takes at is knows = tt
+      seek_told (seek.Defers end) takes at is knows = tt
 
-      keeping_told : (step : Keeping) → n.keeper.step ≡ step → KeepingTakes count (Met events) (Again events) (Point events) n.keeper step → KeepingReply count (Met events) (Again events) (Point events) n.keeper step reply
-      keeping_told Seeks at knows = seek_told n.keeper.seek.step at refl knows.its.step
-      keeping_told (Ended told) at knows = tt
-      keeping_told Starts at knows = tt
-      keeping_told Maintains at knows = tt
-      keeping_told LoadsPhase at knows = tt
-      keeping_told Enters at knows = tt
-      keeping_told Copies at knows = tt
-      keeping_told Waits at knows = tt
-      keeping_told Writes at knows = tt
-      keeping_told Finishes at knows = tt
+      keeping_told : (step : Keeping) → Takes events n.keeper → n.keeper.step ≡ step → KeepingTakes count (Met events) (Again events) (Point events) n.keeper step → KeepingReply count (Met events) (Again events) (Point events) n.keeper step reply
+      keeping_told Seeks takes at knows = seek_told n.keeper.seek.step takes at refl knows.its.step
+      keeping_told (Ended told) takes at knows = tt
+      keeping_told Starts takes at knows = tt
+      keeping_told Maintains takes at knows = tt
+      keeping_told LoadsPhase takes at knows = tt
+      keeping_told Enters takes at knows = tt
+      keeping_told Copies takes at knows = tt
+      keeping_told Waits takes at knows = tt
+      keeping_told Writes takes at knows = tt
+      keeping_told Finishes takes at knows = tt
 
     -- as it puts an action it reads nothing
     seek_puts : (s : KeeperState) (step : Seeking) (slot : ℕ) (action : Action) → s.step ≡ Seeks → s.seek.step ≡ step → keeper_ask n.shape n.places s ≡ Put slot action → SeekReply count (Met events) (Again events) (Point events) s.seek step 0
@@ -344,7 +378,7 @@ module _ (live : LiveAreLater) (paper_sound : PaperIsSound) (cuts_show : CutsSho
           let led : Holds onto.led =
           subst Holds (sym onto.is_led)
           (replied_takes count (Met before) (Again before) (Point before) from.shape from.places from.keeper from.keeper.step (reply_to from.words (keeper_ask from.shape from.places from.keeper)) its.granted refl
-          (has_taken count (Met before) (Again before) (Point before) from.keeper was) was.step (keeping_told before number stage staged from.keeper.step refl was.step)) in
+          (has_taken count (Met before) (Again before) (Point before) from.keeper was) was.step (keeping_told before number stage staged from.keeper.step was refl was.step)) in
           elim onto.settled [
             | inl plain ↦ elim plain.keeper [
               | inl same ↦ subst Holds (sym same) led
@@ -367,10 +401,15 @@ module _ (live : LiveAreLater) (paper_sound : PaperIsSound) (cuts_show : CutsSho
         carried event before after.keeper (how_takes lived.number lived.stage lived.staged there.on.its_number there.on.its_stage there.how)
 
   -- ---- a life
+  opened_last : (number : ℕ) → pending_rank number ≤ rank_now opening [] → (session : ℕ) → session < count → Point [] number session (floor_of opening.now.keeper.last.points session)
+  opened_last number high session low = record { from = high; is = λ first found. floor_point opening.now.keeper.last.points session ∙ (opens_points session ∙ sym (point_opens opening session number)) }
+
   opened_keeper : Takes [] (run opening []).now.keeper
   unfolding run
   opened_keeper =
+      let said = ap rank_said opens.seen.rests.says in
       opened_takes count (Met []) (Again []) (Point []) opening.now.keeper opening.now.keeper.step refl opens.guarded.keeper.none_in_hand opens.guarded.keeper.no_commit opens.sought
+      (opened_last opening.now.keeper.last.number.0 (omega (arith, said)))
 
   life_takes : (events : List Event) → Takes events (run opening events).now.keeper
   life_takes [] = opened_keeper
@@ -407,7 +446,7 @@ module _ (live : LiveAreLater) (paper_sound : PaperIsSound) (cuts_show : CutsSho
 
 pub takes_points : LiveAreLater → PaperIsSound → CutsShowPoints → TakesPoints
 takes_points live paper_sound cuts_show opening start events c opens in_hand has_them =
-    let its = life_takes live paper_sound cuts_show opening start opens.quiet opens.cuts events in
+    let its = life_takes live paper_sound cuts_show opening start opens.quiet opens.cuts opens.points events in
     let all = its.hand c in_hand has_them in
     subst (λ (v : Version). ArePointsOf opening events v.0 (run opening events).now.keeper.seek.points) all.number
-    (points_of live paper_sound cuts_show opening start opens.quiet opens.cuts events (run opening events).now.keeper.seek.number.0 (run opening events).now.keeper.seek.points all.taken all.all)
+    (points_of live paper_sound cuts_show opening start opens.quiet opens.cuts opens.points events (run opening events).now.keeper.seek.number.0 (run opening events).now.keeper.seek.points all.taken all.all)

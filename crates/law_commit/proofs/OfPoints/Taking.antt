@@ -36,7 +36,7 @@ use Rattle.law_refine.specs.Below.fkv_commit.Cuts.{serial_said, version_said}
 use Rattle.law_refine.specs.Below.fkv_commit.Deferring.{defer_ask, defer_begun, defer_next}
 use Rattle.law_refine.specs.Below.fkv_commit.Entering.{enter_ask, enter_begun, enter_next}
 use Rattle.law_refine.specs.Below.fkv_commit.Finishing.{finish_ask, finish_next}
-use Rattle.law_refine.specs.Below.fkv_commit.Seeking.{SeekState, defer_led, owing_from, point_taken, points_from, seek_ask, seek_begun, seek_next, seeking_ask, seeking_next, slot_led}
+use Rattle.law_refine.specs.Below.fkv_commit.Seeking.{SeekState, defer_led, owing_from, point_taken, with_point, points_from, seek_ask, seek_begun, seek_next, seeking_ask, seeking_next, slot_led, floor_of}
 use Rattle.law_refine.specs.Below.fkv_commit.Starting.{start_ask, start_begun, start_next}
 use Rattle.law_refine.specs.Below.fkv_commit.Waiting.{wait_ask, wait_begun, wait_next}
 use Rattle.law_refine.specs.Below.fkv_manifest.WriteAnswer.{WriteAnswer}
@@ -49,7 +49,7 @@ use Rattle.law_refine.specs.Below.fkv_keeper.KeeperTold.TheVariants.{CommitRefus
 use Rattle.law_refine.specs.Below.fkv_keeper.TheKeeping.{Keeping}
 use Rattle.law_refine.specs.Below.fkv_keeper.TheKeeping.TheVariants.{Ended, Starts, Maintains, LoadsPhase, Enters, Copies, Seeks, Waits, Writes, Finishes}
 use Rattle.law_refine.specs.Below.fkv_keeper.KeeperRun.{is_in_hand}
-use Rattle.law_refine.specs.Below.fkv_keeper.Keeping.{KeeperState, commit_asked, copied, copies, copies_next, copy_asked, copy_driven, copy_ledto, ended, enter_ledto, finish_ledto, finished, keeping_called, keeping_given, keeping_next, maintain_ledto, part_begun, phase_ledto, points_known, seek_ledto, start_ledto, turn_asked, turned, wait_ledto, write_ledto, writes_begun, writes_called}
+use Rattle.law_refine.specs.Below.fkv_keeper.Keeping.{Finality, KeeperState, commit_asked, copied, copies, copies_next, copy_asked, copy_driven, copy_ledto, ended, enter_ledto, finish_ledto, finished, keeping_called, keeping_given, keeping_next, maintain_ledto, part_begun, phase_ledto, points_known, seek_ledto, start_ledto, turn_asked, turned, wait_ledto, write_ledto, writes_begun, writes_called}
 use Rattle.law_refine.specs.Below.fkv_world.World.{keeper_asked}
 use Rattle.law_commit.proofs.InTurn.{some_commit}
 
@@ -76,6 +76,11 @@ appended Q [] it each new (suc i) x got = cc
 appended Q (y ∷ rest) it each new zero x got = each zero x got
 appended Q (y ∷ rest) it each new (suc i) x got = appended (λ (n : ℕ) (z : Serial). Q (suc n) z) rest it (λ n z there. each (suc n) z there) new i x got
 
+each_floor : (Q : ℕ → ℕ → Type 0) (points : List Serial) → ((i : ℕ) (x : Serial) → slice_get points i ≡ Some x → Q i x.0) → (i : ℕ) → i < length points → Q i (floor_of points i)
+each_floor Q [] each i low = absurd (omega (arith, low))
+each_floor Q (x ∷ rest) each zero low = each zero x refl
+each_floor Q (x ∷ rest) each (suc i) low = each_floor (λ (n point : ℕ). Q (suc n) point) rest (λ n z there. each (suc n) z there) i (omega (arith, low))
+
 one_longer : (points : List Serial) (it : Serial) → length (points ++ it ∷ []) ≡ length points + 1
 one_longer [] it = refl
 one_longer (y ∷ rest) it = let more = one_longer rest it in omega (arith, more)
@@ -85,6 +90,9 @@ one_longer (y ∷ rest) it = let more = one_longer rest it in omega (arith, more
 module _ (count : ℕ) (F : ℕ → ℕ → ℕ → Type 0) (A : ℕ → ℕ → Type 0) (P : ℕ → ℕ → ℕ → Type 0) where
   abbrev pub AreTaken : ℕ → List Serial → Type 0
   AreTaken version points = (session : ℕ) (it : Serial) → slice_get points session ≡ Some it → P version session it.0
+
+  all_floors : (version : ℕ) (points : List Serial) → AreTaken version points → length points ≡ count → (session : ℕ) → session < count → P version session (floor_of points session)
+  all_floors version points taken all session low = each_floor (λ (n point : ℕ). P version n point) points taken session (omega (arith, all, low))
 
   -- while it seeks
   abbrev pub StepTakes : SeekState → Seeking → Type 0
@@ -115,20 +123,26 @@ module _ (count : ℕ) (F : ℕ → ℕ → ℕ → Type 0) (A : ℕ → ℕ →
   HandTakes s commit has_points = (c : Commit) → commit ≡ Some c → has_points ≡ true → HasAll s c
 
   -- what the keeper is at
-  pub record IsSought (s : SeekState) (commit : Option Commit) (has_points : Bool) : Type 0 where
+  pub record IsSought (s : SeekState) (last : Finality) (commit : Option Commit) (has_points : Bool) : Type 0 where
     pub its : SeekTakes s
+    pub floor : s.floor ≡ last.points
     pub number : (c : Commit) → commit ≡ Some c → s.number ≡ c.number
     pub none : has_points ≡ false
 
   abbrev pub KeepingTakes : KeeperState → Keeping → Type 0
-  KeepingTakes s Seeks = IsSought s.seek s.commit s.has_points
+  KeepingTakes s Seeks = IsSought s.seek s.last s.commit s.has_points
   KeepingTakes s Waits = s.has_points ≡ true
   KeepingTakes s Writes = s.has_points ≡ true
   KeepingTakes s Finishes = s.has_points ≡ true
   KeepingTakes s step = ⊤
 
+  -- the points of the newest finished commit were taken too, all of them
+  abbrev pub LastTaken : Finality → Type 0
+  LastTaken last = (session : ℕ) → session < count → P last.number.0 session (floor_of last.points session)
+
   pub record KeeperTakes (s : KeeperState) : Type 0 where
     pub sessions : s.seek.sessions ≡ count
+    pub last : LastTaken s.last
     pub hand : HandTakes s.seek s.commit s.has_points
     pub step : KeepingTakes s s.step
 
@@ -157,11 +171,15 @@ module _ (count : ℕ) (F : ℕ → ℕ → ℕ → Type 0) (A : ℕ → ℕ →
       either_seek (nat_lt (length s.points) s.sessions) (record s { step = seek.LoadsCut }) (record s { step = seek.StoresWaitFlush })
       (λ yes. record { sessions = sessions; taken = taken; step = under (length s.points) s.sessions sessions yes }) (λ no. record { sessions = sessions; taken = taken; step = full (length s.points) s.sessions sessions few no })
 
-  point_takes : (s : SeekState) (serial : ℕ) → s.sessions ≡ count → AreTaken s.number.0 s.points → length s.points < count → P s.number.0 (length s.points) serial → SeekTakes (point_taken s serial)
+  -- the serial that the words say makes the next session's point, with its floor
+  abbrev pub Makes : SeekState → ℕ → Type 0
+  Makes s serial = P s.number.0 (length s.points) (max (floor_of s.floor (length s.points)) serial)
+
+  point_takes : (s : SeekState) (serial : ℕ) → s.sessions ≡ count → AreTaken s.number.0 s.points → length s.points < count → Makes s serial → SeekTakes (point_taken s serial)
   point_takes s serial sessions taken few its =
-      let it : Serial = record { 0 = serial } in
+      let it : Serial = record { 0 = max (floor_of s.floor (length s.points)) serial } in
       let more = one_longer s.points it in
-      points_take (record s { points = s.points ++ it ∷ [] }) sessions (appended (λ (session : ℕ) (x : Serial). P s.number.0 session x.0) s.points it taken its) (omega (arith, more, few))
+      points_take (with_point s serial) sessions (appended (λ (session : ℕ) (x : Serial). P s.number.0 session x.0) s.points it taken its) (omega (arith, more, few))
 
   slot_takes : (s : SeekState) (ask : Ask DeferAnswer) → s.step ≡ seek.SeeksSlot → s.sessions ≡ count → s.points ≡ [] → SeekTakes (slot_led s ask)
   unfolding slot_led
@@ -178,9 +196,9 @@ module _ (count : ℕ) (F : ℕ → ℕ → ℕ → Type 0) (A : ℕ → ℕ →
 
   -- what a reply tells, by what was known
   abbrev pub SeekReply : SeekState → Seeking → ℕ → Type 0
-  SeekReply s seek.LoadsCut reply = (version_said reply ≡ s.number.0 → P s.number.0 (length s.points) (serial_said reply)) × ((version_said reply ≡ s.number.0 → ⊥) → F s.number.0 (length s.points) reply)
-  SeekReply s (seek.LoadsOther first) reply = (version_said reply ≤ s.number.0 → P s.number.0 (length s.points) (max (serial_said first) (serial_said reply))) × (s.number.0 < version_said reply → A s.number.0 (length s.points))
-  SeekReply s seek.LoadsAgain reply = P s.number.0 (length s.points) (serial_said reply)
+  SeekReply s seek.LoadsCut reply = (version_said reply ≡ s.number.0 → Makes s (serial_said reply)) × ((version_said reply ≡ s.number.0 → ⊥) → F s.number.0 (length s.points) reply)
+  SeekReply s (seek.LoadsOther first) reply = (version_said reply ≤ s.number.0 → Makes s (max (serial_said first) (serial_said reply))) × (s.number.0 < version_said reply → A s.number.0 (length s.points))
+  SeekReply s seek.LoadsAgain reply = Makes s (serial_said reply)
   SeekReply s step reply = ⊤
 
   seek_takes : (s : SeekState) (step : Seeking) (reply : ℕ) → s.step ≡ step → s.sessions ≡ count → AreTaken s.number.0 s.points → StepTakes s step → SeekReply s step reply → SeekTakes (seeking_next s step reply)
@@ -203,49 +221,49 @@ module _ (count : ℕ) (F : ℕ → ℕ → ℕ → Type 0) (A : ℕ → ℕ →
   seek_takes s (seek.RaisesReadOnly end) reply at sessions taken knows tells = record { sessions = sessions; taken = taken; step = knows }
   seek_takes s (seek.Defers end) reply at sessions taken knows tells = defer_takes end (record s { defer = defer_next s.defer reply }) (defer_ask (defer_next s.defer reply)) at sessions taken knows
 
-  -- its number stays
-  abbrev Numbered : Version → SeekState → Type 0
-  Numbered number s = s.number ≡ number
+  -- its number and its floors stay
+  abbrev Keeps : SeekState → SeekState → Type 0
+  Keeps was s = (s.number ≡ was.number) × (s.floor ≡ was.floor)
 
-  either_number : (c : Bool) (number : Version) (a b : SeekState) → Numbered number a → Numbered number b → Numbered number (if c then a else b)
-  either_number true number a b one other = one
-  either_number false number a b one other = other
+  either_keeps : (c : Bool) (was a b : SeekState) → Keeps was a → Keeps was b → Keeps was (if c then a else b)
+  either_keeps true was a b one other = one
+  either_keeps false was a b one other = other
 
-  owing_number : (s : SeekState) (session : ℕ) → Numbered s.number (owing_from s session)
-  owing_number s session = either_number (nat_lt session s.sessions) s.number (record s { step = seek.LoadsOwing session }) (record s { defer = defer_begun s.defer; step = seek.SeeksSlot }) refl refl
+  owing_keeps : (s : SeekState) (session : ℕ) → Keeps s (owing_from s session)
+  owing_keeps s session = either_keeps (nat_lt session s.sessions) s (record s { step = seek.LoadsOwing session }) (record s { defer = defer_begun s.defer; step = seek.SeeksSlot }) (refl, refl) (refl, refl)
 
-  points_number : (s : SeekState) → Numbered s.number (points_from s)
-  points_number s = either_number (nat_lt (length s.points) s.sessions) s.number (record s { step = seek.LoadsCut }) (record s { step = seek.StoresWaitFlush }) refl refl
+  points_keeps : (s : SeekState) → Keeps s (points_from s)
+  points_keeps s = either_keeps (nat_lt (length s.points) s.sessions) s (record s { step = seek.LoadsCut }) (record s { step = seek.StoresWaitFlush }) (refl, refl) (refl, refl)
 
-  taken_number : (s : SeekState) (serial : ℕ) → Numbered s.number (point_taken s serial)
-  taken_number s serial = points_number (record s { points = s.points ++ record { 0 = serial } ∷ [] })
+  taken_keeps : (s : SeekState) (serial : ℕ) → Keeps s (point_taken s serial)
+  taken_keeps s serial = points_keeps (with_point s serial)
 
-  slot_number : (s : SeekState) (ask : Ask DeferAnswer) → Numbered s.number (slot_led s ask)
+  slot_keeps : (s : SeekState) (ask : Ask DeferAnswer) → Keeps s (slot_led s ask)
   unfolding slot_led
-  slot_number s (Done Held) = points_number s
-  slot_number s (Done Spent) = refl
-  slot_number s (Done its) = refl
-  slot_number s ask = refl
+  slot_keeps s (Done Held) = points_keeps s
+  slot_keeps s (Done Spent) = (refl, refl)
+  slot_keeps s (Done its) = (refl, refl)
+  slot_keeps s ask = (refl, refl)
 
-  defer_number : (end : Addr) (s : SeekState) (ask : Ask DeferAnswer) → Numbered s.number (defer_led end s ask)
+  defer_keeps : (end : Addr) (s : SeekState) (ask : Ask DeferAnswer) → Keeps s (defer_led end s ask)
   unfolding defer_led
-  defer_number end s (Done (Armed epoch)) = refl
-  defer_number end s (Done its) = refl
-  defer_number end s ask = refl
+  defer_keeps end s (Done (Armed epoch)) = (refl, refl)
+  defer_keeps end s (Done its) = (refl, refl)
+  defer_keeps end s ask = (refl, refl)
 
-  seek_number : (s : SeekState) (step : Seeking) (reply : ℕ) → Numbered s.number (seeking_next s step reply)
+  seek_keeps : (s : SeekState) (step : Seeking) (reply : ℕ) → Keeps s (seeking_next s step reply)
   unfolding seeking_next
-  seek_number s (seek.Ended its) reply = refl
-  seek_number s (seek.LoadsOwing session) reply = either_number (reply == 0) s.number (owing_from s (session + 1)) (record s { step = seek.Ended sought.Owing }) (owing_number s (session + 1)) refl
-  seek_number s seek.SeeksSlot reply = slot_number (record s { defer = defer_next s.defer reply }) (defer_ask (defer_next s.defer reply))
-  seek_number s seek.LoadsCut reply = either_number (version_said reply == s.number.0) s.number (point_taken s (serial_said reply)) (record s { step = seek.LoadsOther reply }) (taken_number s (serial_said reply)) refl
-  seek_number s (seek.LoadsOther first) reply =
-      either_number (nat_le (version_said reply) s.number.0) s.number (point_taken s (max (serial_said first) (serial_said reply))) (record s { step = seek.LoadsAgain }) (taken_number s (max (serial_said first) (serial_said reply))) refl
-  seek_number s seek.LoadsAgain reply = taken_number s (serial_said reply)
-  seek_number s seek.StoresWaitFlush reply = refl
-  seek_number s seek.LoadsTail reply = refl
-  seek_number s (seek.RaisesReadOnly end) reply = refl
-  seek_number s (seek.Defers end) reply = defer_number end (record s { defer = defer_next s.defer reply }) (defer_ask (defer_next s.defer reply))
+  seek_keeps s (seek.Ended its) reply = (refl, refl)
+  seek_keeps s (seek.LoadsOwing session) reply = either_keeps (reply == 0) s (owing_from s (session + 1)) (record s { step = seek.Ended sought.Owing }) (owing_keeps s (session + 1)) (refl, refl)
+  seek_keeps s seek.SeeksSlot reply = slot_keeps (record s { defer = defer_next s.defer reply }) (defer_ask (defer_next s.defer reply))
+  seek_keeps s seek.LoadsCut reply = either_keeps (version_said reply == s.number.0) s (point_taken s (serial_said reply)) (record s { step = seek.LoadsOther reply }) (taken_keeps s (serial_said reply)) (refl, refl)
+  seek_keeps s (seek.LoadsOther first) reply =
+      either_keeps (nat_le (version_said reply) s.number.0) s (point_taken s (max (serial_said first) (serial_said reply))) (record s { step = seek.LoadsAgain }) (taken_keeps s (max (serial_said first) (serial_said reply))) (refl, refl)
+  seek_keeps s seek.LoadsAgain reply = taken_keeps s (serial_said reply)
+  seek_keeps s seek.StoresWaitFlush reply = (refl, refl)
+  seek_keeps s seek.LoadsTail reply = (refl, refl)
+  seek_keeps s (seek.RaisesReadOnly end) reply = (refl, refl)
+  seek_keeps s (seek.Defers end) reply = defer_keeps end (record s { defer = defer_next s.defer reply }) (defer_ask (defer_next s.defer reply))
 
   -- ---- the keeper
   either_takes : (c : Bool) (a b : KeeperState) → (c ≡ true → KeeperTakes a) → (c ≡ false → KeeperTakes b) → KeeperTakes (if c then a else b)
@@ -255,13 +273,14 @@ module _ (count : ℕ) (F : ℕ → ℕ → ℕ → Type 0) (A : ℕ → ℕ →
   -- what it has of its points, whatever it is at
   pub record Has (s : KeeperState) : Type 0 where
     pub sessions : s.seek.sessions ≡ count
+    pub last : LastTaken s.last
     pub hand : HandTakes s.seek s.commit s.has_points
 
   has_of : (s : KeeperState) → KeeperTakes s → Has s
-  has_of s its = record { sessions = its.sessions; hand = its.hand }
+  has_of s its = record { sessions = its.sessions; last = its.last; hand = its.hand }
 
   stays : (s : KeeperState) (step : Keeping) → s.step ≡ step → Has s → KeepingTakes s step → KeeperTakes s
-  stays s step at has its = record { sessions = has.sessions; hand = has.hand; step = subst (KeepingTakes s) (sym at) its }
+  stays s step at has its = record { sessions = has.sessions; last = has.last; hand = has.hand; step = subst (KeepingTakes s) (sym at) its }
 
   none_has : (s : SeekState) (commit : Option Commit) (has_points : Bool) → has_points ≡ false → HandTakes s commit has_points
   none_has s commit has_points none = λ c is yes. let clash : false ≡ true = sym none ∙ yes in cc
@@ -271,47 +290,49 @@ module _ (count : ℕ) (F : ℕ → ℕ → ℕ → Type 0) (A : ℕ → ℕ →
 
   start_takes : (s : KeeperState) (ask : Ask StartAnswer) → s.step ≡ Starts → Has s → KeeperTakes (start_ledto s ask)
   unfolding start_ledto
-  start_takes s (Done (started.Begun number first)) at has = record { sessions = has.sessions; hand = λ c is yes. cc; step = tt }
-  start_takes s (Done (started.Refused why)) at has = record { sessions = has.sessions; hand = has.hand; step = tt }
-  start_takes s (Done started.Idle) at has = record { sessions = has.sessions; hand = has.hand; step = tt }
+  start_takes s (Done (started.Begun number first)) at has = record { sessions = has.sessions; last = has.last; hand = λ c is yes. cc; step = tt }
+  start_takes s (Done (started.Refused why)) at has = record { sessions = has.sessions; last = has.last; hand = has.hand; step = tt }
+  start_takes s (Done started.Idle) at has = record { sessions = has.sessions; last = has.last; hand = has.hand; step = tt }
   start_takes s ask at has = stays s Starts at has tt
 
   maintain_takes : (s : KeeperState) (ask : Ask MaintainAnswer) → s.step ≡ Maintains → Has s → KeeperTakes (maintain_ledto s ask)
   unfolding maintain_ledto
-  maintain_takes s (Done maintain.Through) at has = record { sessions = has.sessions; hand = has.hand; step = tt }
-  maintain_takes s (Done maintain.Spent) at has = record { sessions = has.sessions; hand = has.hand; step = tt }
-  maintain_takes s (Done maintain.Broken) at has = record { sessions = has.sessions; hand = has.hand; step = tt }
+  maintain_takes s (Done maintain.Through) at has = record { sessions = has.sessions; last = has.last; hand = has.hand; step = tt }
+  maintain_takes s (Done maintain.Spent) at has = record { sessions = has.sessions; last = has.last; hand = has.hand; step = tt }
+  maintain_takes s (Done maintain.Broken) at has = record { sessions = has.sessions; last = has.last; hand = has.hand; step = tt }
   maintain_takes s (Done maintain.Device) at has = stays s Maintains at has tt
   maintain_takes s ask at has = stays s Maintains at has tt
 
   copies_take : (p : Places) (s : KeeperState) (granted : Bool) → Has s → KeeperTakes (copies p s granted)
   copies_take p s granted has =
-      either_takes granted (record s { copy = Some (copy_begun p); is_granted = true; step = Copies }) (ended (record s { is_granted = false }) (TurnRefused fault.Memory)) (λ yes. record { sessions = has.sessions; hand = has.hand; step = tt })
-      (λ no. record { sessions = has.sessions; hand = has.hand; step = tt })
+      either_takes granted (record s { copy = Some (copy_begun p); is_granted = true; step = Copies }) (ended (record s { is_granted = false }) (TurnRefused fault.Memory)) (λ yes. record { sessions = has.sessions; last = has.last; hand = has.hand; step = tt })
+      (λ no. record { sessions = has.sessions; last = has.last; hand = has.hand; step = tt })
 
   copies_next_take : (p : Places) (s : KeeperState) (c : Commit) (granted : Bool) (other : KeeperState) → Has s → KeeperTakes other → KeeperTakes (copies_next p s c granted other)
   copies_next_take p s c granted other has its = either_takes c.is_copied other (copies p s granted) (λ yes. its) (λ no. copies_take p s granted has)
 
   turned_takes : (s : KeeperState) → Has s → KeeperTakes (turned s)
-  turned_takes s has = record { sessions = has.sessions; hand = has.hand; step = tt }
+  turned_takes s has = record { sessions = has.sessions; last = has.last; hand = has.hand; step = tt }
 
-  seek_begins : (s : KeeperState) (c : Commit) → s.commit ≡ Some c → Has s → KeeperTakes (record s { seek = seek_begun s.seek c.number; has_points = false; step = Seeks })
+  seek_begins : (s : KeeperState) (c : Commit) → s.commit ≡ Some c → Has s → KeeperTakes (record s { seek = seek_begun s.seek c.number s.last.points; has_points = false; step = Seeks })
   seek_begins s c is has =
-      let its = owing_takes (record s.seek { number = c.number; points = [] }) 0 has.sessions refl in
+      let its = owing_takes (record s.seek { number = c.number; floor = s.last.points; points = [] }) 0 has.sessions refl in
+      let kept = owing_keeps (record s.seek { number = c.number; floor = s.last.points; points = [] }) 0 in
       record {
         sessions = its.sessions;
-        hand = none_has (seek_begun s.seek c.number) s.commit false refl;
-        step = record { its = its; number = λ d found. owing_number (record s.seek { number = c.number; points = [] }) 0 ∙ ap (λ (x : Commit). x.number) (some_commit s.commit c d is found); none = refl };
+        last = has.last;
+        hand = none_has (seek_begun s.seek c.number s.last.points) s.commit false refl;
+        step = record { its = its; floor = kept.1; number = λ d found. kept.0 ∙ ap (λ (x : Commit). x.number) (some_commit s.commit c d is found); none = refl };
       }
 
   part_takes : (p : Places) (s : KeeperState) (c : Commit) (said : PhaseSaid) (granted : Bool) → s.commit ≡ Some c → Has s → KeeperTakes (part_begun p s c said granted)
   part_takes p s c (Says phase.InProgress version) granted is has =
       either_takes s.has_entered (copies_next p s c granted (turned s)) (record s { enter = enter_begun s.enter c.number; step = Enters }) (λ yes. copies_next_take p s c granted (turned s) has (turned_takes s has))
-      (λ no. record { sessions = has.sessions; hand = has.hand; step = tt })
+      (λ no. record { sessions = has.sessions; last = has.last; hand = has.hand; step = tt })
   part_takes p s c (Says phase.WaitPending version) granted is has =
-      copies_next_take p s c granted (record s { seek = seek_begun s.seek c.number; has_points = false; step = Seeks }) has (seek_begins s c is has)
+      copies_next_take p s c granted (record s { seek = seek_begun s.seek c.number s.last.points; has_points = false; step = Seeks }) has (seek_begins s c is has)
   part_takes p s c (Says phase.WaitFlush version) granted is has =
-      either_takes s.has_points (record s { wait = wait_begun c.end c.epoch; step = Waits }) (turned s) (λ yes. record { sessions = has.sessions; hand = has.hand; step = yes }) (λ no. turned_takes s has)
+      either_takes s.has_points (record s { wait = wait_begun c.end c.epoch; step = Waits }) (turned s) (λ yes. record { sessions = has.sessions; last = has.last; hand = has.hand; step = yes }) (λ no. turned_takes s has)
   part_takes p s c (Says phase.Rest version) granted is has = turned_takes s has
   part_takes p s c (Says phase.Prepare version) granted is has = turned_takes s has
   part_takes p s c Spoiled granted is has = turned_takes s has
@@ -323,10 +344,10 @@ module _ (count : ℕ) (F : ℕ → ℕ → ℕ → Type 0) (A : ℕ → ℕ →
 
   enter_takes : (s : KeeperState) (ask : Ask EnterAnswer) → s.step ≡ Enters → Has s → KeeperTakes (enter_ledto s ask)
   unfolding enter_ledto
-  enter_takes s (Done enter.Entered) at has = record { sessions = has.sessions; hand = has.hand; step = tt }
-  enter_takes s (Done enter.DrainFull) at has = record { sessions = has.sessions; hand = has.hand; step = tt }
-  enter_takes s (Done enter.EpochsSpent) at has = record { sessions = has.sessions; hand = has.hand; step = tt }
-  enter_takes s (Done enter.Idle) at has = record { sessions = has.sessions; hand = has.hand; step = tt }
+  enter_takes s (Done enter.Entered) at has = record { sessions = has.sessions; last = has.last; hand = has.hand; step = tt }
+  enter_takes s (Done enter.DrainFull) at has = record { sessions = has.sessions; last = has.last; hand = has.hand; step = tt }
+  enter_takes s (Done enter.EpochsSpent) at has = record { sessions = has.sessions; last = has.last; hand = has.hand; step = tt }
+  enter_takes s (Done enter.Idle) at has = record { sessions = has.sessions; last = has.last; hand = has.hand; step = tt }
   enter_takes s ask at has = stays s Enters at has tt
 
   copied_hand : (s : SeekState) (found : Option Commit) (has_points : Bool) → HandTakes s found has_points → HandTakes s (copied found) has_points
@@ -338,7 +359,7 @@ module _ (count : ℕ) (F : ℕ → ℕ → ℕ → Type 0) (A : ℕ → ℕ →
 
   copied_takes : (s : KeeperState) (ask : Ask (Unit {0})) → s.step ≡ Copies → Has s → KeeperTakes (copy_ledto s ask)
   unfolding copy_ledto
-  copied_takes s (Done its) at has = record { sessions = has.sessions; hand = copied_hand s.seek s.commit s.has_points has.hand; step = tt }
+  copied_takes s (Done its) at has = record { sessions = has.sessions; last = has.last; hand = copied_hand s.seek s.commit s.has_points has.hand; step = tt }
   copied_takes s ask at has = stays s Copies at has tt
 
   known_hand : (s : SeekState) (found : Option Commit) (end : Addr) (epoch : ℕ) → ((c : Commit) → found ≡ Some c → s.number ≡ c.number) → AreTaken s.number.0 s.points → length s.points ≡ count
@@ -366,27 +387,28 @@ module _ (count : ℕ) (F : ℕ → ℕ → ℕ → Type 0) (A : ℕ → ℕ →
   all_told s (seek.RaisesReadOnly to) end epoch knows is = cc
   all_told s (seek.Defers to) end epoch knows is = (let same : sought.Idle ≡ sought.Taken end epoch = passed_end (defer_ask s.defer) sought.Idle (sought.Taken end epoch) is in cc)
 
-  sought_takes : (s : KeeperState) (ask : Ask SeekAnswer) → s.step ≡ Seeks → seek_ask s.seek ≡ ask → IsSought s.seek s.commit s.has_points → KeeperTakes (seek_ledto s ask)
+  sought_takes : (s : KeeperState) (ask : Ask SeekAnswer) → s.step ≡ Seeks → seek_ask s.seek ≡ ask → LastTaken s.last → IsSought s.seek s.last s.commit s.has_points → KeeperTakes (seek_ledto s ask)
   unfolding seek_ledto
-  sought_takes s (Done (sought.Taken end epoch)) at asks its =
-      record { sessions = its.its.sessions; hand = known_hand s.seek s.commit end epoch its.number its.its.taken (all_told s.seek s.seek.step end epoch its.its.step asks); step = tt }
-  sought_takes s (Done sought.DrainFull) at asks its = record { sessions = its.its.sessions; hand = none_has s.seek s.commit s.has_points its.none; step = tt }
-  sought_takes s (Done sought.EpochsSpent) at asks its = record { sessions = its.its.sessions; hand = none_has s.seek s.commit s.has_points its.none; step = tt }
-  sought_takes s (Done sought.Owing) at asks its = record { sessions = its.its.sessions; hand = none_has s.seek s.commit s.has_points its.none; step = tt }
-  sought_takes s (Done sought.Idle) at asks its = record { sessions = its.its.sessions; hand = none_has s.seek s.commit s.has_points its.none; step = tt }
-  sought_takes s ask at asks its = record { sessions = its.its.sessions; hand = none_has s.seek s.commit s.has_points its.none; step = subst (KeepingTakes s) (sym at) its }
+  sought_takes s (Done (sought.Taken end epoch)) at asks last its =
+      record { sessions = its.its.sessions; last = last; hand = known_hand s.seek s.commit end epoch its.number its.its.taken (all_told s.seek s.seek.step end epoch its.its.step asks); step = tt }
+  sought_takes s (Done sought.DrainFull) at asks last its = record { sessions = its.its.sessions; last = last; hand = none_has s.seek s.commit s.has_points its.none; step = tt }
+  sought_takes s (Done sought.EpochsSpent) at asks last its = record { sessions = its.its.sessions; last = last; hand = none_has s.seek s.commit s.has_points its.none; step = tt }
+  sought_takes s (Done sought.Owing) at asks last its = record { sessions = its.its.sessions; last = last; hand = none_has s.seek s.commit s.has_points its.none; step = tt }
+  sought_takes s (Done sought.Idle) at asks last its = record { sessions = its.its.sessions; last = last; hand = none_has s.seek s.commit s.has_points its.none; step = tt }
+  sought_takes s ask at asks last its = record { sessions = its.its.sessions; last = last; hand = none_has s.seek s.commit s.has_points its.none; step = subst (KeepingTakes s) (sym at) its }
 
-  seeks_take : (s : KeeperState) (reply : ℕ) → s.step ≡ Seeks → IsSought s.seek s.commit s.has_points → SeekReply s.seek s.seek.step reply
+  seeks_take : (s : KeeperState) (reply : ℕ) → s.step ≡ Seeks → LastTaken s.last → IsSought s.seek s.last s.commit s.has_points → SeekReply s.seek s.seek.step reply
       → KeeperTakes (seek_ledto (record s { seek = seek_next s.seek reply }) (seek_ask (seek_next s.seek reply)))
-  seeks_take s reply at its tells =
+  seeks_take s reply at last its tells =
+      let kept = seek_keeps s.seek s.seek.step reply in
       let next = seek_takes s.seek s.seek.step reply refl its.its.sessions its.its.taken its.its.step tells in
-      sought_takes (record s { seek = seek_next s.seek reply }) (seek_ask (seek_next s.seek reply)) at refl
-      (record { its = next; number = λ c is. seek_number s.seek s.seek.step reply ∙ its.number c is; none = its.none })
+      sought_takes (record s { seek = seek_next s.seek reply }) (seek_ask (seek_next s.seek reply)) at refl last
+      (record { its = next; floor = kept.1 ∙ its.floor; number = λ c is. kept.0 ∙ its.number c is; none = its.none })
 
   -- ---- what follows on points
   writes_take : (shape : Shape) (s : KeeperState) (found : Option Commit) → Has s → s.has_points ≡ true → KeeperTakes (writes_begun shape s found)
   writes_take shape s None has has_them = turned_takes s has
-  writes_take shape s (Some c) has has_them = record { sessions = has.sessions; hand = has.hand; step = has_them }
+  writes_take shape s (Some c) has has_them = record { sessions = has.sessions; last = has.last; hand = has.hand; step = has_them }
 
   waited_takes : (shape : Shape) (s : KeeperState) (ask : Ask WaitAnswer) → s.step ≡ Waits → Has s → s.has_points ≡ true → KeeperTakes (wait_ledto shape s ask)
   unfolding wait_ledto
@@ -395,13 +417,15 @@ module _ (count : ℕ) (F : ℕ → ℕ → ℕ → Type 0) (A : ℕ → ℕ →
   waited_takes shape s (Done wait.Idle) at has has_them = turned_takes s has
   waited_takes shape s ask at has has_them = stays s Waits at has has_them
 
-  finished_takes : (s : KeeperState) (found : Option Commit) → Has s → KeeperTakes (finished s found)
-  finished_takes s None has = turned_takes s has
-  finished_takes s (Some c) has = record { sessions = has.sessions; hand = none_hand s.seek s.has_points; step = tt }
+  finished_takes : (s : KeeperState) (found : Option Commit) → s.commit ≡ found → Has s → s.has_points ≡ true → KeeperTakes (finished s found)
+  finished_takes s None in_hand has has_them = turned_takes s has
+  finished_takes s (Some c) in_hand has has_them =
+      let all = has.hand c in_hand has_them in
+      record { sessions = has.sessions; last = subst (λ (v : Version). (session : ℕ) → session < count → P v.0 session (floor_of s.seek.points session)) all.number (all_floors s.seek.number.0 s.seek.points all.taken all.all); hand = none_hand s.seek s.has_points; step = tt }
 
   finish_takes : (s : KeeperState) (ask : Ask FinishAnswer) → s.step ≡ Finishes → Has s → s.has_points ≡ true → KeeperTakes (finish_ledto s ask)
   unfolding finish_ledto
-  finish_takes s (Done told) at has has_them = finished_takes s s.commit has
+  finish_takes s (Done told) at has has_them = finished_takes s s.commit refl has has_them
   finish_takes s ask at has has_them = stays s Finishes at has has_them
 
   -- ---- a reply
@@ -412,53 +436,53 @@ module _ (count : ℕ) (F : ℕ → ℕ → ℕ → Type 0) (A : ℕ → ℕ →
   pub replied_takes : (shape : Shape) (p : Places) (s : KeeperState) (step : Keeping) (reply : ℕ) (granted : Bool) → s.step ≡ step → Has s → KeepingTakes s step → KeepingReply s step reply → KeeperTakes (keeping_next shape p s step reply granted)
   unfolding keeping_next
   replied_takes shape p s (Ended told) reply granted at has its tells = stays s (Ended told) at has tt
-  replied_takes shape p s Starts reply granted at has its tells = start_takes (record s { start = start_next s.start reply }) (start_ask (start_next s.start reply)) at (record { sessions = has.sessions; hand = has.hand })
+  replied_takes shape p s Starts reply granted at has its tells = start_takes (record s { start = start_next s.start reply }) (start_ask (start_next s.start reply)) at (record { sessions = has.sessions; last = has.last; hand = has.hand })
   replied_takes shape p s Maintains reply granted at has its tells =
-      maintain_takes (record s { maintain = maintain_next shape p s.maintain reply }) (maintain_ask shape p (maintain_next shape p s.maintain reply)) at (record { sessions = has.sessions; hand = has.hand })
+      maintain_takes (record s { maintain = maintain_next shape p s.maintain reply }) (maintain_ask shape p (maintain_next shape p s.maintain reply)) at (record { sessions = has.sessions; last = has.last; hand = has.hand })
   replied_takes shape p s LoadsPhase reply granted at has its tells = phase_takes p s s.commit (phase_said reply) granted refl has
-  replied_takes shape p s Enters reply granted at has its tells = enter_takes (record s { enter = enter_next s.enter reply }) (enter_ask (enter_next s.enter reply)) at (record { sessions = has.sessions; hand = has.hand })
-  replied_takes shape p s Copies reply granted at has its tells = copied_takes (record s { copy = copy_driven s.copy reply }) (copy_asked (copy_driven s.copy reply)) at (record { sessions = has.sessions; hand = has.hand })
-  replied_takes shape p s Seeks reply granted at has its tells = seeks_take s reply at its tells
-  replied_takes shape p s Waits reply granted at has its tells = waited_takes shape (record s { wait = wait_next s.wait reply }) (wait_ask (wait_next s.wait reply)) at (record { sessions = has.sessions; hand = has.hand }) its
+  replied_takes shape p s Enters reply granted at has its tells = enter_takes (record s { enter = enter_next s.enter reply }) (enter_ask (enter_next s.enter reply)) at (record { sessions = has.sessions; last = has.last; hand = has.hand })
+  replied_takes shape p s Copies reply granted at has its tells = copied_takes (record s { copy = copy_driven s.copy reply }) (copy_asked (copy_driven s.copy reply)) at (record { sessions = has.sessions; last = has.last; hand = has.hand })
+  replied_takes shape p s Seeks reply granted at has its tells = seeks_take s reply at has.last its tells
+  replied_takes shape p s Waits reply granted at has its tells = waited_takes shape (record s { wait = wait_next s.wait reply }) (wait_ask (wait_next s.wait reply)) at (record { sessions = has.sessions; last = has.last; hand = has.hand }) its
   replied_takes shape p s Writes reply granted at has its tells = stays s Writes at has its
   replied_takes shape p s Finishes reply granted at has its tells =
-      finish_takes (record s { finish = finish_next s.finish reply }) (finish_ask s.seek.points (finish_next s.finish reply)) at (record { sessions = has.sessions; hand = has.hand }) its
+      finish_takes (record s { finish = finish_next s.finish reply }) (finish_ask s.seek.points (finish_next s.finish reply)) at (record { sessions = has.sessions; last = has.last; hand = has.hand }) its
 
   -- an action is taken, and the device is called
   pub given_takes : (shape : Shape) (p : Places) (s : KeeperState) (step : Keeping) (action : Action) → s.step ≡ step → KeeperTakes s → KeeperTakes (keeping_given shape p s step action)
   unfolding keeping_given
   given_takes shape p s Maintains action at its =
-      maintain_takes (record s { maintain = maintain_given s.maintain action }) (maintain_ask shape p (maintain_given s.maintain action)) at (record { sessions = its.sessions; hand = its.hand })
+      maintain_takes (record s { maintain = maintain_given s.maintain action }) (maintain_ask shape p (maintain_given s.maintain action)) at (record { sessions = its.sessions; last = its.last; hand = its.hand })
   given_takes shape p s step action at its = its
 
   write_takes : (s : KeeperState) (found : Option Commit) (answer : WriteAnswer) → s.step ≡ Writes → Has s → s.has_points ≡ true → KeeperTakes (write_ledto s found answer)
   unfolding write_ledto
   write_takes s None answer at has has_them = turned_takes s has
-  write_takes s (Some c) write.Written at has has_them = record { sessions = has.sessions; hand = has.hand; step = has_them }
+  write_takes s (Some c) write.Written at has has_them = record { sessions = has.sessions; last = has.last; hand = has.hand; step = has_them }
   write_takes s (Some c) write.Device at has has_them = stays s Writes at has has_them
   write_takes s (Some c) (write.Broken why) at has has_them = stays s Writes at has has_them
 
   called_writes : (s : KeeperState) (done : Bool) → s.step ≡ Writes → Has s → s.has_points ≡ true → KeeperTakes (writes_called s done)
-  called_writes s true at has has_them = write_takes (record s { writes = commit_next s.writes true }) s.commit (commit_answer (commit_next s.writes true)) at (record { sessions = has.sessions; hand = has.hand }) has_them
-  called_writes s false at has has_them = record { sessions = has.sessions; hand = has.hand; step = tt }
+  called_writes s true at has has_them = write_takes (record s { writes = commit_next s.writes true }) s.commit (commit_answer (commit_next s.writes true)) at (record { sessions = has.sessions; last = has.last; hand = has.hand }) has_them
+  called_writes s false at has has_them = record { sessions = has.sessions; last = has.last; hand = has.hand; step = tt }
 
   pub called_takes : (shape : Shape) (p : Places) (s : KeeperState) (step : Keeping) (done : Bool) (bytes : List ℕ) → s.step ≡ step → KeeperTakes s → KeeperTakes (keeping_called shape p s step done bytes)
   unfolding keeping_called
   called_takes shape p s Maintains done bytes at its =
-      maintain_takes (record s { maintain = maintain_called shape p s.maintain done bytes }) (maintain_ask shape p (maintain_called shape p s.maintain done bytes)) at (record { sessions = its.sessions; hand = its.hand })
+      maintain_takes (record s { maintain = maintain_called shape p s.maintain done bytes }) (maintain_ask shape p (maintain_called shape p s.maintain done bytes)) at (record { sessions = its.sessions; last = its.last; hand = its.hand })
   called_takes shape p s Writes done bytes at its = called_writes s done at (has_of s its) (subst (KeepingTakes s) at its.step)
   called_takes shape p s step done bytes at its = its
 
   -- what is begun where no call is in hand
   pub turn_takes : (s : KeeperState) → Has s → KeeperTakes (turn_asked s)
   turn_takes s has =
-      either_takes s.is_broken (ended s (TurnRefused fault.Broken)) (record s { maintain = maintain_begun s.maintain; is_drain_full = false; step = Maintains }) (λ broken. record { sessions = has.sessions; hand = has.hand; step = tt })
-      (λ works. record { sessions = has.sessions; hand = has.hand; step = tt })
+      either_takes s.is_broken (ended s (TurnRefused fault.Broken)) (record s { maintain = maintain_begun s.maintain; is_drain_full = false; step = Maintains }) (λ broken. record { sessions = has.sessions; last = has.last; hand = has.hand; step = tt })
+      (λ works. record { sessions = has.sessions; last = has.last; hand = has.hand; step = tt })
 
   pub commit_takes : (s : KeeperState) (kind : CommitKind) → Has s → KeeperTakes (commit_asked s kind)
   commit_takes s kind has =
-      either_takes s.is_broken (ended s (CommitRefused fault.Broken)) (record s { start = start_begun s.start kind (length s.lost); step = Starts }) (λ broken. record { sessions = has.sessions; hand = has.hand; step = tt })
-      (λ works. record { sessions = has.sessions; hand = has.hand; step = tt })
+      either_takes s.is_broken (ended s (CommitRefused fault.Broken)) (record s { start = start_begun s.start kind (length s.lost); step = Starts }) (λ broken. record { sessions = has.sessions; last = has.last; hand = has.hand; step = tt })
+      (λ works. record { sessions = has.sessions; last = has.last; hand = has.hand; step = tt })
 
   pub asked_takes : (s begun : KeeperState) → KeeperTakes s → KeeperTakes begun → KeeperTakes (keeper_asked s begun)
   asked_takes s begun its next = by_hand (is_in_hand s.step)
@@ -471,9 +495,9 @@ module _ (count : ℕ) (F : ℕ → ℕ → ℕ → Type 0) (A : ℕ → ℕ →
   has_taken s its = has_of s its
 
   -- as a life begins
-  pub opened_takes : (s : KeeperState) (step : Keeping) → s.step ≡ step → is_in_hand step ≡ false → s.commit ≡ None → s.seek.sessions ≡ count → KeeperTakes s
-  opened_takes s (Ended told) at idle none sessions = stays s (Ended told) at (record { sessions = sessions; hand = λ c is yes. let clash : None ≡ Some c = sym none ∙ is in cc }) tt
-  opened_takes s step at idle none sessions = cc
+  pub opened_takes : (s : KeeperState) (step : Keeping) → s.step ≡ step → is_in_hand step ≡ false → s.commit ≡ None → s.seek.sessions ≡ count → LastTaken s.last → KeeperTakes s
+  opened_takes s (Ended told) at idle none sessions last = stays s (Ended told) at (record { sessions = sessions; last = last; hand = λ c is yes. let clash : None ≡ Some c = sym none ∙ is in cc }) tt
+  opened_takes s step at idle none sessions last = cc
 
 -- ---- what is known goes on
 module _ (count : ℕ) (F G : ℕ → ℕ → ℕ → Type 0) (A B : ℕ → ℕ → Type 0) (P Q : ℕ → ℕ → ℕ → Type 0) (met : (version session word : ℕ) → F version session word → G version session word)
@@ -497,6 +521,7 @@ module _ (count : ℕ) (F G : ℕ → ℕ → ℕ → Type 0) (A B : ℕ → ℕ
   keeping_on : (s : KeeperState) (step : Keeping) → KeepingTakes count F A P s step → KeepingTakes count G B Q s step
   keeping_on s Seeks its = record {
     its = record { sessions = its.its.sessions; taken = λ session it got. point s.seek.number.0 session it.0 (its.its.taken session it got); step = step_on s.seek s.seek.step its.its.step };
+    floor = its.floor;
     number = its.number;
     none = its.none;
   }
@@ -513,6 +538,7 @@ module _ (count : ℕ) (F G : ℕ → ℕ → ℕ → Type 0) (A B : ℕ → ℕ
   pub takes_on : (s : KeeperState) → KeeperTakes count F A P s → KeeperTakes count G B Q s
   takes_on s its = record {
     sessions = its.sessions;
+    last = λ session low. point s.last.number.0 session (floor_of s.last.points session) (its.last session low);
     hand = λ c is yes. let all = its.hand c is yes in record { number = all.number; taken = λ session it got. point s.seek.number.0 session it.0 (all.taken session it got); all = all.all };
     step = keeping_on s s.step its.step;
   }

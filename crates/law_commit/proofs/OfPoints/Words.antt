@@ -50,29 +50,29 @@ FirstGoesOn version point first next = (next ≡ first) ⊎ (next ≡ cut_at poi
 abbrev pub OtherGoesOn : ℕ → ℕ → ℕ → Type 0
 OtherGoesOn version other next = (next ≡ other) ⊎ (version < version_said next)
 
-module _ (version point : ℕ) (small : point ≤ last_serial) where
+module _ (version before point : ℕ) (small : point ≤ last_serial) where
   -- the first word is of the version
-  pub first_says : (first other : ℕ) → ShowsPoint version point first other → version_said first ≡ version → serial_said first ≡ point
+  pub first_says : (first other : ℕ) → ShowsPoint version before point first other → version_said first ≡ version → serial_said first ≡ point
   first_says first other (SaysFirst is) same = ap serial_said is ∙ said_serial point version small
-  first_says first other (SleepsSince at less (inl slept)) same =
+  first_says first other (SleepsSince at less stays (inl slept)) same =
       let low = said_most point at in
       let is = ap version_said slept.own in
       absurd (omega (arith, low, is, same, less))
-  first_says first other (SleepsSince at less (inr slept)) same =
+  first_says first other (SleepsSince at less stays (inr slept)) same =
       let low = said_most slept.serial (at - 1) in
       let is = ap version_said slept.before in
       absurd (omega (arith, low, is, same, less))
 
   -- it is of another one
-  pub first_meets : (first other : ℕ) → version ≤ last_version → ShowsPoint version point first other → (version_said first ≡ version → ⊥) → Meets version point first first other
+  pub first_meets : (first other : ℕ) → version ≤ last_version → ShowsPoint version before point first other → (version_said first ≡ version → ⊥) → Meets version point first first other
   first_meets first other few (SaysFirst is) apart = absurd (apart (ap version_said is ∙ said_version point version few))
-  first_meets first other few (SleepsSince at less (inl slept)) apart =
+  first_meets first other few (SleepsSince at less stays (inl slept)) apart =
       let serial : ℕ = slept.serial in
       let low : serial ≤ point = slept.low in
       let most = said_most serial (at - 1) in
       let is = ap version_said slept.before in
       inr (omega (arith, most, is, less), greater_left first other point serial (ap serial_said slept.own ∙ said_serial point at small) (ap serial_said slept.before ∙ said_serial serial (at - 1) (omega (arith, low, small))) low)
-  first_meets first other few (SleepsSince at less (inr slept)) apart =
+  first_meets first other few (SleepsSince at less stays (inr slept)) apart =
       let serial : ℕ = slept.serial in
       let low : serial ≤ point = slept.low in
       let most = said_most point at in
@@ -80,13 +80,13 @@ module _ (version point : ℕ) (small : point ≤ last_serial) where
       inr (omega (arith, most, is, less), greater_right first other point serial (ap serial_said slept.before ∙ said_serial serial (at - 1) (omega (arith, low, small))) (ap serial_said slept.own ∙ said_serial point at small) low)
 
   -- the other word is of a later version
-  pub later_says : (first other : ℕ) → ShowsPoint version point first other → version < version_said other → first ≡ cut_at point version
+  pub later_says : (first other : ℕ) → ShowsPoint version before point first other → version < version_said other → first ≡ cut_at point version
   later_says first other (SaysFirst is) later = is
-  later_says first other (SleepsSince at less (inl slept)) later =
+  later_says first other (SleepsSince at less stays (inl slept)) later =
       let low = said_most slept.serial (at - 1) in
       let is = ap version_said slept.before in
       absurd (omega (arith, low, is, later, less))
-  later_says first other (SleepsSince at less (inr slept)) later =
+  later_says first other (SleepsSince at less stays (inr slept)) later =
       let low = said_most point at in
       let is = ap version_said slept.own in
       absurd (omega (arith, low, is, later, less))
@@ -109,7 +109,7 @@ module _ (version point : ℕ) (small : point ≤ last_serial) where
   still_says first next (inl same) is = same ∙ is
   still_says first next (inr now) is = now
 
-  pub still_meets : (met first other first_next other_next : ℕ) → FirstGoesOn version point first first_next → OtherGoesOn version other other_next → ShowsPoint version point first_next other_next → Meets version point met first other
+  pub still_meets : (met first other first_next other_next : ℕ) → FirstGoesOn version point first first_next → OtherGoesOn version other other_next → ShowsPoint version before point first_next other_next → Meets version point met first other
       → Meets version point met first_next other_next
   still_meets met first other first_next other_next goes (inr later) shows meets = inl (later, later_says first_next other_next shows later)
   still_meets met first other first_next other_next goes (inl same) shows (inl its) =

@@ -114,16 +114,16 @@ parity v some = tested (v % 2 == 0) ((v - 1) % 2 == 0) refl refl
     tested false true e f = refl
     tested false false e f = let a : v % 2 ≢ 0 = grind (arith, nat_tests, e) in let b : (v - 1) % 2 ≢ 0 = grind (arith, nat_tests, f) in absurd (omega (arith, a, b, some))
 
-sleeper_shows : (words : ℕ → ℕ) (n version at point serial : ℕ) → 0 < at → at ≤ version → serial ≤ point → words (session_place n (cut_of at)) ≡ cut_at point at → words (session_place n (cut_of (at - 1))) ≡ cut_at serial (at - 1)
-    → ShowsPoint version point (words (session_place n (cut_of version))) (words (session_place n (other_cut_of version)))
-sleeper_shows words n version at point serial some up low own before = by_same (at == version) refl
+sleeper_shows : (words : ℕ → ℕ) (n version at before_point point serial : ℕ) → 0 < at → at ≤ version → (at < version → before_point ≡ point) → serial ≤ point → words (session_place n (cut_of at)) ≡ cut_at point at → words (session_place n (cut_of (at - 1))) ≡ cut_at serial (at - 1)
+    → ShowsPoint version before_point point (words (session_place n (cut_of version))) (words (session_place n (other_cut_of version)))
+sleeper_shows words n version at before_point point serial some up stays low own before = by_same (at == version) refl
   where
-    by_same : (c : Bool) → (at == version) ≡ c → ShowsPoint version point (words (session_place n (cut_of version))) (words (session_place n (other_cut_of version)))
+    by_same : (c : Bool) → (at == version) ≡ c → ShowsPoint version before_point point (words (session_place n (cut_of version))) (words (session_place n (other_cut_of version)))
     by_same true same = let e : at ≡ version = grind (arith, nat_tests, same) in SaysFirst (subst (λ (v : ℕ). words (session_place n (cut_of v)) ≡ cut_at point v) e own)
     by_same false other =
         let apart : at ≢ version = grind (arith, nat_tests, other) in
         let less : at < version = omega (arith, up, apart) in
-        SleepsSince at less
+        SleepsSince at less (stays less)
         (elim (by_parities words n (cut_at point at) (cut_at serial (at - 1)) (version % 2 == 0) (at % 2 == 0) ((at - 1) % 2 == 0) (parity at some) own before) [
           | inl its ↦ inl (record { serial = serial; low = low; own = its.0; before = its.1 })
           | inr its ↦ inr (record { serial = serial; low = low; own = its.1; before = its.0 })
@@ -138,14 +138,15 @@ asleep_marks k words serial s (CatchesUp Shifts) asleep other marks = absurd asl
 asleep_marks k words serial s step asleep other marks = absurd asleep
 
 -- ---- one that wakes
-module _ (k : Seat) (words stored : ℕ → ℕ) (same : (at : ℕ) → words (session_place k.number (cut_of at)) ≡ stored (session_place k.number (cut_of at))) (version point left : ℕ) (s : SessionState) (some : 0 < s.seen.version.0) (up : s.seen.version.0 ≤ version) (is_point : point ≡ s.serial) where
+module _ (k : Seat) (words stored : ℕ → ℕ) (same : (at : ℕ) → words (session_place k.number (cut_of at)) ≡ stored (session_place k.number (cut_of at))) (version before_point point left : ℕ) (s : SessionState) (some : 0 < s.seen.version.0) (up : s.seen.version.0 ≤ version)
+    (stays : s.seen.version.0 < version → before_point ≡ point) (is_point : point ≡ s.serial) where
   abbrev Shows : Type 0
-  Shows = ShowsPoint version point (words (session_place k.number (cut_of version))) (words (session_place k.number (other_cut_of version)))
+  Shows = ShowsPoint version before_point point (words (session_place k.number (cut_of version))) (words (session_place k.number (other_cut_of version)))
 
   wake_slept : HasSlept k stored s → Shows
   wake_slept its =
       let low = its.low in
-      sleeper_shows words k.number version s.seen.version.0 point its.serial some up (omega (arith, low, is_point)) (same s.seen.version.0 ∙ (its.own ∙ ap (λ (n : ℕ). cut_at n s.seen.version.0) (sym is_point))) (same (s.seen.version.0 - 1) ∙ its.before)
+      sleeper_shows words k.number version s.seen.version.0 before_point point its.serial some up stays (omega (arith, low, is_point)) (same s.seen.version.0 ∙ (its.own ∙ ap (λ (n : ℕ). cut_at n s.seen.version.0) (sym is_point))) (same (s.seen.version.0 - 1) ∙ its.before)
 
   told_first : (at : ℕ) → at ≡ version + 1 → stored (session_place k.number (cut_of (at - 1))) ≡ cut_at s.serial (at - 1) → Shows
   told_first at is told =
@@ -245,7 +246,7 @@ module _ (live : LiveAreLater) (paper_sound : PaperIsSound) (asleep_law : (openi
   marks = run_marks k first (λ at. word_at opening.now.words at) own_events opened (seated opening events session first s became) (shows session first was)
 
   -- it has left the version
-  has_left : s.seen.version.0 ≡ version + 1 → ShowsPoint version (point opening events session version) (words (session_place session (cut_of version))) (words (session_place session (other_cut_of version)))
+  has_left : s.seen.version.0 ≡ version + 1 → ShowsPoint version (point opening events session (version - 1)) (point opening events session version) (words (session_place session (cut_of version))) (words (session_place session (other_cut_of version)))
   has_left own_version =
       let coming : (view : View) → (sight_of opening events session).coming ≡ Some view → view.version.0 ≡ version + 1 = (λ view is.
       let between = coming_below opening events session first s view became (none_ahead opening.now opens.seen.rests) rises is in
@@ -257,9 +258,16 @@ module _ (live : LiveAreLater) (paper_sound : PaperIsSound) (asleep_law : (openi
       let is : left_serial ≡ point opening events session version = left_is ∙ ap (λ (n : ℕ). point opening events session n) low in
       SaysFirst (stored_so version ∙ (says ∙ ap (λ (n : ℕ). cut_at n version) is))
 
+  -- since an earlier one: so its point of the version before is the same
+  same_before : s.seen.version.0 < version → point opening events session (version - 1) ≡ point opening events session version
+  same_before less =
+      let earlier : point opening events session (version - 1) ≡ s.serial = life_point opening events session first s (version - 1) became risen (omega (arith, less)) in
+      let is : point opening events session version ≡ s.serial = life_point opening events session first s version became risen (omega (arith, less)) in
+      earlier ∙ sym is
+
   -- it sleeps since this version or an earlier one
   sleeps : s.is_awake ≡ false → s.seen.version.0 ≤ version → s.step ≢ CatchesUp Wakes
-      → ShowsPoint version (point opening events session version) (words (session_place session (cut_of version))) (words (session_place session (other_cut_of version)))
+      → ShowsPoint version (point opening events session (version - 1)) (point opening events session version) (words (session_place session (cut_of version))) (words (session_place session (other_cut_of version)))
   sleeps asleep up other =
       let at : ℕ = s.seen.version.0 in
       let is : point opening events session version ≡ s.serial = life_point opening events session first s version became risen up in
@@ -270,12 +278,12 @@ module _ (live : LiveAreLater) (paper_sound : PaperIsSound) (asleep_law : (openi
       let own_cut = asleep_law opening events session first s became opens.guarded.words.enough_words asleep other in
       let marked = asleep_marks k stored left_serial s s.step (run_asleep k first own_events opened asleep).accepts_none other marks in
       let cut = marked.cut in
-      sleeper_shows words session version at (point opening events session version) left_serial fit.0 up (omega (arith, is, few, counts, before))
+      sleeper_shows words session version at (point opening events session (version - 1)) (point opening events session version) left_serial fit.0 up same_before (omega (arith, is, few, counts, before))
       (own_cut ∙ ap (λ (n : ℕ). cut_at n at) (sym is)) (stored_so (at - 1) ∙ cut.2)
 
   -- it wakes
   wakes_now : s.seen.version.0 ≤ version → s.step ≡ CatchesUp Wakes
-      → ShowsPoint version (point opening events session version) (words (session_place session (cut_of version))) (words (session_place session (other_cut_of version)))
+      → ShowsPoint version (point opening events session (version - 1)) (point opening events session version) (words (session_place session (cut_of version))) (words (session_place session (other_cut_of version)))
   wakes_now up at =
       let is : point opening events session version ≡ s.serial = life_point opening events session first s version became risen up in
       let fit : IsVersion s.seen.version.0 = run_version k first own_events opened (first_version opening session first s events became opens.seen.rests) in
@@ -285,19 +293,19 @@ module _ (live : LiveAreLater) (paper_sound : PaperIsSound) (asleep_law : (openi
       let high = (coming_below opening events session first s view became (none_ahead opening.now opens.seen.rests) rises comes).1 in
       let next = pends.next in
       omega (arith, later, high, next)) in
-      waking k words stored stored_so version (point opening events session version) left_serial s fit.0 up is (sight_of opening events session) coming s.step at (coming_seen opening events session first s became) slept marks
+      waking k words stored stored_so version (point opening events session (version - 1)) (point opening events session version) left_serial s fit.0 up same_before is (sight_of opening events session) coming s.step at (coming_seen opening events session first s became) slept marks
 
   asleep_shows : s.is_awake ≡ false → s.seen.version.0 ≤ version → (step : Sitting) → s.step ≡ step
-      → ShowsPoint version (point opening events session version) (words (session_place session (cut_of version))) (words (session_place session (other_cut_of version)))
+      → ShowsPoint version (point opening events session (version - 1)) (point opening events session version) (words (session_place session (cut_of version))) (words (session_place session (other_cut_of version)))
   asleep_shows asleep up (CatchesUp Wakes) at = wakes_now up at
   asleep_shows asleep up (CatchesUp Refreshes) at = sleeps asleep up (λ wakes. let clash : CatchesUp Refreshes ≡ CatchesUp Wakes = sym at ∙ wakes in cc)
   asleep_shows asleep up (CatchesUp Shifts) at = sleeps asleep up (λ wakes. let clash : CatchesUp Shifts ≡ CatchesUp Wakes = sym at ∙ wakes in cc)
   asleep_shows asleep up step at = sleeps asleep up (λ wakes. let clash : step ≡ CatchesUp Wakes = sym at ∙ wakes in cc)
 
-  shows_point : ShowsPoint version (point opening events session version) (words (session_place session (cut_of version))) (words (session_place session (other_cut_of version)))
+  shows_point : ShowsPoint version (point opening events session (version - 1)) (point opening events session version) (words (session_place session (cut_of version))) (words (session_place session (other_cut_of version)))
   shows_point = by_both s.is_awake refl (nat_le s.seen.version.0 version) refl
     where
-      by_both : (c : Bool) → s.is_awake ≡ c → (d : Bool) → nat_le s.seen.version.0 version ≡ d → ShowsPoint version (point opening events session version) (words (session_place session (cut_of version))) (words (session_place session (other_cut_of version)))
+      by_both : (c : Bool) → s.is_awake ≡ c → (d : Bool) → nat_le s.seen.version.0 version ≡ d → ShowsPoint version (point opening events session (version - 1)) (point opening events session version) (words (session_place session (cut_of version))) (words (session_place session (other_cut_of version)))
       by_both c is false above = let high : version < s.seen.version.0 = grind (arith, nat_tests, above) in let low = low_version in has_left (omega (arith, high, low))
       by_both true awake true below =
           let up : s.seen.version.0 ≤ version = grind (arith, nat_tests, below) in

@@ -33,7 +33,7 @@ use Rattle.law_refine.specs.Below.fkv_commit.Cuts.{serial_said, version_said}
 use Rattle.law_refine.specs.Below.fkv_commit.Deferring.{defer_ask, defer_begun, defer_next}
 use Rattle.law_refine.specs.Below.fkv_commit.Entering.{enter_ask, enter_begun, enter_next}
 use Rattle.law_refine.specs.Below.fkv_commit.Finishing.{finish_ask, finish_next}
-use Rattle.law_refine.specs.Below.fkv_commit.Seeking.{SeekState, defer_led, owing_from, point_taken, points_from, seek_ask, seek_begun, seek_next, seeking_next, slot_led}
+use Rattle.law_refine.specs.Below.fkv_commit.Seeking.{SeekState, defer_led, owing_from, point_taken, with_point, points_from, seek_ask, seek_begun, seek_next, seeking_next, slot_led}
 use Rattle.law_refine.specs.Below.fkv_commit.Starting.{start_ask, start_begun, start_next}
 use Rattle.law_refine.specs.Below.fkv_commit.Waiting.{wait_ask, wait_begun, wait_next}
 use Rattle.law_refine.specs.Below.fkv_manifest.WriteAnswer.{WriteAnswer}
@@ -105,7 +105,7 @@ module _ (N : ℕ → ℕ → Type 0) (count : ℕ) where
   points_knows s sessions all = either_seek (nat_lt (length s.points) s.sessions) (record s { step = seek.LoadsCut }) (record s { step = seek.StoresWaitFlush }) (λ yes. record { sessions = sessions; step = all }) (λ no. record { sessions = sessions; step = all })
 
   taken_knows : (s : SeekState) (serial : ℕ) → s.sessions ≡ count → AllLeave s.number.0 → SeekKnows (point_taken s serial)
-  taken_knows s serial sessions all = points_knows (record s { points = s.points ++ record { 0 = serial } ∷ [] }) sessions all
+  taken_knows s serial sessions all = points_knows (with_point s serial) sessions all
 
   slot_knows : (s : SeekState) (ask : Ask DeferAnswer) → s.step ≡ seek.SeeksSlot → s.sessions ≡ count → AllLeave s.number.0 → SeekKnows (slot_led s ask)
   unfolding slot_led
@@ -175,15 +175,15 @@ module _ (N : ℕ → ℕ → Type 0) (count : ℕ) where
   turned_knows : (s : KeeperState) → HasSessions s → KeeperKnows (turned s)
   turned_knows s sessions = record { sessions = sessions; step = tt }
 
-  seek_begins : (s : KeeperState) (c : Commit) → HasSessions s → KeeperKnows (record s { seek = seek_begun s.seek c.number; has_points = false; step = Seeks })
+  seek_begins : (s : KeeperState) (c : Commit) → HasSessions s → KeeperKnows (record s { seek = seek_begun s.seek c.number s.last.points; has_points = false; step = Seeks })
   seek_begins s c sessions =
-      let its = owing_knows (record s.seek { number = c.number; points = [] }) 0 sessions (λ session low. absurd (omega (arith, low))) in
+      let its = owing_knows (record s.seek { number = c.number; floor = s.last.points; points = [] }) 0 sessions (λ session low. absurd (omega (arith, low))) in
       record { sessions = its.sessions; step = its.step }
 
   part_knows : (p : Places) (s : KeeperState) (c : Commit) (said : PhaseSaid) (granted : Bool) → HasSessions s → KeeperKnows (part_begun p s c said granted)
   part_knows p s c (Says phase.InProgress version) granted sessions =
       either_knows s.has_entered (copies_next p s c granted (turned s)) (record s { enter = enter_begun s.enter c.number; step = Enters }) (copies_next_knows p s c granted (turned s) sessions (turned_knows s sessions)) (record { sessions = sessions; step = tt })
-  part_knows p s c (Says phase.WaitPending version) granted sessions = copies_next_knows p s c granted (record s { seek = seek_begun s.seek c.number; has_points = false; step = Seeks }) sessions (seek_begins s c sessions)
+  part_knows p s c (Says phase.WaitPending version) granted sessions = copies_next_knows p s c granted (record s { seek = seek_begun s.seek c.number s.last.points; has_points = false; step = Seeks }) sessions (seek_begins s c sessions)
   part_knows p s c (Says phase.WaitFlush version) granted sessions = either_knows s.has_points (record s { wait = wait_begun c.end c.epoch; step = Waits }) (turned s) (record { sessions = sessions; step = tt }) (turned_knows s sessions)
   part_knows p s c (Says phase.Rest version) granted sessions = turned_knows s sessions
   part_knows p s c (Says phase.Prepare version) granted sessions = turned_knows s sessions

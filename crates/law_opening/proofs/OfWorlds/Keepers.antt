@@ -57,7 +57,7 @@ keeper_of o = record {
   start = record { kind = Full; lost = 0; defer = defer_rested; step = starting.Ended start.Idle };
   enter = record { number = record { 0 = 1 }; defer = defer_rested; step = entering.Ended enter.Idle };
   copy = None;
-  seek = record { sessions = o.shape.sessions; number = record { 0 = 1 }; points = []; defer = defer_rested; step = seeking.Ended seek.Idle };
+  seek = record { sessions = o.shape.sessions; number = record { 0 = 1 }; floor = []; points = []; defer = defer_rested; step = seeking.Ended seek.Idle };
   wait = record { end = record { 0 = 0 }; epoch = 0; step = waiting.Ended wait.Idle };
   writes = no_writes;
   finish = record { sessions = o.shape.sessions; number = record { 0 = 1 }; step = finishing.Ended finish.Idle };

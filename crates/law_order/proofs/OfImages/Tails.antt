@@ -31,7 +31,7 @@ use Rattle.law_commit.specs.Below.fkv_commit.Deferring.{defer_ask, defer_next}
 use Rattle.law_commit.specs.Below.fkv_commit.Entering.{enter_ask, enter_next}
 use Rattle.law_commit.specs.Below.fkv_commit.Finishing.{finish_ask, finish_next}
 use Rattle.law_commit.specs.Below.fkv_commit.Seeking as search
-use Rattle.law_commit.specs.Below.fkv_commit.Seeking.{SeekState, cut_met, other_met, owing_from, point_taken, points_from, seek_ask, seek_begun, seek_next, seeking_ask, seeking_next, slot_led}
+use Rattle.law_commit.specs.Below.fkv_commit.Seeking.{SeekState, cut_met, other_met, owing_from, point_taken, with_point, points_from, seek_ask, seek_begun, seek_next, seeking_ask, seeking_next, slot_led}
 use Rattle.law_commit.specs.Below.fkv_commit.Starting as begin
 use Rattle.law_commit.specs.Below.fkv_commit.Starting.{StartState, is_lost_full, phase_found, seek_led, start_ask, start_next, starting_ask, starting_next}
 use Rattle.law_commit.specs.Below.fkv_commit.Waiting.{wait_ask, wait_begun, wait_next}
@@ -212,7 +212,7 @@ points_above : (last : Finality) (found : Option Commit) (m : SeekState) → See
 points_above last found m = seek_either last found (nat_lt (length m.points) m.sessions) (record m { step = seeking.LoadsCut }) (record m { step = seeking.StoresWaitFlush }) tt tt
 
 taken_above : (last : Finality) (found : Option Commit) (m : SeekState) (serial : ℕ) → SeeksAbove last found (point_taken m serial).step
-taken_above last found m serial = points_above last found (record m { points = m.points ++ record { 0 = serial } ∷ [] })
+taken_above last found m serial = points_above last found (with_point m serial)
 
 cut_above : (last : Finality) (found : Option Commit) (m : SeekState) (word : ℕ) → SeeksAbove last found (cut_met m word).step
 cut_above last found m word = seek_either last found (version_said word == m.number.0) (point_taken m (serial_said word)) (record m { step = seeking.LoadsOther word }) (taken_above last found m (serial_said word)) tt
@@ -230,7 +230,7 @@ part_waits t s c false e is = is
 
 part_on : (t : Bounds) (p : Places) (s : KeeperState) (c : Commit) (said : PhaseSaid) (granted : Bool) → Below t s.has_points s.last s.commit → IsAtTail t (part_begun p s c said granted)
 part_on t p s c (Says phase.InProgress version) granted is = either t s.has_entered _ _ (copies_on t p s c granted (turned s) is is) is
-part_on t p s c (Says phase.WaitPending version) granted is = copies_on t p s c granted _ is (untaken t s.has_points s.last s.commit is, owing_above s.last s.commit (let its = s.seek in record its { number = c.number; points = [] }) 0)
+part_on t p s c (Says phase.WaitPending version) granted is = copies_on t p s c granted _ is (untaken t s.has_points s.last s.commit is, owing_above s.last s.commit (let its = s.seek in record its { number = c.number; floor = s.last.points; points = [] }) 0)
 part_on t p s c (Says phase.WaitFlush version) granted is = part_waits t s c s.has_points refl is
 part_on t p s c said granted is = is
 

@@ -36,7 +36,7 @@ use Rattle.law_world.specs.Below.fkv_commit.Entering as enters
 use Rattle.law_world.specs.Below.fkv_commit.Entering.{EnterState, entering_ask, enter_ask, enter_begun, entering_next, enter_next}
 use Rattle.law_world.specs.Below.fkv_commit.Finishing.{FinishState, durable_from, finish_begun, finishing_ask, finish_ask, finishing_next, finish_next}
 use Rattle.law_world.specs.Below.fkv_commit.Seeking as seeks
-use Rattle.law_world.specs.Below.fkv_commit.Seeking.{SeekState, owing_from, seek_begun, seeking_ask, seek_ask, points_from, point_taken, slot_led, cut_met, other_met, seeking_next, seek_next}
+use Rattle.law_world.specs.Below.fkv_commit.Seeking.{SeekState, owing_from, seek_begun, seeking_ask, seek_ask, points_from, point_taken, with_point, slot_led, cut_met, other_met, seeking_next, seek_next}
 use Rattle.law_world.specs.Below.fkv_commit.Starting as starts
 use Rattle.law_world.specs.Below.fkv_commit.Starting.{StartState, start_begun, is_lost_full, starting_ask, start_ask, refused, phase_found, starting_next, start_next}
 use Rattle.law_world.specs.Below.fkv_commit.Waiting.{WaitState, waiting_ask, wait_ask}
@@ -199,7 +199,7 @@ points_spares : (s : SeekState) → IsDeferSparing s.defer → IsSeekSparing (po
 points_spares s bounds = seek_either (nat_lt (length s.points) s.sessions) (record s { step = seeking.LoadsCut }) (record s { step = seeking.StoresWaitFlush }) bounds bounds
 
 taken_spares : (s : SeekState) (serial : ℕ) → IsDeferSparing s.defer → IsSeekSparing (point_taken s serial)
-taken_spares s serial bounds = points_spares (record s { points = s.points ++ record { 0 = serial } ∷ [] }) bounds
+taken_spares s serial bounds = points_spares (with_point s serial) bounds
 
 seek_sought : (s : SeekState) (ask : Ask DeferAnswer) → s.step ≡ seeking.SeeksSlot → IsDeferSparing s.defer → IsSeekSparing (slot_led s ask)
 unfolding slot_led
@@ -241,8 +241,8 @@ seek_led s (seeking.Defers end) reply at bounds = seek_deferred end (record s { 
 pub seek_next_spares : (s : SeekState) (reply : ℕ) → IsSeekSparing s → IsSeekSparing (seek_next s reply)
 seek_next_spares s reply bounds = seek_led s s.step reply refl bounds
 
-pub seek_begun_spares : (s : SeekState) (number : Version) → IsSeekSparing (seek_begun s number)
-seek_begun_spares s number = owing_spares (record s { number = number; points = [] }) 0
+pub seek_begun_spares : (s : SeekState) (number : Version) (floor : List Serial) → IsSeekSparing (seek_begun s number floor)
+seek_begun_spares s number floor = owing_spares (record s { number = number; floor = floor; points = [] }) 0
 
 -- how it waits
 waiting_spares : (part : Part) (p : Places) (step : Waiting) → Spares part p (waiting_ask step)

@@ -153,7 +153,7 @@ module _ (count : ℕ) where
       either_spares s.has_entered n (copies_next p s c granted (turned s)) (record s { enter = enter_begun s.enter c.number; step = Enters })
       (copies_next_spares p n s c granted (turned s) counts (ended_spares n s _ counts)) (record { counts = counts; bounds = enter_begun_spares s.enter c.number })
   part_spares p n s c (Says phase.WaitPending version) granted counts =
-      copies_next_spares p n s c granted (record s { seek = seek_begun s.seek c.number; has_points = false; step = Seeks }) counts (record { counts = counts; bounds = seek_begun_spares s.seek c.number })
+      copies_next_spares p n s c granted (record s { seek = seek_begun s.seek c.number s.last.points; has_points = false; step = Seeks }) counts (record { counts = counts; bounds = seek_begun_spares s.seek c.number s.last.points })
   part_spares p n s c (Says phase.WaitFlush version) granted counts =
       either_spares s.has_points n (record s { wait = wait_begun c.end c.epoch; step = Waits }) (turned s) (record { counts = counts; bounds = tt }) (ended_spares n s _ counts)
   part_spares p n s c (Says phase.Rest version) granted counts = ended_spares n s _ counts

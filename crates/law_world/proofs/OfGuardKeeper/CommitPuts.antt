@@ -36,7 +36,7 @@ use Rattle.fkv_commit.specs.Deferring.{DeferState, defer_ask, defer_next, defer_
 use Rattle.fkv_commit.specs.Entering as entering
 use Rattle.fkv_commit.specs.Entering.{EnterState, enter_ask, enter_next, entering_ask, entering_next}
 use Rattle.fkv_commit.specs.Seeking as seeking
-use Rattle.fkv_commit.specs.Seeking.{SeekState, seek_ask, seek_next, seeking_ask, seeking_next, points_from, slot_led, cut_met, other_met}
+use Rattle.fkv_commit.specs.Seeking.{SeekState, seek_ask, seek_next, seeking_ask, seeking_next, points_from, with_point, slot_led, cut_met, other_met}
 use Rattle.fkv_commit.specs.Starting as starting
 use Rattle.fkv_commit.specs.Starting.{StartState, start_ask, start_next, starting_ask, starting_next, phase_found, is_lost_full}
 use Rattle.fkv_flush.specs.GuardLevels.{levels_of}
@@ -161,11 +161,11 @@ owing_off s session reply = elim (truth (reply == 0)) [ inl e ↦ rw e (owing_sl
 
 cut_off : (s : SeekState) (word : ℕ) → is_of_slot (seek_ask (cut_met s word)) ≡ false
 unfolding seeking_ask
-cut_off s word = elim (truth (version_said word == s.number.0)) [ inl e ↦ rw e (points_off (record s { points = s.points ++ record { 0 = serial_said word } ∷ [] })) | inr e ↦ rw e refl ]
+cut_off s word = elim (truth (version_said word == s.number.0)) [ inl e ↦ rw e (points_off (with_point s (serial_said word))) | inr e ↦ rw e refl ]
 
 other_off : (s : SeekState) (first word : ℕ) → is_of_slot (seek_ask (other_met s first word)) ≡ false
 unfolding seeking_ask
-other_off s first word = elim (truth (nat_le (version_said word) s.number.0)) [ inl e ↦ rw e (points_off (record s { points = s.points ++ record { 0 = max (serial_said first) (serial_said word) } ∷ [] })) | inr e ↦ rw e refl ]
+other_off s first word = elim (truth (nat_le (version_said word) s.number.0)) [ inl e ↦ rw e (points_off (with_point s (max (serial_said first) (serial_said word)))) | inr e ↦ rw e refl ]
 
 seek_seeks : (s : SeekState) (e : DeferState) (ask : Ask DeferAnswer) → defer_ask e ≡ ask → SeekGoes ask e → is_of_slot (seek_ask (slot_led (record s { defer = e; step = seek.SeeksSlot }) ask)) ≡ false
 unfolding slot_led seeking_ask
@@ -195,7 +195,7 @@ seek_puts_at w a x s seek.LoadsCut reply sound got fits k slot f = puts_none w.n
 seek_puts_at w a x s (seek.LoadsOther first) reply sound got fits k slot f =
     puts_none w.now.actions (seek_ask (other_met (record s { step = seek.LoadsOther first }) first reply)) (other_off (record s { step = seek.LoadsOther first }) first reply) slot f
 seek_puts_at w a x s seek.LoadsAgain reply sound got fits k slot f =
-    puts_none w.now.actions (seek_ask (seek_next (record s { step = seek.LoadsAgain }) reply)) (points_off (record s { points = s.points ++ record { 0 = serial_said reply } ∷ []; step = seek.LoadsAgain })) slot f
+    puts_none w.now.actions (seek_ask (seek_next (record s { step = seek.LoadsAgain }) reply)) (points_off (with_point (record s { step = seek.LoadsAgain }) (serial_said reply))) slot f
 seek_puts_at w a x s seek.StoresWaitFlush reply sound got fits k slot f = cc
 seek_puts_at w a x s seek.LoadsTail reply sound got fits k slot f = cc
 seek_puts_at w a x s (seek.RaisesReadOnly end) reply sound got fits k slot f =

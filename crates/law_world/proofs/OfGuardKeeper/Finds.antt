@@ -2,6 +2,7 @@
 use Rattle.std.proofs.Common.{◌≡◌, ℕ, ◌∙◌, List, [], inl, inr, refl, sym, ap, subst, Bool, false}
 use Rattle.std.specs.Prelude.{Option, Some, None, slice_get}
 use Rattle.fkv_base.specs.declared.shapes.Shape.{Shape}
+use Rattle.fkv_base.specs.declared.numbers.Serial.{Serial}
 use Rattle.fkv_base.specs.declared.numbers.Version.{Version}
 use Rattle.fkv_plane.specs.declared.actions.Action.{Action}
 use Rattle.fkv_plane.specs.declared.asks.Ask.{Ask}
@@ -133,9 +134,9 @@ module _ (actions : List (Option Action)) (shape : Shape) (p : Places) where
   unfolding keeping_ask entering_ask deferring_ask raise_ask passed
   enter_off s from number = refl
 
-  seek_off : (s : KeeperState) (from : SeekState) (number : Version) → is_of_slot (keeper_ask shape p (record s { seek = seek_begun from number; step = keeping.Seeks })) ≡ false
+  seek_off : (s : KeeperState) (from : SeekState) (number : Version) (floor : List Serial) → is_of_slot (keeper_ask shape p (record s { seek = seek_begun from number floor; step = keeping.Seeks })) ≡ false
   unfolding keeping_ask
-  seek_off s from number = passed_slot (seek_ask (seek_begun from number)) (turn_over s) ∙ owing_slot (record from { number = number; points = [] }) 0
+  seek_off s from number floor = passed_slot (seek_ask (seek_begun from number floor)) (turn_over s) ∙ owing_slot (record from { number = number; floor = floor; points = [] }) 0
 
   phase_off : (s there : KeeperState) → HasBegun s there → is_of_slot (keeper_ask shape p there) ≡ false
   phase_off s there (inl its) = quiet_slot shape p there its.quiet
@@ -144,9 +145,9 @@ module _ (actions : List (Option Action)) (shape : Shape) (p : Places) where
       ap (λ (step : Keeping). record there { step = step }) its.step ∙ ap (λ (inner : EnterState). record there { enter = inner; step = keeping.Enters }) its.its in
       ap (λ (k : KeeperState). is_of_slot (keeper_ask shape p k)) so ∙ enter_off there its.from its.number
   phase_off s there (inr (inr its)) =
-      let so : there ≡ record there { seek = seek_begun its.from its.number; step = keeping.Seeks } =
+      let so : there ≡ record there { seek = seek_begun its.from its.number its.floor; step = keeping.Seeks } =
       ap (λ (step : Keeping). record there { step = step }) its.step ∙ ap (λ (inner : SeekState). record there { seek = inner; step = keeping.Seeks }) its.its in
-      ap (λ (k : KeeperState). is_of_slot (keeper_ask shape p k)) so ∙ seek_off there its.from its.number
+      ap (λ (k : KeeperState). is_of_slot (keeper_ask shape p k)) so ∙ seek_off there its.from its.number its.floor
 
 puts_at : (w : GuardWorld) (a : ℕ) (x : Actor) (seen : LastSeen) (s : KeeperState) (step : Keeping) (reply : ℕ) (granted : Bool) → IsSound w → slice_get w.now.actors a ≡ Some x
     → Fits (likeness seen (keeping_machine s step) (keeping_work s step)) x → KeepingKnows (levels_of w.now.words) s step → (step ≡ keeping.Maintains → reply ≡ reply_to w.now.words (maintain_ask w.now.shape w.now.places s.maintain))

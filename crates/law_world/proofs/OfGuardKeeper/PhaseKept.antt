@@ -1,6 +1,7 @@
 -- The load of the phase, and what it calls for.
 use Rattle.std.proofs.Common.{◌≡◌, ℕ, List, [], ◌∷◌, ◌⊎◌, inl, inr, refl, ap, sym, subst, ◌∙◌, Bool, true, false}
 use Rattle.std.specs.Prelude.{Option, Some, None, slice_get, if◌then◌else◌}
+use Rattle.fkv_base.specs.declared.numbers.Serial.{Serial}
 use Rattle.fkv_base.specs.declared.numbers.Version.{Version}
 use Rattle.fkv_base.specs.declared.phases.Phase.TheVariants as phase
 use Rattle.fkv_words.specs.declared.phase_words.PhaseSaid.{PhaseSaid}
@@ -41,8 +42,9 @@ pub record HasEntered (s there : KeeperState) : Type 0 where
 pub record HasSought (s there : KeeperState) : Type 0 where
   pub from : SeekState
   pub number : Version
+  pub floor : List Serial
   pub step : there.step ≡ keeping.Seeks
-  pub its : there.seek ≡ seek_begun from number
+  pub its : there.seek ≡ seek_begun from number floor
   pub sessions : there.finish.sessions ≡ s.finish.sessions
 
 abbrev pub HasBegun : KeeperState → KeeperState → Type 0
@@ -84,15 +86,15 @@ enters_phase n a x seen granted there from number got fits same =
       knows = record { sessions = same; its = tt };
     })
 
-seeks_phase : (n : GuardNow) (a : ℕ) (x : Actor) (seen : LastSeen) (granted : Bool) (there : KeeperState) (from : SeekState) (number : Version) → slice_get n.actors a ≡ Some x → Fits (likeness seen None None) x
+seeks_phase : (n : GuardNow) (a : ℕ) (x : Actor) (seen : LastSeen) (granted : Bool) (there : KeeperState) (from : SeekState) (number : Version) (floor : List Serial) → slice_get n.actors a ≡ Some x → Fits (likeness seen None None) x
     → there.finish.sessions ≡ n.places.sessions
-    → StepLed n a (seek_begins a (seek_begun from number).step) seen granted (record there { seek = seek_begun from number; step = keeping.Seeks }) n.words
+    → StepLed n a (seek_begins a (seek_begun from number floor).step) seen granted (record there { seek = seek_begun from number floor; step = keeping.Seeks }) n.words
 unfolding keeping_ask
-seeks_phase n a x seen granted there from number got fits same =
-    let first : SeekState = record from { number = number; points = [] } in
-    let led : PartLed n a (seek_begins a (seek_begun from number).step) seen seek_machine (SeekKnown n.words) (seek_begun from number) n.words n.actions = owing_led n a x seen first 0 got fits in
-    slotless_step n a (seek_begins a (seek_begun from number).step) seen granted (record there { seek = seek_begun from number; step = keeping.Seeks }) n.words
-    (passed_slot (seek_ask (seek_begun from number)) (turn_over there) ∙ owing_slot first 0) (record { follows = led.follows; knows = record { sessions = same; its = led.knows } })
+seeks_phase n a x seen granted there from number floor got fits same =
+    let first : SeekState = record from { number = number; floor = floor; points = [] } in
+    let led : PartLed n a (seek_begins a (seek_begun from number floor).step) seen seek_machine (SeekKnown n.words) (seek_begun from number floor) n.words n.actions = owing_led n a x seen first 0 got fits in
+    slotless_step n a (seek_begins a (seek_begun from number floor).step) seen granted (record there { seek = seek_begun from number floor; step = keeping.Seeks }) n.words
+    (passed_slot (seek_ask (seek_begun from number floor)) (turn_over there) ∙ owing_slot first 0) (record { follows = led.follows; knows = record { sessions = same; its = led.knows } })
 
 -- by what has begun
 pub phase_goes : (n : GuardNow) (a : ℕ) (x : Actor) (seen : LastSeen) (granted : Bool) (s there : KeeperState) → slice_get n.actors a ≡ Some x → Fits (likeness seen None None) x → s.finish.sessions ≡ n.places.sessions
@@ -105,6 +107,6 @@ phase_goes n a x seen granted s there got fits same (inr (inl its)) =
     let so : there ≡ last = ap (λ (step : Keeping). record there { step = step }) its.step ∙ ap (λ (inner : EnterState). record there { enter = inner; step = keeping.Enters }) its.its in
     subst (λ (k : KeeperState). StepLed n a (part_begins a k k.step) seen granted k n.words) (sym so) (enters_phase n a x seen granted there its.from its.number got fits (its.sessions ∙ same))
 phase_goes n a x seen granted s there got fits same (inr (inr its)) =
-    let last : KeeperState = record there { seek = seek_begun its.from its.number; step = keeping.Seeks } in
+    let last : KeeperState = record there { seek = seek_begun its.from its.number its.floor; step = keeping.Seeks } in
     let so : there ≡ last = ap (λ (step : Keeping). record there { step = step }) its.step ∙ ap (λ (inner : SeekState). record there { seek = inner; step = keeping.Seeks }) its.its in
-    subst (λ (k : KeeperState). StepLed n a (part_begins a k k.step) seen granted k n.words) (sym so) (seeks_phase n a x seen granted there its.from its.number got fits (its.sessions ∙ same))
+    subst (λ (k : KeeperState). StepLed n a (part_begins a k k.step) seen granted k n.words) (sym so) (seeks_phase n a x seen granted there its.from its.number its.floor got fits (its.sessions ∙ same))

@@ -28,7 +28,7 @@ use Rattle.fkv_commit.specs.declared.seeking.Seeking.TheVariants as seek
 use Rattle.fkv_commit.specs.Commits.{version_after}
 use Rattle.fkv_commit.specs.Cuts.{serial_said, version_said, cut_of, other_cut_of}
 use Rattle.fkv_commit.specs.Deferring.{DeferState, action_of, armed_epoch, defer_ask, defer_next, deferring_ask, deferring_next, deferring_on, raise_ledto, arm_ledto}
-use Rattle.fkv_commit.specs.Seeking.{SeekState, owing_from, seek_ask, seek_next, seeking_ask, seeking_next, points_from, slot_led, defer_led}
+use Rattle.fkv_commit.specs.Seeking.{SeekState, owing_from, seek_ask, seek_next, seeking_ask, seeking_next, points_from, with_point, slot_led, defer_led}
 use Rattle.fkv_flush.specs.GuardLevels.{levels_of}
 use Rattle.fkv_flush.specs.GuardSeen.{LastSeen}
 use Rattle.fkv_flush.specs.GuardWorld.{Actor, Rests, GuardNow, GuardEvent, GuardWorld, Resumes, Moves, RaisesReadOnly, Changes, near, put_near, is_idle}
@@ -121,7 +121,7 @@ cut_goes : (n : GuardNow) (a : ℕ) (x : Actor) (seen : LastSeen) (s : SeekState
     → SeekLed n a [] seen (seek_next (record s { step = seek.LoadsCut }) word) n.words
 unfolding seeking_next seeking_ask
 cut_goes n a x seen s word got held fits = elim (truth (version_said word == s.number.0)) [
-  | inl e ↦ rw e (points_go n a x seen (record s { points = s.points ++ record { 0 = serial_said word } ∷ []; step = seek.LoadsCut }) [] n.words (stays n a x got) held fits)
+  | inl e ↦ rw e (points_go n a x seen (with_point (record s { step = seek.LoadsCut }) (serial_said word)) [] n.words (stays n a x got) held fits)
   | inr e ↦ rw e (slotless n a [] seen (record s { step = seek.LoadsOther word }) n.words refl (record { follows = record { actor = x; same = stays n a x got; fits = fits }; knows = held }))
 ]
 
@@ -129,7 +129,7 @@ other_goes : (n : GuardNow) (a : ℕ) (x : Actor) (seen : LastSeen) (s : SeekSta
     → SeekLed n a [] seen (seek_next (record s { step = seek.LoadsOther first }) word) n.words
 unfolding seeking_next seeking_ask
 other_goes n a x seen s first word got held fits = elim (truth (nat_le (version_said word) s.number.0)) [
-  | inl e ↦ rw e (points_go n a x seen (record s { points = s.points ++ record { 0 = max (serial_said first) (serial_said word) } ∷ []; step = seek.LoadsOther first }) [] n.words (stays n a x got) held fits)
+  | inl e ↦ rw e (points_go n a x seen (with_point (record s { step = seek.LoadsOther first }) (max (serial_said first) (serial_said word))) [] n.words (stays n a x got) held fits)
   | inr e ↦ rw e (slotless n a [] seen (record s { step = seek.LoadsAgain }) n.words refl (record { follows = record { actor = x; same = stays n a x got; fits = fits }; knows = held }))
 ]
 
@@ -208,7 +208,7 @@ sought_at w a x seen s seek.LoadsCut sound got fits k e = rw (set-get_or w.now.w
 sought_at w a x seen s (seek.LoadsOther first) sound got fits k e = rw (set-get_or w.now.words (session_place (length s.points) (other_cut_of s.number.0)) 0) (other_goes w.now a x seen s first (word_at w.now.words (session_place (length s.points) (other_cut_of s.number.0))) got k fits)
 sought_at w a x seen s seek.LoadsAgain sound got fits k e =
     rw (set-get_or w.now.words (session_place (length s.points) (cut_of s.number.0)) 0)
-    (points_go w.now a x seen (record s { points = s.points ++ record { 0 = serial_said (word_at w.now.words (session_place (length s.points) (cut_of s.number.0))) } ∷ []; step = seek.LoadsAgain }) [] w.now.words (stays w.now a x got) k fits)
+    (points_go w.now a x seen (with_point (record s { step = seek.LoadsAgain }) (serial_said (word_at w.now.words (session_place (length s.points) (cut_of s.number.0))))) [] w.now.words (stays w.now a x got) k fits)
 sought_at w a x seen s seek.StoresWaitFlush sound got fits k e =
     let n : GuardNow = w.now in
     let word : ℕ = phase_stored WaitFlush (version_after s.number) in

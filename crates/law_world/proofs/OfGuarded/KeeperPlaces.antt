@@ -15,7 +15,7 @@ use Rattle.fkv_commit.specs.declared.seeking.Seeking.{Seeking}
 use Rattle.fkv_commit.specs.declared.seeking.Seeking.TheVariants as seeking
 use Rattle.fkv_commit.specs.Cuts.{serial_said, version_said}
 use Rattle.fkv_commit.specs.Deferring.{defer_next}
-use Rattle.fkv_commit.specs.Seeking.{SeekState, cut_met, defer_led, other_met, owing_from, point_taken, points_from, seek_next, seeking_next, slot_led}
+use Rattle.fkv_commit.specs.Seeking.{SeekState, cut_met, defer_led, other_met, owing_from, point_taken, with_point, points_from, seek_next, seeking_next, slot_led}
 use Rattle.fkv_keeper.specs.KeeperRun.{BeginsCommit, BeginsTurn, Calls, Gets, IsOpened, KeeperEvent, Replies, begins, is_in_hand, keeper_happens, keeper_run}
 use Rattle.fkv_keeper.specs.Keeping.{KeeperState, commit_asked, copies, copies_next, copy_driven, copy_ledto, enter_ledto, finish_ledto, finished, keeping_called, keeping_given, keeping_next, maintain_ledto, part_begun, phase_ledto, seek_ledto, start_ledto, turn_asked, wait_ledto, write_ledto, writes_begun, writes_called}
 use Rattle.fkv_base.specs.declared.phases.Phase.TheVariants as phase
@@ -72,7 +72,7 @@ points_row : (s : SeekState) → IsSeekRow (points_from s)
 points_row s = either_seek (nat_lt (length s.points) s.sessions) _ _ (λ e. grind (arith, nat_tests, e)) (λ e. tt)
 
 taken_row : (s : SeekState) (serial : ℕ) → IsSeekRow (point_taken s serial)
-taken_row s serial = points_row (record s { points = s.points ++ record { 0 = serial } ∷ [] })
+taken_row s serial = points_row (with_point s serial)
 
 slot_row : (s : SeekState) (ask : Ask DeferAnswer) → s.step ≡ seeking.SeeksSlot → IsSeekRow (slot_led s ask)
 unfolding slot_led
@@ -211,7 +211,7 @@ next_led p s c granted else_next row = either c.is_copied p else_next (copies p 
 
 part_led : (p : Places) (s : KeeperState) (c : Commit) (said : PhaseSaid) (granted : Bool) → IsKeeperRow p (part_begun p s c said granted)
 part_led p s c (Says phase.InProgress version) granted = either s.has_entered p _ _ (next_led p s c granted _ tt) tt
-part_led p s c (Says phase.WaitPending version) granted = next_led p s c granted _ (owing_row (record s.seek { number = c.number; points = [] }) 0)
+part_led p s c (Says phase.WaitPending version) granted = next_led p s c granted _ (owing_row (record s.seek { number = c.number; floor = s.last.points; points = [] }) 0)
 part_led p s c (Says phase.WaitFlush version) granted = either s.has_points p _ _ tt tt
 part_led p s c said granted = tt
 

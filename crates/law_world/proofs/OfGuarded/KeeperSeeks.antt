@@ -67,7 +67,7 @@ next_led p s c granted else_next same = either c.is_copied else_next (copies p s
 
 part_led : (p : Places) (s : KeeperState) (c : Commit) (said : PhaseSaid) (granted : Bool) → sought (part_begun p s c said granted) ≡ sought s
 part_led p s c (Says phase.InProgress version) granted = either s.has_entered _ _ (sought s) (next_led p s c granted _ refl) refl
-part_led p s c (Says phase.WaitPending version) granted = next_led p s c granted _ (seek_begun_keeps s.seek c.number)
+part_led p s c (Says phase.WaitPending version) granted = next_led p s c granted _ (seek_begun_keeps s.seek c.number s.last.points)
 part_led p s c (Says phase.WaitFlush version) granted = either s.has_points _ _ (sought s) refl refl
 part_led p s c said granted = refl
 

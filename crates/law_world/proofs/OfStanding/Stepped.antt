@@ -93,7 +93,7 @@ module _ (shape : Shape) (p : Places) (opened : List ℕ) where
       part_on c (Says phase.InProgress version) granted =
           either_on s.has_entered _ _ (either_on c.is_copied _ _ (ends (Turned false s.is_drain_full)) (copies_on granted)) (on (record s { enter = enter_begun s.enter c.number; step = Enters }) Enters tt refl now.works refl now.commit now.copy)
       part_on c (Says phase.WaitPending version) granted =
-          either_on c.is_copied _ _ (on (record s { seek = seek_begun s.seek c.number; has_points = false; step = Seeks }) Seeks tt refl now.works refl now.commit now.copy) (copies_on granted)
+          either_on c.is_copied _ _ (on (record s { seek = seek_begun s.seek c.number s.last.points; has_points = false; step = Seeks }) Seeks tt refl now.works refl now.commit now.copy) (copies_on granted)
       part_on c (Says phase.WaitFlush version) granted = either_on s.has_points _ _ (on _ Waits tt refl now.works refl now.commit now.copy) (ends (Turned false s.is_drain_full))
       part_on c said granted = ends (Turned false s.is_drain_full)
 

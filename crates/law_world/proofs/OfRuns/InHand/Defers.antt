@@ -35,7 +35,7 @@ use Rattle.fkv_commit.specs.Deferring.{DeferState, defer_ask, defer_next, deferr
 use Rattle.fkv_commit.specs.Entering as entering
 use Rattle.fkv_commit.specs.Entering.{EnterState, enter_ask, enter_next, entering_ask, entering_next}
 use Rattle.fkv_commit.specs.Seeking as seeking
-use Rattle.fkv_commit.specs.Seeking.{SeekState, owing_from, point_taken, points_from, seek_ask, seek_next, seeking_ask, seeking_next, slot_led}
+use Rattle.fkv_commit.specs.Seeking.{SeekState, owing_from, point_taken, with_point, points_from, seek_ask, seek_next, seeking_ask, seeking_next, slot_led}
 use Rattle.fkv_commit.specs.Starting as starting
 use Rattle.fkv_commit.specs.Starting.{StartState, phase_found, start_ask, start_next, starting_ask, starting_next, is_lost_full}
 use Rattle.law_world.proofs.OfRuns.InHand.Asks.{AtSlot, at_more, off_at, passed_at, raise_off}
@@ -263,7 +263,7 @@ points_fit : (s : SeekState) → DeferNow s.defer → SeekNow (points_from s)
 points_fit s now = either_seek (nat_lt (length s.points) s.sessions) (record s { step = seek.LoadsCut }) (record s { step = seek.StoresWaitFlush }) now now
 
 point_fits : (s : SeekState) (serial : ℕ) → DeferNow s.defer → SeekNow (point_taken s serial)
-point_fits s serial now = points_fit (record s { points = s.points ++ record { 0 = serial } ∷ [] }) now
+point_fits s serial now = points_fit (with_point s serial) now
 
 seek_slot : (s : SeekState) (ask : Ask DeferAnswer) → s.step ≡ seek.SeeksSlot → DeferNow s.defer → SeekNow (slot_led s ask)
 unfolding slot_led

@@ -99,7 +99,7 @@ part_now : (shape : Shape) (p : Places) (s : KeeperState) (c : Commit) (said : P
 part_now shape p s c (Says phase.InProgress version) granted =
     either shape p s.has_entered (copies_next p s c granted (turned s)) (record s { enter = enter_begun s.enter c.number; step = Enters }) (next_copied shape p s (turned s) c granted tt) tt
 part_now shape p s c (Says phase.WaitPending version) granted =
-    next_copied shape p s (record s { seek = seek_begun s.seek c.number; has_points = false; step = Seeks }) c granted (owing_fits (record s.seek { number = c.number; points = [] }) 0)
+    next_copied shape p s (record s { seek = seek_begun s.seek c.number s.last.points; has_points = false; step = Seeks }) c granted (owing_fits (record s.seek { number = c.number; floor = s.last.points; points = [] }) 0)
 part_now shape p s c (Says phase.WaitFlush version) granted = either shape p s.has_points (record s { wait = wait_begun c.end c.epoch; step = Waits }) (turned s) tt tt
 part_now shape p s c said granted = tt
 

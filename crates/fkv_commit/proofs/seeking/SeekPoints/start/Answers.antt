@@ -10,5 +10,5 @@ returns-clause-asks c = rw c.ask.ensures (seek_left _)
 pub returns-clause-bounded : goal.returns-clause-bounded
 returns-clause-bounded c =
     let now = c.args.self.now in
-    let next : c.owing_from.new.self ≡ seek_begun now c.args.number = search rules in
-    rw next (seek_begun_left now c.args.number)
+    let next : c.owing_from.new.self ≡ seek_begun now c.args.number c.args.floor.now = search rules in
+    rw next (seek_begun_left now c.args.number c.args.floor.now)
