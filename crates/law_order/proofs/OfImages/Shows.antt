@@ -1,8 +1,8 @@
 -- What an image shows of a record, by the words that stand for it, or by the opened bytes.
-use Rattle.std.proofs.Common.{◌≡◌, ℕ, ◌+◌, ◌*◌, ◌<◌, ◌≤◌, ◌%◌, ◌^◌, ◌∙◌, inr, sym, ap, subst, arith, Bool, false, List, [], ◌∷◌, ◌++◌, length}
+use Rattle.std.proofs.Common.{◌≡◌, ℕ, ◌+◌, ◌*◌, ◌<◌, ◌≤◌, ◌%◌, ◌^◌, ◌∙◌, inr, sym, ap, subst, arith, false, List, [], ◌∷◌, ◌++◌, length}
 use Rattle.std.specs.Int.{to_le_bytes, w64}
 use Rattle.fkv_base.specs.declared.shapes.Shape.{Shape}
-use Rattle.fkv_marks.proofs.Shown.{mark_small}
+use Rattle.fkv_marks.proofs.Shown.{mark_low}
 use Rattle.fkv_disk.specs.Bytes.{bytes_at}
 use Rattle.fkv_disk.specs.Calls.{Call, MayLeave}
 use Rattle.law_commit.specs.Below.fkv_flush.GuardFlushed.{IsSynced}
@@ -22,10 +22,6 @@ use Rattle.law_log.specs.Chains.{Cell}
 use Rattle.law_opening.specs.Log.Records.{IsCellOf, cell_of}
 use Rattle.law_commit.specs.Below.law_paper.Paper.Images.{ShowsCell, ShowsDropped}
 use Rattle.law_commit.specs.Below.law_refine.Records.Headers.{IsGivenUp, IsHeaderOf}
-
--- as yet a header says the version itself, which is its own mark
-its_version : {cell : Cell} {invalid : Bool} {word : ℕ} (is : IsHeaderOf cell invalid word) → (let x = is.header in x.version.0) ≡ cell.version
-its_version {cell} is = is.its_mark ∙ mark_small cell.version is.fits
 
 -- the image has the three words in the place of the record
 abbrev pub HasWords : scan.Log → ℕ → (RecordWord → ℕ) → Type 0
@@ -47,8 +43,9 @@ shows_words from image a words cell there is key value fits = record {
   its_key = key;
   its_value = value;
   leads = is.leads;
-  low = (let same = its_version is in omega (arith, same));
-  same = λ high. its_version is;
+  low = (let same = is.its_mark in let under = mark_low cell.version in omega (arith, same, under));
+  same = λ high. is.its_mark;
+  fits = λ high. is.fits;
 }
 
 -- the bytes of a record go by what eight bytes hold of each of its words
@@ -71,7 +68,7 @@ shows_given_up image a words cell there gives =
       };
       stands = ap (λ (h : ℕ). spelled (h ∷ words rec.Key % 2 ^ 64 ∷ words rec.Value % 2 ^ 64 ∷ [])) (sym is.spells) ∙ low_spelled (words rec.Header) (words rec.Key) (words rec.Value) ∙ sym there;
       invalid = is.bit;
-      same = its_version is;
+      same = is.its_mark;
       leads = is.leads;
       falls = gives.falls;
     }
@@ -82,7 +79,7 @@ passes_over image a cell its young =
     let low = its.falls in
     let leads = its.leads in
     let version = its.same in
-    record { held = its.held; stands = its.stands; invalid = its.invalid; falls = omega (arith, low, leads); young = omega (arith, young, version) }
+    record { held = its.held; stands = its.stands; invalid = its.invalid; falls = omega (arith, low, leads); young = (let under = mark_low cell.version in omega (arith, young, version, under)) }
 
 -- a record that counted stands as it stood
 pub shows_counted : (from : ℕ) (was image : scan.Log) (a : ℕ) (cell : Cell) → a < from → image.shape ≡ was.shape → bytes_at image.image (record_place was.shape a) 24 ≡ bytes_at was.image (record_place was.shape a) 24
@@ -102,6 +99,7 @@ shows_counted from was image a cell low shape same its =
       leads = sym (ap (λ (c : Cell). c.previous) cell_is);
       low = omega (arith, old, version);
       same = λ high. absurd (omega (arith, low, high));
+      fits = λ high. absurd (omega (arith, low, high));
     }
 
 -- ---- what stood before the opening

@@ -1,5 +1,6 @@
 -- What an image shows of the log beside a life.
 use Rattle.std.specs.Prelude.{◌≡◌, ℕ, ◌+◌, ◌<◌, ◌≤◌, true, List}
+use Rattle.fkv_marks.specs.Marks.{mark}
 use Rattle.law_opening.specs.Below.fkv_opening.TheOpened.{Opened}
 use Rattle.fkv_record.specs.declared.records.Record.{Record}
 use Rattle.law_opening.specs.Below.fkv_scan.Log as scan
@@ -10,12 +11,12 @@ use Rattle.law_log.specs.Chains.{Cell, Published, Dropped}
 use Rattle.law_opening.specs.Log.Lives.{ghosts_beside}
 use Rattle.law_commit.specs.Below.law_paper.Paper.Images.{ShowsCell, ShowsDropped}
 
--- The image has a record that was given up as the log has it: with the invalid bit, of its version, and with what it leads to, which is below itself.
+-- The image has a record that was given up as the log has it: with the invalid bit, the mark of its version, and with what it leads to, which is below itself.
 pub record ShowsGivenUp (image : scan.Log) (a : ℕ) (cell : Cell) : Type 0 where
   pub held : Record
   pub stands : Stands image a held
   pub invalid : (let x = held in x.header.invalid ≡ true)
-  pub same : (let x = held in x.header.version.0 ≡ cell.version)
+  pub same : (let x = held in x.header.version.0 ≡ mark cell.version)
   pub leads : (let x = held in x.header.previous.0 ≡ cell.previous)
   pub falls : cell.previous < a
 

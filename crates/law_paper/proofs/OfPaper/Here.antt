@@ -1,6 +1,7 @@
 -- The published records that an image shows, by their addresses and their chains.
 use Rattle.std.proofs.Common.{◌≡◌, ◌≢◌, inl, inr, ⊎_elim, ℕ, ◌<◌, ◌≤◌, false, sym, ap, subst, ◌∙◌, arith, true≢false}
 use Rattle.std.proofs.lemmas.Bool.{cases_lt}
+use Rattle.fkv_marks.proofs.Shown.{mark_small}
 use Rattle.law_log.specs.Chains.{Cell, Published, IsWithin}
 use Rattle.law_log.specs.Ghosts.{Log}
 use Rattle.law_log.specs.Trace.{IsIn}
@@ -26,6 +27,10 @@ pub record IsHere (from : ℕ) (image : scan.Log) (g : Log) (a : ℕ) : Type 0 w
   pub its : g.cells a ≡ Published cell
   pub low : a < image.tail
   pub shown : ShowsCell from image a cell
+
+-- from that address on its header says its version
+pub own_version : {from : ℕ} {image : scan.Log} {a : ℕ} {cell : Cell} (s : ShowsCell from image a cell) → from ≤ a → (let x = s.held in x.header.version.0) ≡ cell.version
+own_version {cell = cell} s at = s.same at ∙ mark_small cell.version (s.fits at)
 
 -- one that was given up has no fault
 pub dropped_scanned : (image : scan.Log) (a : ℕ) → ShowsDropped image a → IsScanned image a

@@ -21,7 +21,7 @@ use Rattle.law_paper.specs.Paper.Images.{ShowsCell}
 use Rattle.law_paper.specs.Paper.Old.{StandsOnOld}
 use Rattle.law_paper.specs.Paper.Values.{ShowsUpto, CountsAsLog, TellsCell}
 use Rattle.law_paper.proofs.OfPaper.Down.{versions_fall}
-use Rattle.law_paper.proofs.OfPaper.Here.{Showing, IsHere, dropped_scanned, one, here, as_shown, in_own, of_chain, its_home, since_here, next_in, below_in, leads_nearest, leads_first, leads_in}
+use Rattle.law_paper.proofs.OfPaper.Here.{Showing, IsHere, dropped_scanned, one, here, as_shown, in_own, of_chain, its_home, since_here, next_in, below_in, leads_nearest, leads_first, leads_in, own_version}
 use Rattle.law_paper.proofs.OfPaper.Reach.{one_was, start_some, falls_in, was_low, was_some, its_bits, same_triple, triple_there, stood, stands_now, valid_was, valid_now, again, goes_was}
 use Rattle.law_paper.proofs.OfPaper.Sound.{triple_once}
 use Rattle.law_paper.proofs.OfPaper.Values.{shows_upto}
@@ -403,7 +403,7 @@ module _ (home : ℕ → ℕ) (was image : scan.Log) (g : Log) (spells : SpellsA
     hn = record_home was.shape.bucket_bits xn
 
     cell_version : xn.header.version.0 ≡ version_at (g.cells a)
-    cell_version = (let s = p.shown in s.same new) ∙ ap version_at (sym p.its)
+    cell_version = (let s = p.shown in own_version s new) ∙ ap version_at (sym p.its)
 
     version_n : (b : ℕ) → IsIn b (g.chains hn) → b < a → (z : Record) → Stands image b z → z.header.version.0 ≤ xn.header.version.0
     version_n b has less z stands =
@@ -474,7 +474,7 @@ module _ (home : ℕ → ℕ) (was image : scan.Log) (g : Log) (spells : SpellsA
     | inl published ↦
         let p : IsHere was.tail image g a = here it a published.0 published.1 low in
         let s : ShowsCell was.tail image a published.0 = p.shown in
-        let version = s.same new in
+        let version = own_version s new in
         let young = paper.cut.young a published.0 published.1 low in
         let up = paper.opened.upwards in
         record {
@@ -595,7 +595,7 @@ module _ (home : ℕ → ℕ) (was image : scan.Log) (g : Log) (spells : SpellsA
         let p : IsHere was.tail image g a = later.1 in
         let at : home (let c = p.cell in c.key) ≡ h = sym (old_home a p x counts.valid.stands) ∙ sym (its_bits spells paper.opened paper.goes_on x) ∙ counts.valid.same in
         let is = ap (λ (y : Record). y.header.version.0) (as_shown it a p x counts.valid.stands) in
-        let same = (let s = p.shown in s.same later.0) in
+        let same = (let s = p.shown in own_version s later.0) in
         let version = ap version_at p.its in
         let enough = counts.old_enough in
         (subst (λ (n : ℕ). IsIn a (g.chains n)) at (in_own it a p), omega (arith, is, same, version, enough))

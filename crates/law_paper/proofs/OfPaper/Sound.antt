@@ -21,7 +21,7 @@ use Rattle.fkv_ops.specs.Values.{value_of}
 use Rattle.law_paper.specs.Paper.Images.{ShowsCell}
 use Rattle.law_paper.specs.Paper.Stands.{StandsOnPaper}
 use Rattle.law_paper.specs.Paper.Values.{ShowsUpto, CountsAsLog}
-use Rattle.law_paper.proofs.OfPaper.Here.{Showing, IsHere, dropped_scanned, one, here, as_shown, in_own, of_chain, its_home, since_here, next_in, below_in, leads_nearest, leads_first, leads_in}
+use Rattle.law_paper.proofs.OfPaper.Here.{Showing, IsHere, dropped_scanned, one, here, as_shown, in_own, of_chain, its_home, since_here, next_in, below_in, leads_nearest, leads_first, leads_in, own_version}
 use Rattle.law_paper.proofs.OfPaper.Values.{shows_upto}
 use Rattle.law_paper.proofs.OfPaper.Down.{head_in, in_below, in_low, leads_to, next_within, versions_fall}
 
@@ -114,7 +114,7 @@ module _ (home : ℕ → ℕ) (image : scan.Log) (g : Log) (spells : SpellsApart
       let old : (let c = p.cell in c.version) ≤ image.version = ⊎_elim
       (λ under. paper.old_below a p.cell p.its under)
       (λ from.
-      let same : (let s = p.shown in s.held.header.version.0) ≡ (let c = p.cell in c.version) = (let s = p.shown in s.same from) in
+      let same : (let s = p.shown in s.held.header.version.0) ≡ (let c = p.cell in c.version) = (let s = p.shown in own_version s from) in
       let as_is : x.header.version.0 ≡ (let s = p.shown in s.held.header.version.0) = ap (λ (y : Record). y.header.version.0) is in
       let enough = counts.old_enough in
       omega (arith, same, as_is, enough))
@@ -158,7 +158,7 @@ module _ (home : ℕ → ℕ) (image : scan.Log) (g : Log) (spells : SpellsApart
     below_is = below_in it h a p in_h
 
     version_x : x.header.version.0 ≡ version_at (g.cells a)
-    version_x = (let s = p.shown in s.same from) ∙ ap version_at (sym p.its)
+    version_x = (let s = p.shown in own_version s from) ∙ ap version_at (sym p.its)
 
     lower : a < image.tail
     lower = p.low
@@ -173,7 +173,7 @@ module _ (home : ℕ → ℕ) (image : scan.Log) (g : Log) (spells : SpellsApart
           λ y stands.
               let s = (let q : IsHere image.start image g b = k.0 in q.shown) in
               let is : y ≡ s.held = one it b y s.held stands s.stands in
-              let version : y.header.version.0 ≡ version_at (g.cells b) = ap (λ (z : Record). z.header.version.0) is ∙ s.same least ∙ ap version_at (sym (let q : IsHere image.start image g b = k.0 in q.its)) in
+              let version : y.header.version.0 ≡ version_at (g.cells b) = ap (λ (z : Record). z.header.version.0) is ∙ own_version s least ∙ ap version_at (sym (let q : IsHere image.start image g b = k.0 in q.its)) in
               let fall = versions_fall g.cells (g.chains h) (paper.orderly.chains.linked h) (paper.orderly.falls h) a b in_h k.1 low in
               let own = version_x in
               omega (arith, version, fall, own),
@@ -221,7 +221,7 @@ module _ (home : ℕ → ℕ) (image : scan.Log) (g : Log) (spells : SpellsApart
     | inl published ↦
         let p : IsHere image.start image g a = here it a published.0 published.1 low in
         let s : ShowsCell image.start image a published.0 = p.shown in
-        let version = s.same from in
+        let version = own_version s from in
         let young = paper.cut.young a published.0 published.1 low in
         record {
           held = s.held;
