@@ -7,8 +7,10 @@ use Rattle.fkv_base.specs.declared.phases.Phase.{Phase}
 use Rattle.fkv_plane.specs.Places.{shared_place}
 use Rattle.fkv_plane.specs.Asked.{word_at}
 use Rattle.fkv_plane.specs.declared.places.SharedWord.TheVariants as one
-use Rattle.fkv_words.specs.PhaseWords.{has_spare_bits, phase_numbered, phase_said, phase_with}
+use Rattle.fkv_words.specs.PhaseWords.{phase_said}
+use Rattle.fkv_words.specs.declared.phase_words.PhaseSaid.{PhaseSaid}
 use Rattle.fkv_words.specs.declared.phase_words.PhaseSaid.TheVariants.{Says, Spoiled}
+use Rattle.fkv_words.proofs.Shown.{said_version}
 use Rattle.fkv_index.specs.declared.finding.FindAnswer.{FindAnswer}
 use Rattle.fkv_index.specs.declared.finding.FindStep.{FindStep}
 use Rattle.fkv_index.specs.declared.finding.FindStep.TheVariants as find
@@ -129,20 +131,11 @@ sitting_work s step attempts tries walks finds = cc
 
 -- the phase word says a version of 13 bits
 said_small : (word : ℕ) → version_said (phase_said word) < 2 ^ 13
-unfolding phase_said
-said_small word = by_bits (has_spare_bits word)
+said_small word = by (phase_said word) refl
   where
-    by_version : (b : Bool) (its : Phase) → version_said (if b then Spoiled else Says its (record { 0 = word % 2 ^ 13 })) < 2 ^ 13
-    by_version true its = omega arith
-    by_version false its = omega arith
-
-    by_phase : (its : Option Phase) → version_said (phase_with its (word % 2 ^ 13)) < 2 ^ 13
-    by_phase None = omega arith
-    by_phase (Some its) = by_version (word % 2 ^ 13 == 0) its
-
-    by_bits : (b : Bool) → version_said (if b then phase_with (phase_numbered (word / 2 ^ 16 % 2 ^ 3)) (word % 2 ^ 13) else Spoiled) < 2 ^ 13
-    by_bits true = by_phase (phase_numbered (word / 2 ^ 16 % 2 ^ 3))
-    by_bits false = omega arith
+    by : (said : PhaseSaid) → phase_said word ≡ said → version_said said < 2 ^ 13
+    by Spoiled e = omega arith
+    by (Says its version) e = let fits = (said_version word its version e).1 in omega (arith, fits)
 
 module _ (given : Given) (life : BegunLife) (apart : OpensApart life) (before : List Event) (enabled : AreEnabled (home_of_world life.opening) life.ghosts (mapped life.opening before)) where
   abbrev N : Now
