@@ -4,8 +4,9 @@ use Rattle.std.proofs.lemmas.Bool.{cases_lt}
 use Rattle.fkv_words.specs.Fields.{SpellsApart}
 use Rattle.fkv_record.specs.declared.records.Record.{Record}
 use Rattle.fkv_record.specs.Layout.{record_bytes}
+use Rattle.fkv_marks.proofs.Shown.{version_least}
 use Rattle.fkv_scan.specs.Log.{Log}
-use Rattle.fkv_scan.specs.Records.{Stands, IsKept, IsCounted}
+use Rattle.fkv_scan.specs.Records.{version_of, Stands, IsKept, IsCounted}
 use Rattle.fkv_scan.specs.Scan.{Has, HasNone, IsGreatest, IsLinked, GoesOn, by_record}
 use Rattle.fkv_chains.specs.Reached.{Reached, in_scan, linked, LeadsTo, from_record}
 use Rattle.fkv_chains.specs.Along.{IsAlong, here, on}
@@ -26,6 +27,7 @@ module _ (spelled : SpellsApart record_bytes) (log : Log) (sound : IsFaultless l
           reached = reached;
           valid = record { stands = this.old.stands; valid = this.valid; same = this.same its_home leads };
           old_enough = this.old.old_enough;
+          version = λ from. absurd (omega (arith, from, low));
           not_lost = λ from. absurd (omega (arith, from, low));
         },
       )
@@ -48,7 +50,7 @@ module _ (spelled : SpellsApart record_bytes) (log : Log) (sound : IsFaultless l
       its_links : IsLinked log a x
       its_links = links spelled log sound a x from within counts.valid.stands counts.valid.valid
 
-      to_nearest : (c : ℕ) → IsGreatest (IsKept log its_home) log.start a c → (x.header.previous.0 ≡ c) × ((y : Record) → Stands log c y → y.header.version.0 ≤ x.header.version.0)
+      to_nearest : (c : ℕ) → IsGreatest (IsKept log its_home) log.start a c → (x.header.previous.0 ≡ c) × ((y : Record) → Stands log c y → version_of log y ≤ version_of log x)
       to_nearest c greatest = its_links.nearest (counts.not_lost from) c (subst (λ (h : ℕ). IsGreatest (IsKept log h) log.start a c) (sym counts.valid.same) greatest)
 
       to_below : HasNone (IsKept log its_home) log.start a → x.header.previous.0 < log.start
@@ -68,13 +70,15 @@ module _ (spelled : SpellsApart record_bytes) (log : Log) (sound : IsFaultless l
         let leads = to_nearest a x from counts found.0 found.1 in
         let kept = found.1.here in
         let older = leads.1 kept.0 kept.1.here.stands in
-        let old = counts.old_enough in
+        let old = counts.version from in
+        let least = version_least log.version (let y = kept.0 in y.header.version.0) in
         subst (λ (n : ℕ). Has (Counts log its_home) n) (sym leads.0) (
           kept.0,
           record {
             reached = subst (λ (n : ℕ). Reached log n) leads.0 (reached_next a x counts some);
             valid = kept.1.here;
-            old_enough = omega (arith, older, old);
+            old_enough = omega (arith, least, older, old);
+            version = λ on. omega (arith, older, old);
             not_lost = λ on. kept.1.not_lost;
           },
         )
