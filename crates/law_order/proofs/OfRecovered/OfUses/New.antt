@@ -24,7 +24,6 @@ use Rattle.law_log.specs.Trace.{IsIn}
 use Rattle.law_order.specs.Decided.Cut.{CoversItsChains, IsOldBelow, IsOpenings, IsRecentFromFirst, StartsAt, WritesCover, log_beside}
 use Rattle.law_commit.specs.Below.law_paper.Paper.Images.{IsRecent}
 use Rattle.law_commit.specs.Versions.Cells.{CellsFrom, made_in}
-use Rattle.law_log.specs.Chains.{Cell, Logged}
 use Rattle.law_order.specs.Recovered.Leaves.{NamesNew}
 use Rattle.law_order.specs.Recovered.Parts.{UsesNew}
 use Rattle.law_order.proofs.OfImages.Areas.{area_read, said_area}

@@ -1,7 +1,6 @@
 -- A commit that uses the checkpoint with which the store was opened: recovery meets again what the opening's met.
 use Rattle.std.proofs.Common.{◌≡◌, ℕ, ◌+◌, ◌<◌, ◌≤◌, ◌∙◌, arith, refl, sym, ap, subst, List}
 use Rattle.fkv_base.specs.declared.numbers.Addr.{Addr}
-use Rattle.fkv_base.specs.declared.numbers.Version.{Version}
 use Rattle.fkv_base.specs.declared.shapes.Shape.{Shape}
 use Rattle.fkv_disk.specs.Bytes.{bytes_at}
 use Rattle.law_commit.specs.Below.fkv_keeper.Keeping.{Finality}
