@@ -179,7 +179,8 @@ module _ (spelled : SpellsApart record_bytes) (log : Log) (sound : IsFaultless l
             record {
               reached = in_scan c greatest.here.0 greatest.from_on greatest.below this.kept.here.stands this.kept.here.valid;
               valid = this.kept.here;
-              old_enough = this.old_enough;
+              old_enough = (let least = version_least log.version (let x = greatest.here.0 in x.header.version.0) in let old = this.old_enough in omega (arith, least, old));
+              version = λ on. this.old_enough;
               not_lost = λ on. this.kept.not_lost;
             }),
       );
@@ -187,14 +188,14 @@ module _ (spelled : SpellsApart record_bytes) (log : Log) (sound : IsFaultless l
           (λ above.
           let on = greatest.from_on in
           let from : log.start ≤ b = omega (arith, above, on) in
-          absurd (greatest.none_above b y (omega (arith, above)) (met spelled log sound b counts.reached from).0 (record { kept = counts_kept b y from counts; old_enough = counts.old_enough })))
+          absurd (greatest.none_above b y (omega (arith, above)) (met spelled log sound b counts.reached from).0 (record { kept = counts_kept b y from counts; old_enough = counts.version from })))
           (λ most. most)
           (cases_lt c b);
     }
 
     under : HasNone (IsCounted log its_home) log.start log.tail → (b : ℕ) (y : Record) → Counts log its_home b y → b < log.start
     under none b y counts = ⊎_elim (λ low. low)
-        (λ from. absurd (none b y from (met spelled log sound b counts.reached from).0 (record { kept = counts_kept b y from counts; old_enough = counts.old_enough })))
+        (λ from. absurd (none b y from (met spelled log sound b counts.reached from).0 (record { kept = counts_kept b y from counts; old_enough = counts.version from })))
         (cases_lt b log.start)
 
     pub has_entry : (b : ℕ) (y : Record) → Counts log its_home b y → (e : ℕ) × IsEntry log its_home e
