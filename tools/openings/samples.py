@@ -2,7 +2,7 @@
 import random
 from dataclasses import dataclass, replace
 
-from slow_opening import ABSENT, OPEN, PLACES, SPECIFIED_TEXT, most_triples
+from slow_opening import ABSENT, LIVING_TEXT, OPEN, PLACES, SPECIFIED_TEXT, most_triples
 
 FIRST = 1 << 48  # the header of a record of version 1
 SECOND = 2 << 48
@@ -54,6 +54,7 @@ class Sample:
     records: tuple  # header, key and value, from address 1 on
     bits: int = 4
     overflow: int = 0
+    text: int = SPECIFIED_TEXT
 
     def shape(self):
         return (self.bits, 16, 4, 2, len(self.commits[0].points), self.overflow, 64)
@@ -67,7 +68,7 @@ class Sample:
         def put(at, part):
             image[at : at + len(part)] = part
 
-        put(0, spelled(SPECIFIED_TEXT, *self.shape()))
+        put(0, spelled(self.text, *self.shape()))
         for commit in self.commits:
             put(commit.place(), commit.slot())
             triples = [spelled(bucket | tag << 32, address) for bucket, tag, address in commit.triples]
@@ -190,6 +191,7 @@ SAMPLES = [
     ("a deleted key", DELETED),
     ("four homes", TWO_HOMES),
     ("three lives", LIVES),
+    *((f"{name} of a living store", replace(sample, text=LIVING_TEXT)) for name, sample in (("a log commit", LOGGED), ("four homes", TWO_HOMES), ("three lives", LIVES))),
     ("two full buckets", CROWD),
     ("two overflow buckets that are full", FULL),
 ]

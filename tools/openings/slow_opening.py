@@ -1,6 +1,8 @@
 """What an image of any of the three formats holds, worked out slowly and from its bytes alone, rule by rule."""
 MAX_SESSIONS = 32
 LAST_VERSION = 8191
+# a header holds the mark of its version: the versions 1, 2, 3, .. have the marks 1 to this in turn
+MARKS = 8191
 LAST_SERIAL = 2**48 - 1
 MAX_LOST = 8
 # what bucket bits, page, frames, overflow buckets and disk pages are at most, by the text that begins the image
@@ -78,6 +80,11 @@ def shape_of(image):
     return shape if text in MOST and fits(shape, MOST[text]) else None
 
 
+def oldest(image, checkpoint):
+    """The oldest version that a record of the scan may have, by the number of the commit that made the checkpoint."""
+    return 1 if number_at(image, 0) == SPECIFIED_TEXT else max(1, checkpoint)
+
+
 def newest(image):
     """Of the open slots the one with the greater number, slot 0 where they are equal."""
     opened = [index for index in (0, 1) if is_open(image, index)]
@@ -109,6 +116,7 @@ def slot_of(image, shape, index):
     if numbers[0] != OPEN or form not in PLACES or numbers[63] == 1:
         return None
     slot = Slot(numbers, form)
+    versions = slot.number + 1 - oldest(image, slot.checkpoint) + 1
     before = [(0, 0), *slot.lost]
     fits = (
         slot.number < LAST_VERSION
@@ -121,6 +129,7 @@ def slot_of(image, shape, index):
         and slot.sessions <= slot.places
         and all(point <= LAST_SERIAL for point in slot.points)
         and slot.checkpoint <= slot.number
+        and versions <= MARKS
         and slot.range_count <= MAX_LOST
         and all(slot.start < to <= slot.tail for to, _ in slot.lost)
         and all(slot.checkpoint < version <= slot.number for _, version in slot.lost)
@@ -136,6 +145,7 @@ class Log:
     def __init__(self, image, shape, slot):
         self.image, self.shape, self.slot = image, shape, slot
         self.start, self.tail = slot.start, slot.tail
+        self.oldest = oldest(image, slot.checkpoint)
         self.triples_at = 1536 + 16 * most_triples(shape) * slot.area
         self.records_at = 1536 + 32 * most_triples(shape)
         self.known = None
@@ -159,8 +169,15 @@ class Log:
     def previous(self, a):
         return self.header(a) % 2**48
 
-    def version(self, a):
+    def mark(self, a):
         return (self.header(a) >> 48) % 2**13
+
+    def version(self, a):
+        """In the scan the version of the window that has the mark, 0 where none has it; below the scan the mark itself."""
+        if a < self.start:
+            return self.mark(a)
+        window = range(self.oldest, self.slot.number + 2)
+        return next((version for version in range(self.mark(a), window.stop, MARKS) if version in window), 0)
 
     def bit(self, a, bit):
         return (self.header(a) >> bit) % 2 == 1
@@ -188,10 +205,10 @@ class Log:
 
     def is_spelled(self, a):
         """The bytes there spell a record."""
-        return not self.bit(a, 61) and not self.bit(a, 63) and self.version(a) >= 1
+        return not self.bit(a, 61) and not self.bit(a, 63) and self.mark(a) >= 1
 
     def is_record(self, a, last_version):
-        return self.is_spelled(a) and self.version(a) <= last_version and self.previous(a) < a
+        return self.is_spelled(a) and 1 <= self.version(a) <= last_version and self.previous(a) < a
 
     def triple_fault(self):
         homes = set()

@@ -153,7 +153,8 @@ THIRD_NUMBER = """
     1336=2: Manifest 1
 """
 
-# the last number, in slot 0, whether slot 1 names the one before it or the same; a greater one leaves no version for what follows
+# the last number, in slot 0, whether slot 1 names the one before it or the same; a greater one leaves no version for what follows. A
+# living store has no record in the scan that is older than the checkpoint
 LAST_CHANGED = """
     1032=253: commit 8190 tail 3 points 1, checkpoint 8190 from 2 triples 1 area 0, lost 3:8191, entries 1.0:1, pairs 1=10
     1032=254: commit 8190 tail 3 points 1, checkpoint 8190 from 2 triples 1 area 0, lost 3:8191, entries 1.0:1, pairs 1=10
@@ -161,6 +162,10 @@ LAST_CHANGED = """
     5150=255: Record 1
     520=255: Manifest 0
     520=0 521=32: Manifest 0
+    5174=253: commit 8190 tail 3 points 1, checkpoint 8190 from 2 triples 1 area 0, lost, entries 1.0:2, pairs 1=11
+    7=50: commit 8190 tail 3 points 1, checkpoint 8190 from 2 triples 1 area 0, lost 3:8191, entries 1.0:1, pairs 1=10
+    7=50 5174=254: commit 8190 tail 3 points 1, checkpoint 8190 from 2 triples 1 area 0, lost, entries 1.0:2, pairs 1=11
+    7=50 5174=253: Record 2
 """
 
 # the block: a size outside the limits of its text is no store's, and the living text takes small sizes too; with the most buckets, or
@@ -385,7 +390,8 @@ RANGES_CHANGED = """
 """
 
 # a triple at the scan's start or above it leads to a valid record of its own home, and the first of them that doesn't is told; no
-# home has two triples; a link leads to no newer version; and what an invalid record leads to is not followed
+# home has two triples; a link leads to no newer version; and what an invalid record leads to is not followed. In a living store a record
+# of the scan is of the checkpoint's version at least
 HOMES_CHANGED = """
     3336=1 3352=2: commit 3 tail 6 points 5, checkpoint 3 from 3 triples 2 area 1, lost, entries 1.0:5 2.0:4, pairs 1=12 2=21
     3336=5: commit 3 tail 6 points 5, checkpoint 3 from 3 triples 2 area 1, lost, entries 1.0:5 2.0:4, pairs 1=12 2=21
@@ -403,6 +409,13 @@ HOMES_CHANGED = """
     5198=4: Link 5
     1056=1 3328=2 3336=4 5150=0 5192=0 5240=1 5247=64: commit 3 tail 6 points 5, checkpoint 3 from 3 triples 1 area 1, lost, entries 1.0:3 2.0:4, pairs 1=11 2=21
     1056=1 3328=2 3336=4 5150=0 5192=0 5240=1: Link 5
+    7=50: Record 3
+    7=50 5198=3: Record 4
+    7=50 5198=3 5222=3: commit 3 tail 6 points 5, checkpoint 3 from 3 triples 2 area 1, lost, entries 1.0:5 2.0:4, pairs 1=12 2=21
+    7=50 5198=3 5222=2: Record 4
+    7=50 5198=3 5222=3 5246=4: commit 3 tail 6 points 5, checkpoint 3 from 3 triples 2 area 1, lost 6:4, entries 1.0:3 2.0:4, pairs 1=11 2=21
+    7=50 1336=2: commit 3 tail 6 points 5, checkpoint 2 from 3 triples 2 area 1, lost, entries 1.0:5 2.0:4, pairs 1=12 2=21
+    7=50 1336=1: commit 3 tail 6 points 5, checkpoint 1 from 3 triples 2 area 1, lost, entries 1.0:5 2.0:4, pairs 1=12 2=21
 """
 
 # the record behind the checkpoint's start counts, or is what the triple leads to

@@ -2,6 +2,7 @@
 use Rattle.std.proofs.Common.{◌≡◌, ◌≢◌, inl, inr, ⊎_elim, ℕ, ◌<◌, ◌≤◌, Option, Some, None, refl, sym, ap, subst, ◌∙◌, arith}
 use Rattle.std.proofs.lemmas.Bool.{cases_lt}
 use Rattle.fkv_base.specs.declared.numbers.Addr.{Addr}
+use Rattle.fkv_marks.proofs.Shown.{version_least}
 use Rattle.fkv_words.specs.Fields.{SpellsApart}
 use Rattle.fkv_record.specs.declared.records.Record.{Record}
 use Rattle.fkv_record.specs.Layout.{record_bytes}
@@ -57,7 +58,7 @@ module _ (apart : SpellsApart record_bytes) (log : Log) (chains : HasChains log)
     told_here b reached = told_of apart log in_log scan are followed b reached
 
     counted : (its_home b : ℕ) (y : Record) → log.start ≤ b → Counts log its_home b y → IsCounted log its_home b y
-    counted its_home b y from counts = record { kept = record { here = counts.valid; not_lost = counts.not_lost from }; old_enough = counts.old_enough }
+    counted its_home b y from counts = record { kept = record { here = counts.valid; not_lost = counts.not_lost from }; old_enough = counts.version from }
 
     -- a record that counts below the start lies on the chain of its home
     on_its_chain : (its_home other w b : ℕ) (y : Record) → Counts log its_home b y → GoesOnAt log other log.tail w → IsAlong log w b → GoesOnAt log its_home log.tail w
@@ -83,7 +84,8 @@ module _ (apart : SpellsApart record_bytes) (log : Log) (chains : HasChains log)
               record {
                 reached = in_scan a x greatest.from_on greatest.below this.kept.here.stands this.kept.here.valid;
                 valid = this.kept.here;
-                old_enough = this.old_enough;
+                old_enough = (let least = version_least log.version x.header.version.0 in let old = this.old_enough in omega (arith, least, old));
+                version = λ from. this.old_enough;
                 not_lost = λ from. this.kept.not_lost;
               },
             );
@@ -109,6 +111,7 @@ module _ (apart : SpellsApart record_bytes) (log : Log) (chains : HasChains log)
                   reached = way.reached some;
                   valid = record { stands = this.old.stands; valid = this.valid; same = this.same };
                   old_enough = this.old.old_enough;
+                  version = λ from. absurd (omega (arith, from, low));
                   not_lost = λ from. absurd (omega (arith, from, low));
                 },
               );

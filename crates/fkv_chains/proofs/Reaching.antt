@@ -6,7 +6,7 @@ use Rattle.fkv_record.specs.declared.records.Record.{Record}
 use Rattle.fkv_record.specs.Layout.{record_bytes}
 use Rattle.fkv_scan.specs.declared.scans.Scanned.{Scanned}
 use Rattle.fkv_scan.specs.Log.{Log, HasTriple, AreBelow, record_home}
-use Rattle.fkv_scan.specs.Records.{Stands, losses, IsValid, IsKept}
+use Rattle.fkv_scan.specs.Records.{Stands, losses_of, IsValid, IsKept}
 use Rattle.fkv_scan.specs.Scan.{Has, HasNone, IsGreatest, IsScanned, IsLinked, GoesOn, by_triple, by_record}
 use Rattle.fkv_scan.specs.Scanned.{AreScanned, GoesOnAt}
 use Rattle.fkv_chains.specs.Reached.{Reached, in_scan, led_to, linked, LeadsTo, from_triple, from_record}
@@ -35,7 +35,7 @@ module _ (apart : SpellsApart record_bytes) (log : Log) (in_log : AreBelow log.t
   -- whether a record of the scan is a kept one of a home
   module _ (its_home c : ℕ) (this : IsScanned log c) where
     kept_by : (invalid : Bool) → this.held.header.invalid ≡ invalid → (record_home log.shape.bucket_bits this.held ≡ its_home) ⊎ (record_home log.shape.bucket_bits this.held ≡ its_home → ⊥)
-        → (losses log.lost c this.held ≡ 0) ⊎ (losses log.lost c this.held ≡ 0 → ⊥) → Has (IsKept log its_home) c ⊎ (Has (IsKept log its_home) c → ⊥)
+        → (losses_of log c this.held ≡ 0) ⊎ (losses_of log c this.held ≡ 0 → ⊥) → Has (IsKept log its_home) c ⊎ (Has (IsKept log its_home) c → ⊥)
     kept_by true is home loss = inr (λ kept.
         let same = one c kept.0 this.held kept.1.here.stands this.fits.stands in
         let never : true ≡ false = sym is ∙ ap (λ (x : Record). x.header.invalid) (sym same) ∙ kept.1.here.valid in
@@ -45,11 +45,11 @@ module _ (apart : SpellsApart record_bytes) (log : Log) (in_log : AreBelow log.t
         other (ap (λ (x : Record). record_home log.shape.bucket_bits x) (sym same) ∙ kept.1.here.same))
     kept_by false is (inl same_home) (inr lost) = inr (λ kept.
         let same = one c kept.0 this.held kept.1.here.stands this.fits.stands in
-        lost (ap (λ (x : Record). losses log.lost c x) (sym same) ∙ kept.1.not_lost))
+        lost (ap (λ (x : Record). losses_of log c x) (sym same) ∙ kept.1.not_lost))
     kept_by false is (inl same_home) (inl kept) = inl (this.held, record { here = record { stands = this.fits.stands; valid = is; same = same_home }; not_lost = kept })
 
     kept_or_not : Has (IsKept log its_home) c ⊎ (Has (IsKept log its_home) c → ⊥)
-    kept_or_not = kept_by this.held.header.invalid refl (cases_eq (record_home log.shape.bucket_bits this.held) its_home) (cases_eq (losses log.lost c this.held) 0)
+    kept_or_not = kept_by this.held.header.invalid refl (cases_eq (record_home log.shape.bucket_bits this.held) its_home) (cases_eq (losses_of log c this.held) 0)
 
   -- the nearest kept record of a home below an address, or that there is none
   abbrev Nearest : ℕ → ℕ → Type 0
@@ -97,7 +97,7 @@ module _ (apart : SpellsApart record_bytes) (log : Log) (in_log : AreBelow log.t
     falls : x.header.previous.0 < a
     falls = subst (λ (y : Record). y.header.previous.0 < a) same this.fits.falls
 
-    by_nearest : losses log.lost a x ≡ 0 → log.start ≤ x.header.previous.0 → Nearest (record_home log.shape.bucket_bits x) a → Has (IsValid log (record_home log.shape.bucket_bits x)) x.header.previous.0
+    by_nearest : losses_of log a x ≡ 0 → log.start ≤ x.header.previous.0 → Nearest (record_home log.shape.bucket_bits x) a → Has (IsValid log (record_home log.shape.bucket_bits x)) x.header.previous.0
     by_nearest kept high (inl found) =
         let leads = (links.nearest kept found.0 found.1).0 in
         subst (λ (n : ℕ). Has (IsValid log (record_home log.shape.bucket_bits x)) n) (sym leads) (found.1.here.0, found.1.here.1.here)
@@ -105,7 +105,7 @@ module _ (apart : SpellsApart record_bytes) (log : Log) (in_log : AreBelow log.t
 
     leads_to_valid : log.start ≤ x.header.previous.0 → Has (IsValid log (record_home log.shape.bucket_bits x)) x.header.previous.0
     leads_to_valid high = ⊎_elim (λ kept. by_nearest kept high (nearest (record_home log.shape.bucket_bits x) a (omega (arith, within)))) (λ lost. links.lost lost high)
-        (cases_eq (losses log.lost a x) 0)
+        (cases_eq (losses_of log a x) 0)
 
   module _ (followed : (its_home w : ℕ) → GoesOnAt log its_home log.tail w → IsFollowed log its_home w) where
     -- where a home's chain goes on it begins

@@ -8,7 +8,8 @@ use Rattle.fkv_scan.specs.Log.{Log, record_home}
 use Rattle.fkv_scan.specs.Records.{Stands}
 use Rattle.fkv_chains.specs.Reached.{Reached, LeadsTo}
 
--- the bytes at an address spell a record that leads below it, of a version that is at most the commit's
+-- The bytes at an address spell a record that leads below it, whose mark is at most the commit's number. Up to commit 8190 that is its version. From commit 8191
+-- on each mark is, so no version is asked for there.
 pub record IsOld (log : Log) (a : ℕ) (x : Record) : Type 0 where
   pub stands : Stands log a x
   pub old_enough : x.header.version.0 ≤ log.version

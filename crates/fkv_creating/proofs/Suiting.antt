@@ -10,6 +10,7 @@ use Rattle.fkv_base.specs.declared.shapes.Shape.{Shape}
 use Rattle.fkv_record.specs.declared.formats.Format.TheVariants.{Third}
 use Rattle.fkv_record.specs.declared.manifest_slots.ManifestSlot.{ManifestSlot}
 use Rattle.fkv_record.specs.Points.{serial_numbers}
+use Rattle.fkv_marks.proofs.Shown.{window_small}
 use Rattle.fkv_newest.specs.Manifest.{Suits, IsLostIn, Follows}
 use Rattle.fkv_creating.specs.Created.{IsNewSlot}
 
@@ -40,6 +41,7 @@ suits_new shape slot new = record {
     area = omega (arith, new.area);
     own_area = λ is_first. new.area;
     no_newer = omega (arith, new.checkpoint);
+    in_window = window_small shape.class slot.checkpoint slot.number (omega (arith, new.number));
   };
   sessions = many_points slot.points.serials.items shape.sessions new.points;
   lost = record {

@@ -21,3 +21,5 @@ mod places;
 mod record;
 #[cfg(test)]
 mod slots;
+#[cfg(test)]
+mod window;

@@ -1,6 +1,7 @@
 -- What stands at an address of the log of an opened store.
 use Rattle.std.specs.Prelude.{◌≡◌, ℕ, Bool, true, false, ◌&&◌, nat_lt, nat_le, if◌then◌else◌, List, Option, Some, None}
 use Rattle.fkv_disk.specs.Bytes.{bytes_at}
+use Rattle.fkv_marks.specs.Window.{version_in}
 use Rattle.fkv_words.specs.Fields.{Reads}
 use Rattle.fkv_record.specs.declared.records.Record.{Record}
 use Rattle.fkv_record.specs.Layout.{record_bytes}
@@ -10,9 +11,15 @@ use Rattle.fkv_opening.specs.declared.opened_store.Opened.{Opened}
 use Rattle.fkv_looking.specs.declared.classes.RecordClass.{RecordClass}
 use Rattle.fkv_looking.specs.declared.classes.RecordClass.TheVariants.{Valid, Invalid, Lost, Newer, NoRecord}
 
+-- the version of a record: in the scan what its mark is read as, and below that the mark itself
+unfoldable pub version_at : Opened → ℕ → Record → ℕ
+version_at opened a x = if nat_le opened.checkpoint.first.0 a then version_in opened.number.0 x.header.version.0 else x.header.version.0
+
 -- A valid record is newer than the commit if its version is above the commit's number. Else it is lost if it stands in the scan and a lost range in hand has it.
 unfoldable pub class_of_valid : Opened → ℕ → Record → RecordClass
-class_of_valid opened a x = if nat_lt opened.number.0 x.header.version.0 then Newer else if nat_le opened.checkpoint.first.0 a && nat_lt 0 (losses opened.lost.items a x) then Lost else Valid
+class_of_valid opened a x =
+    if nat_lt opened.number.0 (version_at opened a x) then Newer
+    else if nat_le opened.checkpoint.first.0 a && nat_lt 0 (losses opened.lost.items a (version_at opened a x)) then Lost else Valid
 
 -- the class of a record at an address, or of none
 abbrev pub class_of : Opened → ℕ → Option Record → RecordClass

@@ -3,11 +3,12 @@ ghost use Rattle.std.specs.Prelude.{◌≡◌, ◌<◌, ◌≤◌, ◌^◌, ◌�
 ghost use Rattle.fkv_disk.specs.Kinds.{OnlyReads};
 ghost use Rattle.fkv_disk.specs.Quiet.{IsQuiet, IsHindrance};
 ghost use Rattle.fkv_scan.specs.Records.{losses};
-ghost use Rattle.fkv_looking.specs.Classes.{IsClass, class_of, class_of_valid, is_class};
+ghost use Rattle.fkv_looking.specs.Classes.{IsClass, class_of, class_of_valid, is_class, version_at};
 
 use crate::parts::read_part;
-use fkv_base::{Addr, Fault};
+use fkv_base::{Addr, Fault, Version};
 use fkv_disk::Device;
+use fkv_marks::version_in;
 use fkv_opening::Opened;
 use fkv_record::{LostRange, Record, read_record, record_place};
 
@@ -42,17 +43,29 @@ impl RecordClass {
     }
 }
 
-/// Whether the record at the address is lost by one of the ranges.
+/// Whether a record of this version at the address is lost by one of the ranges.
 #[tactic(auto, unfolding(fkv_scan::specs::Records::losses))]
-fn is_lost(ranges: &[LostRange], addr: Addr, found: &Record) -> bool
-    ensures { result ≡ nat_lt 0 (losses ranges.now addr.0 found.now) }
+fn is_lost(ranges: &[LostRange], addr: Addr, version: Version) -> bool
+    ensures { result ≡ nat_lt 0 (losses ranges.now addr.0 version.0) }
 {
     for range in ranges {
-        if addr.0 < range.to.0 && found.header.version.0 == range.version.0 {
+        if addr.0 < range.to.0 && version.0 == range.version.0 {
             return true;
         }
     }
     false
+}
+
+/// The version of a record at an address: in the scan what its mark is read as, and below that the mark itself.
+#[tactic(auto, unfolding(crate::specs::Classes::version_at))]
+fn version_at(opened: &Opened, addr: Addr, found: &Record) -> Version
+    ensures { result.0 ≡ version_at opened.now addr.0 found.now }
+{
+    if opened.checkpoint.first.0 <= addr.0 {
+        version_in(opened.number.0, found.header.version)
+    } else {
+        found.header.version
+    }
 }
 
 /// The class of a valid record at an address.
@@ -60,11 +73,12 @@ fn is_lost(ranges: &[LostRange], addr: Addr, found: &Record) -> bool
 fn class_of_valid(opened: &Opened, addr: Addr, found: &Record) -> RecordClass
     ensures { result ≡ class_of_valid opened.now addr.0 found.now }
 {
-    if opened.number.0 < found.header.version.0 {
+    let version = version_at(opened, addr, found);
+    if opened.number.0 < version.0 {
         return RecordClass::Newer;
     }
     let is_scanned = opened.checkpoint.first.0 <= addr.0;
-    let is_lost = is_lost(&opened.lost, addr, found);
+    let is_lost = is_lost(&opened.lost, addr, version);
     if is_scanned && is_lost {
         RecordClass::Lost
     } else {

@@ -5,7 +5,7 @@ ghost use Rattle.fkv_marks.specs.Marks.{mark};
 use fkv_base::Version;
 
 /// So many marks there are: 1 to this.
-const MARKS: u64 = 8191;
+pub(crate) const MARKS: u64 = 8191;
 
 /// The mark of a version: itself, up to 8191. The versions above have the same marks again, in turn.
 #[inline]

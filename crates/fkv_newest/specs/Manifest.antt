@@ -2,6 +2,7 @@
 use Rattle.std.specs.Prelude.{◌≡◌, ℕ, ◌*◌, ◌%◌, ◌<◌, ◌≤◌, length, All, AllPairs}
 use Rattle.fkv_base.specs.Limits.{last_version}
 use Rattle.fkv_base.specs.declared.shapes.Shape.{Shape}
+use Rattle.fkv_marks.specs.Window.{InWindow}
 use Rattle.fkv_record.specs.declared.formats.Format.{Format}
 use Rattle.fkv_record.specs.declared.formats.Format.TheVariants.{First}
 use Rattle.fkv_record.specs.declared.lost_ranges.LostRange.{LostRange}
@@ -20,12 +21,13 @@ pub record HasLog (shape : Shape) (slot : ManifestSlot) : Type 0 where
   pub on_disk : slot.end.0 ≤ shape.disk_pages * shape.page
 
 -- The checkpoint has no more triples than there is room for. A slot of the first format uses the area of its own index; later ones may use either, and a
--- commit may use an earlier one's checkpoint.
+-- commit may use an earlier one's checkpoint, if no mark tells of two versions behind it.
 pub record HasCheckpoint (shape : Shape) (index : ℕ) (format : Format) (slot : ManifestSlot) : Type 0 where
   pub few : slot.triples ≤ most_triples shape
   pub area : slot.area < 2
   pub own_area : format ≡ First → slot.area ≡ index
   pub no_newer : slot.checkpoint ≤ slot.number
+  pub in_window : InWindow shape.class slot.checkpoint slot.number
 
 -- a lost range ends within the scan, and its version is above the checkpoint's number and at most the commit's
 pub record IsLostIn (slot : ManifestSlot) (range : LostRange) : Type 0 where

@@ -1,8 +1,10 @@
 //! Whether a manifest slot is one of a store.
-ghost use Rattle.std.specs.Prelude.{◌≡◌, ◌↔◌, true};
+ghost use Rattle.std.specs.Prelude.{◌≡◌, ◌<◌, ◌↔◌, true};
+ghost use Rattle.fkv_base.specs.Limits.{last_version};
 ghost use Rattle.fkv_newest.specs.Manifest.{HasNumber, HasLog, HasCheckpoint, IsLostIn, Follows, HasLost, Suits};
 
 use fkv_base::{Shape, Version};
+use fkv_marks::is_in_window;
 use fkv_record::{Format, LostRange, ManifestSlot, most_triples};
 
 /// Whether the commit's number is one of this slot.
@@ -21,12 +23,14 @@ fn has_log(shape: Shape, slot: &ManifestSlot) -> bool
 
 /// Whether the checkpoint is one that the slot can name.
 fn has_checkpoint(shape: Shape, index: u64, format: Format, slot: &ManifestSlot) -> bool
+    requires { slot.now.number < last_version }
     ensures { (result ≡ true) ↔ HasCheckpoint shape index format slot.now }
 {
     slot.triples <= most_triples(shape)
         && slot.area < 2
         && (format != Format::First || slot.area == index)
         && slot.checkpoint <= slot.number
+        && is_in_window(shape.class, slot.checkpoint, slot.number)
 }
 
 /// Whether the records of the range can be lost to the commit.

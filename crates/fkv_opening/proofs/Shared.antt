@@ -57,7 +57,7 @@ module _ (s : Shape) (slot : ManifestSlot) (ts : List Triple) where
   newer_on i j same a x low high is = record { stands = stands_on i j same a x low high is.stands; valid = is.valid; newer = is.newer }
 
   fit_on : Moves s slot (λ i. IsFit (log i))
-  fit_on i j same a x low high is = record { stands = stands_on i j same a x low high is.stands; old_enough = is.old_enough; falls = is.falls }
+  fit_on i j same a x low high is = record { stands = stands_on i j same a x low high is.stands; new_enough = is.new_enough; old_enough = is.old_enough; falls = is.falls }
 
   pub triple_on : (i j : List ℕ) (h q : ℕ) → HasTriple (log i) h q → HasTriple (log j) h q
   triple_on i j h q has = record { place = has.place; triple = has.triple; stands = has.stands; same = has.same; address = has.address }

@@ -119,7 +119,7 @@ module _ (apart : SpellsApart record_bytes) (s : Shape) (slot : ManifestSlot) (t
         pub counts_on : (h a : ℕ) (x : Record) → Counts (log j) h a x → Counts (log i) h a x
         counts_on h a x is =
             let within = reached_on a is.reached in
-            record { reached = within.2; valid = valid_on s slot ts h j i back a x within.0 within.1 is.valid; old_enough = is.old_enough; not_lost = is.not_lost }
+            record { reached = within.2; valid = valid_on s slot ts h j i back a x within.0 within.1 is.valid; old_enough = is.old_enough; version = is.version; not_lost = is.not_lost }
 
   module _ (i j : List ℕ) (same : Share s slot i j) (scan : HasScan (log i)) (chains : HasChains (log i)) where
     there : HasScan (log j)

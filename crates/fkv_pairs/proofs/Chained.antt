@@ -4,8 +4,9 @@ use Rattle.std.proofs.lemmas.Bool.{cases_lt}
 use Rattle.fkv_words.specs.Fields.{SpellsApart}
 use Rattle.fkv_record.specs.declared.records.Record.{Record}
 use Rattle.fkv_record.specs.Layout.{record_bytes}
+use Rattle.fkv_marks.proofs.Shown.{version_least}
 use Rattle.fkv_scan.specs.Log.{Log}
-use Rattle.fkv_scan.specs.Records.{Stands, IsKept, IsCounted}
+use Rattle.fkv_scan.specs.Records.{version_of, Stands, IsKept, IsCounted}
 use Rattle.fkv_scan.specs.Scan.{Has, HasNone, IsGreatest, IsLinked, GoesOn, by_record}
 use Rattle.fkv_chains.specs.Reached.{Reached, in_scan, linked, LeadsTo, from_record}
 use Rattle.fkv_chains.specs.Along.{IsAlong, here, on}
@@ -26,6 +27,7 @@ module _ (spelled : SpellsApart record_bytes) (log : Log) (sound : IsFaultless l
           reached = reached;
           valid = record { stands = this.old.stands; valid = this.valid; same = this.same its_home leads };
           old_enough = this.old.old_enough;
+          version = λ from. absurd (omega (arith, from, low));
           not_lost = λ from. absurd (omega (arith, from, low));
         },
       )
@@ -48,7 +50,7 @@ module _ (spelled : SpellsApart record_bytes) (log : Log) (sound : IsFaultless l
       its_links : IsLinked log a x
       its_links = links spelled log sound a x from within counts.valid.stands counts.valid.valid
 
-      to_nearest : (c : ℕ) → IsGreatest (IsKept log its_home) log.start a c → (x.header.previous.0 ≡ c) × ((y : Record) → Stands log c y → y.header.version.0 ≤ x.header.version.0)
+      to_nearest : (c : ℕ) → IsGreatest (IsKept log its_home) log.start a c → (x.header.previous.0 ≡ c) × ((y : Record) → Stands log c y → version_of log y ≤ version_of log x)
       to_nearest c greatest = its_links.nearest (counts.not_lost from) c (subst (λ (h : ℕ). IsGreatest (IsKept log h) log.start a c) (sym counts.valid.same) greatest)
 
       to_below : HasNone (IsKept log its_home) log.start a → x.header.previous.0 < log.start
@@ -68,13 +70,15 @@ module _ (spelled : SpellsApart record_bytes) (log : Log) (sound : IsFaultless l
         let leads = to_nearest a x from counts found.0 found.1 in
         let kept = found.1.here in
         let older = leads.1 kept.0 kept.1.here.stands in
-        let old = counts.old_enough in
+        let old = counts.version from in
+        let least = version_least log.version (let y = kept.0 in y.header.version.0) in
         subst (λ (n : ℕ). Has (Counts log its_home) n) (sym leads.0) (
           kept.0,
           record {
             reached = subst (λ (n : ℕ). Reached log n) leads.0 (reached_next a x counts some);
             valid = kept.1.here;
-            old_enough = omega (arith, older, old);
+            old_enough = omega (arith, least, older, old);
+            version = λ on. omega (arith, older, old);
             not_lost = λ on. kept.1.not_lost;
           },
         )
@@ -175,7 +179,8 @@ module _ (spelled : SpellsApart record_bytes) (log : Log) (sound : IsFaultless l
             record {
               reached = in_scan c greatest.here.0 greatest.from_on greatest.below this.kept.here.stands this.kept.here.valid;
               valid = this.kept.here;
-              old_enough = this.old_enough;
+              old_enough = (let least = version_least log.version (let x = greatest.here.0 in x.header.version.0) in let old = this.old_enough in omega (arith, least, old));
+              version = λ on. this.old_enough;
               not_lost = λ on. this.kept.not_lost;
             }),
       );
@@ -183,14 +188,14 @@ module _ (spelled : SpellsApart record_bytes) (log : Log) (sound : IsFaultless l
           (λ above.
           let on = greatest.from_on in
           let from : log.start ≤ b = omega (arith, above, on) in
-          absurd (greatest.none_above b y (omega (arith, above)) (met spelled log sound b counts.reached from).0 (record { kept = counts_kept b y from counts; old_enough = counts.old_enough })))
+          absurd (greatest.none_above b y (omega (arith, above)) (met spelled log sound b counts.reached from).0 (record { kept = counts_kept b y from counts; old_enough = counts.version from })))
           (λ most. most)
           (cases_lt c b);
     }
 
     under : HasNone (IsCounted log its_home) log.start log.tail → (b : ℕ) (y : Record) → Counts log its_home b y → b < log.start
     under none b y counts = ⊎_elim (λ low. low)
-        (λ from. absurd (none b y from (met spelled log sound b counts.reached from).0 (record { kept = counts_kept b y from counts; old_enough = counts.old_enough })))
+        (λ from. absurd (none b y from (met spelled log sound b counts.reached from).0 (record { kept = counts_kept b y from counts; old_enough = counts.version from })))
         (cases_lt b log.start)
 
     pub has_entry : (b : ℕ) (y : Record) → Counts log its_home b y → (e : ℕ) × IsEntry log its_home e

@@ -5,7 +5,7 @@ use Rattle.fkv_words.specs.Fields.{SpellsApart}
 use Rattle.fkv_record.specs.declared.records.Record.{Record}
 use Rattle.fkv_record.specs.Layout.{record_bytes}
 use Rattle.fkv_scan.specs.Log.{Log, record_home}
-use Rattle.fkv_scan.specs.Records.{Stands, losses, IsValid, IsKept, IsCounted}
+use Rattle.fkv_scan.specs.Records.{Stands, version_of, losses_of, IsValid, IsKept, IsCounted}
 use Rattle.fkv_scan.specs.Scan.{Has, HasNone, IsGreatest, IsScanned, IsLinked}
 use Rattle.fkv_scan.proofs.Shown.{at_or_below}
 use Rattle.fkv_chains.specs.Reached.{Reached, in_scan, led_to, linked}
@@ -54,7 +54,7 @@ module _ (spelled : SpellsApart record_bytes) (log : Log) (sound : IsFaultless l
   -- whether a record of the scan is a kept one of a home, and one that counts
   module _ (its_home c : ℕ) (this : IsScanned log c) where
     kept_by : (invalid : Bool) → this.held.header.invalid ≡ invalid → (record_home log.shape.bucket_bits this.held ≡ its_home) ⊎ (record_home log.shape.bucket_bits this.held ≡ its_home → ⊥)
-        → (losses log.lost c this.held ≡ 0) ⊎ (losses log.lost c this.held ≡ 0 → ⊥) → Has (IsKept log its_home) c ⊎ (Has (IsKept log its_home) c → ⊥)
+        → (losses_of log c this.held ≡ 0) ⊎ (losses_of log c this.held ≡ 0 → ⊥) → Has (IsKept log its_home) c ⊎ (Has (IsKept log its_home) c → ⊥)
     kept_by true is home loss = inr (λ kept.
         let same = one c kept.0 this.held kept.1.here.stands this.fits.stands in
         let never : true ≡ false = sym is ∙ ap (λ (x : Record). x.header.invalid) (sym same) ∙ kept.1.here.valid in
@@ -64,20 +64,20 @@ module _ (spelled : SpellsApart record_bytes) (log : Log) (sound : IsFaultless l
         other (ap (λ (x : Record). record_home log.shape.bucket_bits x) (sym same) ∙ kept.1.here.same))
     kept_by false is (inl same_home) (inr lost) = inr (λ kept.
         let same = one c kept.0 this.held kept.1.here.stands this.fits.stands in
-        lost (ap (λ (x : Record). losses log.lost c x) (sym same) ∙ kept.1.not_lost))
+        lost (ap (λ (x : Record). losses_of log c x) (sym same) ∙ kept.1.not_lost))
     kept_by false is (inl same_home) (inl kept) = inl (this.held, record { here = record { stands = this.fits.stands; valid = is; same = same_home }; not_lost = kept })
 
     kept_or_not : Has (IsKept log its_home) c ⊎ (Has (IsKept log its_home) c → ⊥)
-    kept_or_not = kept_by this.held.header.invalid refl (cases_eq (record_home log.shape.bucket_bits this.held) its_home) (cases_eq (losses log.lost c this.held) 0)
+    kept_or_not = kept_by this.held.header.invalid refl (cases_eq (record_home log.shape.bucket_bits this.held) its_home) (cases_eq (losses_of log c this.held) 0)
 
     counted_by : Has (IsKept log its_home) c → Has (IsCounted log its_home) c ⊎ (Has (IsCounted log its_home) c → ⊥)
     counted_by kept = ⊎_elim
         (λ newer. inr (λ has.
         let same = one c has.0 kept.0 has.1.kept.here.stands kept.1.here.stands in
-        let old : kept.0.header.version.0 ≤ log.version = subst (λ (x : Record). x.header.version.0 ≤ log.version) same has.1.old_enough in
+        let old : version_of log kept.0 ≤ log.version = subst (λ (x : Record). version_of log x ≤ log.version) same has.1.old_enough in
         absurd (omega (arith, newer, old))))
         (λ old. inl (kept.0, record { kept = kept.1; old_enough = old }))
-        (cases_lt log.version kept.0.header.version.0)
+        (cases_lt log.version (version_of log kept.0))
 
     counted_or_not : Has (IsCounted log its_home) c ⊎ (Has (IsCounted log its_home) c → ⊥)
     counted_or_not = ⊎_elim counted_by (λ off. inr (λ has. off (has.0, has.1.kept))) kept_or_not
@@ -107,9 +107,9 @@ module _ (spelled : SpellsApart record_bytes) (log : Log) (sound : IsFaultless l
     leads_to_valid valid high = ⊎_elim
         (λ kept. by_nearest kept (nearest (record_home log.shape.bucket_bits x) a (omega (arith, within))))
         (λ lost. (links valid).lost lost high)
-        (cases_eq (losses log.lost a x) 0)
+        (cases_eq (losses_of log a x) 0)
       where
-        by_nearest : losses log.lost a x ≡ 0 → Greatest (IsKept log (record_home log.shape.bucket_bits x)) log.start a → Has (IsValid log (record_home log.shape.bucket_bits x)) x.header.previous.0
+        by_nearest : losses_of log a x ≡ 0 → Greatest (IsKept log (record_home log.shape.bucket_bits x)) log.start a → Has (IsValid log (record_home log.shape.bucket_bits x)) x.header.previous.0
         by_nearest kept (inl found) = subst (λ (n : ℕ). Has (IsValid log (record_home log.shape.bucket_bits x)) n) (sym ((links valid).nearest kept found.0 found.1).0) (found.1.here.0, found.1.here.1.here)
         by_nearest kept (inr none) = (let low = (links valid).first kept none in absurd (omega (arith, low, high)))
 

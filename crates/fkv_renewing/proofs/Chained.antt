@@ -4,13 +4,14 @@ use Rattle.std.specs.Prelude.{slice_get}
 use Rattle.std.proofs.lemmas.Bool.{cases_eq, cases_lt}
 use Rattle.fkv_base.specs.declared.numbers.Key.{Key}
 use Rattle.fkv_base.specs.declared.numbers.Value.{Value}
+use Rattle.fkv_marks.proofs.Shown.{version_small}
 use Rattle.fkv_words.specs.Fields.{SpellsApart}
 use Rattle.fkv_record.specs.declared.lost_ranges.LostRange.{LostRange}
 use Rattle.fkv_record.specs.declared.records.Record.{Record}
 use Rattle.fkv_record.specs.declared.triples.Triple.{Triple}
 use Rattle.fkv_record.specs.Layout.{record_bytes}
 use Rattle.fkv_scan.specs.Log.{Log, record_home}
-use Rattle.fkv_scan.specs.Records.{Stands, IsKept, losses}
+use Rattle.fkv_scan.specs.Records.{Stands, IsKept, version_of, losses, losses_of}
 use Rattle.fkv_scan.specs.Scan.{GoesOn, by_triple, by_none, by_record, HasNone, HasScan, IsGreatest, IsLinked}
 use Rattle.fkv_chains.specs.Chains.{HasChains}
 use Rattle.fkv_chains.specs.Entries.{Counts}
@@ -23,9 +24,9 @@ home_is : (bits : ℕ) (x : Record) → record_home bits x ≡ key_home bits x.k
 unfolding record_home
 home_is bits x = refl
 
-none_lose : (a : ℕ) (x : Record) → losses [] a x ≡ 0
+none_lose : (a version : ℕ) → losses [] a version ≡ 0
 unfolding losses
-none_lose a x = refl
+none_lose a version = refl
 
 no_triple : (ts : List Triple) (place : ℕ) (t : Triple) → ts ≡ [] → slice_get ts place ≡ Some t → ⊥
 no_triple ts place t none is = let off : slice_get {X = Triple} [] place ≡ Some t = subst (λ (xs : List Triple). slice_get xs place ≡ Some t) none is in cc
@@ -58,8 +59,11 @@ module _ (spelled : SpellsApart record_bytes) (log : Log) (pairs : List (Key × 
   pub home_at : (c : ℕ) (is : IsAt log pairs c) → record_home log.shape.bucket_bits is.held ≡ key_home log.shape.bucket_bits is.pair.0
   home_at c is = home_is log.shape.bucket_bits is.held ∙ ap (λ (k : Key). key_home log.shape.bucket_bits k) is.is.key
 
-  pub unlost : (a : ℕ) (x : Record) → losses log.lost a x ≡ 0
-  unlost a x = subst (λ (ranges : List LostRange). losses ranges a x ≡ 0) (sym renewed.lost) (none_lose a x)
+  pub unlost : (a : ℕ) (x : Record) → losses_of log a x ≡ 0
+  unlost a x = subst (λ (ranges : List LostRange). losses ranges a (version_of log x) ≡ 0) (sym renewed.lost) (none_lose a (version_of log x))
+
+  pub version_one : (x : Record) → x.header.version.0 ≡ 1 → version_of log x ≡ 1
+  version_one x is = version_small log.version x.header.version.0 (omega (arith, is)) (omega (arith, renewed.version)) ∙ is
 
   kept : (c : ℕ) (is : IsAt log pairs c) (h : ℕ) → key_home log.shape.bucket_bits is.pair.0 ≡ h → IsKept log h c is.held
   kept c is h same = record { here = record { stands = is.stands; valid = is.is.valid; same = home_at c is ∙ same }; not_lost = unlost c is.held }
@@ -117,8 +121,8 @@ module _ (spelled : SpellsApart record_bytes) (log : Log) (pairs : List (Key × 
       λ y stands.
           let other = at b (let p : 1 ≤ b = omega (arith, greatest.from_on, renewed.start) in p) (let p : b < log.tail = omega (arith, greatest.below, low) in p) in
           let same : y ≡ other.held = one b y other.held stands other.stands in
-          let version : y.header.version.0 ≡ 1 = ap (λ (x : Record). x.header.version.0) same ∙ other.is.version in
-          omega (arith, version, is.is.version),
+          let version : version_of log y ≡ 1 = version_one y (ap (λ (x : Record). x.header.version.0) same ∙ other.is.version) in
+          omega (arith, version, version_one is.held is.is.version),
     );
     first = λ not_lost none. omega (arith, none_before c is some low none, renewed.start);
     lost = λ is_lost up. absurd (is_lost (unlost c is.held));
@@ -130,9 +134,10 @@ module _ (spelled : SpellsApart record_bytes) (log : Log) (pairs : List (Key × 
     records = λ c from low.
         let some : 1 ≤ c = omega (arith, from, renewed.start) in
         let is = at c some low in
+        let version = version_one is.held is.is.version in
         record {
           held = is.held;
-          fits = record { stands = is.stands; old_enough = omega (arith, is.is.version); falls = omega (arith, is.is.leads.among, some) };
+          fits = record { stands = is.stands; new_enough = omega (arith, version, renewed.oldest); old_enough = omega (arith, version); falls = omega (arith, is.is.leads.among, some) };
           linked = λ valid. is_linked c is some low;
         };
     triples = λ i triple stands. absurd (no_triple log.triples i triple renewed.triples stands);
@@ -158,6 +163,7 @@ module _ (spelled : SpellsApart record_bytes) (log : Log) (pairs : List (Key × 
     reached = in_scan c is.held (omega (arith, some, renewed.start)) low is.stands is.is.valid;
     valid = (kept c is (key_home log.shape.bucket_bits is.pair.0) refl).here;
     old_enough = omega (arith, is.is.version, renewed.version);
+    version = λ from. omega (arith, version_one is.held is.is.version, renewed.version);
     not_lost = λ from. unlost c is.held;
   }
 

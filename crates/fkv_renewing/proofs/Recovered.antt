@@ -7,6 +7,7 @@ use Rattle.fkv_base.specs.declared.numbers.Serial.{Serial}
 use Rattle.fkv_base.specs.declared.numbers.Value.{Value}
 use Rattle.fkv_base.specs.declared.shapes.Shape.{Shape}
 use Rattle.fkv_creating.specs.Long.{IsLong}
+use Rattle.fkv_marks.proofs.Shown.{oldest_most}
 use Rattle.fkv_newest.specs.declared.newest_slots.Newest.{Newest}
 use Rattle.fkv_newest.specs.Newest.{IsNewestOf}
 use Rattle.fkv_opening.specs.Faults.{HasCheckpoint, IsSound, log_of}
@@ -17,14 +18,14 @@ use Rattle.fkv_record.specs.declared.lost_ranges.LostRange.{LostRange}
 use Rattle.fkv_record.specs.declared.manifest_slots.ManifestSlot.{ManifestSlot}
 use Rattle.fkv_record.specs.declared.records.Record.{Record}
 use Rattle.fkv_scan.specs.Log.{Log}
-use Rattle.fkv_scan.specs.Records.{IsNewer}
+use Rattle.fkv_scan.specs.Records.{version_of, IsNewer}
 use Rattle.fkv_scan.specs.Scanned.{TellsNewer}
 use Rattle.fkv_renewing.specs.Images.{AreStored, IsRenewed, IsRenewedSlot}
 use Rattle.fkv_renewing.specs.Logs.{IsRenewedLog}
 use Rattle.fkv_renewing.specs.Records.{AreRecords}
 use Rattle.fkv_renewing.specs.Renewed.{AreSomePairs, IsRenewal}
 use Rattle.fkv_renewing.specs.Room.{HasSlots, point_at}
-use Rattle.fkv_renewing.proofs.Chained.{at, one}
+use Rattle.fkv_renewing.proofs.Chained.{at, one, version_one}
 use Rattle.fkv_renewing.proofs.Holding.{are_pairs, is_sound}
 
 module _ (apart : Apart) (image : List ℕ) (shape : Shape) (points : List Serial) (pairs : List (Key × Value)) (records : List Record) (n : Newest)
@@ -36,6 +37,7 @@ module _ (apart : Apart) (image : List ℕ) (shape : Shape) (points : List Seria
   is_log : IsRenewedLog (log_of image n []) pairs records
   is_log = record {
     version = renewed.slot.number;
+    oldest = oldest_most n.shape.class n.slot.checkpoint 1 (omega arith) (omega (arith, renewed.slot.checkpoint));
     start = renewed.slot.first;
     tail = renewed.slot.end;
     lost = renewed.slot.lost;
@@ -59,7 +61,8 @@ module _ (apart : Apart) (image : List ℕ) (shape : Shape) (points : List Seria
   none_newer c x some low newer =
       let is = at apart.records (log_of image n []) pairs records is_log c some low in
       let same : x ≡ is.held = one apart.records (log_of image n []) pairs records is_log c x is.held newer.stands is.stands in
-      let version : x.header.version.0 ≡ 1 = ap (λ (y : Record). y.header.version.0) same ∙ is.is.version in
+      let version : version_of (log_of image n []) x ≡ 1 =
+      version_one apart.records (log_of image n []) pairs records is_log x (ap (λ (y : Record). y.header.version.0) same ∙ is.is.version) in
       omega (arith, version, newer.newer, renewed.slot.number)
 
   none_lost : (left_out : Bool) (ranges : List LostRange) → TellsNewer (log_of image n []) (log_of image n []).tail left_out → Extends (log_of image n []) left_out ranges → ranges ≡ []

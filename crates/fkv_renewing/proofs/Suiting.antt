@@ -7,6 +7,7 @@ use Rattle.fkv_base.specs.declared.numbers.Value.{Value}
 use Rattle.fkv_base.specs.declared.shapes.Shape.{Shape}
 use Rattle.fkv_record.specs.declared.formats.Format.TheVariants.{Third}
 use Rattle.fkv_record.specs.declared.manifest_slots.ManifestSlot.{ManifestSlot}
+use Rattle.fkv_marks.proofs.Shown.{window_small}
 use Rattle.fkv_newest.specs.Manifest.{Suits, IsLostIn, Follows}
 use Rattle.fkv_renewing.specs.Images.{IsRenewedSlot}
 
@@ -19,6 +20,7 @@ suits_renewed shape points pairs slot renewed places = record {
     area = omega (arith, renewed.area);
     own_area = λ is_first. renewed.area;
     no_newer = omega (arith, renewed.checkpoint, renewed.number);
+    in_window = window_small shape.class slot.checkpoint slot.number (omega (arith, renewed.number));
   };
   sessions = renewed.many;
   lost = record {

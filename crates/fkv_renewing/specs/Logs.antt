@@ -10,6 +10,7 @@ use Rattle.fkv_renewing.specs.Records.{AreRecords}
 -- The log of commit 1, whose checkpoint has no triples, holds the records of these pairs from address 1 on, and nothing else. No record is lost.
 pub record IsRenewedLog (log : Log) (pairs : List (Key × Value)) (records : List Record) : Type 0 where
   pub version : log.version ≡ 1
+  pub oldest : log.oldest ≤ 1
   pub start : log.start ≡ 1
   pub tail : log.tail ≡ length pairs + 1
   pub lost : log.lost ≡ []

@@ -7,7 +7,7 @@ use Rattle.fkv_base.specs.declared.numbers.Addr.{Addr}
 use Rattle.fkv_record.specs.declared.records.Record.{Record}
 use Rattle.fkv_scan.specs.declared.home_scans.HomeScan.{HomeScan}
 use Rattle.fkv_scan.specs.Log.{Log, record_home}
-use Rattle.fkv_scan.specs.Records.{Stands, losses, IsValid, IsKept, IsCounted}
+use Rattle.fkv_scan.specs.Records.{Stands, version_of, losses_of, IsValid, IsKept, IsCounted}
 use Rattle.fkv_scan.specs.Scan.{HasNone, GoesOn, by_triple, by_none, by_record, IsLinked, IsFit}
 use Rattle.fkv_scan.specs.Scanned.{IsGreatestOf, IsUnmet}
 use Rattle.fkv_scan.specs.Known.{IsWay, Knows, KnowsOf, KnowsAll}
@@ -59,50 +59,50 @@ module _ (log : Log) (addr : Addr) (x : Record) (from : log.start ≤ addr.0) (f
   elsewhere other apart y there = apart (ap (λ r. record_home log.shape.bucket_bits r) (sym (alone y there.stands)) ∙ there.same)
 
   module _ (s : HomeScan) (knows : Knows log its_home a s) where
-    lost_too : 0 < losses log.lost a x → (y : Record) → Stands log a y → losses log.lost a y ≡ 0 → ⊥
-    lost_too lost y stands kept = (let e : losses log.lost a x ≡ 0 = ap (λ r. losses log.lost a r) (sym (alone y stands)) ∙ kept in omega (arith, e, lost))
+    lost_too : 0 < losses_of log a x → (y : Record) → Stands log a y → losses_of log a y ≡ 0 → ⊥
+    lost_too lost y stands kept = (let e : losses_of log a x ≡ 0 = ap (λ r. losses_of log a r) (sym (alone y stands)) ∙ kept in omega (arith, e, lost))
 
-    some_lost : (is_lost : Bool) → is_lost ≡ nat_lt 0 (losses log.lost a x) → is_lost ≡ true → 0 < losses log.lost a x
-    some_lost is_lost lost is = (let e : nat_lt 0 (losses log.lost a x) ≡ true = sym lost ∙ is in grind (arith, nat_tests, e))
+    some_lost : (is_lost : Bool) → is_lost ≡ nat_lt 0 (losses_of log a x) → is_lost ≡ true → 0 < losses_of log a x
+    some_lost is_lost lost is = (let e : nat_lt 0 (losses_of log a x) ≡ true = sym lost ∙ is in grind (arith, nat_tests, e))
 
-    none_lost : (is_lost : Bool) → is_lost ≡ nat_lt 0 (losses log.lost a x) → is_lost ≡ false → losses log.lost a x ≡ 0
-    none_lost is_lost lost is = (let e : nat_lt 0 (losses log.lost a x) ≡ false = sym lost ∙ is in grind (arith, nat_tests, e))
+    none_lost : (is_lost : Bool) → is_lost ≡ nat_lt 0 (losses_of log a x) → is_lost ≡ false → losses_of log a x ≡ 0
+    none_lost is_lost lost is = (let e : nat_lt 0 (losses_of log a x) ≡ false = sym lost ∙ is in grind (arith, nat_tests, e))
 
-    newest_met : (is_lost newer : Bool) → is_lost ≡ nat_lt 0 (losses log.lost a x) → newer ≡ nat_lt log.version x.header.version.0
+    newest_met : (is_lost newer : Bool) → is_lost ≡ nat_lt 0 (losses_of log a x) → newer ≡ nat_lt log.version (version_of log x)
         → IsGreatestOf (IsCounted log its_home) log.start (a + 1) (if is_lost || newer then s.newest else Some addr)
     newest_met true newer lost new = known_more (IsCounted log its_home) log.start a s.newest knows.newest
         (λ y counted. lost_too (some_lost true lost refl) y counted.kept.here.stands counted.kept.not_lost)
     newest_met false true lost new = known_more (IsCounted log its_home) log.start a s.newest knows.newest
         (λ y counted.
         let old = counted.old_enough in
-        let version : y.header.version.0 ≡ x.header.version.0 = ap (λ r. r.header.version.0) (alone y counted.kept.here.stands) in
-        let e : nat_lt log.version x.header.version.0 ≡ true = sym new in
-        let above : log.version < x.header.version.0 = grind (arith, nat_tests, e) in
+        let version : version_of log y ≡ version_of log x = ap (λ r. version_of log r) (alone y counted.kept.here.stands) in
+        let e : nat_lt log.version (version_of log x) ≡ true = sym new in
+        let above : log.version < version_of log x = grind (arith, nat_tests, e) in
         omega (arith, old, version, above))
     newest_met false false lost new = greatest_here (IsCounted log its_home) log.start a from (
       x,
       record {
         kept = record { here = here; not_lost = none_lost false lost refl };
-        old_enough = (let e : nat_lt log.version x.header.version.0 ≡ false = sym new in grind (arith, nat_tests, e));
+        old_enough = (let e : nat_lt log.version (version_of log x) ≡ false = sym new in grind (arith, nat_tests, e));
       },
     )
 
-    last_met : (is_lost : Bool) → is_lost ≡ nat_lt 0 (losses log.lost a x) → IsGreatestOf (IsKept log its_home) log.start (a + 1) (if is_lost then s.last else Some addr)
+    last_met : (is_lost : Bool) → is_lost ≡ nat_lt 0 (losses_of log a x) → IsGreatestOf (IsKept log its_home) log.start (a + 1) (if is_lost then s.last else Some addr)
     last_met true lost = known_more (IsKept log its_home) log.start a s.last knows.last (λ y kept. lost_too (some_lost true lost refl) y kept.here.stands kept.not_lost)
     last_met false lost = greatest_here (IsKept log its_home) log.start a from (x, record { here = here; not_lost = none_lost false lost refl })
 
     version_met : (is_lost : Bool) (b : Addr) (y : Record) → (if is_lost then s.last else Some addr) ≡ Some b → Stands log b.0 y
-        → y.header.version.0 ≡ (let version = (if is_lost then s.last_version else x.header.version) in version.0)
+        → version_of log y ≡ (let version = (if is_lost then s.last_version else record { 0 = version_of log x }) in version.0)
     version_met true b y is stands = knows.version b y is stands
     version_met false b y is stands =
         let same : addr ≡ b = cc in
-        ap (λ r. r.header.version.0) (alone y (subst (λ n. Stands log n.0 y) (sym same) stands))
+        ap (λ r. version_of log r) (alone y (subst (λ n. Stands log n.0 y) (sym same) stands))
 
     new_is : (q : ℕ) → NewWay log its_home a q → x.header.previous.0 ≡ q
     new_is q new = ap (λ r. r.header.previous.0) (sym (alone new.0 new.1.stands)) ∙ new.2
 
     -- a record that leads into the scan isn't the first of its home
-    not_first : log.start ≤ x.header.previous.0 → HasNone (IsValid log its_home) log.start a → (b : Bool) → b ≡ nat_lt 0 (losses log.lost a x) → ⊥
+    not_first : log.start ≤ x.header.previous.0 → HasNone (IsValid log its_home) log.start a → (b : Bool) → b ≡ nat_lt 0 (losses_of log a x) → ⊥
     not_first high none true lost =
         let some = some_lost true lost refl in
         let there = linked.lost (λ is. omega (arith, some, is)) high in
@@ -112,7 +112,7 @@ module _ (log : Log) (addr : Addr) (x : Record) (from : log.start ≤ addr.0) (f
         omega (arith, low, high)
 
     way_within : (o : Option Addr) → IsWay log its_home a o → log.start ≤ x.header.previous.0 → IsWay log its_home (a + 1) o
-    way_within None way high = absurd (not_first high way.1 (nat_lt 0 (losses log.lost a x)) refl)
+    way_within None way high = absurd (not_first high way.1 (nat_lt 0 (losses_of log a x)) refl)
     way_within (Some w) way high = record {
       there = goes_on_more log its_home a w.0 way.there;
       alone = λ q goes. ⊎_elim (λ was. way.alone q was) (λ new. (let is = new_is q new in let small = new.3 in absurd (omega (arith, is, small, high)))) (goes_on_back log its_home a q goes);
@@ -130,10 +130,10 @@ module _ (log : Log) (addr : Addr) (x : Record) (from : log.start ≤ addr.0) (f
         let e : nat_lt x.header.previous.0 log.start ≡ false = sym is in
         way_within s.below knows.below (grind (arith, nat_tests, e))
 
-    pub knows_met : (is_lost : Bool) → is_lost ≡ nat_lt 0 (losses log.lost a x) → Knows log its_home (a + 1) (met s addr x is_lost log.start log.version)
+    pub knows_met : (is_lost : Bool) → is_lost ≡ nat_lt 0 (losses_of log a x) → Knows log its_home (a + 1) (met s addr x (record { 0 = version_of log x }) is_lost log.start log.version)
     unfolding met
     knows_met is_lost lost = record {
-      newest = newest_met is_lost (nat_lt log.version x.header.version.0) lost refl;
+      newest = newest_met is_lost (nat_lt log.version (version_of log x)) lost refl;
       last = last_met is_lost lost;
       version = version_met is_lost;
       below = below_met (nat_lt x.header.previous.0 log.start) refl;
@@ -147,8 +147,8 @@ module _ (log : Log) (addr : Addr) (x : Record) (from : log.start ≤ addr.0) (f
       let never : true ≡ false = sym yes_it_is ∙ same in absurd (cc)))))
 
   -- all homes, once the record's own is put in
-  pub all_met : (at next : ℕ → Option HomeScan) (is_lost : Bool) → is_lost ≡ nat_lt 0 (losses log.lost a x) → KnowsAll log a at
-      → ((q : ℕ) → next q ≡ cond (is_eq (nat_cmp its_home q)) (Some (met (known_or (at its_home)) addr x is_lost log.start log.version)) (at q)) → KnowsAll log (a + 1) next
+  pub all_met : (at next : ℕ → Option HomeScan) (is_lost : Bool) → is_lost ≡ nat_lt 0 (losses_of log a x) → KnowsAll log a at
+      → ((q : ℕ) → next q ≡ cond (is_eq (nat_cmp its_home q)) (Some (met (known_or (at its_home)) addr x (record { 0 = version_of log x }) is_lost log.start log.version)) (at q)) → KnowsAll log (a + 1) next
   all_met at next is_lost lost all updates q =
-      of_key at next (met (known_or (at its_home)) addr x is_lost log.start log.version) q (is_eq (nat_cmp its_home q)) refl all
+      of_key at next (met (known_or (at its_home)) addr x (record { 0 = version_of log x }) is_lost log.start log.version) q (is_eq (nat_cmp its_home q)) refl all
       (knows_met (known_or (at its_home)) (knows_or log its_home a (at its_home) (all its_home)) is_lost lost) (updates q)

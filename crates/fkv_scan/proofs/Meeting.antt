@@ -6,7 +6,7 @@ use Rattle.fkv_base.specs.declared.numbers.Addr.{Addr}
 use Rattle.fkv_record.specs.declared.records.Record.{Record}
 use Rattle.fkv_scan.specs.declared.home_scans.HomeScan.{HomeScan}
 use Rattle.fkv_scan.specs.Log.{Log, record_home}
-use Rattle.fkv_scan.specs.Records.{Stands, losses, IsValid, IsKept}
+use Rattle.fkv_scan.specs.Records.{Stands, version_of, losses_of, IsValid, IsKept}
 use Rattle.fkv_scan.specs.Scan.{HasNone, Has, IsGreatest, GoesOn, IsLinked}
 use Rattle.fkv_scan.specs.Scanned.{IsGreatestOf}
 use Rattle.fkv_scan.specs.Known.{IsWay, Knows}
@@ -73,29 +73,29 @@ module _ (log : Log) (a : ℕ) (x : Record) where
   first_is_not None last is = absurd (cc)
   first_is_not (Some b) last is = (b.0, last)
 
-  next_is : (o : Option Addr) (version : ℕ) → IsGreatestOf (IsKept log its_home) log.start a o → is_next o version x ≡ true
-      → IsGreatest (IsKept log its_home) log.start a previous × (o ≡ Some x.header.previous) × (version ≤ x.header.version.0)
+  next_is : (o : Option Addr) (version : ℕ) → IsGreatestOf (IsKept log its_home) log.start a o → is_next o version x (version_of log x) ≡ true
+      → IsGreatest (IsKept log its_home) log.start a previous × (o ≡ Some x.header.previous) × (version ≤ version_of log x)
   next_is None version last is = absurd (cc)
   next_is (Some b) version last is =
-      let parts = both (b.0 == previous) (nat_le version x.header.version.0) is in
+      let parts = both (b.0 == previous) (nat_le version (version_of log x)) is in
       let same = same_of b.0 previous parts.0 in
-      (subst (λ n. IsGreatest (IsKept log its_home) log.start a n) same last, ap Some (addr_same b x.header.previous same), at_most_of version x.header.version.0 parts.1)
+      (subst (λ n. IsGreatest (IsKept log its_home) log.start a n) same last, ap Some (addr_same b x.header.previous same), at_most_of version (version_of log x) parts.1)
 
-  next_is_not : (o : Option Addr) (version : ℕ) → IsGreatestOf (IsKept log its_home) log.start a o → is_next o version x ≡ false
-      → HasNone (IsKept log its_home) log.start a ⊎ ((b : Addr) × (o ≡ Some b) × IsGreatest (IsKept log its_home) log.start a b.0 × ((previous ≢ b.0) ⊎ (x.header.version.0 < version)))
+  next_is_not : (o : Option Addr) (version : ℕ) → IsGreatestOf (IsKept log its_home) log.start a o → is_next o version x (version_of log x) ≡ false
+      → HasNone (IsKept log its_home) log.start a ⊎ ((b : Addr) × (o ≡ Some b) × IsGreatest (IsKept log its_home) log.start a b.0 × ((previous ≢ b.0) ⊎ (version_of log x < version)))
   next_is_not None version last is = inl last
   next_is_not (Some b) version last is = inr (
     b,
     refl,
     last,
-    ⊎_elim (λ off. inl (λ same. other_of b.0 previous off (sym same))) (λ newer. inr (above_of version x.header.version.0 newer)) (not_both (b.0 == previous) (nat_le version x.header.version.0) is),
+    ⊎_elim (λ off. inl (λ same. other_of b.0 previous off (sym same))) (λ newer. inr (above_of version (version_of log x) newer)) (not_both (b.0 == previous) (nat_le version (version_of log x)) is),
   )
 
   module _ (s : HomeScan) (leads : Bool) (knows : Knows log its_home a s) where
     -- below the start
-    linked_below : (is_lost : Bool) → is_lost ≡ nat_lt 0 (losses log.lost a x) → previous < log.start → is_way s.below previous ≡ true → (is_lost || is_first s.last) ≡ true → IsLinked log a x
+    linked_below : (is_lost : Bool) → is_lost ≡ nat_lt 0 (losses_of log a x) → previous < log.start → is_way s.below previous ≡ true → (is_lost || is_first s.last) ≡ true → IsLinked log a x
     linked_below true lost low way last = record {
-      nearest = λ not_lost. absurd (let t = less_of 0 (losses log.lost a x) (sym lost) in omega (arith, t, not_lost));
+      nearest = λ not_lost. absurd (let t = less_of 0 (losses_of log a x) (sym lost) in omega (arith, t, not_lost));
       first = λ not_lost none. low;
       lost = λ is_lost high. absurd (omega (arith, low, high));
       below = λ small q goes. way_is s.below knows.below way q goes;
@@ -108,7 +108,7 @@ module _ (log : Log) (a : ℕ) (x : Record) where
     }
 
     -- within the scan
-    linked_within_lost : losses log.lost a x ≢ 0 → log.start ≤ previous → Has (IsValid log its_home) previous → IsLinked log a x
+    linked_within_lost : losses_of log a x ≢ 0 → log.start ≤ previous → Has (IsValid log its_home) previous → IsLinked log a x
     linked_within_lost lost high has = record {
       nearest = λ not_lost. absurd (lost not_lost);
       first = λ not_lost. absurd (lost not_lost);
@@ -116,7 +116,7 @@ module _ (log : Log) (a : ℕ) (x : Record) where
       below = λ small. absurd (omega (arith, small, high));
     }
 
-    linked_within : losses log.lost a x ≡ 0 → log.start ≤ previous → is_next s.last s.last_version.0 x ≡ true → IsLinked log a x
+    linked_within : losses_of log a x ≡ 0 → log.start ≤ previous → is_next s.last s.last_version.0 x (version_of log x) ≡ true → IsLinked log a x
     linked_within not_lost high next =
         let is = next_is s.last s.last_version.0 knows.last next in
         record {
@@ -134,22 +134,22 @@ module _ (log : Log) (a : ℕ) (x : Record) where
         }
 
     -- not linked
-    off_below : (is_lost : Bool) → is_lost ≡ nat_lt 0 (losses log.lost a x) → previous < log.start → (is_way s.below previous && (is_lost || is_first s.last)) ≡ false → IsLinked log a x → ⊥
+    off_below : (is_lost : Bool) → is_lost ≡ nat_lt 0 (losses_of log a x) → previous < log.start → (is_way s.below previous && (is_lost || is_first s.last)) ≡ false → IsLinked log a x → ⊥
     off_below is_lost lost low off linked =
         ⊎_elim (λ way. way_is_not s.below knows.below way (λ q goes. linked.below low q goes))
         (λ last. off_last is_lost lost last) (not_both (is_way s.below previous) (is_lost || is_first s.last) off)
       where
-        off_last : (is_lost : Bool) → is_lost ≡ nat_lt 0 (losses log.lost a x) → (is_lost || is_first s.last) ≡ false → ⊥
+        off_last : (is_lost : Bool) → is_lost ≡ nat_lt 0 (losses_of log a x) → (is_lost || is_first s.last) ≡ false → ⊥
         off_last true lost last = absurd (cc)
         off_last false lost last =
-            let not_lost : losses log.lost a x ≡ 0 = (let t = not_less_of 0 (losses log.lost a x) (sym lost) in omega (arith, t)) in
+            let not_lost : losses_of log a x ≡ 0 = (let t = not_less_of 0 (losses_of log a x) (sym lost) in omega (arith, t)) in
             let b = first_is_not s.last knows.last last in
             let near = linked.nearest not_lost b.0 b.1 in
             let same = near.0 in
             let from = b.1.from_on in
             omega (arith, same, from, low)
 
-    off_within : losses log.lost a x ≡ 0 → log.start ≤ previous → is_next s.last s.last_version.0 x ≡ false → IsLinked log a x → ⊥
+    off_within : losses_of log a x ≡ 0 → log.start ≤ previous → is_next s.last s.last_version.0 x (version_of log x) ≡ false → IsLinked log a x → ⊥
     off_within not_lost high next linked =
         ⊎_elim (λ none. (let low = linked.first not_lost none in omega (arith, low, high)))
         (λ some.
@@ -162,19 +162,19 @@ module _ (log : Log) (a : ℕ) (x : Record) where
     abbrev pub Leads : Bool → Type 0
     Leads is_lost = is_lost ≡ true → log.start ≤ previous → (leads ≡ true) ↔ Has (IsValid log its_home) previous
 
-    decided_within : (is_lost : Bool) → is_lost ≡ nat_lt 0 (losses log.lost a x) → Leads is_lost → log.start ≤ previous → (answer : Bool) → (if is_lost then leads else is_next s.last s.last_version.0 x) ≡ answer
+    decided_within : (is_lost : Bool) → is_lost ≡ nat_lt 0 (losses_of log a x) → Leads is_lost → log.start ≤ previous → (answer : Bool) → (if is_lost then leads else is_next s.last s.last_version.0 x (version_of log x)) ≡ answer
         → ((answer ≡ true → IsLinked log a x) × (answer ≡ false → IsLinked log a x → ⊥))
     decided_within true lost leading high answer is =
-        let some : losses log.lost a x ≢ 0 = (let t = less_of 0 (losses log.lost a x) (sym lost) in omega (arith, t)) in (
+        let some : losses_of log a x ≢ 0 = (let t = less_of 0 (losses_of log a x) (sym lost) in omega (arith, t)) in (
           λ yes. linked_within_lost some high ((leading refl high).0 (is ∙ yes)),
           λ no linked. (let has = (leading refl high).1 (linked.lost some high) in let never : true ≡ false = sym has ∙ is ∙ no in absurd (cc)),
         )
     decided_within false lost leading high answer is =
-        let none : losses log.lost a x ≡ 0 = (let t = not_less_of 0 (losses log.lost a x) (sym lost) in omega (arith, t)) in
+        let none : losses_of log a x ≡ 0 = (let t = not_less_of 0 (losses_of log a x) (sym lost) in omega (arith, t)) in
         (λ yes. linked_within none high (is ∙ yes), λ no linked. off_within none high (is ∙ no) linked)
 
-    decided : (is_lost : Bool) → is_lost ≡ nat_lt 0 (losses log.lost a x) → Leads is_lost → (small : Bool) → nat_lt previous log.start ≡ small → (answer : Bool)
-        → (if small then is_way s.below previous && (is_lost || is_first s.last) else if is_lost then leads else is_next s.last s.last_version.0 x) ≡ answer
+    decided : (is_lost : Bool) → is_lost ≡ nat_lt 0 (losses_of log a x) → Leads is_lost → (small : Bool) → nat_lt previous log.start ≡ small → (answer : Bool)
+        → (if small then is_way s.below previous && (is_lost || is_first s.last) else if is_lost then leads else is_next s.last s.last_version.0 x (version_of log x)) ≡ answer
         → ((answer ≡ true → IsLinked log a x) × (answer ≡ false → IsLinked log a x → ⊥))
     decided is_lost lost leading true low answer is = (
       λ yes. (let parts = both (is_way s.below previous) (is_lost || is_first s.last) (is ∙ yes) in linked_below is_lost lost (less_of previous log.start low) parts.0 parts.1),
@@ -183,10 +183,10 @@ module _ (log : Log) (a : ℕ) (x : Record) where
     decided is_lost lost leading false high answer is = decided_within is_lost lost leading (not_less_of previous log.start high) answer is
 
     -- the test says whether the record is linked
-    pub links_is : (is_lost : Bool) → is_lost ≡ nat_lt 0 (losses log.lost a x) → Leads is_lost → links s x is_lost leads log.start ≡ true → IsLinked log a x
+    pub links_is : (is_lost : Bool) → is_lost ≡ nat_lt 0 (losses_of log a x) → Leads is_lost → links s x (version_of log x) is_lost leads log.start ≡ true → IsLinked log a x
     unfolding links
-    links_is is_lost lost leading on = (decided is_lost lost leading (nat_lt previous log.start) refl (links s x is_lost leads log.start) refl).0 on
+    links_is is_lost lost leading on = (decided is_lost lost leading (nat_lt previous log.start) refl (links s x (version_of log x) is_lost leads log.start) refl).0 on
 
-    pub links_is_not : (is_lost : Bool) → is_lost ≡ nat_lt 0 (losses log.lost a x) → Leads is_lost → links s x is_lost leads log.start ≡ false → IsLinked log a x → ⊥
+    pub links_is_not : (is_lost : Bool) → is_lost ≡ nat_lt 0 (losses_of log a x) → Leads is_lost → links s x (version_of log x) is_lost leads log.start ≡ false → IsLinked log a x → ⊥
     unfolding links
-    links_is_not is_lost lost leading off = (decided is_lost lost leading (nat_lt previous log.start) refl (links s x is_lost leads log.start) refl).1 off
+    links_is_not is_lost lost leading off = (decided is_lost lost leading (nat_lt previous log.start) refl (links s x (version_of log x) is_lost leads log.start) refl).1 off

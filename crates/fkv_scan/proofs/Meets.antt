@@ -9,16 +9,17 @@ use Rattle.fkv_disk.specs.Device.{Rose}
 use Rattle.fkv_record.specs.declared.records.Record.{Record}
 use Rattle.fkv_scan.specs.declared.home_scans.HomeScan.{HomeScan}
 use Rattle.fkv_scan.specs.Log.{Log}
-use Rattle.fkv_scan.specs.Records.{IsNewer}
+use Rattle.fkv_scan.specs.Records.{version_of, IsNewer}
 use Rattle.fkv_scan.specs.Scan.{Has, IsFit, IsLinked, IsScanned}
 use Rattle.fkv_scan.specs.Known.{KnowsAll, IsMeeting}
 use Rattle.fkv_scan.specs.Refused.{IsUnlinked, IsUnscanned}
 use Rattle.fkv_scan.proofs.Standing.{AreRead, stands_read, alone_read}
 use Rattle.fkv_scan.proofs.Knowing.{knows_more}
 
-module _ (log : Log) (a : ℕ) (read : Option Record) (reads : AreRead log a read) (x : Record) (is : read ≡ Some x) (old_enough : x.header.version.0 ≤ log.version + 1) (falls : x.header.previous.0 < a) where
+module _ (log : Log) (a : ℕ) (read : Option Record) (reads : AreRead log a read) (x : Record) (is : read ≡ Some x) (version least : ℕ)
+    (told : version ≡ version_of log x) (oldest_is : least ≡ log.oldest) (new_enough : least ≤ version) (old_enough : version ≤ log.version + 1) (falls : x.header.previous.0 < a) where
   pub is_fit : IsFit log a x
-  is_fit = record { stands = stands_read log a read reads x is; old_enough = old_enough; falls = falls }
+  is_fit = record { stands = stands_read log a read reads x is; new_enough = omega (arith, told, oldest_is, new_enough); old_enough = omega (arith, told, old_enough); falls = falls }
 
   -- an invalid record
   pub skipped : (at : ℕ → Option HomeScan) → x.header.invalid ≡ true → KnowsAll log a at → IsScanned log a × KnowsAll log (a + 1) at
@@ -35,13 +36,13 @@ module _ (log : Log) (a : ℕ) (read : Option Record) (reads : AreRead log a rea
   pub is_scanned : IsLinked log a x → IsScanned log a
   is_scanned linked = record { held = x; fits = is_fit; linked = λ valid. linked }
 
-  pub newer_is : x.header.invalid ≡ false → (nat_lt log.version x.header.version.0 ≡ true) ↔ Has (IsNewer log) a
+  pub newer_is : x.header.invalid ≡ false → (nat_lt log.version version ≡ true) ↔ Has (IsNewer log) a
   newer_is valid = (
-    λ above. (x, record { stands = stands_read log a read reads x is; valid = valid; newer = (let lower : log.version < x.header.version.0 = grind (arith, nat_tests, above) in omega (arith, lower, old_enough)) }),
+    λ above. (x, record { stands = stands_read log a read reads x is; valid = valid; newer = (let lower : log.version < version = grind (arith, nat_tests, above) in omega (arith, lower, old_enough, told)) }),
     λ has.
-        let same : x.header.version.0 ≡ has.0.header.version.0 = ap (λ r. r.header.version.0) (sym (alone_read log a read reads x has.0 is has.1.stands)) in
+        let same : version_of log x ≡ version_of log has.0 = ap (λ r. version_of log r) (sym (alone_read log a read reads x has.0 is has.1.stands)) in
         let newer = has.1.newer in
-        let lower : log.version < x.header.version.0 = omega (arith, same, newer) in
+        let lower : log.version < version = omega (arith, same, newer, told) in
         grind (arith, nat_tests, lower),
   )
 

@@ -4,7 +4,7 @@ use Rattle.fkv_base.specs.declared.numbers.Addr.{Addr}
 use Rattle.fkv_record.specs.declared.records.Record.{Record}
 use Rattle.fkv_scan.specs.declared.home_scans.HomeScan.{HomeScan}
 use Rattle.fkv_scan.specs.Log.{Log}
-use Rattle.fkv_scan.specs.Records.{Stands, IsValid, IsKept, IsCounted}
+use Rattle.fkv_scan.specs.Records.{Stands, version_of, IsValid, IsKept, IsCounted}
 use Rattle.fkv_scan.specs.Scan.{HasNone, GoesOn, IsFit}
 use Rattle.fkv_scan.specs.Scanned.{IsGreatestOf, GoesOnAt, IsUnmet}
 
@@ -17,7 +17,7 @@ IsWay log its_home to None = ((q : ℕ) → GoesOn log its_home to q → ⊥) ×
 pub record Knows (log : Log) (its_home to : ℕ) (s : HomeScan) : Type 0 where
   pub newest : IsGreatestOf (IsCounted log its_home) log.start to s.newest
   pub last : IsGreatestOf (IsKept log its_home) log.start to s.last
-  pub version : (b : Addr) (y : Record) → s.last ≡ Some b → Stands log b.0 y → y.header.version.0 ≡ s.last_version.0
+  pub version : (b : Addr) (y : Record) → s.last ≡ Some b → Stands log b.0 y → version_of log y ≡ s.last_version.0
   pub below : IsWay log its_home to s.below
 
 -- what is known of a home that may not be met yet

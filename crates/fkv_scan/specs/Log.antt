@@ -1,18 +1,20 @@
 -- What a scan goes by.
 use Rattle.std.specs.Prelude.{◌≡◌, ℕ, ◌+◌, ◌*◌, ◌^◌, ◌<◌, List, slice_get, Some}
 use Rattle.fkv_base.specs.declared.shapes.Shape.{Shape}
+use Rattle.fkv_marks.specs.Window.{oldest as oldest_of}
 use Rattle.fkv_words.specs.Home.{bucket_of, tag_of}
 use Rattle.fkv_record.specs.declared.lost_ranges.LostRange.{LostRange}
 use Rattle.fkv_record.specs.declared.manifest_slots.ManifestSlot.{ManifestSlot}
 use Rattle.fkv_record.specs.declared.records.Record.{Record}
 use Rattle.fkv_record.specs.declared.triples.Triple.{Triple}
 
--- An image, its shape, the number of its newest commit, the addresses at which the scan starts and the commit's log ends, which records
--- are lost, and the triples of the commit's checkpoint.
+-- An image, its shape, the number of its newest commit, the oldest version that a record of the scan may have, the addresses at which the scan starts and the
+-- commit's log ends, which records are lost, and the triples of the commit's checkpoint.
 pub record Log : Type 0 where
   pub image : List ℕ
   pub shape : Shape
   pub version : ℕ
+  pub oldest : ℕ
   pub start : ℕ
   pub tail : ℕ
   pub lost : List LostRange
@@ -24,6 +26,7 @@ log_in image its_shape slot its_triples = record {
   image = image;
   shape = its_shape;
   version = slot.number;
+  oldest = oldest_of its_shape.class slot.checkpoint;
   start = slot.first.0;
   tail = slot.end.0;
   lost = slot.lost.ranges.items;

@@ -6,7 +6,7 @@ use Rattle.fkv_base.specs.declared.faults.Damage.TheVariants.{Record as of_recor
 use Rattle.fkv_record.specs.declared.records.Record.{Record}
 use Rattle.fkv_record.specs.declared.triples.Triple.{Triple}
 use Rattle.fkv_scan.specs.Log.{Log, record_home, triple_home, HasTriple, HasNoTriple}
-use Rattle.fkv_scan.specs.Records.{Stands, losses, IsValid, IsKept}
+use Rattle.fkv_scan.specs.Records.{Stands, version_of, losses_of, IsValid, IsKept}
 
 -- some record at the address has P
 abbrev pub Has : (ℕ → Record → Type 0) → ℕ → Type 0
@@ -33,16 +33,17 @@ pub data GoesOn (log : Log) (its_home to : ℕ) (q : ℕ) : Type 0 where
 -- A valid record that isn't lost leads to the nearest of its home that isn't lost either, whose version isn't above its own, and where there is none below
 -- the start. A lost one leads to a valid record of its home, or below the start. All that lead below the start lead to where the chain of the home goes on.
 pub record IsLinked (log : Log) (a : ℕ) (x : Record) : Type 0 where
-  pub nearest : losses log.lost a x ≡ 0 → (b : ℕ) → IsGreatest (IsKept log (record_home log.shape.bucket_bits x)) log.start a b
-      → (x.header.previous.0 ≡ b) × ((y : Record) → Stands log b y → y.header.version.0 ≤ x.header.version.0)
-  pub first : losses log.lost a x ≡ 0 → HasNone (IsKept log (record_home log.shape.bucket_bits x)) log.start a → x.header.previous.0 < log.start
-  pub lost : losses log.lost a x ≢ 0 → log.start ≤ x.header.previous.0 → Has (IsValid log (record_home log.shape.bucket_bits x)) x.header.previous.0
+  pub nearest : losses_of log a x ≡ 0 → (b : ℕ) → IsGreatest (IsKept log (record_home log.shape.bucket_bits x)) log.start a b
+      → (x.header.previous.0 ≡ b) × ((y : Record) → Stands log b y → version_of log y ≤ version_of log x)
+  pub first : losses_of log a x ≡ 0 → HasNone (IsKept log (record_home log.shape.bucket_bits x)) log.start a → x.header.previous.0 < log.start
+  pub lost : losses_of log a x ≢ 0 → log.start ≤ x.header.previous.0 → Has (IsValid log (record_home log.shape.bucket_bits x)) x.header.previous.0
   pub below : x.header.previous.0 < log.start → (q : ℕ) → GoesOn log (record_home log.shape.bucket_bits x) a q → x.header.previous.0 ≡ q
 
--- the bytes at an address spell a record that leads below it, of a version that is at most the next commit's
+-- the bytes at an address spell a record that leads below it, of a version from the oldest one up to the next commit's
 pub record IsFit (log : Log) (a : ℕ) (x : Record) : Type 0 where
   pub stands : Stands log a x
-  pub old_enough : x.header.version.0 ≤ log.version + 1
+  pub new_enough : log.oldest ≤ version_of log x
+  pub old_enough : version_of log x ≤ log.version + 1
   pub falls : x.header.previous.0 < a
 
 -- a record of the scan is as it should be

@@ -1,6 +1,7 @@
 -- What one record makes of what is known of its home.
 use Rattle.std.specs.Prelude.{ℕ, Bool, true, false, ◌&&◌, ◌||◌, nat_lt, nat_le, ◌==◌, if◌then◌else◌, Option, Some, None}
 use Rattle.fkv_base.specs.declared.numbers.Addr.{Addr}
+use Rattle.fkv_base.specs.declared.numbers.Version.{Version}
 use Rattle.fkv_record.specs.declared.records.Record.{Record}
 use Rattle.fkv_scan.specs.declared.home_scans.HomeScan.{HomeScan}
 
@@ -9,29 +10,30 @@ abbrev pub is_way : Option Addr → ℕ → Bool
 is_way None q = true
 is_way (Some a) q = a.0 == q
 
--- a record leads to the last one of its home, whose version isn't above its own
-abbrev pub is_next : Option Addr → ℕ → Record → Bool
-is_next None version x = false
-is_next (Some b) version x = b.0 == x.header.previous.0 && nat_le version x.header.version.0
+-- a record of this version leads to the last one of its home, whose version isn't above its own
+abbrev pub is_next : Option Addr → ℕ → Record → ℕ → Bool
+is_next None last x version = false
+is_next (Some b) last x version = b.0 == x.header.previous.0 && nat_le last version
 
 -- there is no last record
 abbrev pub is_first : Option Addr → Bool
 is_first None = true
 is_first (Some b) = false
 
--- Whether a valid record is on the chain of its home, by what is known of that. A lost one may lead to any valid record of the home, and `leads` says whether it does.
-unfoldable pub links : HomeScan → Record → Bool → Bool → ℕ → Bool
-links s x is_lost leads start =
+-- Whether a valid record of this version is on the chain of its home, by what is known of that. A lost one may lead to any valid record of the home, and `leads`
+-- says whether it does.
+unfoldable pub links : HomeScan → Record → ℕ → Bool → Bool → ℕ → Bool
+links s x version is_lost leads start =
     if nat_lt x.header.previous.0 start then is_way s.below x.header.previous.0 && (is_lost || is_first s.last)
-    else if is_lost then leads else is_next s.last s.last_version.0 x
+    else if is_lost then leads else is_next s.last s.last_version.0 x version
 
--- what is known once a valid record on the chain was met
-unfoldable pub met : HomeScan → Addr → Record → Bool → ℕ → ℕ → HomeScan
-met s a x is_lost start version = record {
-  newest = if is_lost || nat_lt version x.header.version.0 then s.newest else Some a;
+-- what is known once a valid record of this version was met on the chain, behind the commit of this number
+unfoldable pub met : HomeScan → Addr → Record → Version → Bool → ℕ → ℕ → HomeScan
+met s a x version is_lost start number = record {
+  newest = if is_lost || nat_lt number version.0 then s.newest else Some a;
   below = if nat_lt x.header.previous.0 start then Some x.header.previous else s.below;
   last = if is_lost then s.last else Some a;
-  last_version = if is_lost then s.last_version else x.header.version;
+  last_version = if is_lost then s.last_version else version;
 }
 
 -- what is known of a home before the scan, by its triple

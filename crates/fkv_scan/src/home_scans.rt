@@ -55,43 +55,53 @@ impl HomeScan {
         }
     }
 
-    /// Whether the record leads to the last one, whose version isn't above its own.
-    fn is_next(&self, found: &Record) -> bool
-        ensures { result ≡ is_next self.now.last self.now.last_version.0 found.now }
+    /// Whether the record of this version leads to the last one, whose version isn't above its own.
+    fn is_next(&self, found: &Record, version: Version) -> bool
+        ensures { result ≡ is_next self.now.last self.now.last_version.0 found.now version.0 }
     {
         match self.last {
-            Some(last) => {
-                last.0 == found.header.previous.0 && self.last_version.0 <= found.header.version.0
-            }
+            Some(last) => { last.0 == found.header.previous.0 && self.last_version.0 <= version.0 }
             None => false,
         }
     }
 
-    /// Whether a valid record is on the chain of its home. A lost one may lead to any valid record of the home; `leads`
-    /// says whether it does.
+    /// Whether a valid record of this version is on the chain of its home. A lost one may lead to any valid record of the
+    /// home; `leads` says whether it does.
     #[tactic(auto, unfolding(crate::specs::Steps::links))]
-    pub(crate) fn links(&self, found: &Record, is_lost: bool, leads: bool, start: Addr) -> bool
-        ensures { result ≡ links self.now found.now is_lost leads start.0 }
+    pub(crate) fn links(
+        &self,
+        found: &Record,
+        version: Version,
+        is_lost: bool,
+        leads: bool,
+        start: Addr,
+    ) -> bool
+        ensures { result ≡ links self.now found.now version.0 is_lost leads start.0 }
     {
         if found.header.previous.0 < start.0 {
             return self.is_way(found.header.previous) && (is_lost || self.last.is_none());
         }
-        if is_lost { leads } else { self.is_next(found) }
+        if is_lost {
+            leads
+        } else {
+            self.is_next(found, version)
+        }
     }
 
-    /// What is known once the valid record at the address was met, where the commit has this number.
+    /// What is known once the valid record of this version was met at the address, where the commit has this number.
     #[tactic(auto, unfolding(crate::specs::Steps::met))]
     pub(crate) fn met(
         &self,
         addr: Addr,
         found: &Record,
+        version: Version,
         is_lost: bool,
         start: Addr,
         number: u64,
     ) -> HomeScan
-        ensures { result ≡ met self.now addr found.now is_lost start.0 number }
+        ensures { result ≡ met self.now addr found.now version is_lost start.0 number }
     {
-        let counts = !is_lost && found.header.version.0 <= number;
+        let counts = !is_lost && version.0 <= number;
         HomeScan {
             newest: if counts { Some(addr) } else { self.newest },
             below: if found.header.previous.0 < start.0 {
@@ -100,11 +110,7 @@ impl HomeScan {
                 self.below
             },
             last: if is_lost { self.last } else { Some(addr) },
-            last_version: if is_lost {
-                self.last_version
-            } else {
-                found.header.version
-            },
+            last_version: if is_lost { self.last_version } else { version },
         }
     }
 }

@@ -7,7 +7,6 @@ ghost use Rattle.fkv_record.specs.declared.triples.Triple.{Triple};
 ghost use Rattle.fkv_scan.specs.Scan.{IsScannedTo, IsLed, AreLed};
 ghost use Rattle.std.specs.Ordering.{nat_cmp};
 ghost use Rattle.std.specs.BTreeMap.{get};
-ghost use Rattle.fkv_base.specs.Limits.{last_version};
 ghost use Rattle.fkv_scan.specs.Log.{log_in, AreApart, AreBelow};
 ghost use Rattle.fkv_scan.specs.Scanned.{AreScanned, TellsNewer};
 ghost use Rattle.fkv_scan.specs.Known.{KnowsAll};
@@ -60,7 +59,7 @@ fn meet_all<D: Device>(
 ) -> Result<bool, Fault>
     requires upwards { slot.now.first.0 ≤ slot.now.end.0 }
     requires short { slot.now.end.0 < 2 ^ 48 }
-    requires few { slot.now.number < last_version }
+    requires few { slot.now.number < 2 ^ 63 }
     ensures ok { (triples : List Triple) → D.honest d.old → KnowsAll (log_in (D.seen d.old) shape slot.now triples) slot.now.first.0 (get nat_cmp homes.old) → OnOk result (IsScannedTo (log_in (D.seen d.old) shape slot.now triples) slot.now.end.0 × KnowsAll (log_in (D.seen d.old) shape slot.now triples) slot.now.end.0 (get nat_cmp homes.new)) }
     ensures newer { (triples : List Triple) → D.honest d.old → IfOk result (TellsNewer (log_in (D.seen d.old) shape slot.now triples) slot.now.end.0) }
     ensures err { (triples : List Triple) → IfErr result (IsRefused (D.failed d.old) (D.failed d.new) (D.honest d.old × KnowsAll (log_in (D.seen d.old) shape slot.now triples) slot.now.first.0 (get nat_cmp homes.old)) (log_in (D.seen d.old) shape slot.now triples)) }
@@ -130,7 +129,7 @@ pub fn scan<D: Device>(
     requires in_log { AreBelow slot.now.end.0 triples.now }
     requires upwards { slot.now.first.0 ≤ slot.now.end.0 }
     requires short { slot.now.end.0 < 2 ^ 48 }
-    requires few { slot.now.number < last_version }
+    requires few { slot.now.number < 2 ^ 63 }
     ensures ok { D.honest d.old → IfOk result (AreScanned (log_in (D.seen d.old) shape slot.now triples.now)) }
     ensures err { IfErr result (IsRefused (D.failed d.old) (D.failed d.new) (D.honest d.old) (log_in (D.seen d.old) shape slot.now triples.now)) }
     ensures quiet { IsQuiet D.honest D.seen D.may_leave D.moment D.left_since D.failed d.old d.new }

@@ -2,7 +2,7 @@
 ghost use Rattle.std.specs.Prelude.{◌≡◌, ◌≤◌, ◌<◌, ◌^◌, ◌+◌, ◌↔◌, List, true, ◌&&◌, nat_le, nat_lt, IfOk, OnOk, IfErr};
 ghost use Rattle.std.specs.Ordering.{nat_cmp};
 ghost use Rattle.std.specs.BTreeMap.{get};
-ghost use Rattle.fkv_base.specs.Limits.{last_version};
+ghost use Rattle.fkv_marks.specs.Window.{version_in};
 ghost use Rattle.fkv_record.specs.declared.manifest_slots.ManifestSlot.{ManifestSlot};
 ghost use Rattle.fkv_record.specs.declared.triples.Triple.{Triple};
 ghost use Rattle.fkv_scan.specs.Log.{log_in, record_home};
@@ -17,18 +17,19 @@ ghost use Rattle.fkv_scan.specs.Refused.{IsUnlinked, IsUnscanned};
 use crate::home_scans::HomeScan;
 use crate::homes::record_home;
 use crate::readings::record_at;
-use fkv_base::{Addr, Damage, Fault, Shape};
+use fkv_base::{Addr, Damage, Fault, Shape, Version};
 use fkv_disk::Device;
+use fkv_marks::{oldest, version_in};
 use fkv_record::{LostRange, ManifestSlot, Record};
 use std::collections::BTreeMap;
 
-/// Whether the record at the address is lost by one of the ranges.
+/// Whether a record of this version at the address is lost by one of the ranges.
 #[tactic(auto, unfolding(crate::specs::Records::losses))]
-fn is_lost(ranges: &[LostRange], addr: Addr, found: &Record) -> bool
-    ensures { result ≡ nat_lt 0 (losses ranges.now addr.0 found.now) }
+fn is_lost(ranges: &[LostRange], addr: Addr, version: Version) -> bool
+    ensures { result ≡ nat_lt 0 (losses ranges.now addr.0 version.0) }
 {
     for range in ranges {
-        if addr.0 < range.to.0 && found.header.version.0 == range.version.0 {
+        if addr.0 < range.to.0 && version.0 == range.version.0 {
             return true;
         }
     }
@@ -87,7 +88,7 @@ fn leads_within<D: Device>(
     Ok(false)
 }
 
-/// Takes in a valid record at the address.
+/// Takes in a valid record of this version at the address.
 fn take_in<D: Device>(
     d: &mut D,
     shape: Shape,
@@ -95,7 +96,9 @@ fn take_in<D: Device>(
     homes: &mut BTreeMap<u64, HomeScan>,
     addr: Addr,
     found: &Record,
+    version: Version,
 ) -> Result<(), Fault>
+    requires told { version.0 ≡ version_in slot.now.number found.now.header.version.0 }
     ensures ok { (triples : List Triple) → D.honest d.old → IsMeeting (log_in (D.seen d.old) shape slot.now triples) addr.0 found.now (get nat_cmp homes.old) → OnOk result (IsLinked (log_in (D.seen d.old) shape slot.now triples) addr.0 found.now × KnowsAll (log_in (D.seen d.old) shape slot.now triples) (addr.0 + 1) (get nat_cmp homes.new)) }
     ensures err { (triples : List Triple) → IfErr result (IsUnlinked (D.failed d.old) (D.failed d.new) (D.honest d.old × IsMeeting (log_in (D.seen d.old) shape slot.now triples) addr.0 found.now (get nat_cmp homes.old)) (log_in (D.seen d.old) shape slot.now triples) addr.0 found.now) }
     ensures quiet { IsQuiet D.honest D.seen D.may_leave D.moment D.left_since D.failed d.old d.new }
@@ -103,12 +106,15 @@ fn take_in<D: Device>(
 {
     let home = record_home(found, shape.bucket_bits);
     let known = known_of(homes, home);
-    let lost = is_lost(&slot.lost.ranges, addr, found);
+    let lost = is_lost(&slot.lost.ranges, addr, version);
     let leads = leads_within(d, shape, slot, lost, found.header.previous, home)?;
-    if !known.links(found, lost, leads, slot.first) {
+    if !known.links(found, version, lost, leads, slot.first) {
         return Err(Fault::Damaged(Damage::Link, addr.0));
     }
-    homes.insert(home, known.met(addr, found, lost, slot.first, slot.number))?;
+    homes.insert(
+        home,
+        known.met(addr, found, version, lost, slot.first, slot.number),
+    )?;
     Ok(())
 }
 
@@ -121,7 +127,7 @@ pub(crate) fn meet<D: Device>(
     addr: Addr,
 ) -> Result<bool, Fault>
     requires small { addr.0 < 2 ^ 48 }
-    requires few { slot.now.number < last_version }
+    requires few { slot.now.number < 2 ^ 63 }
     requires from_start { slot.now.first.0 ≤ addr.0 }
     ensures ok { (triples : List Triple) → D.honest d.old → KnowsAll (log_in (D.seen d.old) shape slot.now triples) addr.0 (get nat_cmp homes.old) → OnOk result (IsScanned (log_in (D.seen d.old) shape slot.now triples) addr.0 × KnowsAll (log_in (D.seen d.old) shape slot.now triples) (addr.0 + 1) (get nat_cmp homes.new)) }
     ensures newer { (triples : List Triple) → D.honest d.old → IfOk result (λ newer. (newer ≡ true) ↔ Has (IsNewer (log_in (D.seen d.old) shape slot.now triples)) addr.0) }
@@ -132,14 +138,18 @@ pub(crate) fn meet<D: Device>(
     let Some(found) = record_at(d, shape, addr)? else {
         return Err(Fault::Damaged(Damage::Record, addr.0));
     };
-    if found.header.version.0 > slot.number + 1 || found.header.previous.0 >= addr.0 {
+    let version = version_in(slot.number, found.header.version);
+    if version.0 < oldest(shape.class, slot.checkpoint) || version.0 > slot.number + 1 {
+        return Err(Fault::Damaged(Damage::Record, addr.0));
+    }
+    if found.header.previous.0 >= addr.0 {
         return Err(Fault::Damaged(Damage::Record, addr.0));
     }
     if found.header.invalid {
         return Ok(false);
     }
-    if let Err(fault) = take_in(d, shape, slot, homes, addr, &found) {
+    if let Err(fault) = take_in(d, shape, slot, homes, addr, &found, version) {
         return Err(fault);
     }
-    Ok(found.header.version.0 > slot.number)
+    Ok(version.0 > slot.number)
 }

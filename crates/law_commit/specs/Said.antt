@@ -1,5 +1,5 @@
 -- What the clauses of `src` say: they take all of it under one name.
-pub use Rattle.law_commit.specs.Decided.Below.{ButOpenings, EndsRise, FullCommitsSpellChains, IsLaterFromEnd, IsOldBelowFirst, IsSettledBelowEnd, IsYoungBelowEnd, OfEachBegun}
+pub use Rattle.law_commit.specs.Decided.Below.{ButOpenings, EndsRise, FullCommitsSpellChains, IsLaterFromEnd, IsOldBelowFirst, IsRecentFromFirst, IsSettledBelowEnd, IsYoungBelowEnd, OfEachBegun}
 pub use Rattle.law_commit.specs.Decided.Ended.{CommitsHaveEnded}
 pub use Rattle.law_commit.specs.Decided.Later.{AttemptsLaterButPolls, GoesByLater, MakesLaterFrom}
 pub use Rattle.law_commit.specs.Decided.Laws.{ChainsKeepTheOld, ChainsLieBelowTail, DecidesBeforeCopies, DecidesBelowEnd, DecidesBelowFirst, DecidesBelowViews, MakesAboveItsView, SettlesBelowEnd, SettlesBelowFirst, SettlesDecided, StaysDecided, TakesUptoTail, TriplesLieBelowTail}

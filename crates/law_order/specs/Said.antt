@@ -1,9 +1,9 @@
 -- What the clauses of `src` say: they take all of it under one name.
 pub use Rattle.law_opening.specs.Log.Lives.{KeepsRules}
 pub use Rattle.law_order.specs.Apart.Given.{Given}
-pub use Rattle.law_order.specs.Decided.Cut.{CoversItsChains, CutsItsLog, DecidesItsLog, EndsRise, HasComeToItsEnd, IsLaterFromEnd, IsOldBelow, IsYoungBelowEnd, OfEachBegun}
+pub use Rattle.law_order.specs.Decided.Cut.{CoversItsChains, CutsItsLog, DecidesItsLog, EndsRise, HasComeToItsEnd, IsLaterFromEnd, IsOldBelow, IsRecentFromFirst, IsYoungBelowEnd, OfEachBegun}
 pub use Rattle.law_order.specs.Decided.Laws.{CopiesBelowTail, HadDecidedFirst, HasChainsBelow, HasDecidedEnd, HasDecidedFirst, HasDecidedSeen, HasSettledEnd, HasSettledFirst, HasTaken, InItsLife}
-pub use Rattle.law_order.specs.Decided.Old.{IsLaterAbove, KeepsWhatCounted, LosesAsBefore, OfEachLife}
+pub use Rattle.law_order.specs.Decided.Old.{IsLaterAbove, KeepsWhatCounted, LosesAsBefore, MakesLaterAbove, OfEachLife}
 pub use Rattle.law_order.specs.InTurn.Laws.{HasFloorInItsLife, KeepsItsViewsNear, KeepsSafeBelowItsComing, KeepsSafeBelowItsViews, NumbersItsCommitsInTurn, OneCommitAlwaysStands, OpensItsStoreAtRest, TellsOfItsLife}
 pub use Rattle.law_order.specs.OneHistory.Beside.{HasItsHistory}
 pub use Rattle.law_order.specs.OneHistory.Committed.{CommittedLife, CrashedLife}

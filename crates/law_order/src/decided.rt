@@ -40,7 +40,7 @@ pub fn law_chains_open()
 /// and its end was the tail before it was written. From its end on each record is of a later version. Below its end none is of a version past the next one. Records
 /// that were given up count, too. So it cuts the log as an image wants that names it: what is published of versions up to its own lies below its end. From the opened
 /// tail on each record below its end is published or was given up. A newer commit ends no lower. If this life has begun the commit, what is published below its
-/// first address is of no later version than its own. If it is a full one besides, it has written triples that an image can read back, and in an image that has them
+/// first address is of no later version than its own, and from there on no record is of an earlier one. If it is a full one besides, it has written triples that an image can read back, and in an image that has them
 /// these cover the chains.
 pub fn law_cut_opens()
     ensures ended { said.OfEachBegun said.HasComeToItsEnd }
@@ -50,6 +50,7 @@ pub fn law_cut_opens()
     ensures decided { said.OfEachBegun said.DecidesItsLog }
     ensures ends { said.EndsRise }
     ensures old { said.OfEachBegun said.IsOldBelow }
+    ensures recent { said.OfEachBegun said.IsRecentFromFirst }
     ensures covers { said.OfEachBegun said.CoversItsChains }
 {
     law_life_begins();
@@ -60,11 +61,12 @@ pub fn law_cut_opens()
     law_lives_change_published();
 }
 
-/// In each such life the log has below the opened end what counted as the store was opened, of the opening's version, and no more. What is published from there
-/// on is of later versions. So lost ranges that lose just what the opening has left out do so at each moment.
+/// In each such life the log has below the opened end what counted as the store was opened, of the opening's version, and no more. What is published or was given up
+/// from there on is of later versions. So lost ranges that lose just what the opening has left out do so at each moment.
 pub fn law_old_opens()
     ensures before { said.OfEachLife said.KeepsWhatCounted }
     ensures later { said.OfEachLife said.IsLaterAbove }
+    ensures made { said.OfEachLife said.MakesLaterAbove }
     ensures loses { said.OfEachLife said.LosesAsBefore }
 {
     law_life_begins();

@@ -1,6 +1,6 @@
 -- From a commit's end on each record is of a later version; below it none is of a version past the next one, and all is settled. Below its first address none
--- is of a later version.
-use Rattle.std.proofs.Common.{◌≡◌, inl, inr, ℕ, ◌+◌, ◌≤◌, ◌∙◌, List, [], ◌∷◌, ◌++◌, refl, arith, ap, sym, subst}
+-- is of a later version, and from there on none of an earlier one.
+use Rattle.std.proofs.Common.{◌≡◌, inl, inr, ℕ, ◌+◌, ◌-◌, ◌≤◌, ◌∙◌, List, [], ◌∷◌, ◌++◌, refl, arith, ap, sym, subst}
 use Rattle.std.proofs.lemmas.List.{append-nil}
 use Rattle.fkv_base.specs.declared.numbers.Version.{Version}
 use Rattle.law_refine.specs.Below.fkv_commit.TheSeeking.{Seeking}
@@ -16,7 +16,7 @@ use Rattle.law_log.specs.Ghosts.{Ghosts, Log}
 use Rattle.law_refine.specs.Events.GhostEvents.{life_ghosts}
 use Rattle.law_refine.specs.Events.Reserved.{tail_at}
 use Rattle.law_refine.proofs.OfSeen.There.{was_there}
-use Rattle.law_commit.specs.Decided.Below.{ButOpenings, CellsBelow, IsLaterFromEnd, IsOldBelowFirst, IsSettledBelowEnd, IsYoungBelowEnd, OfEachBegun, OpensWhole}
+use Rattle.law_commit.specs.Decided.Below.{ButOpenings, CellsBelow, IsLaterFromEnd, IsOldBelowFirst, IsRecentFromFirst, IsSettledBelowEnd, IsYoungBelowEnd, OfEachBegun, OpensWhole}
 use Rattle.law_commit.specs.Decided.Cells.{DecidedBelow}
 use Rattle.law_commit.specs.Decided.Ended.{HadMoment, HasEnded, IsWrittenNow, LoadsEnd, LoadsFirst, Span, span_of, span_opened}
 use Rattle.law_commit.specs.Decided.Later.{AttemptLater, AttemptedLater}
@@ -24,13 +24,13 @@ use Rattle.law_commit.specs.Decided.Laws.{OpensDecided}
 use Rattle.law_commit.specs.Floor.Stands.{FloorAlwaysStands, IsWritten, stage_number}
 use Rattle.law_commit.specs.PhaseVersions.{phase_version, version_said}
 use Rattle.law_commit.specs.Phases.Staged.{Flushes, Prepares, SeekAt, Stage, StartAt, StepAt, stage_version}
-use Rattle.law_commit.specs.Quiet.{NoneIsLeft, OpensQuiet, flush_rank, rank_now}
+use Rattle.law_commit.specs.Quiet.{NoneIsLeft, OpensQuiet, flush_rank, rank_now, rank_said}
 use Rattle.law_commit.specs.Versions.Laws.{OpensWithLog}
 use Rattle.law_commit.proofs.OfDecided.Ended.{had_since, have_ended, written_so}
 use Rattle.law_commit.proofs.OfDecided.Later.{makes_later}
 use Rattle.law_commit.proofs.OfDecided.Lives.{below_end, settles, stays_decided, tails_rise}
 use Rattle.law_commit.proofs.OfPhases.LifeStages.{life_staged, version_now}
-use Rattle.law_commit.proofs.OfQuiet.Ranks.{ranks_rise, staged_rank}
+use Rattle.law_commit.proofs.OfQuiet.Ranks.{rank_first, ranks_rise, staged_rank}
 use Rattle.law_commit.proofs.OfVersions.Life.{cells_from, cells_upto, keeps_versions}
 
 -- ---- what the keeper is at as it loads the tail
@@ -128,6 +128,30 @@ module _ (opening : World) (start : ℕ) (ghosts : Ghosts) (opens : OpensWhole o
       subst (λ (e : List Event). IsLaterFromEnd opening x (log_at e)) (sym had.split)
       (makes_later opening start ghosts had.later had.moment x.end.0 x.number.0 quiet.guarded opens.unborn (omega (arith, tail)) (attempted_later left x.number.0 had.later had.moment (flushes_it x had.moment its).rank))
 
+  -- ---- from the first address on
+  -- as that is loaded the commit before it has come to its end
+  first_rank : (x : Span) (moment : List Event) → LoadsFirst x.number x.first (run opening moment).now → flush_rank (x.number.0 - 1) ≤ rank_now opening moment
+  first_rank x moment its =
+      let quiet = opens.quiet in
+      let n : Now = (run opening moment).now in
+      let lived = life_staged opening start moment quiet.guarded quiet.opened quiet.seen.rests in
+      let at = at_first lived.number x.number lived.stage n.keeper its.starts its.loads lived.staged.keeper.step in
+      let same = ap (λ (v : Version). v.0) at.same in
+      let said = staged_rank n lived.number lived.stage lived.staged in
+      let stage = ap stage_number at.prepares in
+      let first = rank_first opening start moment quiet in
+      let opened = ap rank_said quiet.seen.rests.says in
+      omega (arith, same, said, stage, first, opened)
+
+  recent_from : NoneIsLeft → (events : List Event) (x : Span) → HadMoment (LoadsFirst x.number x.first) opening events → IsRecentFromFirst opening x (log_at events)
+  recent_from left events x had =
+      let quiet = opens.quiet in
+      let its = had.was in
+      let tail = its.tail in
+      let later = makes_later opening start ghosts had.later had.moment x.first.0 (x.number.0 - 1) quiet.guarded opens.unborn (omega (arith, tail))
+      (attempted_later left (x.number.0 - 1) had.later had.moment (first_rank x had.moment its)) in
+      subst (λ (e : List Event). IsRecentFromFirst opening x (log_at e)) (sym had.split) (λ a version from made. (let least = later a version from made in omega (arith, least)))
+
   -- ---- below an address that was the tail
   below_tail : (later moment : List Event) (bound high : ℕ) → bound ≡ tail_at (run opening moment).now → phase_version (run opening moment).now.words ≤ high → CellsBelow bound high (log_at (later ++ moment))
   below_tail later moment bound high tail upto a version low made =
@@ -209,6 +233,12 @@ each_young = of_each IsYoungBelowEnd (λ opening start ghosts events x opens its
 pub each_settled : FloorAlwaysStands → OfEachBegun IsSettledBelowEnd
 each_settled floor =
     of_each IsSettledBelowEnd (λ opening start ghosts events x opens its. settled_below opening start ghosts opens floor events x its.written) (λ opening start ghosts events opens. opened_settled opening start ghosts opens events)
+
+pub each_recent : NoneIsLeft → OfEachBegun (ButOpenings IsRecentFromFirst)
+each_recent left opening start ghosts events c opens there = elim (have_ended opening start events c opens.quiet there) [
+  | inl its ↦ inl (recent_from opening start ghosts opens left events (span_of c) its.first)
+  | inr same ↦ inr same
+]
 
 pub each_old : OfEachBegun (ButOpenings IsOldBelowFirst)
 each_old opening start ghosts events c opens there = elim (have_ended opening start events c opens.quiet there) [

@@ -63,6 +63,10 @@ IsSettledBelowEnd opening x log = SettledFrom (tail_at opening.now) x.end.0 log
 abbrev pub IsOldBelowFirst : World → Span → Log → Type 0
 IsOldBelowFirst opening x log = CellsBelow x.first.0 x.number.0 log
 
+-- and from there on none is of an earlier one
+abbrev pub IsRecentFromFirst : World → Span → Log → Type 0
+IsRecentFromFirst opening x log = CellsFrom x.first.0 x.number.0 log
+
 -- a newer one ends no lower
 abbrev pub EndsRise : Type 0
 EndsRise =

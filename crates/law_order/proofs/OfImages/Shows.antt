@@ -74,12 +74,11 @@ shows_given_up image a words cell there gives =
     }
 
 -- so recovery passes over it, if it is of the version after the commit's at most
-pub passes_over : (image : scan.Log) (a : ℕ) (cell : Cell) → ShowsGivenUp image a cell → cell.version ≤ image.version + 1 → ShowsDropped image a
+pub passes_over : (image : scan.Log) (a : ℕ) (cell : Cell) → ShowsGivenUp image a cell → cell.version ≤ image.version + 1 → ShowsDropped image a cell
 passes_over image a cell its young =
     let low = its.falls in
     let leads = its.leads in
-    let version = its.same in
-    record { held = its.held; stands = its.stands; invalid = its.invalid; falls = omega (arith, low, leads); young = (let under = mark_low cell.version in omega (arith, young, version, under)) }
+    record { held = its.held; stands = its.stands; invalid = its.invalid; falls = omega (arith, low, leads); same = its.same; young = young }
 
 -- a record that counted stands as it stood
 pub shows_counted : (from : ℕ) (was image : scan.Log) (a : ℕ) (cell : Cell) → a < from → image.shape ≡ was.shape → bytes_at image.image (record_place was.shape a) 24 ≡ bytes_at was.image (record_place was.shape a) 24

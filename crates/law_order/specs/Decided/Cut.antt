@@ -75,6 +75,10 @@ abbrev pub IsOldBelow : Opened → Now → List ℕ → List Event → BegunComm
 IsOldBelow o n bytes events c =
     ((image : scan.Log) (a : ℕ) (cell : Cell) → StartsAt image c → (let log = log_beside o n bytes events in log.cells) a ≡ Published cell → a < image.start → cell.version ≤ image.version) ⊎ IsOpenings n bytes c
 
+-- from that address on none is of an earlier version than its own, one that was given up neither
+abbrev pub IsRecentFromFirst : Opened → Now → List ℕ → List Event → BegunCommit → Type 0
+IsRecentFromFirst o n bytes events c = CellsFrom c.parts.first.0 c.number.0 (log_beside o n bytes events) ⊎ IsOpenings n bytes c
+
 -- A full commit writes these triples. Each is of a bucket of the index and leads below the commit's end, and no two are of one home. In an image that has them
 -- they cover the chains.
 pub record WritesCover (o : Opened) (n : Now) (bytes : List ℕ) (events : List Event) (c : BegunCommit) : Type 0 where

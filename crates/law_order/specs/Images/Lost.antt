@@ -5,7 +5,6 @@ use Rattle.law_opening.specs.Below.fkv_opening.Opened.{IsStoreOf}
 use Rattle.law_opening.specs.Below.fkv_opening.TheOpened.{Opened}
 use Rattle.law_opening.specs.Below.fkv_pairs.Pairs.{log_of_store}
 use Rattle.fkv_record.specs.declared.lost_ranges.LostRange.{LostRange}
-use Rattle.fkv_record.specs.declared.records.Record.{Record}
 use Rattle.law_opening.specs.Below.fkv_scan.Records.{losses}
 use Rattle.law_commit.specs.Below.fkv_world.World.{Now}
 use Rattle.law_commit.specs.BegunCommits.{BegunCommit}
@@ -15,7 +14,7 @@ use Rattle.law_commit.specs.Below.law_paper.Paper.Old.{LosesTheRest}
 
 -- These ranges lose no record from an address on.
 abbrev pub LosesNoneFrom : ℕ → List LostRange → Type 0
-LosesNoneFrom from lost = (a : ℕ) (x : Record) → from ≤ a → losses lost a x ≡ 0
+LosesNoneFrom from lost = (a version : ℕ) → from ≤ a → losses lost a version ≡ 0
 
 -- A commit's slot loses none of its life's records. If the commit uses the checkpoint with which the store was opened, it loses just what the opening left out.
 -- Else its checkpoint is newer than the opening's commit, and it loses nothing.

@@ -7,7 +7,7 @@ use Rattle.law_commit.specs.Below.fkv_world.World.{Event, Now}
 use Rattle.law_order.specs.Images.Read.{ReadsBack}
 use Rattle.law_log.specs.Chains.{Cell, Published}
 use Rattle.law_order.specs.Decided.Cut.{log_beside}
-use Rattle.law_commit.specs.Below.law_paper.Paper.Images.{IsOrderly, ShowsLog}
+use Rattle.law_commit.specs.Below.law_paper.Paper.Images.{IsOrderly, IsRecent, ShowsLog}
 use Rattle.law_commit.specs.Below.law_paper.Paper.Old.{GoesOnFrom, HasWhatCounted, LosesTheRest, WasSound}
 use Rattle.law_commit.specs.Below.law_paper.Paper.Stands.{CoversChains}
 use Rattle.law_order.specs.Recovered.Leaves.{Leaves, NamesNew, SaidOfLeft, SaidOfNamed, homes_of, log_named, log_then}
@@ -26,18 +26,21 @@ abbrev pub StartsAbove : SaidOfNamed
 StartsAbove o n bytes events image leaves names = (let c = names.commit in o.number.0 < c.parts.checkpoint.number.0) → (triples : List Triple) → (let log = log_named names triples in o.tail.0 ≤ log.start)
 
 -- ---- the checkpoint's part
--- The commit uses a checkpoint that this life has made. Its triples are read back, and cover the chains.
+-- The commit uses a checkpoint that this life has made. Its triples are read back, and cover the chains. From its first address on no record is older.
 pub record UsesNew (o : Opened) (n : Now) (bytes : List ℕ) (events : List Event) (image : List ℕ) (names : NamesNew o n bytes events image) : Type 0 where
   pub newer : (let c = names.commit in o.number.0 < c.parts.checkpoint.number.0)
   pub triples : List Triple
   pub checkpoint : HasCheckpoint image names.newest triples
   pub covers : CoversChains (log_named names triples) (log_beside o n bytes events)
+  pub recent : (let log = log_named names triples in IsRecent log.start log (log_beside o n bytes events))
   pub old_below : (a : ℕ) (cell : Cell) → (let log = log_beside o n bytes events in log.cells a ≡ Published cell) → (let log = log_named names triples in a < log.start) → (let log = log_named names triples in cell.version ≤ log.version)
 
--- The commit uses the checkpoint with which the store was opened. Its triples are those of then, and recovery meets again what the opening's met.
+-- The commit uses the checkpoint with which the store was opened. Its triples are those of then, and recovery meets again what the opening's met. What it meets
+-- besides is no older than that.
 pub record UsesOld (o : Opened) (n : Now) (bytes : List ℕ) (events : List Event) (image : List ℕ) (leaves : Leaves o n bytes events image) (names : NamesNew o n bytes events image) : Type 0 where
   pub checkpoint : (let store = leaves.store in HasCheckpoint image names.newest store.triples)
   pub goes_on : (let store = leaves.store in GoesOnFrom (log_then leaves) (log_named names store.triples))
+  pub recent : (let store = leaves.store in let was = log_then leaves in IsRecent was.tail (log_named names store.triples) (log_beside o n bytes events))
   pub opened : WasSound (log_then leaves)
   pub before : HasWhatCounted (log_then leaves) (log_beside o n bytes events)
   pub loses : (let store = leaves.store in let log = log_named names store.triples in LosesTheRest log.lost (log_then leaves) (log_beside o n bytes events))

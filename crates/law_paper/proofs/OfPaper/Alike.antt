@@ -25,6 +25,7 @@ module _ (n : Newest) (xs : List Triple) where
   goes_on : (bytes other : List ℕ) → ShareLog n bytes other → GoesOnFrom (log bytes) (log other)
   goes_on bytes other share = record {
     start = refl;
+    oldest = refl;
     bits = refl;
     triples = refl;
     longer = omega arith;
@@ -89,7 +90,7 @@ module _ (n : Newest) (xs : List Triple) where
           let fits = it.fits in
           record {
             held = it.held;
-            fits = record { stands = stands_now spells was on a it.held (start_some spells was a from) low fits.stands; old_enough = fits.old_enough; falls = fits.falls };
+            fits = record { stands = stands_now spells was on a it.held (start_some spells was a from) low fits.stands; new_enough = fits.new_enough; old_enough = fits.old_enough; falls = fits.falls };
             linked = λ valid. linked_now a it.held low fits.falls (it.linked valid);
           };
       triples = λ i t is from.
@@ -131,6 +132,7 @@ module _ (n : Newest) (xs : List Triple) where
           reached = again spells was on a r;
           valid = valid_now spells was on h a x (was_some spells was a r) (was_low spells was a r) counts.valid;
           old_enough = counts.old_enough;
+          version = counts.version;
           not_lost = counts.not_lost;
         }
 
@@ -141,6 +143,7 @@ module _ (n : Newest) (xs : List Triple) where
           reached = r;
           valid = valid_was spells was on h a x (was_some spells was a r) (was_low spells was a r) counts.valid;
           old_enough = counts.old_enough;
+          version = counts.version;
           not_lost = counts.not_lost;
         }
 

@@ -1,18 +1,20 @@
 -- The published records that an image shows, by their addresses and their chains.
-use Rattle.std.proofs.Common.{◌≡◌, ◌≢◌, inl, inr, ⊎_elim, ℕ, ◌<◌, ◌≤◌, false, sym, ap, subst, ◌∙◌, arith, true≢false}
+use Rattle.std.proofs.Common.{◌≡◌, ◌≢◌, inl, inr, ⊎_elim, ℕ, ◌+◌, ◌<◌, ◌≤◌, false, sym, ap, subst, ◌∙◌, arith, true≢false}
 use Rattle.std.proofs.lemmas.Bool.{cases_lt}
-use Rattle.fkv_marks.proofs.Shown.{mark_small}
-use Rattle.law_log.specs.Chains.{Cell, Published, IsWithin}
+use Rattle.fkv_marks.specs.Marks.{mark}
+use Rattle.fkv_marks.specs.Window.{version_in}
+use Rattle.fkv_marks.proofs.Shown.{version_told}
+use Rattle.law_log.specs.Chains.{Cell, Dropped, Published, IsWithin}
 use Rattle.law_log.specs.Ghosts.{Log}
 use Rattle.law_log.specs.Trace.{IsIn}
 use Rattle.fkv_record.specs.Layout.{record_bytes}
 use Rattle.fkv_record.specs.declared.records.Record.{Record}
 use Rattle.fkv_scan.specs.Log as scan
 use Rattle.fkv_scan.specs.Log.{record_home}
-use Rattle.fkv_scan.specs.Records.{Stands, IsKept}
+use Rattle.fkv_scan.specs.Records.{Stands, version_of, IsKept}
 use Rattle.fkv_scan.specs.Scan.{Has, HasNone, IsGreatest, IsScanned}
 use Rattle.fkv_words.specs.Fields.{SpellsApart}
-use Rattle.law_paper.specs.Paper.Images.{IsOrderly, ShowsCell, ShowsDropped, ShowsLog}
+use Rattle.law_paper.specs.Paper.Images.{IsOrderly, IsRecent, ShowsCell, ShowsDropped, ShowsLog}
 use Rattle.law_paper.proofs.OfPaper.Down.{below_next, next_within}
 
 -- an image shows the log from an address on
@@ -28,17 +30,22 @@ pub record IsHere (from : ℕ) (image : scan.Log) (g : Log) (a : ℕ) : Type 0 w
   pub low : a < image.tail
   pub shown : ShowsCell from image a cell
 
--- from that address on its header says its version
-pub own_version : {from : ℕ} {image : scan.Log} {a : ℕ} {cell : Cell} (s : ShowsCell from image a cell) → from ≤ a → (let x = s.held in x.header.version.0) ≡ cell.version
-own_version {cell = cell} s at = s.same at ∙ mark_small cell.version (s.fits at)
+module _ (from : ℕ) (image : scan.Log) (g : Log) (recent : IsRecent from image g) where
+  -- a mark of a version of the window is read as that
+  pub is_read : (x : Record) (version : ℕ) → x.header.version.0 ≡ mark version → image.oldest ≤ version → version ≤ image.version + 1 → version_of image x ≡ version
+  is_read x version is least most = ap (λ (n : ℕ). version_in image.version n) is ∙ version_told image.version image.oldest version recent.some recent.in_window least most
 
--- one that was given up has no fault
-pub dropped_scanned : (image : scan.Log) (a : ℕ) → ShowsDropped image a → IsScanned image a
-dropped_scanned image a d = record {
-  held = d.held;
-  fits = record { stands = d.stands; old_enough = d.young; falls = d.falls };
-  linked = λ valid. absurd (true≢false (sym d.invalid ∙ valid));
-}
+  -- one that was given up has no fault
+  pub dropped_scanned : (a : ℕ) (cell : Cell) → g.cells a ≡ Dropped cell → from ≤ a → ShowsDropped image a cell → IsScanned image a
+  dropped_scanned a cell is on d =
+      let least = recent.dropped a cell is on in
+      let most = d.young in
+      let version = is_read d.held cell.version d.same least most in
+      record {
+        held = d.held;
+        fits = record { stands = d.stands; new_enough = omega (arith, version, least); old_enough = omega (arith, version, most); falls = d.falls };
+        linked = λ valid. absurd (true≢false (sym d.invalid ∙ valid));
+      }
 
 module _ {home : ℕ → ℕ} {from : ℕ} {image : scan.Log} {g : Log} (it : Showing home from image g) where
   abbrev pub Here : ℕ → Type 0

@@ -5,6 +5,9 @@ use Rattle.std.proofs.lemmas.Bool.{cases_lt, cases_eq}
 use Rattle.fkv_chains.specs.Chains.{HasChains}
 use Rattle.fkv_chains.specs.Entries.{Counts}
 use Rattle.fkv_chains.specs.Reached.{LeadsTo, from_triple, from_record, Reached, in_scan, led_to, linked}
+use Rattle.fkv_marks.specs.Marks.{mark}
+use Rattle.fkv_marks.specs.Window.{version_in}
+use Rattle.fkv_marks.proofs.Shown.{version_marked, version_told}
 use Rattle.law_log.specs.Chains.{version_at, IsWithin}
 use Rattle.law_log.specs.Ghosts.{Log}
 use Rattle.law_log.specs.Trace.{IsIn}
@@ -13,7 +16,7 @@ use Rattle.fkv_record.specs.declared.records.Record.{Record}
 use Rattle.fkv_record.specs.declared.triples.Triple.{Triple}
 use Rattle.fkv_scan.specs.Log as scan
 use Rattle.fkv_scan.specs.Log.{HasTriple, HasNoTriple, record_home, triple_home}
-use Rattle.fkv_scan.specs.Records.{Stands, losses, IsValid, IsKept}
+use Rattle.fkv_scan.specs.Records.{Stands, version_of, losses, losses_of, IsValid, IsKept}
 use Rattle.fkv_scan.specs.Scan.{Has, HasNone, IsGreatest, GoesOn, by_triple, by_none, by_record, IsLinked as IsScanLinked, IsScanned, IsLed, HasScan}
 use Rattle.fkv_words.specs.Fields.{SpellsApart}
 use Rattle.fkv_ops.specs.Values.{value_of}
@@ -21,7 +24,7 @@ use Rattle.law_paper.specs.Paper.Images.{ShowsCell}
 use Rattle.law_paper.specs.Paper.Old.{StandsOnOld}
 use Rattle.law_paper.specs.Paper.Values.{ShowsUpto, CountsAsLog, TellsCell}
 use Rattle.law_paper.proofs.OfPaper.Down.{versions_fall}
-use Rattle.law_paper.proofs.OfPaper.Here.{Showing, IsHere, dropped_scanned, one, here, as_shown, in_own, of_chain, its_home, since_here, next_in, below_in, leads_nearest, leads_first, leads_in, own_version}
+use Rattle.law_paper.proofs.OfPaper.Here.{Showing, IsHere, is_read, dropped_scanned, one, here, as_shown, in_own, of_chain, its_home, since_here, next_in, below_in, leads_nearest, leads_first, leads_in}
 use Rattle.law_paper.proofs.OfPaper.Reach.{one_was, start_some, falls_in, was_low, was_some, its_bits, same_triple, triple_there, stood, stands_now, valid_was, valid_now, again, goes_was}
 use Rattle.law_paper.proofs.OfPaper.Sound.{triple_once}
 use Rattle.law_paper.proofs.OfPaper.Values.{shows_upto}
@@ -62,6 +65,29 @@ module _ (home : ℕ → ℕ) (was image : scan.Log) (g : Log) (spells : SpellsA
   old_home : (a : ℕ) (p : IsHere was.tail image g a) (x : Record) → Stands image a x → record_home was.shape.bucket_bits x ≡ home (let c = p.cell in c.key)
   old_home a p x stands = sym (its_bits spells paper.opened paper.goes_on x) ∙ its_home it a p x stands
 
+  -- ---- how headers are read
+  -- in the opening's scan as they were read then
+  read_still : (a : ℕ) (x : Record) → was.start ≤ a → a < was.tail → Stands was a x → version_of image x ≡ version_of was x
+  read_still a x from low stands =
+      let s = paper.opened.scan.records a from low in
+      let same : s.held ≡ x = one_was spells paper.opened a s.held x s.fits.stands stands in
+      let least : was.oldest ≤ version_of was x = subst (λ (y : Record). was.oldest ≤ version_of was y) same s.fits.new_enough in
+      let most : version_of was x ≤ was.version + 1 = subst (λ (y : Record). version_of was y ≤ was.version + 1) same s.fits.old_enough in
+      let own : mark (version_of was x) ≡ x.header.version.0 = version_marked was.version x.header.version.0 x.header.some_version x.header.version_fits in
+      let oldest = paper.goes_on.oldest in
+      let newer = paper.goes_on.newer in
+      ap (λ (n : ℕ). version_in image.version n) (sym own)
+      ∙ version_told image.version image.oldest (version_of was x) paper.recent.some paper.recent.in_window (omega (arith, least, oldest)) (omega (arith, most, newer))
+
+  losses_still : (a : ℕ) (x : Record) → was.start ≤ a → a < was.tail → Stands was a x → losses image.lost a (version_of was x) ≡ losses_of image a x
+  losses_still a x from low stands = ap (λ (n : ℕ). losses image.lost a n) (sym (read_still a x from low stands))
+
+  -- and from its end on as the version of the record
+  version_read : (a : ℕ) → was.tail ≤ a → (p : IsHere was.tail image g a) → version_of image (let s = p.shown in s.held) ≡ (let c = p.cell in c.version)
+  version_read a new p =
+      let s : ShowsCell was.tail image a p.cell = p.shown in
+      is_read was.tail image g paper.recent s.held (let c = p.cell in c.version) (s.same new) (paper.recent.published a p.cell p.its new) (paper.cut.young a p.cell p.its p.low)
+
   -- ---- what is reached
   abbrev Splits : ℕ → Type 0
   Splits a = ((a < was.tail) × Reached was a) ⊎ ((was.tail ≤ a) × IsHere was.tail image g a)
@@ -93,7 +119,9 @@ module _ (home : ℕ → ℕ) (was image : scan.Log) (g : Log) (spells : SpellsA
   kept_in h b y from low kept =
       let at : record_home was.shape.bucket_bits y ≡ h = sym (its_bits spells paper.opened paper.goes_on y) ∙ kept.here.same in
       ⊎_elim
-      (λ old. subst (λ (n : ℕ). IsIn b (g.chains n)) at ((paper.loses b y from old (stood spells paper.opened paper.goes_on b y (start_some spells paper.opened b from) old kept.here.stands) kept.here.valid).1 kept.not_lost))
+      (λ old.
+      let stood_y = stood spells paper.opened paper.goes_on b y (start_some spells paper.opened b from) old kept.here.stands in
+      subst (λ (n : ℕ). IsIn b (g.chains n)) at ((paper.loses b y from old stood_y kept.here.valid).1 (losses_still b y from old stood_y ∙ kept.not_lost)))
       (λ new.
       let p : IsHere was.tail image g b = since_here it b y new low kept.here.stands kept.here.valid in
       subst (λ (n : ℕ). IsIn b (g.chains n)) (sym (old_home b p y kept.here.stands) ∙ at) (in_own it b p))
@@ -106,7 +134,9 @@ module _ (home : ℕ → ℕ) (was image : scan.Log) (g : Log) (spells : SpellsA
       let at : record_home was.shape.bucket_bits s.held ≡ h = old_home b p.0 s.held s.stands ∙ p.1 in
       let here_is : IsValid image h b s.held = record { stands = s.stands; valid = s.valid; same = its_bits spells paper.opened paper.goes_on s.held ∙ at } in
       ⊎_elim
-      (λ old. (s.held, record { here = here_is; not_lost = (paper.loses b s.held from old (stood spells paper.opened paper.goes_on b s.held (start_some spells paper.opened b from) old s.stands) s.valid).0 (subst (λ (n : ℕ). IsIn b (g.chains n)) (sym at) has) }))
+      (λ old.
+      let stood_s = stood spells paper.opened paper.goes_on b s.held (start_some spells paper.opened b from) old s.stands in
+      (s.held, record { here = here_is; not_lost = sym (losses_still b s.held from old stood_s) ∙ (paper.loses b s.held from old stood_s s.valid).0 (subst (λ (n : ℕ). IsIn b (g.chains n)) (sym at) has) }))
       (λ new. (s.held, record { here = here_is; not_lost = paper.shows.none_lost b s.held new s.stands }))
       (cases_lt b was.tail)
 
@@ -150,8 +180,8 @@ module _ (home : ℕ → ℕ) (was image : scan.Log) (g : Log) (spells : SpellsA
       by_valid x stands false is = ⊎_elim
           (λ same. ⊎_elim
           (λ none. inl (x, record { here = record { stands = stands; valid = is; same = same }; not_lost = none }))
-          (λ some. inr (λ y kept. some (ap (losses was.lost a) (one_was spells paper.opened a x y stands kept.here.stands) ∙ kept.not_lost)))
-          (zero_or (losses was.lost a x)))
+          (λ some. inr (λ y kept. some (ap (λ (z : Record). losses_of was a z) (one_was spells paper.opened a x y stands kept.here.stands) ∙ kept.not_lost)))
+          (zero_or (losses_of was a x)))
           (λ other. inr (λ y kept. other (ap (record_home was.shape.bucket_bits) (one_was spells paper.opened a x y stands kept.here.stands) ∙ kept.here.same)))
           (cases_eq (record_home was.shape.bucket_bits x) h)
 
@@ -183,9 +213,9 @@ module _ (home : ℕ → ℕ) (was image : scan.Log) (g : Log) (spells : SpellsA
       hy = record_home was.shape.bucket_bits y
 
       -- where it isn't lost now it stands in its chain
-      module _ (not_lost : losses image.lost a y ≡ 0) where
+      module _ (not_lost : losses_of image a y ≡ 0) where
         in_chain_y : IsIn a (g.chains hy)
-        in_chain_y = (paper.loses a y from low stands_y valid).1 not_lost
+        in_chain_y = (paper.loses a y from low stands_y valid).1 (losses_still a y from low stands_y ∙ not_lost)
 
         here_y : IsHere was.tail image g a
         here_y = (of_chain it hy a in_chain_y (let l = paper.goes_on.longer in omega (arith, low, l))).0
@@ -196,8 +226,8 @@ module _ (home : ℕ → ℕ) (was image : scan.Log) (g : Log) (spells : SpellsA
         counts_y : Has (Counts was hy) a
         counts_y = (paper.before.counted hy a low).0 in_chain_y
 
-        not_lost_was : losses was.lost a y ≡ 0
-        not_lost_was = ap (losses was.lost a) (one_was spells paper.opened a y counts_y.0 stands_y counts_y.1.valid.stands) ∙ counts_y.1.not_lost from
+        not_lost_was : losses_of was a y ≡ 0
+        not_lost_was = ap (λ (z : Record). losses_of was a z) (one_was spells paper.opened a y counts_y.0 stands_y counts_y.1.valid.stands) ∙ counts_y.1.not_lost from
 
         leads_y : (b : ℕ) → IsGreatest (IsKept image (record_home image.shape.bucket_bits y)) image.start a b → y.header.previous.0 ≡ b
         leads_y b greatest =
@@ -217,7 +247,7 @@ module _ (home : ℕ → ℕ) (was image : scan.Log) (g : Log) (spells : SpellsA
             omega (arith, low, is, s)
 
         -- the one that it leads to isn't newer, as the opening's scan has told
-        version_y : (b : ℕ) → y.header.previous.0 ≡ b → was.start ≤ b → b < a → IsIn b (g.chains hy) → (z : Record) → Stands image b z → z.header.version.0 ≤ y.header.version.0
+        version_y : (b : ℕ) → y.header.previous.0 ≡ b → was.start ≤ b → b < a → IsIn b (g.chains hy) → (z : Record) → Stands image b z → version_of image z ≤ version_of image y
         version_y b is on less has z stands =
             let counts = (paper.before.counted hy b (omega (arith, less, low))).0 has in
             let kept : IsKept was hy b counts.0 = record { here = counts.1.valid; not_lost = counts.1.not_lost on } in
@@ -225,11 +255,15 @@ module _ (home : ℕ → ℕ) (was image : scan.Log) (g : Log) (spells : SpellsA
               | inl most ↦
                   let near = links.nearest not_lost_was most.0 most.1 in
                   let same : b ≡ most.0 = sym is ∙ near.0 in
-                  near.1 z (subst (λ (n : ℕ). Stands was n z) same (stood spells paper.opened paper.goes_on b z (start_some spells paper.opened b on) (omega (arith, less, low)) stands))
+                  let stood_z = stood spells paper.opened paper.goes_on b z (start_some spells paper.opened b on) (omega (arith, less, low)) stands in
+                  let older = near.1 z (subst (λ (n : ℕ). Stands was n z) same stood_z) in
+                  let read_z = read_still b z on (omega (arith, less, low)) stood_z in
+                  let read_y = read_still a y from low stands_y in
+                  omega (arith, older, read_z, read_y)
               | inr none ↦ absurd (none b counts.0 on less kept)
             ]
 
-        nearest_y : (b : ℕ) → IsGreatest (IsKept image (record_home image.shape.bucket_bits y)) image.start a b → (y.header.previous.0 ≡ b) × ((z : Record) → Stands image b z → z.header.version.0 ≤ y.header.version.0)
+        nearest_y : (b : ℕ) → IsGreatest (IsKept image (record_home image.shape.bucket_bits y)) image.start a b → (y.header.previous.0 ≡ b) × ((z : Record) → Stands image b z → version_of image z ≤ version_of image y)
         nearest_y b greatest =
             let is = leads_y b greatest in
             let on = greatest.from_on in
@@ -240,11 +274,11 @@ module _ (home : ℕ → ℕ) (was image : scan.Log) (g : Log) (spells : SpellsA
             (is, version_y b is (omega (arith, on, s)) less (subst (λ (n : ℕ). IsIn b (g.chains n)) (its_bits spells paper.opened paper.goes_on y) has))
 
       -- a lost one leads to a valid one
-      lost_y : losses image.lost a y ≢ 0 → image.start ≤ y.header.previous.0 → Has (IsValid image (record_home image.shape.bucket_bits y)) y.header.previous.0
+      lost_y : losses_of image a y ≢ 0 → image.start ≤ y.header.previous.0 → Has (IsValid image (record_home image.shape.bucket_bits y)) y.header.previous.0
       lost_y lost on =
           let s = paper.goes_on.start in
           let falls = (let sc = scanned_was in sc.fits.falls) in
-          elim (zero_or (losses was.lost a y)) [
+          elim (zero_or (losses_of was a y)) [
             | inl kept ↦ elim (find_was hy a from (omega (arith, low))) [
               | inl most ↦
                   let near = links.nearest kept most.0 most.1 in
@@ -274,9 +308,14 @@ module _ (home : ℕ → ℕ) (was image : scan.Log) (g : Log) (spells : SpellsA
     pub old_scanned : IsScanned image a
     old_scanned =
         let sc = scanned_was in
+        let read = read_still a y from low stands_y in
+        let oldest = paper.goes_on.oldest in
+        let least = sc.fits.new_enough in
+        let most = sc.fits.old_enough in
+        let newer = paper.goes_on.newer in
         record {
           held = y;
-          fits = record { stands = still_y; old_enough = (let o = sc.fits.old_enough in let n = paper.goes_on.newer in omega (arith, o, n)); falls = sc.fits.falls };
+          fits = record { stands = still_y; new_enough = omega (arith, read, least, oldest); old_enough = omega (arith, read, most, newer); falls = sc.fits.falls };
           linked = λ valid. linked_y valid;
         }
 
@@ -329,7 +368,7 @@ module _ (home : ℕ → ℕ) (was image : scan.Log) (g : Log) (spells : SpellsA
       let same : y ≡ sc.held = one_was spells paper.opened a y sc.held stands sc.fits.stands in
       let links = sc.linked (sym (ap (λ (z : Record). z.header.invalid) same) ∙ reached_valid a reached from y stands) in
       let at : sc.held.header.previous.0 ≡ b = sym (ap (λ (z : Record). z.header.previous.0) same) ∙ is in
-      let has : Has (IsValid was (record_home was.shape.bucket_bits sc.held)) b = elim (zero_or (losses was.lost a sc.held)) [
+      let has : Has (IsValid was (record_home was.shape.bucket_bits sc.held)) b = elim (zero_or (losses_of was a sc.held)) [
         | inl kept ↦ elim (find_was (record_home was.shape.bucket_bits sc.held) a from (omega (arith, low))) [
           | inl most ↦ (let near = links.nearest kept most.0 most.1 in let here_is = most.1.here in subst (λ (n : ℕ). Has (IsValid was (record_home was.shape.bucket_bits sc.held)) n) (sym near.0 ∙ at) (here_is.0, here_is.1.here))
           | inr none ↦ (let under = links.first kept none in absurd (omega (arith, under, at, on)))
@@ -342,7 +381,7 @@ module _ (home : ℕ → ℕ) (was image : scan.Log) (g : Log) (spells : SpellsA
   counts_below : (h q : ℕ) → Reached was q → q < was.start → LeadsTo was h q → Has (Counts was h) q
   counts_below h q reached under leads =
       let c = paper.opened.chains q reached under in
-      (c.held, record { reached = reached; valid = record { stands = c.old.stands; valid = c.valid; same = c.same h leads }; old_enough = c.old.old_enough; not_lost = λ on. absurd (omega (arith, on, under)) })
+      (c.held, record { reached = reached; valid = record { stands = c.old.stands; valid = c.valid; same = c.same h leads }; old_enough = c.old.old_enough; version = λ on. absurd (omega (arith, on, under)); not_lost = λ on. absurd (omega (arith, on, under)) })
 
   counts_chain : (h q : ℕ) → q < was.start → Has (Counts was h) q → IsIn q (g.chains h)
   counts_chain h q under has = (let up = paper.opened.upwards in (paper.before.counted h q (omega (arith, under, up))).1 has)
@@ -383,6 +422,7 @@ module _ (home : ℕ → ℕ) (was image : scan.Log) (g : Log) (spells : SpellsA
               reached = reached;
               valid = record { stands = c.old.stands; valid = c.valid; same = ap (record_home was.shape.bucket_bits) is_y ∙ same };
               old_enough = c.old.old_enough;
+              version = λ on. absurd (omega (arith, on, below));
               not_lost = λ on. absurd (omega (arith, on, below));
             },
           ) in
@@ -402,28 +442,40 @@ module _ (home : ℕ → ℕ) (was image : scan.Log) (g : Log) (spells : SpellsA
     abbrev hn : ℕ
     hn = record_home was.shape.bucket_bits xn
 
-    cell_version : xn.header.version.0 ≡ version_at (g.cells a)
-    cell_version = (let s = p.shown in own_version s new) ∙ ap version_at (sym p.its)
+    cell_version : version_of image xn ≡ version_at (g.cells a)
+    cell_version = version_read a new p ∙ ap version_at (sym p.its)
 
-    version_n : (b : ℕ) → IsIn b (g.chains hn) → b < a → (z : Record) → Stands image b z → z.header.version.0 ≤ xn.header.version.0
-    version_n b has less z stands =
+    version_n : (b : ℕ) → was.start ≤ b → IsIn b (g.chains hn) → b < a → (z : Record) → Stands image b z → version_of image z ≤ version_of image xn
+    version_n b on has less z stands =
         let low = p.low in
         let q = of_chain it hn b has (omega (arith, less, low)) in
-        let s = (let r : IsHere was.tail image g b = q.0 in r.shown) in
-        let is = ap (λ (y : Record). y.header.version.0) (one it b z s.held stands s.stands) in
-        let under = s.low in
-        let cell_is = ap version_at (let r : IsHere was.tail image g b = q.0 in r.its) in
+        let r : IsHere was.tail image g b = q.0 in
+        let s = r.shown in
+        let cell_is = ap version_at r.its in
         let fall = versions_fall g.cells (g.chains hn) (paper.orderly.chains.linked hn) (paper.orderly.falls hn) a b (in_h a from_start p) has less in
         let own = cell_version in
-        omega (arith, is, under, cell_is, fall, own)
+        ⊎_elim
+        (λ old.
+        let counts = (paper.before.counted hn b old).0 has in
+        let stood_z = stood spells paper.opened paper.goes_on b z (start_some spells paper.opened b on) old stands in
+        let read = read_still b z on old stood_z in
+        let is = ap (λ (y : Record). version_of was y) (one_was spells paper.opened b z counts.0 stood_z counts.1.valid.stands) in
+        let most = counts.1.version on in
+        let its = paper.before.one_version b r.cell old r.its in
+        omega (arith, read, is, most, its, cell_is, fall, own))
+        (λ later.
+        let is = ap (λ (y : Record). version_of image y) (one it b z s.held stands s.stands) in
+        let read = version_read b later r in
+        omega (arith, is, read, cell_is, fall, own))
+        (cases_lt b was.tail)
 
-    nearest_n : (b : ℕ) → IsGreatest (IsKept image (record_home image.shape.bucket_bits xn)) image.start a b → (xn.header.previous.0 ≡ b) × ((z : Record) → Stands image b z → z.header.version.0 ≤ xn.header.version.0)
+    nearest_n : (b : ℕ) → IsGreatest (IsKept image (record_home image.shape.bucket_bits xn)) image.start a b → (xn.header.previous.0 ≡ b) × ((z : Record) → Stands image b z → version_of image z ≤ version_of image xn)
     nearest_n b greatest =
         let g1 : IsGreatest (IsKept image hn) was.start a b = subst (λ (n : ℕ). IsGreatest (IsKept image hn) n a b) paper.goes_on.start (subst (λ (n : ℕ). IsGreatest (IsKept image n) image.start a b) (its_bits spells paper.opened paper.goes_on xn) greatest) in
         let on = g1.from_on in
         let less = g1.below in
         let low = p.low in
-        (to_nearest a from_start p b g1, version_n b (kept_in hn b g1.here.0 on (omega (arith, less, low)) g1.here.1) less)
+        (to_nearest a from_start p b g1, version_n b on (kept_in hn b g1.here.0 on (omega (arith, less, low)) g1.here.1) less)
 
     first_n : HasNone (IsKept image (record_home image.shape.bucket_bits xn)) image.start a → xn.header.previous.0 < image.start
     first_n none =
@@ -474,15 +526,16 @@ module _ (home : ℕ → ℕ) (was image : scan.Log) (g : Log) (spells : SpellsA
     | inl published ↦
         let p : IsHere was.tail image g a = here it a published.0 published.1 low in
         let s : ShowsCell was.tail image a published.0 = p.shown in
-        let version = own_version s new in
+        let version = version_read a new p in
+        let least = paper.recent.published a published.0 published.1 new in
         let young = paper.cut.young a published.0 published.1 low in
         let up = paper.opened.upwards in
         record {
           held = s.held;
-          fits = record { stands = s.stands; old_enough = omega (arith, version, young); falls = (next a (omega (arith, up, new)) p).1 };
+          fits = record { stands = s.stands; new_enough = omega (arith, version, least); old_enough = omega (arith, version, young); falls = (next a (omega (arith, up, new)) p).1 };
           linked = λ valid. linked_n a new p;
         }
-    | inr dropped ↦ dropped_scanned image a (paper.shows.dropped a dropped.0 dropped.1 new low)
+    | inr dropped ↦ dropped_scanned was.tail image g paper.recent a dropped.0 dropped.1 new (paper.shows.dropped a dropped.0 dropped.1 new low)
   ]
 
   scanned : (a : ℕ) → image.start ≤ a → a < image.tail → IsScanned image a
@@ -551,7 +604,17 @@ module _ (home : ℕ → ℕ) (was image : scan.Log) (g : Log) (spells : SpellsA
           reached = again spells paper.opened paper.goes_on a c.reached;
           valid = valid_now spells paper.opened paper.goes_on h a counts.0 (was_some spells paper.opened a c.reached) before c.valid;
           old_enough = (let o = c.old_enough in let n = paper.goes_on.newer in omega (arith, o, n));
-          not_lost = λ on. (paper.loses a counts.0 (let st = paper.goes_on.start in omega (arith, on, st)) before c.valid.stands c.valid.valid).0 (subst (λ (n : ℕ). IsIn a (g.chains n)) (sym c.valid.same) has);
+          version = λ on.
+              let st = paper.goes_on.start in
+              let from : was.start ≤ a = omega (arith, on, st) in
+              let read = read_still a counts.0 from before c.valid.stands in
+              let o = c.version from in
+              let n = paper.goes_on.newer in
+              omega (arith, read, o, n);
+          not_lost = λ on.
+              let st = paper.goes_on.start in
+              let from : was.start ≤ a = omega (arith, on, st) in
+              sym (losses_still a counts.0 from before c.valid.stands) ∙ (paper.loses a counts.0 from before c.valid.stands c.valid.valid).0 (subst (λ (n : ℕ). IsIn a (g.chains n)) (sym c.valid.same) has);
         },
       ))
       (λ new.
@@ -563,6 +626,7 @@ module _ (home : ℕ → ℕ) (was image : scan.Log) (g : Log) (spells : SpellsA
           reached = in_scan a s.held (omega (arith, st, up, new)) low s.stands s.valid;
           valid = valid;
           old_enough = omega (arith, under, young, (let r : IsHere was.tail image g a = q.0 in ap version_at (sym r.its) ∙ ap version_at its.its));
+          version = λ on. (let read = version_read a new q.0 in omega (arith, read, young, (let r : IsHere was.tail image g a = q.0 in ap version_at (sym r.its) ∙ ap version_at its.its)));
           not_lost = λ on. paper.shows.none_lost a s.held new s.stands;
         },
       ))
@@ -581,10 +645,11 @@ module _ (home : ℕ → ℕ) (was image : scan.Log) (g : Log) (spells : SpellsA
             reached = old.1;
             valid = v;
             old_enough = (let c = paper.opened.chains a old.1 under in let is = ap (λ (z : Record). z.header.version.0) (one_was spells paper.opened a x c.held v.stands c.old.stands) in let o = c.old.old_enough in omega (arith, is, o));
+            version = λ on. absurd (omega (arith, on, under));
             not_lost = λ on. absurd (omega (arith, on, under));
           },
         ))
-        (λ on. subst (λ (n : ℕ). IsIn a (g.chains n)) v.same ((paper.loses a x on before v.stands v.valid).1 (counts.not_lost (omega (arith, on, st)))))
+        (λ on. subst (λ (n : ℕ). IsIn a (g.chains n)) v.same ((paper.loses a x on before v.stands v.valid).1 (losses_still a x on before v.stands ∙ counts.not_lost (omega (arith, on, st)))))
         (cases_lt a was.start) in
         let its = paper.orderly.chains.in_chain h a has in
         let version = paper.before.one_version a its.cell before its.its in
@@ -594,10 +659,13 @@ module _ (home : ℕ → ℕ) (was image : scan.Log) (g : Log) (spells : SpellsA
     | inr later ↦
         let p : IsHere was.tail image g a = later.1 in
         let at : home (let c = p.cell in c.key) ≡ h = sym (old_home a p x counts.valid.stands) ∙ sym (its_bits spells paper.opened paper.goes_on x) ∙ counts.valid.same in
-        let is = ap (λ (y : Record). y.header.version.0) (as_shown it a p x counts.valid.stands) in
-        let same = (let s = p.shown in own_version s later.0) in
+        let is = ap (λ (y : Record). version_of image y) (as_shown it a p x counts.valid.stands) in
+        let same = version_read a later.0 p in
         let version = ap version_at p.its in
-        let enough = counts.old_enough in
+        let st = paper.goes_on.start in
+        let up = paper.opened.upwards in
+        let new = later.0 in
+        let enough = counts.version (omega (arith, st, up, new)) in
         (subst (λ (n : ℕ). IsIn a (g.chains n)) at (in_own it a p), omega (arith, is, same, version, enough))
   ]
 

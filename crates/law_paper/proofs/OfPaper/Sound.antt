@@ -14,14 +14,14 @@ use Rattle.fkv_record.specs.declared.records.Record.{Record}
 use Rattle.fkv_record.specs.declared.triples.Triple.{Triple}
 use Rattle.fkv_scan.specs.Log as scan
 use Rattle.fkv_scan.specs.Log.{HasTriple, HasNoTriple, record_home, triple_home}
-use Rattle.fkv_scan.specs.Records.{Stands, losses, IsKept}
+use Rattle.fkv_scan.specs.Records.{Stands, version_of, losses_of, IsKept}
 use Rattle.fkv_scan.specs.Scan.{Has, HasNone, IsGreatest, GoesOn, by_triple, by_none, by_record, IsLinked as IsScanLinked, IsScanned, IsLed, HasScan}
 use Rattle.fkv_words.specs.Fields.{SpellsApart}
 use Rattle.fkv_ops.specs.Values.{value_of}
 use Rattle.law_paper.specs.Paper.Images.{ShowsCell}
 use Rattle.law_paper.specs.Paper.Stands.{StandsOnPaper}
 use Rattle.law_paper.specs.Paper.Values.{ShowsUpto, CountsAsLog}
-use Rattle.law_paper.proofs.OfPaper.Here.{Showing, IsHere, dropped_scanned, one, here, as_shown, in_own, of_chain, its_home, since_here, next_in, below_in, leads_nearest, leads_first, leads_in, own_version}
+use Rattle.law_paper.proofs.OfPaper.Here.{Showing, IsHere, is_read, dropped_scanned, one, here, as_shown, in_own, of_chain, its_home, since_here, next_in, below_in, leads_nearest, leads_first, leads_in}
 use Rattle.law_paper.proofs.OfPaper.Values.{shows_upto}
 use Rattle.law_paper.proofs.OfPaper.Down.{head_in, in_below, in_low, leads_to, next_within, versions_fall}
 
@@ -43,6 +43,12 @@ triple_once image h t u apart one other =
 module _ (home : ℕ → ℕ) (image : scan.Log) (g : Log) (spells : SpellsApart record_bytes) (paper : StandsOnPaper home image g) where
   abbrev it : Showing home image.start image g
   it = record { spells = spells; orderly = paper.orderly; shows = paper.shows }
+
+  -- from the start on a header is read as the version of its record
+  version_read : (a : ℕ) → image.start ≤ a → (p : IsHere image.start image g a) → version_of image (let s = p.shown in s.held) ≡ (let c = p.cell in c.version)
+  version_read a from p =
+      let s : ShowsCell image.start image a p.cell = p.shown in
+      is_read image.start image g paper.recent s.held (let c = p.cell in c.version) (s.same from) (paper.recent.published a p.cell p.its from) (paper.cut.young a p.cell p.its p.low)
 
   -- ---- what is reached is published
   pub reached_here : (a : ℕ) → Reached image a → IsHere image.start image g a
@@ -101,6 +107,7 @@ module _ (home : ℕ → ℕ) (image : scan.Log) (g : Log) (spells : SpellsApart
           reached = here_reached a cell its.its young;
           valid = record { stands = s.stands; valid = s.valid; same = its_home it a p s.held s.stands ∙ its.its_home };
           old_enough = omega (arith, less, young);
+          version = λ from. (let same = version_read a from p in omega (arith, same, young));
           not_lost = λ from. paper.shows.none_lost a s.held from s.stands;
         },
       )
@@ -114,9 +121,9 @@ module _ (home : ℕ → ℕ) (image : scan.Log) (g : Log) (spells : SpellsApart
       let old : (let c = p.cell in c.version) ≤ image.version = ⊎_elim
       (λ under. paper.old_below a p.cell p.its under)
       (λ from.
-      let same : (let s = p.shown in s.held.header.version.0) ≡ (let c = p.cell in c.version) = (let s = p.shown in own_version s from) in
-      let as_is : x.header.version.0 ≡ (let s = p.shown in s.held.header.version.0) = ap (λ (y : Record). y.header.version.0) is in
-      let enough = counts.old_enough in
+      let same = version_read a from p in
+      let as_is : version_of image x ≡ version_of image (let s = p.shown in s.held) = ap (λ (y : Record). version_of image y) is in
+      let enough = counts.version from in
       omega (arith, same, as_is, enough))
       (cases_lt a image.start) in
       (subst (λ (n : ℕ). IsIn a (g.chains n)) at (in_own it a p), omega (arith, version, old), p, is)
@@ -157,13 +164,13 @@ module _ (home : ℕ → ℕ) (image : scan.Log) (g : Log) (spells : SpellsApart
     below_is : (b : ℕ) → IsIn b (g.chains h) → b < a → b ≤ x.header.previous.0
     below_is = below_in it h a p in_h
 
-    version_x : x.header.version.0 ≡ version_at (g.cells a)
-    version_x = (let s = p.shown in own_version s from) ∙ ap version_at (sym p.its)
+    version_x : version_of image x ≡ version_at (g.cells a)
+    version_x = version_read a from p ∙ ap version_at (sym p.its)
 
     lower : a < image.tail
     lower = p.low
 
-    nearest : losses image.lost a x ≡ 0 → (b : ℕ) → IsGreatest (IsKept image h) image.start a b → (x.header.previous.0 ≡ b) × ((y : Record) → Stands image b y → y.header.version.0 ≤ x.header.version.0)
+    nearest : losses_of image a x ≡ 0 → (b : ℕ) → IsGreatest (IsKept image h) image.start a b → (x.header.previous.0 ≡ b) × ((y : Record) → Stands image b y → version_of image y ≤ version_of image x)
     nearest not_lost b greatest =
         let least = greatest.from_on in
         let low = greatest.below in
@@ -173,7 +180,7 @@ module _ (home : ℕ → ℕ) (image : scan.Log) (g : Log) (spells : SpellsApart
           λ y stands.
               let s = (let q : IsHere image.start image g b = k.0 in q.shown) in
               let is : y ≡ s.held = one it b y s.held stands s.stands in
-              let version : y.header.version.0 ≡ version_at (g.cells b) = ap (λ (z : Record). z.header.version.0) is ∙ own_version s least ∙ ap version_at (sym (let q : IsHere image.start image g b = k.0 in q.its)) in
+              let version : version_of image y ≡ version_at (g.cells b) = ap (λ (z : Record). version_of image z) is ∙ version_read b least k.0 ∙ ap version_at (sym (let q : IsHere image.start image g b = k.0 in q.its)) in
               let fall = versions_fall g.cells (g.chains h) (paper.orderly.chains.linked h) (paper.orderly.falls h) a b in_h k.1 low in
               let own = version_x in
               omega (arith, version, fall, own),
@@ -221,14 +228,15 @@ module _ (home : ℕ → ℕ) (image : scan.Log) (g : Log) (spells : SpellsApart
     | inl published ↦
         let p : IsHere image.start image g a = here it a published.0 published.1 low in
         let s : ShowsCell image.start image a published.0 = p.shown in
-        let version = own_version s from in
+        let version = version_read a from p in
+        let least = paper.recent.published a published.0 published.1 from in
         let young = paper.cut.young a published.0 published.1 low in
         record {
           held = s.held;
-          fits = record { stands = s.stands; old_enough = omega (arith, version, young); falls = (next a from p).1 };
+          fits = record { stands = s.stands; new_enough = omega (arith, version, least); old_enough = omega (arith, version, young); falls = (next a from p).1 };
           linked = λ valid. is_linked a from p;
         }
-    | inr dropped ↦ dropped_scanned image a (paper.shows.dropped a dropped.0 dropped.1 from low)
+    | inr dropped ↦ dropped_scanned image.start image g paper.recent a dropped.0 dropped.1 from (paper.shows.dropped a dropped.0 dropped.1 from low)
   ]
 
   led : (i : ℕ) (triple : Triple) → slice_get image.triples i ≡ Some triple → IsLed image triple

@@ -36,7 +36,7 @@ use Rattle.fkv_room.proofs.Shown.{by_cond, in_head, in_rest, in_tail, same_taken
 use Rattle.fkv_room.specs.Room.{AreHomes, in_bucket, taken}
 use Rattle.fkv_scan.proofs.Shown.{bool_is}
 use Rattle.fkv_scan.specs.Log.{AreBelow, Log, home, record_home}
-use Rattle.fkv_scan.specs.Records.{IsNewer}
+use Rattle.fkv_scan.specs.Records.{version_of, IsNewer}
 use Rattle.fkv_scan.specs.Scan.{Has}
 use Rattle.fkv_scan.specs.Scanned.{TellsNewer}
 use Rattle.fkv_words.specs.Fields.{SpellsApart}
@@ -283,9 +283,9 @@ module _ (spells : SpellsApart record_bytes) (image : List ℕ) (n : Newest) (xs
       let same : (y : Record) → IsNewer log c y → y ≡ x = λ y is. spells y x (is.stands ∙ sym fits.stands) in
       elim (bool_is x.header.invalid) [
         | inl off ↦ (false, (λ is. absurd (let no : true ≡ false = sym is in cc)), λ _ y is. absurd (let no : true ≡ false = sym off ∙ ap (λ (z : Record). z.header.invalid) (sym (same y is)) ∙ is.valid in cc))
-        | inr valid ↦ elim (cases_eq x.header.version.0 (log.version + 1)) [
+        | inr valid ↦ elim (cases_eq (version_of log x) (log.version + 1)) [
           | inl next ↦ (true, (λ _. (x, record { stands = fits.stands; valid = valid; newer = next })), λ is. absurd (cc))
-          | inr other ↦ (false, (λ is. absurd (let no : true ≡ false = sym is in cc)), λ _ y is. other (ap (λ (z : Record). z.header.version.0) (sym (same y is)) ∙ is.newer))
+          | inr other ↦ (false, (λ is. absurd (let no : true ≡ false = sym is in cc)), λ _ y is. other (ap (λ (z : Record). version_of log z) (sym (same y is)) ∙ is.newer))
         ]
       ]
 

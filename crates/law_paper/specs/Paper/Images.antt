@@ -8,7 +8,7 @@ use Rattle.law_log.specs.Enabled.{AreChains}
 use Rattle.fkv_record.specs.declared.records.Record.{Record}
 use Rattle.fkv_scan.specs.Log as scan
 use Rattle.fkv_scan.specs.Log.{record_home}
-use Rattle.fkv_scan.specs.Records.{Stands, losses}
+use Rattle.fkv_scan.specs.Records.{Stands, losses_of}
 
 -- The image has a published record at its address: valid, with its key, its value and what it leads to. From an address on its header says the mark of the
 -- record's version, which takes no more bits as yet. Below that it says no later one, since all that a store was opened with counts as of the opening's
@@ -24,13 +24,14 @@ pub record ShowsCell (from : ℕ) (image : scan.Log) (a : ℕ) (cell : Cell) : T
   pub same : from ≤ a → (let x = held in x.header.version.0 ≡ mark cell.version)
   pub fits : from ≤ a → cell.version < 2 ^ 13
 
--- It has one that was given up: with the invalid bit, leading below itself, and of the version after the commit's at most.
-pub record ShowsDropped (image : scan.Log) (a : ℕ) : Type 0 where
+-- It has one that was given up: with the invalid bit, leading below itself, and with the mark of its version. That is the version after the commit's at most.
+pub record ShowsDropped (image : scan.Log) (a : ℕ) (cell : Cell) : Type 0 where
   pub held : Record
   pub stands : Stands image a held
   pub invalid : (let x = held in x.header.invalid ≡ true)
   pub falls : (let x = held in x.header.previous.0 < a)
-  pub young : (let x = held in x.header.version.0 ≤ image.version + 1)
+  pub same : (let x = held in x.header.version.0 ≡ mark cell.version)
+  pub young : cell.version ≤ image.version + 1
 
 -- the record of an address is published, or was given up
 abbrev pub IsDecided : Logged → Type 0
@@ -48,8 +49,15 @@ pub record ShowsLog (home : ℕ → ℕ) (from : ℕ) (image : scan.Log) (g : Lo
   pub homes : (x : Record) → record_home image.shape.bucket_bits x ≡ home x.key.0
   pub published : (a : ℕ) (cell : Cell) → g.cells a ≡ Published cell → a < image.tail → ShowsCell from image a cell
   pub decided : (a : ℕ) → from ≤ a → a < image.tail → IsDecided (g.cells a)
-  pub dropped : (a : ℕ) (cell : Cell) → g.cells a ≡ Dropped cell → from ≤ a → a < image.tail → ShowsDropped image a
-  pub none_lost : (a : ℕ) (x : Record) → from ≤ a → Stands image a x → losses image.lost a x ≡ 0
+  pub dropped : (a : ℕ) (cell : Cell) → g.cells a ≡ Dropped cell → from ≤ a → a < image.tail → ShowsDropped image a cell
+  pub none_lost : (a : ℕ) (x : Record) → from ≤ a → Stands image a x → losses_of image a x ≡ 0
+
+-- From an address on the log has no record that is older than the oldest one that the image's scan takes. Of the versions that it takes no two have one mark.
+pub record IsRecent (from : ℕ) (image : scan.Log) (g : Log) : Type 0 where
+  pub some : 0 < image.oldest
+  pub in_window : image.version ≤ image.oldest + 8189
+  pub published : (a : ℕ) (cell : Cell) → g.cells a ≡ Published cell → from ≤ a → image.oldest ≤ cell.version
+  pub dropped : (a : ℕ) (cell : Cell) → g.cells a ≡ Dropped cell → from ≤ a → image.oldest ≤ cell.version
 
 -- The commit cuts the log at its version: what is published of versions up to it lies below its end, and below that nothing is of a version past the next one.
 pub record IsCut (image : scan.Log) (g : Log) : Type 0 where

@@ -10,13 +10,14 @@ use Rattle.fkv_record.specs.declared.lost_ranges.LostRange.{LostRange}
 use Rattle.fkv_record.specs.declared.records.Record.{Record}
 use Rattle.fkv_scan.specs.Log as scan
 use Rattle.fkv_scan.specs.Log.{AreApart, AreBelow, record_home}
-use Rattle.fkv_scan.specs.Records.{Stands, losses}
+use Rattle.fkv_scan.specs.Records.{Stands, version_of, losses}
 use Rattle.fkv_scan.specs.Scan.{Has, HasScan}
-use Rattle.law_paper.specs.Paper.Images.{IsCut, IsOrderly, ShowsLog}
+use Rattle.law_paper.specs.Paper.Images.{IsCut, IsOrderly, IsRecent, ShowsLog}
 
 -- Two scans go by the same checkpoint, and meet the same records from address 1 to the end of the first. The second is of no earlier commit, and ends no lower.
 pub record GoesOnFrom (was image : scan.Log) : Type 0 where
   pub start : image.start ≡ was.start
+  pub oldest : image.oldest ≡ was.oldest
   pub bits : image.shape.bucket_bits ≡ was.shape.bucket_bits
   pub triples : image.triples ≡ was.triples
   pub longer : was.tail ≤ image.tail
@@ -40,13 +41,14 @@ pub record HasWhatCounted (was : scan.Log) (g : Log) : Type 0 where
 -- of the valid records that the opening's scan met, these ranges lose just those that aren't in the log's chains
 abbrev pub LosesTheRest : List LostRange → scan.Log → Log → Type 0
 LosesTheRest lost was g = (a : ℕ) (x : Record) → was.start ≤ a → a < was.tail → Stands was a x → x.header.invalid ≡ false
-    → IsIn a (g.chains (record_home was.shape.bucket_bits x)) ↔ (losses lost a x ≡ 0)
+    → IsIn a (g.chains (record_home was.shape.bucket_bits x)) ↔ (losses lost a (version_of was x) ≡ 0)
 
--- The log is in order, the image shows it from the opening's end on, and the commit cuts it. What lies below that end is what the opening's recovery met, and
+-- The log is in order, the image shows it from the opening's end on, its records from there on are recent, and the commit cuts it. What lies below that end is what the opening's recovery met, and
 -- the log has of it just what counted.
 pub record StandsOnOld (home : ℕ → ℕ) (was image : scan.Log) (g : Log) : Type 0 where
   pub orderly : IsOrderly home g
   pub shows : ShowsLog home was.tail image g
+  pub recent : IsRecent was.tail image g
   pub cut : IsCut image g
   pub goes_on : GoesOnFrom was image
   pub opened : WasSound was

@@ -5,7 +5,7 @@ use Rattle.law_log.specs.Ghosts.{Log}
 use Rattle.law_log.specs.Trace.{IsIn}
 use Rattle.fkv_scan.specs.Log as scan
 use Rattle.fkv_scan.specs.Log.{AreApart, HasTriple}
-use Rattle.law_paper.specs.Paper.Images.{IsCut, IsOrderly, ShowsLog}
+use Rattle.law_paper.specs.Paper.Images.{IsCut, IsOrderly, IsRecent, ShowsLog}
 
 -- The checkpoint covers the chains. Each triple leads to a record of its home's chain below the commit's end, and no two are of one home. Each record below the
 -- first address has a triple of its home at or above it.
@@ -15,11 +15,12 @@ pub record CoversChains (image : scan.Log) (g : Log) : Type 0 where
   pub apart : AreApart image.triples
   pub covers : (h a : ℕ) → IsIn a (g.chains h) → a < image.start → (t : ℕ) × HasTriple image h t × (a ≤ t)
 
--- The log is in order, the image shows it from the checkpoint's first address on, and the commit cuts it. What is published below the first address is of no
+-- The log is in order, the image shows it from the checkpoint's first address on, its records from there on are recent, and the commit cuts it. What is published below the first address is of no
 -- later version, and the checkpoint covers the chains.
 pub record StandsOnPaper (home : ℕ → ℕ) (image : scan.Log) (g : Log) : Type 0 where
   pub orderly : IsOrderly home g
   pub shows : ShowsLog home image.start image g
+  pub recent : IsRecent image.start image g
   pub cut : IsCut image g
   pub some_start : 0 < image.start
   pub old_below : (a : ℕ) (cell : Cell) → g.cells a ≡ Published cell → a < image.start → cell.version ≤ image.version

@@ -3,4 +3,4 @@ use Rattle.fkv_scan.specs.Records.{is_in}
 use Rattle.fkv_scan.proofs.steps.is_lost.Given as goal
 
 abbrev pub invariant-loop-range : goal.invariant-loop-range
-invariant-loop-range l = count_by (is_in l.addr.0 l.found) (take l.range-index l.ranges) ≡ 0
+invariant-loop-range l = count_by (is_in l.addr.0 l.version.0) (take l.range-index l.ranges) ≡ 0

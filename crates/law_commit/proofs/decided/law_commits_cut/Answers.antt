@@ -1,5 +1,5 @@
 -- By the moments at which a commit's first address and its end were the tail.
-use Rattle.law_commit.proofs.OfDecided.BelowEnd.{each_later, each_old, each_settled, each_young}
+use Rattle.law_commit.proofs.OfDecided.BelowEnd.{each_later, each_old, each_recent, each_settled, each_young}
 use Rattle.law_commit.proofs.OfDecided.EndsRise.{ends_rise}
 use Rattle.law_commit.proofs.OfDecided.Spelled.{full_spell}
 use Rattle.law_commit.proofs.decided.law_commits_cut.Goals as goal
@@ -15,6 +15,9 @@ returns-clause-settled c = each_settled c.law_floor_stands.ensures.floor
 
 pub returns-clause-old : goal.returns-clause-old
 returns-clause-old c = each_old
+
+pub returns-clause-recent : goal.returns-clause-recent
+returns-clause-recent c = each_recent c.law_versions_end.ensures.left
 
 pub returns-clause-ends : goal.returns-clause-ends
 returns-clause-ends c = ends_rise

@@ -6,7 +6,7 @@ use Rattle.law_commit.specs.Below.fkv_keeper.LastCommits.{lost_written}
 use Rattle.law_opening.specs.Below.fkv_opening.TheOpened.{Opened}
 use Rattle.fkv_record.specs.declared.lost_ranges.LostRange.{LostRange}
 use Rattle.law_opening.specs.Below.fkv_scan.Log as scan
-use Rattle.law_opening.specs.Below.fkv_scan.Records.{losses}
+use Rattle.law_opening.specs.Below.fkv_scan.Records.{version_of, losses}
 use Rattle.law_commit.specs.Below.fkv_world.World.{Event, Now}
 use Rattle.law_commit.specs.BegunCommits.{BegunCommit, commit_opened}
 use Rattle.law_commit.specs.Decided.Below.{CellsBelow}
@@ -65,5 +65,5 @@ shows_log o n bytes events image c shape names lost fits shows decides young non
       dropped = λ a cell is on low.
           let most = young a cell.version (omega (arith, low, end)) (ap made_in is) in
           shows.dropped a cell is on (omega (arith, low, end, flushed)) (omega (arith, most, version));
-      none_lost = λ a x on stands. subst (λ (ranges : List LostRange). losses ranges a x ≡ 0) (sym lost) (none a x on);
+      none_lost = λ a x on stands. subst (λ (ranges : List LostRange). losses ranges a (version_of image x) ≡ 0) (sym lost) (none a (version_of image x) on);
     }

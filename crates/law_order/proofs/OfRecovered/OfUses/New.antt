@@ -9,6 +9,7 @@ use Rattle.law_commit.specs.Below.fkv_keeper.Checkpoint.{Checkpoint}
 use Rattle.law_opening.specs.Below.fkv_newest.TheNewest.{Newest}
 use Rattle.law_opening.specs.Below.fkv_opening.Faults.{HasCheckpoint, log_of}
 use Rattle.law_opening.specs.Below.fkv_opening.TheOpened.{Opened}
+use Rattle.fkv_marks.proofs.Shown.{oldest_most, oldest_some}
 use Rattle.fkv_record.specs.Manifest.{SlotSaid}
 use Rattle.fkv_record.specs.declared.manifest_slots.ManifestSlot.{ManifestSlot}
 use Rattle.fkv_record.specs.declared.triples.Triple.{Triple}
@@ -20,7 +21,9 @@ use Rattle.law_order.specs.Images.Laws.Held.{TriplesAreReadBack}
 use Rattle.law_order.specs.Images.Left.{flushed_so_far}
 use Rattle.law_order.specs.Images.Named.{IsMadeBy, begun_so_far}
 use Rattle.law_log.specs.Trace.{IsIn}
-use Rattle.law_order.specs.Decided.Cut.{CoversItsChains, IsOldBelow, IsOpenings, StartsAt, WritesCover}
+use Rattle.law_order.specs.Decided.Cut.{CoversItsChains, IsOldBelow, IsOpenings, IsRecentFromFirst, StartsAt, WritesCover, log_beside}
+use Rattle.law_commit.specs.Below.law_paper.Paper.Images.{IsRecent}
+use Rattle.law_commit.specs.Versions.Cells.{CellsFrom, made_in}
 use Rattle.law_order.specs.Recovered.Leaves.{NamesNew}
 use Rattle.law_order.specs.Recovered.Parts.{UsesNew}
 use Rattle.law_order.proofs.OfImages.Areas.{area_read, said_area}
@@ -80,6 +83,23 @@ module _ (o : Opened) (n : Now) (bytes : List ℕ) (events : List Event) (image 
           tail = end_below;
         }
 
+    -- its own version is the oldest that recovery takes behind it
+    recent_so : (triples : List Triple) → CellsFrom d.parts.first.0 d.number.0 (log_beside o n bytes events) → IsRecent slot.first.0 (log_of image newest triples) (log_beside o n bytes events)
+    recent_so triples from =
+        let says = names.says in
+        let checkpoint : slot.checkpoint ≡ c.parts.checkpoint.number.0 = ap (λ (x : SlotSaid). x.checkpoint) says.said in
+        let start = (let at = starts triples in at.start) in
+        let its = number in
+        let newer = none.newer in
+        let upto : (version : ℕ) → d.number.0 ≤ version → (let log = log_of image newest triples in log.oldest ≤ version) = λ version least.
+        oldest_most newest.shape.class slot.checkpoint version (omega (arith, least, its, newer)) (omega (arith, least, its, checkpoint)) in
+        record {
+          some = oldest_some newest.shape.class slot.checkpoint;
+          in_window = (let found = names.its in found.manifest.suits.checkpoint.in_window);
+          published = λ a cell is above. upto cell.version (from a cell.version (omega (arith, above, start)) (ap made_in is));
+          dropped = λ a cell is above. upto cell.version (from a cell.version (omega (arith, above, start)) (ap made_in is));
+        }
+
     module _ (cover : WritesCover o n bytes events d) (read : TriplesAreReadBack) where
       stored : HasCheckpoint image newest cover.triples
       stored =
@@ -90,20 +110,24 @@ module _ (o : Opened) (n : Now) (bytes : List ℕ) (events : List Event) (image 
             apart = cover.apart;
           })
 
-      pub uses_new : IsOldBelow o n bytes events d → UsesNew o n bytes events image names
-      uses_new old = record {
+      pub uses_new : IsOldBelow o n bytes events d → IsRecentFromFirst o n bytes events d → UsesNew o n bytes events image names
+      uses_new old recent = record {
         newer = none.newer;
         triples = cover.triples;
         checkpoint = stored;
         covers = cover.covers (log_of image newest cover.triples) refl (starts cover.triples);
+        recent = elim recent [
+          | inl from ↦ recent_so cover.triples from
+          | inr first ↦ absurd (not_opened first)
+        ];
         old_below = λ a cell published low. elim old [
           | inl before ↦ before (log_of image newest cover.triples) a cell (starts cover.triples) published low
           | inr first ↦ absurd (not_opened first)
         ];
       }
 
-    pub by_cover : CoversItsChains o n bytes events d → IsOldBelow o n bytes events d → TriplesAreReadBack → UsesNew o n bytes events image names
-    by_cover covers old read = elim (covers made.full) [
-      | inl cover ↦ uses_new cover read old
+    pub by_cover : CoversItsChains o n bytes events d → IsOldBelow o n bytes events d → IsRecentFromFirst o n bytes events d → TriplesAreReadBack → UsesNew o n bytes events image names
+    by_cover covers old recent read = elim (covers made.full) [
+      | inl cover ↦ uses_new cover read old recent
       | inr first ↦ absurd (not_opened first)
     ]

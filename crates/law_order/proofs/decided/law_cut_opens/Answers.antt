@@ -48,6 +48,11 @@ returns-clause-old c = λ bytes o n events d store its begun.
       | inr first ↦ inr first
     ]
 
+pub returns-clause-recent : goal.returns-clause-recent
+returns-clause-recent c = λ bytes o n events d store its begun.
+    let opens = opens_whole c.law_life_begins.ensures c.law_ends_open.ensures c.law_versions_open.ensures bytes o n store its in
+    c.law_commits_cut.ensures.recent (beginning n bytes) o.tail.0 (opening_ghosts bytes o) events d opens begun
+
 pub returns-clause-covers : goal.returns-clause-covers
 returns-clause-covers c = λ bytes o n events d store its begun full.
     let opens = opens_whole c.law_life_begins.ensures c.law_ends_open.ensures c.law_versions_open.ensures bytes o n store its in

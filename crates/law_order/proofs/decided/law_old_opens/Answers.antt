@@ -30,6 +30,16 @@ returns-clause-later c = λ bytes o n events store its.
     let said = opened_version o n its opens.rests in
     omega (arith, low, said))
 
+pub returns-clause-made : goal.returns-clause-made
+returns-clause-made c = λ bytes o n events store its a version high made.
+    let opens = c.law_versions_open.ensures bytes o n store its in
+    let end = ap (λ (t : Addr). t.0) store.tells.tail in
+    let first = opened_tail o n its in
+    let low = c.law_versions_bounded.ensures.from_first (beginning n bytes) o.tail.0 (opening_ghosts bytes o) events opens a version (omega (arith, high, end, first)) made in
+    let said = opened_version o n its opens.rests in
+    let number = store.tells.number in
+    omega (arith, low, said, number)
+
 pub returns-clause-loses : goal.returns-clause-loses
 returns-clause-loses c = λ bytes o n events store its.
     let life = c.law_life_begins.ensures bytes o n store its in

@@ -27,6 +27,7 @@ returns c = λ o n bytes events image leaves names.
             orderly = c.law_log_in_order.ensures o n bytes events image leaves;
             shows = shows_from home o.tail.0 _ (log_named names made.triples) log (c.law_scans_start_above.ensures o n bytes events image leaves names made.newer made.triples)
                 (c.law_images_show_life.ensures o n bytes events image leaves names made.triples);
+            recent = made.recent;
             cut = cut made.triples;
             some_start = starts_some o n bytes events image names made.triples;
             old_below = made.old_below;
@@ -39,6 +40,7 @@ returns c = λ o n bytes events image leaves names.
           (record {
             orderly = c.law_log_in_order.ensures o n bytes events image leaves;
             shows = shows_from home o.tail.0 _ (log_named names store.triples) log (omega (arith, tail)) (c.law_images_show_life.ensures o n bytes events image leaves names store.triples);
+            recent = old.recent;
             cut = cut store.triples;
             goes_on = old.goes_on;
             opened = old.opened;

@@ -34,6 +34,7 @@ returns c = λ o n bytes events image leaves names.
             (c.law_commits_in_turn.ensures (record { bytes = bytes; opened = o; world = n; events = events }) (record { store = store; begins = leaves.begins; fits = leaves.fits; few = leaves.few }))
             (λ older newer is also less. c.law_cut_opens.ensures.ends bytes o n events older newer store leaves.begins is also less)
             (c.law_cut_opens.ensures.covers bytes o n events by.0 store leaves.begins by.1) (c.law_cut_opens.ensures.old bytes o n events by.0 store leaves.begins by.1)
+            (c.law_cut_opens.ensures.recent bytes o n events by.0 store leaves.begins by.1)
             c.law_images_hold_triples.ensures.read)
         | inr old ↦
             let same = ap (λ (x : Checkpoint). x.number.0) old.0 in
@@ -54,5 +55,6 @@ returns c = λ o n bytes events image leaves names.
                 let newer = fits.newer in
                 absurd (omega (arith, same, was, newer))
           ] in
-          inr (uses_old o n bytes events image leaves names its.checkpoint (λ a some low. c.law_images_keep_old.ensures o n bytes events image a store leaves.begins leaves.far leaves.left some low) checkpoint (c.law_old_opens.ensures.before bytes o n events store leaves.begins) loses)
+          inr (uses_old o n bytes events image leaves names its.checkpoint (λ a some low. c.law_images_keep_old.ensures o n bytes events image a store leaves.begins leaves.far leaves.left some low) checkpoint (c.law_old_opens.ensures.before bytes o n events store leaves.begins)
+          (c.law_old_opens.ensures.made bytes o n events store leaves.begins) loses)
     ]
