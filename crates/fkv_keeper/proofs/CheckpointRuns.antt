@@ -260,7 +260,7 @@ copy_sound : (p : Places) (replies : List ℕ) (told : LastBegin) (t : KeeperSta
     → IsSound p replies told (copy_ledto t ask) (copy_ledto t ask).step
 unfolding copy_ledto
 copy_sound p replies told t (Done its) e has asks sound = record {
-  copied = λ c in_hand full is_copied working early. record { in_hand = has; finished = sym (ap copy_asked has) ∙ (sym (no_rest t.copy (is_copy_resting t.copy) refl (ended c in_hand is_copied)) ∙ asks) };
+  copied = λ c in_hand full is_copied working early. record { in_hand = has; finished = sym (ap copy_asked has) ∙ (sym (no_rest t.copy (is_copy_resting t.copy) refl (at_its_end c in_hand is_copied)) ∙ asks) };
   points = λ c in_hand taken. absurd (truth c in_hand (let found = copied_some (is_copy_resting t.copy) t.commit c in_hand in sound.points found.0 found.1 taken));
   begun = λ c in_hand. let found = copied_some (is_copy_resting t.copy) t.commit c in_hand in sound.begun found.0 found.1 ∙ ap (λ (x : Commit). Some (record { kind = x.kind; number = x.number; first = x.first })) (sym found.2);
   rests = λ c in_hand so. has;
@@ -270,8 +270,8 @@ copy_sound p replies told t (Done its) e has asks sound = record {
     was_not : (c : Commit) (in_hand : copied (is_copy_resting t.copy) t.commit ≡ Some c) → (copied_some (is_copy_resting t.copy) t.commit c in_hand).0.is_copied ≡ false
     was_not c in_hand = let found = copied_some (is_copy_resting t.copy) t.commit c in_hand in sound.here.1 found.0 found.1
 
-    ended : (c : Commit) (in_hand : copied (is_copy_resting t.copy) t.commit ≡ Some c) → c.is_copied ≡ true → is_copy_resting t.copy ≡ false
-    ended c in_hand is_copied =
+    at_its_end : (c : Commit) (in_hand : copied (is_copy_resting t.copy) t.commit ≡ Some c) → c.is_copied ≡ true → is_copy_resting t.copy ≡ false
+    at_its_end c in_hand is_copied =
         let found = copied_some (is_copy_resting t.copy) t.commit c in_hand in
         at_end found.0.is_copied (is_copy_resting t.copy) (was_not c in_hand) (ap (λ (x : Commit). x.is_copied) (sym found.2) ∙ is_copied)
 
