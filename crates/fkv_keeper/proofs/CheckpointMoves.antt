@@ -39,7 +39,7 @@ use Rattle.fkv_keeper.specs.declared.answers.KeeperTold.{KeeperTold}
 use Rattle.fkv_keeper.specs.declared.answers.KeeperTold.TheVariants.{TurnRefused}
 use Rattle.fkv_keeper.specs.declared.keepers.Keeping.{Keeping}
 use Rattle.fkv_keeper.specs.declared.keepers.Keeping.TheVariants.{Ended, Starts, Maintains, LoadsPhase, Enters, Copies, Seeks, Waits, Writes, Finishes}
-use Rattle.fkv_keeper.specs.Keeping.{KeeperState, is_copy_resting, copy_driven, copy_told, copied, points_known, ended, turned, turn_asked, commit_asked, start_ledto, maintain_ledto, copies, part_begun, phase_ledto, enter_ledto, copy_toldto, seek_ledto, writes_begun, wait_ledto, finished, finish_ledto, keeping_next, keeping_given, write_ledto, writes_called, keeping_called}
+use Rattle.fkv_keeper.specs.Keeping.{KeeperState, is_copy_resting, copy_driven, copy_told, copied, points_known, ended, turned, turn_asked, commit_asked, start_ledto, maintain_ledto, copies, part_begun, phase_ledto, enter_ledto, copy_ledto, seek_ledto, writes_begun, wait_ledto, finished, finish_ledto, keeping_next, keeping_given, write_ledto, writes_called, keeping_called}
 use Rattle.fkv_keeper.specs.KeeperRun.{KeeperEvent, BeginsTurn, BeginsCommit, Replies, Gets, Calls, begins, keeper_happens}
 use Rattle.fkv_keeper.specs.CheckpointLaws.{IsCopyPhase, IsCopyTakenUp, IsCopyDriven, IsCopyAfter, IsCopyBegun, IsBegun, IsFinished, IsCommitAfter, CopiesOnce, KeepsLists, MayFollow, IsPhaseLoaded, DoesOneThing}
 use Rattle.fkv_keeper.proofs.KeeperRuns.{happens_at, happens_so}
@@ -213,8 +213,8 @@ copied_commit : (s a : KeeperState) (rests : Bool) (found : Option Commit) → a
 copied_commit s a rests None same = inl same
 copied_commit s a rests (Some c) same = inl (record { commit = _; in_hand = same; number = refl; kind = refl; first = refl; copied = λ e. ap (λ (x : Bool). x || not rests) e })
 
-copy_move : (p : Places) (s : KeeperState) (reply : ℕ) (granted : Bool) (ask : Ask (Unit {0})) → s.step ≡ Copies → IsMove p s (Replies reply granted) (copy_toldto (record s { copy = copy_driven s.copy reply }) ask)
-unfolding copy_toldto
+copy_move : (p : Places) (s : KeeperState) (reply : ℕ) (granted : Bool) (ask : Ask (Unit {0})) → s.step ≡ Copies → IsMove p s (Replies reply granted) (copy_ledto (record s { copy = copy_driven s.copy reply }) ask)
+unfolding copy_ledto
 copy_move p s reply granted (Done done) e = record {
   copies = record { begins = λ copies. cc; copy = inr (inr (inl (record { copies = e; reply = reply; granted = granted; replied = refl; copy = refl }))); commit = copied_commit s _ (is_copy_resting (copy_driven s.copy reply)) s.commit refl };
   lists = record { lists = inl (refl, refl); used = λ other. refl; points = λ other next. refl };

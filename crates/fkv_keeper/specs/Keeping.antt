@@ -222,9 +222,9 @@ abbrev pub copied : Bool → Option Commit → Option Commit
 copied rests None = None
 copied rests (Some c) = Some (record c { is_copied = c.is_copied || not rests })
 
-unfoldable pub copy_toldto : KeeperState → Ask (Unit {0}) → KeeperState
-copy_toldto s (Done its) = turned (record s { commit = copied (is_copy_resting s.copy) s.commit })
-copy_toldto s ask = s
+unfoldable pub copy_ledto : KeeperState → Ask (Unit {0}) → KeeperState
+copy_ledto s (Done its) = turned (record s { commit = copied (is_copy_resting s.copy) s.commit })
+copy_ledto s ask = s
 
 abbrev pub points_known : Option Commit → Addr → ℕ → Option Commit
 points_known None end epoch = None
@@ -333,7 +333,7 @@ keeping_next shape p s Starts reply granted = start_ledto (record s { start = st
 keeping_next shape p s Maintains reply granted = maintain_ledto (record s { maintain = maintain_next shape p s.maintain reply }) (maintain_ask shape p (maintain_next shape p s.maintain reply))
 keeping_next shape p s LoadsPhase reply granted = phase_ledto p s s.commit (phase_said reply) granted
 keeping_next shape p s Enters reply granted = enter_ledto (record s { enter = enter_next s.enter reply }) (enter_ask (enter_next s.enter reply))
-keeping_next shape p s Copies reply granted = copy_toldto (record s { copy = copy_driven s.copy reply }) (copy_told (copy_driven s.copy reply))
+keeping_next shape p s Copies reply granted = copy_ledto (record s { copy = copy_driven s.copy reply }) (copy_told (copy_driven s.copy reply))
 keeping_next shape p s Seeks reply granted = seek_ledto (record s { seek = seek_next s.seek reply }) (seek_ask (seek_next s.seek reply))
 keeping_next shape p s Waits reply granted = wait_ledto shape (record s { wait = wait_next s.wait reply }) (wait_ask (wait_next s.wait reply))
 keeping_next shape p s Writes reply granted = s

@@ -6,7 +6,7 @@ ghost use Rattle.fkv_manifest.specs.Committing.{commit_answer};
 ghost use Rattle.fkv_manifest.specs.Devices.{next_made};
 ghost use Rattle.fkv_manifest.specs.Made.{with_call};
 ghost use Rattle.fkv_base.specs.declared.faults.Fault.TheVariants as fault;
-ghost use Rattle.fkv_keeper.specs.Keeping.{device_passed, end_told, write_asked, copy_asked, copy_driven, copy_told, is_copy_resting, points_known, ended, turned, turned_full, start_ledto, maintain_ledto, phase_ledto, part_begun, copies_next, copies, enter_ledto, copy_toldto, seek_ledto, wait_ledto, writes_begun, gate_writes_of, write_ledto, finish_ledto, finished, no_writes, checkpoint_used, triples_written, lost_left};
+ghost use Rattle.fkv_keeper.specs.Keeping.{device_passed, end_told, write_asked, copy_asked, copy_driven, copy_told, is_copy_resting, points_known, ended, turned, turned_full, start_ledto, maintain_ledto, phase_ledto, part_begun, copies_next, copies, enter_ledto, copy_ledto, seek_ledto, wait_ledto, writes_begun, gate_writes_of, write_ledto, finish_ledto, finished, no_writes, checkpoint_used, triples_written, lost_left};
 ghost use Rattle.fkv_keeper.specs.declared.answers.KeeperTold.TheVariants.{TurnRefused};
 
 use crate::answers::KeeperTold;
@@ -269,9 +269,9 @@ impl Keeper {
         }
     }
 
-    #[tactic(auto, unfolding(crate::specs::Keeping::copy_toldto))]
+    #[tactic(auto, unfolding(crate::specs::Keeping::copy_ledto))]
     pub(crate) fn after_copy(&mut self, ask: Ask<()>)
-        ensures { self.new ≡ record self.old { state = copy_toldto self.old.state ask } }
+        ensures { self.new ≡ record self.old { state = copy_ledto self.old.state ask } }
     {
         if let Ask::Done(()) = ask {
             if let Some(commit) = self.commit {
