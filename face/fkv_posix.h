@@ -173,7 +173,8 @@ int32_t fkv_each(fkv_file *file, fkv_pair_fn *each, void *user);
 
 /*
  * Renews the store of the old file in a new one, as fkv_renew does, and puts that in place as fkv_make_file does. The old one is locked
- * meanwhile, and stays as it is. `shape` is NULL or all zeros for its own sizes and class; `renewed` may be NULL.
+ * meanwhile, and stays as it is. `shape` is NULL or all zeros for its own sizes and class. Of other sizes the new store is a living one.
+ * `renewed` may be NULL.
  * The refusals are those of fkv_renew but -FKV_ROOM_SMALL; -FKV_DEVICE (errno EWOULDBLOCK: the old store is open; EEXIST: there is a file
  * of the new name).
  */
@@ -182,9 +183,10 @@ int32_t fkv_renew_file(const char *old_path, const char *new_path, const fkv_sha
 /*
  * Renews an open store in place: what no room or no commits were left of lives on under its own name. Each session has left before. If the
  * keeper's thread runs, a last commit is made if something isn't kept. Then the renewal is written to a new file, which takes the name of
- * the old one, and the thread goes on. `shape` is NULL or all zeros for the store's own; `renewed` may be NULL. A crash leaves the old store
- * or the new one, with the same pairs and points. Sessions that join then go on with their serials; who joins meanwhile waits. The new
- * store's commits count from 1 again, since each store's file says its number itself.
+ * the old one, and the thread goes on. `shape` is NULL or all zeros for the store's own sizes and class. Of other sizes the new store is a
+ * living one. `renewed` may be NULL. A crash leaves the old store or the new one, with the same pairs and points. Sessions that join then
+ * go on with their serials; who joins meanwhile waits. The new store's commits count from 1 again, since each store's file says its number
+ * itself.
  *
  * It takes the memory of fkv_each and that of the new store. Another name of the file (a link) stays the old store's.
  * 0; -FKV_HANDLE_OUT while a session is joined or abandoned, and in a hook of the keeper's thread; -FKV_NO_KEEPER where something isn't kept

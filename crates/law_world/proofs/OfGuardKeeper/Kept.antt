@@ -1,11 +1,13 @@
 -- A whole step of the keeper: a reply, or a call of the device.
-use Rattle.std.proofs.Common.{◌≡◌, ℕ, List, [], refl, sym, ◌∙◌, Bool, false}
+use Rattle.std.proofs.Common.{◌≡◌, ◌⊎◌, inl, inr, ℕ, List, [], refl, sym, subst, ◌∙◌, Bool, false}
 use Rattle.std.specs.Prelude.{Some, slice_get}
 use Rattle.std.proofs.lemmas.List.{set-get_or}
 use Rattle.fkv_base.specs.declared.faults.Fault.TheVariants as fault
+use Rattle.fkv_base.specs.declared.shapes.Shape.{Shape}
 use Rattle.fkv_words.specs.PhaseWords.{phase_said}
 use Rattle.fkv_plane.specs.declared.asks.Ask.{Ask}
 use Rattle.fkv_plane.specs.declared.asks.Ask.TheVariants.{Done}
+use Rattle.fkv_plane.specs.declared.places.Places.{Places}
 use Rattle.fkv_plane.specs.declared.places.SharedWord.TheVariants as one
 use Rattle.fkv_plane.specs.Asked.{word_at, reply_to, words_after}
 use Rattle.fkv_plane.specs.Passing.{passed, is_done}
@@ -162,30 +164,56 @@ turn_device (Done answer.Spent) finished full e = cc
 turn_device (Done answer.Broken) finished full e = cc
 turn_device ask finished full e = cc
 
-called_at : (w : GuardWorld) (a : ℕ) (x : Actor) (seen : LastSeen) (s : KeeperState) (step : Keeping) (done : Bool) (read : List ℕ) → IsSound w → slice_get w.now.actors a ≡ Some x
-    → Fits (likeness seen (keeping_machine s step) (keeping_work s step)) x → s.finish.sessions ≡ w.now.places.sessions → keeping_ask w.now.shape w.now.places s step ≡ Done told.Device
-    → (let n : GuardNow = w.now in let here : KeeperState = record s { step = step } in
-    KeeperLed n a (keeping_called_events a n.shape n.places s step done read) seen (keeper_called n.shape n.places here done read) n.words n.actions)
-unfolding keeping_ask keeping_called keeping_called_events
-called_at w a x seen s (keeping.Ended its) done read sound got fits same e = ended_call its false s.is_drain_full e
-called_at w a x seen s keeping.Starts done read sound got fits same e = no_begin (told_so (start_ask s.start) (told.CommitRefused fault.CommitRunning) told.Device e)
-called_at w a x seen s keeping.Maintains done read sound got fits same e =
+-- the turn itself and a commit's writes alone call the device
+calls_at : (shape : Shape) (p : Places) (s : KeeperState) (step : Keeping) → keeping_ask shape p s step ≡ Done told.Device → (step ≡ keeping.Maintains) ⊎ (step ≡ keeping.Writes)
+unfolding keeping_ask
+calls_at shape p s (keeping.Ended its) e = ended_call its false s.is_drain_full e
+calls_at shape p s keeping.Starts e = no_begin (told_so (start_ask s.start) (told.CommitRefused fault.CommitRunning) told.Device e)
+calls_at shape p s keeping.Maintains e = inl refl
+calls_at shape p s keeping.LoadsPhase e = cc
+calls_at shape p s keeping.Enters e = no_call false s.is_drain_full (told_so (enter_ask s.enter) (turn_over s) told.Device e)
+calls_at shape p s keeping.Copies e = no_call false s.is_drain_full (told_so (copy_asked s.copy) (turn_over s) told.Device e)
+calls_at shape p s keeping.Seeks e = no_call false s.is_drain_full (told_so (seek_ask s.seek) (turn_over s) told.Device e)
+calls_at shape p s keeping.Waits e = no_call false s.is_drain_full (told_so (wait_ask s.wait) (turn_over s) told.Device e)
+calls_at shape p s keeping.Writes e = inr refl
+calls_at shape p s keeping.Finishes e = no_call false s.is_drain_full (told_so (finish_ask s.seek.points s.finish) (turn_over s) told.Device e)
+
+-- what a call of the device at this step leads to
+LedAt : GuardWorld → ℕ → LastSeen → KeeperState → Bool → List ℕ → Keeping → Type 0
+LedAt w a seen s done read step =
+    let n : GuardNow = w.now in let here : KeeperState = record s { step = step } in
+    KeeperLed n a (keeping_called_events a n.shape n.places s step done read) seen (keeper_called n.shape n.places here done read) n.words n.actions
+
+-- a call of the device in the turn itself leads where the turn goes
+maintains_called_at : (w : GuardWorld) (a : ℕ) (x : Actor) (seen : LastSeen) (s : KeeperState) (done : Bool) (read : List ℕ) → IsSound w → slice_get w.now.actors a ≡ Some x
+    → Fits (likeness seen (keeping_machine s keeping.Maintains) (keeping_work s keeping.Maintains)) x → s.finish.sessions ≡ w.now.places.sessions → keeping_ask w.now.shape w.now.places s keeping.Maintains ≡ Done told.Device
+    → LedAt w a seen s done read keeping.Maintains
+unfolding keeping_ask keeping_called keeping_called_events LedAt
+maintains_called_at w a x seen s done read sound got fits same e =
     let n : GuardNow = w.now in
     let its : maintain_ask n.shape n.places s.maintain ≡ Done answer.Device = turn_device (maintain_ask n.shape n.places s.maintain) false s.is_drain_full e in
     let there : MaintainState = maintain_called n.shape n.places s.maintain done read in
     let events = maintain_called_events a n.shape n.places s.maintain s.maintain.step done read in
     turn_shows w a x seen events s there n.words n.actions (maintain_ask n.shape n.places there) sound got same refl
     (unsettled_led n a events seen there n.words (called_slot n.shape n.places s.maintain done read its) (called_to n a x seen s.maintain done read got fits its))
-called_at w a x seen s keeping.LoadsPhase done read sound got fits same e = cc
-called_at w a x seen s keeping.Enters done read sound got fits same e = no_call false s.is_drain_full (told_so (enter_ask s.enter) (turn_over s) told.Device e)
-called_at w a x seen s keeping.Copies done read sound got fits same e = no_call false s.is_drain_full (told_so (copy_asked s.copy) (turn_over s) told.Device e)
-called_at w a x seen s keeping.Seeks done read sound got fits same e = no_call false s.is_drain_full (told_so (seek_ask s.seek) (turn_over s) told.Device e)
-called_at w a x seen s keeping.Waits done read sound got fits same e = no_call false s.is_drain_full (told_so (wait_ask s.wait) (turn_over s) told.Device e)
-called_at w a x seen s keeping.Writes done read sound got fits same e = writes_kept w.now a x seen s (commit_call s.writes done) done got fits same
-called_at w a x seen s keeping.Finishes done read sound got fits same e = no_call false s.is_drain_full (told_so (finish_ask s.seek.points s.finish) (turn_over s) told.Device e)
+
+writes_called_at : (w : GuardWorld) (a : ℕ) (x : Actor) (seen : LastSeen) (s : KeeperState) (done : Bool) (read : List ℕ) → slice_get w.now.actors a ≡ Some x → Fits (likeness seen (keeping_machine s keeping.Writes) (keeping_work s keeping.Writes)) x
+    → s.finish.sessions ≡ w.now.places.sessions → LedAt w a seen s done read keeping.Writes
+unfolding keeping_called keeping_called_events LedAt
+writes_called_at w a x seen s done read got fits same = writes_kept w.now a x seen s (commit_call s.writes done) done got fits same
+
+called_by : (w : GuardWorld) (a : ℕ) (x : Actor) (seen : LastSeen) (s : KeeperState) (step : Keeping) (done : Bool) (read : List ℕ) → IsSound w → slice_get w.now.actors a ≡ Some x
+    → Fits (likeness seen (keeping_machine s step) (keeping_work s step)) x → s.finish.sessions ≡ w.now.places.sessions → keeping_ask w.now.shape w.now.places s step ≡ Done told.Device
+    → (step ≡ keeping.Maintains) ⊎ (step ≡ keeping.Writes) → LedAt w a seen s done read step
+called_by w a x seen s step done read sound got fits same e (inl its) =
+    subst (LedAt w a seen s done read) (sym its) (maintains_called_at w a x seen s done read sound got
+    (subst (λ (step : Keeping). Fits (likeness seen (keeping_machine s step) (keeping_work s step)) x) its fits) same (subst (λ (step : Keeping). keeping_ask w.now.shape w.now.places s step ≡ Done told.Device) its e))
+called_by w a x seen s step done read sound got fits same e (inr its) =
+    subst (LedAt w a seen s done read) (sym its) (writes_called_at w a x seen s done read got (subst (λ (step : Keeping). Fits (likeness seen (keeping_machine s step) (keeping_work s step)) x) its fits) same)
 
 -- where its call of the device leads
 pub device_called_to : (w : GuardWorld) (a : ℕ) (x : Actor) (seen : LastSeen) (s : KeeperState) (done : Bool) (read : List ℕ) → IsSound w → slice_get w.now.actors a ≡ Some x
     → Fits (likeness seen (keeper_machine s) (keeper_work s)) x → KeeperKnows (levels_of w.now.words) w.now.places s → keeper_ask w.now.shape w.now.places s ≡ Done told.Device
     → (let n : GuardNow = w.now in KeeperLed n a (keeping_called_events a n.shape n.places s s.step done read) seen (keeper_called n.shape n.places s done read) n.words n.actions)
-device_called_to w a x seen s done read sound got fits knows e = called_at w a x seen s s.step done read sound got fits knows.sessions e
+unfolding LedAt
+device_called_to w a x seen s done read sound got fits knows e = called_by w a x seen s s.step done read sound got fits knows.sessions e (calls_at w.now.shape w.now.places s s.step e)
