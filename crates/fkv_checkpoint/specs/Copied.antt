@@ -1,5 +1,5 @@
 -- What a copy has copied, over every list of replies.
-use Rattle.std.specs.Prelude.{◌≡◌, ℕ, ◌+◌, ◌*◌, ◌≤◌, if◌then◌else◌, List, [], ◌∷◌, ◌++◌, length, map}
+use Rattle.std.specs.Prelude.{◌≡◌, ℕ, ◌+◌, ◌-◌, ◌*◌, ◌≤◌, true, false, if◌then◌else◌, List, [], ◌∷◌, ◌++◌, length, map}
 use Rattle.std.specs.List.{flat_map}
 use Rattle.fkv_plane.specs.declared.asks.Ask.{Ask}
 use Rattle.fkv_plane.specs.declared.asks.Ask.TheVariants.{Load}
@@ -10,7 +10,7 @@ use Rattle.fkv_index.specs.IndexWorld.{is_link_place}
 use Rattle.fkv_checkpoint.specs.declared.copying.CopyStep.TheVariants.{Ended}
 use Rattle.fkv_checkpoint.specs.declared.copying.Copying.{Copying}
 use Rattle.fkv_checkpoint.specs.Triples.{CopiedEntry, copied_of, all_bytes}
-use Rattle.fkv_checkpoint.specs.Copying.{first_copying, copy_ask, copy_next, slot_copied, copied_at}
+use Rattle.fkv_checkpoint.specs.Copying.{first_copying, copy_ask, copy_next, slot_copied, copied_at, most_at_once, copy_rests, part_asks_left}
 
 -- how far a copy has come after these replies, the newest first
 unfoldable pub copying_after : Places → List ℕ → Copying
@@ -53,3 +53,14 @@ CopiesTriples = (p : Places) (replies : List ℕ) → AreTriplesOf (copied_after
 -- whatever the replies, no more is copied than an index has slots: seven for each bucket
 abbrev pub CopyFits : Type 0
 CopyFits = (p : Places) (replies : List ℕ) → length (copied_after p replies) ≤ 7 * (p.buckets + p.overflow)
+
+-- Up to its next rest it has at most eight asks for each of 1,024 buckets and 1,024 overflow buckets as it begins, and for each of 1,024 of both
+-- together where it rests. Each reply that leads to no rest leaves fewer.
+pub record RestsInTime (p : Places) (c : Copying) : Type 0 where
+  pub begins : part_asks_left p (first_copying p) ≤ 8 * (most_at_once + most_at_once)
+  pub rests : copy_rests p c ≡ true → part_asks_left p c ≤ 8 * most_at_once
+  pub fewer : (reply : ℕ) → copy_rests p (copy_next p c reply) ≡ false → part_asks_left p (copy_next p c reply) ≤ part_asks_left p c - 1
+
+-- a store with no more than that of either is copied without a rest, as each specified one is
+abbrev pub RestsInParts : Type 0
+RestsInParts = (p : Places) (c : Copying) → p.buckets ≤ most_at_once → p.overflow ≤ most_at_once → copy_rests p c ≡ false

@@ -1,6 +1,6 @@
 -- How the index is copied into triples: for each bucket in order its slots and those of the overflow buckets that follow it. Behind the
 -- seventh slot the link is loaded; where none follows comes the next bucket.
-use Rattle.std.specs.Prelude.{ℕ, ◌+◌, ◌-◌, ◌*◌, ◌^◌, ◌<◌, ◌≤◌, ◌≡◌, ◌&&◌, nat_lt, nat_le, if◌then◌else◌, List, [], ◌∷◌, ◌++◌, ⊤, Option, Some, None}
+use Rattle.std.specs.Prelude.{ℕ, ◌+◌, ◌-◌, ◌*◌, ◌%◌, ◌^◌, ◌<◌, ◌≤◌, ◌≡◌, ◌==◌, ◌&&◌, ◌||◌, nat_lt, nat_le, if◌then◌else◌, Bool, false, List, [], ◌∷◌, ◌++◌, ⊤, Option, Some, None}
 use Rattle.fkv_plane.specs.declared.asks.Ask.{Ask}
 use Rattle.fkv_plane.specs.declared.asks.Ask.TheVariants.{Load, Done}
 use Rattle.fkv_plane.specs.declared.places.Places.{Places}
@@ -86,6 +86,39 @@ step_asks_left p c LoadsLink = 1 + 8 * c.links + 8 * (p.buckets - (c.bucket + 1)
 abbrev pub copy_asks_left : Places → Copying → ℕ
 copy_asks_left p c = step_asks_left p c c.step
 
+-- a copy goes on past so many buckets, and so many overflow buckets, without a rest
+abbrev pub most_at_once : ℕ
+most_at_once = 1024
+
+-- a store that has more of either is copied in parts
+abbrev pub is_parted : Places → Bool
+is_parted p = nat_lt most_at_once p.buckets || nat_lt most_at_once p.overflow
+
+-- how many buckets may come behind the one that is copied, overflow buckets among them
+abbrev pub buckets_behind : Places → Copying → ℕ
+buckets_behind p c = c.links + (p.buckets - (c.bucket + 1))
+
+-- A copy in parts rests before the first slot of a bucket with which a multiple of so many are left. It rests nowhere else.
+unfoldable pub step_rests : Places → Copying → CopyStep → Bool
+step_rests p c Ended = false
+step_rests p c (LoadsSlot slot) = (slot == 0) && is_parted p && ((buckets_behind p c + 1) % most_at_once == 0)
+step_rests p c LoadsLink = false
+
+abbrev pub copy_rests : Places → Copying → Bool
+copy_rests p c = step_rests p c c.step
+
+-- how many asks it has left up to its next rest, or to its end, at most
+abbrev pub behind_in_part : Places → Copying → ℕ
+behind_in_part p c = if is_parted p then buckets_behind p c % most_at_once else buckets_behind p c
+
+unfoldable pub step_part_left : Places → Copying → CopyStep → ℕ
+step_part_left p c Ended = 0
+step_part_left p c (LoadsSlot slot) = 2 + (6 - slot) + 8 * behind_in_part p c
+step_part_left p c LoadsLink = 1 + 8 * behind_in_part p c
+
+abbrev pub part_asks_left : Places → Copying → ℕ
+part_asks_left p c = step_part_left p c c.step
+
 -- how many slots it may still load
 abbrev pub step_slots_left : Places → Copying → CopyStep → ℕ
 step_slots_left p c Ended = 0
@@ -104,6 +137,7 @@ IsStepInRange p c LoadsLink = c.bucket < p.buckets
 pub record IsCopyingInRange (p : Places) (c : Copying) : Type 0 where
   pub bucket_fits : c.bucket < 2 ^ 32
   pub base_fits : c.base < 2 ^ 32
+  pub links_fit : c.links < 2 ^ 32
   pub its_step : IsStepInRange p c c.step
 
 -- and the buffer has room for all that may still come

@@ -4,7 +4,7 @@ ghost use Rattle.fkv_base.specs.declared.faults.Fault.TheVariants.{Memory};
 ghost use Rattle.fkv_index.specs.Slots.{bucket_slots};
 ghost use Rattle.fkv_index.specs.Counted.{IsCounted};
 ghost use Rattle.fkv_checkpoint.specs.Triples.{copied_list, all_bytes};
-ghost use Rattle.fkv_checkpoint.specs.Copying.{copy_begun, bucket_entered, copy_ask, slot_after, link_led, copy_next, slot_copied, copied_at, copy_after, copy_asks_left, IsCopyingInRange};
+ghost use Rattle.fkv_checkpoint.specs.Copying.{copy_begun, bucket_entered, copy_ask, slot_after, link_led, copy_next, slot_copied, copied_at, copy_after, copy_asks_left, copy_rests, is_parted, IsCopyingInRange};
 
 use crate::triple_buffers::TripleBuffer;
 use fkv_base::Fault;
@@ -75,6 +75,9 @@ impl Model for IndexCopy {
 /// The slots of a bucket; its last word leads on.
 const BUCKET_SLOTS: usize = 7;
 
+/// Buckets that are copied without a rest, at most, and overflow buckets too.
+const MOST_AT_ONCE: usize = 1024;
+
 impl CopyRoom {
     /// Asks for it, in one request. `Fault::Memory` where that is refused.
     pub fn ask(alloc: Global, places: Places) -> Result<CopyRoom, Fault>
@@ -134,6 +137,22 @@ impl IndexCopy {
         }
     }
 
+    /// Whether it rests: its owner may do something else before it goes on. A store of more than 1,024 buckets, or of more than 1,024
+    /// overflow buckets, is copied in parts, each of 1,024 of both together at most. Any other store is copied without a rest.
+    #[tactic(auto, unfolding(crate::specs::Copying::step_rests))]
+    pub fn rests(&self) -> bool
+        ensures { result ≡ copy_rests self.now.places self.now.copying }
+    {
+        let c = self.copying;
+        match c.step {
+            CopyStep::LoadsSlot(slot) => {
+                let behind = c.links + (self.places.buckets - (c.bucket + 1));
+                slot == 0 && is_parted(&self.places) && (behind + 1) % MOST_AT_ONCE == 0
+            }
+            CopyStep::LoadsLink | CopyStep::Ended => false,
+        }
+    }
+
     /// How many triples were copied so far.
     pub fn triples(&self) -> u64
         ensures { result ≡ length self.now.triples }
@@ -154,6 +173,13 @@ impl IndexCopy {
     {
         self.triples.bytes()
     }
+}
+
+/// Whether a store with these places is copied in parts.
+fn is_parted(places: &Places) -> bool
+    ensures { result ≡ is_parted places.now }
+{
+    places.buckets > MOST_AT_ONCE || places.overflow > MOST_AT_ONCE
 }
 
 /// What a reply gives to copy: the triple of an entry, where a slot was loaded that has one.

@@ -1,15 +1,20 @@
 //! What holds of every copy.
-ghost use Rattle.fkv_checkpoint.specs.Copied.{CopiesAllTold, CopyEnds, CopiesTriples, CopyFits};
+ghost use Rattle.fkv_plane.specs.declared.places.Places.{Places};
+ghost use Rattle.fkv_checkpoint.specs.declared.copying.Copying.{Copying};
+ghost use Rattle.fkv_checkpoint.specs.Copied.{CopiesAllTold, CopyEnds, CopiesTriples, CopyFits, RestsInParts, RestsInTime};
 ghost use Rattle.fkv_checkpoint.specs.Fuzzy.{AtEachCopy, CopiedHaveStood, HomesOnce, NoneLeftOut};
 ghost use Rattle.fkv_checkpoint.specs.FuzzyRun.{FuzzyRun};
 
 /// Whatever the replies: a copy has one triple for each entry that a load of a slot was told, in the order of the loads, and no
-/// others, seven for each bucket at most, and it ends after eight replies for each bucket at the latest.
+/// others, seven for each bucket at most, and it ends after eight replies for each bucket at the latest. It goes on past 1,024 buckets
+/// and as many overflow buckets at most without a rest, and where it has rested past 1,024 of both together.
 pub fn law_copied()
     ensures told { CopiesAllTold }
     ensures ends { CopyEnds }
     ensures triples { CopiesTriples }
     ensures fits { CopyFits }
+    ensures time { (p : Places) (c : Copying) → RestsInTime p c }
+    ensures parts { RestsInParts }
 {}
 
 /// Whatever others do to the index meanwhile: each entry that was copied stood in the index at a step of the copy, and no home was

@@ -12,6 +12,8 @@ mod first_layout;
 #[cfg(test)]
 mod holding;
 #[cfg(test)]
+mod in_parts;
+#[cfg(test)]
 mod lines;
 #[cfg(test)]
 mod million;

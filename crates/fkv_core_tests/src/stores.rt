@@ -28,8 +28,8 @@ pub(crate) const WIDE_FOR_TWO: Sizes = [4, 16, 4, 2, 2, 0, 64];
 /// Two frames of four records, of which one page is mutable.
 pub(crate) const NARROW_FOR_TWO: Sizes = [4, 4, 2, 1, 2, 0, 64];
 
-/// The rounds in which a commit is to finish.
-const ROUNDS: u64 = 64;
+/// The rounds in which a commit is to finish, the copy of 2^18 buckets among them.
+const ROUNDS: u64 = 320;
 
 /// The engine on a device in memory, which a fuse may make fail.
 pub(crate) type Store = World<Fuse<MemDisk>>;

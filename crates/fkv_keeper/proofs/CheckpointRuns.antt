@@ -1,6 +1,6 @@
 -- The copy in hand is the one that the replies told, and a commit's writes begin from it.
 use Rattle.std.proofs.Common.{◌≡◌, ℕ, ◌∙◌, List, [], ◌∷◌, refl, ap, sym, subst, Bool, true, false}
-use Rattle.std.specs.Prelude.{Option, Some, None, if◌then◌else◌, length, nat_le, ⊤}
+use Rattle.std.specs.Prelude.{not, ◌||◌, Option, Some, None, if◌then◌else◌, length, nat_le, ⊤}
 use Rattle.fkv_base.specs.Limits.{last_version}
 use Rattle.fkv_base.specs.declared.faults.Fault.TheVariants as fault
 use Rattle.fkv_base.specs.declared.numbers.Addr.{Addr}
@@ -14,7 +14,7 @@ use Rattle.fkv_plane.specs.declared.asks.Ask.{Ask}
 use Rattle.fkv_plane.specs.declared.asks.Ask.TheVariants.{Done}
 use Rattle.fkv_plane.specs.declared.places.Places.{Places}
 use Rattle.fkv_checkpoint.specs.Copied.{copying_after, copied_after}
-use Rattle.fkv_checkpoint.specs.Copying.{Copier}
+use Rattle.fkv_checkpoint.specs.Copying.{Copier, copy_begun}
 use Rattle.fkv_commit.specs.declared.commits.Commit.{Commit}
 use Rattle.fkv_base.specs.declared.commits.CommitKind.{CommitKind}
 use Rattle.fkv_base.specs.declared.commits.CommitKind.TheVariants.{Full, Log}
@@ -48,7 +48,7 @@ use Rattle.fkv_keeper.specs.declared.answers.KeeperTold.{KeeperTold}
 use Rattle.fkv_keeper.specs.declared.answers.KeeperTold.TheVariants.{TurnRefused, CommitRefused}
 use Rattle.fkv_keeper.specs.declared.keepers.Keeping.{Keeping}
 use Rattle.fkv_keeper.specs.declared.keepers.Keeping.TheVariants.{Ended, Starts, Maintains, LoadsPhase, Enters, Copies, Seeks, Waits, Writes, Finishes}
-use Rattle.fkv_keeper.specs.Keeping.{KeeperState, copy_asked, copy_driven, copied, points_known, ended, turned, turn_asked, commit_asked, start_ledto, maintain_ledto, copies, part_begun, phase_ledto, enter_ledto, copy_ledto, seek_ledto, writes_begun, wait_ledto, finished, finish_ledto, keeping_next, keeping_given, write_ledto, writes_called, keeping_called}
+use Rattle.fkv_keeper.specs.Keeping.{KeeperState, is_copy_resting, copy_asked, copy_told, copy_driven, copied, points_known, ended, turned, turn_asked, commit_asked, start_ledto, maintain_ledto, copies, part_begun, phase_ledto, enter_ledto, copy_ledto, seek_ledto, writes_begun, wait_ledto, finished, finish_ledto, keeping_next, keeping_given, write_ledto, writes_called, keeping_called}
 use Rattle.fkv_keeper.specs.KeeperRun.{KeeperEvent, BeginsTurn, BeginsCommit, Replies, Gets, Calls, is_in_hand, begins, keeper_run, IsOpened}
 use Rattle.fkv_keeper.specs.CheckpointLaws.{replies_after, copy_replies, LastBegin, begun_of, begun_by, last_begin_after, last_begin, copy_by, HasCopied, IsBeforeWrites}
 use Rattle.fkv_keeper.proofs.KeeperRuns.{happens_at, happens_so}
@@ -66,6 +66,7 @@ pub record IsSound (p : Places) (replies : List ℕ) (told : LastBegin) (s : Kee
   pub copied : (c : Commit) → s.commit ≡ Some c → c.kind ≡ Full → c.is_copied ≡ true → s.is_broken ≡ false → IsBeforeWrites step → HasCopied p replies s.copy
   pub points : (c : Commit) → s.commit ≡ Some c → s.has_points ≡ true → c.is_copied ≡ true
   pub begun : (c : Commit) → s.commit ≡ Some c → told.begun ≡ Some (record { kind = c.kind; number = c.number; first = c.first })
+  pub rests : (c : Commit) → s.commit ≡ Some c → is_copy_resting s.copy ≡ true → s.copy ≡ Some (copy_by p replies)
   pub here : Here p replies told s step
 
 at_step : (p : Places) (replies : List ℕ) (told : LastBegin) (s : KeeperState) (step : Keeping) → s.step ≡ step → IsSound p replies told s step → IsSound p replies told s s.step
@@ -78,6 +79,7 @@ keeps p replies told s a step next same copy points works before sound here = re
   copied = λ c in_hand full is_copied working early. subst (λ (x : Option Copier). HasCopied p replies x) (sym copy) (sound.copied c (sym same ∙ in_hand) full is_copied (works working) (before early));
   points = λ c in_hand taken. sound.points c (sym same ∙ in_hand) (sym points ∙ taken);
   begun = λ c in_hand. sound.begun c (sym same ∙ in_hand);
+  rests = λ c in_hand so. copy ∙ sound.rests c (sym same ∙ in_hand) (ap is_copy_resting (sym copy) ∙ so);
   here = here;
 }
 
@@ -93,6 +95,7 @@ gone p replies told a its none = record {
   copied = λ c in_hand full is_copied working early. absurd (no_some c (sym none ∙ in_hand));
   points = λ c in_hand taken. absurd (no_some c (sym none ∙ in_hand));
   begun = λ c in_hand. absurd (no_some c (sym none ∙ in_hand));
+  rests = λ c in_hand so. absurd (no_some c (sym none ∙ in_hand));
   here = tt;
 }
 
@@ -113,6 +116,7 @@ start_sound p replies told t (Done (start.Begun number first)) e sound = record 
       absurd (not_log t.start.kind (ap (λ (x : Commit). x.kind) same ∙ full) (ap (λ (x : Commit). x.is_copied) same ∙ is_copied));
   points = λ c in_hand taken. cc;
   begun = λ c in_hand. let same : commit_begun number t.start.kind first ≡ c = cc in ap (λ (x : Option CommitKind). begun_of x number first) sound.here ∙ ap (λ (x : Commit). Some (record { kind = x.kind; number = x.number; first = x.first })) same;
+  rests = λ c in_hand so. cc;
   here = tt;
 }
 start_sound p replies told t (Done (start.Refused why)) e sound = over p replies told t Starts _ tt sound
@@ -162,40 +166,52 @@ maintain_sound p replies told t (Done maintain.Broken) e sound = keeps p replies
 maintain_sound p replies told t ask e sound = at_step p replies told t Maintains e sound
 
 -- what the phase calls for
-abbrev from_phase : Places → List ℕ → LastBegin → ℕ → Bool → KeeperState → Type 0
-from_phase p replies told reply granted a = IsSound p (replies_after LoadsPhase (Replies reply granted) a.step replies) told a a.step
+abbrev from_phase : Places → List ℕ → LastBegin → Bool → ℕ → Bool → KeeperState → Type 0
+from_phase p replies told rests reply granted a = IsSound p (replies_after rests LoadsPhase (Replies reply granted) a.step replies) told a a.step
 
-copies_sound : (p : Places) (replies : List ℕ) (told : LastBegin) (s : KeeperState) (c : Commit) (reply : ℕ) (granted : Bool) → s.commit ≡ Some c → c.is_copied ≡ false → IsSound p replies told s LoadsPhase → from_phase p replies told reply granted (copies p s granted)
+copies_sound : (p : Places) (replies : List ℕ) (told : LastBegin) (s : KeeperState) (c : Commit) (reply : ℕ) (granted : Bool) → s.commit ≡ Some c → c.is_copied ≡ false → IsSound p replies told s LoadsPhase
+    → from_phase p replies told (is_copy_resting s.copy) reply granted (copies p s granted)
 unfolding copying_after copied_after
-copies_sound p replies told s c reply true in_hand not_copied sound = record {
-  copied = λ its found full is_copied working early. absurd (clash its found is_copied);
-  points = sound.points;
-  begun = sound.begun;
-  here = (refl, λ its found. ap (λ (x : Commit). x.is_copied) (same its found) ∙ not_copied);
-}
+copies_sound p replies told s c reply granted in_hand not_copied sound = by_rest (is_copy_resting s.copy) refl granted
   where
     same : (its : Commit) → s.commit ≡ Some its → its ≡ c
     same its found = let both : Some its ≡ Some c = sym found ∙ in_hand in cc
 
     clash : (its : Commit) → s.commit ≡ Some its → its.is_copied ≡ true → ⊥
     clash its found is_copied = let wrong : true ≡ false = sym is_copied ∙ ap (λ (x : Commit). x.is_copied) (same its found) ∙ not_copied in cc
-copies_sound p replies told s c reply false in_hand not_copied sound = keeps p replies told s _ LoadsPhase (Ended _) refl refl refl (λ works. works) (λ so. tt) sound tt
+
+    copying : (was : List ℕ) (copy : Option Copier) → copy ≡ Some (copy_by p was) → IsSound p was told (record s { copy = copy; is_granted = true; step = Copies }) Copies
+    copying was copy is = record {
+      copied = λ its found full is_copied working early. absurd (clash its found is_copied);
+      points = sound.points;
+      begun = sound.begun;
+      rests = λ its found so. is;
+      here = (is, λ its found. ap (λ (x : Commit). x.is_copied) (same its found) ∙ not_copied);
+    }
+
+    by_rest : (rests : Bool) → is_copy_resting s.copy ≡ rests → (granted : Bool)
+        → from_phase p replies told rests reply granted (if granted || rests then record s { copy = if rests then s.copy else Some (copy_begun p); is_granted = true; step = Copies } else ended (record s { is_granted = false }) (TurnRefused fault.Memory))
+    by_rest true rests true = copying replies s.copy (sound.rests c in_hand rests)
+    by_rest true rests false = copying replies s.copy (sound.rests c in_hand rests)
+    by_rest false none true = copying [] (Some (copy_begun p)) refl
+    by_rest false none false = keeps p replies told s _ LoadsPhase (Ended _) refl refl refl (λ works. works) (λ so. tt) sound tt
 
 else_sound : (p : Places) (replies : List ℕ) (told : LastBegin) (s : KeeperState) (c : Commit) (reply : ℕ) (granted : Bool) (other : KeeperState) (is_copied : Bool) → c.is_copied ≡ is_copied → s.commit ≡ Some c → IsSound p replies told s LoadsPhase
-    → (c.is_copied ≡ true → from_phase p replies told reply granted other) → from_phase p replies told reply granted (if is_copied then other else copies p s granted)
+    → (c.is_copied ≡ true → from_phase p replies told (is_copy_resting s.copy) reply granted other) → from_phase p replies told (is_copy_resting s.copy) reply granted (if is_copied then other else copies p s granted)
 else_sound p replies told s c reply granted other true so in_hand sound its = its so
 else_sound p replies told s c reply granted other false so in_hand sound its = copies_sound p replies told s c reply granted in_hand so sound
 
-either_sound : (b : Bool) (p : Places) (replies : List ℕ) (told : LastBegin) (reply : ℕ) (granted : Bool) (a o : KeeperState) → (b ≡ true → from_phase p replies told reply granted a) → from_phase p replies told reply granted o → from_phase p replies told reply granted (if b then a else o)
-either_sound true p replies told reply granted a o one other = one refl
-either_sound false p replies told reply granted a o one other = other
+either_sound : (b : Bool) (p : Places) (replies : List ℕ) (told : LastBegin) (rests : Bool) (reply : ℕ) (granted : Bool) (a o : KeeperState) → (b ≡ true → from_phase p replies told rests reply granted a) → from_phase p replies told rests reply granted o
+    → from_phase p replies told rests reply granted (if b then a else o)
+either_sound true p replies told rests reply granted a o one other = one refl
+either_sound false p replies told rests reply granted a o one other = other
 
 is_found : (s : KeeperState) (c its : Commit) → s.commit ≡ Some c → c.is_copied ≡ true → s.commit ≡ Some its → its.is_copied ≡ true
 is_found s c its in_hand is_copied found = ap (λ (x : Commit). x.is_copied) (let both : Some its ≡ Some c = sym found ∙ in_hand in some_same its c both) ∙ is_copied
 
-part_sound : (p : Places) (replies : List ℕ) (told : LastBegin) (s : KeeperState) (c : Commit) (said : PhaseSaid) (reply : ℕ) (granted : Bool) → s.commit ≡ Some c → IsSound p replies told s LoadsPhase → from_phase p replies told reply granted (part_begun p s c said granted)
+part_sound : (p : Places) (replies : List ℕ) (told : LastBegin) (s : KeeperState) (c : Commit) (said : PhaseSaid) (reply : ℕ) (granted : Bool) → s.commit ≡ Some c → IsSound p replies told s LoadsPhase → from_phase p replies told (is_copy_resting s.copy) reply granted (part_begun p s c said granted)
 part_sound p replies told s c (Says phase.InProgress version) reply granted in_hand sound =
-    either_sound s.has_entered p replies told reply granted _ _
+    either_sound s.has_entered p replies told (is_copy_resting s.copy) reply granted _ _
     (λ entered. else_sound p replies told s c reply granted (turned s) c.is_copied refl in_hand sound (λ is_copied. over p replies told s LoadsPhase _ tt sound))
     (keeps p replies told s _ LoadsPhase Enters refl refl refl (λ works. works) (λ so. tt) sound tt)
 part_sound p replies told s c (Says phase.WaitPending version) reply granted in_hand sound =
@@ -204,15 +220,16 @@ part_sound p replies told s c (Says phase.WaitPending version) reply granted in_
       copied = λ its found full copied working early. sound.copied its found full copied working tt;
       points = λ its found taken. cc;
       begun = sound.begun;
+      rests = sound.rests;
       here = λ its found. is_found s c its in_hand is_copied found;
     })
 part_sound p replies told s c (Says phase.WaitFlush version) reply granted in_hand sound =
-    either_sound s.has_points p replies told reply granted _ _
+    either_sound s.has_points p replies told (is_copy_resting s.copy) reply granted _ _
     (λ taken. keeps p replies told s _ LoadsPhase Waits refl refl refl (λ works. works) (λ so. tt) sound (λ its found. sound.points its found taken))
     (over p replies told s LoadsPhase _ tt sound)
 part_sound p replies told s c said reply granted in_hand sound = over p replies told s LoadsPhase _ tt sound
 
-phase_sound : (p : Places) (replies : List ℕ) (told : LastBegin) (s : KeeperState) (found : Option Commit) (said : PhaseSaid) (reply : ℕ) (granted : Bool) → s.commit ≡ found → IsSound p replies told s LoadsPhase → from_phase p replies told reply granted (phase_ledto p s found said granted)
+phase_sound : (p : Places) (replies : List ℕ) (told : LastBegin) (s : KeeperState) (found : Option Commit) (said : PhaseSaid) (reply : ℕ) (granted : Bool) → s.commit ≡ found → IsSound p replies told s LoadsPhase → from_phase p replies told (is_copy_resting s.copy) reply granted (phase_ledto p s found said granted)
 unfolding phase_ledto
 phase_sound p replies told s None said reply granted in_hand sound = over p replies told s LoadsPhase _ tt sound
 phase_sound p replies told s (Some c) said reply granted in_hand sound = part_sound p replies told s c said reply granted in_hand sound
@@ -226,19 +243,40 @@ enter_sound p replies told t (Done enter.Idle) e sound = over p replies told t E
 enter_sound p replies told t ask e sound = at_step p replies told t Enters e sound
 
 -- the copy goes on by its reply
-copied_some : (found : Option Commit) (c : Commit) → copied found ≡ Some c → (its : Commit) × (found ≡ Some its) × (c ≡ record its { is_copied = true })
-copied_some None c e = cc
-copied_some (Some its) c e = (its, refl, some_same c (record its { is_copied = true }) (sym e))
+copied_some : (rests : Bool) (found : Option Commit) (c : Commit) → copied rests found ≡ Some c → (its : Commit) × (found ≡ Some its) × (c ≡ record its { is_copied = its.is_copied || not rests })
+copied_some rests None c e = cc
+copied_some rests (Some its) c e = (its, refl, some_same c (record its { is_copied = its.is_copied || not rests }) (sym e))
 
-copy_sound : (p : Places) (replies : List ℕ) (told : LastBegin) (t : KeeperState) (ask : Ask (Unit {0})) → t.step ≡ Copies → t.copy ≡ Some (copy_by p replies) → copy_asked t.copy ≡ ask → IsSound p replies told t Copies
+-- one that wasn't copied counts as copied where the copy doesn't rest
+at_end : (was rests : Bool) → was ≡ false → (was || not rests) ≡ true → rests ≡ false
+at_end true rests not_copied is_copied = cc
+at_end false true not_copied is_copied = cc
+at_end false false not_copied is_copied = refl
+
+no_rest : (copy : Option Copier) (rests : Bool) → is_copy_resting copy ≡ rests → rests ≡ false → copy_told copy ≡ copy_asked copy
+no_rest copy rests is none = ap (λ (x : Bool). if x then Done tt else copy_asked copy) (is ∙ none)
+
+copy_sound : (p : Places) (replies : List ℕ) (told : LastBegin) (t : KeeperState) (ask : Ask (Unit {0})) → t.step ≡ Copies → t.copy ≡ Some (copy_by p replies) → copy_told t.copy ≡ ask → IsSound p replies told t Copies
     → IsSound p replies told (copy_ledto t ask) (copy_ledto t ask).step
 unfolding copy_ledto
 copy_sound p replies told t (Done its) e has asks sound = record {
-  copied = λ c in_hand full is_copied working early. record { in_hand = has; finished = sym (ap copy_asked has) ∙ asks };
-  points = λ c in_hand taken. ap (λ (x : Commit). x.is_copied) (copied_some t.commit c in_hand).2;
-  begun = λ c in_hand. let found = copied_some t.commit c in_hand in sound.begun found.0 found.1 ∙ ap (λ (x : Commit). Some (record { kind = x.kind; number = x.number; first = x.first })) (sym found.2);
+  copied = λ c in_hand full is_copied working early. record { in_hand = has; finished = sym (ap copy_asked has) ∙ (sym (no_rest t.copy (is_copy_resting t.copy) refl (at_its_end c in_hand is_copied)) ∙ asks) };
+  points = λ c in_hand taken. absurd (truth c in_hand (let found = copied_some (is_copy_resting t.copy) t.commit c in_hand in sound.points found.0 found.1 taken));
+  begun = λ c in_hand. let found = copied_some (is_copy_resting t.copy) t.commit c in_hand in sound.begun found.0 found.1 ∙ ap (λ (x : Commit). Some (record { kind = x.kind; number = x.number; first = x.first })) (sym found.2);
+  rests = λ c in_hand so. has;
   here = tt;
 }
+  where
+    was_not : (c : Commit) (in_hand : copied (is_copy_resting t.copy) t.commit ≡ Some c) → (copied_some (is_copy_resting t.copy) t.commit c in_hand).0.is_copied ≡ false
+    was_not c in_hand = let found = copied_some (is_copy_resting t.copy) t.commit c in_hand in sound.here.1 found.0 found.1
+
+    at_its_end : (c : Commit) (in_hand : copied (is_copy_resting t.copy) t.commit ≡ Some c) → c.is_copied ≡ true → is_copy_resting t.copy ≡ false
+    at_its_end c in_hand is_copied =
+        let found = copied_some (is_copy_resting t.copy) t.commit c in_hand in
+        at_end found.0.is_copied (is_copy_resting t.copy) (was_not c in_hand) (ap (λ (x : Commit). x.is_copied) (sym found.2) ∙ is_copied)
+
+    truth : (c : Commit) (in_hand : copied (is_copy_resting t.copy) t.commit ≡ Some c) → (copied_some (is_copy_resting t.copy) t.commit c in_hand).0.is_copied ≡ true → ⊥
+    truth c in_hand is_copied = let wrong : true ≡ false = sym is_copied ∙ was_not c in_hand in cc
 copy_sound p replies told t ask e has asks sound = at_step p replies told t Copies e sound
 
 -- the copy before the reply, and after it
@@ -248,6 +286,7 @@ driven_sound p replies told s reply sound = record {
   copied = λ c in_hand full is_copied working early. absurd (clash c in_hand is_copied);
   points = sound.points;
   begun = sound.begun;
+  rests = λ c in_hand so. ap (λ (x : Option Copier). copy_driven x reply) sound.here.0;
   here = (ap (λ (x : Option Copier). copy_driven x reply) sound.here.0, sound.here.1);
 }
   where
@@ -266,6 +305,7 @@ seek_sound p replies told t (Done (seek.Taken end epoch)) e sound = record {
       sound.copied found.0 found.1 (ap (λ (x : Commit). x.kind) (sym found.2) ∙ full) (ap (λ (x : Commit). x.is_copied) (sym found.2) ∙ is_copied) working tt;
   points = λ c in_hand taken. let found = known_some t.commit end epoch c in_hand in ap (λ (x : Commit). x.is_copied) found.2 ∙ sound.here found.0 found.1;
   begun = λ c in_hand. let found = known_some t.commit end epoch c in_hand in sound.begun found.0 found.1 ∙ ap (λ (x : Commit). Some (record { kind = x.kind; number = x.number; first = x.first })) (sym found.2);
+  rests = λ c in_hand so. let found = known_some t.commit end epoch c in_hand in sound.rests found.0 found.1 so;
   here = tt;
 }
 seek_sound p replies told t (Done seek.DrainFull) e sound = keeps p replies told t _ Seeks (Ended _) refl refl refl (λ works. works) (λ so. tt) sound tt
@@ -277,7 +317,7 @@ seek_sound p replies told t ask e sound = at_step p replies told t Seeks e sound
 -- the writes begin
 begun_sound : (shape : Shape) (p : Places) (replies : List ℕ) (told : LastBegin) (t : KeeperState) (found : Option Commit) → t.commit ≡ found → IsSound p replies told t Waits → IsSound p replies told (writes_begun shape t found) (writes_begun shape t found).step
 begun_sound shape p replies told t None in_hand sound = over p replies told t Waits _ tt sound
-begun_sound shape p replies told t (Some c) in_hand sound = record { copied = λ its found full is_copied working early. absurd early; points = sound.points; begun = sound.begun; here = tt }
+begun_sound shape p replies told t (Some c) in_hand sound = record { copied = λ its found full is_copied working early. absurd early; points = sound.points; begun = sound.begun; rests = λ its found so. cc; here = tt }
 
 wait_sound : (shape : Shape) (p : Places) (replies : List ℕ) (told : LastBegin) (t : KeeperState) (ask : Ask WaitAnswer) → t.step ≡ Waits → IsSound p replies told t Waits → IsSound p replies told (wait_ledto shape t ask) (wait_ledto shape t ask).step
 unfolding wait_ledto
@@ -300,7 +340,7 @@ broken_not e = cc
 call_sound : (p : Places) (replies : List ℕ) (told : LastBegin) (s : KeeperState) (done : Bool) → s.step ≡ Writes → IsSound p replies told s Writes → IsSound p replies told (writes_called s done) (writes_called s done).step
 call_sound p replies told s true e sound =
     write_sound p replies told (record s { writes = commit_next s.writes true }) s.commit (commit_answer (commit_next s.writes true)) e refl (keeps p replies told s _ Writes Writes refl refl refl (λ works. works) (λ early. early) sound tt)
-call_sound p replies told s false e sound = record { copied = λ c in_hand full is_copied working early. absurd (broken_not working); points = sound.points; begun = sound.begun; here = tt }
+call_sound p replies told s false e sound = record { copied = λ c in_hand full is_copied working early. absurd (broken_not working); points = sound.points; begun = sound.begun; rests = sound.rests; here = tt }
 
 -- the commit is finished
 finished_sound : (p : Places) (replies : List ℕ) (told : LastBegin) (t : KeeperState) (found : Option Commit) → t.commit ≡ found → IsSound p replies told (finished t found) (finished t found).step
@@ -317,7 +357,7 @@ same_here : (p : Places) (replies : List ℕ) (told : LastBegin) (s t : KeeperSt
 same_here p replies told s t step commit copy points broken here sound = keeps p replies told s t step step commit copy points (λ works. sym broken ∙ works) (λ early. early) sound here
 
 reply_sound : (shape : Shape) (p : Places) (replies : List ℕ) (told : LastBegin) (s : KeeperState) (step : Keeping) (reply : ℕ) (granted : Bool) → s.step ≡ step → IsSound p replies told s step
-    → IsSound p (replies_after step (Replies reply granted) (keeping_next shape p s step reply granted).step replies) (last_begin_after step (Replies reply granted) (keeping_next shape p s step reply granted) told) (keeping_next shape p s step reply granted) (keeping_next shape p s step reply granted).step
+    → IsSound p (replies_after (is_copy_resting s.copy) step (Replies reply granted) (keeping_next shape p s step reply granted).step replies) (last_begin_after step (Replies reply granted) (keeping_next shape p s step reply granted) told) (keeping_next shape p s step reply granted) (keeping_next shape p s step reply granted).step
 unfolding keeping_next
 reply_sound shape p replies told s (Ended its) reply granted e sound = at_step p replies told s (Ended its) e sound
 reply_sound shape p replies told s Starts reply granted e sound =
@@ -334,7 +374,7 @@ reply_sound shape p replies told s LoadsPhase reply granted e sound = phase_soun
 reply_sound shape p replies told s Enters reply granted e sound = enter_sound p replies told _ (enter_ask (enter_next s.enter reply)) e (same_here p replies told s _ Enters refl refl refl refl tt sound)
 reply_sound shape p replies told s Copies reply granted e sound =
     let after = driven_sound p replies told s reply sound in
-    copy_sound p (reply ∷ replies) told (record s { copy = copy_driven s.copy reply }) (copy_asked (copy_driven s.copy reply)) e after.here.0 refl after
+    copy_sound p (reply ∷ replies) told (record s { copy = copy_driven s.copy reply }) (copy_told (copy_driven s.copy reply)) e after.here.0 refl after
 reply_sound shape p replies told s Seeks reply granted e sound = seek_sound p replies told _ (seek_ask (seek_next s.seek reply)) e (same_here p replies told s _ Seeks refl refl refl refl sound.here sound)
 reply_sound shape p replies told s Waits reply granted e sound = wait_sound shape p replies told _ (wait_ask (wait_next s.wait reply)) e (same_here p replies told s _ Waits refl refl refl refl sound.here sound)
 reply_sound shape p replies told s Writes reply granted e sound = at_step p replies told s Writes e sound
@@ -358,7 +398,7 @@ turn_sound p replies told s its true sound = over p replies told s (Ended its) _
 turn_sound p replies told s its false sound = keeps p replies told s _ (Ended its) Maintains refl refl refl (λ works. works) (λ so. tt) sound tt
 
 asked_sound : (p : Places) (replies : List ℕ) (told : LastBegin) (s : KeeperState) (kind : CommitKind) (its : KeeperTold) → IsSound p replies told s (Ended its) → IsSound p replies (record told { asked = Some kind }) s (Ended its)
-asked_sound p replies told s kind its sound = record { copied = sound.copied; points = sound.points; begun = sound.begun; here = tt }
+asked_sound p replies told s kind its sound = record { copied = sound.copied; points = sound.points; begun = sound.begun; rests = sound.rests; here = tt }
 
 commit_sound : (p : Places) (replies : List ℕ) (told : LastBegin) (s : KeeperState) (kind : CommitKind) (its : KeeperTold) (broken : Bool) → IsSound p replies told s (Ended its)
     → let a = if broken then ended s (CommitRefused fault.Broken) else record s { start = start_begun s.start kind (length s.lost); step = Starts } in IsSound p replies (record told { asked = Some kind }) a a.step
@@ -366,7 +406,7 @@ commit_sound p replies told s kind its true sound = over p replies (record told 
 commit_sound p replies told s kind its false sound = keeps p replies (record told { asked = Some kind }) s _ (Ended its) Starts refl refl refl (λ works. works) (λ so. tt) (asked_sound p replies told s kind its sound) refl
 
 commit_begins : (p : Places) (replies : List ℕ) (told : LastBegin) (s : KeeperState) (step : Keeping) (kind : CommitKind) → s.step ≡ step → IsSound p replies told s step
-    → let a = begins s (is_in_hand step) (commit_asked s kind) in IsSound p (replies_after step (BeginsCommit kind) a.step replies) (last_begin_after step (BeginsCommit kind) a told) a a.step
+    → let a = begins s (is_in_hand step) (commit_asked s kind) in IsSound p (replies_after (is_copy_resting s.copy) step (BeginsCommit kind) a.step replies) (last_begin_after step (BeginsCommit kind) a told) a a.step
 commit_begins p replies told s (Ended its) kind e sound = commit_sound p replies told s kind its s.is_broken sound
 commit_begins p replies told s LoadsPhase kind e sound = at_step p replies told s LoadsPhase e sound
 commit_begins p replies told s step kind e sound = at_step p replies told s step e sound
@@ -382,12 +422,12 @@ IsUnreplied (Replies reply granted) = ⊥
 IsUnreplied (BeginsCommit kind) = ⊥
 IsUnreplied event = ⊤
 
-same_replies : (step : Keeping) (event : KeeperEvent) (after : Keeping) (was : List ℕ) → IsUnreplied event → replies_after step event after was ≡ was
-same_replies step (Replies reply granted) after was unreplied = absurd unreplied
-same_replies step (BeginsCommit kind) after was unreplied = absurd unreplied
-same_replies LoadsPhase event after was unreplied = refl
-same_replies Copies event after was unreplied = refl
-same_replies step event after was unreplied = refl
+same_replies : (rests : Bool) (step : Keeping) (event : KeeperEvent) (after : Keeping) (was : List ℕ) → IsUnreplied event → replies_after rests step event after was ≡ was
+same_replies rests step (Replies reply granted) after was unreplied = absurd unreplied
+same_replies rests step (BeginsCommit kind) after was unreplied = absurd unreplied
+same_replies rests LoadsPhase event after was unreplied = refl
+same_replies rests Copies event after was unreplied = refl
+same_replies rests step event after was unreplied = refl
 
 same_told : (step : Keeping) (event : KeeperEvent) (after : KeeperState) (was : LastBegin) → IsUnreplied event → last_begin_after step event after was ≡ was
 same_told step (Replies reply granted) after was unreplied = absurd unreplied
@@ -396,13 +436,13 @@ same_told (Ended its) event after was unreplied = refl
 same_told Starts event after was unreplied = refl
 same_told step event after was unreplied = refl
 
-unreplied_sound : (p : Places) (replies : List ℕ) (told : LastBegin) (s a : KeeperState) (step : Keeping) (event : KeeperEvent) → IsUnreplied event → IsSound p replies told a a.step → IsSound p (replies_after step event a.step replies) (last_begin_after step event a told) a a.step
+unreplied_sound : (p : Places) (replies : List ℕ) (told : LastBegin) (s a : KeeperState) (step : Keeping) (event : KeeperEvent) → IsUnreplied event → IsSound p replies told a a.step → IsSound p (replies_after (is_copy_resting s.copy) step event a.step replies) (last_begin_after step event a told) a a.step
 unreplied_sound p replies told s a step event unreplied sound =
-    subst (λ (x : List ℕ). IsSound p x (last_begin_after step event a told) a a.step) (sym (same_replies step event a.step replies unreplied))
+    subst (λ (x : List ℕ). IsSound p x (last_begin_after step event a told) a a.step) (sym (same_replies (is_copy_resting s.copy) step event a.step replies unreplied))
     (subst (λ (x : LastBegin). IsSound p replies x a a.step) (sym (same_told step event a told unreplied)) sound)
 
 happens_sound : (shape : Shape) (p : Places) (replies : List ℕ) (told : LastBegin) (s : KeeperState) (step : Keeping) (event : KeeperEvent) → s.step ≡ step → IsSound p replies told s step
-    → let a = happens_at shape p s step event in IsSound p (replies_after step event a.step replies) (last_begin_after step event a told) a a.step
+    → let a = happens_at shape p s step event in IsSound p (replies_after (is_copy_resting s.copy) step event a.step replies) (last_begin_after step event a told) a a.step
 happens_sound shape p replies told s step BeginsTurn e sound =
     unreplied_sound p replies told s _ step BeginsTurn tt (begins_sound p replies told s (turn_asked s) step e sound (λ its rests. turn_sound p replies told s its s.is_broken rests))
 happens_sound shape p replies told s step (BeginsCommit kind) e sound = commit_begins p replies told s step kind e sound
@@ -419,7 +459,7 @@ pub run_copied : (shape : Shape) (p : Places) (opening : KeeperState) (events : 
 unfolding keeper_run copy_replies last_begin
 run_copied shape p opening [] opened = opening_sound p opening opening.step refl opened
 run_copied shape p opening (event ∷ before) opened =
-    subst (λ (x : KeeperState). IsSound p (replies_after s.step event x.step (copy_replies shape p opening before)) (last_begin_after s.step event x (last_begin shape p opening before)) x x.step) (happens_so shape p s event)
+    subst (λ (x : KeeperState). IsSound p (replies_after (is_copy_resting s.copy) s.step event x.step (copy_replies shape p opening before)) (last_begin_after s.step event x (last_begin shape p opening before)) x x.step) (happens_so shape p s event)
     (happens_sound shape p (copy_replies shape p opening before) (last_begin shape p opening before) s s.step event refl (run_copied shape p opening before opened))
   where
     s : KeeperState

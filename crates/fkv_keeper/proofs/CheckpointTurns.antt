@@ -1,6 +1,6 @@
 -- At every moment of a run the drain slots of the machines inside are among the eight.
 use Rattle.std.proofs.Common.{◌≡◌, ℕ, ◌<◌, ◌∙◌, List, [], ◌∷◌, refl, ap, sym, subst, arith, Bool, true, false}
-use Rattle.std.specs.Prelude.{Option, Some, None, ⊤, if◌then◌else◌}
+use Rattle.std.specs.Prelude.{◌||◌, Option, Some, None, ⊤, if◌then◌else◌}
 use Rattle.fkv_base.specs.Limits.{drain_slots}
 use Rattle.fkv_base.specs.declared.phases.Phase.TheVariants as phase
 use Rattle.fkv_base.specs.declared.shapes.Shape.{Shape}
@@ -48,7 +48,7 @@ use Rattle.fkv_maintain.specs.declared.maintaining.Maintaining.TheVariants as pa
 use Rattle.fkv_maintain.specs.Maintaining.{MaintainState, maintain_ask, maintain_next, maintain_given, maintain_called, scan_ledto, claim_ledto, flush_ledto, shift_ledto, serve_ledto, turn_ledto, maintaining_next, maintaining_given, maintaining_called}
 use Rattle.fkv_keeper.specs.declared.keepers.Keeping.{Keeping}
 use Rattle.fkv_keeper.specs.declared.keepers.Keeping.TheVariants.{Ended, Starts, Maintains, LoadsPhase, Enters, Copies, Seeks, Waits, Writes, Finishes}
-use Rattle.fkv_keeper.specs.Keeping.{KeeperState, copy_asked, copy_driven, turn_asked, commit_asked, start_ledto, maintain_ledto, part_begun, phase_ledto, enter_ledto, copy_ledto, seek_ledto, writes_begun, wait_ledto, finished, finish_ledto, keeping_next, keeping_given, write_ledto, writes_called, keeping_called}
+use Rattle.fkv_keeper.specs.Keeping.{KeeperState, is_copy_resting, copy_driven, copy_told, turn_asked, commit_asked, start_ledto, maintain_ledto, part_begun, phase_ledto, enter_ledto, copy_ledto, seek_ledto, writes_begun, wait_ledto, finished, finish_ledto, keeping_next, keeping_given, write_ledto, writes_called, keeping_called}
 use Rattle.fkv_keeper.specs.KeeperRun.{KeeperEvent, BeginsTurn, BeginsCommit, Replies, Gets, Calls, is_in_hand, begins, keeper_run, IsOpened}
 use Rattle.fkv_keeper.proofs.CheckpointRanges.{IsShiftedIn, IsTurnedIn, shift_in, turn_in, claim_in, given_in}
 use Rattle.fkv_keeper.proofs.CheckpointParts.{IsStartIn, start_in, IsEnterIn, enter_in, IsSeekIn, seek_begun_in, seek_in}
@@ -158,8 +158,8 @@ either_keeper true x y one other = one
 either_keeper false x y one other = other
 
 part_in : (p : Places) (s : KeeperState) (c : Commit) (said : PhaseSaid) (granted : Bool) → IsKeeperIn (part_begun p s c said granted)
-part_in p s c (Says phase.InProgress version) granted = either_keeper s.has_entered _ _ (either_keeper c.is_copied _ _ tt (either_keeper granted _ _ tt tt)) tt
-part_in p s c (Says phase.WaitPending version) granted = either_keeper c.is_copied _ _ (seek_begun_in s.seek c.number s.last.points) (either_keeper granted _ _ tt tt)
+part_in p s c (Says phase.InProgress version) granted = either_keeper s.has_entered _ _ (either_keeper c.is_copied _ _ tt (either_keeper (granted || is_copy_resting s.copy) _ _ tt tt)) tt
+part_in p s c (Says phase.WaitPending version) granted = either_keeper c.is_copied _ _ (seek_begun_in s.seek c.number s.last.points) (either_keeper (granted || is_copy_resting s.copy) _ _ tt tt)
 part_in p s c (Says phase.WaitFlush version) granted = either_keeper s.has_points _ _ tt tt
 part_in p s c said granted = tt
 
@@ -229,7 +229,7 @@ reply_in shape p s Maintains reply granted e fits =
     maintain_led_in (record s { maintain = maintain_next shape p s.maintain reply }) (maintain_ask shape p (maintain_next shape p s.maintain reply)) e (maintain_next_in shape p s.maintain s.maintain.step reply refl fits)
 reply_in shape p s LoadsPhase reply granted e fits = phase_in p s s.commit (phase_said reply) granted
 reply_in shape p s Enters reply granted e fits = enter_led_in (record s { enter = enter_next s.enter reply }) (enter_ask (enter_next s.enter reply)) e (enter_in s.enter s.enter.step reply refl fits)
-reply_in shape p s Copies reply granted e fits = copy_led_in (record s { copy = copy_driven s.copy reply }) (copy_asked (copy_driven s.copy reply)) e
+reply_in shape p s Copies reply granted e fits = copy_led_in (record s { copy = copy_driven s.copy reply }) (copy_told (copy_driven s.copy reply)) e
 reply_in shape p s Seeks reply granted e fits = seek_led_in (record s { seek = seek_next s.seek reply }) (seek_ask (seek_next s.seek reply)) e (seek_in s.seek s.seek.step reply refl fits)
 reply_in shape p s Waits reply granted e fits = wait_led_in shape (record s { wait = wait_next s.wait reply }) (wait_ask (wait_next s.wait reply)) e
 reply_in shape p s Writes reply granted e fits = keeping_at Writes s e tt

@@ -1,5 +1,5 @@
 -- While a commit is written and finished it uses the checkpoint with which its writes have begun.
-use Rattle.std.proofs.Common.{◌≡◌, ℕ, ◌∙◌, ◌⊎◌, inl, inr, List, [], ◌∷◌, refl, ap, sym, subst, true, false}
+use Rattle.std.proofs.Common.{◌≡◌, ℕ, ◌∙◌, ◌⊎◌, inl, inr, List, [], ◌∷◌, refl, ap, sym, subst, Bool, true, false}
 use Rattle.std.specs.Prelude.{Option, Some}
 use Rattle.fkv_base.specs.declared.shapes.Shape.{Shape}
 use Rattle.fkv_plane.specs.declared.places.Places.{Places}
@@ -10,7 +10,7 @@ use Rattle.fkv_manifest.specs.Committing.{CommitWriter}
 use Rattle.fkv_keeper.specs.declared.answers.KeeperTold.{KeeperTold}
 use Rattle.fkv_keeper.specs.declared.keepers.Keeping.{Keeping}
 use Rattle.fkv_keeper.specs.declared.keepers.Keeping.TheVariants.{Ended, Starts, LoadsPhase, Copies, Waits, Writes, Finishes}
-use Rattle.fkv_keeper.specs.Keeping.{KeeperState, Finality, keeping_given, keeping_called}
+use Rattle.fkv_keeper.specs.Keeping.{KeeperState, Finality, is_copy_resting, keeping_given, keeping_called}
 use Rattle.fkv_keeper.specs.KeeperRun.{KeeperEvent, BeginsTurn, BeginsCommit, Replies, Gets, Calls, is_in_hand, keeper_happens, keeper_run, IsOpened, Writing, writing_after, writing}
 use Rattle.fkv_keeper.specs.CheckpointLaws.{replies_after, copy_replies, BegunWith, LastBegin, last_begin_after, last_begin, begun_with, IsWrittenAs, AreWritesBegun, IsBehindWait, UsesAs, IsBeingWritten, IsFinished, IsCommitAfter, KeepsLists, MayFollow}
 use Rattle.fkv_keeper.proofs.KeeperRuns.{happens_at, happens_so}
@@ -36,12 +36,12 @@ not_waits : (step : Keeping) → IsBehindWait step → step ≡ Waits → ⊥
 not_waits step behind e = subst IsBehindWait e behind
 
 -- what stays of the lists beside a run
-same_replies : (step : Keeping) (event : KeeperEvent) (after : Keeping) (was : List ℕ) → IsBehindWait step ⊎ (step ≡ Waits) → replies_after step event after was ≡ was
-same_replies LoadsPhase event after was (inl behind) = absurd behind
-same_replies LoadsPhase event after was (inr waits) = cc
-same_replies Copies event after was (inl behind) = absurd behind
-same_replies Copies event after was (inr waits) = cc
-same_replies step event after was here = refl
+same_replies : (rests : Bool) (step : Keeping) (event : KeeperEvent) (after : Keeping) (was : List ℕ) → IsBehindWait step ⊎ (step ≡ Waits) → replies_after rests step event after was ≡ was
+same_replies rests LoadsPhase event after was (inl behind) = absurd behind
+same_replies rests LoadsPhase event after was (inr waits) = cc
+same_replies rests Copies event after was (inl behind) = absurd behind
+same_replies rests Copies event after was (inr waits) = cc
+same_replies rests step event after was here = refl
 
 same_told : (step : Keeping) (event : KeeperEvent) (after : KeeperState) (was : LastBegin) → IsBehindWait step ⊎ (step ≡ Waits) → last_begin_after step event after was ≡ was
 same_told (Ended its) event after was (inl behind) = absurd behind
@@ -109,9 +109,9 @@ has_begun shape p replies told v s a waits writes first lists its = by_lists lis
 
 -- the lists beside a run are as they were
 as_before : (p : Places) (replies : List ℕ) (told : LastBegin) (v : Writing) (s a : KeeperState) (event : KeeperEvent) → IsBehindWait s.step ⊎ (s.step ≡ Waits) → IsBeingWritten p replies told.begun v a
-    → IsBeingWritten p (replies_after s.step event a.step replies) (last_begin_after s.step event a told).begun v a
+    → IsBeingWritten p (replies_after (is_copy_resting s.copy) s.step event a.step replies) (last_begin_after s.step event a told).begun v a
 as_before p replies told v s a event here its =
-    subst (λ (x : List ℕ). IsBeingWritten p x (last_begin_after s.step event a told).begun v a) (sym (same_replies s.step event a.step replies here))
+    subst (λ (x : List ℕ). IsBeingWritten p x (last_begin_after s.step event a told).begun v a) (sym (same_replies (is_copy_resting s.copy) s.step event a.step replies here))
     (subst (λ (x : LastBegin). IsBeingWritten p replies x.begun v a) (sym (same_told s.step event a told here)) its)
 
 no_start : (s : KeeperState) (step : Keeping) → s.step ≡ step → IsOpened s → IsBehindWait step → ⊥
@@ -151,7 +151,7 @@ run_used shape p opening (event ∷ before) opened behind = by_step (λ goes. ru
     move : IsMove p s event a
     move = each_move shape p s event
 
-    by_step : (IsBehindWait s.step → IsBeingWritten p replies told.begun w s) → ((s.step ≡ Waits) × (a.step ≡ Writes)) ⊎ IsBehindWait s.step → IsBeingWritten p (replies_after s.step event a.step replies) (last_begin_after s.step event a told).begun (writing_after s.step event a w) a
+    by_step : (IsBehindWait s.step → IsBeingWritten p replies told.begun w s) → ((s.step ≡ Waits) × (a.step ≡ Writes)) ⊎ IsBehindWait s.step → IsBeingWritten p (replies_after (is_copy_resting s.copy) s.step event a.step replies) (last_begin_after s.step event a told).begun (writing_after s.step event a w) a
     by_step been (inl begins) =
         as_before p replies told _ s a event (inr begins.0)
         (has_begun shape p replies told.begun _ s a begins.0 begins.1 (first_written shape p s event w begins.0 begins.1) move.lists (run_writes shape p opening before event opened begins.0 begins.1))

@@ -1,6 +1,6 @@
 -- A call of the keeper that ends for want of a drain slot has sought all of them in vain.
 use Rattle.std.proofs.Common.{◌≡◌, ℕ, ◌∙◌, List, [], ◌∷◌, refl, ap, sym, subst, Bool, true, false}
-use Rattle.std.specs.Prelude.{⊤, length, Option, Some, None, if◌then◌else◌}
+use Rattle.std.specs.Prelude.{⊤, ◌||◌, length, Option, Some, None, if◌then◌else◌}
 use Rattle.fkv_base.specs.declared.faults.Fault.{Fault}
 use Rattle.fkv_base.specs.declared.faults.Fault.TheVariants as fault
 use Rattle.fkv_base.specs.declared.phases.Phase.TheVariants as phase
@@ -39,7 +39,7 @@ use Rattle.fkv_keeper.specs.declared.answers.KeeperTold.{KeeperTold}
 use Rattle.fkv_keeper.specs.declared.answers.KeeperTold.TheVariants.{Turned, CommitRefused}
 use Rattle.fkv_keeper.specs.declared.keepers.Keeping.{Keeping}
 use Rattle.fkv_keeper.specs.declared.keepers.Keeping.TheVariants.{Ended, Starts, Maintains, LoadsPhase, Enters, Copies, Seeks, Waits, Writes, Finishes}
-use Rattle.fkv_keeper.specs.Keeping.{KeeperState, copy_asked, copy_driven, device_passed, end_told, keeping_ask, ended, turned, turn_over, turn_asked, commit_asked, start_ledto, maintain_ledto, copies, part_begun, phase_ledto, enter_ledto, copy_ledto, seek_ledto, writes_begun, wait_ledto, finished, finish_ledto, keeping_next, keeping_given, write_ledto, writes_called, keeping_called}
+use Rattle.fkv_keeper.specs.Keeping.{KeeperState, is_copy_resting, copy_asked, copy_driven, copy_told, device_passed, end_told, keeping_ask, ended, turned, turn_over, turn_asked, commit_asked, start_ledto, maintain_ledto, copies, part_begun, phase_ledto, enter_ledto, copy_ledto, seek_ledto, writes_begun, wait_ledto, finished, finish_ledto, keeping_next, keeping_given, write_ledto, writes_called, keeping_called}
 use Rattle.fkv_keeper.specs.KeeperRun.{KeeperEvent, BeginsTurn, BeginsCommit, Replies, Gets, Calls, is_in_hand, is_calling, keeper_happens, keeper_run, IsOpened}
 use Rattle.fkv_keeper.specs.DrainLaws.{HasSoughtAll, told_anew, told_after, call_told}
 use Rattle.fkv_keeper.proofs.DrainSought.{passed_told, still_sought, now_sought}
@@ -100,8 +100,7 @@ maintain_led t (Done maintain.Broken) told e its = tt
 maintain_led t ask told e its = at_step t Maintains told e its
 
 copies_led : (p : Places) (s : KeeperState) (granted : Bool) (told : List Exchange) → Full s told → Knows (copies p s granted) told
-copies_led p s true told full = full
-copies_led p s false told full = tt
+copies_led p s granted told full = either (granted || is_copy_resting s.copy) _ _ told full tt
 
 part_led : (p : Places) (s : KeeperState) (c : Commit) (said : PhaseSaid) (granted : Bool) (told : List Exchange) → Full s told → Knows (part_begun p s c said granted) told
 part_led p s c (Says phase.InProgress version) granted told full =
@@ -195,7 +194,7 @@ reply_at shape p s LoadsPhase reply granted told e knows = phase_led p s s.commi
 reply_at shape p s Enters reply granted told e knows =
     subst (λ (x : List Exchange). Knows (enter_ledto (record s { enter = enter_next s.enter reply }) (enter_ask (enter_next s.enter reply))) x) (sym (passed_told (enter_ask s.enter) (turn_over s) reply told))
     (enter_led (record s { enter = enter_next s.enter reply }) (enter_ask (enter_next s.enter reply)) (exchanged (enter_ask s.enter) reply told) e refl (enter_step s.enter told reply knows.0) (λ full. still_sought (enter_ask s.enter) reply told (knows.1 full)))
-reply_at shape p s Copies reply granted told e knows = copy_led (record s { copy = copy_driven s.copy reply }) (copy_asked (copy_driven s.copy reply)) _ e (λ full. still_sought _ reply told (knows full))
+reply_at shape p s Copies reply granted told e knows = copy_led (record s { copy = copy_driven s.copy reply }) (copy_told (copy_driven s.copy reply)) _ e (λ full. still_sought _ reply told (knows full))
 reply_at shape p s Seeks reply granted told e knows =
     subst (λ (x : List Exchange). Knows (seek_ledto (record s { seek = seek_next s.seek reply }) (seek_ask (seek_next s.seek reply))) x) (sym (passed_told (seek_ask s.seek) (turn_over s) reply told))
     (seek_led (record s { seek = seek_next s.seek reply }) (seek_ask (seek_next s.seek reply)) (exchanged (seek_ask s.seek) reply told) e refl (seek_step s.seek told reply knows.0) (λ full. still_sought (seek_ask s.seek) reply told (knows.1 full)))

@@ -1,18 +1,21 @@
 -- Whether memory was granted counts only where a copy begins or is refused, and there the state says it.
 use Rattle.std.proofs.Common.{◌≡◌, ℕ, Bool, true, false, refl}
-use Rattle.std.specs.Prelude.{Option, Some, None, if◌then◌else◌}
+use Rattle.std.specs.Prelude.{◌||◌, Option, Some, None, if◌then◌else◌}
+use Rattle.fkv_base.specs.declared.faults.Fault.TheVariants as fault
 use Rattle.fkv_base.specs.declared.phases.Phase.TheVariants as phase
 use Rattle.fkv_base.specs.declared.shapes.Shape.{Shape}
 use Rattle.fkv_words.specs.declared.phase_words.PhaseSaid.{PhaseSaid}
 use Rattle.fkv_words.specs.declared.phase_words.PhaseSaid.TheVariants.{Says, Spoiled}
 use Rattle.fkv_words.specs.PhaseWords.{phase_said}
 use Rattle.fkv_plane.specs.declared.places.Places.{Places}
+use Rattle.fkv_checkpoint.specs.Copying.{copy_begun}
 use Rattle.fkv_commit.specs.declared.commits.Commit.{Commit}
 use Rattle.fkv_commit.specs.Entering.{enter_begun}
 use Rattle.fkv_commit.specs.Seeking.{seek_begun}
+use Rattle.fkv_keeper.specs.declared.answers.KeeperTold.TheVariants.{TurnRefused}
 use Rattle.fkv_keeper.specs.declared.keepers.Keeping.{Keeping}
-use Rattle.fkv_keeper.specs.declared.keepers.Keeping.TheVariants.{LoadsPhase, Enters, Seeks}
-use Rattle.fkv_keeper.specs.Keeping.{KeeperState, turned, copies, part_begun, phase_ledto, keeping_next, keeper_next}
+use Rattle.fkv_keeper.specs.declared.keepers.Keeping.TheVariants.{LoadsPhase, Enters, Copies, Seeks}
+use Rattle.fkv_keeper.specs.Keeping.{KeeperState, is_copy_resting, ended, turned, copies, part_begun, phase_ledto, keeping_next, keeper_next}
 
 -- a step that goes by the grant leads where its state says
 abbrev SaysGranted : (Bool → KeeperState) → Bool → Type 0
@@ -20,7 +23,14 @@ SaysGranted leads granted = leads granted ≡ leads (leads granted).is_granted
 
 copies_says : (p : Places) (s : KeeperState) (granted : Bool) → SaysGranted (copies p s) granted
 copies_says p s true = refl
-copies_says p s false = refl
+copies_says p s false = by_rest (is_copy_resting s.copy)
+  where
+    led : Bool → Bool → KeeperState
+    led rests granted = if granted || rests then record s { copy = if rests then s.copy else Some (copy_begun p); is_granted = true; step = Copies } else ended (record s { is_granted = false }) (TurnRefused fault.Memory)
+
+    by_rest : (rests : Bool) → led rests false ≡ led rests (led rests false).is_granted
+    by_rest true = refl
+    by_rest false = refl
 
 either_says : (p : Places) (s : KeeperState) (is_copied : Bool) (other : KeeperState) (granted : Bool) → SaysGranted (λ g. if is_copied then other else copies p s g) granted
 either_says p s true other granted = refl

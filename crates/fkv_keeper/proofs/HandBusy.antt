@@ -1,6 +1,6 @@
 -- A keeper whose call is in hand asks for a word or for the device: whatever it begins asks, and where a machine inside it is at its end it goes on.
-use Rattle.std.proofs.Common.{◌≡◌, ℕ, ◌<◌, refl, sym, subst, ap, arith, Bool, true, false, List, [], ◌∷◌}
-use Rattle.std.specs.Prelude.{nat_lt, if◌then◌else◌, Option, Some, None}
+use Rattle.std.proofs.Common.{◌≡◌, ℕ, ◌<◌, refl, sym, subst, ap, arith, Bool, true, false, List, [], ◌∷◌, ◌∙◌}
+use Rattle.std.specs.Prelude.{nat_lt, ◌||◌, if◌then◌else◌, Option, Some, None}
 use Rattle.std.proofs.lemmas.Bool.Decides.{nat_tests}
 use Rattle.fkv_base.specs.declared.faults.Fault.TheVariants as fault
 use Rattle.fkv_base.specs.declared.numbers.Serial.{Serial}
@@ -13,10 +13,13 @@ use Rattle.fkv_plane.specs.declared.actions.Action.{Action}
 use Rattle.fkv_plane.specs.declared.asks.Ask.{Ask}
 use Rattle.fkv_plane.specs.declared.asks.Ask.TheVariants.{Done}
 use Rattle.fkv_plane.specs.declared.places.Places.{Places}
-use Rattle.fkv_plane.specs.Passing.{passed}
+use Rattle.fkv_plane.specs.Passing.{is_done, passed}
 use Rattle.fkv_epoch.specs.Raising.{raise_ask}
 use Rattle.fkv_epoch.specs.Scanning.{scan_ask}
-use Rattle.fkv_checkpoint.specs.Copying.{copy_begun, copy_ask, copy_step_ask}
+use Rattle.fkv_checkpoint.specs.declared.copying.CopyStep.{CopyStep}
+use Rattle.fkv_checkpoint.specs.declared.copying.CopyStep.TheVariants as copying
+use Rattle.fkv_checkpoint.specs.declared.copying.Copying.{Copying}
+use Rattle.fkv_checkpoint.specs.Copying.{Copier, copy_begun, copy_ask, copy_step_ask, step_rests}
 use Rattle.fkv_commit.specs.declared.commits.Commit.{Commit}
 use Rattle.fkv_base.specs.declared.commits.CommitKind.{CommitKind}
 use Rattle.fkv_commit.specs.declared.entering.EnterAnswer.{EnterAnswer}
@@ -47,14 +50,14 @@ use Rattle.fkv_manifest.specs.Gating.{GateWriter, gate_start, gate_answer, gate_
 use Rattle.fkv_maintain.specs.declared.maintaining.MaintainAnswer.{MaintainAnswer}
 use Rattle.fkv_maintain.specs.declared.maintaining.MaintainAnswer.TheVariants as maintain
 use Rattle.fkv_maintain.specs.Maintaining.{maintain_ask, maintaining_ask, maintain_next, maintain_given, maintain_called}
-use Rattle.fkv_keeper.specs.declared.answers.KeeperTold.TheVariants.{Turned, CommitRefused}
+use Rattle.fkv_keeper.specs.declared.answers.KeeperTold.TheVariants.{Turned, TurnRefused, CommitRefused}
 use Rattle.fkv_keeper.specs.declared.keepers.Keeping.{Keeping}
 use Rattle.fkv_keeper.specs.declared.keepers.Keeping.TheVariants.{Ended, Starts, Maintains, LoadsPhase, Enters, Copies, Seeks, Waits, Writes, Finishes}
 use Rattle.fkv_keeper.specs.Answers.{is_busy}
 use Rattle.fkv_keeper.specs.LastCommits.{is_gate_open}
 use Rattle.fkv_keeper.specs.KeeperAsks.{keeper_asks_left}
 use Rattle.fkv_keeper.specs.KeeperRun.{KeeperEvent, BeginsTurn, BeginsCommit, Replies, Gets, Calls, is_in_hand, begins, keeper_happens, keeper_run}
-use Rattle.fkv_keeper.specs.Keeping.{KeeperState, device_passed, write_asked, turn_over, copy_asked, copy_driven, keeping_ask, turned, commit_asked, turn_asked, start_ledto, maintain_ledto, copies, copies_next, part_begun, phase_ledto, enter_ledto, copy_ledto, seek_ledto, checkpoint_used, writes_of, writes_begun, wait_ledto, finished, finish_ledto, keeping_next, keeping_given, write_ledto, keeping_called}
+use Rattle.fkv_keeper.specs.Keeping.{KeeperState, device_passed, write_asked, turn_over, is_copy_resting, copy_asked, copy_told, copy_driven, keeping_ask, ended, turned, commit_asked, turn_asked, start_ledto, maintain_ledto, copies, copies_next, part_begun, phase_ledto, enter_ledto, copy_ledto, seek_ledto, checkpoint_used, writes_of, writes_begun, wait_ledto, finished, finish_ledto, keeping_next, keeping_given, write_ledto, keeping_called}
 use Rattle.fkv_keeper.proofs.KeeperLeft.{keeper_left, never, nor}
 
 -- the writes of a commit go on: neither they nor those of its slot are at an end
@@ -113,10 +116,27 @@ unfolding copy_step_ask passed
 copies_on p full true e some = rw e refl
 copies_on p full false e some = let no : ⊥ = grind (arith, nat_tests) in absurd no
 
+-- a copy that rests has a slot to load
+rests_on : (p : Places) (c : Copying) (step : CopyStep) (full : Bool) → step_rests p c step ≡ true → is_busy (passed (copy_step_ask c.base step) (Turned false full)) ≡ true
+unfolding step_rests copy_step_ask passed
+rests_on p c copying.Ended full e = cc
+rests_on p c (copying.LoadsSlot slot) full e = refl
+rests_on p c copying.LoadsLink full e = cc
+
+resting_busy : (copy : Option Copier) (full : Bool) → is_copy_resting copy ≡ true → is_busy (passed (copy_asked copy) (Turned false full)) ≡ true
+resting_busy None full e = cc
+resting_busy (Some m) full e = rests_on m.places m.copying m.copying.step full e
+
 copies_busy : (shape : Shape) (p : Places) (s : KeeperState) (granted : Bool) → 0 < p.buckets → IsBusyNow shape p (copies p s granted)
 unfolding keeping_ask
-copies_busy shape p s true some = copies_on p s.is_drain_full (nat_lt 0 p.buckets) refl some
-copies_busy shape p s false some = tt
+copies_busy shape p s granted some = by_rest (is_copy_resting s.copy) refl granted
+  where
+    by_rest : (rests : Bool) → is_copy_resting s.copy ≡ rests → (granted : Bool)
+        → IsBusyNow shape p (if granted || rests then record s { copy = if rests then s.copy else Some (copy_begun p); is_granted = true; step = Copies } else ended (record s { is_granted = false }) (TurnRefused fault.Memory))
+    by_rest true rests true = resting_busy s.copy s.is_drain_full rests
+    by_rest true rests false = resting_busy s.copy s.is_drain_full rests
+    by_rest false none true = copies_on p s.is_drain_full (nat_lt 0 p.buckets) refl some
+    by_rest false none false = tt
 
 gate_on : (b : Bool) → gate_answer (gate_start b) ≡ write.Device
 unfolding gate_answer
@@ -179,10 +199,18 @@ entered shape p s (Done enter.EpochsSpent) at same = tt
 entered shape p s (Done enter.Idle) at same = tt
 entered shape p s ask at same = still shape p s Enters at (ap (λ (its : Ask EnterAnswer). is_busy (passed its (turn_over s))) same)
 
-copied_busy : (shape : Shape) (p : Places) (s : KeeperState) (ask : Ask (Unit {0})) → s.step ≡ Copies → copy_asked s.copy ≡ ask → IsBusyNow shape p (copy_ledto s ask)
+-- one that asks for more in this turn doesn't rest
+told_asks : (copy : Option Copier) (ask : Ask (Unit {0})) → copy_told copy ≡ ask → is_done ask ≡ false → copy_asked copy ≡ ask
+told_asks copy ask same asks = by_rest (is_copy_resting copy) same
+  where
+    by_rest : (rests : Bool) → (if rests then Done tt else copy_asked copy) ≡ ask → copy_asked copy ≡ ask
+    by_rest true over = let wrong : true ≡ false = ap is_done over ∙ asks in cc
+    by_rest false goes = goes
+
+copied_busy : (shape : Shape) (p : Places) (s : KeeperState) (ask : Ask (Unit {0})) → s.step ≡ Copies → copy_told s.copy ≡ ask → IsBusyNow shape p (copy_ledto s ask)
 unfolding copy_ledto keeping_ask passed
 copied_busy shape p s (Done its) at same = tt
-copied_busy shape p s ask at same = still shape p s Copies at (ap (λ (its : Ask (Unit {0})). is_busy (passed its (turn_over s))) same)
+copied_busy shape p s ask at same = still shape p s Copies at (ap (λ (its : Ask (Unit {0})). is_busy (passed its (turn_over s))) (told_asks s.copy ask same refl))
 
 sought : (shape : Shape) (p : Places) (s : KeeperState) (ask : Ask SeekAnswer) → s.step ≡ Seeks → seek_ask s.seek ≡ ask → IsBusyNow shape p (seek_ledto s ask)
 unfolding seek_ledto keeping_ask passed
@@ -216,7 +244,7 @@ next_busy shape p s Starts reply granted some at held = started shape p (record 
 next_busy shape p s Maintains reply granted some at held = maintained shape p (record s { maintain = maintain_next shape p s.maintain reply }) (maintain_ask shape p (maintain_next shape p s.maintain reply)) at refl
 next_busy shape p s LoadsPhase reply granted some at held = phased shape p s s.commit (phase_said reply) granted some
 next_busy shape p s Enters reply granted some at held = entered shape p (record s { enter = enter_next s.enter reply }) (enter_ask (enter_next s.enter reply)) at refl
-next_busy shape p s Copies reply granted some at held = copied_busy shape p (record s { copy = copy_driven s.copy reply }) (copy_asked (copy_driven s.copy reply)) at refl
+next_busy shape p s Copies reply granted some at held = copied_busy shape p (record s { copy = copy_driven s.copy reply }) (copy_told (copy_driven s.copy reply)) at refl
 next_busy shape p s Seeks reply granted some at held = sought shape p (record s { seek = seek_next s.seek reply }) (seek_ask (seek_next s.seek reply)) at refl
 next_busy shape p s Waits reply granted some at held = waited shape p (record s { wait = wait_next s.wait reply }) (wait_ask (wait_next s.wait reply)) at refl
 next_busy shape p s Writes reply granted some at held = held

@@ -20,9 +20,9 @@ pub begin_bounded : (shape : Shape) (p : Places) (s : KeeperState) (kind : Commi
 unfolding keeping_asks_left starting_asks_left
 begin_bounded shape p s kind = either shape p s.is_broken _ _ _ (omega arith) (omega arith)
 
-pub turn_bounded : (shape : Shape) (p : Places) (s : KeeperState) → s.seek.sessions ≡ shape.sessions → s.finish.sessions ≡ shape.sessions → keeper_asks_left shape p (turn_asked s) ≤ most_turn_asks shape p
+pub turn_bounded : (shape : Shape) (p : Places) (s : KeeperState) → s.seek.sessions ≡ shape.sessions → s.finish.sessions ≡ shape.sessions → keeper_asks_left shape p (turn_asked s) ≤ most_turn_asks shape
 unfolding keeping_asks_left
 turn_bounded shape p s seeks finishes =
     let begun = maintain_begun_left shape (maintain_begun s.maintain) refl refl in
-    let most = sum_most (maintain_asks_left shape (maintain_begun s.maintain)) (most_part_asks p s.seek.sessions s.finish.sessions + 1) in
+    let most = sum_most (maintain_asks_left shape (maintain_begun s.maintain)) (most_part_asks s.seek.sessions s.finish.sessions + 1) in
     either shape p s.is_broken _ _ _ (omega arith) (omega (arith, begun, most, seeks, finishes))

@@ -1,6 +1,6 @@
 -- Each reply, action and call of the device leaves a call of the keeper fewer.
 use Rattle.std.proofs.Common.{◌≡◌, ℕ, ◌+◌, ◌<◌, ◌≤◌, ◌∙◌, refl, sym, ap, arith, List, Bool, true, false}
-use Rattle.std.specs.Prelude.{if◌then◌else◌, Option, Some, None}
+use Rattle.std.specs.Prelude.{◌||◌, if◌then◌else◌, Option, Some, None}
 use Rattle.fkv_base.specs.declared.faults.Fault.TheVariants as fault
 use Rattle.fkv_base.specs.declared.phases.Phase.TheVariants as phase
 use Rattle.fkv_base.specs.declared.shapes.Shape.{Shape}
@@ -14,8 +14,8 @@ use Rattle.fkv_plane.specs.declared.places.Places.{Places}
 use Rattle.fkv_plane.specs.Passing.{is_done, passed}
 use Rattle.fkv_plane.proofs.Shown.{passed_done}
 use Rattle.fkv_epoch.specs.Claiming.{takes_action}
-use Rattle.fkv_checkpoint.specs.Copying.{Copier}
-use Rattle.fkv_checkpoint.proofs.Shown.{copy_fewer, copy_bounded}
+use Rattle.fkv_checkpoint.specs.Copying.{Copier, copy_begun}
+use Rattle.fkv_checkpoint.proofs.Shown.{part_bounded, part_fewer, rests_bounded}
 use Rattle.fkv_commit.specs.declared.commits.Commit.{Commit}
 use Rattle.fkv_commit.specs.declared.entering.EnterAnswer.{EnterAnswer}
 use Rattle.fkv_commit.specs.declared.entering.EnterAnswer.TheVariants as enter
@@ -48,8 +48,8 @@ use Rattle.fkv_keeper.specs.declared.keepers.Keeping.TheVariants.{Ended, Starts,
 use Rattle.fkv_maintain.specs.declared.maintaining.MaintainAnswer.{MaintainAnswer}
 use Rattle.fkv_maintain.specs.declared.maintaining.MaintainAnswer.TheVariants as maintain
 use Rattle.fkv_maintain.specs.AsksLeft.{maintain_asks_left}
-use Rattle.fkv_keeper.specs.KeeperAsks.{committing_calls_left, writes_left, copy_left, most_write_asks, most_part_asks, keeping_asks_left, keeper_asks_left, keeping_made, keeper_calls_asked}
-use Rattle.fkv_keeper.specs.Keeping.{KeeperState, device_passed, write_asked, turn_over, copy_asked, copy_driven, keeping_ask, keeper_ask, ended, start_ledto, maintain_ledto, copies, part_begun, phase_ledto, enter_ledto, copy_ledto, seek_ledto, writes_begun, wait_ledto, finished, finish_ledto, keeping_next, keeper_next, keeping_given, keeper_given, write_ledto, keeping_called, keeper_called, writes_of, checkpoint_used}
+use Rattle.fkv_keeper.specs.KeeperAsks.{committing_calls_left, writes_left, copy_left, most_copy_asks, most_write_asks, most_part_asks, keeping_asks_left, keeper_asks_left, keeping_made, keeper_calls_asked}
+use Rattle.fkv_keeper.specs.Keeping.{KeeperState, device_passed, write_asked, turn_over, is_copy_resting, copy_asked, copy_told, copy_driven, keeping_ask, keeper_ask, ended, start_ledto, maintain_ledto, copies, part_begun, phase_ledto, enter_ledto, copy_ledto, seek_ledto, writes_begun, wait_ledto, finished, finish_ledto, keeping_next, keeper_next, keeping_given, keeper_given, write_ledto, keeping_called, keeper_called, writes_of, checkpoint_used}
 use Rattle.fkv_maintain.specs.declared.maintaining.Maintaining.TheVariants.{Broken}
 use Rattle.fkv_maintain.specs.Maintaining.{MaintainState, maintaining_ask, maintain_ask, maintain_next, maintain_given, maintain_called}
 use Rattle.fkv_keeper.proofs.KeeperDevice.{keeper_asked_calls}
@@ -129,15 +129,15 @@ start_led shape p s old (Done start.Idle) at fewer = some_below (start_asks_left
 start_led shape p s old ask at fewer = inside_start shape p s old at fewer
 
 inside_maintain : (shape : Shape) (p : Places) (s : KeeperState) (old : ℕ) → s.step ≡ Maintains → maintain_asks_left shape s.maintain < old
-    → keeper_asks_left shape p s < old + (most_part_asks p s.seek.sessions s.finish.sessions + 1)
+    → keeper_asks_left shape p s < old + (most_part_asks s.seek.sessions s.finish.sessions + 1)
 unfolding keeping_asks_left
 inside_maintain shape p s old at fewer =
-    let behind = most_part_asks p s.seek.sessions s.finish.sessions + 1 in
+    let behind = most_part_asks s.seek.sessions s.finish.sessions + 1 in
     let most = sum_most (maintain_asks_left shape s.maintain) behind in
     rw at (omega (arith, most, fewer))
 
 maintain_led : (shape : Shape) (p : Places) (s : KeeperState) (old : ℕ) (ask : Ask MaintainAnswer) → s.step ≡ Maintains → maintain_asks_left shape s.maintain < old
-    → keeper_asks_left shape p (maintain_ledto s ask) < old + (most_part_asks p s.seek.sessions s.finish.sessions + 1)
+    → keeper_asks_left shape p (maintain_ledto s ask) < old + (most_part_asks s.seek.sessions s.finish.sessions + 1)
 unfolding maintain_ledto keeping_asks_left
 maintain_led shape p s old (Done maintain.Through) at fewer = omega (arith, fewer)
 maintain_led shape p s old (Done maintain.Spent) at fewer = omega arith
@@ -145,25 +145,36 @@ maintain_led shape p s old (Done maintain.Broken) at fewer = omega arith
 maintain_led shape p s old (Done maintain.Device) at fewer = inside_maintain shape p s old at fewer
 maintain_led shape p s old ask at fewer = inside_maintain shape p s old at fewer
 
-copies_led : (shape : Shape) (p : Places) (s : KeeperState) (granted : Bool) → keeper_asks_left shape p (copies p s granted) < most_part_asks p s.seek.sessions s.finish.sessions + 1
-unfolding keeping_asks_left
-copies_led shape p s true = let most = copy_bounded p in omega (arith, most)
-copies_led shape p s false = omega arith
+resting_left : (copy : Option Copier) → is_copy_resting copy ≡ true → copy_left copy ≤ most_copy_asks
+resting_left None rests = cc
+resting_left (Some m) rests = let few = rests_bounded m.places m.copying rests in omega (arith, few)
 
-enters_led : (shape : Shape) (p : Places) (s : KeeperState) (c : Commit) → keeper_asks_left shape p (record s { enter = enter_begun s.enter c.number; step = Enters }) < most_part_asks p s.seek.sessions s.finish.sessions + 1
+copies_led : (shape : Shape) (p : Places) (s : KeeperState) (granted : Bool) → keeper_asks_left shape p (copies p s granted) < most_part_asks s.seek.sessions s.finish.sessions + 1
+unfolding keeping_asks_left
+copies_led shape p s granted = by_rest (is_copy_resting s.copy) refl granted
+  where
+    by_rest : (rests : Bool) → is_copy_resting s.copy ≡ rests → (granted : Bool)
+        → keeper_asks_left shape p (if granted || rests then record s { copy = if rests then s.copy else Some (copy_begun p); is_granted = true; step = Copies } else ended (record s { is_granted = false }) (TurnRefused fault.Memory))
+        < most_part_asks s.seek.sessions s.finish.sessions + 1
+    by_rest true rests true = let most = resting_left s.copy rests in omega (arith, most)
+    by_rest true rests false = let most = resting_left s.copy rests in omega (arith, most)
+    by_rest false none true = let most = part_bounded p in omega (arith, most)
+    by_rest false none false = omega arith
+
+enters_led : (shape : Shape) (p : Places) (s : KeeperState) (c : Commit) → keeper_asks_left shape p (record s { enter = enter_begun s.enter c.number; step = Enters }) < most_part_asks s.seek.sessions s.finish.sessions + 1
 unfolding keeping_asks_left
 enters_led shape p s c = let most = enter_begun_left s.enter c.number in omega (arith, most)
 
-seeks_led : (shape : Shape) (p : Places) (s : KeeperState) (c : Commit) → keeper_asks_left shape p (record s { seek = seek_begun s.seek c.number s.last.points; has_points = false; step = Seeks }) < most_part_asks p s.seek.sessions s.finish.sessions + 1
+seeks_led : (shape : Shape) (p : Places) (s : KeeperState) (c : Commit) → keeper_asks_left shape p (record s { seek = seek_begun s.seek c.number s.last.points; has_points = false; step = Seeks }) < most_part_asks s.seek.sessions s.finish.sessions + 1
 unfolding keeping_asks_left
 seeks_led shape p s c = let most = seek_begun_left s.seek c.number s.last.points in omega (arith, most)
 
-waits_led : (shape : Shape) (p : Places) (s : KeeperState) (c : Commit) → keeper_asks_left shape p (record s { wait = wait_begun c.end c.epoch; step = Waits }) < most_part_asks p s.seek.sessions s.finish.sessions + 1
+waits_led : (shape : Shape) (p : Places) (s : KeeperState) (c : Commit) → keeper_asks_left shape p (record s { wait = wait_begun c.end c.epoch; step = Waits }) < most_part_asks s.seek.sessions s.finish.sessions + 1
 unfolding keeping_asks_left waiting_asks_left
 waits_led shape p s c = let most = sum_most 2 (most_write_asks s.finish.sessions) in omega (arith, most)
 
 part_led : (shape : Shape) (p : Places) (s : KeeperState) (c : Commit) (said : PhaseSaid) (granted : Bool)
-    → keeper_asks_left shape p (part_begun p s c said granted) < most_part_asks p s.seek.sessions s.finish.sessions + 1
+    → keeper_asks_left shape p (part_begun p s c said granted) < most_part_asks s.seek.sessions s.finish.sessions + 1
 part_led shape p s c (Says phase.InProgress version) granted =
     either shape p s.has_entered _ _ _
     (either shape p c.is_copied _ _ _ (over shape p s (turn_over s) _ (omega arith)) (copies_led shape p s granted))
@@ -173,7 +184,7 @@ part_led shape p s c (Says phase.WaitFlush version) granted = either shape p s.h
 part_led shape p s c said granted = over shape p s (turn_over s) _ (omega arith)
 
 phase_led : (shape : Shape) (p : Places) (s : KeeperState) (commit : Option Commit) (said : PhaseSaid) (granted : Bool)
-    → keeper_asks_left shape p (phase_ledto p s commit said granted) < most_part_asks p s.seek.sessions s.finish.sessions + 1
+    → keeper_asks_left shape p (phase_ledto p s commit said granted) < most_part_asks s.seek.sessions s.finish.sessions + 1
 unfolding phase_ledto
 phase_led shape p s None said granted = over shape p s (turn_over s) _ (omega arith)
 phase_led shape p s (Some c) said granted = part_led shape p s c said granted
@@ -190,18 +201,26 @@ enter_led shape p s old (Done enter.EpochsSpent) at fewer = some_below (enter_as
 enter_led shape p s old (Done enter.Idle) at fewer = some_below (enter_asks_left s.enter) old fewer
 enter_led shape p s old ask at fewer = inside_enter shape p s old at fewer
 
+-- a copy that asks for more in this turn doesn't rest
+told_goes_on : (copy : Option Copier) (ask : Ask (Unit {0})) → copy_told copy ≡ ask → is_done ask ≡ false → is_copy_resting copy ≡ false
+told_goes_on copy ask same asks = by_rest (is_copy_resting copy) same
+  where
+    by_rest : (rests : Bool) → (if rests then Done tt else copy_asked copy) ≡ ask → rests ≡ false
+    by_rest true over = let wrong : true ≡ false = ap is_done over ∙ asks in cc
+    by_rest false goes = refl
+
 inside_copy : (shape : Shape) (p : Places) (s : KeeperState) (old : ℕ) → s.step ≡ Copies → copy_left s.copy < old → keeper_asks_left shape p s < old
 unfolding keeping_asks_left
 inside_copy shape p s old at fewer = rw at fewer
 
-copy_led : (shape : Shape) (p : Places) (s : KeeperState) (old : ℕ) (ask : Ask (Unit {0})) → s.step ≡ Copies → copy_left s.copy < old → keeper_asks_left shape p (copy_ledto s ask) < old
+copy_led : (shape : Shape) (p : Places) (s : KeeperState) (old : ℕ) (ask : Ask (Unit {0})) → s.step ≡ Copies → copy_told s.copy ≡ ask → 0 < old → (is_copy_resting s.copy ≡ false → copy_left s.copy < old) → keeper_asks_left shape p (copy_ledto s ask) < old
 unfolding copy_ledto keeping_asks_left
-copy_led shape p s old (Done its) at fewer = some_below (copy_left s.copy) old fewer
-copy_led shape p s old ask at fewer = inside_copy shape p s old at fewer
+copy_led shape p s old (Done its) at told some fewer = some
+copy_led shape p s old ask at told some fewer = inside_copy shape p s old at (fewer (told_goes_on s.copy ask told refl))
 
-copy_falls : (copy : Option Copier) (reply : ℕ) → 0 < copy_left copy → copy_left (copy_driven copy reply) < copy_left copy
-copy_falls None reply some = some
-copy_falls (Some m) reply some = let fewer = copy_fewer m.places m.copying reply in omega (arith, fewer, some)
+copy_falls : (copy : Option Copier) (reply : ℕ) → 0 < copy_left copy → is_copy_resting (copy_driven copy reply) ≡ false → copy_left (copy_driven copy reply) < copy_left copy
+copy_falls None reply some goes = some
+copy_falls (Some m) reply some goes = let fewer = part_fewer m.places m.copying reply goes in omega (arith, fewer, some)
 
 inside_seek : (shape : Shape) (p : Places) (s : KeeperState) (old : ℕ) → s.step ≡ Seeks → seek_asks_left s.seek < old → keeper_asks_left shape p s < old
 unfolding keeping_asks_left
@@ -284,7 +303,7 @@ keeping_fewer shape p s Maintains reply granted at asks takes =
     let next = maintain_next shape p s.maintain reply in
     let inside : is_done ask ≡ false = sym (device_done ask (turn_over s)) ∙ asks in
     let fewer = maintain_fewer shape p s.maintain reply inside (sym (device_takes ask (turn_over s)) ∙ takes) in
-    let whole = sum_whole (maintain_asks_left shape s.maintain) (most_part_asks p s.seek.sessions s.finish.sessions + 1) (some_below (maintain_asks_left shape next) (maintain_asks_left shape s.maintain) fewer) in
+    let whole = sum_whole (maintain_asks_left shape s.maintain) (most_part_asks s.seek.sessions s.finish.sessions + 1) (some_below (maintain_asks_left shape next) (maintain_asks_left shape s.maintain) fewer) in
     let led = maintain_led shape p (record s { maintain = next }) (maintain_asks_left shape s.maintain) (maintain_ask shape p next) at fewer in
     omega (arith, whole, led)
 keeping_fewer shape p s LoadsPhase reply granted at asks takes = phase_led shape p s s.commit (phase_said reply) granted
@@ -294,8 +313,8 @@ keeping_fewer shape p s Enters reply granted at asks takes =
     enter_led shape p (record s { enter = enter_next s.enter reply }) (enter_asks_left s.enter) (enter_ask (enter_next s.enter reply)) at fewer
 keeping_fewer shape p s Copies reply granted at asks takes =
     let inside : is_done (copy_asked s.copy) ≡ false = sym (passed_done (copy_asked s.copy) (turn_over s)) ∙ asks in
-    let fewer = copy_falls s.copy reply ((copy_where s.copy).0 inside) in
-    copy_led shape p (record s { copy = copy_driven s.copy reply }) (copy_left s.copy) (copy_asked (copy_driven s.copy reply)) at fewer
+    let some = (copy_where s.copy).0 inside in
+    copy_led shape p (record s { copy = copy_driven s.copy reply }) (copy_left s.copy) (copy_told (copy_driven s.copy reply)) at refl some (copy_falls s.copy reply some)
 keeping_fewer shape p s Seeks reply granted at asks takes =
     let inside : is_done (seek_ask s.seek) ≡ false = sym (passed_done (seek_ask s.seek) (turn_over s)) ∙ asks in
     let fewer = seek_fewer s.seek reply ((seek_left s.seek).0 inside) in
@@ -328,7 +347,7 @@ keeping_given_fewer shape p s Maintains action at takes =
     let ask = maintain_ask shape p s.maintain in
     let next = maintain_given s.maintain action in
     let fewer = maintain_given_fewer shape p s.maintain action (sym (device_takes ask (turn_over s)) ∙ takes) in
-    let whole = sum_whole (maintain_asks_left shape s.maintain) (most_part_asks p s.seek.sessions s.finish.sessions + 1) (some_below (maintain_asks_left shape next) (maintain_asks_left shape s.maintain) fewer) in
+    let whole = sum_whole (maintain_asks_left shape s.maintain) (most_part_asks s.seek.sessions s.finish.sessions + 1) (some_below (maintain_asks_left shape next) (maintain_asks_left shape s.maintain) fewer) in
     let led = maintain_led shape p (record s { maintain = next }) (maintain_asks_left shape s.maintain) (maintain_ask shape p next) at fewer in
     omega (arith, whole, led)
 keeping_given_fewer shape p s LoadsPhase action at takes = nor takes
@@ -397,7 +416,7 @@ keeping_called_fewer shape p s Maintains done bytes at asks one =
     let ask = maintain_ask shape p s.maintain in
     let next = maintain_called shape p s.maintain done bytes in
     let fewer = maintain_called_fewer shape p s.maintain done bytes (turn_asks_device ask s.is_drain_full asks) in
-    let whole = sum_whole (maintain_asks_left shape s.maintain) (most_part_asks p s.seek.sessions s.finish.sessions + 1) (some_below (maintain_asks_left shape next) (maintain_asks_left shape s.maintain) fewer) in
+    let whole = sum_whole (maintain_asks_left shape s.maintain) (most_part_asks s.seek.sessions s.finish.sessions + 1) (some_below (maintain_asks_left shape next) (maintain_asks_left shape s.maintain) fewer) in
     let led = maintain_led shape p (record s { maintain = next }) (maintain_asks_left shape s.maintain) (maintain_ask shape p next) at fewer in
     omega (arith, whole, led)
 keeping_called_fewer shape p s Writes true bytes at asks one =

@@ -10,7 +10,7 @@ use Rattle.fkv_plane.specs.Passing.{passed}
 use Rattle.fkv_checkpoint.specs.declared.copying.CopyStep.{CopyStep}
 use Rattle.fkv_checkpoint.specs.declared.copying.CopyStep.TheVariants as copying
 use Rattle.fkv_checkpoint.specs.declared.copying.Copying.{Copying}
-use Rattle.fkv_checkpoint.specs.Copying.{Copier, copy_step_ask, step_asks_left}
+use Rattle.fkv_checkpoint.specs.Copying.{Copier, copy_step_ask, step_part_left}
 use Rattle.fkv_plane.specs.AsksLeft.{AsksWhereLeft, sum_left}
 use Rattle.fkv_commit.specs.AsksLeft.{start_asks_left, enter_asks_left, seek_asks_left, wait_asks_left, finish_asks_left}
 use Rattle.fkv_commit.specs.Entering.{enter_ask}
@@ -87,8 +87,8 @@ end_idle (TurnRefused why) full = (nor, none)
 end_idle (Begun number) full = (nor, none)
 end_idle (CommitRefused why) full = (nor, none)
 
-copy_step_left : (p : Places) (c : Copying) (step : CopyStep) → AsksWhereLeft (step_asks_left p c step) (copy_step_ask c.base step)
-unfolding step_asks_left copy_step_ask
+copy_step_left : (p : Places) (c : Copying) (step : CopyStep) → AsksWhereLeft (step_part_left p c step) (copy_step_ask c.base step)
+unfolding step_part_left copy_step_ask
 copy_step_left p c copying.Ended = (never, none)
 copy_step_left p c (copying.LoadsSlot slot) = (λ asks. omega arith, λ some. refl)
 copy_step_left p c copying.LoadsLink = (λ asks. omega arith, λ some. refl)
@@ -123,7 +123,7 @@ unfolding keeping_ask keeping_asks_left
 keeping_left shape p s (Ended its) = end_idle its s.is_drain_full
 keeping_left shape p s Starts = passed_busy (start_ask s.start) (CommitRefused fault.CommitRunning) (start_asks_left s.start) refl (start_left s.start)
 keeping_left shape p s Maintains =
-    let behind = most_part_asks p s.seek.sessions s.finish.sessions + 1 in
+    let behind = most_part_asks s.seek.sessions s.finish.sessions + 1 in
     let left = maintain_asks_left shape s.maintain in
     let ask = maintain_ask shape p s.maintain in
     sum_where (device_passed ask (turn_over s)) left behind (device_busy ask s.is_drain_full left (maintain_left shape p s.maintain))

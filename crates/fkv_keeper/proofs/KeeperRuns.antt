@@ -22,9 +22,10 @@ use Rattle.fkv_maintain.specs.declared.maintaining.Maintaining.TheVariants as pa
 use Rattle.fkv_maintain.specs.declared.maintaining.MaintainAnswer.{MaintainAnswer}
 use Rattle.fkv_maintain.specs.declared.maintaining.MaintainAnswer.TheVariants as maintain
 use Rattle.fkv_maintain.specs.Maintaining.{MaintainState, maintain_next, maintain_given, maintain_ask, maintaining_ask, maintain_called, maintaining_called, maintaining_made}
+use Rattle.fkv_checkpoint.specs.Copying.{copy_begun}
 use Rattle.fkv_commit.specs.declared.commits.Commit.{Commit}
 use Rattle.fkv_commit.specs.Seeking.{seek_begun}
-use Rattle.fkv_keeper.specs.Keeping.{KeeperState, copies, part_begun, phase_ledto, keeper_ask, keeping_ask, commit_asked, turn_asked, maintain_ledto, keeping_next, keeping_given, keeping_called}
+use Rattle.fkv_keeper.specs.Keeping.{KeeperState, is_copy_resting, ended, copies, part_begun, phase_ledto, keeper_ask, keeping_ask, commit_asked, turn_asked, maintain_ledto, keeping_next, keeping_given, keeping_called}
 use Rattle.fkv_keeper.specs.KeeperRun.{KeeperEvent, BeginsTurn, BeginsCommit, Replies, Gets, Calls, is_in_hand, begins, keeper_happens, keeper_run, IsOpened, is_failure, has_failed, Writing, writing_after, writing, is_calling, open_after, open_told, number_open}
 use Rattle.fkv_keeper.specs.KeeperAsks.{keeping_made, keeper_made, keeper_calls_asked}
 use Rattle.fkv_keeper.specs.KeeperLaws.{CopiesAgain, IsBeforePhase, IsBrokenForGood, IsWritten, IsMemoryRefused, number_in_hand, IsFinishOfBegun}
@@ -291,20 +292,35 @@ turn_commit shape p s Maintains (Gets action) before = maintain_commit _ (mainta
 turn_commit shape p s Maintains (Calls done bytes) before = maintain_commit _ (maintain_ask shape p (maintain_called shape p s.maintain done bytes))
 turn_commit shape p s step event before = absurd before
 
-copies_either : (b : Bool) (p : Places) (s other : KeeperState) → b ≡ false → (if b then other else copies p s true) ≡ copies p s true
-copies_either true p s other e = cc
-copies_either false p s other e = refl
+copies_either : (b : Bool) (p : Places) (s other : KeeperState) (granted : Bool) → b ≡ false → (if b then other else copies p s granted) ≡ copies p s granted
+copies_either true p s other granted e = cc
+copies_either false p s other granted e = refl
 
-copies_found : (p : Places) (s : KeeperState) (found : Option Commit) (c : Commit) (said : PhaseSaid) (version : Version) → found ≡ Some c → c.is_copied ≡ false → said ≡ Says phase.WaitPending version → phase_ledto p s found said true ≡ copies p s true
+copies_found : (p : Places) (s : KeeperState) (found : Option Commit) (c : Commit) (said : PhaseSaid) (version : Version) (granted : Bool) → found ≡ Some c → c.is_copied ≡ false → said ≡ Says phase.WaitPending version
+    → phase_ledto p s found said granted ≡ copies p s granted
 unfolding phase_ledto
-copies_found p s None c said version e not_copied says = cc
-copies_found p s (Some its) c said version e not_copied says =
+copies_found p s None c said version granted e not_copied says = cc
+copies_found p s (Some its) c said version granted e not_copied says =
     let same : its ≡ c = cc in
-    ap (λ (x : PhaseSaid). part_begun p s its x true) says ∙ copies_either its.is_copied p s (record s { seek = seek_begun s.seek its.number s.last.points; has_points = false; step = Seeks }) (ap (λ (x : Commit). x.is_copied) same ∙ not_copied)
+    ap (λ (x : PhaseSaid). part_begun p s its x granted) says
+    ∙ copies_either its.is_copied p s (record s { seek = seek_begun s.seek its.number s.last.points; has_points = false; step = Seeks }) granted (ap (λ (x : Commit). x.is_copied) same ∙ not_copied)
+
+copies_anew : (p : Places) (s : KeeperState) (rests : Bool) → is_copy_resting s.copy ≡ rests → rests ≡ false → copies p s true ≡ record s { copy = Some (copy_begun p); is_granted = true; step = Copies }
+copies_anew p s rests is none = ap (λ (x : Bool). record s { copy = if x then s.copy else Some (copy_begun p); is_granted = true; step = Copies }) (is ∙ none)
+
+copies_on : (p : Places) (s : KeeperState) (granted : Bool) → is_copy_resting s.copy ≡ true → copies p s granted ≡ record s { is_granted = true; step = Copies }
+copies_on p s granted rests = ap (λ (x : Bool). if granted || x then record s { copy = if x then s.copy else Some (copy_begun p); is_granted = true; step = Copies } else ended (record s { is_granted = false }) (TurnRefused fault.Memory)) rests ∙ either_way granted
+  where
+    either_way : (b : Bool) → (if b || true then record s { is_granted = true; step = Copies } else ended (record s { is_granted = false }) (TurnRefused fault.Memory)) ≡ record s { is_granted = true; step = Copies }
+    either_way true = refl
+    either_way false = refl
 
 pub copy_again : (shape : Shape) (p : Places) (s : KeeperState) → CopiesAgain shape p s
 unfolding keeper_happens keeping_next
 copy_again shape p s = record {
   kept = λ event before. ap (λ (x : KeeperState). x.commit) (sym (happens_so shape p s event)) ∙ turn_commit shape p s s.step event before;
-  begins = λ c reply version e in_hand not_copied says. ap (λ (x : Keeping). keeping_next shape p s x reply true) e ∙ copies_found p s s.commit c (phase_said reply) version in_hand not_copied says;
+  begins = λ c reply version e in_hand not_copied says none.
+      ap (λ (x : Keeping). keeping_next shape p s x reply true) e ∙ (copies_found p s s.commit c (phase_said reply) version true in_hand not_copied says ∙ copies_anew p s (is_copy_resting s.copy) refl none);
+  taken_up = λ c reply version granted e in_hand not_copied says rests.
+      ap (λ (x : Keeping). keeping_next shape p s x reply granted) e ∙ (copies_found p s s.commit c (phase_said reply) version granted in_hand not_copied says ∙ copies_on p s granted rests);
 }

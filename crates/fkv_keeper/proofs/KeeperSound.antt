@@ -1,6 +1,6 @@
 -- What holds of a keeper at every moment of a run.
 use Rattle.std.proofs.Common.{◌≡◌, ℕ, ◌∙◌, List, [], ◌∷◌, refl, ap, sym, subst, Bool, true, false}
-use Rattle.std.specs.Prelude.{Option, Some, None, if◌then◌else◌, length, ⊤}
+use Rattle.std.specs.Prelude.{◌||◌, Option, Some, None, if◌then◌else◌, length, ⊤}
 use Rattle.fkv_base.specs.declared.faults.Fault.TheVariants as fault
 use Rattle.fkv_base.specs.declared.numbers.Addr.{Addr}
 use Rattle.fkv_base.specs.declared.numbers.Version.{Version}
@@ -40,7 +40,7 @@ use Rattle.fkv_keeper.specs.declared.keepers.Keeping.TheVariants.{Ended, Starts,
 use Rattle.fkv_maintain.specs.declared.maintaining.MaintainAnswer.{MaintainAnswer}
 use Rattle.fkv_maintain.specs.declared.maintaining.MaintainAnswer.TheVariants as maintain
 use Rattle.fkv_maintain.specs.Maintaining.{maintain_begun, maintain_ask, maintain_next, maintain_given, maintain_called}
-use Rattle.fkv_keeper.specs.Keeping.{KeeperState, copy_asked, copy_driven, copied, points_known, ended, turned, start_ledto, maintain_ledto, copies, part_begun, phase_ledto, enter_ledto, copy_ledto, seek_ledto, writes_begun, wait_ledto, finished, finish_ledto, keeping_next, keeping_given, write_ledto, writes_called, keeping_called}
+use Rattle.fkv_keeper.specs.Keeping.{KeeperState, is_copy_resting, copy_taken, copy_driven, copy_told, copied, points_known, ended, turned, start_ledto, maintain_ledto, copies, part_begun, phase_ledto, enter_ledto, copy_ledto, seek_ledto, writes_begun, wait_ledto, finished, finish_ledto, keeping_next, keeping_given, write_ledto, writes_called, keeping_called}
 use Rattle.fkv_keeper.specs.KeeperRun.{Replies, Gets, Calls, Writing, writing_after, open_after}
 use Rattle.fkv_keeper.specs.KeeperLaws.{IsRefusal, AreWritesOfCommit, IsWritten, IsMemoryRefused, number_in_hand, IsFinishOfBegun}
 
@@ -114,8 +114,14 @@ maintain_step shape w s t ask e works same = going shape w s t Maintains tt e wo
 
 -- what the phase calls for
 copies_step : (shape : Shape) (p : Places) (w : Writing) (s : KeeperState) (c : Commit) (granted : Bool) → s.is_broken ≡ false → s.commit ≡ Some c → c.is_copied ≡ false → IsStep shape w s (copies p s granted)
-copies_step shape p w s c true works in_hand not_copied = going shape w s _ Copies tt refl works refl works
-copies_step shape p w s c false works in_hand not_copied = record { broken = λ broken. tt; knows = tt; number = refl; memory = λ ends. record { commit = c; in_hand = in_hand; not_copied = not_copied; same = refl }; told = λ full ends. cc }
+copies_step shape p w s c granted works in_hand not_copied = by_rest (is_copy_resting s.copy) refl granted
+  where
+    by_rest : (rests : Bool) → is_copy_resting s.copy ≡ rests → (granted : Bool)
+        → IsStep shape w s (if granted || rests then record s { copy = copy_taken p s.copy; is_granted = true; step = Copies } else ended (record s { is_granted = false }) (TurnRefused fault.Memory))
+    by_rest true rests true = going shape w s _ Copies tt refl works refl works
+    by_rest true rests false = going shape w s _ Copies tt refl works refl works
+    by_rest false none true = going shape w s _ Copies tt refl works refl works
+    by_rest false none false = record { broken = λ broken. tt; knows = tt; number = refl; memory = λ ends. record { commit = c; in_hand = in_hand; not_copied = not_copied; none_rests = none; same = refl }; told = λ full ends. cc }
 
 else_step : (shape : Shape) (p : Places) (w : Writing) (s : KeeperState) (c : Commit) (granted : Bool) (other : KeeperState) (is_copied : Bool) → c.is_copied ≡ is_copied → s.is_broken ≡ false → s.commit ≡ Some c → IsStep shape w s other → IsStep shape w s (if is_copied then other else copies p s granted)
 else_step shape p w s c granted other true e works in_hand its = its
@@ -149,13 +155,13 @@ enter_step shape w s t (Done enter.EpochsSpent) e works same = record { broken =
 enter_step shape w s t (Done enter.Idle) e works same = turns shape w s t t.is_drain_full works (ap number_in_hand same)
 enter_step shape w s t ask e works same = going shape w s t Enters tt e works (ap number_in_hand same) works
 
-copied_number : (found : Option Commit) → number_in_hand (copied found) ≡ number_in_hand found
-copied_number None = refl
-copied_number (Some c) = refl
+copied_number : (rests : Bool) (found : Option Commit) → number_in_hand (copied rests found) ≡ number_in_hand found
+copied_number rests None = refl
+copied_number rests (Some c) = refl
 
 copy_step : (shape : Shape) (w : Writing) (s t : KeeperState) (ask : Ask (Unit {0})) → t.step ≡ Copies → t.is_broken ≡ false → t.commit ≡ s.commit → IsStep shape w s (copy_ledto t ask)
 unfolding copy_ledto
-copy_step shape w s t (Done its) e works same = turns shape w s (record t { commit = copied t.commit }) t.is_drain_full works (copied_number t.commit ∙ ap number_in_hand same)
+copy_step shape w s t (Done its) e works same = turns shape w s (record t { commit = copied (is_copy_resting t.copy) t.commit }) t.is_drain_full works (copied_number (is_copy_resting t.copy) t.commit ∙ ap number_in_hand same)
 copy_step shape w s t ask e works same = going shape w s t Copies tt e works (ap number_in_hand same) works
 
 known_number : (found : Option Commit) (end : Addr) (epoch : ℕ) → number_in_hand (points_known found end epoch) ≡ number_in_hand found
@@ -272,7 +278,7 @@ reply_step shape p w s Starts reply granted goes e known = start_step shape w s 
 reply_step shape p w s Maintains reply granted goes e known = maintain_step shape w s _ (maintain_ask shape p (maintain_next shape p s.maintain reply)) e known refl
 reply_step shape p w s LoadsPhase reply granted goes e known = phase_step shape p w s s.commit (phase_said reply) granted known refl
 reply_step shape p w s Enters reply granted goes e known = enter_step shape w s _ (enter_ask (enter_next s.enter reply)) e known refl
-reply_step shape p w s Copies reply granted goes e known = copy_step shape w s _ (copy_asked (copy_driven s.copy reply)) e known refl
+reply_step shape p w s Copies reply granted goes e known = copy_step shape w s _ (copy_told (copy_driven s.copy reply)) e known refl
 reply_step shape p w s Seeks reply granted goes e known = seek_step shape w s _ (seek_ask (seek_next s.seek reply)) e known refl
 reply_step shape p w s Waits reply granted goes e known =
     let t = record s { wait = wait_next s.wait reply } in

@@ -1,6 +1,6 @@
 -- What one event begins, and what is known of the commit in hand after it.
 use Rattle.std.proofs.Common.{◌≡◌, ℕ, ◌∙◌, inl, inr, List, refl, ap, sym, subst, Bool, true, false}
-use Rattle.std.specs.Prelude.{Option, Some, None, if◌then◌else◌}
+use Rattle.std.specs.Prelude.{not, ◌||◌, Option, Some, None, if◌then◌else◌}
 use Rattle.fkv_base.specs.declared.phases.Phase.TheVariants as phase
 use Rattle.fkv_base.specs.declared.shapes.Shape.{Shape}
 use Rattle.fkv_words.specs.declared.phase_words.PhaseSaid.{PhaseSaid}
@@ -35,7 +35,7 @@ use Rattle.fkv_maintain.specs.Maintaining.{maintain_ask, maintain_next, maintain
 use Rattle.fkv_keeper.specs.declared.answers.KeeperTold.{KeeperTold}
 use Rattle.fkv_keeper.specs.declared.keepers.Keeping.{Keeping}
 use Rattle.fkv_keeper.specs.declared.keepers.Keeping.TheVariants.{Ended, Starts, Maintains, LoadsPhase, Enters, Copies, Seeks, Waits, Writes, Finishes}
-use Rattle.fkv_keeper.specs.Keeping.{KeeperState, copy_asked, copy_driven, copied, points_known, ended, turned, turn_asked, commit_asked, start_ledto, maintain_ledto, copies, part_begun, phase_ledto, enter_ledto, copy_ledto, seek_ledto, writes_begun, wait_ledto, finished, finish_ledto, keeping_next, keeping_given, write_ledto, writes_called, keeping_called}
+use Rattle.fkv_keeper.specs.Keeping.{KeeperState, is_copy_resting, copy_driven, copy_told, copied, points_known, ended, turned, turn_asked, commit_asked, start_ledto, maintain_ledto, copies, part_begun, phase_ledto, enter_ledto, copy_ledto, seek_ledto, writes_begun, wait_ledto, finished, finish_ledto, keeping_next, keeping_given, write_ledto, writes_called, keeping_called}
 use Rattle.fkv_keeper.specs.KeeperRun.{KeeperEvent, BeginsTurn, BeginsCommit, Replies, Gets, Calls, keeper_happens}
 use Rattle.fkv_keeper.specs.PartLaws.{IsPartBegun, end_of, entered_after, taken_after, end_after, seek_after, KnowsParts}
 use Rattle.fkv_keeper.proofs.KeeperRuns.{happens_at, happens_so}
@@ -107,8 +107,10 @@ either true event step s a o one other = one refl
 either false event step s a o one other = other refl
 
 copies_part : (p : Places) (s : KeeperState) (reply : ℕ) (granted : Bool) → IsPart (Replies reply granted) LoadsPhase s (copies p s granted)
-copies_part p s reply true = record { begins = tt; knows = record { entered = refl; taken = λ other. refl; end = λ was is before after. same_end s s refl was is before after; seek = λ other. refl } }
-copies_part p s reply false = ends (Replies reply false) LoadsPhase s (record s { is_granted = false }) _ (record { entered = refl; taken = refl; end = λ was is before after. same_end s s refl was is before after; seek = refl })
+copies_part p s reply granted =
+    either (granted || is_copy_resting s.copy) (Replies reply granted) LoadsPhase s _ _
+    (λ goes. record { begins = tt; knows = record { entered = refl; taken = λ other. refl; end = λ was is before after. same_end s s refl was is before after; seek = λ other. refl } })
+    (λ not. ends (Replies reply granted) LoadsPhase s (record s { is_granted = false }) _ (record { entered = refl; taken = refl; end = λ was is before after. same_end s s refl was is before after; seek = refl }))
 
 over : (s : KeeperState) (reply : ℕ) (granted : Bool) → IsPart (Replies reply granted) LoadsPhase s (turned s)
 over s reply granted = ends (Replies reply granted) LoadsPhase s s _ (record { entered = refl; taken = refl; end = same_end s s refl; seek = refl })
@@ -154,15 +156,15 @@ enter_part s reply granted t (Done enter.Idle) e still asks commit entered point
 enter_part s reply granted t ask e still asks commit entered points seek = remains (Replies reply granted) Enters s t e still (record { entered = rw asks entered; taken = points; end = same_end s t commit; seek = seek })
 
 -- a commit that has become copied has the same end
-copied_end : (s : KeeperState) (found : Option Commit) → found ≡ s.commit → (was is : Commit) → s.commit ≡ Some was → copied found ≡ Some is → end_of is ≡ end_of was
-copied_end s None same was is before after = cc
-copied_end s (Some c) same was is before after = ap end_of (sym (some_same (record c { is_copied = true }) is after)) ∙ ap end_of (some_same c was (same ∙ before))
+copied_end : (s : KeeperState) (rests : Bool) (found : Option Commit) → found ≡ s.commit → (was is : Commit) → s.commit ≡ Some was → copied rests found ≡ Some is → end_of is ≡ end_of was
+copied_end s rests None same was is before after = cc
+copied_end s rests (Some c) same was is before after = ap end_of (sym (some_same (record c { is_copied = c.is_copied || not rests }) is after)) ∙ ap end_of (some_same c was (same ∙ before))
 
 copy_part : (s : KeeperState) (reply : ℕ) (granted : Bool) (t : KeeperState) (ask : Ask (Unit {0})) → s.step ≡ Copies → t.step ≡ Copies → t.commit ≡ s.commit → t.has_entered ≡ s.has_entered → t.has_points ≡ s.has_points → t.seek ≡ s.seek
     → IsPart (Replies reply granted) Copies s (copy_ledto t ask)
 unfolding copy_ledto
 copy_part s reply granted t (Done its) e still commit entered points seek =
-    ends (Replies reply granted) Copies s (record t { commit = copied t.commit }) _ (record { entered = entered; taken = points; end = copied_end s t.commit commit; seek = seek })
+    ends (Replies reply granted) Copies s (record t { commit = copied (is_copy_resting t.copy) t.commit }) _ (record { entered = entered; taken = points; end = copied_end s (is_copy_resting t.copy) t.commit commit; seek = seek })
 copy_part s reply granted t ask e still commit entered points seek = remains (Replies reply granted) Copies s t e still (record { entered = entered; taken = points; end = same_end s t commit; seek = seek })
 
 -- one of which the points are taken has the end that was told
@@ -239,7 +241,7 @@ reply_part shape p s Maintains reply granted e =
     maintain_part (Replies reply granted) s _ (maintain_ask shape p (maintain_next shape p s.maintain reply)) e e (record { entered = refl; taken = refl; end = λ was is before after. same_end s s refl was is before after; seek = refl })
 reply_part shape p s LoadsPhase reply granted e = phase_part p s s.commit reply granted e refl
 reply_part shape p s Enters reply granted e = enter_part s reply granted (record s { enter = enter_next s.enter reply }) (enter_ask (enter_next s.enter reply)) e e refl refl refl refl refl
-reply_part shape p s Copies reply granted e = copy_part s reply granted (record s { copy = copy_driven s.copy reply }) (copy_asked (copy_driven s.copy reply)) e e refl refl refl refl
+reply_part shape p s Copies reply granted e = copy_part s reply granted (record s { copy = copy_driven s.copy reply }) (copy_told (copy_driven s.copy reply)) e e refl refl refl refl
 reply_part shape p s Seeks reply granted e = seek_part s reply granted (record s { seek = seek_next s.seek reply }) (seek_ask (seek_next s.seek reply)) e e refl refl refl refl refl
 reply_part shape p s Waits reply granted e =
     wait_part shape s reply granted (record s { wait = wait_next s.wait reply }) (wait_ask (wait_next s.wait reply)) e e refl (record { entered = refl; taken = refl; end = λ was is before after. same_end s s refl was is before after; seek = refl })

@@ -1,6 +1,6 @@
 -- A turn tells a finished commit just where it has finished the one in hand; else that one and the newest finished commit stay.
 use Rattle.std.proofs.Common.{inl, inr, ◌≡◌, ℕ, ◌∙◌, refl, sym, ap, List, Bool, true, false}
-use Rattle.std.specs.Prelude.{◌⊎◌, if◌then◌else◌, Option, Some, None, Result}
+use Rattle.std.specs.Prelude.{◌⊎◌, ◌||◌, if◌then◌else◌, Option, Some, None, Result}
 use Rattle.fkv_base.specs.declared.faults.Fault.{Fault}
 use Rattle.fkv_base.specs.declared.numbers.Addr.{Addr}
 use Rattle.fkv_keeper.specs.declared.answers.Turn.{Turn}
@@ -37,7 +37,7 @@ use Rattle.fkv_keeper.specs.declared.keepers.Keeping.{Keeping}
 use Rattle.fkv_keeper.specs.declared.keepers.Keeping.TheVariants.{Ended, Starts, Maintains, LoadsPhase, Enters, Copies, Seeks, Waits, Writes, Finishes}
 use Rattle.fkv_maintain.specs.declared.maintaining.MaintainAnswer.{MaintainAnswer}
 use Rattle.fkv_maintain.specs.declared.maintaining.MaintainAnswer.TheVariants as maintain
-use Rattle.fkv_keeper.specs.Keeping.{KeeperState, device_passed, write_asked, copy_asked, copy_driven, keeping_ask, keeper_ask, ended, maintain_ledto, copies, part_begun, phase_ledto, enter_ledto, copy_ledto, seek_ledto, writes_begun, wait_ledto, finished, finish_ledto, keeping_next, keeper_next, keeping_given, keeper_given, write_ledto, copied, points_known, turn_asked, Finality, keeping_called, keeper_called}
+use Rattle.fkv_keeper.specs.Keeping.{KeeperState, device_passed, write_asked, is_copy_resting, copy_asked, copy_driven, keeping_ask, keeper_ask, ended, maintain_ledto, copies, part_begun, phase_ledto, enter_ledto, copy_ledto, seek_ledto, writes_begun, wait_ledto, finished, finish_ledto, keeping_next, keeper_next, keeping_given, keeper_given, write_ledto, copied, points_known, turn_asked, Finality, keeping_called, keeper_called}
 use Rattle.fkv_maintain.specs.Maintaining.{maintain_begun, maintain_ask, maintain_next, maintain_given, maintain_called}
 use Rattle.fkv_keeper.proofs.KeeperLeft.{never, nor}
 
@@ -70,8 +70,7 @@ maintain_led before s (Done maintain.Device) at kept = rw at kept
 maintain_led before s ask at kept = rw at kept
 
 copies_led : (before s : KeeperState) (p : Places) (granted : Bool) → IsCommitKept before s → TurnRuns before (copies p s granted) (copies p s granted).step
-copies_led before s p true kept = kept
-copies_led before s p false kept = kept
+copies_led before s p granted kept = either before (granted || is_copy_resting s.copy) _ _ kept kept
 
 part_led : (before s : KeeperState) (p : Places) (c : Commit) (said : PhaseSaid) (granted : Bool) → IsCommitKept before s → TurnRuns before (part_begun p s c said granted) (part_begun p s c said granted).step
 part_led before s p c (Says phase.InProgress version) granted kept = either before s.has_entered _ _ (either before c.is_copied _ _ kept (copies_led before s p granted kept)) kept
@@ -92,13 +91,13 @@ enter_led before s (Done enter.EpochsSpent) at kept = kept
 enter_led before s (Done enter.Idle) at kept = kept
 enter_led before s ask at kept = rw at kept
 
-copied_number : (commit : Option Commit) → number_in_hand (copied commit) ≡ number_in_hand commit
-copied_number None = refl
-copied_number (Some c) = refl
+copied_number : (rests : Bool) (commit : Option Commit) → number_in_hand (copied rests commit) ≡ number_in_hand commit
+copied_number rests None = refl
+copied_number rests (Some c) = refl
 
 copy_led : (before s : KeeperState) (ask : Ask (Unit {0})) → s.step ≡ Copies → IsCommitKept before s → TurnRuns before (copy_ledto s ask) (copy_ledto s ask).step
 unfolding copy_ledto
-copy_led before s (Done its) at kept = (kept.0, copied_number s.commit ∙ kept.1)
+copy_led before s (Done its) at kept = (kept.0, copied_number (is_copy_resting s.copy) s.commit ∙ kept.1)
 copy_led before s ask at kept = rw at kept
 
 known_number : (commit : Option Commit) (end : Addr) (epoch : ℕ) → number_in_hand (points_known commit end epoch) ≡ number_in_hand commit

@@ -1,5 +1,5 @@
 -- What holds of a keeper's commits at each moment of a run, and of each of its steps.
-use Rattle.std.specs.Prelude.{◌≡◌, ◌≢◌, ℕ, ◌<◌, ⊤, ◌⊎◌, false, true, List, [], ◌∷◌, length, Option, Some, None}
+use Rattle.std.specs.Prelude.{◌≡◌, ◌≢◌, ℕ, ◌<◌, ⊤, ◌⊎◌, Bool, false, true, if◌then◌else◌, List, [], ◌∷◌, length, Option, Some, None}
 use Rattle.fkv_base.specs.Limits.{drain_slots}
 use Rattle.fkv_base.specs.declared.numbers.Addr.{Addr}
 use Rattle.fkv_base.specs.declared.numbers.Version.{Version}
@@ -36,19 +36,19 @@ use Rattle.fkv_keeper.specs.declared.keepers.Keeping.TheVariants.{Ended, Starts,
 use Rattle.fkv_maintain.specs.declared.maintaining.Maintaining.TheVariants.{Claims}
 use Rattle.fkv_maintain.specs.Maintaining.{MaintainState}
 use Rattle.fkv_keeper.specs.LastCommits.{other_area, area_number, gate_opened, slot_written}
-use Rattle.fkv_keeper.specs.Keeping.{KeeperState, lost_left, keeper_ask}
+use Rattle.fkv_keeper.specs.Keeping.{KeeperState, is_copy_resting, copy_driven, lost_left, keeper_ask}
 use Rattle.fkv_keeper.specs.KeeperRun.{KeeperEvent, BeginsCommit, Replies, keeper_run, Writing}
 
--- the replies to the copy that began last, the newest first
-abbrev pub replies_after : Keeping → KeeperEvent → Keeping → List ℕ → List ℕ
-replies_after LoadsPhase (Replies reply granted) Copies was = []
-replies_after Copies (Replies reply granted) after was = reply ∷ was
-replies_after step event after was = was
+-- the replies to the copy that began last, the newest first; one that rests is taken up
+abbrev pub replies_after : Bool → Keeping → KeeperEvent → Keeping → List ℕ → List ℕ
+replies_after rests LoadsPhase (Replies reply granted) Copies was = if rests then was else []
+replies_after rests Copies (Replies reply granted) after was = reply ∷ was
+replies_after rests step event after was = was
 
 unfoldable pub copy_replies : Shape → Places → KeeperState → List KeeperEvent → List ℕ
 copy_replies shape p opening [] = []
 copy_replies shape p opening (event ∷ before) =
-    replies_after (keeper_run shape p opening before).step event (keeper_run shape p opening (event ∷ before)).step (copy_replies shape p opening before)
+    replies_after (is_copy_resting (keeper_run shape p opening before).copy) (keeper_run shape p opening before).step event (keeper_run shape p opening (event ∷ before)).step (copy_replies shape p opening before)
 
 -- the kind of a commit as it was asked for, and its number and first address as its start has told them
 pub record BegunWith : Type 0 where
@@ -166,7 +166,16 @@ IsCopyPhase (Says phase.InProgress version) = ⊤
 IsCopyPhase (Says phase.WaitPending version) = ⊤
 IsCopyPhase said = ⊥
 
--- A copy begins, from its first slot: the phase word that was just loaded says in-progress or wait-pending, and the commit in hand isn't copied.
+-- The copy has had a reply.
+pub record IsCopyDriven (s : KeeperState) (event : KeeperEvent) (a : KeeperState) : Type 0 where
+  pub copies : s.step ≡ Copies
+  pub reply : ℕ
+  pub granted : Bool
+  pub replied : event ≡ Replies reply granted
+  pub copy : a.copy ≡ copy_driven s.copy reply
+
+-- A copy begins, from its first slot: the phase word that was just loaded says in-progress or wait-pending, the commit in hand isn't copied, and
+-- no copy rests.
 pub record IsCopyBegun (p : Places) (s : KeeperState) (event : KeeperEvent) (a : KeeperState) : Type 0 where
   pub loads : s.step ≡ LoadsPhase
   pub reply : ℕ
@@ -175,14 +184,34 @@ pub record IsCopyBegun (p : Places) (s : KeeperState) (event : KeeperEvent) (a :
   pub commit : Commit
   pub in_hand : s.commit ≡ Some commit
   pub not_copied : commit.is_copied ≡ false
+  pub none_rests : is_copy_resting s.copy ≡ false
+  pub copies : a.step ≡ Copies
   pub copy : a.copy ≡ Some (copy_begun p)
 
--- A commit has begun: it is in hand, and where it is a full one it isn't copied.
+-- The copy that rests is taken up as it is, where one might begin.
+pub record IsCopyTakenUp (s : KeeperState) (event : KeeperEvent) (a : KeeperState) : Type 0 where
+  pub loads : s.step ≡ LoadsPhase
+  pub reply : ℕ
+  pub granted : Bool
+  pub loaded : event ≡ Replies reply granted
+  pub phase : IsCopyPhase (phase_said reply)
+  pub commit : Commit
+  pub in_hand : s.commit ≡ Some commit
+  pub not_copied : commit.is_copied ≡ false
+  pub rests : is_copy_resting s.copy ≡ true
+  pub copy : a.copy ≡ s.copy
+
+-- the copy in hand after an event: it stays, is given up for what it has copied, or has had a reply; or one begins
+abbrev pub IsCopyAfter : Places → KeeperState → KeeperEvent → KeeperState → Type 0
+IsCopyAfter p s event a = (a.copy ≡ s.copy) ⊎ ((a.copy ≡ None) ⊎ (IsCopyDriven s event a ⊎ IsCopyBegun p s event a))
+
+-- A commit has begun: it is in hand, and where it is a full one it isn't copied. No copy is in hand.
 pub record IsBegun (s a : KeeperState) : Type 0 where
   pub starts : s.step ≡ Starts
   pub commit : Commit
   pub in_hand : a.commit ≡ Some commit
   pub copied : commit.is_copied ≡ is_log commit.kind
+  pub no_copy : a.copy ≡ None
   pub told : a.step ≡ Ended (Begun commit.number)
 
 -- The commit in hand is finished: it is the newest finished one now, with its points, its checkpoint and the gate that it opened. A full one
@@ -208,9 +237,10 @@ abbrev pub IsCommitAfter : Option Commit → KeeperState → KeeperState → Typ
 IsCommitAfter None s a = (a.commit ≡ None) ⊎ IsBegun s a
 IsCommitAfter (Some c) s a = GoesOn c a.commit ⊎ (IsFinished s a c ⊎ IsBegun s a)
 
--- Where a copy begins, and what becomes of the commit in hand.
+-- Where a copy begins or is taken up, and what becomes of it and of the commit in hand.
 pub record CopiesOnce (p : Places) (s : KeeperState) (event : KeeperEvent) (a : KeeperState) : Type 0 where
-  pub begins : a.step ≡ Copies → (s.step ≡ Copies) ⊎ IsCopyBegun p s event a
+  pub begins : a.step ≡ Copies → (s.step ≡ Copies) ⊎ (IsCopyTakenUp s event a ⊎ IsCopyBegun p s event a)
+  pub copy : IsCopyAfter p s event a
   pub commit : IsCommitAfter s.commit s a
 
 -- The newest finished commit and the lost ranges in hand change where the commit in hand is finished, and nowhere else. The checkpoint that

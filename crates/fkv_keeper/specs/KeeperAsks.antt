@@ -11,7 +11,7 @@ use Rattle.fkv_disk.specs.Kinds.{Kind}
 use Rattle.fkv_plane.specs.declared.asks.Ask.{Ask}
 use Rattle.fkv_plane.specs.declared.asks.Ask.TheVariants.{Done}
 use Rattle.fkv_plane.specs.declared.places.Places.{Places}
-use Rattle.fkv_checkpoint.specs.Copying.{Copier, copy_asks_left}
+use Rattle.fkv_checkpoint.specs.Copying.{Copier, most_at_once, part_asks_left}
 use Rattle.fkv_plane.specs.AsksLeft.{sum_left}
 use Rattle.fkv_commit.specs.AsksLeft.{start_asks_left, enter_asks_left, seek_asks_left, wait_asks_left, finish_asks_left}
 use Rattle.fkv_flush.specs.Devices.{Adds}
@@ -96,9 +96,14 @@ committing_calls_left gate (writing.Broken why) = 0
 abbrev pub writes_left : CommitWriter → ℕ
 writes_left w = committing_calls_left w.gate w.step
 
+-- up to its next rest
 abbrev pub copy_left : Option Copier → ℕ
 copy_left None = 0
-copy_left (Some m) = copy_asks_left m.places m.copying
+copy_left (Some m) = part_asks_left m.places m.copying
+
+-- eight for each of the buckets and of the overflow buckets that are copied without a rest
+abbrev pub most_copy_asks : ℕ
+most_copy_asks = 8 * (most_at_once + most_at_once)
 
 -- behind the wait come eight calls, the durable words and rest
 abbrev pub most_write_asks : ℕ → ℕ
@@ -106,16 +111,16 @@ most_write_asks sessions = 8 + (sessions + 1)
 
 -- what is done for the commit in hand, whichever part it is: wait-pending is deferred, the index is copied, the points are sought, or the commit
 -- waits and is written
-abbrev pub most_part_asks : Places → ℕ → ℕ → ℕ
-most_part_asks p seeks finishes = (2 * drain_slots + 4) + 8 * (p.buckets + p.overflow) + (4 * seeks + 2 * drain_slots + 7) + (2 + most_write_asks finishes)
+abbrev pub most_part_asks : ℕ → ℕ → ℕ
+most_part_asks seeks finishes = (2 * drain_slots + 4) + most_copy_asks + (4 * seeks + 2 * drain_slots + 7) + (2 + most_write_asks finishes)
 
 -- The asks and calls that are left, at most: those of the machine inside that is under way, and of what may come behind it. A machine that is at its
 -- end asks for nothing, and nothing comes behind it.
 unfoldable pub keeping_asks_left : Shape → Places → KeeperState → Keeping → ℕ
 keeping_asks_left shape p s (Ended its) = 0
 keeping_asks_left shape p s Starts = start_asks_left s.start
-keeping_asks_left shape p s Maintains = sum_left (maintain_asks_left shape s.maintain) (most_part_asks p s.seek.sessions s.finish.sessions + 1)
-keeping_asks_left shape p s LoadsPhase = most_part_asks p s.seek.sessions s.finish.sessions + 1
+keeping_asks_left shape p s Maintains = sum_left (maintain_asks_left shape s.maintain) (most_part_asks s.seek.sessions s.finish.sessions + 1)
+keeping_asks_left shape p s LoadsPhase = most_part_asks s.seek.sessions s.finish.sessions + 1
 keeping_asks_left shape p s Enters = enter_asks_left s.enter
 keeping_asks_left shape p s Copies = copy_left s.copy
 keeping_asks_left shape p s Seeks = seek_asks_left s.seek
@@ -126,12 +131,12 @@ keeping_asks_left shape p s Finishes = finish_asks_left s.finish
 abbrev pub keeper_asks_left : Shape → Places → KeeperState → ℕ
 keeper_asks_left shape p s = keeping_asks_left shape p s s.step
 
--- a commit's beginning, and a turn
+-- a commit's beginning, and a turn, which has as many in a large index as in a small one
 abbrev pub most_begin_asks : ℕ
 most_begin_asks = 2 * drain_slots + 7
 
-abbrev pub most_turn_asks : Shape → Places → ℕ
-most_turn_asks shape p = most_maintain_asks shape + (most_part_asks p shape.sessions shape.sessions + 1)
+abbrev pub most_turn_asks : Shape → ℕ
+most_turn_asks shape = most_maintain_asks shape + (most_part_asks shape.sessions shape.sessions + 1)
 
 -- a call is in hand just where some are left
 abbrev pub IsBusyWhereLeft : ℕ → Ask KeeperTold → Type 0

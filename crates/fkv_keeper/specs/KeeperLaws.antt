@@ -1,5 +1,5 @@
 -- What holds of a keeper at every moment of a run.
-use Rattle.std.specs.Prelude.{◌≡◌, ℕ, ⊤, true, false, Option, Some, None}
+use Rattle.std.specs.Prelude.{◌≡◌, ℕ, ⊤, Bool, true, false, Option, Some, None}
 use Rattle.fkv_base.specs.declared.faults.Fault.TheVariants as fault
 use Rattle.fkv_base.specs.declared.shapes.Shape.{Shape}
 use Rattle.fkv_record.specs.Places.{area_place}
@@ -20,7 +20,7 @@ use Rattle.fkv_keeper.specs.declared.keepers.Keeping.{Keeping}
 use Rattle.fkv_keeper.specs.declared.keepers.Keeping.TheVariants.{Ended, Maintains, LoadsPhase, Copies, Finishes}
 use Rattle.fkv_base.specs.declared.numbers.Version.{Version}
 use Rattle.fkv_keeper.specs.LastCommits.{area_number}
-use Rattle.fkv_keeper.specs.Keeping.{KeeperState, gate_writes_of, ended, turn_asked, commit_asked, keeper_ask, keeper_next}
+use Rattle.fkv_keeper.specs.Keeping.{KeeperState, is_copy_resting, gate_writes_of, ended, turn_asked, commit_asked, keeper_ask, keeper_next}
 use Rattle.fkv_keeper.specs.KeeperRun.{KeeperEvent, Writing, keeper_happens}
 
 -- a refusal of a turn, or of a commit
@@ -50,11 +50,12 @@ pub record IsWritten (shape : Shape) (s : KeeperState) (w : Writing) : Type 0 wh
   pub writes : AreWritesOfCommit shape s commit w.first
   pub answered : commit_answer (commit_run w.first w.answers) ≡ write.Written
 
--- Nothing but this has changed: the turn has ended, and memory was refused. A commit is in hand that isn't copied.
+-- Nothing but this has changed: the turn has ended, and memory was refused. A commit is in hand that isn't copied, and no copy rests.
 pub record IsMemoryRefused (s after : KeeperState) : Type 0 where
   pub commit : Commit
   pub in_hand : s.commit ≡ Some commit
   pub not_copied : commit.is_copied ≡ false
+  pub none_rests : is_copy_resting s.copy ≡ false
   pub same : after ≡ ended (record s { is_granted = false }) (TurnRefused fault.Memory)
 
 -- the number of the commit in hand
@@ -74,10 +75,13 @@ IsBeforePhase (Ended its) = ⊤
 IsBeforePhase Maintains = ⊤
 IsBeforePhase step = ⊥
 
--- A turn keeps the commit up to its part for it. There, where the commit isn't copied in wait-pending, the copy begins from its first slot where
--- memory is granted.
+-- A turn keeps the commit up to its part for it. There, where the commit isn't copied in wait-pending, a copy that rests is taken up as it is,
+-- whether or not memory is granted. Where none rests, one begins from its first slot where memory is granted.
 pub record CopiesAgain (shape : Shape) (p : Places) (s : KeeperState) : Type 0 where
   pub kept : (event : KeeperEvent) → IsBeforePhase s.step → (keeper_happens shape p s event).commit ≡ s.commit
   pub begins : (c : Commit) (reply : ℕ) (version : Version) → s.step ≡ LoadsPhase → s.commit ≡ Some c → c.is_copied ≡ false
-      → phase_said reply ≡ Says phase.WaitPending version
+      → phase_said reply ≡ Says phase.WaitPending version → is_copy_resting s.copy ≡ false
       → keeper_next shape p s reply true ≡ record s { copy = Some (copy_begun p); is_granted = true; step = Copies }
+  pub taken_up : (c : Commit) (reply : ℕ) (version : Version) (granted : Bool) → s.step ≡ LoadsPhase → s.commit ≡ Some c → c.is_copied ≡ false
+      → phase_said reply ≡ Says phase.WaitPending version → is_copy_resting s.copy ≡ true
+      → keeper_next shape p s reply granted ≡ record s { is_granted = true; step = Copies }

@@ -1,6 +1,6 @@
 -- What the keeper does: it begins commits, and makes turns, in each of which it does what every turn does and then at most one thing for the
 -- commit in hand.
-use Rattle.std.specs.Prelude.{ℕ, List, [], length, replicate, Bool, true, false, not, ◌&&◌, if◌then◌else◌, Option, Some, None}
+use Rattle.std.specs.Prelude.{ℕ, List, [], length, replicate, Bool, true, false, not, ◌&&◌, ◌||◌, if◌then◌else◌, Option, Some, None}
 use Rattle.fkv_base.specs.declared.faults.Fault.TheVariants as fault
 use Rattle.fkv_base.specs.declared.numbers.Addr.{Addr}
 use Rattle.fkv_base.specs.declared.numbers.Serial.{Serial}
@@ -19,7 +19,7 @@ use Rattle.fkv_plane.specs.declared.places.Places.{Places}
 use Rattle.fkv_plane.specs.declared.places.SharedWord.TheVariants as one
 use Rattle.fkv_plane.specs.Passing.{passed}
 use Rattle.fkv_plane.specs.Places.{shared_place}
-use Rattle.fkv_checkpoint.specs.Copying.{Copier, copy_begun, copy_ask, copy_after}
+use Rattle.fkv_checkpoint.specs.Copying.{Copier, copy_begun, copy_ask, copy_after, copy_rests}
 use Rattle.fkv_checkpoint.specs.Triples.{all_bytes}
 use Rattle.fkv_commit.specs.declared.commits.Commit.{Commit}
 use Rattle.fkv_base.specs.declared.commits.CommitKind.{CommitKind}
@@ -102,6 +102,15 @@ abbrev pub copy_asked : Option Copier → Ask (Unit {0})
 copy_asked None = Done tt
 copy_asked (Some m) = copy_ask m.copying
 
+-- whether the copy rests: the turn ends there, and a later one takes it up
+abbrev pub is_copy_resting : Option Copier → Bool
+is_copy_resting None = false
+is_copy_resting (Some m) = copy_rests m.places m.copying
+
+-- what it asks for next in a turn: nothing more where it rests
+abbrev pub copy_told : Option Copier → Ask (Unit {0})
+copy_told copy = if is_copy_resting copy then Done tt else copy_asked copy
+
 -- The call of the device that a part of every turn needs is the keeper's. A part's other end, which is never met here, would be the call's.
 unfoldable pub device_passed : Ask MaintainAnswer → KeeperTold → Ask KeeperTold
 device_passed (Done maintain.Device) told = Done Device
@@ -158,7 +167,7 @@ turn_asked s = if s.is_broken then ended s (TurnRefused fault.Broken) else recor
 -- by what the machines inside ask next
 unfoldable pub start_ledto : KeeperState → Ask StartAnswer → KeeperState
 start_ledto s (Done (start.Begun number first)) =
-    ended (record s { commit = Some (commit_begun number s.start.kind first); has_entered = false; has_points = false }) (Begun number)
+    ended (record s { commit = Some (commit_begun number s.start.kind first); copy = None; has_entered = false; has_points = false }) (Begun number)
 start_ledto s (Done (start.Refused why)) = ended s (CommitRefused why)
 start_ledto s (Done start.Idle) = ended s (CommitRefused fault.CommitRunning)
 start_ledto s ask = s
@@ -177,9 +186,14 @@ maintain_ledto s (Done maintain.Spent) = ended s (TurnRefused fault.EpochsSpent)
 maintain_ledto s (Done maintain.Broken) = ended (record s { is_broken = true }) (TurnRefused fault.Device)
 maintain_ledto s ask = s
 
--- the copy begins where memory is granted for it
+-- the copy that a turn goes on with: the one that rests, or else a new one
+abbrev pub copy_taken : Places → Option Copier → Option Copier
+copy_taken p copy = if is_copy_resting copy then copy else Some (copy_begun p)
+
+-- a new one begins where memory is granted for it
 abbrev pub copies : Places → KeeperState → Bool → KeeperState
-copies p s granted = if granted then record s { copy = Some (copy_begun p); is_granted = true; step = Copies } else ended (record s { is_granted = false }) (TurnRefused fault.Memory)
+copies p s granted =
+    if granted || is_copy_resting s.copy then record s { copy = copy_taken p s.copy; is_granted = true; step = Copies } else ended (record s { is_granted = false }) (TurnRefused fault.Memory)
 
 abbrev pub copies_next : Places → KeeperState → Commit → Bool → KeeperState → KeeperState
 copies_next p s c granted else_next = if c.is_copied then else_next else copies p s granted
@@ -203,12 +217,13 @@ enter_ledto s (Done enter.EpochsSpent) = ended s (TurnRefused fault.EpochsSpent)
 enter_ledto s (Done enter.Idle) = turned s
 enter_ledto s ask = s
 
-abbrev pub copied : Option Commit → Option Commit
-copied None = None
-copied (Some c) = Some (record c { is_copied = true })
+-- at its end the commit counts as copied, at a rest it doesn't
+abbrev pub copied : Bool → Option Commit → Option Commit
+copied rests None = None
+copied rests (Some c) = Some (record c { is_copied = c.is_copied || not rests })
 
 unfoldable pub copy_ledto : KeeperState → Ask (Unit {0}) → KeeperState
-copy_ledto s (Done its) = turned (record s { commit = copied s.commit })
+copy_ledto s (Done its) = turned (record s { commit = copied (is_copy_resting s.copy) s.commit })
 copy_ledto s ask = s
 
 abbrev pub points_known : Option Commit → Addr → ℕ → Option Commit
@@ -303,13 +318,13 @@ abbrev pub copy_driven : Option Copier → ℕ → Option Copier
 copy_driven None reply = None
 copy_driven (Some m) reply = Some (copy_after m reply)
 
--- A copy may begin by the reply: the phase is loaded, wait-pending is deferred, and the commit in hand isn't copied.
-unfoldable pub step_may_copy : Keeping → Option Commit → Bool → Bool
-step_may_copy LoadsPhase (Some c) has_entered = has_entered && not c.is_copied
-step_may_copy step commit has_entered = false
+-- A copy may begin by the reply: the phase is loaded, wait-pending is deferred, the commit in hand isn't copied, and no copy rests.
+unfoldable pub step_may_copy : Keeping → Option Commit → Bool → Bool → Bool
+step_may_copy LoadsPhase (Some c) has_entered rests = has_entered && not c.is_copied && not rests
+step_may_copy step commit has_entered rests = false
 
 abbrev pub may_copy : KeeperState → Bool
-may_copy s = step_may_copy s.step s.commit s.has_entered
+may_copy s = step_may_copy s.step s.commit s.has_entered (is_copy_resting s.copy)
 
 -- Where the reply leads. Where a copy begins it goes by whether memory was granted for it.
 unfoldable pub keeping_next : Shape → Places → KeeperState → Keeping → ℕ → Bool → KeeperState
@@ -318,7 +333,7 @@ keeping_next shape p s Starts reply granted = start_ledto (record s { start = st
 keeping_next shape p s Maintains reply granted = maintain_ledto (record s { maintain = maintain_next shape p s.maintain reply }) (maintain_ask shape p (maintain_next shape p s.maintain reply))
 keeping_next shape p s LoadsPhase reply granted = phase_ledto p s s.commit (phase_said reply) granted
 keeping_next shape p s Enters reply granted = enter_ledto (record s { enter = enter_next s.enter reply }) (enter_ask (enter_next s.enter reply))
-keeping_next shape p s Copies reply granted = copy_ledto (record s { copy = copy_driven s.copy reply }) (copy_asked (copy_driven s.copy reply))
+keeping_next shape p s Copies reply granted = copy_ledto (record s { copy = copy_driven s.copy reply }) (copy_told (copy_driven s.copy reply))
 keeping_next shape p s Seeks reply granted = seek_ledto (record s { seek = seek_next s.seek reply }) (seek_ask (seek_next s.seek reply))
 keeping_next shape p s Waits reply granted = wait_ledto shape (record s { wait = wait_next s.wait reply }) (wait_ask (wait_next s.wait reply))
 keeping_next shape p s Writes reply granted = s

@@ -50,7 +50,7 @@ pub(crate) enum Keeping {
     LoadsPhase,
     /// Wait-pending is deferred.
     Enters,
-    /// The index is copied.
+    /// The index is copied, up to where the copy rests or ends.
     Copies,
     /// The points are sought.
     Seeks,
@@ -170,7 +170,7 @@ impl Keeper {
         ensures next { self.new ≡ record self.old { state = turn_asked self.old.state } }
         ensures ask { result ≡ keeper_ask self.old.shape self.old.places self.new.state }
         ensures left { IsBusyWhereLeft (keeper_asks_left self.old.shape self.old.places self.new.state) result }
-        ensures bounded { keeper_asks_left self.old.shape self.old.places self.new.state ≤ most_turn_asks self.old.shape self.old.places }
+        ensures bounded { keeper_asks_left self.old.shape self.old.places self.new.state ≤ most_turn_asks self.old.shape }
     {
         if self.is_broken {
             self.step = Keeping::Ended(KeeperTold::TurnRefused(Fault::Broken));
@@ -195,8 +195,8 @@ impl Keeper {
         self.go_on_with(reply, room)
     }
 
-    /// Memory for the copy of the index that its next step may begin: where it loads the phase, wait-pending is deferred, and the commit in
-    /// hand isn't copied. `None` elsewhere, and where memory is refused. What a commit has got once it isn't asked for again.
+    /// Memory for the copy of the index that its next step may begin: where it loads the phase, wait-pending is deferred, the commit in
+    /// hand isn't copied, and no copy rests. `None` elsewhere, and where memory is refused. What a commit has got once it isn't asked for again.
     ///
     /// It is for a caller that has to know whether memory is granted before the step: others may see a step that is made before its
     /// reply is gone on with. No clause says when memory is granted, nor that a room is kept.
@@ -221,13 +221,15 @@ impl Keeper {
         ensures { result ≡ may_copy self.now.state }
     {
         match (self.step, self.commit) {
-            (Keeping::LoadsPhase, Some(commit)) => self.has_entered && !commit.is_copied,
+            (Keeping::LoadsPhase, Some(commit)) => {
+                self.has_entered && !commit.is_copied && !self.is_copy_resting()
+            }
             _ => false,
         }
     }
 
     /// Goes on as `go_on` does, and a copy begins in this room, which `room` has given. Where none begins the room is kept; where one
-    /// begins and there is no room, the turn ends with `Memory`.
+    /// is to begin and there is no room, the turn ends with `Memory`. A copy that rests takes none.
     #[tactic(auto, using(fkv_commit::proofs::Shown::seek_keeps), unfolding(crate::specs::Keeping::keeping_next))]
     pub fn go_on_with(&mut self, reply: u64, room: Option<CopyRoom>) -> Ask<KeeperTold>
         requires { IsRoomFor self.old.places room }

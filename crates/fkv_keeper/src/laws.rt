@@ -17,7 +17,8 @@ ghost use Rattle.fkv_keeper.specs.KeeperRun.{IsOpened, KeeperEvent, has_failed, 
 /// Whatever turns and commits are begun, and whatever the replies, the actions and the answers of the device are: once a call of the
 /// device has failed, nothing is asked any more, and each turn and each commit is refused as broken. The durable words and rest are
 /// stored only where all writes of the commit in hand have succeeded, to the last sync. Where memory is refused the turn ends and
-/// nothing else changes, so the commit isn't copied still; the next turn keeps it up to its part for it, where the copy begins again. A commit that is told as finished has the number that was told as begun last,
+/// nothing else changes, so the commit isn't copied still; the next turn keeps it up to its part for it, where the copy begins again. Memory is refused only where no
+/// copy rests: one that rests is taken up there as it is. A commit that is told as finished has the number that was told as begun last,
 /// and no number is told as finished again without being told as begun again. With no asks left, in a store that has buckets, no call is in hand.
 pub fn law_of_the_keeper()
     ensures broken { (shape : Shape) (p : Places) (opening : KeeperState) (events : List KeeperEvent) → IsOpened opening
@@ -44,8 +45,8 @@ pub fn law_of_the_keeper()
 /// where a full commit counts as copied, and its writes have not begun, the keeper holds the finished copy of the index, by the replies
 /// that the copy had. What it writes is that copy, with the commit's own number and first address as its start has told them, in the area
 /// that the newest finished commit's checkpoint doesn't use; a log commit uses that checkpoint and names the first eight lost ranges in
-/// hand; and that is so until the commit is finished. At each step: a copy begins only where the phase says so and a commit in hand isn't copied, and once copied it is so until it
-/// is finished; the newest finished commit and the lost ranges change at its finish alone; and in a turn at most one thing is done for
+/// hand; and that is so until the commit is finished. At each step: a copy begins only where the phase says so, a commit in hand isn't copied and no copy rests; there one that rests
+/// is taken up as it is. No commit begins with a copy in hand, and once it is copied it is so until it is finished; the newest finished commit and the lost ranges change at its finish alone; and in a turn at most one thing is done for
 /// the commit in hand. A step changes no words but its own: the durable words and rest are stored by a finish alone, but that a turn
 /// stores the phase that an action says which it has claimed.
 pub fn law_of_checkpoints()

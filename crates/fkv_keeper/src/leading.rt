@@ -6,7 +6,7 @@ ghost use Rattle.fkv_manifest.specs.Committing.{commit_answer};
 ghost use Rattle.fkv_manifest.specs.Devices.{next_made};
 ghost use Rattle.fkv_manifest.specs.Made.{with_call};
 ghost use Rattle.fkv_base.specs.declared.faults.Fault.TheVariants as fault;
-ghost use Rattle.fkv_keeper.specs.Keeping.{device_passed, end_told, write_asked, copy_asked, copy_driven, points_known, ended, turned, turned_full, start_ledto, maintain_ledto, phase_ledto, part_begun, copies_next, copies, enter_ledto, copy_ledto, seek_ledto, wait_ledto, writes_begun, gate_writes_of, write_ledto, finish_ledto, finished, no_writes, checkpoint_used, triples_written, lost_left};
+ghost use Rattle.fkv_keeper.specs.Keeping.{device_passed, end_told, write_asked, copy_asked, copy_driven, copy_told, is_copy_resting, points_known, ended, turned, turned_full, start_ledto, maintain_ledto, phase_ledto, part_begun, copies_next, copies, enter_ledto, copy_ledto, seek_ledto, wait_ledto, writes_begun, gate_writes_of, write_ledto, finish_ledto, finished, no_writes, checkpoint_used, triples_written, lost_left};
 ghost use Rattle.fkv_keeper.specs.declared.answers.KeeperTold.TheVariants.{TurnRefused};
 
 use crate::answers::KeeperTold;
@@ -32,13 +32,16 @@ pub(crate) fn no_writes(alloc: Global) -> CommitWrites
     CommitWrites::new(0, Vec::new(alloc), GateWrites::new(0, 0, [0; 512], false))
 }
 
-/// Drives the copy with the reply to its ask, where there is one.
+/// Drives the copy with the reply to its ask, where there is one. Where it then rests nothing more is asked in this turn.
 pub(crate) fn copy_driven(copy: &mut Option<IndexCopy>, reply: u64) -> Ask<()>
     ensures next { copy.new ≡ copy_driven copy.old reply }
-    ensures ask { result ≡ copy_asked copy.new }
+    ensures ask { result ≡ copy_told copy.new }
 {
     match copy {
-        Some(copy) => copy.drive(reply),
+        Some(copy) => {
+            let ask = copy.drive(reply);
+            if copy.rests() { Ask::Done(()) } else { ask }
+        }
         None => Ask::Done(()),
     }
 }
@@ -96,6 +99,16 @@ impl Keeper {
         }
     }
 
+    /// Whether the copy rests, where there is one.
+    pub(crate) fn is_copy_resting(&self) -> bool
+        ensures { result ≡ is_copy_resting self.now.state.copy }
+    {
+        match &self.copy {
+            Some(copy) => copy.rests(),
+            None => false,
+        }
+    }
+
     fn ends(&mut self, told: KeeperTold)
         ensures { self.new ≡ record self.old { state = ended self.old.state told } }
     {
@@ -133,6 +146,7 @@ impl Keeper {
             match answer {
                 StartAnswer::Begun(number, first) => {
                     self.commit = Some(Commit::begun(number, self.start.kind(), first));
+                    self.copy = None;
                     self.has_entered = false;
                     self.has_points = false;
                     self.ends(KeeperTold::Begun(number));
@@ -218,23 +232,24 @@ impl Keeper {
         }
     }
 
-    /// The copy begins, where there is room for it.
+    /// The copy that rests goes on. Where none rests one begins, if there is room for it.
     fn copies(&mut self, room: &mut Option<CopyRoom>)
         requires { IsRoomFor self.old.places room.old }
         ensures next { self.new ≡ record self.old { state = copies self.old.places self.old.state (is_some room.old) } }
-        ensures taken { room.new ≡ None }
+        ensures left { IsRoomFor self.old.places room.new }
     {
-        match room.take() {
-            Some(room) => {
-                self.copy = Some(IndexCopy::begin(room));
-                self.is_granted = true;
-                self.step = Keeping::Copies;
-            }
-            None => {
-                self.is_granted = false;
-                self.ends(KeeperTold::TurnRefused(Fault::Memory));
+        if !self.is_copy_resting() {
+            match room.take() {
+                Some(room) => self.copy = Some(IndexCopy::begin(room)),
+                None => {
+                    self.is_granted = false;
+                    self.ends(KeeperTold::TurnRefused(Fault::Memory));
+                    return;
+                }
             }
         }
+        self.is_granted = true;
+        self.step = Keeping::Copies;
     }
 
     #[tactic(auto, unfolding(crate::specs::Keeping::enter_ledto))]
@@ -261,7 +276,7 @@ impl Keeper {
         if let Ask::Done(()) = ask {
             if let Some(commit) = self.commit {
                 self.commit = Some(Commit {
-                    is_copied: true,
+                    is_copied: commit.is_copied || !self.is_copy_resting(),
                     ..commit
                 });
             }

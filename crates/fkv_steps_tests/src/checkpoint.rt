@@ -50,6 +50,7 @@ fn is_begun(rt: &impl Abort, copy: &IndexCopy) {
 fn goes_on(rt: &impl Abort, plane: &mut PlainWords, copy: &mut IndexCopy) {
     for ask in 0..24 {
         assert!(rt; copy.ask() != Ask::Done(()), "after {ask} asks");
+        assert!(rt; !copy.rests(), "after {ask} asks");
         let ask = copy.ask();
         copy.drive(make(plane, ask));
     }
@@ -71,10 +72,24 @@ fn copies(rt: &impl Abort, alloc: Global, spoiled: &[(usize, u64)]) -> Result<()
     Ok(())
 }
 
+/// 2,048 buckets: the copy rests where it has begun, and in the middle.
+fn rests(rt: &impl Abort, alloc: Global) -> Result<(), Fault> {
+    let places = Places::of(&Shape::large(11, 4, 2, 1, 1, 0, 64)?);
+    let mut copy = IndexCopy::begin(CopyRoom::ask(alloc, places)?);
+    for ask in 0..8 * 2048 {
+        assert!(rt; copy.rests() == (ask % (8 * 1024) == 0), "after {ask} asks");
+        copy.drive(0);
+    }
+    assert!(rt; copy.ask() == Ask::Done(()));
+    assert!(rt; !copy.rests());
+    Ok(())
+}
+
 #[test]
 fn entries_are_copied_bucket_by_bucket(rt: HostRuntime) -> Result<(), Fail> {
     copies(&rt, rt.alloc(), &[])?;
     copies(&rt, rt.alloc(), &SPOILED)?;
+    rests(&rt, rt.alloc())?;
     law_copied();
     law_fuzzy_copy();
     law_of_a_fuzzy_copy();

@@ -9,7 +9,7 @@ use Rattle.fkv_commit.specs.Exchanges.{AreIdle, Exchange, WasEpochLast}
 use Rattle.fkv_commit.specs.Phases.{IsRefusalTrue}
 use Rattle.fkv_epoch.specs.Once.{Among}
 use Rattle.fkv_keeper.specs.KeeperRun.{BeginsCommit, Calls, KeeperEvent, Replies, is_in_hand, keeper_run}
-use Rattle.fkv_keeper.specs.Keeping.{KeeperState}
+use Rattle.fkv_keeper.specs.Keeping.{KeeperState, is_copy_resting}
 use Rattle.fkv_keeper.specs.declared.keepers.Keeping.TheVariants.{LoadsPhase}
 use Rattle.fkv_commit.specs.declared.commits.Commit.{Commit}
 
@@ -49,7 +49,7 @@ HasCommitCause before asked lost told why = IsShown asked lost why told
 abbrev pub IsFailure : KeeperEvent → Type 0
 IsFailure event = (bytes : List ℕ) × (event ≡ Calls false bytes)
 
--- The phase was loaded, and memory was refused for a copy of the index by the commit in hand, which isn't copied.
+-- The phase was loaded, and memory was refused for a copy of the index by the commit in hand, which isn't copied. No copy rests.
 pub record IsMemoryRefusal (s : KeeperState) (event : KeeperEvent) : Type 0 where
   pub reply : ℕ
   pub refused : event ≡ Replies reply false
@@ -57,6 +57,7 @@ pub record IsMemoryRefusal (s : KeeperState) (event : KeeperEvent) : Type 0 wher
   pub commit : Commit
   pub in_hand : s.commit ≡ Some commit
   pub not_copied : (let c = commit in c.is_copied ≡ false)
+  pub none_rests : is_copy_resting s.copy ≡ false
 
 -- It ends as broken only if a call of the device has failed before, and for the device only at its own call, if that failed. It ends for the epochs only if
 -- the epoch's word that it has loaded is the last. It ends for memory only where that was refused.

@@ -20,8 +20,8 @@ ghost use Rattle.fkv_world.specs.World.{Event};
 
 /// Whatever the sessions do, once a call of the device has failed nothing is asked any more, and each turn and each commit is refused as broken. The
 /// durable words and rest are stored only where all writes of the commit in hand have succeeded, to the last sync. Where memory is refused the
-/// turn ends and nothing else changes, and the next turn keeps the commit up to its part for it, where the copy begins again. A commit that is
-/// told as finished has the number that was told as begun last, and no number is told as finished again without being told as begun again.
+/// turn ends and nothing else changes, and the next turn keeps the commit up to its part for it, where the copy begins again. One that rests is taken up
+/// there as it is. A commit that is told as finished has the number that was told as begun last, and no number is told as finished again without being told as begun again.
 pub fn law_world_keeper()
     ensures broken { (opening : World) (events : List Event) → IsOpenedWorld opening
         → has_failed opening.now.shape opening.now.places opening.now.keeper (keeper_events opening events) ≡ true
@@ -44,8 +44,8 @@ pub fn law_world_keeper()
 
 /// Whatever the sessions do, where a full commit counts as copied, and its writes have not begun, the keeper holds the finished copy of the index;
 /// what it writes is that copy, in the area that the newest finished commit's checkpoint doesn't use, and a log commit uses that checkpoint.
-/// At each of its events: a copy begins only where the phase says so and a commit in hand isn't copied, and once copied it is so until it is
-/// finished; the newest finished commit and the lost ranges change at its finish alone; and in a turn at most one thing is done for the commit in
+/// At each of its events: a copy begins only where the phase says so, a commit in hand isn't copied and no copy rests; there one that rests is
+/// taken up as it is. No commit begins with a copy in hand, and once it is copied it is so until it is finished; the newest finished commit and the lost ranges change at its finish alone; and in a turn at most one thing is done for the commit in
 /// hand. It changes no words but those of its step, and the durable words by a finish alone.
 pub fn law_world_checkpoints()
     ensures copied { (opening : World) (events : List Event) → IsOpenedWorld opening

@@ -1,6 +1,6 @@
 -- What holds of a keeper while a call is in hand, and how the call ends.
 use Rattle.std.proofs.Common.{◌≡◌, ℕ, refl, inl, inr, ap, sym, subst, ◌∙◌, List, Bool, true, false}
-use Rattle.std.specs.Prelude.{⊤, [], ◌∷◌, ◌++◌, length, Option, Some, None, if◌then◌else◌}
+use Rattle.std.specs.Prelude.{⊤, [], ◌∷◌, ◌++◌, length, Option, Some, None, if◌then◌else◌, ◌||◌}
 use Rattle.fkv_base.specs.declared.commits.CommitKind.{CommitKind}
 use Rattle.fkv_base.specs.declared.faults.Fault.{Fault}
 use Rattle.fkv_base.specs.declared.faults.Fault.TheVariants as fault
@@ -54,7 +54,7 @@ use Rattle.fkv_keeper.specs.declared.answers.KeeperTold.TheVariants.{CommitRefus
 use Rattle.fkv_keeper.specs.declared.keepers.Keeping.{Keeping}
 use Rattle.fkv_keeper.specs.declared.keepers.Keeping.TheVariants.{Copies, Ended, Enters, Finishes, LoadsPhase, Maintains, Seeks, Starts, Waits, Writes}
 use Rattle.fkv_keeper.specs.DrainLaws.{call_told, told_after, told_anew}
-use Rattle.fkv_keeper.specs.Keeping.{KeeperState, commit_asked, copies, copies_next, copy_asked, copy_driven, copy_ledto, device_passed, ended, enter_ledto, finish_ledto, finished, keeping_ask, keeping_called, keeping_given, keeping_next, maintain_ledto, part_begun, phase_ledto, seek_ledto, start_ledto, turn_asked, turn_over, turned, wait_ledto, write_ledto, writes_begun, writes_called}
+use Rattle.fkv_keeper.specs.Keeping.{KeeperState, commit_asked, copies, copies_next, copy_driven, copy_ledto, device_passed, ended, enter_ledto, finish_ledto, finished, keeping_ask, keeping_called, keeping_given, keeping_next, maintain_ledto, part_begun, phase_ledto, seek_ledto, start_ledto, turn_asked, turn_over, turned, wait_ledto, write_ledto, writes_begun, writes_called, is_copy_resting, copy_taken, copy_told}
 use Rattle.fkv_keeper.specs.KeeperRun.{BeginsCommit, BeginsTurn, Calls, Gets, IsOpened, KeeperEvent, Replies, begins, is_calling, is_in_hand, keeper_happens, keeper_run}
 use Rattle.law_causes.specs.Causes.{HasCommitCause, HasFailed, HasTurnCause, IsFailure, IsMemoryRefusal, IsShown, kind_after, kind_asked}
 use Rattle.law_causes.proofs.OfCauses.Asking.{among_first, passed_alone, passed_told, told_behind}
@@ -200,9 +200,14 @@ module _ (before : List KeeperEvent) (was : KeeperState) (event : KeeperEvent) (
   over : (s : KeeperState) → Works s → Outcome (turned s)
   over s works = record { broken = works; comes = tt }
 
-  copies_led : (p : Places) (s : KeeperState) (granted : Bool) → Works s → (granted ≡ false → IsMemoryRefusal was event) → Outcome (copies p s granted)
-  copies_led p s true works refused = record { broken = works; comes = tt }
-  copies_led p s false works refused = record { broken = works; comes = refused refl }
+  copies_led : (p : Places) (s : KeeperState) (granted : Bool) → Works s → (granted ≡ false → is_copy_resting s.copy ≡ false → IsMemoryRefusal was event) → Outcome (copies p s granted)
+  copies_led p s granted works refused = by granted (is_copy_resting s.copy) refl refl
+    where
+      by : (g rests : Bool) → granted ≡ g → is_copy_resting s.copy ≡ rests
+          → Outcome (if g || rests then record s { copy = copy_taken p s.copy; is_granted = true; step = Copies } else ended (record s { is_granted = false }) (TurnRefused fault.Memory))
+      by true rests is so = record { broken = works; comes = tt }
+      by false true is so = record { broken = works; comes = tt }
+      by false false is so = record { broken = works; comes = refused is so }
 
   enter_led : (t : KeeperState) (ask : Ask EnterAnswer) → t.step ≡ Enters → enter_ask t.enter ≡ ask → Works t → EnterKnows t.enter told → Outcome (enter_ledto t ask)
   unfolding enter_ledto
@@ -253,14 +258,14 @@ module _ (before : List KeeperEvent) (was : KeeperState) (event : KeeperEvent) (
   write_led t (Some c) write.Device e works = at t Writes e works tt
   write_led t (Some c) (write.Broken why) e works = at t Writes e works tt
 
-  next_led : (p : Places) (s : KeeperState) (c : Commit) (granted : Bool) (t : KeeperState) → Works s → Outcome t → (c.is_copied ≡ false → granted ≡ false → IsMemoryRefusal was event) → Outcome (copies_next p s c granted t)
+  next_led : (p : Places) (s : KeeperState) (c : Commit) (granted : Bool) (t : KeeperState) → Works s → Outcome t → (c.is_copied ≡ false → granted ≡ false → is_copy_resting s.copy ≡ false → IsMemoryRefusal was event) → Outcome (copies_next p s c granted t)
   next_led p s c granted t works its refused = by c.is_copied refl
     where
       by : (b : Bool) → c.is_copied ≡ b → Outcome (if b then t else copies p s granted)
       by true e = its
       by false e = copies_led p s granted works (refused e)
 
-  part_led : (p : Places) (s : KeeperState) (c : Commit) (said : PhaseSaid) (granted : Bool) → Works s → (c.is_copied ≡ false → granted ≡ false → IsMemoryRefusal was event) → Outcome (part_begun p s c said granted)
+  part_led : (p : Places) (s : KeeperState) (c : Commit) (said : PhaseSaid) (granted : Bool) → Works s → (c.is_copied ≡ false → granted ≡ false → is_copy_resting s.copy ≡ false → IsMemoryRefusal was event) → Outcome (part_begun p s c said granted)
   part_led p s c (Says phase.InProgress version) granted works refused =
       either s.has_entered _ _ (next_led p s c granted (turned s) works (over s works) refused) (record { broken = works; comes = enter_begins s.enter c.number told })
   part_led p s c (Says phase.WaitPending version) granted works refused =
@@ -268,7 +273,7 @@ module _ (before : List KeeperEvent) (was : KeeperState) (event : KeeperEvent) (
   part_led p s c (Says phase.WaitFlush version) granted works refused = either s.has_points _ _ (record { broken = works; comes = tt }) (over s works)
   part_led p s c said granted works refused = over s works
 
-  phase_led : (p : Places) (s : KeeperState) (found : Option Commit) (said : PhaseSaid) (granted : Bool) → Works s → ((c : Commit) → found ≡ Some c → c.is_copied ≡ false → granted ≡ false → IsMemoryRefusal was event)
+  phase_led : (p : Places) (s : KeeperState) (found : Option Commit) (said : PhaseSaid) (granted : Bool) → Works s → ((c : Commit) → found ≡ Some c → c.is_copied ≡ false → granted ≡ false → is_copy_resting s.copy ≡ false → IsMemoryRefusal was event)
       → Outcome (phase_ledto p s found said granted)
   unfolding phase_ledto
   phase_led p s None said granted works refused = over s works
@@ -309,14 +314,14 @@ module _ (shape : Shape) (p : Places) (before : List KeeperEvent) (asked : Optio
       (maintain_replied (WasEpochLast (exchanged (maintain_ask shape p s.maintain) reply told)) (IsFailure (Replies reply granted)) shape p s.maintain reply knows (λ is. loaded_last (maintain_ask shape p s.maintain) reply told is)))
   reply_at s LoadsPhase reply granted told e in_hand works knows =
       phase_led before s (Replies reply granted) asked _ p s s.commit (phase_said reply) granted (sooner (Replies reply granted) s works)
-      (λ c some not_copied refused. record { reply = reply; refused = ap (λ (g : Bool). Replies reply g) refused; loads = e; commit = c; in_hand = some; not_copied = not_copied })
+      (λ c some not_copied refused none. record { reply = reply; refused = ap (λ (g : Bool). Replies reply g) refused; loads = e; commit = c; in_hand = some; not_copied = not_copied; none_rests = none })
   reply_at s Enters reply granted told e in_hand works knows =
       let t : KeeperState = record s { enter = enter_next s.enter reply } in
       subst (λ (x : List Exchange). Outcome before s (Replies reply granted) asked x (enter_ledto t (enter_ask t.enter))) (sym (passed_told (enter_ask s.enter) (turn_over s) reply told))
       (enter_led before s (Replies reply granted) asked (exchanged (enter_ask s.enter) reply told) t (enter_ask t.enter) e refl (sooner (Replies reply granted) s works) (enter_replied s.enter told reply knows))
   reply_at s Copies reply granted told e in_hand works knows =
       let t : KeeperState = record s { copy = copy_driven s.copy reply } in
-      copy_led before s (Replies reply granted) asked _ t (copy_asked t.copy) e (sooner (Replies reply granted) s works)
+      copy_led before s (Replies reply granted) asked _ t (copy_told t.copy) e (sooner (Replies reply granted) s works)
   reply_at s Seeks reply granted told e in_hand works knows =
       let t : KeeperState = record s { seek = seek_next s.seek reply } in
       subst (λ (x : List Exchange). Outcome before s (Replies reply granted) asked x (seek_ledto t (seek_ask t.seek))) (sym (passed_told (seek_ask s.seek) (turn_over s) reply told))

@@ -11,7 +11,7 @@ use Rattle.law_refine.specs.Below.fkv_checkpoint.Triples.{CopiedEntry}
 use Rattle.fkv_index.specs.IndexWorld.{IndexEvent, IndexWorld, index_run}
 use Rattle.law_refine.specs.Below.fkv_keeper.TheKeeping.{Keeping}
 use Rattle.law_refine.specs.Below.fkv_keeper.TheKeeping.TheVariants.{LoadsPhase, Copies}
-use Rattle.law_refine.specs.Below.fkv_keeper.Keeping.{KeeperState}
+use Rattle.law_refine.specs.Below.fkv_keeper.Keeping.{KeeperState, is_copy_resting}
 use Rattle.law_refine.specs.Below.fkv_keeper.KeeperRun.{KeeperEvent, Replies, keeper_run}
 use Rattle.law_refine.specs.Below.fkv_world.OwnEvents.{keeper_part_of}
 use Rattle.law_refine.specs.Below.fkv_world.Runs.{World, run}
@@ -39,15 +39,16 @@ AreOwn [] = ⊤
 AreOwn (IndexMoves event ∷ before) = ⊥
 AreOwn (event ∷ before) = AreOwn before
 
-move_own : (step : Keeping) (event : KeeperEvent) (after : Keeping) (before : List CopyEvent) → AreOwn before → AreOwn (copy_moves step event after ++ before)
-move_own LoadsPhase (Replies reply granted) Copies before own = own
-move_own Copies (Replies reply granted) after before own = own
-move_own step event after before own = own
+move_own : (rests : Bool) (step : Keeping) (event : KeeperEvent) (after : Keeping) (before : List CopyEvent) → AreOwn before → AreOwn (copy_moves rests step event after ++ before)
+move_own true LoadsPhase (Replies reply granted) Copies before own = own
+move_own false LoadsPhase (Replies reply granted) Copies before own = own
+move_own rests Copies (Replies reply granted) after before own = own
+move_own rests step event after before own = own
 
 keeper_own : (shape : Shape) (p : Places) (s : KeeperState) (events : List KeeperEvent) → AreOwn (keeper_copies shape p s events)
 unfolding keeper_copies
 keeper_own shape p s [] = tt
-keeper_own shape p s (event ∷ before) = move_own (keeper_run shape p s before).step event (keeper_run shape p s (event ∷ before)).step (keeper_copies shape p s before) (keeper_own shape p s before)
+keeper_own shape p s (event ∷ before) = move_own (is_copy_resting (keeper_run shape p s before).copy) (keeper_run shape p s before).step event (keeper_run shape p s (event ∷ before)).step (keeper_copies shape p s before) (keeper_own shape p s before)
 
 own_index : (o : CopyWorld) (own before : List CopyEvent) → AreOwn own → (copy_run o (own ++ before)).index ≡ (copy_run o before).index
 unfolding copy_run copy_happens

@@ -16,10 +16,10 @@ use Rattle.law_refine.specs.Below.fkv_keeper.KeeperTold.{KeeperTold}
 use Rattle.law_refine.specs.Below.fkv_keeper.KeeperTold.TheVariants.{Device}
 use Rattle.law_refine.specs.Below.fkv_keeper.TheKeeping.{Keeping}
 use Rattle.law_refine.specs.Below.fkv_keeper.TheKeeping.TheVariants.{LoadsPhase, Copies}
-use Rattle.law_refine.specs.Below.fkv_keeper.CheckpointLaws.{IsCopyBegun, IsCopyPhase}
-use Rattle.law_refine.specs.Below.fkv_keeper.Keeping.{KeeperState, keeper_ask, keeper_next, keeping_ask}
+use Rattle.law_refine.specs.Below.fkv_keeper.CheckpointLaws.{IsCopyBegun, IsCopyPhase, CopiesOnce, IsCopyAfter}
+use Rattle.law_refine.specs.Below.fkv_keeper.Keeping.{KeeperState, keeper_ask, keeper_next, keeping_ask, is_copy_resting}
 use Rattle.law_refine.specs.Below.fkv_keeper.KeeperRun.{IsOpened, KeeperEvent, Replies, Gets, Calls, BeginsTurn, BeginsCommit, keeper_happens, keeper_run}
-use Rattle.law_refine.proofs.Below.fkv_keeper.Shown.{each_move}
+use Rattle.law_refine.proofs.Below.fkv_keeper.Shown.{each_move, WasInHand, was_in_hand}
 use Rattle.law_refine.specs.Below.fkv_world.Moves.{Near}
 use Rattle.law_refine.specs.Below.fkv_world.OwnEvents.{keeper_got, keeper_part, keeper_part_of, keeper_slots, keeper_steps}
 use Rattle.law_refine.specs.Below.fkv_world.Runs.{World, read_by_keeper, run}
@@ -35,6 +35,7 @@ use Rattle.law_commit.proofs.OfCopied.Lives.{event_replied}
 -- what a keeper's commit has of the moment when the last copy began
 record HasBegun (b : Now) (s : KeeperState) : Type 0 where
   pub copying : (c : Commit) → s.step ≡ Copies → s.commit ≡ Some c → MayBeCopied b c
+  pub rests : (c : Commit) → is_copy_resting s.copy ≡ true → s.commit ≡ Some c → MayBeCopied b c
   pub copied : (c : Commit) → s.commit ≡ Some c → c.kind ≡ Full → c.is_copied ≡ true → MayBeCopied b c
 
 -- ---- an event by which none begins
@@ -50,9 +51,32 @@ same_for b one other number kind first its = record {
   first = its.first ∙ first;
 }
 
-goes_on : (shape : Shape) (p : Places) (b : Now) (s : KeeperState) (event : KeeperEvent) → ((keeper_happens shape p s event).step ≡ Copies → s.step ≡ Copies) → HasBegun b s → HasBegun b (keeper_happens shape p s event)
-goes_on shape p b s event still its = record {
-  copying = λ c at is. its.copying c (still at) (sym (still_same shape p s event (still at) at) ∙ is);
+-- none begins where the keeper copies on, or takes up the copy that rests
+record BeginsSo (rests : Bool) (step after : Keeping) : Type 0 where
+  loads : step ≡ LoadsPhase
+  to_copy : after ≡ Copies
+  none : rests ≡ false
+
+begins_so : (rests : Bool) (step : Keeping) (event : KeeperEvent) (after : Keeping) → begins_copy (copy_moves rests step event after) ≡ true → BeginsSo rests step after
+begins_so true LoadsPhase (Replies reply granted) Copies so = cc
+begins_so false LoadsPhase (Replies reply granted) Copies so = record { loads = refl; to_copy = refl; none = refl }
+begins_so rests Copies (Replies reply granted) after so = cc
+begins_so rests step event after so = cc
+
+begun_there : (p : Places) (s : KeeperState) (event : KeeperEvent) (a : KeeperState) → IsCopyBegun p s event a → begins_copy (copy_moves (is_copy_resting s.copy) s.step event a.step) ≡ true
+begun_there p s event a begun = rw (begun.none_rests, begun.loads, begun.loaded, begun.copies) refl
+
+never_begun : {X : Type 0} (p : Places) (s : KeeperState) (event : KeeperEvent) (a : KeeperState) → begins_copy (copy_moves (is_copy_resting s.copy) s.step event a.step) ≡ false → IsCopyBegun p s event a → X
+never_begun p s event a none begun = let never : false ≡ true = sym none ∙ begun_there p s event a begun in cc
+
+goes_on : (shape : Shape) (p : Places) (b : Now) (s : KeeperState) (event : KeeperEvent) → begins_copy (copy_moves (is_copy_resting s.copy) s.step event (keeper_happens shape p s event).step) ≡ false → HasBegun b s → HasBegun b (keeper_happens shape p s event)
+goes_on shape p b s event none its = record {
+  copying = λ c at is. elim (move.begins at) [
+    | inl still ↦ its.copying c still (sym (still_same shape p s event still at) ∙ is)
+    | inr (inl taken) ↦ its.rests c taken.rests (sym (begun_commit shape p s event taken.reply taken.granted taken.loads taken.loaded) ∙ is)
+    | inr (inr begun) ↦ never_begun p s event a none begun
+  ];
+  rests = λ c rests is. by_copy c rests (was_in_hand p s a event c move is rests) move.copy;
   copied = λ c is full is_copied.
       let was = event_copied shape p s event c is full is_copied in
       same_for b was.commit c was.number was.kind was.first (elim was.so [
@@ -60,6 +84,18 @@ goes_on shape p b s event still its = record {
         | inr at ↦ its.copying was.commit at was.in_hand
       ]);
 }
+  where
+    a : KeeperState
+    a = keeper_happens shape p s event
+
+    move : CopiesOnce p s event a
+    move = (each_move shape p s event).copies
+
+    by_copy : (c : Commit) → is_copy_resting a.copy ≡ true → WasInHand s c → IsCopyAfter p s event a → MayBeCopied b c
+    by_copy c rests was (inl same) = same_for b was.commit c was.number was.kind was.first (its.rests was.commit (ap is_copy_resting (sym same) ∙ rests) was.in_hand)
+    by_copy c rests was (inr (inl none)) = let wrong : false ≡ true = sym (ap is_copy_resting none) ∙ rests in cc
+    by_copy c rests was (inr (inr (inl driven))) = same_for b was.commit c was.number was.kind was.first (its.copying was.commit driven.copies was.in_hand)
+    by_copy c rests was (inr (inr (inr begun))) = never_begun p s event a none begun
 
 -- ---- one by which one begins
 loads_word : (shape : Shape) (p : Places) (words : List ℕ) (s : KeeperState) → s.step ≡ LoadsPhase → reply_to words (keeper_ask shape p s) ≡ reply_to words (keeping_ask shape p s LoadsPhase)
@@ -71,9 +107,10 @@ phase_loaded shape p n s event reply at is replied = subst (λ (x : KeeperEvent)
 
 begins : (shape : Shape) (p : Places) (n : Now) (s : KeeperState) (event : KeeperEvent) → n.keeper ≡ s → IsReplied shape p n.words s event → IsCopyBegun p s event (keeper_happens shape p s event) → HasBegun n (keeper_happens shape p s event)
 begins shape p n s event here replied its =
-    let same = begun_commit shape p s event its.reply its.loads its.loaded in
+    let same = begun_commit shape p s event its.reply true its.loads its.loaded in
     record {
       copying = λ c at is. may c (some_same its.commit c (sym its.in_hand ∙ (sym same ∙ is)));
+      rests = λ c rests is. may c (some_same its.commit c (sym its.in_hand ∙ (sym same ∙ is)));
       copied = λ c is full is_copied.
           let one : its.commit ≡ c = some_same its.commit c (sym its.in_hand ∙ (sym same ∙ is)) in
           let never : false ≡ true = sym its.not_copied ∙ (ap (λ (x : Commit). x.is_copied) one ∙ is_copied) in cc;
@@ -92,61 +129,44 @@ begins shape p n s event here replied its =
     }
 
 -- ---- either
-record BeginsSo (step after : Keeping) : Type 0 where
-  loads : step ≡ LoadsPhase
-  to_copy : after ≡ Copies
-
-begins_so : (step : Keeping) (event : KeeperEvent) (after : Keeping) → begins_copy (copy_moves step event after) ≡ true → BeginsSo step after
-begins_so LoadsPhase (Replies reply granted) Copies so = record { loads = refl; to_copy = refl }
-begins_so Copies (Replies reply granted) after so = cc
-begins_so step event after so = cc
-
-begun_there : (step : Keeping) (event : KeeperEvent) (after : Keeping) (reply : ℕ) → step ≡ LoadsPhase → event ≡ Replies reply true → after ≡ Copies → begins_copy (copy_moves step event after) ≡ true
-begun_there step event after reply at is to = rw (at, is, to) refl
-
-not_begun : (shape : Shape) (p : Places) (s : KeeperState) (event : KeeperEvent) → begins_copy (copy_moves s.step event (keeper_happens shape p s event).step) ≡ false → (keeper_happens shape p s event).step ≡ Copies → s.step ≡ Copies
-not_begun shape p s event none at = elim ((each_move shape p s event).copies.begins at) [
-  | inl still ↦ still
-  | inr begun ↦ (let never : false ≡ true = sym none ∙ begun_there s.step event (keeper_happens shape p s event).step begun.reply begun.loads begun.loaded at in cc)
-]
-
-one_begun : (shape : Shape) (p : Places) (b n : Now) (s : KeeperState) (event : KeeperEvent) (so : Bool) → begins_copy (copy_moves s.step event (keeper_happens shape p s event).step) ≡ so → n.keeper ≡ s → IsReplied shape p n.words s event
-    → HasBegun b s → HasBegun (if so then n else b) (keeper_happens shape p s event)
+one_begun : (shape : Shape) (p : Places) (b n : Now) (s : KeeperState) (event : KeeperEvent) (so : Bool) → begins_copy (copy_moves (is_copy_resting s.copy) s.step event (keeper_happens shape p s event).step) ≡ so → n.keeper ≡ s
+    → IsReplied shape p n.words s event → HasBegun b s → HasBegun (if so then n else b) (keeper_happens shape p s event)
 one_begun shape p b n s event true so here replied its =
-    let how = begins_so s.step event (keeper_happens shape p s event).step so in
+    let how = begins_so (is_copy_resting s.copy) s.step event (keeper_happens shape p s event).step so in
     elim ((each_move shape p s event).copies.begins how.to_copy) [
       | inl still ↦ (let never : LoadsPhase ≡ Copies = sym how.loads ∙ still in cc)
-      | inr begun ↦ begins shape p n s event here replied begun
+      | inr (inl taken) ↦ (let never : false ≡ true = sym how.none ∙ taken.rests in cc)
+      | inr (inr begun) ↦ begins shape p n s event here replied begun
     ]
-one_begun shape p b n s event false so here replied its = goes_on shape p b s event (not_begun shape p s event so) its
+one_begun shape p b n s event false so here replied its = goes_on shape p b s event so its
 
 -- ---- the events that a step is: one, and none begins by one that goes with it
 data OwnShape (shape : Shape) (p : Places) (s : KeeperState) (own : List KeeperEvent) : Type 0 where
   NoneOwn : own ≡ [] → OwnShape shape p s own
   OneOwn : (event : KeeperEvent) → own ≡ event ∷ [] → OwnShape shape p s own
-  TwoOwn : (later event : KeeperEvent) → own ≡ later ∷ event ∷ [] → ((after : Keeping) → begins_copy (copy_moves (keeper_happens shape p s event).step later after) ≡ false) → OwnShape shape p s own
+  TwoOwn : (later event : KeeperEvent) → own ≡ later ∷ event ∷ [] → ((after : Keeping) → begins_copy (copy_moves (is_copy_resting (keeper_happens shape p s event).copy) (keeper_happens shape p s event).step later after) ≡ false) → OwnShape shape p s own
 
-put_none : (shape : Shape) (p : Places) (s : KeeperState) (step after : Keeping) (granted : Bool) (slot : ℕ) (action : Action) → keeping_ask shape p s step ≡ Put slot action → begins_copy (copy_moves step (Replies 0 granted) after) ≡ false
+put_none : (shape : Shape) (p : Places) (s : KeeperState) (rests : Bool) (step after : Keeping) (granted : Bool) (slot : ℕ) (action : Action) → keeping_ask shape p s step ≡ Put slot action → begins_copy (copy_moves rests step (Replies 0 granted) after) ≡ false
 unfolding keeping_ask
-put_none shape p s LoadsPhase after granted slot action asks = cc
-put_none shape p s Copies after granted slot action asks = refl
-put_none shape p s step after granted slot action asks = refl
+put_none shape p s rests LoadsPhase after granted slot action asks = cc
+put_none shape p s rests Copies after granted slot action asks = refl
+put_none shape p s rests step after granted slot action asks = refl
 
-gets_none : (step after : Keeping) (action : Action) → begins_copy (copy_moves step (Gets action) after) ≡ false
-gets_none LoadsPhase after action = refl
-gets_none Copies after action = refl
-gets_none step after action = refl
+gets_none : (rests : Bool) (step after : Keeping) (action : Action) → begins_copy (copy_moves rests step (Gets action) after) ≡ false
+gets_none rests LoadsPhase after action = refl
+gets_none rests Copies after action = refl
+gets_none rests step after action = refl
 
 slots_shape : (shape : Shape) (p : Places) (actions : List (Option Action)) (granted : Bool) (s : KeeperState) (event : KeeperEvent) (ask : Ask KeeperTold) → keeper_ask shape p (keeper_happens shape p s event) ≡ ask
     → OwnShape shape p s (keeper_slots actions granted ask ++ event ∷ [])
 unfolding keeper_slots
 slots_shape shape p actions granted s event (Put slot action) asks =
-    TwoOwn (Replies 0 granted) event refl (λ after. put_none shape p (keeper_happens shape p s event) (keeper_happens shape p s event).step after granted slot action asks)
+    TwoOwn (Replies 0 granted) event refl (λ after. put_none shape p (keeper_happens shape p s event) (is_copy_resting (keeper_happens shape p s event).copy) (keeper_happens shape p s event).step after granted slot action asks)
 slots_shape shape p actions granted s event (Take slot) asks = by_found (action_at actions slot)
   where
     by_found : (found : Option Action) → OwnShape shape p s (keeper_got found ++ event ∷ [])
     by_found None = OneOwn event refl
-    by_found (Some action) = TwoOwn (Gets action) event refl (λ after. gets_none (keeper_happens shape p s event).step after action)
+    by_found (Some action) = TwoOwn (Gets action) event refl (λ after. gets_none (is_copy_resting (keeper_happens shape p s event).copy) (keeper_happens shape p s event).step after action)
 slots_shape shape p actions granted s event ask asks = OneOwn event refl
 
 then_shape : (shape : Shape) (p : Places) (granted : Bool) (n : Near KeeperState) (reply : ℕ) → OwnShape shape p n.machine (keeper_slots n.actions granted (keeper_ask shape p (keeper_next shape p n.machine reply granted)) ++ Replies reply granted ∷ [])
@@ -198,9 +218,9 @@ HasBegunBy : Shape → Places → Now → Now → KeeperState → List KeeperEve
 HasBegunBy shape p b n s own = HasBegun (if begins_copy (keeper_copies shape p s own) then n else b) (keeper_run shape p s own)
 
 single : (shape : Shape) (p : Places) (b n : Now) (s : KeeperState) (event : KeeperEvent) → n.keeper ≡ s → IsReplied shape p n.words s event → HasBegun b s
-    → HasBegun (if begins_copy (copy_moves s.step event (keeper_happens shape p s event).step ++ []) then n else b) (keeper_happens shape p s event)
+    → HasBegun (if begins_copy (copy_moves (is_copy_resting s.copy) s.step event (keeper_happens shape p s event).step ++ []) then n else b) (keeper_happens shape p s event)
 single shape p b n s event here replied its =
-    rw (joined_nil (copy_moves s.step event (keeper_happens shape p s event).step)) (one_begun shape p b n s event (begins_copy (copy_moves s.step event (keeper_happens shape p s event).step)) refl here replied its)
+    rw (joined_nil (copy_moves (is_copy_resting s.copy) s.step event (keeper_happens shape p s event).step)) (one_begun shape p b n s event (begins_copy (copy_moves (is_copy_resting s.copy) s.step event (keeper_happens shape p s event).step)) refl here replied its)
 
 own_begun : (shape : Shape) (p : Places) (b n : Now) (s : KeeperState) (own : List KeeperEvent) → n.keeper ≡ s → AreReplied shape p n.words s own → HasBegun b s → OwnShape shape p s own → HasBegunBy shape p b n s own
 unfolding HasBegunBy keeper_copies keeper_run
@@ -211,13 +231,14 @@ own_begun shape p b n s own here replied its (TwoOwn later event is none) =
     let a : KeeperState = keeper_happens shape p s event in
     let first = single shape p b n s event here (subst (AreReplied shape p n.words s) is replied).1.0 its in
     subst (HasBegunBy shape p b n s) (sym is)
-    (rw (joined_none (copy_moves a.step later (keeper_happens shape p a later).step) (copy_moves s.step event a.step ++ []) (none (keeper_happens shape p a later).step))
-    (goes_on shape p _ a later (not_begun shape p a later (none (keeper_happens shape p a later).step)) first))
+    (rw (joined_none (copy_moves (is_copy_resting a.copy) a.step later (keeper_happens shape p a later).step) (copy_moves (is_copy_resting s.copy) s.step event a.step ++ []) (none (keeper_happens shape p a later).step))
+    (goes_on shape p _ a later (none (keeper_happens shape p a later).step) first))
 
 -- ---- a life
 none_begun : (b : Now) (s : KeeperState) → s.commit ≡ None → HasBegun b s
 none_begun b s none = record {
   copying = λ c at is. never c is;
+  rests = λ c rests is. never c is;
   copied = λ c is full is_copied. never c is;
 }
   where

@@ -1,6 +1,6 @@
 -- The commit in hand counts as copied only where a copy of it has ended, and it stays the same from a copy's begin to its end.
 use Rattle.std.proofs.Common.{◌≡◌, ◌⊎◌, inl, inr, ℕ, ◌∙◌, List, refl, sym, ap, subst, Bool, true, false}
-use Rattle.std.specs.Prelude.{Option, Some, None, if◌then◌else◌}
+use Rattle.std.specs.Prelude.{Option, Some, None, if◌then◌else◌, not, ◌||◌}
 use Rattle.fkv_base.specs.declared.numbers.Addr.{Addr}
 use Rattle.fkv_base.specs.declared.phases.Phase.TheVariants as phase
 use Rattle.fkv_base.specs.declared.shapes.Shape.{Shape}
@@ -37,7 +37,7 @@ use Rattle.law_refine.specs.Below.fkv_maintain.MaintainAnswer.TheVariants as mai
 use Rattle.law_refine.specs.Below.fkv_maintain.Maintaining.{maintain_ask, maintain_called, maintain_given, maintain_next}
 use Rattle.law_refine.specs.Below.fkv_keeper.TheKeeping.{Keeping}
 use Rattle.law_refine.specs.Below.fkv_keeper.TheKeeping.TheVariants.{Ended, Starts, Maintains, LoadsPhase, Enters, Copies, Seeks, Waits, Writes, Finishes}
-use Rattle.law_refine.specs.Below.fkv_keeper.Keeping.{KeeperState, commit_asked, copied, copies, copy_asked, copy_driven, copy_ledto, enter_ledto, finish_ledto, finished, keeping_called, keeping_given, keeping_next, maintain_ledto, part_begun, phase_ledto, points_known, seek_ledto, start_ledto, turn_asked, wait_ledto, write_ledto, writes_begun}
+use Rattle.law_refine.specs.Below.fkv_keeper.Keeping.{KeeperState, commit_asked, copied, copies, copy_driven, copy_ledto, enter_ledto, finish_ledto, finished, keeping_called, keeping_given, keeping_next, maintain_ledto, part_begun, phase_ledto, points_known, seek_ledto, start_ledto, turn_asked, wait_ledto, write_ledto, writes_begun, is_copy_resting, copy_told}
 use Rattle.law_refine.specs.Below.fkv_keeper.KeeperRun.{KeeperEvent, BeginsTurn, BeginsCommit, Replies, Gets, Calls, begins, is_in_hand, keeper_happens}
 
 -- a commit that was in hand before, as it was begun, and was copied then or is being copied
@@ -87,7 +87,7 @@ either true x y found one other = one
 either false x y found one other = other
 
 copies_same : (p : Places) (s : KeeperState) (granted : Bool) → (copies p s granted).commit ≡ s.commit
-copies_same p s granted = either granted _ _ s.commit refl refl
+copies_same p s granted = either (granted || is_copy_resting s.copy) _ _ s.commit refl refl
 
 part_same : (p : Places) (s : KeeperState) (c : Commit) (said : PhaseSaid) (granted : Bool) → (part_begun p s c said granted).commit ≡ s.commit
 part_same p s c (Says phase.InProgress version) granted = either s.has_entered _ _ s.commit (either c.is_copied _ _ s.commit refl (copies_same p s granted)) refl
@@ -108,15 +108,15 @@ entered_same t (Done enter.EpochsSpent) = refl
 entered_same t (Done enter.Idle) = refl
 entered_same t ask = refl
 
-copied_so : (s : KeeperState) (found : Option Commit) → s.step ≡ Copies → s.commit ≡ found → IsCopiedFrom s (copied found)
-copied_so s None at same c is full is_copied = cc
-copied_so s (Some it) at same c is full is_copied =
-    let its : record it { is_copied = true } ≡ c = some_same (record it { is_copied = true }) c is in
+copied_so : (s : KeeperState) (rests : Bool) (found : Option Commit) → s.step ≡ Copies → s.commit ≡ found → IsCopiedFrom s (copied rests found)
+copied_so s rests None at same c is full is_copied = cc
+copied_so s rests (Some it) at same c is full is_copied =
+    let its : record it { is_copied = it.is_copied || not rests } ≡ c = some_same (record it { is_copied = it.is_copied || not rests }) c is in
     record { commit = it; in_hand = same; number = ap (λ (x : Commit). x.number) its; kind = ap (λ (x : Commit). x.kind) its; first = ap (λ (x : Commit). x.first) its; so = inr at }
 
 copy_led : (s t : KeeperState) (ask : Ask (Unit {0})) → s.step ≡ Copies → t.commit ≡ s.commit → IsCopiedFrom s (copy_ledto t ask).commit
 unfolding copy_ledto
-copy_led s t (Done its) at same = copied_so s t.commit at (sym same)
+copy_led s t (Done its) at same = copied_so s (is_copy_resting t.copy) t.commit at (sym same)
 copy_led s t ask at same = stays s t.commit same
 
 points_so : (s : KeeperState) (found : Option Commit) (end : Addr) (epoch : ℕ) → s.commit ≡ found → IsCopiedFrom s (points_known found end epoch)
@@ -169,7 +169,7 @@ replied shape p s Starts reply granted at = started s (record s { start = start_
 replied shape p s Maintains reply granted at = stays s _ (maintained (record s { maintain = maintain_next shape p s.maintain reply }) (maintain_ask shape p (maintain_next shape p s.maintain reply)))
 replied shape p s LoadsPhase reply granted at = stays s _ (phase_same p s s.commit (phase_said reply) granted)
 replied shape p s Enters reply granted at = stays s _ (entered_same (record s { enter = enter_next s.enter reply }) (enter_ask (enter_next s.enter reply)))
-replied shape p s Copies reply granted at = copy_led s (record s { copy = copy_driven s.copy reply }) (copy_asked (copy_driven s.copy reply)) at refl
+replied shape p s Copies reply granted at = copy_led s (record s { copy = copy_driven s.copy reply }) (copy_told (copy_driven s.copy reply)) at refl
 replied shape p s Seeks reply granted at = sought s (record s { seek = seek_next s.seek reply }) (seek_ask (seek_next s.seek reply)) refl
 replied shape p s Waits reply granted at = stays s _ (waited_same shape (record s { wait = wait_next s.wait reply }) (wait_ask (wait_next s.wait reply)))
 replied shape p s Writes reply granted at = stays s s.commit refl
@@ -207,7 +207,7 @@ copying_same t ask at = refl
 
 driven_same : (shape : Shape) (p : Places) (s : KeeperState) (reply : ℕ) (granted : Bool) → (keeping_next shape p s Copies reply granted).step ≡ Copies → (keeping_next shape p s Copies reply granted).commit ≡ s.commit
 unfolding keeping_next
-driven_same shape p s reply granted at = copying_same (record s { copy = copy_driven s.copy reply }) (copy_asked (copy_driven s.copy reply)) at
+driven_same shape p s reply granted at = copying_same (record s { copy = copy_driven s.copy reply }) (copy_told (copy_driven s.copy reply)) at
 
 pub still_same : (shape : Shape) (p : Places) (s : KeeperState) (event : KeeperEvent) → s.step ≡ Copies → (keeper_happens shape p s event).step ≡ Copies → (keeper_happens shape p s event).commit ≡ s.commit
 unfolding keeper_happens
@@ -224,7 +224,7 @@ loaded_same : (shape : Shape) (p : Places) (s : KeeperState) (reply : ℕ) (gran
 unfolding keeping_next
 loaded_same shape p s reply granted = phase_same p s s.commit (phase_said reply) granted
 
-pub begun_commit : (shape : Shape) (p : Places) (s : KeeperState) (event : KeeperEvent) (reply : ℕ) → s.step ≡ LoadsPhase → event ≡ Replies reply true → (keeper_happens shape p s event).commit ≡ s.commit
+pub begun_commit : (shape : Shape) (p : Places) (s : KeeperState) (event : KeeperEvent) (reply : ℕ) (granted : Bool) → s.step ≡ LoadsPhase → event ≡ Replies reply granted → (keeper_happens shape p s event).commit ≡ s.commit
 unfolding keeper_happens
-begun_commit shape p s event reply at is =
-    ap (λ (x : KeeperEvent). (keeper_happens shape p s x).commit) is ∙ (ap (λ (step : Keeping). (keeping_next shape p s step reply true).commit) at ∙ loaded_same shape p s reply true)
+begun_commit shape p s event reply granted at is =
+    ap (λ (x : KeeperEvent). (keeper_happens shape p s x).commit) is ∙ (ap (λ (step : Keeping). (keeping_next shape p s step reply granted).commit) at ∙ loaded_same shape p s reply granted)

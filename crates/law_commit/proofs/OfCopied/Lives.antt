@@ -1,6 +1,6 @@
 -- Beside each life the copy goes on as its keeper's replies tell, over the index of the life.
 use Rattle.std.proofs.Common.{◌≡◌, ℕ, ◌∙◌, List, [], ◌∷◌, ◌++◌, refl, sym, ap, subst, Bool, true, false}
-use Rattle.std.specs.Prelude.{if◌then◌else◌, map, length}
+use Rattle.std.specs.Prelude.{if◌then◌else◌, map, length, Some, None}
 use Rattle.fkv_base.specs.declared.shapes.Shape.{Shape}
 use Rattle.fkv_plane.specs.declared.asks.Ask.TheVariants.{Done}
 use Rattle.fkv_plane.specs.declared.places.Places.{Places}
@@ -74,7 +74,7 @@ unfolding copy_run copy_events mapped index_run keeper_events copy_replies copyi
 first_copies opening lists keeper = record {
   same = refl;
   told = record { copying = refl; triples = refl };
-  copying = λ copies. cc;
+  copying = record { now = λ copies. cc; rests = λ c is rests. let wrong : None ≡ Some c = sym keeper.no_commit ∙ is in cc };
 }
 
 moved_on : (opening : World) (lists : ℕ → List ℕ) (before : List Event) (event : Event) (own : List KeeperEvent) (w v : CopyWorld)

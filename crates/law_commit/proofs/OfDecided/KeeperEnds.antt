@@ -1,6 +1,6 @@
 -- What the keeper knows of the moments at which a commit's first address and its end were the tail; and that each of its steps keeps it.
 use Rattle.std.proofs.Common.{◌≡◌, ℕ, ◌+◌, ◌∙◌, List, [], ◌∷◌, ◌++◌, length, refl, ap, sym, subst, Bool, true, false}
-use Rattle.std.specs.Prelude.{⊤, nat_le, nat_lt, max, ◌==◌, if◌then◌else◌, Option, Some, None}
+use Rattle.std.specs.Prelude.{⊤, nat_le, nat_lt, max, ◌==◌, if◌then◌else◌, Option, Some, None, ◌||◌}
 use Rattle.fkv_base.specs.Limits.{last_version}
 use Rattle.fkv_base.specs.declared.commits.CommitKind.{CommitKind}
 use Rattle.fkv_base.specs.declared.faults.Fault.TheVariants as fault
@@ -16,7 +16,7 @@ use Rattle.fkv_plane.specs.declared.asks.Ask.{Ask}
 use Rattle.fkv_plane.specs.declared.asks.Ask.TheVariants.{Load, Store, Swap, Cas, Add, Max, Put, Take, Done}
 use Rattle.fkv_plane.specs.declared.places.Places.{Places}
 use Rattle.fkv_plane.specs.Passing.{passed}
-use Rattle.law_refine.specs.Below.fkv_checkpoint.Copying.{Copier, copy_begun}
+use Rattle.law_refine.specs.Below.fkv_checkpoint.Copying.{Copier}
 use Rattle.law_refine.specs.Below.fkv_commit.Commit.{Commit}
 use Rattle.law_refine.specs.Below.fkv_commit.DeferAnswer.{DeferAnswer}
 use Rattle.law_refine.specs.Below.fkv_commit.DeferAnswer.TheVariants.{Armed, Held, Spent}
@@ -50,7 +50,7 @@ use Rattle.law_refine.specs.Below.fkv_keeper.KeeperTold.TheVariants.{CommitRefus
 use Rattle.law_refine.specs.Below.fkv_keeper.TheKeeping.{Keeping}
 use Rattle.law_refine.specs.Below.fkv_keeper.TheKeeping.TheVariants.{Ended, Starts, Maintains, LoadsPhase, Enters, Copies, Seeks, Waits, Writes, Finishes}
 use Rattle.law_refine.specs.Below.fkv_keeper.KeeperRun.{is_in_hand}
-use Rattle.law_refine.specs.Below.fkv_keeper.Keeping.{KeeperState, commit_asked, copied, copies, copies_next, copy_asked, copy_driven, copy_ledto, ended, enter_ledto, finish_ledto, finished, keeping_called, keeping_given, keeping_next, maintain_ledto, part_begun, phase_ledto, points_known, seek_ledto, start_ledto, triples_written, turn_asked, turned, wait_ledto, write_ledto, writes_begun, writes_called}
+use Rattle.law_refine.specs.Below.fkv_keeper.Keeping.{KeeperState, commit_asked, copied, copies, copies_next, copy_driven, copy_ledto, ended, enter_ledto, finish_ledto, finished, keeping_called, keeping_given, keeping_next, maintain_ledto, part_begun, phase_ledto, points_known, seek_ledto, start_ledto, triples_written, turn_asked, turned, wait_ledto, write_ledto, writes_begun, writes_called, copy_taken, is_copy_resting, copy_told}
 use Rattle.law_refine.specs.Below.fkv_world.World.{keeper_asked}
 use Rattle.law_commit.specs.Decided.Ended.{Span, span_in}
 
@@ -224,7 +224,7 @@ module _ (F : Version → Addr → Type 0) (E : Span → Type 0) where
 
   copies_ends : (p : Places) (s : KeeperState) (c : Commit) (granted : Bool) → s.commit ≡ Some c → c.is_copied ≡ false → Hand s → KeeperEnds (copies p s granted)
   copies_ends p s c granted in_hand not_copied hand =
-      either_ends granted (record s { copy = Some (copy_begun p); is_granted = true; step = Copies }) (ended (record s { is_granted = false }) (TurnRefused fault.Memory))
+      either_ends (granted || is_copy_resting s.copy) (record s { copy = copy_taken p s.copy; is_granted = true; step = Copies }) (ended (record s { is_granted = false }) (TurnRefused fault.Memory))
       (λ yes. (hand.first, λ points. clash c.is_copied not_copied (hand.end c in_hand points).0)) (λ no. (λ works. hand))
 
   copies_next_ends : (p : Places) (s : KeeperState) (c : Commit) (granted : Bool) (other : KeeperState) → s.commit ≡ Some c → Hand s → (c.is_copied ≡ true → KeeperEnds other) → KeeperEnds (copies_next p s c granted other)
@@ -271,13 +271,13 @@ module _ (F : Version → Addr → Type 0) (E : Span → Type 0) where
   entered_ends s (Done enter.Idle) at hand = λ works. hand
   entered_ends s ask at hand = stays s Enters at hand
 
-  copied_first : (found : Option Commit) → HandFirst found → HandFirst (copied found)
-  copied_first None first c is = cc
-  copied_first (Some d) first c is = subst (λ (x : Commit). F x.number x.first) (some_same is) (first d refl)
+  copied_first : (rests : Bool) (found : Option Commit) → HandFirst found → HandFirst (copied rests found)
+  copied_first rests None first c is = cc
+  copied_first rests (Some d) first c is = subst (λ (x : Commit). F x.number x.first) (some_same is) (first d refl)
 
   copied_ends : (s : KeeperState) (ask : Ask (Unit {0})) → s.step ≡ Copies → HandFirst s.commit × (s.has_points ≡ true → ⊥) → KeeperEnds (copy_ledto s ask)
   unfolding copy_ledto
-  copied_ends s (Done its) at known = λ works. record { first = copied_first s.commit known.0; end = λ c is points. absurd (known.1 points) }
+  copied_ends s (Done its) at known = λ works. record { first = copied_first (is_copy_resting s.copy) s.commit known.0; end = λ c is points. absurd (known.1 points) }
   copied_ends s ask at known = stays s Copies at known
 
   -- ---- as its points are sought
@@ -417,7 +417,7 @@ module _ (F : Version → Addr → Type 0) (E : Span → Type 0) where
   replied_ends shape p s Maintains reply granted at its first end = maintained_ends (record s { maintain = maintain_next shape p s.maintain reply }) (maintain_ask shape p (maintain_next shape p s.maintain reply)) at its
   replied_ends shape p s LoadsPhase reply granted at its first end = phase_ends p s s.commit (phase_said reply) granted refl its
   replied_ends shape p s Enters reply granted at its first end = entered_ends (record s { enter = enter_next s.enter reply }) (enter_ask (enter_next s.enter reply)) at its
-  replied_ends shape p s Copies reply granted at its first end = copied_ends (record s { copy = copy_driven s.copy reply }) (copy_asked (copy_driven s.copy reply)) at its
+  replied_ends shape p s Copies reply granted at its first end = copied_ends (record s { copy = copy_driven s.copy reply }) (copy_told (copy_driven s.copy reply)) at its
   replied_ends shape p s Seeks reply granted at its first end =
       let after : SeekState = seek_next s.seek reply in
       let ends = seeks_on s reply its (λ loads. end refl its loads) in

@@ -1,6 +1,6 @@
 -- Each step of the keeper keeps what it knows of the raises for its commit.
 use Rattle.std.proofs.Common.{◌≡◌, ℕ, ◌∙◌, List, [], length, refl, sym, ap, subst, Bool, true, false}
-use Rattle.std.specs.Prelude.{⊤, if◌then◌else◌, Option, Some, None}
+use Rattle.std.specs.Prelude.{⊤, if◌then◌else◌, Option, Some, None, ◌||◌}
 use Rattle.fkv_base.specs.declared.commits.CommitKind.{CommitKind}
 use Rattle.fkv_base.specs.declared.faults.Fault.TheVariants as fault
 use Rattle.fkv_base.specs.declared.numbers.Addr.{Addr}
@@ -14,7 +14,6 @@ use Rattle.fkv_plane.specs.declared.actions.Action.{Action}
 use Rattle.fkv_plane.specs.declared.asks.Ask.{Ask}
 use Rattle.fkv_plane.specs.declared.asks.Ask.TheVariants.{Done}
 use Rattle.fkv_plane.specs.declared.places.Places.{Places}
-use Rattle.law_refine.specs.Below.fkv_checkpoint.Copying.{copy_begun}
 use Rattle.law_refine.specs.Below.fkv_commit.Commit.{Commit}
 use Rattle.law_refine.specs.Below.fkv_commit.Deferred.{Deferred}
 use Rattle.law_refine.specs.Below.fkv_commit.TheDeferring.TheVariants as defer
@@ -51,7 +50,7 @@ use Rattle.law_refine.specs.Below.fkv_keeper.KeeperTold.TheVariants.{CommitRefus
 use Rattle.law_refine.specs.Below.fkv_keeper.TheKeeping.{Keeping}
 use Rattle.law_refine.specs.Below.fkv_keeper.TheKeeping.TheVariants.{Ended, Starts, Maintains, LoadsPhase, Enters, Copies, Seeks, Waits, Writes, Finishes}
 use Rattle.law_refine.specs.Below.fkv_keeper.KeeperRun.{is_in_hand}
-use Rattle.law_refine.specs.Below.fkv_keeper.Keeping.{KeeperState, commit_asked, copied, copies, copies_next, copy_asked, copy_driven, copy_ledto, ended, enter_ledto, finish_ledto, finished, keeping_called, keeping_given, keeping_next, maintain_ledto, part_begun, phase_ledto, points_known, seek_ledto, start_ledto, turn_asked, turned, wait_ledto, write_ledto, writes_begun, writes_called}
+use Rattle.law_refine.specs.Below.fkv_keeper.Keeping.{KeeperState, commit_asked, copied, copies, copies_next, copy_driven, copy_ledto, ended, enter_ledto, finish_ledto, finished, keeping_called, keeping_given, keeping_next, maintain_ledto, part_begun, phase_ledto, points_known, seek_ledto, start_ledto, turn_asked, turned, wait_ledto, write_ledto, writes_begun, writes_called, copy_taken, is_copy_resting, copy_told}
 use Rattle.law_refine.specs.Below.fkv_world.World.{keeper_asked}
 use Rattle.law_refine.specs.Below.law_world.GuardKeeper.KeeperShown.{KeepingKnows}
 use Rattle.law_refine.proofs.Footprint.Commits.{finish_stores, seek_stores, start_stores}
@@ -92,7 +91,7 @@ maintained_fits g s ask at hand = stays_fits g s Maintains at hand tt
 
 copies_fits : (g : Ground) (p : Places) (s : KeeperState) (granted : Bool) → HandFits g s.commit s.has_points → KeeperFits g (copies p s granted)
 copies_fits g p s granted hand =
-    either_fits g granted (record s { copy = Some (copy_begun p); is_granted = true; step = Copies }) (ended (record s { is_granted = false }) (TurnRefused fault.Memory)) (λ yes. record { hand = hand; step = tt }) (λ no. record { hand = hand; step = tt })
+    either_fits g (granted || is_copy_resting s.copy) (record s { copy = copy_taken p s.copy; is_granted = true; step = Copies }) (ended (record s { is_granted = false }) (TurnRefused fault.Memory)) (λ yes. record { hand = hand; step = tt }) (λ no. record { hand = hand; step = tt })
 
 copies_next_fits : (g : Ground) (p : Places) (s : KeeperState) (c : Commit) (granted : Bool) (other : KeeperState) → HandFits g s.commit s.has_points → KeeperFits g other → KeeperFits g (copies_next p s c granted other)
 copies_next_fits g p s c granted other hand its = either_fits g c.is_copied other (copies p s granted) (λ yes. its) (λ no. copies_fits g p s granted hand)
@@ -123,16 +122,16 @@ entered_fits g s (Done enter.EpochsSpent) at hand fits = ended_fits g s _ hand
 entered_fits g s (Done enter.Idle) at hand fits = ended_fits g s _ hand
 entered_fits g s ask at hand fits = stays_fits g s Enters at hand fits
 
-copied_hand : (g : Ground) (found : Option Commit) (has_points : Bool) → HandFits g found has_points → HandFits g (copied found) has_points
-copied_hand g None has_points hand = hand
-copied_hand g (Some its) has_points hand = record {
+copied_hand : (g : Ground) (rests : Bool) (found : Option Commit) (has_points : Bool) → HandFits g found has_points → HandFits g (copied rests found) has_points
+copied_hand g rests None has_points hand = hand
+copied_hand g rests (Some its) has_points hand = record {
   first = λ c is. ap (λ (x : Commit). x.first.0) (sym (some_same is)) ∙ hand.first its refl;
   points = λ c is yes. subst (λ (x : Commit). IsEnding g.raises x.end.0 x.epoch) (some_same is) (hand.points its refl yes);
 }
 
 copied_fits : (g : Ground) (s : KeeperState) (ask : Ask (Unit {0})) → s.step ≡ Copies → HandFits g s.commit s.has_points → KeeperFits g (copy_ledto s ask)
 unfolding copy_ledto
-copied_fits g s (Done its) at hand = record { hand = copied_hand g s.commit s.has_points hand; step = tt }
+copied_fits g s (Done its) at hand = record { hand = copied_hand g (is_copy_resting s.copy) s.commit s.has_points hand; step = tt }
 copied_fits g s ask at hand = stays_fits g s Copies at hand tt
 
 known_hand : (g : Ground) (found : Option Commit) (has_points : Bool) (end : Addr) (epoch : ℕ) → IsEnding g.raises end.0 epoch → HandFits g found has_points → HandFits g (points_known found end epoch) true
@@ -209,7 +208,7 @@ keeper_goes_fits g l number stage shape p s Maintains reply granted at is knows 
 keeper_goes_fits g l number stage shape p s LoadsPhase reply granted at is knows ready says hand fits = phase_fits g p s s.commit (phase_said reply) granted refl hand
 keeper_goes_fits g l number stage shape p s Enters reply granted at is knows ready says hand fits =
     entered_fits g (record s { enter = enter_next s.enter reply }) (enter_ask (enter_next s.enter reply)) at hand (enter_goes_fits g l number stage s.enter s.enter.step reply refl is.1 knows says fits)
-keeper_goes_fits g l number stage shape p s Copies reply granted at is knows ready says hand fits = copied_fits g (record s { copy = copy_driven s.copy reply }) (copy_asked (copy_driven s.copy reply)) at hand
+keeper_goes_fits g l number stage shape p s Copies reply granted at is knows ready says hand fits = copied_fits g (record s { copy = copy_driven s.copy reply }) (copy_told (copy_driven s.copy reply)) at hand
 keeper_goes_fits g l number stage shape p s Seeks reply granted at is knows ready says hand fits =
     let goes = seek_goes_fits g l number stage s.seek s.seek.step reply refl is.1 knows ready says fits in
     sought_fits g (record s { seek = seek_next s.seek reply }) (seek_ask (seek_next s.seek reply)) at hand goes (seek_tells_fits g (seek_next s.seek reply) (seek_next s.seek reply).step goes)

@@ -1,6 +1,6 @@
 -- The keeper has an action in hand only right behind the claim of its slot. It puts one that stores a phase where it defers that phase, and no other.
 use Rattle.std.proofs.Common.{◌≡◌, ◌⊎◌, inl, inr, ℕ, ◌∙◌, List, refl, sym, ap, subst, Bool, true, false}
-use Rattle.std.specs.Prelude.{⊤, if◌then◌else◌, Option, Some, None}
+use Rattle.std.specs.Prelude.{⊤, if◌then◌else◌, Option, Some, None, ◌||◌}
 use Rattle.fkv_base.specs.declared.phases.Phase.TheVariants as phase
 use Rattle.fkv_base.specs.declared.shapes.Shape.{Shape}
 use Rattle.fkv_base.specs.declared.faults.Fault.TheVariants as fault
@@ -34,7 +34,7 @@ use Rattle.law_refine.specs.Below.fkv_flush.Flushing.{bytes_done, bytes_next, fl
 use Rattle.law_refine.specs.Below.fkv_flush.Serving.{mailbox_from, serve_ask, serve_next, serve_read}
 use Rattle.law_refine.specs.Below.fkv_checkpoint.CopyStep.{CopyStep}
 use Rattle.law_refine.specs.Below.fkv_checkpoint.CopyStep.TheVariants as copy
-use Rattle.law_refine.specs.Below.fkv_checkpoint.Copying.{Copier, copy_begun, copy_step_ask}
+use Rattle.law_refine.specs.Below.fkv_checkpoint.Copying.{Copier, copy_step_ask}
 use Rattle.law_refine.specs.Below.fkv_commit.Commit.{Commit}
 use Rattle.fkv_base.specs.declared.commits.CommitKind.{CommitKind}
 use Rattle.law_refine.specs.Below.fkv_commit.Deferred.{Deferred}
@@ -80,7 +80,7 @@ use Rattle.law_refine.specs.Below.fkv_keeper.KeeperTold.{KeeperTold}
 use Rattle.law_refine.specs.Below.fkv_keeper.KeeperTold.TheVariants.{TurnRefused, CommitRefused}
 use Rattle.law_refine.specs.Below.fkv_keeper.TheKeeping.{Keeping}
 use Rattle.law_refine.specs.Below.fkv_keeper.TheKeeping.TheVariants.{Ended, Starts, Maintains, LoadsPhase, Enters, Copies, Seeks, Waits, Writes, Finishes}
-use Rattle.law_refine.specs.Below.fkv_keeper.Keeping.{KeeperState, commit_asked, copies, copies_next, copy_asked, copy_driven, copy_ledto, device_passed, ended, enter_ledto, finish_ledto, finished, keeper_next, keeping_ask, keeping_called, keeping_given, keeping_next, maintain_ledto, part_begun, phase_ledto, seek_ledto, start_ledto, turn_asked, turned, wait_ledto, write_asked, write_ledto, writes_begun, writes_called}
+use Rattle.law_refine.specs.Below.fkv_keeper.Keeping.{KeeperState, commit_asked, copies, copies_next, copy_asked, copy_driven, copy_ledto, device_passed, ended, enter_ledto, finish_ledto, finished, keeper_next, keeping_ask, keeping_called, keeping_given, keeping_next, maintain_ledto, part_begun, phase_ledto, seek_ledto, start_ledto, turn_asked, turned, wait_ledto, write_asked, write_ledto, writes_begun, writes_called, copy_taken, is_copy_resting}
 use Rattle.law_commit.specs.Phases.Staged.{DefersAt, DefersReadOnly, EnterAt, SeekAt, Stage, StartAt, StepAt, Prepares, DefersProgress, Progresses, DefersPending, Pends, claim_hand, defer_moves, enter_moves, keeper_hand, keeping_hand, keeping_moves, maintain_hand, is_resting, phase_in, seek_moves, stage_out, stage_phase, stage_version, start_moves}
 use Rattle.law_commit.proofs.OfPhases.SessionHands.{PutsNone, claim_given_hand, claim_next_none, claim_puts, passed_puts, raise_puts, arm_puts, scan_puts, shift_puts, turn_puts}
 
@@ -210,7 +210,7 @@ maintained_none s (Done maintain.Device) at none = stays_none s Maintains at non
 maintained_none s ask at none = stays_none s Maintains at none
 
 copies_none : (p : Places) (s : KeeperState) (granted : Bool) → HasNone (copies p s granted)
-copies_none p s granted = either_none granted (record s { copy = Some (copy_begun p); is_granted = true; step = Copies }) (ended (record s { is_granted = false }) (TurnRefused fault.Memory)) refl refl
+copies_none p s granted = either_none (granted || is_copy_resting s.copy) (record s { copy = copy_taken p s.copy; is_granted = true; step = Copies }) (ended (record s { is_granted = false }) (TurnRefused fault.Memory)) refl refl
 
 copies_next_none : (p : Places) (s : KeeperState) (c : Commit) (granted : Bool) (other : KeeperState) → HasNone other → HasNone (copies_next p s c granted other)
 copies_next_none p s c granted other none = either_none c.is_copied other (copies p s granted) none (copies_none p s granted)

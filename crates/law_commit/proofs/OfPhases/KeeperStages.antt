@@ -1,6 +1,6 @@
 -- Each event of the keeper's own leaves it at the stage to which it leads.
 use Rattle.std.proofs.Common.{◌≡◌, ◌⊎◌, inl, inr, ℕ, ◌+◌, ◌<◌, ◌∙◌, List, length, refl, arith, sym, ap, subst, Bool, true, false}
-use Rattle.std.specs.Prelude.{⊤, if◌then◌else◌, nat_lt, Option, Some, None}
+use Rattle.std.specs.Prelude.{⊤, if◌then◌else◌, nat_lt, Option, Some, None, ◌||◌}
 use Rattle.fkv_base.specs.Limits.{last_version}
 use Rattle.fkv_base.specs.declared.faults.Fault.TheVariants as fault
 use Rattle.fkv_base.specs.declared.numbers.Addr.{Addr}
@@ -15,7 +15,6 @@ use Rattle.fkv_plane.specs.declared.actions.Action.{Action}
 use Rattle.fkv_plane.specs.declared.asks.Ask.{Ask}
 use Rattle.fkv_plane.specs.declared.asks.Ask.TheVariants.{Done}
 use Rattle.fkv_plane.specs.declared.places.Places.{Places}
-use Rattle.law_refine.specs.Below.fkv_checkpoint.Copying.{copy_begun}
 use Rattle.law_refine.specs.Below.fkv_commit.Commit.{Commit}
 use Rattle.fkv_base.specs.declared.commits.CommitKind.{CommitKind}
 use Rattle.law_refine.specs.Below.fkv_commit.EnterAnswer.{EnterAnswer}
@@ -57,7 +56,7 @@ use Rattle.law_refine.specs.Below.fkv_keeper.KeeperTold.{KeeperTold}
 use Rattle.law_refine.specs.Below.fkv_keeper.KeeperTold.TheVariants.{TurnRefused, CommitRefused}
 use Rattle.law_refine.specs.Below.fkv_keeper.TheKeeping.{Keeping}
 use Rattle.law_refine.specs.Below.fkv_keeper.TheKeeping.TheVariants.{Ended, Starts, Maintains, LoadsPhase, Enters, Copies, Seeks, Waits, Writes, Finishes}
-use Rattle.law_refine.specs.Below.fkv_keeper.Keeping.{KeeperState, copy_asked, ended, turned, commit_asked, turn_asked, start_ledto, maintain_ledto, copies, copies_next, part_begun, phase_ledto, enter_ledto, copied, copy_ledto, points_known, seek_ledto, writes_begun, wait_ledto, finished, finish_ledto, copy_driven, keeping_next, keeper_next, keeping_given, write_ledto, writes_called, keeping_called}
+use Rattle.law_refine.specs.Below.fkv_keeper.Keeping.{KeeperState, ended, turned, commit_asked, turn_asked, start_ledto, maintain_ledto, copies, copies_next, part_begun, phase_ledto, enter_ledto, copied, copy_ledto, points_known, seek_ledto, writes_begun, wait_ledto, finished, finish_ledto, copy_driven, keeping_next, keeper_next, keeping_given, write_ledto, writes_called, keeping_called, copy_taken, is_copy_resting, copy_told}
 use Rattle.law_refine.specs.Below.fkv_keeper.KeeperRun.{is_in_hand}
 use Rattle.law_commit.specs.Phases.Staged.{FitsVersion, DefersAt, defer_moves, Stage, Rests, Prepares, DefersProgress, Progresses, DefersPending, Pends, Flushes, stage_phase, stage_version, is_resting, is_early, StartsIt, StartAt, EnterAt, SeekAt, FinishAt, StepAt, EarlyAt, HasInHand, KeeperAt, start_moves, enter_moves, seek_moves, finish_moves, keeping_moves, finish_number, keeping_number}
 use Rattle.law_commit.proofs.OfPhases.CommitStages.{StartSays, start_goes, enter_goes, SeeksAt, seek_begins, seek_goes}
@@ -166,7 +165,7 @@ maintained_at number stage s ask at has early = at_step number stage s Maintains
 -- what the phase calls for
 copies_at : (number : Version) (stage : Stage) (p : Places) (s : KeeperState) (granted : Bool) → HasInHand number stage s → (s.has_entered ≡ false → is_early stage ≡ true) → KeeperAt number stage (copies p s granted)
 copies_at number stage p s granted has early =
-    either_at number stage granted (record s { copy = Some (copy_begun p); is_granted = true; step = Copies }) (ended (record s { is_granted = false }) (TurnRefused fault.Memory))
+    either_at number stage (granted || is_copy_resting s.copy) (record s { copy = copy_taken p s.copy; is_granted = true; step = Copies }) (ended (record s { is_granted = false }) (TurnRefused fault.Memory))
     (λ yes. record { has = record { next = has.next; hand = has.hand }; early = early; step = tt }) (λ no. record { has = record { next = has.next; hand = has.hand }; early = early; step = tt })
 
 copies_next_at : (number : Version) (stage : Stage) (p : Places) (s : KeeperState) (c : Commit) (granted : Bool) (other : KeeperState) → HasInHand number stage s → (s.has_entered ≡ false → is_early stage ≡ true) → KeeperAt number stage other
@@ -250,15 +249,15 @@ enters_has number stage s entering.Defers has = by_step s.enter.defer.step
     by_step (defer.Arms epoch) = has
 
 -- a copy
-copied_hand : (number : Version) (stage : Stage) (found : Option Commit) → ((c : Commit) → found ≡ Some c → (c.number ≡ number) × (is_resting stage ≡ false)) → (c : Commit) → copied found ≡ Some c → (c.number ≡ number) × (is_resting stage ≡ false)
-copied_hand number stage None hand c is = cc
-copied_hand number stage (Some its) hand c is =
+copied_hand : (number : Version) (stage : Stage) (rests : Bool) (found : Option Commit) → ((c : Commit) → found ≡ Some c → (c.number ≡ number) × (is_resting stage ≡ false)) → (c : Commit) → copied rests found ≡ Some c → (c.number ≡ number) × (is_resting stage ≡ false)
+copied_hand number stage rests None hand c is = cc
+copied_hand number stage rests (Some its) hand c is =
     let has = hand its refl in
     (ap (λ (x : Commit). x.number) (sym (some_same is)) ∙ has.0, has.1)
 
 copied_at : (number : Version) (stage : Stage) (s : KeeperState) (ask : Ask (Unit {0})) → s.step ≡ Copies → HasInHand number stage s → (s.has_entered ≡ false → is_early stage ≡ true) → KeeperAt number stage (copy_ledto s ask)
 unfolding copy_ledto
-copied_at number stage s (Done its) at has early = record { has = record { next = has.next; hand = copied_hand number stage s.commit has.hand }; early = early; step = tt }
+copied_at number stage s (Done its) at has early = record { has = record { next = has.next; hand = copied_hand number stage (is_copy_resting s.copy) s.commit has.hand }; early = early; step = tt }
 copied_at number stage s ask at has early = at_step number stage s Copies at has early tt
 
 -- the points
@@ -373,7 +372,7 @@ replied_at number stage shape p s Enters reply granted at has early is fits says
     entered_at number after (record s { enter = enter_next s.enter reply }) (enter_ask (enter_next s.enter reply)) at (record { next = here.next; hand = here.hand }) goes.same goes.at
     (enter_tells number after (enter_next s.enter reply) (enter_next s.enter reply).step goes.at)
 replied_at number stage shape p s Copies reply granted at has early is fits says =
-    copied_at number stage (record s { copy = copy_driven s.copy reply }) (copy_asked (copy_driven s.copy reply)) at (record { next = has.next; hand = has.hand }) early
+    copied_at number stage (record s { copy = copy_driven s.copy reply }) (copy_told (copy_driven s.copy reply)) at (record { next = has.next; hand = has.hand }) early
 replied_at number stage shape p s Seeks reply granted at has early is fits says =
     let after : Stage = seek_moves stage s.seek.step in
     let here = seeks_has number stage s s.seek.step has in

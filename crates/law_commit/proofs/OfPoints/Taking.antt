@@ -1,6 +1,6 @@
 -- What the keeper knows of the points that it takes, whatever a point is, and whatever is known of words that it has met.
 use Rattle.std.proofs.Common.{◌≡◌, ℕ, zero, suc, ◌+◌, ◌<◌, ◌≤◌, ◌∙◌, List, [], ◌∷◌, ◌++◌, length, refl, arith, sym, ap, subst, Bool, true, false}
-use Rattle.std.specs.Prelude.{⊤, nat_le, nat_lt, max, ◌==◌, if◌then◌else◌, Option, Some, None, slice_get}
+use Rattle.std.specs.Prelude.{⊤, nat_le, nat_lt, max, ◌==◌, if◌then◌else◌, Option, Some, None, slice_get, ◌||◌}
 use Rattle.std.proofs.lemmas.Bool.Decides.{nat_tests}
 use Rattle.fkv_base.specs.declared.commits.CommitKind.{CommitKind}
 use Rattle.fkv_base.specs.declared.faults.Fault.TheVariants as fault
@@ -17,7 +17,6 @@ use Rattle.fkv_plane.specs.declared.asks.Ask.{Ask}
 use Rattle.fkv_plane.specs.declared.asks.Ask.TheVariants.{Load, Store, Swap, Cas, Add, Max, Put, Take, Done}
 use Rattle.fkv_plane.specs.declared.places.Places.{Places}
 use Rattle.fkv_plane.specs.Passing.{passed}
-use Rattle.law_refine.specs.Below.fkv_checkpoint.Copying.{copy_begun}
 use Rattle.law_refine.specs.Below.fkv_commit.Commit.{Commit}
 use Rattle.law_refine.specs.Below.fkv_commit.DeferAnswer.{DeferAnswer}
 use Rattle.law_refine.specs.Below.fkv_commit.DeferAnswer.TheVariants.{Armed, Held, Spent}
@@ -49,7 +48,7 @@ use Rattle.law_refine.specs.Below.fkv_keeper.KeeperTold.TheVariants.{CommitRefus
 use Rattle.law_refine.specs.Below.fkv_keeper.TheKeeping.{Keeping}
 use Rattle.law_refine.specs.Below.fkv_keeper.TheKeeping.TheVariants.{Ended, Starts, Maintains, LoadsPhase, Enters, Copies, Seeks, Waits, Writes, Finishes}
 use Rattle.law_refine.specs.Below.fkv_keeper.KeeperRun.{is_in_hand}
-use Rattle.law_refine.specs.Below.fkv_keeper.Keeping.{Finality, KeeperState, commit_asked, copied, copies, copies_next, copy_asked, copy_driven, copy_ledto, ended, enter_ledto, finish_ledto, finished, keeping_called, keeping_given, keeping_next, maintain_ledto, part_begun, phase_ledto, points_known, seek_ledto, start_ledto, turn_asked, turned, wait_ledto, write_ledto, writes_begun, writes_called}
+use Rattle.law_refine.specs.Below.fkv_keeper.Keeping.{Finality, KeeperState, commit_asked, copied, copies, copies_next, copy_driven, copy_ledto, ended, enter_ledto, finish_ledto, finished, keeping_called, keeping_given, keeping_next, maintain_ledto, part_begun, phase_ledto, points_known, seek_ledto, start_ledto, turn_asked, turned, wait_ledto, write_ledto, writes_begun, writes_called, copy_taken, is_copy_resting, copy_told}
 use Rattle.law_refine.specs.Below.fkv_world.World.{keeper_asked}
 use Rattle.law_commit.proofs.InTurn.{some_commit}
 
@@ -305,7 +304,7 @@ module _ (count : ℕ) (F : ℕ → ℕ → ℕ → Type 0) (A : ℕ → ℕ →
 
   copies_take : (p : Places) (s : KeeperState) (granted : Bool) → Has s → KeeperTakes (copies p s granted)
   copies_take p s granted has =
-      either_takes granted (record s { copy = Some (copy_begun p); is_granted = true; step = Copies }) (ended (record s { is_granted = false }) (TurnRefused fault.Memory)) (λ yes. record { sessions = has.sessions; last = has.last; hand = has.hand; step = tt })
+      either_takes (granted || is_copy_resting s.copy) (record s { copy = copy_taken p s.copy; is_granted = true; step = Copies }) (ended (record s { is_granted = false }) (TurnRefused fault.Memory)) (λ yes. record { sessions = has.sessions; last = has.last; hand = has.hand; step = tt })
       (λ no. record { sessions = has.sessions; last = has.last; hand = has.hand; step = tt })
 
   copies_next_take : (p : Places) (s : KeeperState) (c : Commit) (granted : Bool) (other : KeeperState) → Has s → KeeperTakes other → KeeperTakes (copies_next p s c granted other)
@@ -350,16 +349,16 @@ module _ (count : ℕ) (F : ℕ → ℕ → ℕ → Type 0) (A : ℕ → ℕ →
   enter_takes s (Done enter.Idle) at has = record { sessions = has.sessions; last = has.last; hand = has.hand; step = tt }
   enter_takes s ask at has = stays s Enters at has tt
 
-  copied_hand : (s : SeekState) (found : Option Commit) (has_points : Bool) → HandTakes s found has_points → HandTakes s (copied found) has_points
-  copied_hand s None has_points hand = hand
-  copied_hand s (Some its) has_points hand = λ c is yes.
+  copied_hand : (s : SeekState) (rests : Bool) (found : Option Commit) (has_points : Bool) → HandTakes s found has_points → HandTakes s (copied rests found) has_points
+  copied_hand s rests None has_points hand = hand
+  copied_hand s rests (Some its) has_points hand = λ c is yes.
       let all = hand its refl yes in
       let same : its.number ≡ c.number = cc in
       record { number = all.number ∙ same; taken = all.taken; all = all.all }
 
   copied_takes : (s : KeeperState) (ask : Ask (Unit {0})) → s.step ≡ Copies → Has s → KeeperTakes (copy_ledto s ask)
   unfolding copy_ledto
-  copied_takes s (Done its) at has = record { sessions = has.sessions; last = has.last; hand = copied_hand s.seek s.commit s.has_points has.hand; step = tt }
+  copied_takes s (Done its) at has = record { sessions = has.sessions; last = has.last; hand = copied_hand s.seek (is_copy_resting s.copy) s.commit s.has_points has.hand; step = tt }
   copied_takes s ask at has = stays s Copies at has tt
 
   known_hand : (s : SeekState) (found : Option Commit) (end : Addr) (epoch : ℕ) → ((c : Commit) → found ≡ Some c → s.number ≡ c.number) → AreTaken s.number.0 s.points → length s.points ≡ count
@@ -441,7 +440,7 @@ module _ (count : ℕ) (F : ℕ → ℕ → ℕ → Type 0) (A : ℕ → ℕ →
       maintain_takes (record s { maintain = maintain_next shape p s.maintain reply }) (maintain_ask shape p (maintain_next shape p s.maintain reply)) at (record { sessions = has.sessions; last = has.last; hand = has.hand })
   replied_takes shape p s LoadsPhase reply granted at has its tells = phase_takes p s s.commit (phase_said reply) granted refl has
   replied_takes shape p s Enters reply granted at has its tells = enter_takes (record s { enter = enter_next s.enter reply }) (enter_ask (enter_next s.enter reply)) at (record { sessions = has.sessions; last = has.last; hand = has.hand })
-  replied_takes shape p s Copies reply granted at has its tells = copied_takes (record s { copy = copy_driven s.copy reply }) (copy_asked (copy_driven s.copy reply)) at (record { sessions = has.sessions; last = has.last; hand = has.hand })
+  replied_takes shape p s Copies reply granted at has its tells = copied_takes (record s { copy = copy_driven s.copy reply }) (copy_told (copy_driven s.copy reply)) at (record { sessions = has.sessions; last = has.last; hand = has.hand })
   replied_takes shape p s Seeks reply granted at has its tells = seeks_take s reply at has.last its tells
   replied_takes shape p s Waits reply granted at has its tells = waited_takes shape (record s { wait = wait_next s.wait reply }) (wait_ask (wait_next s.wait reply)) at (record { sessions = has.sessions; last = has.last; hand = has.hand }) its
   replied_takes shape p s Writes reply granted at has its tells = stays s Writes at has its

@@ -1,6 +1,6 @@
 -- As the keeper seeks the points of a commit, the sessions whose owing words it has read as 0 leave the commit's version, whatever that is.
 use Rattle.std.proofs.Common.{◌≡◌, ℕ, ◌+◌, ◌<◌, ◌≤◌, List, [], ◌∷◌, ◌++◌, length, refl, arith, sym, subst, Bool, true, false}
-use Rattle.std.specs.Prelude.{⊤, nat_le, nat_lt, max, ◌==◌, if◌then◌else◌, Option, Some, None}
+use Rattle.std.specs.Prelude.{⊤, nat_le, nat_lt, max, ◌==◌, if◌then◌else◌, Option, Some, None, ◌||◌}
 use Rattle.std.proofs.lemmas.Bool.Decides.{nat_tests}
 use Rattle.fkv_base.specs.declared.commits.CommitKind.{CommitKind}
 use Rattle.fkv_base.specs.declared.faults.Fault.TheVariants as fault
@@ -14,7 +14,6 @@ use Rattle.fkv_plane.specs.declared.actions.Action.{Action}
 use Rattle.fkv_plane.specs.declared.asks.Ask.{Ask}
 use Rattle.fkv_plane.specs.declared.asks.Ask.TheVariants.{Done}
 use Rattle.fkv_plane.specs.declared.places.Places.{Places}
-use Rattle.law_refine.specs.Below.fkv_checkpoint.Copying.{copy_begun}
 use Rattle.law_refine.specs.Below.fkv_commit.Commit.{Commit}
 use Rattle.law_refine.specs.Below.fkv_commit.DeferAnswer.{DeferAnswer}
 use Rattle.law_refine.specs.Below.fkv_commit.DeferAnswer.TheVariants.{Armed, Held, Spent}
@@ -46,7 +45,7 @@ use Rattle.law_refine.specs.Below.fkv_keeper.KeeperTold.TheVariants.{CommitRefus
 use Rattle.law_refine.specs.Below.fkv_keeper.TheKeeping.{Keeping}
 use Rattle.law_refine.specs.Below.fkv_keeper.TheKeeping.TheVariants.{Ended, Starts, Maintains, LoadsPhase, Enters, Copies, Seeks, Waits, Writes, Finishes}
 use Rattle.law_refine.specs.Below.fkv_keeper.KeeperRun.{is_in_hand}
-use Rattle.law_refine.specs.Below.fkv_keeper.Keeping.{KeeperState, commit_asked, copies, copies_next, copy_asked, copy_driven, copy_ledto, ended, enter_ledto, finish_ledto, finished, keeping_called, keeping_given, keeping_next, maintain_ledto, part_begun, phase_ledto, seek_ledto, start_ledto, turn_asked, turned, wait_ledto, write_ledto, writes_begun, writes_called}
+use Rattle.law_refine.specs.Below.fkv_keeper.Keeping.{KeeperState, commit_asked, copies, copies_next, copy_driven, copy_ledto, ended, enter_ledto, finish_ledto, finished, keeping_called, keeping_given, keeping_next, maintain_ledto, part_begun, phase_ledto, seek_ledto, start_ledto, turn_asked, turned, wait_ledto, write_ledto, writes_begun, writes_called, copy_taken, is_copy_resting, copy_told}
 use Rattle.law_refine.specs.Below.fkv_world.World.{keeper_asked}
 
 module _ (N : ℕ → ℕ → Type 0) (count : ℕ) where
@@ -167,7 +166,7 @@ module _ (N : ℕ → ℕ → Type 0) (count : ℕ) where
 
   copies_knows : (p : Places) (s : KeeperState) (granted : Bool) → HasSessions s → KeeperKnows (copies p s granted)
   copies_knows p s granted sessions =
-      either_knows granted (record s { copy = Some (copy_begun p); is_granted = true; step = Copies }) (ended (record s { is_granted = false }) (TurnRefused fault.Memory)) (record { sessions = sessions; step = tt }) (record { sessions = sessions; step = tt })
+      either_knows (granted || is_copy_resting s.copy) (record s { copy = copy_taken p s.copy; is_granted = true; step = Copies }) (ended (record s { is_granted = false }) (TurnRefused fault.Memory)) (record { sessions = sessions; step = tt }) (record { sessions = sessions; step = tt })
 
   copies_next_knows : (p : Places) (s : KeeperState) (c : Commit) (granted : Bool) (other : KeeperState) → HasSessions s → KeeperKnows other → KeeperKnows (copies_next p s c granted other)
   copies_next_knows p s c granted other sessions its = either_knows c.is_copied other (copies p s granted) its (copies_knows p s granted sessions)
@@ -245,7 +244,7 @@ module _ (N : ℕ → ℕ → Type 0) (count : ℕ) where
   replied_knows shape p s Maintains reply granted at sessions leaves owes = maintain_knows (record s { maintain = maintain_next shape p s.maintain reply }) (maintain_ask shape p (maintain_next shape p s.maintain reply)) at sessions
   replied_knows shape p s LoadsPhase reply granted at sessions leaves owes = phase_knows p s s.commit (phase_said reply) granted sessions
   replied_knows shape p s Enters reply granted at sessions leaves owes = enter_knows (record s { enter = enter_next s.enter reply }) (enter_ask (enter_next s.enter reply)) at sessions
-  replied_knows shape p s Copies reply granted at sessions leaves owes = copied_knows (record s { copy = copy_driven s.copy reply }) (copy_asked (copy_driven s.copy reply)) at sessions
+  replied_knows shape p s Copies reply granted at sessions leaves owes = copied_knows (record s { copy = copy_driven s.copy reply }) (copy_told (copy_driven s.copy reply)) at sessions
   replied_knows shape p s Seeks reply granted at sessions leaves owes =
       sought_knows (record s { seek = seek_next s.seek reply }) (seek_ask (seek_next s.seek reply)) at (seek_knows s.seek s.seek.step reply refl sessions leaves (λ session loads zero. owes session refl loads zero))
   replied_knows shape p s Waits reply granted at sessions leaves owes = waited_knows shape (record s { wait = wait_next s.wait reply }) (wait_ask (wait_next s.wait reply)) at sessions

@@ -1,5 +1,5 @@
 -- What a life is to the copies of the index that the keeper makes: a run of the world of a copy, beside the index's own.
-use Rattle.std.specs.Prelude.{◌≡◌, ℕ, List, [], ◌∷◌, ◌++◌, map, length, Some, false, true}
+use Rattle.std.specs.Prelude.{◌≡◌, ℕ, List, [], ◌∷◌, ◌++◌, map, length, Some, false, true, Bool, if◌then◌else◌}
 use Rattle.fkv_base.specs.declared.shapes.Shape.{Shape}
 use Rattle.fkv_plane.specs.declared.places.Places.{Places}
 use Rattle.law_refine.specs.Below.fkv_checkpoint.CopyStep.TheVariants as copy
@@ -11,23 +11,23 @@ use Rattle.fkv_base.specs.declared.commits.CommitKind.TheVariants.{Full}
 use Rattle.law_refine.specs.Below.fkv_keeper.TheKeeping.{Keeping}
 use Rattle.law_refine.specs.Below.fkv_keeper.TheKeeping.TheVariants.{LoadsPhase, Copies}
 use Rattle.law_refine.specs.Below.fkv_keeper.CheckpointLaws.{IsBeforeWrites, IsBehindWait}
-use Rattle.law_refine.specs.Below.fkv_keeper.Keeping.{KeeperState}
+use Rattle.law_refine.specs.Below.fkv_keeper.Keeping.{KeeperState, is_copy_resting}
 use Rattle.law_refine.specs.Below.fkv_keeper.KeeperRun.{KeeperEvent, Replies, Writing, keeper_run}
 use Rattle.law_refine.specs.Below.fkv_world.OwnEvents.{keeper_part_of}
 use Rattle.law_refine.specs.Below.fkv_world.Runs.{World, run}
 use Rattle.law_refine.specs.Below.fkv_world.World.{Event}
 use Rattle.law_refine.specs.Index.IndexEvents.{index_events}
 
--- A copy begins where a reply leads the keeper to copy, and each reply from there on is a step of it.
-abbrev pub copy_moves : Keeping → KeeperEvent → Keeping → List CopyEvent
-copy_moves LoadsPhase (Replies reply granted) Copies = CopyBegins ∷ []
-copy_moves Copies (Replies reply granted) after = CopyMoves ∷ []
-copy_moves step event after = []
+-- A copy begins where a reply leads the keeper to copy and none rests that it takes up. Each reply from there on is a step of it.
+abbrev pub copy_moves : Bool → Keeping → KeeperEvent → Keeping → List CopyEvent
+copy_moves rests LoadsPhase (Replies reply granted) Copies = if rests then [] else CopyBegins ∷ []
+copy_moves rests Copies (Replies reply granted) after = CopyMoves ∷ []
+copy_moves rests step event after = []
 
 -- what these events of a keeper are to its copies
 unfoldable pub keeper_copies : Shape → Places → KeeperState → List KeeperEvent → List CopyEvent
 keeper_copies shape p s [] = []
-keeper_copies shape p s (event ∷ before) = copy_moves (keeper_run shape p s before).step event (keeper_run shape p s (event ∷ before)).step ++ keeper_copies shape p s before
+keeper_copies shape p s (event ∷ before) = copy_moves (is_copy_resting (keeper_run shape p s before).copy) (keeper_run shape p s before).step event (keeper_run shape p s (event ∷ before)).step ++ keeper_copies shape p s before
 
 -- What an event of a life is to them: the keeper's part in it by the words as they were, and then what it is to the index.
 abbrev pub copies_at : World → Event → List CopyEvent

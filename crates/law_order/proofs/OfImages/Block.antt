@@ -1,6 +1,6 @@
 -- The keeper writes nothing below the slots: so the block of the shape is as it was opened.
 use Rattle.std.proofs.Common.{◌≡◌, ℕ, ◌≤◌, ◌∙◌, arith, refl, sym, ap, subst, Bool, true, false, List, [], ◌∷◌}
-use Rattle.std.specs.Prelude.{⊤, ◌==◌, ◌%◌, if◌then◌else◌, Option, Some, None}
+use Rattle.std.specs.Prelude.{⊤, ◌==◌, ◌%◌, if◌then◌else◌, Option, Some, None, ◌||◌}
 use Rattle.fkv_base.specs.declared.phases.Phase.TheVariants as phase
 use Rattle.fkv_base.specs.declared.shapes.Shape.{Shape}
 use Rattle.law_commit.specs.Below.fkv_commit.Commit.{Commit}
@@ -21,7 +21,7 @@ use Rattle.law_commit.specs.Below.fkv_commit.Starting.{start_ask, start_next}
 use Rattle.law_commit.specs.Below.fkv_commit.Waiting.{wait_ask, wait_next}
 use Rattle.law_commit.specs.Below.fkv_keeper.TheKeeping.{Keeping}
 use Rattle.law_commit.specs.Below.fkv_keeper.TheKeeping.TheVariants.{Ended, Starts, Maintains, LoadsPhase, Enters, Copies, Seeks, Waits, Writes, Finishes}
-use Rattle.law_commit.specs.Below.fkv_keeper.Keeping.{KeeperState, commit_asked, turn_asked, copies, copies_next, copy_asked, copy_driven, copy_ledto, enter_ledto, finish_ledto, finished, keeping_called, keeping_given, keeping_next, maintain_ledto, part_begun, phase_ledto, seek_ledto, start_ledto, turned, wait_ledto, write_ledto, writes_begun, writes_called}
+use Rattle.law_commit.specs.Below.fkv_keeper.Keeping.{KeeperState, commit_asked, turn_asked, copies, copies_next, copy_driven, copy_ledto, enter_ledto, finish_ledto, finished, keeping_called, keeping_given, keeping_next, maintain_ledto, part_begun, phase_ledto, seek_ledto, start_ledto, turned, wait_ledto, write_ledto, writes_begun, writes_called, is_copy_resting, copy_told}
 use Rattle.law_commit.specs.Below.fkv_keeper.KeeperAsks.{keeping_calls}
 use Rattle.law_commit.specs.Below.fkv_keeper.KeeperRun.{BeginsCommit, BeginsTurn, Calls, Gets, IsOpened, KeeperEvent, Replies, begins, is_in_hand, keeper_happens, keeper_run}
 use Rattle.law_commit.specs.Below.fkv_keeper.LastCommits.{slot_place}
@@ -93,7 +93,7 @@ maintain_high s (Done maintain.Broken) at = tt
 maintain_high s ask at = still s Maintains at tt
 
 copies_high : (p : Places) (s : KeeperState) (c : Commit) (granted : Bool) (other : KeeperState) → IsHigh other → IsHigh (copies_next p s c granted other)
-copies_high p s c granted other high = either c.is_copied other (copies p s granted) high (either granted _ _ tt tt)
+copies_high p s c granted other high = either c.is_copied other (copies p s granted) high (either (granted || is_copy_resting s.copy) _ _ tt tt)
 
 part_high : (p : Places) (s : KeeperState) (c : Commit) (said : PhaseSaid) (granted : Bool) → IsHigh (part_begun p s c said granted)
 part_high p s c (Says phase.InProgress version) granted = either s.has_entered _ _ (copies_high p s c granted (turned s) tt) tt
@@ -185,7 +185,7 @@ reply_high shape p s Starts reply granted at high = start_high _ (start_ask (sta
 reply_high shape p s Maintains reply granted at high = maintain_high _ (maintain_ask shape p (maintain_next shape p s.maintain reply)) at
 reply_high shape p s LoadsPhase reply granted at high = phase_high p s s.commit (phase_said reply) granted
 reply_high shape p s Enters reply granted at high = enter_high _ (enter_ask (enter_next s.enter reply)) at
-reply_high shape p s Copies reply granted at high = copy_high _ (copy_asked (copy_driven s.copy reply)) at
+reply_high shape p s Copies reply granted at high = copy_high _ (copy_told (copy_driven s.copy reply)) at
 reply_high shape p s Seeks reply granted at high = seek_high _ (seek_ask (seek_next s.seek reply)) at
 reply_high shape p s Waits reply granted at high = wait_high shape _ (wait_ask (wait_next s.wait reply)) at
 reply_high shape p s Writes reply granted at high = still s Writes at high

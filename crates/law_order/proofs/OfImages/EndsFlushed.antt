@@ -1,6 +1,6 @@
 -- The wait of a commit ends once the log is flushed up to its end; so it is at each moment of its writes.
 use Rattle.std.proofs.Common.{◌≡◌, ℕ, ◌*◌, ◌≤◌, ◌∙◌, arith, refl, sym, ap, subst, Bool, true, false, List, [], ◌∷◌, ◌++◌}
-use Rattle.std.specs.Prelude.{⊤, nat_le, if◌then◌else◌, Option, Some, None}
+use Rattle.std.specs.Prelude.{⊤, nat_le, if◌then◌else◌, Option, Some, None, ◌||◌}
 use Rattle.std.proofs.Math.Nat.{mul-le-mul}
 use Rattle.std.proofs.lemmas.Bool.Decides.{nat_tests}
 use Rattle.fkv_base.specs.declared.numbers.Addr.{Addr}
@@ -28,7 +28,7 @@ use Rattle.law_commit.specs.Below.fkv_keeper.KeeperTold.{KeeperTold}
 use Rattle.law_commit.specs.Below.fkv_keeper.KeeperTold.TheVariants.{Device}
 use Rattle.law_commit.specs.Below.fkv_keeper.TheKeeping.{Keeping}
 use Rattle.law_commit.specs.Below.fkv_keeper.TheKeeping.TheVariants.{Ended, Starts, Maintains, LoadsPhase, Enters, Copies, Seeks, Waits, Writes, Finishes}
-use Rattle.law_commit.specs.Below.fkv_keeper.Keeping.{KeeperState, commit_asked, turn_asked, turn_over, copies, copies_next, copy_asked, copy_driven, copy_ledto, enter_ledto, finish_ledto, finished, keeper_ask, keeper_next, keeping_ask, keeping_called, keeping_given, keeping_next, maintain_ledto, part_begun, phase_ledto, seek_ledto, start_ledto, turned, wait_ledto, write_ledto, writes_begun, writes_called}
+use Rattle.law_commit.specs.Below.fkv_keeper.Keeping.{KeeperState, commit_asked, turn_asked, turn_over, copies, copies_next, copy_driven, copy_ledto, enter_ledto, finish_ledto, finished, keeper_ask, keeper_next, keeping_ask, keeping_called, keeping_given, keeping_next, maintain_ledto, part_begun, phase_ledto, seek_ledto, start_ledto, turned, wait_ledto, write_ledto, writes_begun, writes_called, is_copy_resting, copy_told}
 use Rattle.law_commit.specs.Below.fkv_keeper.KeeperRun.{BeginsCommit, BeginsTurn, Calls, Gets, IsOpened, KeeperEvent, Replies, begins, is_in_hand, keeper_happens, keeper_run}
 use Rattle.law_commit.specs.Below.fkv_maintain.MaintainAnswer.{MaintainAnswer}
 use Rattle.law_commit.specs.Below.fkv_maintain.MaintainAnswer.TheVariants as maintain
@@ -101,7 +101,7 @@ maintain_ends most s (Done maintain.Broken) at = tt
 maintain_ends most s ask at = still most s Maintains at tt
 
 copies_ends : (most : ℕ) (p : Places) (s : KeeperState) (c : Commit) (granted : Bool) (other : KeeperState) → Ends most other → Ends most (copies_next p s c granted other)
-copies_ends most p s c granted other ends = either most c.is_copied other (copies p s granted) ends (either most granted _ _ tt tt)
+copies_ends most p s c granted other ends = either most c.is_copied other (copies p s granted) ends (either most (granted || is_copy_resting s.copy) _ _ tt tt)
 
 same_end : (one other : Commit) (found : Option Commit) → found ≡ Some one → found ≡ Some other → one.end ≡ other.end
 same_end one other found here there = let same : one ≡ other = (let both : Some one ≡ Some other = sym here ∙ there in cc) in ap (λ (c : Commit). c.end) same
@@ -193,7 +193,7 @@ reply_ends most shape p s Starts reply granted at loads ends = start_ends most _
 reply_ends most shape p s Maintains reply granted at loads ends = maintain_ends most _ (maintain_ask shape p (maintain_next shape p s.maintain reply)) at
 reply_ends most shape p s LoadsPhase reply granted at loads ends = phase_ends most p s s.commit (phase_said reply) granted refl
 reply_ends most shape p s Enters reply granted at loads ends = enter_ends most _ (enter_ask (enter_next s.enter reply)) at
-reply_ends most shape p s Copies reply granted at loads ends = copy_ends most _ (copy_asked (copy_driven s.copy reply)) at
+reply_ends most shape p s Copies reply granted at loads ends = copy_ends most _ (copy_told (copy_driven s.copy reply)) at
 reply_ends most shape p s Seeks reply granted at loads ends = seek_ends most _ (seek_ask (seek_next s.seek reply)) at
 reply_ends most shape p s Waits reply granted at loads ends = wait_ends most shape s s.wait.step reply at ends.waiting ends.its_end (loads at)
 reply_ends most shape p s Writes reply granted at loads ends = still most s Writes at ends

@@ -1,6 +1,6 @@
 -- Where a commit's scan begins and its log ends: both are tails that the keeper has loaded, and the tail never falls.
 use Rattle.std.proofs.Common.{◌≡◌, ℕ, ◌+◌, ◌<◌, ◌≤◌, ◌∙◌, arith, refl, sym, ap, subst, Bool, true, false, List, [], ◌∷◌, ◌++◌, length}
-use Rattle.std.specs.Prelude.{⊤, ◌==◌, max, nat_le, nat_lt, if◌then◌else◌, Option, Some, None}
+use Rattle.std.specs.Prelude.{⊤, ◌==◌, max, nat_le, nat_lt, if◌then◌else◌, Option, Some, None, ◌||◌}
 use Rattle.fkv_base.specs.Limits.{last_version}
 use Rattle.fkv_base.specs.declared.commits.CommitKind.{CommitKind}
 use Rattle.fkv_base.specs.declared.commits.CommitKind.TheVariants.{Full, Log}
@@ -39,7 +39,7 @@ use Rattle.law_commit.specs.Below.fkv_keeper.KeeperTold.TheVariants.{CommitRefus
 use Rattle.law_commit.specs.Below.fkv_keeper.TheKeeping.{Keeping}
 use Rattle.law_commit.specs.Below.fkv_keeper.TheKeeping.TheVariants.{Ended, Starts, Maintains, LoadsPhase, Enters, Copies, Seeks, Waits, Writes, Finishes}
 use Rattle.law_commit.specs.Below.fkv_keeper.Checkpoint.{Checkpoint}
-use Rattle.law_commit.specs.Below.fkv_keeper.Keeping.{Finality, KeeperState, checkpoint_used, commit_asked, copied, copies, copies_next, copy_asked, copy_driven, copy_ledto, enter_ledto, finish_ledto, finished, keeping_ask, keeping_called, keeping_given, keeping_next, maintain_ledto, part_begun, phase_ledto, points_known, seek_ledto, start_ledto, turn_asked, turn_over, turned, wait_ledto, write_ledto, writes_begun, writes_called}
+use Rattle.law_commit.specs.Below.fkv_keeper.Keeping.{Finality, KeeperState, checkpoint_used, commit_asked, copied, copies, copies_next, copy_driven, copy_ledto, enter_ledto, finish_ledto, finished, keeping_ask, keeping_called, keeping_given, keeping_next, maintain_ledto, part_begun, phase_ledto, points_known, seek_ledto, start_ledto, turn_asked, turn_over, turned, wait_ledto, write_ledto, writes_begun, writes_called, is_copy_resting, copy_told}
 use Rattle.law_commit.specs.Below.fkv_keeper.KeeperRun.{BeginsCommit, BeginsTurn, Calls, Gets, KeeperEvent, Replies, begins, is_in_hand, keeper_happens, keeper_run}
 use Rattle.law_commit.specs.Below.fkv_maintain.MaintainAnswer.{MaintainAnswer}
 use Rattle.law_commit.specs.Below.fkv_maintain.MaintainAnswer.TheVariants as maintain
@@ -199,7 +199,7 @@ maintain_on t s (Done maintain.Broken) at is = is
 maintain_on t s ask at is = still t s Maintains at is
 
 copies_on : (t : Bounds) (p : Places) (s : KeeperState) (c : Commit) (granted : Bool) (other : KeeperState) → Below t s.has_points s.last s.commit → IsAtTail t other → IsAtTail t (copies_next p s c granted other)
-copies_on t p s c granted other is goes = either t c.is_copied other (copies p s granted) goes (either t granted _ _ is is)
+copies_on t p s c granted other is goes = either t c.is_copied other (copies p s granted) goes (either t (granted || is_copy_resting s.copy) _ _ is is)
 
 seek_either : (last : Finality) (found : Option Commit) (c : Bool) (a b : SeekState) → SeeksAbove last found a.step → SeeksAbove last found b.step → SeeksAbove last found (if c then a else b).step
 seek_either last found true a b one other = one
@@ -247,14 +247,14 @@ enter_on t s (Done enter.EpochsSpent) at is = is
 enter_on t s (Done enter.Idle) at is = is
 enter_on t s ask at is = still t s Enters at is
 
-copied_below : (t : Bounds) (points : Bool) (last : Finality) (found : Option Commit) → Below t points last found → Below t points last (copied found)
-copied_below t points last None is = is
-copied_below t true last (Some c) is = is
-copied_below t false last (Some c) is = is
+copied_below : (t : Bounds) (points : Bool) (last : Finality) (rests : Bool) (found : Option Commit) → Below t points last found → Below t points last (copied rests found)
+copied_below t points last rests None is = is
+copied_below t true last rests (Some c) is = is
+copied_below t false last rests (Some c) is = is
 
 copy_on : (t : Bounds) (s : KeeperState) (ask : Ask (Unit {0})) → s.step ≡ Copies → Below t s.has_points s.last s.commit → IsAtTail t (copy_ledto s ask)
 unfolding copy_ledto
-copy_on t s (Done its) at is = copied_below t s.has_points s.last s.commit is
+copy_on t s (Done its) at is = copied_below t s.has_points s.last (is_copy_resting s.copy) s.commit is
 copy_on t s ask at is = still t s Copies at is
 
 -- ---- its end is sought
@@ -409,7 +409,7 @@ module _ (words : List ℕ) (tail : Bounds) (here : tail.tail ≡ word_at words 
   reply_on s Maintains reply granted at reads turn is = maintain_on tail _ (maintain_ask shape p (maintain_next shape p s.maintain reply)) at is
   reply_on s LoadsPhase reply granted at reads turn is = phase_on tail p s s.commit (phase_said reply) granted is
   reply_on s Enters reply granted at reads turn is = enter_on tail _ (enter_ask (enter_next s.enter reply)) at is
-  reply_on s Copies reply granted at reads turn is = copy_on tail _ (copy_asked (copy_driven s.copy reply)) at is
+  reply_on s Copies reply granted at reads turn is = copy_on tail _ (copy_told (copy_driven s.copy reply)) at is
   reply_on s Seeks reply granted at reads turn is =
       let after : SeekState = seek_next s.seek reply in
       let below = is.0 in

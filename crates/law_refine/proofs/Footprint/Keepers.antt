@@ -1,6 +1,6 @@
 -- The keeper spares each part, but the mailbox that it is at and the durable word that it stores.
 use Rattle.std.proofs.Common.{◌≡◌, ℕ, refl, sym, subst, List, [], ◌∷◌, length, Bool, true, false}
-use Rattle.std.specs.Prelude.{if◌then◌else◌, ⊤, Option, Some, None}
+use Rattle.std.specs.Prelude.{if◌then◌else◌, ⊤, Option, Some, None, ◌||◌}
 use Rattle.fkv_base.specs.declared.faults.Fault.TheVariants as fault
 use Rattle.fkv_base.specs.declared.phases.Phase.TheVariants as phase
 use Rattle.fkv_base.specs.declared.shapes.Shape.{Shape}
@@ -41,7 +41,7 @@ use Rattle.law_world.specs.Below.fkv_keeper.KeeperTold.{KeeperTold}
 use Rattle.law_world.specs.Below.fkv_keeper.KeeperTold.TheVariants.{TurnRefused, CommitRefused}
 use Rattle.law_world.specs.Below.fkv_keeper.TheKeeping.{Keeping}
 use Rattle.law_world.specs.Below.fkv_keeper.TheKeeping.TheVariants.{Ended, Starts, Maintains, LoadsPhase, Enters, Copies, Seeks, Waits, Writes, Finishes}
-use Rattle.law_world.specs.Below.fkv_keeper.Keeping.{KeeperState, copy_asked, device_passed, write_asked, keeping_ask, keeper_ask, ended, turned, commit_asked, turn_asked, start_ledto, maintain_ledto, copies, copies_next, part_begun, phase_ledto, enter_ledto, copy_ledto, seek_ledto, writes_begun, wait_ledto, finished, finish_ledto, copy_driven, keeping_next, keeping_given, write_ledto, writes_called, keeping_called}
+use Rattle.law_world.specs.Below.fkv_keeper.Keeping.{KeeperState, copy_asked, device_passed, write_asked, keeping_ask, keeper_ask, ended, turned, commit_asked, turn_asked, start_ledto, maintain_ledto, copies, copies_next, part_begun, phase_ledto, enter_ledto, copy_ledto, seek_ledto, writes_begun, wait_ledto, finished, finish_ledto, copy_driven, keeping_next, keeping_given, write_ledto, writes_called, keeping_called, copy_taken, is_copy_resting}
 use Rattle.law_world.specs.Below.fkv_keeper.KeeperRun.{KeeperEvent, BeginsTurn, BeginsCommit, Replies, Gets, Calls, IsOpened, is_in_hand, begins, keeper_happens, keeper_run}
 use Rattle.law_refine.specs.Mail.Servers.{keeper_serving}
 use Rattle.law_refine.specs.Footprint.{Part, ThePhase, HasSeats, Spares}
@@ -143,7 +143,7 @@ module _ (count : ℕ) where
   maintained_spares n s ask at counts bounds = stays_spares n s Maintains at counts bounds
 
   copies_spares : (p : Places) (n : ℕ) (s : KeeperState) (granted : Bool) → s.finish.sessions ≡ count → IsKeeperSparing n count (copies p s granted)
-  copies_spares p n s granted counts = either_spares granted n (record s { copy = Some (copy_begun p); is_granted = true; step = Copies }) (ended (record s { is_granted = false }) (TurnRefused fault.Memory)) (record { counts = counts; bounds = tt }) (record { counts = counts; bounds = tt })
+  copies_spares p n s granted counts = either_spares (granted || is_copy_resting s.copy) n (record s { copy = copy_taken p s.copy; is_granted = true; step = Copies }) (ended (record s { is_granted = false }) (TurnRefused fault.Memory)) (record { counts = counts; bounds = tt }) (record { counts = counts; bounds = tt })
 
   copies_next_spares : (p : Places) (n : ℕ) (s : KeeperState) (c : Commit) (granted : Bool) (other : KeeperState) → s.finish.sessions ≡ count → IsKeeperSparing n count other → IsKeeperSparing n count (copies_next p s c granted other)
   copies_next_spares p n s c granted other counts its = either_spares c.is_copied n other (copies p s granted) its (copies_spares p n s granted counts)

@@ -29,7 +29,7 @@ use Rattle.fkv_manifest.specs.declared.answers.WriteAnswer.{WriteAnswer}
 use Rattle.fkv_manifest.specs.declared.answers.WriteAnswer.TheVariants as write
 use Rattle.fkv_manifest.specs.Committing.{commit_next, commit_answer}
 use Rattle.fkv_keeper.specs.declared.keepers.Keeping.TheVariants as keeping
-use Rattle.fkv_keeper.specs.Keeping.{KeeperState, copy_asked, copy_ledto, copy_driven, finished, finish_ledto, keeping_ask, turn_over, wait_ledto, writes_begun, writes_called, write_ledto}
+use Rattle.fkv_keeper.specs.Keeping.{KeeperState, copy_asked, copy_ledto, copy_driven, finished, finish_ledto, keeping_ask, turn_over, wait_ledto, writes_begun, writes_called, write_ledto, copy_told}
 use Rattle.law_world.specs.GuardKeeper.CommitShown.{FinishKnows}
 use Rattle.law_world.specs.GuardKeeper.KeeperEvents.{write_events}
 use Rattle.law_world.specs.GuardKeeper.Settled.{is_of_slot}
@@ -57,10 +57,10 @@ copy_quiet s its (Done told) = record { quiet = refl; sessions = refl }
 copy_quiet s its ask = record { quiet = refl; sessions = refl }
 
 pub copies_kept : (n : GuardNow) (a : ℕ) (x : Actor) (seen : LastSeen) (s : KeeperState) (granted : Bool) (reply : ℕ) → slice_get n.actors a ≡ Some x → Fits (likeness seen None None) x → s.finish.sessions ≡ n.places.sessions
-    → StepLed n a [] seen granted (copy_ledto (record s { copy = copy_driven s.copy reply; step = keeping.Copies }) (copy_asked (copy_driven s.copy reply))) (words_after n.words (copy_asked s.copy))
+    → StepLed n a [] seen granted (copy_ledto (record s { copy = copy_driven s.copy reply; step = keeping.Copies }) (copy_told (copy_driven s.copy reply))) (words_after n.words (copy_asked s.copy))
 copies_kept n a x seen s granted reply got fits same =
-    let there : KeeperState = copy_ledto (record s { copy = copy_driven s.copy reply; step = keeping.Copies }) (copy_asked (copy_driven s.copy reply)) in
-    let its : IsQuietAs s there = copy_quiet s (copy_driven s.copy reply) (copy_asked (copy_driven s.copy reply)) in
+    let there : KeeperState = copy_ledto (record s { copy = copy_driven s.copy reply; step = keeping.Copies }) (copy_told (copy_driven s.copy reply)) in
+    let its : IsQuietAs s there = copy_quiet s (copy_driven s.copy reply) (copy_told (copy_driven s.copy reply)) in
     subst (λ (words : List ℕ). StepLed n a [] seen granted there words) (sym (copy_words n.words s.copy))
     (quiet_step n a [] seen granted there n.words its.quiet (its.sessions ∙ same) (record { actor = x; same = stays n a x got; fits = fits }))
 

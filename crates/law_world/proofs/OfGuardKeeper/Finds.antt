@@ -36,7 +36,7 @@ use Rattle.fkv_maintain.specs.Maintaining.{MaintainState, maintain_ask, maintain
 use Rattle.fkv_keeper.specs.declared.answers.KeeperTold.{KeeperTold}
 use Rattle.fkv_keeper.specs.declared.keepers.Keeping.{Keeping}
 use Rattle.fkv_keeper.specs.declared.keepers.Keeping.TheVariants as keeping
-use Rattle.fkv_keeper.specs.Keeping.{KeeperState, copy_asked, copy_driven, copy_ledto, device_passed, enter_ledto, finish_ledto, finished, keeper_ask, keeper_next, keeping_ask, keeping_next, maintain_ledto, phase_ledto, seek_ledto, start_ledto, turn_over, wait_ledto}
+use Rattle.fkv_keeper.specs.Keeping.{KeeperState, copy_driven, copy_ledto, device_passed, enter_ledto, finish_ledto, finished, keeper_ask, keeper_next, keeping_ask, keeping_next, maintain_ledto, phase_ledto, seek_ledto, start_ledto, turn_over, wait_ledto, copy_told}
 use Rattle.fkv_commit.specs.Waiting.{wait_ask, wait_next}
 use Rattle.fkv_words.specs.PhaseWords.{phase_said}
 use Rattle.fkv_world.specs.Actors.{slot_asked}
@@ -168,8 +168,8 @@ puts_at w a x seen s keeping.Enters reply granted sound got fits k same slot e =
     let t : EnterState = enter_next s.enter reply in
     enters_put w.now.actions w.now.shape w.now.places s t (enter_ask t) (enter_puts w a x s.enter reply sound got fits.machine k) slot e
 puts_at w a x seen s keeping.Copies reply granted sound got fits k same slot e =
-    let there : KeeperState = copy_ledto (record s { copy = copy_driven s.copy reply; step = keeping.Copies }) (copy_asked (copy_driven s.copy reply)) in
-    puts_none w.now.actions (keeper_ask w.now.shape w.now.places there) (quiet_slot w.now.shape w.now.places there (copy_quiet s (copy_driven s.copy reply) (copy_asked (copy_driven s.copy reply))).quiet) slot e
+    let there : KeeperState = copy_ledto (record s { copy = copy_driven s.copy reply; step = keeping.Copies }) (copy_told (copy_driven s.copy reply)) in
+    puts_none w.now.actions (keeper_ask w.now.shape w.now.places there) (quiet_slot w.now.shape w.now.places there (copy_quiet s (copy_driven s.copy reply) (copy_told (copy_driven s.copy reply))).quiet) slot e
 puts_at w a x seen s keeping.Seeks reply granted sound got fits k same slot e =
     let t : SeekState = seek_next s.seek reply in
     seeks_put w.now.actions w.now.shape w.now.places s t (seek_ask t) (seek_puts w a x s.seek reply sound got fits.machine k) slot e

@@ -1,6 +1,6 @@
 -- The load of the phase, and what it calls for.
 use Rattle.std.proofs.Common.{◌≡◌, ℕ, List, [], ◌∷◌, ◌⊎◌, inl, inr, refl, ap, sym, subst, ◌∙◌, Bool, true, false}
-use Rattle.std.specs.Prelude.{Option, Some, None, slice_get, if◌then◌else◌}
+use Rattle.std.specs.Prelude.{Option, Some, None, slice_get, if◌then◌else◌, ◌||◌}
 use Rattle.fkv_base.specs.declared.numbers.Serial.{Serial}
 use Rattle.fkv_base.specs.declared.numbers.Version.{Version}
 use Rattle.fkv_base.specs.declared.phases.Phase.TheVariants as phase
@@ -20,7 +20,7 @@ use Rattle.fkv_flush.specs.GuardWorld.{Actor, Rests, GuardNow, GuardEvent, Begin
 use Rattle.fkv_flush.proofs.Shown.{Fits}
 use Rattle.fkv_keeper.specs.declared.keepers.Keeping.{Keeping}
 use Rattle.fkv_keeper.specs.declared.keepers.Keeping.TheVariants as keeping
-use Rattle.fkv_keeper.specs.Keeping.{KeeperState, keeping_ask, copies, part_begun, phase_ledto, turn_over}
+use Rattle.fkv_keeper.specs.Keeping.{KeeperState, keeping_ask, copies, part_begun, phase_ledto, turn_over, is_copy_resting}
 use Rattle.law_world.specs.GuardKeeper.CommitEvents.{seek_begins}
 use Rattle.law_world.specs.GuardKeeper.KeeperEvents.{part_begins}
 use Rattle.law_world.proofs.OfGuardKeeper.KeeperLed.{StepLed, slotless_step}
@@ -50,9 +50,12 @@ pub record HasSought (s there : KeeperState) : Type 0 where
 abbrev pub HasBegun : KeeperState → KeeperState → Type 0
 HasBegun s there = IsQuietAs s there ⊎ (HasEntered s there ⊎ HasSought s there)
 
+either_quiet : (b : Bool) (s x y : KeeperState) → IsQuietAs s x → IsQuietAs s y → IsQuietAs s (if b then x else y)
+either_quiet true s x y one other = one
+either_quiet false s x y one other = other
+
 copies_quiet : (p : Places) (s : KeeperState) (granted : Bool) → IsQuietAs s (copies p s granted)
-copies_quiet p s true = record { quiet = refl; sessions = refl }
-copies_quiet p s false = record { quiet = refl; sessions = refl }
+copies_quiet p s granted = either_quiet (granted || is_copy_resting s.copy) s _ _ (record { quiet = refl; sessions = refl }) (record { quiet = refl; sessions = refl })
 
 either : (b : Bool) (s x y : KeeperState) → HasBegun s x → HasBegun s y → HasBegun s (if b then x else y)
 either true s x y one other = one

@@ -37,7 +37,7 @@ turn_most : (shape : Shape) (p : Places) (s : KeeperState) → keeper_asks_left 
 unfolding keeping_asks_left
 turn_most shape p s =
     let begun = maintain_begun_left shape (maintain_begun s.maintain) refl refl in
-    let most = sum_most (maintain_asks_left shape (maintain_begun s.maintain)) (most_part_asks p s.seek.sessions s.finish.sessions + 1) in
+    let most = sum_most (maintain_asks_left shape (maintain_begun s.maintain)) (most_part_asks s.seek.sessions s.finish.sessions + 1) in
     either shape p s.is_broken _ _ _ (omega arith) (omega (arith, begun, most))
 
 commit_most : (shape : Shape) (p : Places) (s : KeeperState) (kind : CommitKind) → keeper_asks_left shape p (commit_asked s kind) ≤ most_keeper_asks shape p s

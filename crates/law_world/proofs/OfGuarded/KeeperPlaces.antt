@@ -1,6 +1,6 @@
 -- Over every run of a keeper the buckets that its copy of the index is at are there, and so are the sessions whose points it seeks.
-use Rattle.std.proofs.Common.{◌≡◌, ℕ, ◌+◌, ◌-◌, ◌<◌, ◌≤◌, refl, sym, subst, arith, List, [], ◌∷◌, length, Bool, true, false}
-use Rattle.std.specs.Prelude.{◌&&◌, ◌==◌, ◌++◌, nat_lt, nat_le, max, ⊤, if◌then◌else◌, Option, Some, None}
+use Rattle.std.proofs.Common.{◌≡◌, ℕ, ◌+◌, ◌-◌, ◌<◌, ◌≤◌, refl, sym, subst, arith, List, [], ◌∷◌, length, Bool, true, false, ◌∙◌, ap, inl, inr}
+use Rattle.std.specs.Prelude.{◌&&◌, ◌==◌, ◌++◌, nat_lt, nat_le, max, ⊤, if◌then◌else◌, Option, Some, None, ◌||◌}
 use Rattle.std.proofs.lemmas.Bool.Decides.{nat_tests}
 use Rattle.fkv_base.specs.declared.numbers.Addr.{Addr}
 use Rattle.fkv_plane.specs.Places.{bucket_place}
@@ -8,7 +8,7 @@ use Rattle.fkv_index.specs.Slots.{bucket_slots, link_of}
 use Rattle.fkv_checkpoint.specs.declared.copying.CopyStep.{CopyStep}
 use Rattle.fkv_checkpoint.specs.declared.copying.CopyStep.TheVariants as copy
 use Rattle.fkv_checkpoint.specs.declared.copying.Copying.{Copying}
-use Rattle.fkv_checkpoint.specs.Copying.{Copier, bucket_entered, copy_next, copy_step_next, link_led, slot_after}
+use Rattle.fkv_checkpoint.specs.Copying.{Copier, bucket_entered, copy_next, copy_step_next, link_led, slot_after, copy_begun, first_copying}
 use Rattle.fkv_commit.specs.declared.deferring.DeferAnswer.{DeferAnswer}
 use Rattle.fkv_commit.specs.declared.deferring.DeferAnswer.TheVariants as defer
 use Rattle.fkv_commit.specs.declared.seeking.Seeking.{Seeking}
@@ -16,8 +16,9 @@ use Rattle.fkv_commit.specs.declared.seeking.Seeking.TheVariants as seeking
 use Rattle.fkv_commit.specs.Cuts.{serial_said, version_said}
 use Rattle.fkv_commit.specs.Deferring.{defer_next}
 use Rattle.fkv_commit.specs.Seeking.{SeekState, cut_met, defer_led, other_met, owing_from, point_taken, with_point, points_from, seek_next, seeking_next, slot_led}
+use Rattle.fkv_keeper.specs.CheckpointLaws.{CopiesOnce, IsCopyAfter}
 use Rattle.fkv_keeper.specs.KeeperRun.{BeginsCommit, BeginsTurn, Calls, Gets, IsOpened, KeeperEvent, Replies, begins, is_in_hand, keeper_happens, keeper_run}
-use Rattle.fkv_keeper.specs.Keeping.{KeeperState, commit_asked, copies, copies_next, copy_driven, copy_ledto, enter_ledto, finish_ledto, finished, keeping_called, keeping_given, keeping_next, maintain_ledto, part_begun, phase_ledto, seek_ledto, start_ledto, turn_asked, wait_ledto, write_ledto, writes_begun, writes_called}
+use Rattle.fkv_keeper.specs.Keeping.{KeeperState, commit_asked, copies, copies_next, copy_driven, copy_ledto, enter_ledto, finish_ledto, finished, keeping_called, keeping_given, keeping_next, maintain_ledto, part_begun, phase_ledto, seek_ledto, start_ledto, turn_asked, wait_ledto, write_ledto, writes_begun, writes_called, is_copy_resting}
 use Rattle.fkv_base.specs.declared.phases.Phase.TheVariants as phase
 use Rattle.fkv_base.specs.declared.shapes.Shape.{Shape}
 use Rattle.fkv_words.specs.declared.phase_words.PhaseSaid.{PhaseSaid}
@@ -49,6 +50,7 @@ use Rattle.fkv_maintain.specs.declared.maintaining.MaintainAnswer.TheVariants as
 use Rattle.fkv_maintain.specs.Maintaining.{maintain_called, maintain_given, maintain_next}
 use Rattle.fkv_keeper.specs.declared.keepers.Keeping.{Keeping}
 use Rattle.fkv_keeper.specs.declared.keepers.Keeping.TheVariants.{Ended, Starts, Maintains, LoadsPhase, Enters, Copies, Seeks, Waits, Writes, Finishes}
+use Rattle.fkv_keeper.proofs.Shown.{each_move, was_in_hand}
 
 -- the seek is at a session whose points it seeks
 abbrev pub SeekRow : SeekState → Seeking → Type 0
@@ -138,6 +140,9 @@ all_three false true false e = cc
 all_three false false true e = cc
 all_three false false false e = cc
 
+first_row : (p : Places) → IsCopyRow p (first_copying p)
+first_row p = entered_row p (record { bucket = 0; base = 0; links = p.overflow; step = copy.Ended }) 0
+
 link_row : (p : Places) (c : Copying) (number : ℕ) → IsCopyRow p (link_led p c number)
 link_row p c number = either_copy (nat_lt 0 number && nat_le number p.overflow && nat_lt 0 c.links) p _ _
     (λ e.
@@ -181,6 +186,10 @@ KeeperRow p s step = ⊤
 abbrev pub IsKeeperRow : Places → KeeperState → Type 0
 IsKeeperRow p s = KeeperRow p s s.step
 
+-- a copy that rests is one of the store's index, while a commit is in hand
+abbrev RestRow : Places → KeeperState → Type 0
+RestRow p s = (c : Commit) → s.commit ≡ Some c → is_copy_resting s.copy ≡ true → CopierRow p s.copy
+
 stays : (p : Places) (s : KeeperState) (step : Keeping) → s.step ≡ step → KeeperRow p s step → IsKeeperRow p s
 stays p s step at row = subst (λ (its : Keeping). KeeperRow p s its) (sym at) row
 
@@ -203,22 +212,26 @@ maintain_led p s (Done maintain.Spent) at = tt
 maintain_led p s (Done maintain.Broken) at = tt
 maintain_led p s ask at = stays p s Maintains at tt
 
-copies_led : (p : Places) (s : KeeperState) (granted : Bool) → IsKeeperRow p (copies p s granted)
-copies_led p s granted = either granted p _ _ (refl, entered_row p (record { bucket = 0; base = 0; links = p.overflow; step = copy.Ended }) 0) tt
+taken_row : (p : Places) (copy : Option Copier) (rests : Bool) → is_copy_resting copy ≡ rests → (is_copy_resting copy ≡ true → CopierRow p copy) → CopierRow p (if rests then copy else Some (copy_begun p))
+taken_row p copy true is row = row is
+taken_row p copy false is row = (refl, first_row p)
 
-next_led : (p : Places) (s : KeeperState) (c : Commit) (granted : Bool) (else_next : KeeperState) → IsKeeperRow p else_next → IsKeeperRow p (copies_next p s c granted else_next)
-next_led p s c granted else_next row = either c.is_copied p else_next (copies p s granted) row (copies_led p s granted)
+copies_led : (p : Places) (s : KeeperState) (granted : Bool) → (is_copy_resting s.copy ≡ true → CopierRow p s.copy) → IsKeeperRow p (copies p s granted)
+copies_led p s granted rest = either (granted || is_copy_resting s.copy) p _ _ (taken_row p s.copy (is_copy_resting s.copy) refl rest) tt
 
-part_led : (p : Places) (s : KeeperState) (c : Commit) (said : PhaseSaid) (granted : Bool) → IsKeeperRow p (part_begun p s c said granted)
-part_led p s c (Says phase.InProgress version) granted = either s.has_entered p _ _ (next_led p s c granted _ tt) tt
-part_led p s c (Says phase.WaitPending version) granted = next_led p s c granted _ (owing_row (record s.seek { number = c.number; floor = s.last.points; points = [] }) 0)
-part_led p s c (Says phase.WaitFlush version) granted = either s.has_points p _ _ tt tt
-part_led p s c said granted = tt
+next_led : (p : Places) (s : KeeperState) (c : Commit) (granted : Bool) (else_next : KeeperState) → (is_copy_resting s.copy ≡ true → CopierRow p s.copy) → IsKeeperRow p else_next → IsKeeperRow p (copies_next p s c granted else_next)
+next_led p s c granted else_next rest row = either c.is_copied p else_next (copies p s granted) row (copies_led p s granted rest)
 
-phase_led : (p : Places) (s : KeeperState) (commit : Option Commit) (said : PhaseSaid) (granted : Bool) → IsKeeperRow p (phase_ledto p s commit said granted)
+part_led : (p : Places) (s : KeeperState) (c : Commit) (said : PhaseSaid) (granted : Bool) → (is_copy_resting s.copy ≡ true → CopierRow p s.copy) → IsKeeperRow p (part_begun p s c said granted)
+part_led p s c (Says phase.InProgress version) granted rest = either s.has_entered p _ _ (next_led p s c granted _ rest tt) tt
+part_led p s c (Says phase.WaitPending version) granted rest = next_led p s c granted _ rest (owing_row (record s.seek { number = c.number; floor = s.last.points; points = [] }) 0)
+part_led p s c (Says phase.WaitFlush version) granted rest = either s.has_points p _ _ tt tt
+part_led p s c said granted rest = tt
+
+phase_led : (p : Places) (s : KeeperState) (commit : Option Commit) (said : PhaseSaid) (granted : Bool) → s.commit ≡ commit → RestRow p s → IsKeeperRow p (phase_ledto p s commit said granted)
 unfolding phase_ledto
-phase_led p s None said granted = tt
-phase_led p s (Some c) said granted = part_led p s c said granted
+phase_led p s None said granted in_hand rest = tt
+phase_led p s (Some c) said granted in_hand rest = part_led p s c said granted (rest c in_hand)
 
 enter_led : (p : Places) (s : KeeperState) (ask : Ask EnterAnswer) → s.step ≡ Enters → IsKeeperRow p (enter_ledto s ask)
 unfolding enter_ledto
@@ -270,18 +283,18 @@ write_led p s (Some c) write.Device at = stays p s Writes at tt
 write_led p s (Some c) (write.Broken why) at = stays p s Writes at tt
 
 -- so it is behind each event
-next_row : (shape : Shape) (p : Places) (s : KeeperState) (step : Keeping) (reply : ℕ) (granted : Bool) → s.step ≡ step → KeeperRow p s step → IsKeeperRow p (keeping_next shape p s step reply granted)
+next_row : (shape : Shape) (p : Places) (s : KeeperState) (step : Keeping) (reply : ℕ) (granted : Bool) → s.step ≡ step → RestRow p s → KeeperRow p s step → IsKeeperRow p (keeping_next shape p s step reply granted)
 unfolding keeping_next
-next_row shape p s (Ended its) reply granted at row = stays p s (Ended its) at tt
-next_row shape p s Starts reply granted at row = start_led p (record s { start = start_next s.start reply }) _ at
-next_row shape p s Maintains reply granted at row = maintain_led p (record s { maintain = maintain_next shape p s.maintain reply }) _ at
-next_row shape p s LoadsPhase reply granted at row = phase_led p s s.commit (phase_said reply) granted
-next_row shape p s Enters reply granted at row = enter_led p (record s { enter = enter_next s.enter reply }) _ at
-next_row shape p s Copies reply granted at row = copy_led p (record s { copy = copy_driven s.copy reply }) _ at (driven_row p s.copy reply row)
-next_row shape p s Seeks reply granted at row = seek_led p (record s { seek = seek_next s.seek reply }) _ at (seeks_row s.seek s.seek.step reply refl row)
-next_row shape p s Waits reply granted at row = wait_led p shape (record s { wait = wait_next s.wait reply }) _ at
-next_row shape p s Writes reply granted at row = stays p s Writes at tt
-next_row shape p s Finishes reply granted at row = finish_led p (record s { finish = finish_next s.finish reply }) _ at
+next_row shape p s (Ended its) reply granted at rest row = stays p s (Ended its) at tt
+next_row shape p s Starts reply granted at rest row = start_led p (record s { start = start_next s.start reply }) _ at
+next_row shape p s Maintains reply granted at rest row = maintain_led p (record s { maintain = maintain_next shape p s.maintain reply }) _ at
+next_row shape p s LoadsPhase reply granted at rest row = phase_led p s s.commit (phase_said reply) granted refl rest
+next_row shape p s Enters reply granted at rest row = enter_led p (record s { enter = enter_next s.enter reply }) _ at
+next_row shape p s Copies reply granted at rest row = copy_led p (record s { copy = copy_driven s.copy reply }) _ at (driven_row p s.copy reply row)
+next_row shape p s Seeks reply granted at rest row = seek_led p (record s { seek = seek_next s.seek reply }) _ at (seeks_row s.seek s.seek.step reply refl row)
+next_row shape p s Waits reply granted at rest row = wait_led p shape (record s { wait = wait_next s.wait reply }) _ at
+next_row shape p s Writes reply granted at rest row = stays p s Writes at tt
+next_row shape p s Finishes reply granted at rest row = finish_led p (record s { finish = finish_next s.finish reply }) _ at
 
 given_row : (shape : Shape) (p : Places) (s : KeeperState) (step : Keeping) (action : Action) → s.step ≡ step → KeeperRow p s step → IsKeeperRow p (keeping_given shape p s step action)
 unfolding keeping_given
@@ -317,19 +330,49 @@ begins_row : (p : Places) (s begun : KeeperState) (busy : Bool) → IsKeeperRow 
 begins_row p s begun true row other = row
 begins_row p s begun false row other = other
 
-happens_row : (shape : Shape) (p : Places) (s : KeeperState) (event : KeeperEvent) → IsKeeperRow p s → IsKeeperRow p (keeper_happens shape p s event)
+happens_row : (shape : Shape) (p : Places) (s : KeeperState) (event : KeeperEvent) → RestRow p s → IsKeeperRow p s → IsKeeperRow p (keeper_happens shape p s event)
 unfolding keeper_happens
-happens_row shape p s BeginsTurn row = begins_row p s (turn_asked s) (is_in_hand s.step) row (either s.is_broken p _ _ tt tt)
-happens_row shape p s (BeginsCommit kind) row = begins_row p s (commit_asked s kind) (is_in_hand s.step) row (either s.is_broken p _ _ tt tt)
-happens_row shape p s (Replies reply granted) row = next_row shape p s s.step reply granted refl row
-happens_row shape p s (Gets action) row = given_row shape p s s.step action refl row
-happens_row shape p s (Calls done bytes) row = called_row shape p s s.step done bytes refl row
+happens_row shape p s BeginsTurn rest row = begins_row p s (turn_asked s) (is_in_hand s.step) row (either s.is_broken p _ _ tt tt)
+happens_row shape p s (BeginsCommit kind) rest row = begins_row p s (commit_asked s kind) (is_in_hand s.step) row (either s.is_broken p _ _ tt tt)
+happens_row shape p s (Replies reply granted) rest row = next_row shape p s s.step reply granted refl rest row
+happens_row shape p s (Gets action) rest row = given_row shape p s s.step action refl row
+happens_row shape p s (Calls done bytes) rest row = called_row shape p s s.step done bytes refl row
 
 opened_row : (p : Places) (s : KeeperState) (step : Keeping) → is_in_hand step ≡ false → KeeperRow p s step
 opened_row p s (Ended its) none = tt
 opened_row p s step none = cc
 
-pub run_row : (shape : Shape) (p : Places) (first : KeeperState) (events : List KeeperEvent) → IsOpened first → IsKeeperRow p (keeper_run shape p first events)
+-- what becomes of a copy that rests
+no_copy : (p : Places) (a : KeeperState) → a.copy ≡ None → is_copy_resting a.copy ≡ true → CopierRow p a.copy
+no_copy p a none rests = let wrong : false ≡ true = sym (ap is_copy_resting none) ∙ rests in cc
+
+driven_from : (p : Places) (s a : KeeperState) (reply : ℕ) (step : Keeping) → s.step ≡ step → step ≡ Copies → KeeperRow p s step → a.copy ≡ copy_driven s.copy reply → CopierRow p a.copy
+driven_from p s a reply Copies at copies row same = subst (λ (x : Option Copier). CopierRow p x) (sym same) (driven_row p s.copy reply row)
+driven_from p s a reply step at copies row same = cc
+
+happens_rest : (shape : Shape) (p : Places) (s : KeeperState) (event : KeeperEvent) → IsKeeperRow p s → RestRow p s → RestRow p (keeper_happens shape p s event)
+happens_rest shape p s event row rest = by_copy move.copy
+  where
+    a : KeeperState
+    a = keeper_happens shape p s event
+
+    move : CopiesOnce p s event a
+    move = (each_move shape p s event).copies
+
+    by_copy : IsCopyAfter p s event a → RestRow p a
+    by_copy (inl same) = λ c is rests.
+        let was = was_in_hand p s a event c move is rests in
+        subst (λ (x : Option Copier). CopierRow p x) (sym same) (rest was.commit was.in_hand (ap is_copy_resting (sym same) ∙ rests))
+    by_copy (inr (inl none)) = λ c is rests. no_copy p a none rests
+    by_copy (inr (inr (inl driven))) = λ c is rests. driven_from p s a driven.reply s.step refl driven.copies row driven.copy
+    by_copy (inr (inr (inr begun))) = λ c is rests. subst (λ (x : Option Copier). CopierRow p x) (sym begun.copy) (refl, first_row p)
+
+run_both : (shape : Shape) (p : Places) (first : KeeperState) (events : List KeeperEvent) → IsOpened first → IsKeeperRow p (keeper_run shape p first events) × RestRow p (keeper_run shape p first events)
 unfolding keeper_run
-run_row shape p first [] opened = opened_row p first first.step opened.none_in_hand
-run_row shape p first (event ∷ before) opened = happens_row shape p (keeper_run shape p first before) event (run_row shape p first before opened)
+run_both shape p first [] opened = (opened_row p first first.step opened.none_in_hand, λ c is rests. let wrong : None ≡ Some c = sym opened.no_commit ∙ is in cc)
+run_both shape p first (event ∷ before) opened =
+    let both = run_both shape p first before opened in
+    (happens_row shape p (keeper_run shape p first before) event both.1 both.0, happens_rest shape p (keeper_run shape p first before) event both.0 both.1)
+
+pub run_row : (shape : Shape) (p : Places) (first : KeeperState) (events : List KeeperEvent) → IsOpened first → IsKeeperRow p (keeper_run shape p first events)
+run_row shape p first events opened = (run_both shape p first events opened).0

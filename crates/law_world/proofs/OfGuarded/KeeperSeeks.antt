@@ -1,6 +1,6 @@
 -- Over every run of a keeper it seeks the points of as many sessions as at first.
 use Rattle.std.proofs.Common.{◌≡◌, ℕ, ◌∙◌, refl, List, [], ◌∷◌, Bool, true, false}
-use Rattle.std.specs.Prelude.{if◌then◌else◌, Option, Some, None}
+use Rattle.std.specs.Prelude.{if◌then◌else◌, Option, Some, None, ◌||◌}
 use Rattle.fkv_base.specs.declared.phases.Phase.TheVariants as phase
 use Rattle.fkv_base.specs.declared.shapes.Shape.{Shape}
 use Rattle.fkv_words.specs.declared.phase_words.PhaseSaid.{PhaseSaid}
@@ -35,7 +35,7 @@ use Rattle.fkv_maintain.specs.Maintaining.{MaintainState, maintain_ask, maintain
 use Rattle.fkv_keeper.specs.declared.keepers.Keeping.{Keeping}
 use Rattle.fkv_keeper.specs.declared.keepers.Keeping.TheVariants.{Ended, Starts, Maintains, LoadsPhase, Enters, Copies, Seeks, Waits, Writes, Finishes}
 use Rattle.fkv_keeper.specs.KeeperRun.{BeginsCommit, BeginsTurn, Calls, Gets, KeeperEvent, Replies, begins, is_in_hand, keeper_happens, keeper_run}
-use Rattle.fkv_keeper.specs.Keeping.{KeeperState, commit_asked, copies, copies_next, copy_asked, copy_driven, copy_ledto, enter_ledto, finish_ledto, finished, keeping_called, keeping_given, keeping_next, maintain_ledto, part_begun, phase_ledto, seek_ledto, start_ledto, turn_asked, wait_ledto, write_ledto, writes_begun, writes_called}
+use Rattle.fkv_keeper.specs.Keeping.{KeeperState, commit_asked, copies, copies_next, copy_driven, copy_ledto, enter_ledto, finish_ledto, finished, keeping_called, keeping_given, keeping_next, maintain_ledto, part_begun, phase_ledto, seek_ledto, start_ledto, turn_asked, wait_ledto, write_ledto, writes_begun, writes_called, is_copy_resting, copy_told}
 
 abbrev sought : KeeperState → ℕ
 sought s = s.seek.sessions
@@ -60,7 +60,7 @@ maintain_led s m (Done maintain.Broken) = refl
 maintain_led s m ask = refl
 
 copies_led : (p : Places) (s : KeeperState) (granted : Bool) → sought (copies p s granted) ≡ sought s
-copies_led p s granted = either granted _ _ (sought s) refl refl
+copies_led p s granted = either (granted || is_copy_resting s.copy) _ _ (sought s) refl refl
 
 next_led : (p : Places) (s : KeeperState) (c : Commit) (granted : Bool) (else_next : KeeperState) → sought else_next ≡ sought s → sought (copies_next p s c granted else_next) ≡ sought s
 next_led p s c granted else_next same = either c.is_copied else_next (copies p s granted) (sought s) same (copies_led p s granted)
@@ -133,7 +133,7 @@ next_seeks shape p s Starts reply granted = start_led (record s { start = start_
 next_seeks shape p s Maintains reply granted = maintain_led s (maintain_next shape p s.maintain reply) (maintain_ask shape p (maintain_next shape p s.maintain reply))
 next_seeks shape p s LoadsPhase reply granted = phase_led p s s.commit (phase_said reply) granted
 next_seeks shape p s Enters reply granted = enter_led (record s { enter = enter_next s.enter reply }) (enter_ask (enter_next s.enter reply))
-next_seeks shape p s Copies reply granted = copy_led (record s { copy = copy_driven s.copy reply }) (copy_asked (copy_driven s.copy reply))
+next_seeks shape p s Copies reply granted = copy_led (record s { copy = copy_driven s.copy reply }) (copy_told (copy_driven s.copy reply))
 next_seeks shape p s Seeks reply granted = seek_led (record s { seek = seek_next s.seek reply }) (seek_ask (seek_next s.seek reply)) ∙ seek_keeps s.seek reply
 next_seeks shape p s Waits reply granted = wait_led shape (record s { wait = wait_next s.wait reply }) (wait_ask (wait_next s.wait reply))
 next_seeks shape p s Writes reply granted = refl

@@ -25,7 +25,7 @@ use Rattle.fkv_keeper.specs.declared.answers.KeeperTold.{KeeperTold}
 use Rattle.fkv_keeper.specs.declared.answers.KeeperTold.TheVariants.{Turned, TurnRefused, CommitRefused}
 use Rattle.fkv_keeper.specs.declared.keepers.Keeping.{Keeping}
 use Rattle.fkv_keeper.specs.declared.keepers.Keeping.TheVariants.{Ended, Starts, Maintains, LoadsPhase, Enters, Copies, Seeks, Waits, Writes, Finishes}
-use Rattle.fkv_keeper.specs.Keeping.{KeeperState, ended, copy_asked, copy_driven, commit_asked, turn_asked, maintain_ledto, keeping_next, keeping_given, keeping_called}
+use Rattle.fkv_keeper.specs.Keeping.{KeeperState, ended, copy_driven, commit_asked, turn_asked, maintain_ledto, keeping_next, keeping_given, keeping_called, copy_told}
 use Rattle.fkv_keeper.specs.KeeperAsks.{keeping_calls}
 use Rattle.fkv_keeper.specs.KeeperLaws.{IsRefusal}
 use Rattle.fkv_keeper.specs.KeeperRun.{KeeperEvent, BeginsTurn, BeginsCommit, Replies, Gets, Calls, is_in_hand, begins, keeper_happens, keeper_run, Writing, writing_after, writing}
@@ -141,7 +141,7 @@ module _ (shape : Shape) (p : Places) (opened : List â„•) (buckets : p.buckets â
           (replied shape p opened s.last its calls s.maintain s.maintain.step reply refl (knows_at Maintains e).1) refl
       reply_on LoadsPhase reply granted e turn = phase_on shape p opened s was its w calls LoadsPhase (at LoadsPhase e refl) (knows_at LoadsPhase e).1 s.commit (phase_said reply) granted
       reply_on Enters reply granted e turn = enter_on shape p opened s was its w calls Enters (at Enters e refl) (knows_at Enters e).1 (enter_next s.enter reply) (enter_ask (enter_next s.enter reply)) tt
-      reply_on Copies reply granted e turn = copy_on shape p opened s was its w calls Copies (at Copies e refl) (knows_at Copies e).1 reply (copy_asked (copy_driven s.copy reply)) tt
+      reply_on Copies reply granted e turn = copy_on shape p opened s was its w calls Copies (at Copies e refl) (knows_at Copies e).1 reply (copy_told (copy_driven s.copy reply)) tt
       reply_on Seeks reply granted e turn = seek_on shape p opened s was its w calls Seeks (at Seeks e refl) (knows_at Seeks e).1 (seek_next s.seek reply) (seek_ask (seek_next s.seek reply)) tt
       reply_on Waits reply granted e turn = wait_on shape p opened buckets overflow s was its calls (wait_next s.wait reply) (wait_ask (wait_next s.wait reply)) (at Waits e refl) (knows_at Waits e).1
       reply_on Writes reply granted e turn = stays Writes e

@@ -1,6 +1,6 @@
 -- What each step of the keeper leads to.
 use Rattle.std.proofs.Common.{◌≡◌, ℕ, List, [], ◌∷◌, Bool, true, false, refl, ◌∙◌, ap}
-use Rattle.std.specs.Prelude.{if◌then◌else◌, Option, Some, None}
+use Rattle.std.specs.Prelude.{if◌then◌else◌, Option, Some, None, ◌||◌}
 use Rattle.fkv_base.specs.declared.faults.Fault.TheVariants as fault
 use Rattle.fkv_base.specs.declared.numbers.Addr.{Addr}
 use Rattle.fkv_base.specs.declared.phases.Phase.TheVariants as phase
@@ -11,7 +11,7 @@ use Rattle.fkv_disk.specs.Calls.{Call}
 use Rattle.fkv_plane.specs.declared.asks.Ask.{Ask}
 use Rattle.fkv_plane.specs.declared.asks.Ask.TheVariants.{Done}
 use Rattle.fkv_plane.specs.declared.places.Places.{Places}
-use Rattle.fkv_checkpoint.specs.Copying.{Copier, copy_after}
+use Rattle.fkv_checkpoint.specs.Copying.{Copier, copy_after, copy_begun}
 use Rattle.fkv_checkpoint.specs.Copied.{copying_after, copied_after}
 use Rattle.fkv_commit.specs.declared.commits.Commit.{Commit}
 use Rattle.fkv_commit.specs.declared.entering.EnterAnswer.{EnterAnswer}
@@ -27,7 +27,7 @@ use Rattle.fkv_keeper.specs.declared.answers.KeeperTold.{KeeperTold}
 use Rattle.fkv_keeper.specs.declared.answers.KeeperTold.TheVariants.{Turned, TurnRefused, Begun, CommitRefused}
 use Rattle.fkv_keeper.specs.declared.keepers.Keeping.{Keeping}
 use Rattle.fkv_keeper.specs.declared.keepers.Keeping.TheVariants.{Ended, Starts, Maintains, LoadsPhase, Enters, Copies, Seeks, Waits}
-use Rattle.fkv_keeper.specs.Keeping.{Finality, KeeperState, copied, copy_driven, points_known, ended, start_ledto, maintain_ledto, copies, part_begun, phase_ledto, enter_ledto, copy_ledto, seek_ledto}
+use Rattle.fkv_keeper.specs.Keeping.{Finality, KeeperState, copied, copy_driven, points_known, ended, start_ledto, maintain_ledto, copies, part_begun, phase_ledto, enter_ledto, copy_ledto, seek_ledto, is_copy_resting}
 use Rattle.fkv_keeper.specs.KeeperRun.{Writing}
 use Rattle.fkv_maintain.specs.declared.maintaining.MaintainAnswer.{MaintainAnswer}
 use Rattle.fkv_maintain.specs.declared.maintaining.MaintainAnswer.TheVariants as maintain
@@ -40,9 +40,9 @@ use Rattle.law_world.proofs.OfStanding.Turned.{calm_at_end}
 
 module _ (shape : Shape) (p : Places) (opened : List ℕ) where
   -- a commit that is known keeps its number
-  copied_known : (last : Finality) (found : Option Commit) → CommitKnown shape p opened last found → CommitKnown shape p opened last (copied found)
-  copied_known last None known = tt
-  copied_known last (Some c) known = record { next = known.next; fits = known.fits }
+  copied_known : (last : Finality) (rests : Bool) (found : Option Commit) → CommitKnown shape p opened last found → CommitKnown shape p opened last (copied rests found)
+  copied_known last rests None known = tt
+  copied_known last rests (Some c) known = record { next = known.next; fits = known.fits }
 
   points_still_known : (last : Finality) (found : Option Commit) (end : Addr) (epoch : ℕ) → CommitKnown shape p opened last found → CommitKnown shape p opened last (points_known found end epoch)
   points_still_known last None end epoch known = tt
@@ -74,20 +74,24 @@ module _ (shape : Shape) (p : Places) (opened : List ℕ) where
 
       pub start_on : (x : StartState) (ask : Ask StartAnswer) → IsPlain step → IsNumberInTurn s.last.number Starts (start_ledto (record s { start = x }) ask).step → Goes (start_ledto (record s { start = x }) ask)
       unfolding start_ledto
-      start_on x (Done (start.Begun number first)) plain turn = on _ (Ended (Begun number)) tt refl now.works refl (record { next = turn.0; fits = turn.1 }) now.copy
+      start_on x (Done (start.Begun number first)) plain turn = on _ (Ended (Begun number)) tt refl now.works refl (record { next = turn.0; fits = turn.1 }) tt
       start_on x (Done (start.Refused why)) plain turn = on _ (Ended (CommitRefused why)) tt refl now.works refl now.commit now.copy
       start_on x (Done start.Idle) plain turn = on _ (Ended (CommitRefused fault.CommitRunning)) tt refl now.works refl now.commit now.copy
       start_on x ask plain turn = on _ step plain now.at now.works refl now.commit now.copy
 
       -- what the phase calls for
-      copies_on : (granted : Bool) → Goes (copies p s granted)
+      taken_known : (rests : Bool) → CopyKnown shape p opened (if rests then s.copy else Some (copy_begun p))
       unfolding copying_after copied_after
-      copies_on true = on _ Copies tt refl now.works refl now.commit (record { replies = []; is = refl })
-      copies_on false = on _ (Ended (TurnRefused fault.Memory)) tt refl now.works refl now.commit now.copy
+      taken_known true = now.copy
+      taken_known false = record { replies = []; is = refl }
 
       either_on : (t : Bool) (a b : KeeperState) → Goes a → Goes b → Goes (if t then a else b)
       either_on true a b one other = one
       either_on false a b one other = other
+
+      copies_on : (granted : Bool) → Goes (copies p s granted)
+      copies_on granted =
+          either_on (granted || is_copy_resting s.copy) _ _ (on _ Copies tt refl now.works refl now.commit (taken_known (is_copy_resting s.copy))) (on _ (Ended (TurnRefused fault.Memory)) tt refl now.works refl now.commit now.copy)
 
       part_on : (c : Commit) (said : PhaseSaid) (granted : Bool) → Goes (part_begun p s c said granted)
       part_on c (Says phase.InProgress version) granted =
@@ -117,7 +121,7 @@ module _ (shape : Shape) (p : Places) (opened : List ℕ) where
 
       pub copy_on : (reply : ℕ) (ask : Ask (Unit {0})) → IsPlain step → Goes (copy_ledto (record s { copy = copy_driven s.copy reply }) ask)
       unfolding copy_ledto
-      copy_on reply (Done end) plain = on _ (Ended (Turned false s.is_drain_full)) tt refl now.works refl (copied_known s.last s.commit now.commit) (driven_known s.copy reply now.copy)
+      copy_on reply (Done end) plain = on _ (Ended (Turned false s.is_drain_full)) tt refl now.works refl (copied_known s.last (is_copy_resting (copy_driven s.copy reply)) s.commit now.commit) (driven_known s.copy reply now.copy)
       copy_on reply ask plain = on _ step plain now.at now.works refl now.commit (driven_known s.copy reply now.copy)
 
       pub seek_on : (x : SeekState) (ask : Ask SeekAnswer) → IsPlain step → Goes (seek_ledto (record s { seek = x }) ask)

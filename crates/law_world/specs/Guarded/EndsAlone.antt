@@ -24,4 +24,4 @@ most_session_asks shape = call_bound shape Poll
 
 -- nor one of the keeper more than a turn, by the sessions of which it seeks the points and finishes commits
 abbrev pub most_keeper_asks : Shape → Places → KeeperState → ℕ
-most_keeper_asks shape p s = most_maintain_asks shape + (most_part_asks p s.seek.sessions s.finish.sessions + 1)
+most_keeper_asks shape p s = most_maintain_asks shape + (most_part_asks s.seek.sessions s.finish.sessions + 1)

@@ -1,4 +1,5 @@
 -- Over every list of replies.
+use Rattle.fkv_checkpoint.proofs.CopyAsks.{part_bounded, part_fewer, rests_bounded, rests_in_parts}
 use Rattle.fkv_checkpoint.proofs.Told.{copies_all, copy_ends, copies_triples, copy_fits}
 use Rattle.fkv_checkpoint.proofs.laws.law_copied.Goals as goal
 
@@ -13,3 +14,9 @@ returns-clause-triples c = copies_triples
 
 pub returns-clause-fits : goal.returns-clause-fits
 returns-clause-fits c = copy_fits
+
+pub returns-clause-time : goal.returns-clause-time
+returns-clause-time c = λ p copying. record { begins = part_bounded p; rests = rests_bounded p copying; fewer = part_fewer p copying }
+
+pub returns-clause-parts : goal.returns-clause-parts
+returns-clause-parts c = rests_in_parts

@@ -1,6 +1,6 @@
 -- Behind an action that it has put, or been given, the keeper's call is in hand still.
 use Rattle.std.proofs.Common.{◌≡◌, ℕ, refl, ap, sym, subst, Bool, true, false, List, [], ◌∷◌}
-use Rattle.std.specs.Prelude.{⊤, Option, Some, None, if◌then◌else◌}
+use Rattle.std.specs.Prelude.{⊤, Option, Some, None, if◌then◌else◌, ◌||◌}
 use Rattle.fkv_base.specs.declared.phases.Phase.TheVariants as phase
 use Rattle.fkv_base.specs.declared.shapes.Shape.{Shape}
 use Rattle.fkv_words.specs.declared.phase_words.PhaseSaid.{PhaseSaid}
@@ -47,7 +47,7 @@ use Rattle.fkv_keeper.specs.declared.answers.KeeperTold.TheVariants.{Device}
 use Rattle.fkv_keeper.specs.declared.keepers.Keeping.{Keeping}
 use Rattle.fkv_keeper.specs.declared.keepers.Keeping.TheVariants.{Ended, Starts, Maintains, LoadsPhase, Enters, Copies, Seeks, Waits, Writes, Finishes}
 use Rattle.fkv_keeper.specs.KeeperRun.{KeeperEvent, BeginsTurn, BeginsCommit, Replies, Gets, Calls, begins, is_in_hand, keeper_happens, keeper_run}
-use Rattle.fkv_keeper.specs.Keeping.{KeeperState, commit_asked, copies, copies_next, copy_asked, copy_driven, copy_ledto, device_passed, enter_ledto, finish_ledto, finished, keeper_ask, keeper_next, keeping_ask, keeping_called, keeping_given, keeping_next, maintain_ledto, part_begun, phase_ledto, seek_ledto, start_ledto, turn_asked, turn_over, turned, wait_ledto, write_asked, write_ledto, writes_begun}
+use Rattle.fkv_keeper.specs.Keeping.{KeeperState, commit_asked, copies, copies_next, copy_asked, copy_driven, copy_ledto, device_passed, enter_ledto, finish_ledto, finished, keeper_ask, keeper_next, keeping_ask, keeping_called, keeping_given, keeping_next, maintain_ledto, part_begun, phase_ledto, seek_ledto, start_ledto, turn_asked, turn_over, turned, wait_ledto, write_asked, write_ledto, writes_begun, is_copy_resting}
 use Rattle.fkv_world.specs.Actors.{slot_asked, slot_of_step}
 use Rattle.fkv_world.specs.Moves.{Near, keeper_asks, keeper_gets, keeper_replied, keeper_settled}
 use Rattle.law_world.proofs.OfRuns.NoSlots.{IsOffSlots, passed_off}
@@ -89,8 +89,7 @@ maintained shape p s (Done maintain.Broken) at now = tt
 maintained shape p s ask at now = there shape p s Maintains at now
 
 copies_now : (shape : Shape) (p : Places) (s : KeeperState) (granted : Bool) → KeeperNow shape p (copies p s granted)
-copies_now shape p s true = tt
-copies_now shape p s false = tt
+copies_now shape p s granted = either shape p (granted || is_copy_resting s.copy) _ _ tt tt
 
 next_copied : (shape : Shape) (p : Places) (s t : KeeperState) (c : Commit) (granted : Bool) → KeeperNow shape p t → KeeperNow shape p (copies_next p s c granted t)
 next_copied shape p s t c granted now = either shape p c.is_copied t (copies p s granted) now (copies_now shape p s granted)
