@@ -30,6 +30,7 @@ is_error why which is = cc
 pub of_medium : (before now : ℕ) (why : Fault) → IsHindrance before now why → IsOfMedium why
 of_medium before now fault.Memory its = tt
 of_medium before now fault.Device its = tt
+of_medium before now other its = absurd (its)
 
 -- recovery is refused for a fault of the image
 pub unrecovered : {D : Type 0} (device : Ghosts D) (medium : D) (before now : ℕ) (why : Fault) → IsRefused before now (device.honest medium) (IsFaultOf (device.seen medium)) why → IsUnreported device medium why
@@ -37,6 +38,7 @@ unrecovered device medium before now fault.Memory its = inl tt
 unrecovered device medium before now fault.Device its = inl tt
 unrecovered device medium before now fault.NotAStore its = inr (inr its)
 unrecovered device medium before now (fault.Damaged part place) its = inr (inr its)
+unrecovered device medium before now other its = absurd (its)
 
 -- its pairs can't be read
 pub unread : {D : Type 0} (device : Ghosts D) (medium : D) (before now : ℕ) (why : Fault) → IsHindrance before now why → IsUnreported device medium why
