@@ -1,4 +1,3 @@
 pub mod Program
-pub mod Refused
 pub mod Told
 pub mod Written

@@ -1,5 +1,4 @@
 pub mod Program
-pub mod Refused
 pub mod Said
 pub mod Told
 pub mod Written
